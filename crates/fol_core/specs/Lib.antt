@@ -1,0 +1,16 @@
+pub mod Fol
+pub mod FolCodes
+pub mod FormulaFalls
+pub mod FormulaView
+pub mod Free
+pub mod Meaning
+pub mod RawCodes
+pub mod RawFalls
+pub mod RawTree
+pub mod RawView
+pub mod SymbolTable
+pub mod TermFalls
+pub mod TermView
+pub mod Tree
+pub mod TreeCodes
+pub mod Truth

@@ -1,0 +1,58 @@
+// Formulas, with the printed names of their variables.
+use crate::name::Names;
+use crate::symbols::Sym;
+use crate::term::{Term, Terms};
+use std::marker::Model;
+
+/// A formula's tree with the names of its variables: variable number n is printed as the name at place n.
+#[derive(Drop)]
+pub struct Formula {
+    pub shape: Shape,
+    pub names: Names,
+}
+
+/// The tree of a formula: `If` has its premise first, a quantifier the number of its variable.
+#[cycle(shape)]
+#[derive(Drop)]
+pub enum Shape {
+    True,
+    False,
+    Eq(Term, Term),
+    Atom(Sym, Terms),
+    Not(Sub),
+    And(Sub, Sub),
+    Or(Sub, Sub),
+    If(Sub, Sub),
+    Iff(Sub, Sub),
+    All(u64, Sub),
+    Exists(u64, Sub),
+}
+
+/// A part of a formula; contracts see its tree.
+#[cycle(shape)]
+#[derive(Drop)]
+pub struct Sub {
+    shape: Box<Shape>,
+}
+
+impl Model for Sub {
+    ghost use Rattle.fol_core.specs.Fol.{Fol};
+    ghost use Rattle.fol_core.specs.FolCodes.{coded_fol};
+
+    ghost Value = { Fol };
+
+    ghost coded = { coded_fol };
+
+    ghost use Rattle.fol_core.specs.FormulaView.{fol_of};
+
+    ghost view = { λ a. fol_of a.shape.value };
+
+    ghost use Rattle.std.specs.Prelude.{◌+◌};
+    ghost use Rattle.fol_core.specs.Fol.{folds};
+
+    ghost size = { λ f. folds f };
+
+    ghost use Rattle.fol_core.specs.FormulaFalls.{shape_falls};
+
+    ghost size_decreases = { λ a h. shape_falls a.shape.value };
+}

@@ -1,0 +1,16 @@
+// First-order logic: symbols, trees of terms and formulas, interpretations and truth.
+#![tactic(auto)]
+
+mod formula;
+mod interpretation;
+mod name;
+mod raw;
+mod symbols;
+mod term;
+
+pub use formula::{Formula, Shape, Sub};
+pub use interpretation::Interpretation;
+pub use name::{Name, Names};
+pub use raw::{Quantifier, Raw, RawSub, Raws};
+pub use symbols::{Clash, Kind, Sym, Symbols};
+pub use term::{Term, Terms};
