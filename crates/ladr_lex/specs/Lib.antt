@@ -1,1 +1,2 @@
 pub mod Lexeme
+pub mod Numeral
