@@ -1,7 +1,11 @@
 // Formulas, with the printed names of their variables.
+ghost use Rattle.std.specs.Prelude.{◌≡◌, IfOk};
+ghost use Rattle.fol_core.specs.FormulaView.{fol_of};
+
 use crate::name::Names;
 use crate::symbols::Sym;
 use crate::term::{Term, Terms};
+use std::alloc::{AllocError, Global};
 use std::marker::Model;
 
 /// A formula's tree with the names of its variables: variable number n is printed as the name at place n.
@@ -55,4 +59,29 @@ impl Model for Sub {
     ghost use Rattle.fol_core.specs.FormulaFalls.{shape_falls};
 
     ghost size_decreases = { λ a h. shape_falls a.shape.value };
+}
+
+impl Sub {
+    /// The formula as a part of another.
+    pub fn new(alloc: Global, shape: Shape) -> Result<Sub, AllocError>
+        ensures { IfOk result (λ sub. sub ≡ fol_of shape) }
+    {
+        let shape = Box::new(alloc, shape)?;
+        Ok(Sub { shape })
+    }
+
+    /// The formula.
+    pub fn shape(&self) -> &Shape
+        ensures { fol_of result.now ≡ self.now }
+    {
+        &self.shape
+    }
+
+    /// The formula by value.
+    pub fn into_shape(self) -> Shape
+        ensures { fol_of result ≡ self }
+    {
+        let Sub { shape } = self;
+        Box::into_inner(shape)
+    }
 }

@@ -4,6 +4,7 @@
 mod formula;
 mod interpretation;
 mod name;
+mod problem;
 mod raw;
 mod symbols;
 mod term;
@@ -11,6 +12,7 @@ mod term;
 pub use formula::{Formula, Shape, Sub};
 pub use interpretation::Interpretation;
 pub use name::{Name, Names};
+pub use problem::{Input, Problem, Role};
 pub use raw::{Quantifier, Raw, RawSub, Raws};
 pub use symbols::{Clash, Kind, Sym, Symbols};
 pub use term::{Term, Terms};

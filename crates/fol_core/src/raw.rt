@@ -1,5 +1,9 @@
 // Terms as they are read: by names, before symbols and variables are told apart.
+ghost use Rattle.std.specs.Prelude.{◌≡◌, [], ◌∷◌, ◌++◌, length, OnOk, OnErr, IfOk};
+ghost use Rattle.fol_core.specs.RawView.{raw_of, raw_list};
+
 use crate::name::Name;
+use std::alloc::{AllocError, Global};
 use std::marker::Model;
 
 /// The word of a quantifier.
@@ -68,4 +72,72 @@ impl Model for RawSub {
     ghost use Rattle.fol_core.specs.RawFalls.{raw_falls};
 
     ghost size_decreases = { λ a h. raw_falls a.raw.value };
+}
+
+impl Raws {
+    /// No arguments.
+    pub fn new(alloc: Global) -> Raws
+        ensures { result ≡ [] }
+    {
+        Raws {
+            items: Vec::new(alloc),
+        }
+    }
+
+    /// One more argument, at the end.
+    pub fn push(&mut self, raw: Raw) -> Result<(), AllocError>
+        ensures ok { OnOk result (self.new ≡ self.old ++ raw_of raw ∷ []) }
+        ensures err { OnErr result (self.new ≡ self.old) }
+    {
+        self.items.push(raw)?;
+        Ok(())
+    }
+
+    /// The arguments.
+    pub fn as_slice(&self) -> &[Raw]
+        ensures trees { raw_list result.now ≡ self.now }
+        ensures len { length result.now ≡ length self.now }
+    {
+        self.items.as_slice()
+    }
+
+    /// How many there are.
+    pub fn len(&self) -> usize
+        ensures { result ≡ length self.now }
+    {
+        self.items.len()
+    }
+
+    /// The arguments by value.
+    pub fn into_items(self) -> Vec<Raw>
+        ensures { raw_list result.items ≡ self }
+    {
+        let Raws { items } = self;
+        items
+    }
+}
+
+impl RawSub {
+    /// The term as a body.
+    pub fn new(alloc: Global, raw: Raw) -> Result<RawSub, AllocError>
+        ensures { IfOk result (λ body. body ≡ raw_of raw) }
+    {
+        let raw = Box::new(alloc, raw)?;
+        Ok(RawSub { raw })
+    }
+
+    /// The body.
+    pub fn raw(&self) -> &Raw
+        ensures { raw_of result.now ≡ self.now }
+    {
+        &self.raw
+    }
+
+    /// The body by value.
+    pub fn into_raw(self) -> Raw
+        ensures { raw_of result ≡ self }
+    {
+        let RawSub { raw } = self;
+        Box::into_inner(raw)
+    }
 }

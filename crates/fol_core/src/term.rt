@@ -1,5 +1,9 @@
 // Terms: variables, elements and applications.
+ghost use Rattle.std.specs.Prelude.{◌≡◌, [], ◌∷◌, ◌++◌, length, OnOk, OnErr};
+ghost use Rattle.fol_core.specs.TermView.{tree_of, tree_list};
+
 use crate::symbols::Sym;
+use std::alloc::{AllocError, Global};
 use std::marker::Model;
 
 /// A term. `Var` holds the variable's number, `Elem` the element that a numeral names.
@@ -38,4 +42,47 @@ impl Model for Terms {
     ghost use Rattle.fol_core.specs.TermFalls.{terms_fall};
 
     ghost size_decreases = { λ a h. terms_fall a.items.items };
+}
+
+impl Terms {
+    /// No arguments.
+    pub fn new(alloc: Global) -> Terms
+        ensures { result ≡ [] }
+    {
+        Terms {
+            items: Vec::new(alloc),
+        }
+    }
+
+    /// One more argument, at the end.
+    pub fn push(&mut self, term: Term) -> Result<(), AllocError>
+        ensures ok { OnOk result (self.new ≡ self.old ++ tree_of term ∷ []) }
+        ensures err { OnErr result (self.new ≡ self.old) }
+    {
+        self.items.push(term)?;
+        Ok(())
+    }
+
+    /// The arguments.
+    pub fn as_slice(&self) -> &[Term]
+        ensures trees { tree_list result.now ≡ self.now }
+        ensures len { length result.now ≡ length self.now }
+    {
+        self.items.as_slice()
+    }
+
+    /// How many there are.
+    pub fn len(&self) -> usize
+        ensures { result ≡ length self.now }
+    {
+        self.items.len()
+    }
+
+    /// The arguments by value.
+    pub fn into_items(self) -> Vec<Term>
+        ensures { tree_list result.items ≡ self }
+    {
+        let Terms { items } = self;
+        items
+    }
 }
