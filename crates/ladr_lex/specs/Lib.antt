@@ -1,2 +1,4 @@
 pub mod Lexeme
 pub mod Numeral
+pub mod OperatorView
+pub mod Operators

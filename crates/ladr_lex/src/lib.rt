@@ -2,7 +2,9 @@
 #![tactic(auto)]
 
 mod numeral;
+mod operators;
 mod token;
 
 pub use numeral::{is_numeral, number};
+pub use operators::{Operator, OperatorKind, Ops};
 pub use token::{Token, TokenKind};
