@@ -1,0 +1,160 @@
+// Trees that are built as long as they have at most 500 levels.
+ghost use Rattle.std.specs.Prelude.{◌≡◌, [], Some, IfOk};
+ghost use Rattle.std.specs.Option.{option_map};
+ghost use Rattle.fol_core.specs.RawView.{raw_of};
+ghost use Rattle.ladr_reader.specs.Capped.{with_argument, application, quantification};
+
+use fol_core::{Name, Quantifier, Raw, RawSub, Raws};
+use std::alloc::{AllocError, Global};
+use std::marker::Model;
+
+/// The most levels that the tree of an item may have.
+pub const MOST_LEVELS: u16 = 500;
+
+/// A tree, or nothing in place of one with too many levels; contracts see just that.
+#[derive(Drop)]
+pub struct Capped {
+    tree: Option<Raw>,
+    levels: u16,
+}
+
+impl Model for Capped {
+    ghost use Rattle.std.specs.Prelude.{Option};
+    ghost use Rattle.std.specs.Coded.{coded_option};
+    ghost use Rattle.fol_core.specs.RawCodes.{coded_raw};
+    ghost use Rattle.fol_core.specs.RawTree.{RawTree};
+
+    ghost Value = { Option RawTree };
+
+    ghost coded = { coded_option coded_raw };
+
+    ghost use Rattle.std.specs.Prelude.{◌≡◌};
+    ghost use Rattle.std.specs.Option.{option_map, ForSome};
+    ghost use Rattle.fol_core.specs.RawTree.{depth};
+    ghost use Rattle.fol_core.specs.RawView.{raw_of};
+
+    ghost view = { λ a. option_map raw_of a.tree };
+
+    ghost invariant = { λ a. ForSome a.tree (λ t. depth (raw_of t) ≡ a.levels) };
+}
+
+/// The arguments of an application, or nothing where one has too many levels; contracts see just that.
+#[derive(Drop)]
+pub struct Arguments {
+    trees: Option<Raws>,
+    levels: u16,
+}
+
+impl Model for Arguments {
+    ghost use Rattle.std.specs.Prelude.{Option, List};
+    ghost use Rattle.std.specs.Coded.{coded_option};
+    ghost use Rattle.fol_core.specs.RawCodes.{coded_raws};
+    ghost use Rattle.fol_core.specs.RawTree.{RawTree};
+
+    ghost Value = { Option (List RawTree) };
+
+    ghost coded = { coded_option coded_raws };
+
+    ghost use Rattle.std.specs.Prelude.{◌≡◌};
+    ghost use Rattle.std.specs.Option.{ForSome};
+    ghost use Rattle.fol_core.specs.RawTree.{depth_of, raws_of};
+
+    ghost view = { λ a. a.trees };
+
+    ghost invariant = { λ a. ForSome a.trees (λ ts. depth_of (raws_of ts) ≡ a.levels) };
+}
+
+impl Arguments {
+    /// No arguments.
+    pub fn new(alloc: Global) -> Arguments
+        ensures { result ≡ Some [] }
+    {
+        Arguments {
+            trees: Some(Raws::new(alloc)),
+            levels: 0,
+        }
+    }
+
+    /// One more argument, at the end.
+    #[tactic(auto, using(crate::proofs::Levels::depth_of_append))]
+    pub fn with(self, argument: Capped) -> Result<Arguments, AllocError>
+        ensures { IfOk result (λ arguments. arguments ≡ with_argument self argument) }
+    {
+        let Arguments { trees, levels } = self;
+        let Capped { tree, levels: more } = argument;
+        match trees {
+            None => Ok(Arguments {
+                trees: None,
+                levels: 0,
+            }),
+            Some(mut trees) => match tree {
+                None => Ok(Arguments {
+                    trees: None,
+                    levels: 0,
+                }),
+                Some(tree) => {
+                    trees.push(tree)?;
+                    Ok(Arguments {
+                        trees: Some(trees),
+                        levels: levels.max(more),
+                    })
+                }
+            },
+        }
+    }
+}
+
+impl Capped {
+    /// A name with arguments.
+    pub fn application(name: Name, arguments: Arguments) -> Capped
+        ensures { result ≡ application 500 name arguments }
+    {
+        let Arguments { trees, levels } = arguments;
+        match trees {
+            Some(trees) if levels < MOST_LEVELS => Capped {
+                tree: Some(Raw::App(name, trees)),
+                levels: levels + 1,
+            },
+            _ => Capped::too_deep(),
+        }
+    }
+
+    /// A quantifier with its variable and body.
+    pub fn quantification(
+        alloc: Global,
+        quantifier: Quantifier,
+        variable: Name,
+        body: Capped,
+    ) -> Result<Capped, AllocError>
+        ensures { IfOk result (λ tree. tree ≡ quantification 500 quantifier variable body) }
+    {
+        let Capped { tree, levels } = body;
+        match tree {
+            Some(tree) if levels < MOST_LEVELS => {
+                let body = RawSub::new(alloc, tree)?;
+                Ok(Capped {
+                    tree: Some(Raw::Quant(quantifier, variable, body)),
+                    levels: levels + 1,
+                })
+            }
+            _ => Ok(Capped::too_deep()),
+        }
+    }
+
+    /// The tree, if it is there.
+    pub fn into_tree(self) -> Option<Raw>
+        ensures { option_map raw_of result ≡ self }
+    {
+        let Capped { tree, levels: _ } = self;
+        tree
+    }
+
+    fn too_deep() -> Capped
+        ensures { result ≡ None }
+    {
+        Capped {
+            tree: None,
+            levels: 0,
+        }
+    }
+}

@@ -1,0 +1,14 @@
+// Where the reader stands.
+use crate::capped::Capped;
+use fol_core::{Name, Quantifier};
+
+/// Where the reader stands: before an operand, behind a symbol that may get arguments, behind a quantifier's word,
+/// behind a term and its precedence, or behind the full stop of an item.
+#[derive(Drop)]
+pub enum Place {
+    Operand,
+    Named(Name),
+    Word(Quantifier),
+    Term(Capped, u16),
+    Done(Capped),
+}
