@@ -3,11 +3,13 @@
 #![tactic(auto)]
 
 mod clocks;
+mod memory;
 mod reading;
 mod streams;
 mod writing;
 
 pub use clocks::Clock;
+pub use memory::{MemClock, MemSink, MemSource};
 pub use reading::{ReadAll, read_all};
 pub use streams::{Failed, Sink, Source};
 pub use writing::write_all;

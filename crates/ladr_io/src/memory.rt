@@ -1,0 +1,278 @@
+// A source, a sink and a clock over memory, which tell all that they hold. They fail where they are told to.
+ghost use Rattle.std.specs.Prelude.{◌≡◌, ℕ, ◌+◌, ◌<◌, ◌≤◌, ◌↔◌, ◌++◌, [], min, take, drop, length, IfOk, OnOk, OnErr, IsErr, MatchResult, Ok, Some};
+ghost use Rattle.ladr_io.specs.Streams.{Gives, Takes, IsDrained, Rose, counted};
+ghost use Rattle.ladr_io.specs.Times.{later, no_times};
+ghost use Rattle.ladr_io.specs.Memory.{CallsState, SourceState, SinkState, ClockState, IsToFail, after_call, after_read, after_write, reading_after};
+
+use crate::{Clock, Failed, Sink, Source};
+use std::alloc::Global;
+use std::marker::Model;
+
+// The calls that were made, and those that are to fail.
+#[derive(Drop)]
+struct Calls {
+    fails: Vec<u64>,
+    made: u64,
+    faults: u64,
+}
+
+impl Model for Calls {
+    ghost Value = { CallsState };
+
+    ghost view = { λ c. record { fails = c.fails.items; made = c.made; faults = c.faults } };
+}
+
+impl Calls {
+    fn new(fails: Vec<u64>) -> Self
+        ensures { result ≡ record { fails = fails.items; made = 0; faults = 0 } }
+    {
+        Calls {
+            fails,
+            made: 0,
+            faults: 0,
+        }
+    }
+
+    // Counts a call, and a fault where it is to fail.
+    fn begin(&mut self) -> Result<(), Failed>
+        ensures fails { IsErr result ↔ IsToFail self.old }
+        ensures after { self.new ≡ after_call self.old result }
+        ensures never_falls { self.old.faults ≤ self.new.faults }
+    {
+        self.made = self.made.saturating_add(1);
+        if self.fails.contains(&self.made) {
+            return Err(self.fault());
+        }
+        Ok(())
+    }
+
+    fn fault(&mut self) -> Failed
+        ensures after { self.new ≡ record self.old { faults = counted self.old.faults } }
+        ensures never_falls { self.old.faults ≤ self.new.faults }
+    {
+        self.faults = self.faults.saturating_add(1);
+        Failed
+    }
+}
+
+/// A source that gives the bytes of a list.
+#[derive(Drop)]
+pub struct MemSource {
+    bytes: Vec<u8>,
+    // How many bytes were given.
+    at: usize,
+    // How many bytes a call gives at most.
+    piece: usize,
+    calls: Calls,
+}
+
+impl Model for MemSource {
+    ghost Value = { SourceState };
+
+    ghost view = { λ s. record { left = drop s.at s.bytes.items; piece = s.piece; calls = s.calls } };
+
+    ghost invariant = { λ s. (s.at ≤ length s.bytes.items) × (0 < s.piece) };
+}
+
+impl MemSource {
+    /// A source with these bytes. The calls whose numbers (from 1) are in `fails` fail.
+    pub fn new(bytes: Vec<u8>, fails: Vec<u64>) -> Self
+        ensures left { result.left ≡ bytes.items }
+        ensures piece { result.piece ≡ usize.MAX }
+        ensures calls { result.calls ≡ record { fails = fails.items; made = 0; faults = 0 } }
+    {
+        MemSource {
+            bytes,
+            at: 0,
+            piece: usize::MAX,
+            calls: Calls::new(fails),
+        }
+    }
+
+    /// The bytes that are left.
+    pub fn left(&self) -> &[u8]
+        ensures { result.now ≡ self.now.left }
+    {
+        &self.bytes[self.at..]
+    }
+}
+
+impl Source for MemSource {
+    ghost left = { λ s. Some s.left };
+
+    ghost faults = { λ s. s.calls.faults };
+
+    fn read(&mut self, buf: &mut [u8]) -> Result<usize, Failed>
+        ensures within { IfOk result (λ n. n ≤ length buf.new) }
+        ensures gives { MatchResult result (λ n. Gives (Some self.old.left) (Some self.new.left) (take n buf.new)) (λ _. Gives (Some self.old.left) (Some self.new.left) []) }
+        ensures ends { result ≡ Ok 0 → 0 < length buf.old → IsDrained (Some self.old.left) }
+
+        ensures never_falls { self.old.calls.faults ≤ self.new.calls.faults }
+        ensures no_fault { OnOk result (self.new.calls.faults ≡ self.old.calls.faults) }
+        ensures rose { OnErr result (Rose self.old.calls.faults self.new.calls.faults) }
+
+        // Beyond what the trait says, the call is determined.
+        ensures fails { IsErr result ↔ IsToFail self.old.calls }
+        ensures count { IfOk result (λ n. n ≡ min (min self.old.piece (length buf.old)) (length self.old.left)) }
+        ensures bytes { IfOk result (λ n. buf.new ≡ take n self.old.left ++ drop n buf.old) }
+        ensures untouched { OnErr result (buf.new ≡ buf.old) }
+        ensures after { self.new ≡ after_read self.old result }
+    {
+        self.calls.begin()?;
+        let count = copy_front(&self.bytes[self.at..], buf, self.piece);
+        self.at += count;
+        Ok(count)
+    }
+}
+
+// Copies as many bytes as the buffer has room for, but at most so many, and tells how many.
+fn copy_front(bytes: &[u8], buf: &mut [u8], most: usize) -> usize
+    ensures count { result ≡ min (min most (length buf.old)) (length bytes.now) }
+    ensures copied { buf.new ≡ take result bytes.now ++ drop result buf.old }
+    ensures split { bytes.now ≡ take result buf.new ++ drop result bytes.now }
+{
+    let count = most.min(buf.len()).min(bytes.len());
+    buf[..count].copy_from_slice(&bytes[..count]);
+    count
+}
+
+/// A sink that keeps the bytes that it takes.
+#[derive(Drop)]
+pub struct MemSink {
+    bytes: Vec<u8>,
+    // How many bytes a call takes at most.
+    piece: usize,
+    calls: Calls,
+}
+
+impl Model for MemSink {
+    ghost Value = { SinkState };
+
+    ghost view = { λ s. record { held = s.bytes.items; piece = s.piece; calls = s.calls } };
+
+    ghost invariant = { λ s. 0 < s.piece };
+}
+
+impl MemSink {
+    /// A sink with no bytes. The calls whose numbers (from 1) are in `fails` fail.
+    pub fn new(alloc: Global, fails: Vec<u64>) -> Self
+        ensures held { result.held ≡ [] }
+        ensures piece { result.piece ≡ usize.MAX }
+        ensures calls { result.calls ≡ record { fails = fails.items; made = 0; faults = 0 } }
+    {
+        MemSink {
+            bytes: Vec::new(alloc),
+            piece: usize::MAX,
+            calls: Calls::new(fails),
+        }
+    }
+
+    /// The bytes that were taken.
+    pub fn bytes(&self) -> &[u8]
+        ensures { result.now ≡ self.now.held }
+    {
+        &self.bytes
+    }
+}
+
+impl Sink for MemSink {
+    ghost held = { λ s. Some s.held };
+
+    ghost faults = { λ s. s.calls.faults };
+
+    /// A call whose bytes find no memory fails.
+    fn write(&mut self, piece: &[u8]) -> Result<usize, Failed>
+        ensures within { IfOk result (λ n. n ≤ length piece.now) }
+        ensures takes { MatchResult result (λ n. Takes (Some self.old.held) (Some self.new.held) (take n piece.now)) (λ _. Takes (Some self.old.held) (Some self.new.held) []) }
+        ensures takes_some { 0 < length piece.now → IfOk result (λ n. 0 < n) }
+
+        ensures never_falls { self.old.calls.faults ≤ self.new.calls.faults }
+        ensures no_fault { OnOk result (self.new.calls.faults ≡ self.old.calls.faults) }
+        ensures rose { OnErr result (Rose self.old.calls.faults self.new.calls.faults) }
+
+        // Beyond what the trait says, the call is determined, but for want of memory.
+        ensures fails { IsToFail self.old.calls → IsErr result }
+        ensures count { IfOk result (λ n. n ≡ min self.old.piece (length piece.now)) }
+        ensures after { self.new ≡ after_write self.old piece.now result }
+    {
+        self.calls.begin()?;
+        let count = self.piece.min(piece.len());
+        match self.bytes.extend_from_slice(&piece[..count]) {
+            Ok(()) => Ok(count),
+            Err(_) => Err(self.calls.fault()),
+        }
+    }
+}
+
+/// A clock that gives the readings of a list. The last one repeats, and an empty list reads 0.
+#[derive(Drop)]
+pub struct MemClock {
+    readings: Vec<u64>,
+    count: u64,
+    first: u64,
+    last: u64,
+    between: u64,
+}
+
+impl Model for MemClock {
+    ghost Value = { ClockState };
+
+    ghost view = { λ c. record {
+      readings = c.readings.items;
+      times = record { count = c.count; first = c.first; last = c.last; between = c.between };
+    } };
+}
+
+impl MemClock {
+    pub fn new(readings: Vec<u64>) -> Self
+        ensures { result ≡ record { readings = readings.items; times = no_times } }
+    {
+        MemClock {
+            readings,
+            count: 0,
+            first: 0,
+            last: 0,
+            between: 0,
+        }
+    }
+
+    /// How many readings were given.
+    pub fn count(&self) -> u64
+        ensures { result ≡ self.now.times.count }
+    {
+        self.count
+    }
+
+    fn next(&self) -> u64
+        ensures { result ≡ reading_after self.now.readings self.now.times.count }
+    {
+        if self.readings.is_empty() {
+            return 0;
+        }
+        let last = self.readings.len() - 1;
+        self.readings[self.count.min(last as u64) as usize]
+    }
+}
+
+impl Clock for MemClock {
+    ghost times = { λ c. c.times };
+
+    fn read(&mut self) -> u64
+        ensures times { self.new.times ≡ later self.old.times result }
+        ensures reading { result ≡ reading_after self.old.readings self.old.times.count }
+        ensures readings { self.new.readings ≡ self.old.readings }
+    {
+        let now = self.next();
+        if self.count == 0 {
+            self.first = now;
+        }
+        self.between = if self.count < 2 {
+            0
+        } else {
+            self.between.max(self.last)
+        };
+        self.last = now;
+        self.count = self.count.saturating_add(1);
+        now
+    }
+}
