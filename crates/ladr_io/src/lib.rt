@@ -8,8 +8,11 @@ mod reading;
 mod streams;
 mod writing;
 
-pub use clocks::Clock;
+pub use clocks::{Clock, Readings};
 pub use memory::{MemClock, MemSink, MemSource};
 pub use reading::{ReadAll, read_all};
 pub use streams::{Failed, Sink, Source};
 pub use writing::write_all;
+
+#[cfg(test)]
+mod tests;

@@ -4,7 +4,7 @@ ghost use Rattle.ladr_io.specs.Streams.{Gives, Takes, IsDrained, Rose, counted};
 ghost use Rattle.ladr_io.specs.Times.{later, no_times};
 ghost use Rattle.ladr_io.specs.Memory.{CallsState, SourceState, SinkState, ClockState, IsToFail, after_call, after_read, after_write, reading_after};
 
-use crate::{Clock, Failed, Sink, Source};
+use crate::{Clock, Failed, Readings, Sink, Source};
 use std::alloc::Global;
 use std::marker::Model;
 
@@ -208,19 +208,13 @@ impl Sink for MemSink {
 #[derive(Drop)]
 pub struct MemClock {
     readings: Vec<u64>,
-    count: u64,
-    first: u64,
-    last: u64,
-    between: u64,
+    given: Readings,
 }
 
 impl Model for MemClock {
     ghost Value = { ClockState };
 
-    ghost view = { λ c. record {
-      readings = c.readings.items;
-      times = record { count = c.count; first = c.first; last = c.last; between = c.between };
-    } };
+    ghost view = { λ c. record { readings = c.readings.items; times = c.given } };
 }
 
 impl MemClock {
@@ -229,10 +223,7 @@ impl MemClock {
     {
         MemClock {
             readings,
-            count: 0,
-            first: 0,
-            last: 0,
-            between: 0,
+            given: Readings::new(),
         }
     }
 
@@ -240,9 +231,10 @@ impl MemClock {
     pub fn count(&self) -> u64
         ensures { result ≡ self.now.times.count }
     {
-        self.count
+        self.given.count()
     }
 
+    // The reading that comes next.
     fn next(&self) -> u64
         ensures { result ≡ reading_after self.now.readings self.now.times.count }
     {
@@ -250,7 +242,7 @@ impl MemClock {
             return 0;
         }
         let last = self.readings.len() - 1;
-        self.readings[self.count.min(last as u64) as usize]
+        self.readings[self.count().min(last as u64) as usize]
     }
 }
 
@@ -259,20 +251,13 @@ impl Clock for MemClock {
 
     fn read(&mut self) -> u64
         ensures times { self.new.times ≡ later self.old.times result }
+
+        // Beyond what the trait says, the reading is determined.
         ensures reading { result ≡ reading_after self.old.readings self.old.times.count }
         ensures readings { self.new.readings ≡ self.old.readings }
     {
         let now = self.next();
-        if self.count == 0 {
-            self.first = now;
-        }
-        self.between = if self.count < 2 {
-            0
-        } else {
-            self.between.max(self.last)
-        };
-        self.last = now;
-        self.count = self.count.saturating_add(1);
+        self.given.add(now);
         now
     }
 }
