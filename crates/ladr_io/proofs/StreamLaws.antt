@@ -1,6 +1,6 @@
 -- Laws of what streams give and take, one call after another. Crates above cite them too.
-use Rattle.std.proofs.Common.{ℕ, ◌≤◌, List, [], ◌++◌, take, drop, Option, None, Some, sym, refl, ap, ◌∙◌, append_assoc, arith}
-use Rattle.std.proofs.lemmas.List.{append-nil, take-append-drop}
+use Rattle.std.proofs.Common.{◌≡◌, ℕ, ◌≤◌, List, [], ◌++◌, take, drop, Option, None, Some, sym, refl, ap, ◌∙◌, append_assoc, arith}
+use Rattle.std.proofs.lemmas.List.{append-nil, append_cancel_left, append_cancel_right, take-append-drop}
 use Rattle.ladr_io.specs.Streams.{Gives, Takes, TakesFront, Rose}
 
 -- a source that gave nothing
@@ -21,6 +21,10 @@ Gives-append (Some a) (Some b) (Some c) xs ys g h = g ∙ ap (λ l. xs ++ l) h �
 pub Gives-append_none : (a b c : Option (List ℕ)) (xs : List ℕ) → Gives a b xs → Gives b c [] → Gives a c xs
 Gives-append_none a b c xs g h = rw (append-nil xs) at (Gives-append a b c xs [] g h)
 
+-- a source that tells what is left gave one list of bytes
+pub Gives-unique : (a b xs ys : List ℕ) → Gives (Some a) (Some b) xs → Gives (Some a) (Some b) ys → xs ≡ ys
+Gives-unique a b xs ys g h = append_cancel_right xs ys b (sym g ∙ h)
+
 -- a sink that took nothing
 pub Takes-none : (a : Option (List ℕ)) → Takes a a []
 Takes-none None = tt
@@ -38,6 +42,10 @@ Takes-append (Some a) (Some b) (Some c) xs ys g h = h ∙ ap (λ l. l ++ ys) g �
 -- a call that took nothing changes nothing
 pub Takes-append_none : (a b c : Option (List ℕ)) (xs : List ℕ) → Takes a b xs → Takes b c [] → Takes a c xs
 Takes-append_none a b c xs g h = rw (append-nil xs) at (Takes-append a b c xs [] g h)
+
+-- a sink that tells what it holds took one list of bytes
+pub Takes-unique : (a b xs ys : List ℕ) → Takes (Some a) (Some b) xs → Takes (Some a) (Some b) ys → xs ≡ ys
+Takes-unique a b xs ys g h = append_cancel_left a xs ys (sym g ∙ h)
 
 -- nothing is a front of every text
 pub TakesFront-none : (a : Option (List ℕ)) (text : List ℕ) → TakesFront a a text
