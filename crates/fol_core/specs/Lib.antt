@@ -8,6 +8,7 @@ pub mod RawCodes
 pub mod RawFalls
 pub mod RawTree
 pub mod RawView
+pub mod SymbolRows
 pub mod SymbolTable
 pub mod TermFalls
 pub mod TermView
