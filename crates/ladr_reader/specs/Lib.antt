@@ -1,5 +1,6 @@
 pub mod Capped
 pub mod Faults
+pub mod Formulas
 pub mod Machine
 pub mod Nesting
 pub mod Reads
