@@ -36,7 +36,7 @@ pub enum Shape {
 #[cycle(shape)]
 #[derive(Drop)]
 pub struct Sub {
-    shape: Box<Shape>,
+    pub shape: Box<Shape>,
 }
 
 impl Model for Sub {
@@ -61,7 +61,49 @@ impl Model for Sub {
     ghost size_decreases = { λ a h. shape_falls a.shape.value };
 }
 
+impl Formula {
+    /// An equal formula.
+    pub fn copy(&self, alloc: Global) -> Result<Formula, AllocError>
+        ensures { IfOk result (λ copy. copy ≡ self.now) }
+    {
+        let shape = self.shape.copy(alloc)?;
+        let names = self.names.copy(alloc)?;
+        Ok(Formula { shape, names })
+    }
+}
+
+impl Shape {
+    /// An equal tree.
+    #[cycle(shape_copy)]
+    pub fn copy(&self, alloc: Global) -> Result<Shape, AllocError>
+        ensures { IfOk result (λ copy. copy ≡ self.now) }
+    {
+        Ok(match self {
+            Shape::True => Shape::True,
+            Shape::False => Shape::False,
+            Shape::Eq(s, t) => Shape::Eq(s.copy(alloc)?, t.copy(alloc)?),
+            Shape::Atom(r, terms) => Shape::Atom(*r, terms.copy(alloc)?),
+            Shape::Not(f) => Shape::Not(f.copy(alloc)?),
+            Shape::And(f, g) => Shape::And(f.copy(alloc)?, g.copy(alloc)?),
+            Shape::Or(f, g) => Shape::Or(f.copy(alloc)?, g.copy(alloc)?),
+            Shape::If(f, g) => Shape::If(f.copy(alloc)?, g.copy(alloc)?),
+            Shape::Iff(f, g) => Shape::Iff(f.copy(alloc)?, g.copy(alloc)?),
+            Shape::All(x, f) => Shape::All(*x, f.copy(alloc)?),
+            Shape::Exists(x, f) => Shape::Exists(*x, f.copy(alloc)?),
+        })
+    }
+}
+
 impl Sub {
+    /// An equal part.
+    #[cycle(shape_copy)]
+    pub fn copy(&self, alloc: Global) -> Result<Sub, AllocError>
+        ensures { IfOk result (λ copy. copy ≡ self.now) }
+    {
+        let shape = self.shape.copy(alloc)?;
+        Sub::new(alloc, shape)
+    }
+
     /// The formula as a part of another.
     pub fn new(alloc: Global, shape: Shape) -> Result<Sub, AllocError>
         ensures { IfOk result (λ sub. sub ≡ fol_of shape) }

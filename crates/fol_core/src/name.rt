@@ -57,6 +57,17 @@ impl Model for Names {
 }
 
 impl Names {
+    /// An equal list.
+    pub fn copy(&self, alloc: Global) -> Result<Names, AllocError>
+        ensures { IfOk result (λ copy. copy ≡ self.now) }
+    {
+        let mut copies = Names::new(alloc);
+        for name in &self.items {
+            copies.push(Name::from_slice(alloc, name.bytes())?)?;
+        }
+        Ok(copies)
+    }
+
     /// No names.
     pub fn new(alloc: Global) -> Names
         ensures { result ≡ [] }

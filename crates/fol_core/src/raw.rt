@@ -25,14 +25,14 @@ pub enum Raw {
 #[cycle(raw)]
 #[derive(Drop)]
 pub struct Raws {
-    items: Vec<Raw>,
+    pub items: Vec<Raw>,
 }
 
 /// The body of a quantified term; contracts see its tree.
 #[cycle(raw)]
 #[derive(Drop)]
 pub struct RawSub {
-    raw: Box<Raw>,
+    pub raw: Box<Raw>,
 }
 
 impl Model for Raws {

@@ -1,5 +1,5 @@
 // Terms: variables, elements and applications.
-ghost use Rattle.std.specs.Prelude.{◌≡◌, [], ◌∷◌, ◌++◌, length, OnOk, OnErr};
+ghost use Rattle.std.specs.Prelude.{◌≡◌, [], ◌∷◌, ◌++◌, length, IfOk, OnOk, OnErr};
 ghost use Rattle.fol_core.specs.TermView.{tree_of, tree_list};
 
 use crate::symbols::Sym;
@@ -19,7 +19,7 @@ pub enum Term {
 #[cycle(term)]
 #[derive(Drop)]
 pub struct Terms {
-    items: Vec<Term>,
+    pub items: Vec<Term>,
 }
 
 impl Model for Terms {
@@ -44,7 +44,37 @@ impl Model for Terms {
     ghost size_decreases = { λ a h. terms_fall a.items.items };
 }
 
+impl Term {
+    /// An equal term.
+    pub fn copy(&self, alloc: Global) -> Result<Term, AllocError>
+        ensures { IfOk result (λ copy. copy ≡ self.now) }
+    {
+        match self {
+            Term::Var(x) => Ok(Term::Var(*x)),
+            Term::Elem(k) => Ok(Term::Elem(*k)),
+            Term::App(s, terms) => {
+                let mut copies = Terms::new(alloc);
+                for term in &terms.items {
+                    copies.push(term.copy(alloc)?)?;
+                }
+                Ok(Term::App(*s, copies))
+            }
+        }
+    }
+}
+
 impl Terms {
+    /// An equal list.
+    pub fn copy(&self, alloc: Global) -> Result<Terms, AllocError>
+        ensures { IfOk result (λ copy. copy ≡ self.now) }
+    {
+        let mut copies = Terms::new(alloc);
+        for term in &self.items {
+            copies.push(term.copy(alloc)?)?;
+        }
+        Ok(copies)
+    }
+
     /// No arguments.
     pub fn new(alloc: Global) -> Terms
         ensures { result ≡ [] }
