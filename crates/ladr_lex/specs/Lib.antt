@@ -1,4 +1,9 @@
+pub mod Bytes
+pub mod Cuts
+pub mod Lexed
 pub mod Lexeme
 pub mod Numeral
 pub mod OperatorView
 pub mod Operators
+pub mod Places
+pub mod Worked

@@ -1,10 +1,17 @@
 // Tokens of the input language, and the places where they stand.
 #![tactic(auto)]
 
+mod bytes;
+mod laws;
 mod numeral;
 mod operators;
+mod places;
+mod scan;
 mod token;
 
+pub use laws::{one_cutting, worked};
 pub use numeral::{is_numeral, number};
 pub use operators::{Operator, OperatorKind, Ops};
+pub use places::{Place, place_of};
+pub use scan::{Lex, MOST_BYTES, tokens};
 pub use token::{Token, TokenKind};
