@@ -1,12 +1,12 @@
 -- The classes of bytes lie apart, and a token's first byte tells its kind.
-use Rattle.std.proofs.Common.{◌≡◌, ℕ, Bool, true, false, cond, List, [], ◌∷◌, ◌++◌, Some, refl, sym, ap, ◌∙◌, subst, inl, inr, ⊎_elim, arith}
+use Rattle.std.proofs.Common.{◌≡◌, ℕ, Bool, true, false, List, [], ◌∷◌, Some, refl, sym, subst, ⊎_elim, arith}
 use Rattle.std.specs.Str.{bytes_eq}
-use Rattle.std.specs.Prelude.{◌⊎◌, not, ◌&&◌, ◌||◌, ◌==◌, codes}
+use Rattle.std.specs.Prelude.{not, ◌||◌, ◌==◌, codes}
 use Rattle.std.specs.List.{list_any, list_all}
 use Rattle.std.proofs.lemmas.Bool.{or_cases}
 use Rattle.std.proofs.lemmas.Bool.Decides.{nat_tests}
 use Rattle.std.proofs.lemmas.Slice.Eq.{bytes_eq-Decides}
-use Rattle.ladr_lex.specs.Bytes.{is_blank, is_punctuation, is_ordinary, is_special, is_dash, is_apostrophe}
+use Rattle.ladr_lex.specs.Bytes.{is_blank, is_punctuation, is_ordinary, is_special}
 use Rattle.ladr_lex.specs.Cuts.{can_be, is_other, is_special_run}
 use Rattle.ladr_lex.specs.Lexed.{kind_of}
 use Rattle.ladr_lex.specs.declared.token.TokenKind.{TokenKind}

@@ -1,12 +1,12 @@
 -- The longest run of special bytes that doesn't end with `-`.
-use Rattle.std.proofs.Common.{◌≡◌, ℕ, zero, suc, ◌≤◌, ◌<◌, Bool, true, false, cond, List, [], ◌∷◌, ◌++◌, length, take, drop, inl, inr, refl, sym, ap, ◌∙◌, arith}
-use Rattle.std.specs.Prelude.{not, ◌&&◌, ◌||◌, ◌==◌, ◌≢◌}
+use Rattle.std.proofs.Common.{◌≡◌, ℕ, suc, ◌≤◌, Bool, true, false, List, [], ◌∷◌, ◌++◌, length, take, drop, inl, inr, refl, ap, ◌∙◌, arith}
+use Rattle.std.specs.Prelude.{◌≢◌}
 use Rattle.std.specs.List.{prefix_len, list_all}
 use Rattle.std.proofs.Math.Numerals.{one-add}
 use Rattle.std.proofs.lemmas.Bool.{cases_Bool, cases_eq, and_from}
 use Rattle.std.proofs.lemmas.Bool.Decides.{nat_tests}
 use Rattle.ladr_lex.specs.Bytes.{is_special, is_dash}
-use Rattle.ladr_lex.specs.Cuts.{is_special_run, is_run}
+use Rattle.ladr_lex.specs.Cuts.{is_special_run}
 use Rattle.ladr_lex.specs.Lexed.{kept}
 
 -- it is at least as long as each of them
@@ -32,14 +32,14 @@ data Grows (b : ℕ) (bs : List ℕ) : Type 0 where
 grows : (b : ℕ) (bs : List ℕ) → Grows b bs
 grows b bs =
     elim (cases_Bool (is_special b)) [
-      inr s ↦ none (grind arith)
+      | inr s ↦ none (grind arith)
       | inl s ↦ elim (cases_eq (kept bs) 0) [
-          inr k ↦ more k s (grind (arith, nat_tests))
-          | inl k ↦ elim (cases_Bool (is_dash b)) [
-              inl d ↦ none (grind (arith, nat_tests))
-              | inr d ↦ one k s d (grind (arith, nat_tests))
-            ]
+        | inr k ↦ more k s (grind (arith, nat_tests))
+        | inl k ↦ elim (cases_Bool (is_dash b)) [
+          | inl d ↦ none (grind (arith, nat_tests))
+          | inr d ↦ one k s d (grind (arith, nat_tests))
         ]
+      ]
     ]
 
 pub run_more : (b : ℕ) (m : List ℕ) → is_special b ≡ true → is_special_run m ≡ true → is_special_run (b ∷ m) ≡ true
@@ -51,7 +51,7 @@ pub kept_run : (bs : List ℕ) → kept bs ≢ 0 → is_special_run (take (kept 
 kept_run [] h = absurd (h refl)
 kept_run (b ∷ bs) h =
     elim (grows b bs) [
-      none k ↦ absurd (h k)
+      | none k ↦ absurd (h k)
       | one z s d k ↦ ap (λ (n : ℕ). is_special_run (take n (b ∷ bs))) k ∙ grind arith
       | more n s k ↦ ap (λ (n : ℕ). is_special_run (take n (b ∷ bs))) k ∙ run_more b (take (kept bs) bs) s (kept_run bs n)
     ]
@@ -61,7 +61,7 @@ pub kept_behind : (bs : List ℕ) → kept (drop (kept bs) bs) ≡ 0
 kept_behind [] = refl
 kept_behind (b ∷ bs) =
     elim (grows b bs) [
-      none k ↦ ap (λ (n : ℕ). kept (drop n (b ∷ bs))) k ∙ k
+      | none k ↦ ap (λ (n : ℕ). kept (drop n (b ∷ bs))) k ∙ k
       | one z s d k ↦ ap (λ (n : ℕ). kept (drop n (b ∷ bs))) k ∙ z
       | more n s k ↦ ap (λ (n : ℕ). kept (drop n (b ∷ bs))) k ∙ kept_behind bs
     ]
@@ -71,7 +71,7 @@ pub run_passes : (p : ℕ → Bool) (bs : List ℕ) → list_all p (take (prefix
 run_passes p [] = refl
 run_passes p (b ∷ bs) =
     elim (cases_Bool (p b)) [
-      inl y ↦ (let e : prefix_len p (b ∷ bs) ≡ suc (prefix_len p bs) = rw (y, one-add) refl in ap (λ (n : ℕ). list_all p (take n (b ∷ bs))) e ∙ and_from (p b) (list_all p (take (prefix_len p bs) bs)) y (run_passes p bs))
+      | inl y ↦ (let e : prefix_len p (b ∷ bs) ≡ suc (prefix_len p bs) = rw (y, one-add) refl in ap (λ (n : ℕ). list_all p (take n (b ∷ bs))) e ∙ and_from (p b) (list_all p (take (prefix_len p bs) bs)) y (run_passes p bs))
       | inr y ↦ (let e : prefix_len p (b ∷ bs) ≡ 0 = rw y refl in ap (λ (n : ℕ). list_all p (take n (b ∷ bs))) e)
     ]
 

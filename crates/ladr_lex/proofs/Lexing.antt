@@ -1,15 +1,14 @@
 -- The tokens that are computed cut the text.
-use Rattle.std.proofs.Common.{◌≡◌, ℕ, zero, suc, ◌+◌, ◌≤◌, ◌<◌, Bool, true, false, cond, List, [], ◌∷◌, ◌++◌, length, take, drop, Option, Some, None, inl, inr, ⊎_elim, refl, sym, ap, ◌∙◌, subst, append_assoc, arith}
-use Rattle.std.specs.Prelude.{◌⊎◌, not, ◌&&◌, ◌||◌, ◌==◌, ◌≢◌, codes}
-use Rattle.std.specs.List.{prefix_len, list_all, list_any}
-use Rattle.std.specs.Str.{bytes_eq}
-use Rattle.std.proofs.lemmas.Bool.{both_ways, cond_both, false_from_ne_true, or_parts, not-true, cond-true, cond-false, cases_Bool, cases_eq, and_from, and_parts, not_from_false, or_cases, or_left, or_right, eqb-true, eq-eqb}
+use Rattle.std.proofs.Common.{◌≡◌, ℕ, zero, suc, ◌+◌, ◌≤◌, Bool, true, false, cond, List, [], ◌∷◌, ◌++◌, length, take, drop, Option, Some, None, inl, inr, ⊎_elim, refl, sym, ap, ◌∙◌, subst, append_assoc, arith}
+use Rattle.std.specs.Prelude.{◌⊎◌, not, ◌&&◌, ◌||◌, ◌==◌, codes}
+use Rattle.std.specs.List.{prefix_len, list_all}
+use Rattle.std.proofs.lemmas.Bool.{both_ways, cond_both, false_from_ne_true, or_parts, not-true, cond-true, cond-false, cases_Bool, cases_eq, and_from, and_parts, not_from_false, or_cases, or_right, eqb-true, eq-eqb}
 use Rattle.std.proofs.lemmas.Bool.Decides.{nat_tests}
 use Rattle.std.proofs.lemmas.List.{length-append, length-take-le, take-append-drop, nil_from_length}
 use Rattle.std.proofs.lemmas.List.Sums.{prefix_len-le-length}
 use Rattle.std.proofs.lemmas.Slice.Eq.{bytes_eq-Decides}
 use Rattle.ladr_lex.specs.Bytes.{is_blank, is_punctuation, is_ordinary, is_special, is_dash, is_apostrophe}
-use Rattle.ladr_lex.specs.Cuts.{Piece, can_be, is_special_run, is_other, IsToken, BeginsWith, Cuts}
+use Rattle.ladr_lex.specs.Cuts.{Piece, can_be, is_special_run, is_other, IsToken, Cuts}
 use Rattle.ladr_lex.specs.Lexed.{kind_of, kept, begins_with_dash, special_behind, behind, piece, lexed_behind, lexed}
 use Rattle.ladr_lex.proofs.Classes.{special_first, special_apart, ordinary_apart}
 use Rattle.ladr_lex.proofs.Kept.{kept_longest, kept_run, kept_within, run_more, run_passes, run_longest}
@@ -71,7 +70,7 @@ apostrophe_extent : (bs : List ℕ) → IsExtent Special 39 bs 0
 unfolding is_special
 apostrophe_extent bs = single_extent Special 39 bs refl (λ m h.
     elim (special_text (39 ∷ m) h) [
-      apostrophe e ↦ omega (arith, ap length e)
+      | apostrophe e ↦ omega (arith, ap length e)
       | dash e ↦ omega (arith, ap length e)
       | arrow e ↦ absurd (cc)
       | run r ↦ (let e = special_first 39 m r in absurd (cc))
@@ -85,7 +84,7 @@ run_behind b (c ∷ cs) r h = kept_longest (c ∷ cs) r (grind arith)
 special_most : (b : ℕ) (bs m r : List ℕ) → bs ≡ m ++ r → can_be Special (b ∷ m) ≡ true → (b ∷ m ≡ codes "<-") ⊎ (length m ≤ kept bs)
 special_most b bs m r e h =
     elim (special_text (b ∷ m) h) [
-      apostrophe f ↦ inr (omega (arith, ap length f))
+      | apostrophe f ↦ inr (omega (arith, ap length f))
       | dash f ↦ inr (omega (arith, ap length f))
       | arrow f ↦ inl f
       | run f ↦ inr (subst (λ (l : List ℕ). length m ≤ kept l) (sym e) (run_behind b m r f))
@@ -102,7 +101,7 @@ arrow_extent (c ∷ cs) k d = record {
 single_special : (b : ℕ) → is_special b ≡ true → can_be Special (b ∷ []) ≡ true
 single_special b s =
     elim (cases_Bool (is_dash b)) [
-      inl d ↦ (let e : 45 ≡ b = sym (eqb-true b 45 d) in subst (λ (c : ℕ). can_be Special (c ∷ []) ≡ true) e refl)
+      | inl d ↦ (let e : 45 ≡ b = sym (eqb-true b 45 d) in subst (λ (c : ℕ). can_be Special (c ∷ []) ≡ true) e refl)
       | inr d ↦ or_right _ _ (and_from (is_special b) (not (is_dash b)) s (not_from_false (is_dash b) d))
     ]
 
@@ -118,12 +117,12 @@ kept_extent b bs s other = record {
   within = kept_within bs;
   fits =
       elim (cases_eq (kept bs) 0) [
-        inl k ↦ ap (λ (n : ℕ). can_be Special (b ∷ take n bs)) k ∙ single_special b s
+        | inl k ↦ ap (λ (n : ℕ). can_be Special (b ∷ take n bs)) k ∙ single_special b s
         | inr k ↦ or_right _ _ (run_more b (take (kept bs) bs) s (kept_run bs k))
       ];
   most = λ m r e h. ⊎_elim
       (λ f. elim (cases_eq (kept bs) 0) [
-        inl k ↦ (let tail : m ≡ 45 ∷ [] = cc in
+        | inl k ↦ (let tail : m ≡ 45 ∷ [] = cc in
             let dashed = e ∙ ap (λ (l : List ℕ). l ++ r) tail in
             absurd (both_ways _ other (arrow_from b bs (cc) k (ap begins_with_dash dashed))))
         | inr k ↦ omega (arith, ap length f)
@@ -136,8 +135,8 @@ unfolding is_arrow
 special_extent b bs s =
     cond_both (is_arrow b bs) 1 (kept bs) (IsExtent Special b bs)
     (λ t. let parts = and_parts _ _ t in
-        let first = and_parts _ _ parts.0 in
-        subst (λ (c : ℕ). IsExtent Special c bs 1) (sym (eqb-true b 60 first.0)) (arrow_extent bs (eqb-true (kept bs) 0 first.1) parts.1))
+    let first = and_parts _ _ parts.0 in
+    subst (λ (c : ℕ). IsExtent Special c bs 1) (sym (eqb-true b 60 first.0)) (arrow_extent bs (eqb-true (kept bs) 0 first.1) parts.1))
     (λ f. kept_extent b bs s f)
 
 -- what a byte's kind tells of it
@@ -225,23 +224,24 @@ cuts_more i b bs n None ps e f c =
     let d : Cuts (suc i + 0) bs ps = subst (λ (m : ℕ). Cuts (suc i + m) (drop m bs) ps) g c in
     blank_before i b bs ps x.0 (subst (λ (m : ℕ). Cuts m bs ps) (omega arith) d)
 cuts_more i b bs n (Some k) ps e f c =
-    let x : IsExtent k b bs n = subst (IsExtent k b bs) (sym f) (extent_of k b bs (sym e)) in
-    (drop n bs,
-    record {
-      gap = [];
-      blank = refl;
-      split = ap (λ (l : List ℕ). b ∷ l) (sym (take-append-drop n bs));
-      start = omega arith;
-      is_token = extent_token k b bs n x;
-    },
-    subst (λ (m : ℕ). Cuts m (drop n bs) ps) (omega (arith, length-take-le n bs x.within)) c)
+    let x : IsExtent k b bs n = subst (IsExtent k b bs) (sym f) (extent_of k b bs (sym e)) in (
+      drop n bs,
+      record {
+        gap = [];
+        blank = refl;
+        split = ap (λ (l : List ℕ). b ∷ l) (sym (take-append-drop n bs));
+        start = omega arith;
+        is_token = extent_token k b bs n x;
+      },
+      subst (λ (m : ℕ). Cuts m (drop n bs) ps) (omega (arith, length-take-le n bs x.within)) c,
+    )
 
 pub behind_within : (b : ℕ) (bs : List ℕ) → behind b bs ≤ length bs
 behind_within b bs = within (kind_of b) refl
   where
-  within : (o : Option TokenKind) → o ≡ kind_of b → behind b bs ≤ length bs
-  within None e = omega (arith, (extent_none b bs (sym e)).1)
-  within (Some k) e = (extent_of k b bs (sym e)).within
+    within : (o : Option TokenKind) → o ≡ kind_of b → behind b bs ≤ length bs
+    within None e = omega (arith, (extent_none b bs (sym e)).1)
+    within (Some k) e = (extent_of k b bs (sym e)).within
 
 pub cuts_lexed : (i n : ℕ) (bs : List ℕ) → n ≤ length bs → Cuts (i + n) (drop n bs) (lexed_behind i n bs)
 cuts_lexed i zero [] h = refl

@@ -1,5 +1,5 @@
 -- What one token more does to the tokens that are ahead.
-use Rattle.std.proofs.Common.{◌≡◌, ℕ, zero, suc, ◌+◌, ◌-◌, ◌≤◌, ◌<◌, Bool, true, false, cond, List, [], ◌∷◌, ◌++◌, length, take, drop, get_or, Option, Some, None, Result, Ok, Err, refl, sym, ap, ◌∙◌, subst, append_assoc, arith, add-zero, drop-drop}
+use Rattle.std.proofs.Common.{◌≡◌, ℕ, zero, suc, ◌+◌, ◌-◌, ◌≤◌, ◌<◌, true, cond, List, [], ◌∷◌, ◌++◌, length, take, drop, get_or, Option, Some, None, Result, Ok, Err, refl, sym, ap, ◌∙◌, subst, append_assoc, arith, add-zero, drop-drop}
 use Rattle.std.proofs.Common.{length-drop}
 use Rattle.std.proofs.lemmas.Bool.Decides.{nat_tests}
 use Rattle.ladr_lex.specs.Bytes.{is_blank, is_ordinary, is_special}
@@ -11,7 +11,7 @@ use Rattle.ladr_lex.proofs.Lexing.{behind_within, extent_none, cuts_text}
 use Rattle.ladr_lex.specs.declared.token.Token.{Token}
 use Rattle.std.proofs.lemmas.List.{drop_more, drop_all, append-nil}
 use Rattle.std.proofs.lemmas.Bool.{eqb-true, cond-true, cond-false, or_parts, not-true, cond_both, and_parts}
-use Rattle.std.specs.Prelude.{IfOk, ◌==◌, ◌&&◌, ◌||◌, not}
+use Rattle.std.specs.Prelude.{IfOk, ◌==◌, ◌&&◌}
 use Rattle.ladr_lex.proofs.Classes.{special_apart}
 use Rattle.ladr_lex.proofs.Kept.{kept_behind}
 
@@ -32,7 +32,7 @@ lexed_place bytes at end h e =
     let bs = drop (at + 1) bytes in
     let here : drop at bytes ≡ b ∷ bs = drop_more bytes at 0 h in
     let text : b ∷ take (behind b bs) bs ≡ take (end - at) (drop at bytes) =
-        ap (λ (n : ℕ). take n (b ∷ bs)) {x = suc (behind b bs)} {y = end - at} (omega arith) ∙ ap (take (end - at)) (sym here) in
+    ap (λ (n : ℕ). take n (b ∷ bs)) {x = suc (behind b bs)} {y = end - at} (omega arith) ∙ ap (take (end - at)) (sym here) in
     let place : suc at + behind b bs ≡ end = omega arith in
     let rest : drop (behind b bs) bs ≡ drop end bytes = drop-drop (behind b bs) (at + 1) bytes ∙ ap (λ (n : ℕ). drop n bytes) (sym e) in
     ap (lexed_behind at 0) here ∙ lexed_front at b bs ∙ (λ i. piece (kind_of b) (text i) at ++ lexed_behind (place i) 0 (rest i))

@@ -1,12 +1,12 @@
 -- A text is cut in one way.
-use Rattle.std.proofs.Common.{◌≡◌, ℕ, ◌+◌, Bool, true, false, cond, List, [], ◌∷◌, ◌++◌, length, Some, refl, sym, ap, ◌∙◌, subst, arith, append_assoc}
-use Rattle.std.specs.Prelude.{not, ◌&&◌, ◌||◌, IsTrue}
-use Rattle.std.specs.List.{list_any, list_all}
+use Rattle.std.proofs.Common.{◌≡◌, ℕ, ◌+◌, true, false, List, [], ◌∷◌, ◌++◌, length, Some, refl, sym, ap, ◌∙◌, subst, arith}
+use Rattle.std.specs.Prelude.{IsTrue}
+use Rattle.std.specs.List.{list_all}
 use Rattle.std.proofs.lemmas.List.{append-nil}
 use Rattle.ladr_lex.specs.Bytes.{is_blank}
 use Rattle.ladr_lex.specs.Lexed.{kind_of}
 use Rattle.ladr_lex.specs.Cuts.{Piece, can_be, IsToken, BeginsWith, Cuts}
-use Rattle.ladr_lex.proofs.Classes.{First, first}
+use Rattle.ladr_lex.proofs.Classes.{first}
 use Rattle.ladr_lex.specs.declared.token.TokenKind.{TokenKind}
 
 -- of two fronts of one list one is a front of the other
@@ -29,7 +29,7 @@ fronts (x ∷ t) r (y ∷ u) s e =
 token_unique : (k : TokenKind) (t r u s : List ℕ) → IsToken k t r → IsToken k u s → t ++ r ≡ u ++ s → (t ≡ u) × (r ≡ s)
 token_unique k t r u s one two e =
     elim (fronts t r u s e) [
-      shorter more e f ↦ (let none = one.longest more s f (subst (λ (l : List ℕ). IsTrue (can_be k l)) e two.fits) in (sym (append-nil t) ∙ ap (λ (l : List ℕ). t ++ l) (sym none) ∙ sym e, f ∙ ap (λ (l : List ℕ). l ++ s) none))
+      | shorter more e f ↦ (let none = one.longest more s f (subst (λ (l : List ℕ). IsTrue (can_be k l)) e two.fits) in (sym (append-nil t) ∙ ap (λ (l : List ℕ). t ++ l) (sym none) ∙ sym e, f ∙ ap (λ (l : List ℕ). l ++ s) none))
       | longer more e f ↦ (let none = two.longest more r f (subst (λ (l : List ℕ). IsTrue (can_be k l)) e one.fits) in (e ∙ ap (λ (l : List ℕ). u ++ l) none ∙ append-nil u, sym (f ∙ ap (λ (l : List ℕ). l ++ r) none)))
     ]
 
@@ -73,7 +73,7 @@ begins_same i j bytes others p q r s e f one two =
     let a = first p.kind p.text one.is_token.fits in
     let b = first q.kind q.text two.is_token.fits in
     let split : one.gap ++ (a.byte ∷ (a.others ++ r)) ≡ two.gap ++ (b.byte ∷ (b.others ++ s)) =
-        ap (λ (l : List ℕ). one.gap ++ (l ++ r)) (sym a.is) ∙ sym one.split ∙ f ∙ two.split ∙ ap (λ (l : List ℕ). two.gap ++ (l ++ s)) b.is in
+    ap (λ (l : List ℕ). one.gap ++ (l ++ r)) (sym a.is) ∙ sym one.split ∙ f ∙ two.split ∙ ap (λ (l : List ℕ). two.gap ++ (l ++ s)) b.is in
     let gaps = gap_unique one.gap a.byte _ two.gap b.byte _ one.blank two.blank a.ink b.ink split in
     let kinds : p.kind ≡ q.kind = kind_same _ _ (sym a.told ∙ ap kind_of gaps.1.0 ∙ b.told) in
     let texts : p.text ++ r ≡ q.text ++ s = ap (λ (l : List ℕ). l ++ r) a.is ∙ (λ k. gaps.1.0 k ∷ gaps.1.1 k) ∙ ap (λ (l : List ℕ). l ++ s) (sym b.is) in

@@ -2,7 +2,7 @@
 use Rattle.std.specs.Prelude.{ℕ, List, [], ◌∷◌, codes}
 use Rattle.ladr_lex.specs.Cuts.{Piece}
 use Rattle.ladr_lex.specs.declared.token.TokenKind.{TokenKind}
-use Rattle.ladr_lex.specs.declared.token.TokenKind.TheVariants.{Open, Close, LeftSquare, RightSquare, Comma, Stop, Ordinary, Special, Other}
+use Rattle.ladr_lex.specs.declared.token.TokenKind.TheVariants.{Open, Close, Comma, Stop, Ordinary, Special}
 
 abbrev pub at : ℕ → TokenKind → List ℕ → Piece
 at start kind text = record { kind = kind; text = text; start = start }

@@ -5,22 +5,38 @@ ghost use Rattle.ladr_lex.specs.Lexed.{kind_of};
 
 use crate::token::TokenKind;
 
-#[tactic(auto, unfolding(crate::specs::Bytes::is_ordinary))]
 /// Whether a byte is a letter, a digit, `_` or `$`.
+#[tactic(auto, unfolding(crate::specs::Bytes::is_ordinary))]
 pub fn is_ordinary(byte: u8) -> bool
     ensures { result ≡ is_ordinary byte }
 {
     byte.is_ascii_alphanumeric() || byte == b'_' || byte == b'$'
 }
 
-#[tactic(auto, unfolding(crate::specs::Bytes::is_special))]
 /// Whether a byte is special; `'`, which is a token by itself, isn't meant.
+#[tactic(auto, unfolding(crate::specs::Bytes::is_special))]
 pub fn is_special(byte: u8) -> bool
     ensures { result ≡ is_special byte }
 {
     matches!(
         byte,
-        b'+' | b'-' | b'*' | b'/' | b'\\' | b'^' | b'<' | b'>' | b'=' | b'~' | b'?' | b'@' | b'&' | b'|' | b'!' | b'#' | b';' | b'`'
+        b'+' | b'-'
+            | b'*'
+            | b'/'
+            | b'\\'
+            | b'^'
+            | b'<'
+            | b'>'
+            | b'='
+            | b'~'
+            | b'?'
+            | b'@'
+            | b'&'
+            | b'|'
+            | b'!'
+            | b'#'
+            | b';'
+            | b'`'
     )
 }
 

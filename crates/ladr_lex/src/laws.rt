@@ -9,8 +9,7 @@ ghost use Rattle.ladr_lex.specs.Worked.{formula_line, formula_tokens, special_li
 pub fn one_cutting()
     ensures some { (bytes : List ℕ) → Cuts 0 bytes (lexed bytes) }
     ensures only { (bytes : List ℕ) (ts us : List Piece) → Cuts 0 bytes ts → Cuts 0 bytes us → ts ≡ us }
-{
-}
+{}
 
 /// The tokens of two lines, and the place of a byte on a second line.
 pub fn worked()
@@ -18,5 +17,4 @@ pub fn worked()
     ensures special { Cuts 0 special_line special_tokens }
     ensures line { line_of (codes "p(a).\nq(b).\n") 8 ≡ 2 }
     ensures column { column_of (codes "p(a).\nq(b).\n") 8 ≡ 3 }
-{
-}
+{}

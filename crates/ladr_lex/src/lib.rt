@@ -7,6 +7,8 @@ mod numeral;
 mod operators;
 mod places;
 mod scan;
+#[cfg(test)]
+mod tests;
 mod token;
 
 pub use laws::{one_cutting, worked};

@@ -81,7 +81,13 @@ fn dashes<'a>(found: &mut Vec<Token<'a>>, bytes: &'a [u8], from: usize) -> Resul
 }
 
 // Adds the token that begins at a place and ends before another.
-fn add<'a>(found: &mut Vec<Token<'a>>, kind: TokenKind, bytes: &'a [u8], at: usize, end: usize) -> Result<(), AllocError>
+fn add<'a>(
+    found: &mut Vec<Token<'a>>,
+    kind: TokenKind,
+    bytes: &'a [u8],
+    at: usize,
+    end: usize,
+) -> Result<(), AllocError>
     requires place { at < length bytes.now }
     requires kind { kind_of (slice_index bytes.now at) ≡ Some kind }
     requires end { end ≡ at + 1 + behind (slice_index bytes.now at) (drop (at + 1) bytes.now) }
