@@ -1,1 +1,4 @@
 pub mod Levels
+pub mod Moves
+pub mod Bounds
+pub mod Complete

@@ -1,12 +1,177 @@
 -- One pass over the tokens, with a stack of what waits for more of them.
-use Rattle.std.specs.Prelude.{List, Option, Some}
-use Rattle.ladr_reader.specs.declared.stack.Frame.{Frame}
+use Rattle.std.specs.Prelude.{ℕ, Bool, true, false, ◌&&◌, List, [], ◌∷◌, Option, Some, None, if◌then◌else◌}
+use Rattle.fol_core.specs.RawTree.{RawTree}
+use Rattle.fol_core.specs.declared.raw.Quantifier.{Quantifier}
+use Rattle.ladr_lex.specs.Lexeme.{Sort, Lexeme, open_paren, close_paren, open_square, close_square, comma, full_stop, symbol, unreadable}
+use Rattle.ladr_lex.specs.Operators.{if_prefix, if_after}
+use Rattle.ladr_lex.specs.declared.operators.Operator.{Operator}
+use Rattle.ladr_reader.specs.Capped.{with_argument, application, quantification}
+use Rattle.ladr_reader.specs.Table.{Table, left, right, takes, grows, ends}
 use Rattle.ladr_reader.specs.declared.place.Place.{Place}
+use Rattle.ladr_reader.specs.declared.place.Place.TheVariants.{Operand, Named, Word, Term, Done}
+use Rattle.ladr_reader.specs.declared.roles.Follow.{Follow}
+use Rattle.ladr_reader.specs.declared.roles.Follow.TheVariants.{Applies, Closes, Separates, Stops, Operates, FollowsNot}
+use Rattle.ladr_reader.specs.declared.roles.Start.{Start}
+use Rattle.ladr_reader.specs.declared.roles.Start.TheVariants.{Opens, Quantifies, Precedes, Names, StartsNot}
+use Rattle.ladr_reader.specs.declared.sides.Side.{Side}
+use Rattle.ladr_reader.specs.declared.sides.Side.TheVariants.{Nothing, Below, UpTo}
+use Rattle.ladr_reader.specs.declared.stack.Frame.{Frame}
+use Rattle.ladr_reader.specs.declared.stack.Frame.TheVariants.{Group, Applied, Waiting}
+use Rattle.ladr_reader.specs.declared.stack.Part.{Part}
+use Rattle.ladr_reader.specs.declared.stack.Part.TheVariants.{Prefix, Infix, Quantified}
 
 -- where the machine stands, and what waits, the innermost first
 pub record State : Type 0 where
   pub place : Place
   pub stack : List Frame
 
-abbrev pub at : Place → List Frame → Option State
-at place stack = Some (record { place = place; stack = stack })
+abbrev pub standing : Option Place → List Frame → Option State
+standing None fs = None
+standing (Some place) fs = Some (record { place = place; stack = fs })
+
+-- what a token is before an operand
+abbrev pub start_of_symbol : Option Quantifier → Option Operator → List ℕ → Start
+start_of_symbol (Some w) o s = Quantifies w
+start_of_symbol None None s = Names s
+start_of_symbol None (Some o) s = Precedes s o
+
+abbrev pub start_of : Table → Lexeme → Start
+start_of g open_paren = Opens
+start_of g (symbol k s) = start_of_symbol (g.word s) (if_prefix (g.op s)) s
+start_of g _ = StartsNot
+
+-- what a token is behind a term
+abbrev pub follow_of_symbol : Option Operator → List ℕ → Follow
+follow_of_symbol None s = FollowsNot
+follow_of_symbol (Some o) s = Operates s o
+
+abbrev pub follow_of : Table → Lexeme → Follow
+follow_of g open_paren = Applies
+follow_of g close_paren = Closes
+follow_of g comma = Separates
+follow_of g full_stop = Stops
+follow_of g (symbol k s) = follow_of_symbol (if_after (g.op s)) s
+follow_of g _ = FollowsNot
+
+-- the variable that a token is behind a quantifier's word
+abbrev pub variable_of : (Sort → List ℕ → Bool) → Lexeme → Option (List ℕ)
+variable_of may_be (symbol k s) = if may_be k s then Some s else None
+variable_of may_be _ = None
+
+-- whether a term of precedence q may stand on top of what waits
+abbrev pub allows : List Frame → ℕ → Bool → Bool
+allows [] q growing = true
+allows (Group ∷ fs) q growing = true
+allows (Applied s us ∷ fs) q growing = true
+allows (Waiting part side p ∷ fs) q growing = ends side p q growing
+
+-- whether a token ends the last argument of what waits to be a term of precedence p
+abbrev pub closes : Follow → ℕ → Bool
+closes Applies p = false
+closes Closes p = true
+closes Separates p = true
+closes Stops p = true
+closes (Operates s o) p = takes (left o.kind) o.precedence p
+closes FollowsNot p = false
+
+-- whether it ends the last argument of what is innermost
+abbrev pub is_closed : Follow → List Frame → Bool
+is_closed f [] = false
+is_closed f (Group ∷ fs) = false
+is_closed f (Applied s us ∷ fs) = false
+is_closed f (Waiting part side p ∷ fs) = closes f p
+
+-- what is innermost
+abbrev pub first : List Frame → Option Frame
+first [] = None
+first (f ∷ fs) = Some f
+
+-- the term that a part becomes with its last argument
+abbrev pub whole : ℕ → Part → Option RawTree → Option RawTree
+whole n (Prefix s) t = application n s (with_argument (Some []) t)
+whole n (Infix s u) t = application n s (with_argument (with_argument (Some []) u) t)
+whole n (Quantified q x) t = quantification n q x t
+
+-- before an operand
+abbrev pub begin : Start → List Frame → Option State
+begin Opens fs = standing (Some Operand) (Group ∷ fs)
+begin (Quantifies w) fs = if allows fs 750 false then standing (Some (Word w)) fs else None
+begin (Precedes s o) fs =
+    if allows fs o.precedence false
+    then standing (Some Operand) (Waiting (Prefix s) (right o.kind) o.precedence ∷ fs)
+    else None
+begin (Names s) fs = standing (Some (Named s)) fs
+begin StartsNot fs = None
+
+-- behind a quantifier's word
+abbrev pub bind : Quantifier → Option (List ℕ) → List Frame → Option State
+bind w None fs = None
+bind w (Some x) fs = standing (Some Operand) (Waiting (Quantified w x) UpTo 750 ∷ fs)
+
+-- behind a term and an operator with this right side
+abbrev pub behind_operator : ℕ → Side → List ℕ → Operator → Option RawTree → List Frame → Option State
+behind_operator n Nothing s o t fs =
+    standing (Some (Term (application n s (with_argument (Some []) t)) o.precedence)) fs
+behind_operator n Below s o t fs = standing (Some Operand) (Waiting (Infix s t) Below o.precedence ∷ fs)
+behind_operator n UpTo s o t fs = standing (Some Operand) (Waiting (Infix s t) UpTo o.precedence ∷ fs)
+
+-- behind a term and a closing parenthesis
+abbrev pub behind_close : ℕ → Option RawTree → List Frame → Option State
+behind_close n t [] = None
+behind_close n t (Group ∷ fs) = standing (Some (Term t 0)) fs
+behind_close n t (Applied s us ∷ fs) = standing (Some (Term (application n s (with_argument us t)) 0)) fs
+behind_close n t (Waiting part side p ∷ fs) = None
+
+-- behind a term and a comma
+abbrev pub behind_comma : Option RawTree → List Frame → Option State
+behind_comma t [] = None
+behind_comma t (Group ∷ fs) = None
+behind_comma t (Applied s us ∷ fs) = standing (Some Operand) (Applied s (with_argument us t) ∷ fs)
+behind_comma t (Waiting part side p ∷ fs) = None
+
+-- behind a term and a full stop
+abbrev pub behind_stop : Option RawTree → ℕ → List Frame → Option State
+behind_stop t q [] = standing (Some (Done t q)) []
+behind_stop t q (f ∷ fs) = None
+
+-- what a token does behind a term of precedence q, once it has ended what it may
+abbrev pub act : ℕ → Follow → Option RawTree → ℕ → List Frame → Option State
+act n Applies t q fs = None
+act n Closes t q fs = behind_close n t fs
+act n Separates t q fs = behind_comma t fs
+act n Stops t q fs = behind_stop t q fs
+act n (Operates s o) t q fs =
+    if takes (left o.kind) o.precedence q && allows fs o.precedence (grows o.kind)
+    then behind_operator n (right o.kind) s o t fs
+    else None
+act n FollowsNot t q fs = None
+
+-- behind a term of precedence q: the token ends what waits as far as it may, and acts then
+abbrev pub after : ℕ → Follow → Option RawTree → ℕ → List Frame → Option State
+after n f t q [] = act n f t q []
+after n f t q (Group ∷ fs) = act n f t q (Group ∷ fs)
+after n f t q (Applied s us ∷ fs) = act n f t q (Applied s us ∷ fs)
+after n f t q (Waiting part side p ∷ fs) =
+    if closes f p then after n f (whole n part t) p fs else act n f t q (Waiting part side p ∷ fs)
+
+-- behind a symbol: its arguments begin, or it is an atom
+abbrev pub behind_name : ℕ → Follow → List ℕ → List Frame → Option State
+behind_name n Applies s fs = standing (Some Operand) (Applied s (Some []) ∷ fs)
+behind_name n f s fs = after n f (application n s (Some [])) 0 fs
+
+-- one token more
+abbrev pub step : ℕ → Table → Place → List Frame → Lexeme → Option State
+step n g Operand fs x = begin (start_of g x) fs
+step n g (Named s) fs x = behind_name n (follow_of g x) s fs
+step n g (Word w) fs x = bind w (variable_of g.variable x) fs
+step n g (Term t q) fs x = after n (follow_of g x) t q fs
+step n g (Done t q) fs x = None
+
+abbrev pub next : ℕ → Table → Option State → Lexeme → Option State
+next n g None x = None
+next n g (Some s) x = step n g s.place s.stack x
+
+-- all these tokens more; nothing where no term begins so
+abbrev pub go : ℕ → Table → Option State → List Lexeme → Option State
+go n g s [] = s
+go n g s (x ∷ xs) = go n g (next n g s x) xs

@@ -7,5 +7,6 @@ mod place;
 mod roles;
 mod sides;
 mod stack;
+mod step;
 
 pub use fault::TermFault;

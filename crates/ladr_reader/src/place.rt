@@ -3,12 +3,12 @@ use crate::capped::Capped;
 use fol_core::{Name, Quantifier};
 
 /// Where the reader stands: before an operand, behind a symbol that may get arguments, behind a quantifier's word,
-/// behind a term and its precedence, or behind the full stop of an item.
+/// behind a term of this precedence, or behind the full stop of an item, which is this term of this precedence.
 #[derive(Drop)]
 pub enum Place {
     Operand,
     Named(Name),
     Word(Quantifier),
     Term(Capped, u16),
-    Done(Capped),
+    Done(Capped, u16),
 }

@@ -1,7 +1,10 @@
 // What waits for more tokens.
-ghost use Rattle.std.specs.Prelude.{◌≡◌, [], ◌∷◌, ◌++◌, IfOk, option_to_list};
+ghost use Rattle.std.specs.Prelude.{◌≡◌, [], ◌∷◌, IfOk, MatchOption};
+ghost use Rattle.std.specs.Option.{option_copied};
+ghost use Rattle.ladr_reader.specs.Machine.{allows, is_closed, first};
 
 use crate::capped::{Arguments, Capped};
+use crate::roles::Follow;
 use crate::sides::Side;
 use fol_core::{Name, Quantifier};
 use std::alloc::{AllocError, Global};
@@ -63,9 +66,35 @@ impl Stack {
         Ok(())
     }
 
+    /// Whether a term of precedence `own` may stand on top of what waits.
+    pub fn allows(&self, own: u16, growing: bool) -> bool
+        ensures { result ≡ allows self.now own growing }
+    {
+        match self.top() {
+            Some(Frame::Waiting(_, side, limit)) => side.ends(*limit, own, growing),
+            Some(Frame::Group) | Some(Frame::Applied(_, _)) | None => true,
+        }
+    }
+
+    /// Whether the token ends the last argument of what is innermost.
+    pub fn is_closed_by(&self, follow: &Follow) -> bool
+        ensures { result ≡ is_closed follow.now self.now }
+    {
+        match self.top() {
+            Some(Frame::Waiting(_, _, own)) => follow.closes(*own),
+            Some(Frame::Group) | Some(Frame::Applied(_, _)) | None => false,
+        }
+    }
+
+    fn top(&self) -> Option<&Frame>
+        ensures { option_copied result ≡ first self.now }
+    {
+        self.frames.last()
+    }
+
     /// The innermost frame, taken off.
     pub fn pop(&mut self) -> Option<Frame>
-        ensures { self.old ≡ option_to_list result ++ self.new }
+        ensures { MatchOption result ((self.old ≡ []) × (self.new ≡ [])) (λ frame. self.old ≡ frame ∷ self.new) }
     {
         self.frames.pop()
     }
