@@ -1,4 +1,7 @@
-pub mod Levels
-pub mod Moves
 pub mod Bounds
 pub mod Complete
+pub mod Lawful
+pub mod Levels
+pub mod Moves
+pub mod Sound
+pub mod Splits
