@@ -26,7 +26,7 @@ takes_less UpTo p q r h t = grind (arith, nat_tests)
 
 -- an operator that may stand in a last argument ends none of its terms
 pub ends_or_takes :
-  (side : Side) (k : OperatorKind) (p own : ℕ) → ends side p own (grows k) ≡ true → takes (left k) own p ≡ false
+    (side : Side) (k : OperatorKind) (p own : ℕ) → ends side p own (grows k) ≡ true → takes (left k) own p ≡ false
 ends_or_takes Nothing k p own h = grind (arith, nat_tests)
 ends_or_takes Below Infix p own h = grind (arith, nat_tests)
 ends_or_takes Below InfixLeft p own h = grind (arith, nat_tests)
@@ -45,8 +45,8 @@ ends_or_takes UpTo PostfixParen p own h = grind (arith, nat_tests)
 
 -- where an operator's term may stand, its left argument may
 pub ends_left :
-  (side : Side) (k : OperatorKind) (p own q : ℕ) (b : Bool) → takes (left k) own q ≡ true →
-  ends side p own (grows k) ≡ true → ends side p q b ≡ true
+    (side : Side) (k : OperatorKind) (p own q : ℕ) (b : Bool) → takes (left k) own q ≡ true →
+    ends side p own (grows k) ≡ true → ends side p q b ≡ true
 ends_left Nothing k p own q b t h = grind (arith, nat_tests)
 ends_left Below Infix p own q b t h = grind (arith, nat_tests)
 ends_left Below InfixLeft p own q b t h = grind (arith, nat_tests)

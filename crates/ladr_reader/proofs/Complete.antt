@@ -1,19 +1,19 @@
 -- The machine reads each term.
-use Rattle.std.proofs.Common.{◌≡◌, ℕ, ◌≤◌, Bool, true, false, List, [], ◌∷◌, ◌++◌, Option, Some, None, refl, ap, ◌∙◌, sym, ◌+◌, arith}
+use Rattle.std.proofs.Common.{◌≡◌, ℕ, Bool, true, false, List, [], ◌∷◌, ◌++◌, Option, Some, None, refl, ap, ◌∙◌, sym, ◌+◌, arith}
 use Rattle.std.proofs.lemmas.Bool.Decides.{nat_tests}
-use Rattle.fol_core.specs.RawTree.{RawTree, named, quantified, raws_of, depth}
+use Rattle.fol_core.specs.RawTree.{RawTree, named, raws_of, depth}
 use Rattle.ladr_lex.specs.Lexeme.{Sort, Lexeme, open_paren, close_paren, comma, full_stop, symbol}
-use Rattle.ladr_lex.specs.Operators.{if_prefix, if_after}
+use Rattle.ladr_lex.specs.Operators.{if_after}
 use Rattle.ladr_lex.specs.declared.operators.Operator.{Operator}
 use Rattle.ladr_reader.specs.Capped.{capped, with_argument, application}
-use Rattle.ladr_reader.specs.Machine.{State, standing, follow_of, follow_of_symbol, allows, closes, whole, behind_operator, after, next, go}
+use Rattle.ladr_reader.specs.Machine.{State, standing, follow_of, follow_of_symbol, allows, closes, behind_operator, after, next, go}
 use Rattle.ladr_reader.specs.Reads.{Reads, atom, applied, group, bound, prefixed, postfixed, infixed, ReadsAll, single, further, Item}
-use Rattle.ladr_reader.specs.Table.{Table, left, right, takes, grows, ends, operator_grows, tree_grows}
+use Rattle.ladr_reader.specs.Table.{Table, left, right, takes, grows, operator_grows, tree_grows}
 use Rattle.ladr_reader.specs.declared.place.Place.{Place}
-use Rattle.ladr_reader.specs.declared.place.Place.TheVariants.{Operand, Named, Term, Done}
-use Rattle.ladr_reader.specs.declared.roles.Follow.TheVariants.{Applies, Closes, Separates, Operates}
+use Rattle.ladr_reader.specs.declared.place.Place.TheVariants.{Operand, Term, Done}
+use Rattle.ladr_reader.specs.declared.roles.Follow.TheVariants.{Operates}
 use Rattle.ladr_reader.specs.declared.sides.Side.{Side}
-use Rattle.ladr_reader.specs.declared.sides.Side.TheVariants.{Nothing, Below, UpTo}
+use Rattle.ladr_reader.specs.declared.sides.Side.TheVariants.{UpTo}
 use Rattle.ladr_reader.specs.declared.stack.Frame.{Frame}
 use Rattle.ladr_reader.specs.declared.stack.Frame.TheVariants.{Group, Applied, Waiting}
 use Rattle.ladr_reader.specs.declared.stack.Part.TheVariants.{Prefix, Infix, Quantified}
@@ -33,34 +33,35 @@ FindsAll n g ts us =
     (s : List ℕ) (fs : List Frame) →
     (next n g (go n g (operand (Applied s (Some []) ∷ fs)) ts) comma ≡ operand (Applied s (all_capped n us) ∷ fs))
     × (next n g (go n g (operand (Applied s (Some []) ∷ fs)) ts) close_paren
-        ≡ standing (Some (Term (capped n (named s (raws_of us))) 0)) fs)
+    ≡ standing (Some (Term (capped n (named s (raws_of us))) 0)) fs)
 
 -- an argument behind others
 one_more :
-  (n : ℕ) (g : Table) (ts : List Lexeme) (ks : List RawTree) (t : RawTree) (p : ℕ) (s : List ℕ) (fs : List Frame) →
-  Finds n g ts t p →
-  (next n g (go n g (operand (Applied s (all_capped n ks) ∷ fs)) ts) comma
-      ≡ operand (Applied s (all_capped n (ks ++ t ∷ [])) ∷ fs))
-  × (next n g (go n g (operand (Applied s (all_capped n ks) ∷ fs)) ts) close_paren
-      ≡ standing (Some (Term (capped n (named s (raws_of (ks ++ t ∷ [])))) 0)) fs)
+    (n : ℕ) (g : Table) (ts : List Lexeme) (ks : List RawTree) (t : RawTree) (p : ℕ) (s : List ℕ) (fs : List Frame) →
+    Finds n g ts t p →
+    (next n g (go n g (operand (Applied s (all_capped n ks) ∷ fs)) ts) comma
+    ≡ operand (Applied s (all_capped n (ks ++ t ∷ [])) ∷ fs))
+    × (next n g (go n g (operand (Applied s (all_capped n ks) ∷ fs)) ts) close_paren
+    ≡ standing (Some (Term (capped n (named s (raws_of (ks ++ t ∷ [])))) 0)) fs)
 one_more n g ts ks t p s fs finds =
     let e : with_argument (all_capped n ks) (capped n t) ≡ all_capped n (ks ++ t ∷ []) = with_capped n ks t in
     let a : application n s (all_capped n (ks ++ t ∷ [])) ≡ capped n (named s (raws_of (ks ++ t ∷ []))) =
-        application_capped n s (ks ++ t ∷ [])
-    in
-    (finds (Applied s (all_capped n ks) ∷ fs) refl comma refl ∙ rw e,
-     finds (Applied s (all_capped n ks) ∷ fs) refl close_paren refl ∙ rw (e, a))
+    application_capped n s (ks ++ t ∷ [])
+    in (
+      finds (Applied s (all_capped n ks) ∷ fs) refl comma refl ∙ rw e,
+      finds (Applied s (all_capped n ks) ∷ fs) refl close_paren refl ∙ rw (e, a),
+    )
 
 -- an operator behind the tokens of its left argument
 behind_left :
-  (n : ℕ) (g : Table) (ts : List Lexeme) (t : RawTree) (q : ℕ) (k : Sort) (s : List ℕ) (o : Operator)
-  (fs : List Frame) → if_after (g.op s) ≡ Some o → Finds n g ts t q → takes (left o.kind) o.precedence q ≡ true →
-  allows fs o.precedence (operator_grows (if_after (g.op s))) ≡ true →
-  next n g (go n g (operand fs) ts) (symbol k s) ≡ behind_operator n (right o.kind) s o (capped n t) fs
+    (n : ℕ) (g : Table) (ts : List Lexeme) (t : RawTree) (q : ℕ) (k : Sort) (s : List ℕ) (o : Operator)
+    (fs : List Frame) → if_after (g.op s) ≡ Some o → Finds n g ts t q → takes (left o.kind) o.precedence q ≡ true →
+    allows fs o.precedence (operator_grows (if_after (g.op s))) ≡ true →
+    next n g (go n g (operand fs) ts) (symbol k s) ≡ behind_operator n (right o.kind) s o (capped n t) fs
 behind_left n g ts t q k s o fs e finds takes_it h =
     let f : follow_of g (symbol k s) ≡ Operates s o = ap (λ (a : Option Operator). follow_of_symbol a s) e in
     let fits : allows fs o.precedence (grows o.kind) ≡ true =
-        ap (λ (a : Option Operator). allows fs o.precedence (operator_grows a)) (sym e) ∙ h
+    ap (λ (a : Option Operator). allows fs o.precedence (operator_grows a)) (sym e) ∙ h
     in
     let c : closes (follow_of g (symbol k s)) q ≡ true = rw f takes_it in
     finds fs (allows_left o q (tree_grows g t) fs takes_it fits) (symbol k s) c
@@ -81,22 +82,22 @@ mutual
       ∙ after_waiting n (follow_of g x) (Quantified w y) UpTo 750 p (capped n t) _ fs c (quantification_capped n w y t)
   complete n g (prefixed {ts} {t} {p} k s o w e r fits) fs h x c =
       let room : allows fs o.precedence false ≡ true =
-          ap (λ (b : Bool). allows fs o.precedence b) (sym (prefix_grows (g.op s) o e)) ∙ h
+      ap (λ (b : Bool). allows fs o.precedence b) (sym (prefix_grows (g.op s) o e)) ∙ h
       in
       ap (λ (z : Option State). next n g (go n g z ts) x) (begin_prefix n g k s o fs w e room)
       ∙ complete n g r (Waiting (Prefix s) (right o.kind) o.precedence ∷ fs) fits x (closes_less (follow_of g x) o.precedence p (ends_at_most (right o.kind) o.precedence p (tree_grows g t) fits) c)
       ∙ after_waiting n (follow_of g x) (Prefix s) (right o.kind) o.precedence p (capped n t) _ fs c (prefix_whole n s t)
   complete n g (postfixed {ts} {t} {p} k s o e nothing r takes_it) fs h x c =
       ap (λ (z : Option State). next n g z x)
-        (go_append n g (operand fs) ts (symbol k s ∷ [])
-          ∙ behind_left n g ts t p k s o fs e (complete n g r) takes_it h
-          ∙ ap (λ (side : Side). behind_operator n side s o (capped n t) fs) nothing)
+      (go_append n g (operand fs) ts (symbol k s ∷ [])
+      ∙ behind_left n g ts t p k s o fs e (complete n g r) takes_it h
+      ∙ ap (λ (side : Side). behind_operator n side s o (capped n t) fs) nothing)
       ∙ ap (λ (z : Option RawTree). after n (follow_of g x) z o.precedence fs) (prefix_whole n s t)
   complete n g (infixed {ts} {us} {t} {u} {p} {q} k s o e r takes_it l fits) fs h x c =
       ap (λ (z : Option State). next n g z x) (go_append n g (operand fs) ts (symbol k s ∷ us))
       ∙ ap (λ (z : Option State). next n g (go n g z us) x)
-          (behind_left n g ts t p k s o fs e (complete n g r) takes_it h
-            ∙ behind_infix n (right o.kind) s o (capped n t) q (tree_grows g u) fs fits)
+      (behind_left n g ts t p k s o fs e (complete n g r) takes_it h
+      ∙ behind_infix n (right o.kind) s o (capped n t) q (tree_grows g u) fs fits)
       ∙ complete n g l (Waiting (Infix s (capped n t)) (right o.kind) o.precedence ∷ fs) fits x (closes_less (follow_of g x) o.precedence q (ends_at_most (right o.kind) o.precedence q (tree_grows g u) fits) c)
       ∙ after_waiting n (follow_of g x) (Infix s (capped n t)) (right o.kind) o.precedence q (capped n u) _ fs c (infix_whole n s t u)
 
@@ -105,16 +106,22 @@ mutual
       let only = one_more n g ts [] t p s fs (complete n g r) in rw (none_capped n) at only
   complete_all n g (further {ts} {us} {ks} {t} {p} rs r most) s fs =
       let front = go_append n g (operand (Applied s (Some []) ∷ fs)) ts (comma ∷ us)
-          ∙ ap (λ (z : Option State). go n g z us) (complete_all n g rs s fs).0 in
-      let more = one_more n g us ks t p s fs (complete n g r) in
-      (ap (λ (z : Option State). next n g z comma) front ∙ more.0,
-       ap (λ (z : Option State). next n g z close_paren) front ∙ more.1)
+      ∙ ap (λ (z : Option State). go n g z us) (complete_all n g rs s fs).0 in
+      let more = one_more n g us ks t p s fs (complete n g r) in (
+        ap (λ (z : Option State). next n g z comma) front ∙ more.0,
+        ap (λ (z : Option State). next n g z close_paren) front ∙ more.1,
+      )
 
--- a run over an item ends with its tree
+-- a run over a term and a full stop ends with its tree
+term_read :
+    (n : ℕ) (g : Table) {ts : List Lexeme} {t : RawTree} {p : ℕ} → Reads g ts t p →
+    go n g (operand []) (ts ++ full_stop ∷ []) ≡ standing (Some (Done (capped n t) p)) []
+term_read n g {ts} r = go_append n g (operand []) ts (full_stop ∷ []) ∙ complete n g r [] refl full_stop refl
+
 pub item_read :
-  (n : ℕ) (g : Table) {ts : List Lexeme} {t : RawTree} {p : ℕ} → Reads g ts t p →
-  go n g (operand []) (ts ++ full_stop ∷ []) ≡ standing (Some (Done (capped n t) p)) []
-item_read n g {ts} r = go_append n g (operand []) ts (full_stop ∷ []) ∙ complete n g r [] refl full_stop refl
+    (n : ℕ) (g : Table) {item : List Lexeme} {t : RawTree} (i : Item g item t) →
+    go n g (operand []) item ≡ standing (Some (Done (capped n t) i.precedence)) []
+item_read n g i = ap (λ (ts : List Lexeme). go n g (operand []) ts) i.stops ∙ term_read n g i.reads
 
 -- trees are the same where they are so with more levels than they have
 capped_same : (t u : RawTree) → capped (depth t + depth u) t ≡ capped (depth t + depth u) u → t ≡ u
@@ -124,15 +131,15 @@ capped_same t u e =
     cc
 
 -- where a state stands
-abbrev place_of : Option State → Place
+abbrev pub place_of : Option State → Place
 place_of None = Operand
 place_of (Some s) = s.place
 
 -- tokens are at most one term, of one precedence
 pub reads_one :
-  (g : Table) (ts : List Lexeme) (t u : RawTree) (p q : ℕ) → Reads g ts t p → Reads g ts u q → (t ≡ u) × (p ≡ q)
+    (g : Table) (ts : List Lexeme) (t u : RawTree) (p q : ℕ) → Reads g ts t p → Reads g ts u q → (t ≡ u) × (p ≡ q)
 reads_one g ts t u p q r l =
     let n : ℕ = depth t + depth u in
-    let e : Done (capped n t) p ≡ Done (capped n u) q = ap place_of (sym (item_read n g r) ∙ item_read n g l) in
+    let e : Done (capped n t) p ≡ Done (capped n u) q = ap place_of (sym (term_read n g r) ∙ term_read n g l) in
     let same : capped n t ≡ capped n u = cc in
     (capped_same t u same, cc)

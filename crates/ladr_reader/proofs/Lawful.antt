@@ -1,5 +1,5 @@
 -- What follows from the precedences of a table.
-use Rattle.std.proofs.Common.{◌≡◌, ℕ, ◌≤◌, ◌<◌, Bool, true, false, List, [], ◌∷◌, ◌++◌, Option, Some, None, refl, ap, ◌∙◌, sym, subst, arith, rules, IsTrue, if◌then◌else◌}
+use Rattle.std.proofs.Common.{◌≡◌, ℕ, ◌≤◌, Bool, true, false, List, [], ◌∷◌, Option, Some, None, arith, rules, if◌then◌else◌}
 use Rattle.std.proofs.lemmas.Bool.Decides.{nat_tests}
 use Rattle.std.specs.Str.{bytes_eq}
 use Rattle.fol_core.specs.RawTree.{RawTree}
@@ -9,9 +9,8 @@ use Rattle.ladr_lex.specs.declared.operators.Operator.{Operator}
 use Rattle.ladr_lex.specs.declared.operators.OperatorKind.{OperatorKind}
 use Rattle.ladr_lex.specs.declared.operators.OperatorKind.TheVariants as kind
 use Rattle.ladr_reader.specs.Reads.{Reads, atom, applied, group, bound, prefixed, postfixed, infixed}
-use Rattle.ladr_reader.specs.Table.{Table, table_of, left, right, takes, ends}
-use Rattle.ladr_reader.specs.declared.sides.Side.{Side}
-use Rattle.ladr_reader.specs.declared.sides.Side.TheVariants.{Nothing, Below, UpTo}
+use Rattle.ladr_reader.specs.Table.{Table, table_of, right, ends}
+use Rattle.ladr_reader.specs.declared.sides.Side.TheVariants.{Below, UpTo}
 
 -- precedences are from 1 to 998
 pub record Lawful (g : Table) : Type 0 where
@@ -63,6 +62,25 @@ kind_room kind.Postfix p b h l = cc
 kind_room kind.PostfixParen p b h l = cc
 
 pub prefix_room :
-  (g : Table) → Lawful g → (s : List ℕ) (o : Operator) (b : Bool) → if_prefix (g.op s) ≡ Some o →
-  ends (right o.kind) o.precedence 0 b ≡ true
+    (g : Table) → Lawful g → (s : List ℕ) (o : Operator) (b : Bool) → if_prefix (g.op s) ≡ Some o →
+    ends (right o.kind) o.precedence 0 b ≡ true
 prefix_room g l s o b h = kind_room o.kind o.precedence b (prefix_kind (g.op s) o h) (prefix_own g l s o h).0
+
+row_at :
+    (r : OperatorRow) (rs : List OperatorRow) (s : List ℕ) (o : Operator) (b : Bool) → are_lawful (r ∷ rs) ≡ true →
+    (operator_of rs s ≡ Some o → (1 ≤ o.precedence) × (o.precedence ≤ 998)) →
+    (if b then Some r.operator else operator_of rs s) ≡ Some o → (1 ≤ o.precedence) × (o.precedence ≤ 998)
+row_at r rs s o true h rest e = grind (arith, nat_tests)
+row_at r rs s o false h rest e = rest e
+
+row_lawful :
+    (rows : List OperatorRow) → are_lawful rows ≡ true → (s : List ℕ) (o : Operator) → operator_of rows s ≡ Some o →
+    (1 ≤ o.precedence) × (o.precedence ≤ 998)
+row_lawful [] h s o e = cc
+row_lawful (r ∷ rs) h s o e =
+    let rest : are_lawful rs ≡ true = grind (arith, nat_tests) in
+    row_at r rs s o (bytes_eq r.name s) h (row_lawful rs rest s o) e
+
+-- the rows of a table of operators are lawful
+pub table_lawful : (rows : List OperatorRow) → are_lawful rows ≡ true → Lawful (table_of rows)
+table_lawful rows h = record { own = row_lawful rows h }

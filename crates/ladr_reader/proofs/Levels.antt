@@ -1,5 +1,5 @@
 -- What is built is the tree, as long as it has few levels.
-use Rattle.std.proofs.Common.{◌≡◌, ℕ, max, Bool, true, false, List, [], ◌∷◌, ◌++◌, Option, Some, None, refl, arith, leb, if◌then◌else◌}
+use Rattle.std.proofs.Common.{◌≡◌, ℕ, max, List, [], ◌∷◌, ◌++◌, Option, Some, None, arith, leb, if◌then◌else◌}
 use Rattle.std.proofs.lemmas.Bool.Decides.{nat_tests}
 use Rattle.fol_core.specs.RawTree.{RawTree, named, quantified, depth, depth_of, raws_of}
 use Rattle.fol_core.specs.declared.raw.Quantifier.{Quantifier}

@@ -1,14 +1,14 @@
 -- How the machine moves.
-use Rattle.std.proofs.Common.{◌≡◌, ℕ, ◌≤◌, Bool, true, false, ◌&&◌, List, [], ◌∷◌, ◌++◌, Option, Some, None, refl, ap, ◌∙◌, sym, rules}
-use Rattle.fol_core.specs.RawTree.{RawTree, named, quantified, no_raws, raws_of}
+use Rattle.std.proofs.Common.{◌≡◌, ℕ, ◌≤◌, Bool, true, false, List, [], ◌∷◌, ◌++◌, Option, Some, None, refl, rules}
+use Rattle.fol_core.specs.RawTree.{RawTree, named, no_raws, raws_of}
 use Rattle.fol_core.specs.declared.raw.Quantifier.{Quantifier}
 use Rattle.ladr_lex.specs.Lexeme.{Sort, Lexeme, symbol}
 use Rattle.ladr_lex.specs.Operators.{if_prefix, if_after}
 use Rattle.ladr_lex.specs.declared.operators.Operator.{Operator}
-use Rattle.ladr_reader.specs.Capped.{capped, with_argument, application, quantification}
-use Rattle.ladr_reader.specs.Machine.{State, standing, follow_of, variable_of, allows, closes, whole, begin, bind, behind_operator, behind_name, act, after, step, next, go}
+use Rattle.ladr_reader.specs.Capped.{capped}
+use Rattle.ladr_reader.specs.Machine.{State, standing, allows, closes, whole, behind_operator, behind_name, after, next, go}
 use Rattle.ladr_reader.specs.Table.{Table, left, right, takes, grows, ends, operator_grows}
-use Rattle.ladr_reader.specs.declared.place.Place.TheVariants.{Operand, Named, Word, Term, Done}
+use Rattle.ladr_reader.specs.declared.place.Place.TheVariants.{Operand, Named}
 use Rattle.ladr_reader.specs.declared.roles.Follow.{Follow}
 use Rattle.ladr_reader.specs.declared.roles.Follow.TheVariants.{Applies, Closes, Separates, Stops, Operates, FollowsNot}
 use Rattle.ladr_reader.specs.declared.sides.Side.{Side}
@@ -18,7 +18,7 @@ use Rattle.ladr_reader.specs.declared.stack.Frame.TheVariants.{Group, Applied, W
 use Rattle.ladr_reader.specs.declared.stack.Part.{Part}
 use Rattle.ladr_reader.specs.declared.stack.Part.TheVariants.{Prefix, Infix, Quantified}
 use Rattle.ladr_reader.proofs.Bounds.{takes_less, ends_or_takes, ends_left}
-use Rattle.ladr_reader.proofs.Levels.{all_capped, none_capped, with_capped, application_capped, quantification_capped}
+use Rattle.ladr_reader.proofs.Levels.{none_capped, with_capped, application_capped}
 
 -- before an operand
 abbrev pub operand : List Frame → Option State
@@ -34,32 +34,32 @@ pub prefix_whole : (n : ℕ) (s : List ℕ) (t : RawTree) → whole n (Prefix s)
 prefix_whole n s t = rw (← none_capped n, with_capped, application_capped)
 
 pub infix_whole :
-  (n : ℕ) (s : List ℕ) (t u : RawTree) →
-  whole n (Infix s (capped n t)) (capped n u) ≡ capped n (named s (raws_of (t ∷ u ∷ [])))
+    (n : ℕ) (s : List ℕ) (t u : RawTree) →
+    whole n (Infix s (capped n t)) (capped n u) ≡ capped n (named s (raws_of (t ∷ u ∷ [])))
 infix_whole n s t u = rw (← none_capped n, with_capped n [] t, with_capped n (t ∷ []) u, application_capped)
 
 -- the first moves of terms
 pub begin_name :
-  (n : ℕ) (g : Table) (k : Sort) (s : List ℕ) (fs : List Frame) → g.word s ≡ None → if_prefix (g.op s) ≡ None →
-  next n g (operand fs) (symbol k s) ≡ standing (Some (Named s)) fs
+    (n : ℕ) (g : Table) (k : Sort) (s : List ℕ) (fs : List Frame) → g.word s ≡ None → if_prefix (g.op s) ≡ None →
+    next n g (operand fs) (symbol k s) ≡ standing (Some (Named s)) fs
 begin_name n g k s fs w e = rw (w, e)
 
 pub begin_word :
-  (n : ℕ) (g : Table) (k j : Sort) (w : Quantifier) (s x : List ℕ) (fs : List Frame) → g.word s ≡ Some w →
-  g.variable j x ≡ true → allows fs 750 false ≡ true →
-  next n g (next n g (operand fs) (symbol k s)) (symbol j x) ≡ operand (Waiting (Quantified w x) UpTo 750 ∷ fs)
+    (n : ℕ) (g : Table) (k j : Sort) (w : Quantifier) (s x : List ℕ) (fs : List Frame) → g.word s ≡ Some w →
+    g.variable j x ≡ true → allows fs 750 false ≡ true →
+    next n g (next n g (operand fs) (symbol k s)) (symbol j x) ≡ operand (Waiting (Quantified w x) UpTo 750 ∷ fs)
 begin_word n g k j w s x fs e v h = rw (e, h, v)
 
 pub begin_prefix :
-  (n : ℕ) (g : Table) (k : Sort) (s : List ℕ) (o : Operator) (fs : List Frame) → g.word s ≡ None →
-  if_prefix (g.op s) ≡ Some o → allows fs o.precedence false ≡ true →
-  next n g (operand fs) (symbol k s) ≡ operand (Waiting (Prefix s) (right o.kind) o.precedence ∷ fs)
+    (n : ℕ) (g : Table) (k : Sort) (s : List ℕ) (o : Operator) (fs : List Frame) → g.word s ≡ None →
+    if_prefix (g.op s) ≡ Some o → allows fs o.precedence false ≡ true →
+    next n g (operand fs) (symbol k s) ≡ operand (Waiting (Prefix s) (right o.kind) o.precedence ∷ fs)
 begin_prefix n g k s o fs w e h = rw (w, e, h)
 
 -- an atom ends before a token that ends terms of precedence 0
 pub behind_atom :
-  (n : ℕ) (f : Follow) (s : List ℕ) (fs : List Frame) → closes f 0 ≡ true →
-  behind_name n f s fs ≡ after n f (capped n (named s no_raws)) 0 fs
+    (n : ℕ) (f : Follow) (s : List ℕ) (fs : List Frame) → closes f 0 ≡ true →
+    behind_name n f s fs ≡ after n f (capped n (named s no_raws)) 0 fs
 behind_atom n Applies s fs h = cc
 behind_atom n Closes s fs h = refl
 behind_atom n Separates s fs h = refl
@@ -78,8 +78,8 @@ closes_less FollowsNot p q h c = c
 
 -- where an operator's term may stand, its left argument may
 pub allows_left :
-  (o : Operator) (q : ℕ) (b : Bool) (fs : List Frame) → takes (left o.kind) o.precedence q ≡ true →
-  allows fs o.precedence (grows o.kind) ≡ true → allows fs q b ≡ true
+    (o : Operator) (q : ℕ) (b : Bool) (fs : List Frame) → takes (left o.kind) o.precedence q ≡ true →
+    allows fs o.precedence (grows o.kind) ≡ true → allows fs q b ≡ true
 allows_left o q b [] t h = refl
 allows_left o q b (Group ∷ fs) t h = refl
 allows_left o q b (Applied s us ∷ fs) t h = refl
@@ -87,9 +87,9 @@ allows_left o q b (Waiting part side p ∷ fs) t h = ends_left side o.kind p o.p
 
 -- an operator that may stand on top takes the term before it as its left argument
 pub after_operator :
-  (n : ℕ) (s : List ℕ) (o : Operator) (t : Option RawTree) (q : ℕ) (fs : List Frame) →
-  takes (left o.kind) o.precedence q ≡ true → allows fs o.precedence (grows o.kind) ≡ true →
-  after n (Operates s o) t q fs ≡ behind_operator n (right o.kind) s o t fs
+    (n : ℕ) (s : List ℕ) (o : Operator) (t : Option RawTree) (q : ℕ) (fs : List Frame) →
+    takes (left o.kind) o.precedence q ≡ true → allows fs o.precedence (grows o.kind) ≡ true →
+    after n (Operates s o) t q fs ≡ behind_operator n (right o.kind) s o t fs
 after_operator n s o t q [] e h = rw e
 after_operator n s o t q (Group ∷ fs) e h = rw e
 after_operator n s o t q (Applied r us ∷ fs) e h = rw e
@@ -97,17 +97,17 @@ after_operator n s o t q (Waiting part side p ∷ fs) e h = rw (ends_or_takes si
 
 -- an operator with a right argument waits for it
 pub behind_infix :
-  (n : ℕ) (side : Side) (s : List ℕ) (o : Operator) (t : Option RawTree) (q : ℕ) (b : Bool) (fs : List Frame) →
-  ends side o.precedence q b ≡ true →
-  behind_operator n side s o t fs ≡ operand (Waiting (Infix s t) side o.precedence ∷ fs)
+    (n : ℕ) (side : Side) (s : List ℕ) (o : Operator) (t : Option RawTree) (q : ℕ) (b : Bool) (fs : List Frame) →
+    ends side o.precedence q b ≡ true →
+    behind_operator n side s o t fs ≡ operand (Waiting (Infix s t) side o.precedence ∷ fs)
 behind_infix n Nothing s o t q b fs h = cc
 behind_infix n Below s o t q b fs h = refl
 behind_infix n UpTo s o t q b fs h = refl
 
 -- a token that ends the term that a part becomes
 pub after_waiting :
-  (n : ℕ) (f : Follow) (part : Part) (side : Side) (p q : ℕ) (t u : Option RawTree) (fs : List Frame) →
-  closes f p ≡ true → whole n part t ≡ u → after n f t q (Waiting part side p ∷ fs) ≡ after n f u p fs
+    (n : ℕ) (f : Follow) (part : Part) (side : Side) (p q : ℕ) (t u : Option RawTree) (fs : List Frame) →
+    closes f p ≡ true → whole n part t ≡ u → after n f t q (Waiting part side p ∷ fs) ≡ after n f u p fs
 after_waiting n f part side p q t u fs c e = rw (c, e)
 
 -- a prefix operator's term doesn't grow to the left

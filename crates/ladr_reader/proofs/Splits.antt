@@ -1,5 +1,5 @@
 -- Token lists in two parts.
-use Rattle.std.proofs.Common.{◌≡◌, List, ◌++◌, refl, ap, ◌∙◌, append_assoc, subst, sym}
+use Rattle.std.proofs.Common.{◌≡◌, List, ◌++◌, refl, ap, ◌∙◌, append_assoc}
 use Rattle.ladr_lex.specs.Lexeme.{Lexeme}
 
 -- the tokens are some that are F, and then some that are B
@@ -12,8 +12,8 @@ pub record Split (F B : List Lexeme → Type 0) (vs : List Lexeme) : Type 0 wher
 
 -- more tokens at the end
 pub longer :
-  (F B C : List Lexeme → Type 0) (vs xs : List Lexeme) → Split F B vs →
-  ((bs : List Lexeme) → B bs → C (bs ++ xs)) → Split F C (vs ++ xs)
+    (F B C : List Lexeme → Type 0) (vs xs : List Lexeme) → Split F B vs →
+    ((bs : List Lexeme) → B bs → C (bs ++ xs)) → Split F C (vs ++ xs)
 longer F B C vs xs h f =
     record {
       front = h.front;
@@ -25,8 +25,8 @@ longer F B C vs xs h f =
 
 -- the last two of three parts become one
 pub joined :
-  (F A B C : List Lexeme → Type 0) (vs : List Lexeme) → Split (Split F A) B vs →
-  ((ws bs : List Lexeme) → A ws → B bs → C (ws ++ bs)) → Split F C vs
+    (F A B C : List Lexeme → Type 0) (vs : List Lexeme) → Split (Split F A) B vs →
+    ((ws bs : List Lexeme) → A ws → B bs → C (ws ++ bs)) → Split F C vs
 joined F A B C vs h f =
     let l = h.is_front in
     record {

@@ -2,7 +2,7 @@
 use Rattle.std.specs.Prelude.{ℕ, Bool, true, false, ◌&&◌, List, [], ◌∷◌, Option, Some, None, if◌then◌else◌}
 use Rattle.fol_core.specs.RawTree.{RawTree}
 use Rattle.fol_core.specs.declared.raw.Quantifier.{Quantifier}
-use Rattle.ladr_lex.specs.Lexeme.{Sort, Lexeme, open_paren, close_paren, open_square, close_square, comma, full_stop, symbol, unreadable}
+use Rattle.ladr_lex.specs.Lexeme.{Sort, Lexeme, open_paren, close_paren, comma, full_stop, symbol}
 use Rattle.ladr_lex.specs.Operators.{if_prefix, if_after}
 use Rattle.ladr_lex.specs.declared.operators.Operator.{Operator}
 use Rattle.ladr_reader.specs.Capped.{with_argument, application, quantification}

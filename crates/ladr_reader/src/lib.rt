@@ -3,10 +3,13 @@
 
 mod capped;
 mod fault;
+mod nesting;
 mod place;
+mod read;
 mod roles;
 mod sides;
 mod stack;
 mod step;
 
 pub use fault::TermFault;
+pub use read::read_term;
