@@ -1,45 +1,51 @@
 -- Free variables and the closure of a formula.
-use Rattle.std.specs.Prelude.{ℕ, Bool, false, ◌==◌, ◌||◌, if◌then◌else◌, List, [], ◌∷◌, ◌++◌}
+use Rattle.std.specs.Prelude.{ℕ, Bool, ◌==◌, if◌then◌else◌, List, [], ◌∷◌, ◌++◌}
+use Rattle.std.specs.List.{list_any}
 use Rattle.fol_core.specs.Tree.{Tree, var, elem, app, Trees, none, more}
 use Rattle.fol_core.specs.Fol.{Fol, verum, falsum, equal, atom, denied, both, either, implies, iff, every, some}
 
 -- whether x is among the numbers
 abbrev pub is_in : ℕ → List ℕ → Bool
-is_in x [] = false
-is_in x (y ∷ ys) = x == y || is_in x ys
+is_in x xs = list_any (λ y. x == y) xs
 
--- the variables found so far, with x behind them unless it is there or bound
-abbrev pub noted : List ℕ → List ℕ → ℕ → List ℕ
-noted bound found x = if is_in x bound || is_in x found then found else found ++ x ∷ []
+-- the numbers with x behind them, unless it is among them
+abbrev pub noted : List ℕ → ℕ → List ℕ
+noted xs x = if is_in x xs then xs else xs ++ x ∷ []
+
+-- the numbers of two lists, each once, by first occurrence
+abbrev pub joined : List ℕ → List ℕ → List ℕ
+joined xs [] = xs
+joined xs (y ∷ ys) = joined (noted xs y) ys
+
+-- the numbers but for x
+abbrev pub without : ℕ → List ℕ → List ℕ
+without x [] = []
+without x (y ∷ ys) = if y == x then without x ys else y ∷ without x ys
 
 abbrev mutual
-  -- the free variables of a term behind those found so far, where these are bound
-  pub free_after : List ℕ → List ℕ → Tree → List ℕ
-  free_after bound found (var x) = noted bound found x
-  free_after bound found (elem k) = found
-  free_after bound found (app f ts) = free_after_all bound found ts
+  -- the variables of a term, each once, by first occurrence
+  pub variables_of : Tree → List ℕ
+  variables_of (var x) = x ∷ []
+  variables_of (elem k) = []
+  variables_of (app f ts) = variables_of_all ts
 
-  pub free_after_all : List ℕ → List ℕ → Trees → List ℕ
-  free_after_all bound found none = found
-  free_after_all bound found (more t ts) = free_after_all bound (free_after bound found t) ts
+  pub variables_of_all : Trees → List ℕ
+  variables_of_all none = []
+  variables_of_all (more t ts) = joined (variables_of t) (variables_of_all ts)
 
--- the same of a formula
-abbrev pub free_in : List ℕ → List ℕ → Fol → List ℕ
-free_in bound found verum = found
-free_in bound found falsum = found
-free_in bound found (equal s t) = free_after bound (free_after bound found s) t
-free_in bound found (atom r ts) = free_after_all bound found ts
-free_in bound found (denied f) = free_in bound found f
-free_in bound found (both f g) = free_in bound (free_in bound found f) g
-free_in bound found (either f g) = free_in bound (free_in bound found f) g
-free_in bound found (implies f g) = free_in bound (free_in bound found f) g
-free_in bound found (iff f g) = free_in bound (free_in bound found f) g
-free_in bound found (every x f) = free_in (x ∷ bound) found f
-free_in bound found (some x f) = free_in (x ∷ bound) found f
-
--- the free variables of a formula, by first occurrence
+-- the free variables of a formula, each once, by first free occurrence: a quantifier binds its variable
 abbrev pub free_vars_of : Fol → List ℕ
-free_vars_of f = free_in [] [] f
+free_vars_of verum = []
+free_vars_of falsum = []
+free_vars_of (equal s t) = joined (variables_of s) (variables_of t)
+free_vars_of (atom r ts) = variables_of_all ts
+free_vars_of (denied f) = free_vars_of f
+free_vars_of (both f g) = joined (free_vars_of f) (free_vars_of g)
+free_vars_of (either f g) = joined (free_vars_of f) (free_vars_of g)
+free_vars_of (implies f g) = joined (free_vars_of f) (free_vars_of g)
+free_vars_of (iff f g) = joined (free_vars_of f) (free_vars_of g)
+free_vars_of (every x f) = without x (free_vars_of f)
+free_vars_of (some x f) = without x (free_vars_of f)
 
 -- the formula under a universal quantifier for each of the variables, the first outermost
 abbrev pub closed_over : List ℕ → Fol → Fol

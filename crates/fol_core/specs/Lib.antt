@@ -4,6 +4,7 @@ pub mod FormulaFalls
 pub mod FormulaView
 pub mod Free
 pub mod Meaning
+pub mod Outside
 pub mod RawCodes
 pub mod RawFalls
 pub mod RawTree

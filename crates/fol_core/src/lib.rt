@@ -2,6 +2,7 @@
 #![tactic(auto)]
 
 mod formula;
+mod free;
 mod interpretation;
 mod name;
 mod problem;
@@ -10,6 +11,7 @@ mod symbols;
 mod term;
 
 pub use formula::{Formula, Shape, Sub};
+pub use free::{closure, free_vars};
 pub use interpretation::Interpretation;
 pub use name::{Name, Names};
 pub use problem::{Input, Problem, Role};
