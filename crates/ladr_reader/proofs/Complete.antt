@@ -143,3 +143,10 @@ reads_one g ts t u p q r l =
     let e : Done (capped n t) p ≡ Done (capped n u) q = ap place_of (sym (term_read n g r) ∙ term_read n g l) in
     let same : capped n t ≡ capped n u = cc in
     (capped_same t u same, cc)
+
+pub item_one : (g : Table) (ts : List Lexeme) (t u : RawTree) → Item g ts t → Item g ts u → t ≡ u
+item_one g ts t u i j =
+    let n : ℕ = depth t + depth u in
+    let e : Done (capped n t) i.precedence ≡ Done (capped n u) j.precedence = ap place_of (sym (item_read n g i) ∙ item_read n g j) in
+    let same : capped n t ≡ capped n u = cc in
+    capped_same t u same

@@ -25,3 +25,7 @@ application_capped n s ts = grind (arith, nat_tests)
 
 pub quantification_capped : (n : ℕ) (q : Quantifier) (x : List ℕ) (t : RawTree) → quantification n q x (capped n t) ≡ capped n (quantified q x t)
 quantification_capped n q x t = grind (arith, nat_tests)
+
+-- a tree that is built is the tree
+pub uncapped : (n : ℕ) (t u : RawTree) → capped n t ≡ Some u → t ≡ u
+uncapped n t u e = grind (arith, nat_tests)

@@ -20,6 +20,7 @@ use Rattle.ladr_reader.specs.declared.place.Place.TheVariants.{Done}
 use Rattle.ladr_reader.specs.declared.stack.Frame.{Frame}
 use Rattle.ladr_reader.proofs.Complete.{item_read, place_of}
 use Rattle.ladr_reader.proofs.Lawful.{Lawful}
+use Rattle.ladr_reader.proofs.Levels.{uncapped}
 use Rattle.ladr_reader.proofs.Moves.{operand, go_append}
 use Rattle.ladr_reader.proofs.Sound.{sound}
 
@@ -116,3 +117,15 @@ answered g ts t n (Err fault) item e ok err = (
   tt,
   subst (IsTermFault g ts) (sym err.0) (t, item, subst (λ (k : ℕ). 500 < max (depth t) k) e err.1),
 )
+
+-- what a run over given tokens tells
+pub run_item :
+  (g : Table) → Lawful g → (ts : List Lexeme) (t : RawTree) (q : ℕ) →
+  go 500 g (operand []) ts ≡ standing (Some (Done (Some t) q)) [] → Item g ts t
+run_item g lawful ts t q e =
+    let read = sound 500 g lawful ts (Some t) q [] e in
+    let same : read.0 ≡ t = uncapped 500 read.0 t (sym read.1) in
+    subst (Item g ts) same read.2
+
+pub stuck_item : (g : Table) (ts : List Lexeme) → go 500 g (operand []) ts ≡ None → (t : RawTree) → ¬ Item g ts t
+stuck_item g ts e t item = let read = item_read 500 g item in cc

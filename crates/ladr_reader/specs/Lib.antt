@@ -5,3 +5,4 @@ pub mod Machine
 pub mod Nesting
 pub mod Reads
 pub mod Table
+pub mod Worked

@@ -3,6 +3,7 @@
 
 mod capped;
 mod fault;
+mod laws;
 mod nesting;
 mod place;
 mod read;
@@ -12,4 +13,5 @@ mod stack;
 mod step;
 
 pub use fault::TermFault;
+pub use laws::{one_reading, worked_first, worked_more};
 pub use read::read_term;
