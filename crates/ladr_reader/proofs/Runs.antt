@@ -120,8 +120,8 @@ answered g ts t n (Err fault) item e ok err = (
 
 -- what a run over given tokens tells
 pub run_item :
-  (g : Table) → Lawful g → (ts : List Lexeme) (t : RawTree) (q : ℕ) →
-  go 500 g (operand []) ts ≡ standing (Some (Done (Some t) q)) [] → Item g ts t
+    (g : Table) → Lawful g → (ts : List Lexeme) (t : RawTree) (q : ℕ) →
+    go 500 g (operand []) ts ≡ standing (Some (Done (Some t) q)) [] → Item g ts t
 run_item g lawful ts t q e =
     let read = sound 500 g lawful ts (Some t) q [] e in
     let same : read.0 ≡ t = uncapped 500 read.0 t (sym read.1) in

@@ -15,3 +15,6 @@ mod step;
 pub use fault::TermFault;
 pub use laws::{one_reading, worked_first, worked_more};
 pub use read::read_term;
+
+#[cfg(test)]
+mod tests;

@@ -1,10 +1,7 @@
 -- A run of the machine shows each.
-use Rattle.std.proofs.Common.{refl, List}
-use Rattle.fol_core.specs.RawTree.{RawTree}
+use Rattle.std.proofs.Common.{refl}
 use Rattle.ladr_lex.specs.Bytes.{is_blank, is_ordinary, is_special}
-use Rattle.ladr_lex.specs.Lexeme.{Lexeme}
 use Rattle.ladr_lex.specs.Operators.{first_rows}
-use Rattle.ladr_reader.specs.Reads.{Item}
 use Rattle.ladr_reader.specs.Worked.{first_form}
 use Rattle.ladr_reader.proofs.Lawful.{Lawful, table_lawful}
 use Rattle.ladr_reader.proofs.Runs.{run_item, stuck_item}

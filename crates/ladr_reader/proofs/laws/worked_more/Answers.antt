@@ -1,12 +1,9 @@
 -- A run of the machine shows each.
-use Rattle.std.proofs.Common.{refl, List}
-use Rattle.fol_core.specs.RawTree.{RawTree}
+use Rattle.std.proofs.Common.{refl}
 use Rattle.ladr_lex.specs.Bytes.{is_blank, is_ordinary, is_special}
-use Rattle.ladr_lex.specs.Lexeme.{Lexeme}
-use Rattle.ladr_reader.specs.Reads.{Item}
 use Rattle.ladr_reader.specs.Worked.{more_rows, more_operators}
 use Rattle.ladr_reader.proofs.Lawful.{Lawful, table_lawful}
-use Rattle.ladr_reader.proofs.Runs.{run_item, stuck_item}
+use Rattle.ladr_reader.proofs.Runs.{run_item}
 use Rattle.ladr_reader.proofs.laws.worked_more.Goals as goal
 
 lawful : Lawful more_operators
