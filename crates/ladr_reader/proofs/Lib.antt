@@ -2,6 +2,7 @@ pub mod Bounds
 pub mod Complete
 pub mod Lawful
 pub mod Levels
+pub mod Live
 pub mod Moves
 pub mod Runs
 pub mod Sound

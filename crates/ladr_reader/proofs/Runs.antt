@@ -1,17 +1,17 @@
 -- Runs over the tokens of the code.
-use Rattle.std.proofs.Common.{◌≡◌, ℕ, ◌≤◌, ◌<◌, ◌+◌, List, [], ◌∷◌, ◌++◌, Option, Some, None, length, take, drop, get_or, refl, ap, ◌∙◌, sym, subst, add-one, max, Result, Ok, Err, IfOk, IfErr}
+use Rattle.std.proofs.Common.{◌≡◌, ℕ, ◌≤◌, ◌<◌, ◌+◌, List, [], ◌∷◌, ◌++◌, Option, Some, None, length, take, drop, get_or, refl, ap, ◌∙◌, sym, subst, arith, zero, suc, add-one, max, Result, Ok, Err, IfOk, IfErr}
 use Rattle.std.proofs.lemmas.List.{take_more, take-append-drop, take_all, drop_all}
 use Rattle.std.proofs.Math.Seq.{drop-cons}
 use Rattle.fol_core.specs.RawTree.{RawTree, depth}
 use Rattle.fol_core.specs.RawView.{raw_of}
 use Rattle.fol_core.specs.declared.raw.Raw.{Raw}
-use Rattle.ladr_lex.specs.Lexeme.{Lexeme, lexeme_of, lexemes_of}
+use Rattle.ladr_lex.specs.Lexeme.{Lexeme, unreadable, lexeme_of, lexemes_of}
 use Rattle.ladr_lex.specs.declared.token.Token.{Token}
 use Rattle.ladr_reader.specs.Capped.{capped}
 use Rattle.ladr_reader.specs.Faults.{IsTermFault}
 use Rattle.ladr_reader.specs.Machine.{State, standing, step, next, go}
 use Rattle.ladr_reader.specs.Nesting.{most_open, nesting}
-use Rattle.ladr_reader.specs.Reads.{Item}
+use Rattle.ladr_reader.specs.Reads.{Item, Begins, IsBadToken}
 use Rattle.ladr_reader.specs.Table.{Table}
 use Rattle.ladr_reader.specs.declared.fault.TermFault.{TermFault}
 use Rattle.ladr_reader.specs.declared.fault.TermFault.TheVariants.{Deep}
@@ -21,82 +21,112 @@ use Rattle.ladr_reader.specs.declared.stack.Frame.{Frame}
 use Rattle.ladr_reader.proofs.Complete.{item_read, place_of}
 use Rattle.ladr_reader.proofs.Lawful.{Lawful}
 use Rattle.ladr_reader.proofs.Levels.{uncapped}
+use Rattle.ladr_reader.proofs.Live.{HasNames, begins}
 use Rattle.ladr_reader.proofs.Moves.{operand, go_append}
-use Rattle.ladr_reader.proofs.Sound.{sound}
+use Rattle.ladr_reader.proofs.Sound.{runs, sound}
 
-lexemes_append : (xs ys : List Token) → lexemes_of (xs ++ ys) ≡ lexemes_of xs ++ lexemes_of ys
-lexemes_append [] ys = refl
-lexemes_append (x ∷ xs) ys = ap (λ (ts : List Lexeme). lexeme_of x ∷ ts) (lexemes_append xs ys)
+-- the tokens of the code as lexemes
+pub lexemes_length : (tokens : List Token) → length (lexemes_of tokens) ≡ length tokens
+lexemes_length [] = refl
+lexemes_length (t ∷ ts) = ap suc (lexemes_length ts)
+
+lexeme_at :
+    (tokens : List Token) (i : ℕ) (d : Token) → i < length tokens →
+    get_or (lexemes_of tokens) i unreadable ≡ lexeme_of (get_or tokens i d)
+lexeme_at [] i d h = absurd (omega arith)
+lexeme_at (t ∷ ts) zero d h = refl
+lexeme_at (t ∷ ts) (suc i) d h = lexeme_at ts i d (omega arith)
+
+lexemes_within : (tokens : List Token) (i : ℕ) → i < length tokens → i < length (lexemes_of tokens)
+lexemes_within tokens i h = omega (arith, lexemes_length tokens)
 
 -- the tokens from a place on
 pub lexemes_from :
     (tokens : List Token) (i : ℕ) (d : Token) → i < length tokens →
-    lexemes_of (drop i tokens) ≡ lexeme_of (get_or tokens i d) ∷ lexemes_of (drop (i + 1) tokens)
-lexemes_from tokens i d h = rw (add-one, drop-cons tokens i d)
+    drop i (lexemes_of tokens) ≡ lexeme_of (get_or tokens i d) ∷ drop (i + 1) (lexemes_of tokens)
+lexemes_from tokens i d h =
+    rw (add-one, ← lexeme_at tokens i d h) (drop-cons (lexemes_of tokens) i unreadable (lexemes_within tokens i h))
 
 -- a run over one token more
 pub run_more :
     (n : ℕ) (g : Table) (tokens : List Token) (i : ℕ) (d : Token) (place : Place) (fs : List Frame) → i < length tokens →
-    go n g (operand []) (lexemes_of (take i tokens)) ≡ standing (Some place) fs →
-    go n g (operand []) (lexemes_of (take (i + 1) tokens)) ≡ step n g place fs (lexeme_of (get_or tokens i d))
+    go n g (operand []) (take i (lexemes_of tokens)) ≡ standing (Some place) fs →
+    go n g (operand []) (take (i + 1) (lexemes_of tokens)) ≡ step n g place fs (lexeme_of (get_or tokens i d))
 run_more n g tokens i d place fs h e =
-    ap (λ (ts : List Token). go n g (operand []) (lexemes_of ts)) (take_more tokens i d h)
-    ∙ ap (λ (ts : List Lexeme). go n g (operand []) ts) (lexemes_append (take i tokens) (get_or tokens i d ∷ []))
-    ∙ go_append n g (operand []) (lexemes_of (take i tokens)) (lexeme_of (get_or tokens i d) ∷ [])
-    ∙ ap (λ (s : Option State). next n g s (lexeme_of (get_or tokens i d))) e
+    let ts : List Lexeme = lexemes_of tokens in
+    ap (λ (xs : List Lexeme). go n g (operand []) xs) (take_more ts i unreadable (lexemes_within tokens i h))
+    ∙ go_append n g (operand []) (take i ts) (get_or ts i unreadable ∷ [])
+    ∙ ap (λ (s : Option State). next n g s (get_or ts i unreadable)) e
+    ∙ ap (λ (x : Lexeme). step n g place fs x) (lexeme_at tokens i d h)
 
 go_none : (n : ℕ) (g : Table) (xs : List Lexeme) → go n g None xs ≡ None
 go_none n g [] = refl
 go_none n g (x ∷ xs) = go_none n g xs
 
 -- no item begins with tokens that stop the machine
-pub no_item :
-    (n : ℕ) (g : Table) (tokens : List Token) (i : ℕ) → go n g (operand []) (lexemes_of (take i tokens)) ≡ None →
-    (t : RawTree) → ¬ Item g (lexemes_of tokens) t
-no_item n g tokens i e t item =
-    let all : lexemes_of (take i tokens) ++ lexemes_of (drop i tokens) ≡ lexemes_of tokens =
-    sym (lexemes_append (take i tokens) (drop i tokens)) ∙ ap lexemes_of (take-append-drop i tokens)
+not_begun : (n : ℕ) (g : Table) (xs : List Lexeme) → go n g (operand []) xs ≡ None → ¬ Begins g xs
+not_begun n g xs e b =
+    let stuck : go n g (operand []) (xs ++ b.more) ≡ None =
+    go_append n g (operand []) xs b.more ∙ ap (λ (s : Option State). go n g s b.more) e ∙ go_none n g b.more
     in
-    let stuck : go n g (operand []) (lexemes_of tokens) ≡ None =
-    ap (λ (ts : List Lexeme). go n g (operand []) ts) (sym all)
-    ∙ go_append n g (operand []) (lexemes_of (take i tokens)) (lexemes_of (drop i tokens))
-    ∙ ap (λ (s : Option State). go n g s (lexemes_of (drop i tokens))) e
-    ∙ go_none n g (lexemes_of (drop i tokens))
-    in
-    let read = item_read n g item in
+    let read = item_read n g b.item in
     cc
 
--- a run over all tokens
-run_all :
-    (n : ℕ) (g : Table) (tokens : List Token) (i : ℕ) (s : Option State) → length tokens ≤ i →
-    go n g (operand []) (lexemes_of (take i tokens)) ≡ s → go n g (operand []) (lexemes_of tokens) ≡ s
-run_all n g tokens i s h e =
-    ap (λ (ts : List Token). go n g (operand []) (lexemes_of ts)) (sym (take_all i tokens h)) ∙ e
+-- an item begins with its first tokens
+item_begins : (g : Table) (ts : List Lexeme) (i : ℕ) (t : RawTree) → Item g ts t → Begins g (take i ts)
+item_begins g ts i t item = record { more = drop i ts; tree = t; item = rw (take-append-drop i ts) item }
 
--- where the machine stands behind an item
-pub item_done :
-    (n : ℕ) (g : Table) (tokens : List Token) (i : ℕ) (place : Place) (fs : List Frame) → length tokens ≤ i →
-    go n g (operand []) (lexemes_of (take i tokens)) ≡ standing (Some place) fs →
-    (t : RawTree) (item : Item g (lexemes_of tokens) t) → place ≡ Done (capped n t) item.precedence
-item_done n g tokens i place fs h e t item =
-    ap place_of (sym (run_all n g tokens i (standing (Some place) fs) h e) ∙ item_read n g item)
+-- the tokens are no item, and token k is the first bad one
+abbrev pub IsBadAt : Table → List Lexeme → ℕ → Type 0
+IsBadAt g ts k = IsBadToken g ts k × ((t : RawTree) → ¬ Item g ts t)
+
+-- the token that stops the machine is the first bad one
+pub bad_at :
+    (n : ℕ) (g : Table) → Lawful g → HasNames g → (ts : List Lexeme) (i : ℕ) (place : Place) (fs : List Frame) →
+    i ≤ length ts → go n g (operand []) (take i ts) ≡ standing (Some place) fs →
+    go n g (operand []) (take (i + 1) ts) ≡ None → IsBadAt g ts i
+bad_at n g lawful names ts i place fs h e stuck = (
+  record {
+    within = h;
+    before = begins n g lawful names place fs (take i ts) (runs n g lawful (take i ts) place fs e);
+    here = λ _. not_begun n g (take (i + 1) ts) stuck;
+  },
+  λ t item. not_begun n g (take (i + 1) ts) stuck (item_begins g ts (i + 1) t item),
+)
+
+-- the end of the tokens is the first bad one where the machine doesn't stand behind an item
+pub bad_end :
+    (n : ℕ) (g : Table) → Lawful g → HasNames g → (ts : List Lexeme) (k : ℕ) (place : Place) (fs : List Frame) →
+    length ts ≡ k → go n g (operand []) (take k ts) ≡ standing (Some place) fs →
+    ((t : Option RawTree) (q : ℕ) → place ≡ Done t q → ⊥) → IsBadAt g ts k
+bad_end n g lawful names ts k place fs l e other =
+    let whole : take k ts ≡ ts = take_all k ts (omega arith) in (
+      record {
+        within = omega arith;
+        before = begins n g lawful names place fs (take k ts) (runs n g lawful (take k ts) place fs e);
+        here = λ h. absurd (omega arith);
+      },
+      λ t item. other (capped n t) item.precedence
+          (ap place_of (sym e ∙ ap (λ (xs : List Lexeme). go n g (operand []) xs) whole ∙ item_read n g item)),
+    )
 
 -- what the tokens are where the machine stands behind an item
 pub done_item :
-    (n : ℕ) (g : Table) → Lawful g → (tokens : List Token) (i : ℕ) (place : Place) (fs : List Frame) (t : Option RawTree)
-    (q : ℕ) → length tokens ≤ i → go n g (operand []) (lexemes_of (take i tokens)) ≡ standing (Some place) fs →
-    place ≡ Done t q → (u : RawTree) × (t ≡ capped n u) × Item g (lexemes_of tokens) u
-done_item n g lawful tokens i place fs t q h e d =
-    sound n g lawful (lexemes_of tokens) t q fs
-    (run_all n g tokens i (standing (Some place) fs) h e ∙ ap (λ (p : Place). standing (Some p) fs) d)
+    (n : ℕ) (g : Table) → Lawful g → (ts : List Lexeme) (i : ℕ) (place : Place) (fs : List Frame) (t : Option RawTree)
+    (q : ℕ) → length ts ≤ i → go n g (operand []) (take i ts) ≡ standing (Some place) fs → place ≡ Done t q →
+    (u : RawTree) × (t ≡ capped n u) × Item g ts u
+done_item n g lawful ts i place fs t q h e d =
+    sound n g lawful ts t q fs
+    (ap (λ (xs : List Lexeme). go n g (operand []) xs) (sym (take_all i ts h))
+    ∙ e
+    ∙ ap (λ (p : Place). standing (Some p) fs) d)
 
 -- the parentheses of all tokens
 pub all_noted :
-    (tokens : List Token) (i most unclosed n : ℕ) → length tokens ≤ i → n ≡ max most unclosed →
-    max most (most_open unclosed (lexemes_of (drop i tokens))) ≡ most_open 0 (lexemes_of tokens) →
-    n ≡ most_open 0 (lexemes_of tokens)
-all_noted tokens i most unclosed n h e a =
-    e ∙ ap (λ (ts : List Token). max most (most_open unclosed (lexemes_of ts))) (sym (drop_all i tokens h)) ∙ a
+    (ts : List Lexeme) (i most unclosed n : ℕ) → length ts ≤ i → n ≡ max most unclosed →
+    max most (most_open unclosed (drop i ts)) ≡ most_open 0 ts → n ≡ most_open 0 ts
+all_noted ts i most unclosed n h e a =
+    e ∙ ap (λ (xs : List Lexeme). max most (most_open unclosed xs)) (sym (drop_all i ts h)) ∙ a
 
 -- the answer for an item is its tree, unless it is nested too deep
 abbrev pub Answers : Table → List Lexeme → Result Raw TermFault → Type 0

@@ -23,72 +23,72 @@ use Rattle.ladr_reader.proofs.Moves.{operand, prefix_whole, infix_whole, prefix_
 use Rattle.ladr_reader.proofs.Splits.{Split, longer, joined, pushed, changed}
 
 -- what is built is the tree of the tokens, a term that may stand on top of what waits
-record Becomes (n : ℕ) (g : Table) (fs : List Frame) (built : Option RawTree) (p : ℕ) (ts : List Lexeme) : Type 0 where
-  tree : RawTree
-  is : built ≡ capped n tree
-  reads : Reads g ts tree p
-  fits : allows fs p (tree_grows g tree) ≡ true
+pub record Becomes (n : ℕ) (g : Table) (fs : List Frame) (built : Option RawTree) (p : ℕ) (ts : List Lexeme) : Type 0 where
+  pub tree : RawTree
+  pub is : built ≡ capped n tree
+  pub reads : Reads g ts tree p
+  pub fits : allows fs p (tree_grows g tree) ≡ true
 
 -- with its last argument the part is such a term, and an atom may be its last argument
-record Waits (n : ℕ) (g : Table) (fs : List Frame) (part : Part) (side : Side) (p : ℕ) (ts : List Lexeme) : Type 0 where
-  becomes :
+pub record Waits (n : ℕ) (g : Table) (fs : List Frame) (part : Part) (side : Side) (p : ℕ) (ts : List Lexeme) : Type 0 where
+  pub becomes :
       (xs : List Lexeme) (t : RawTree) (q : ℕ) → Reads g xs t q → ends side p q (tree_grows g t) ≡ true →
       Becomes n g fs (whole n part (capped n t)) p (ts ++ xs)
-  room : (b : Bool) → ends side p 0 b ≡ true
+  pub room : (b : Bool) → ends side p 0 b ≡ true
 
 -- arguments, each with its comma
-data Given (g : Table) : List Lexeme → List RawTree → Type 0 where
+pub data Given (g : Table) : List Lexeme → List RawTree → Type 0 where
   nothing : Given g [] []
   some : {ts : List Lexeme} {us : List RawTree} → ReadsAll g ts us → Given g (ts ++ comma ∷ []) us
 
 -- a symbol that is no word and no prefix operator
-record IsName (g : Table) (s : List ℕ) (ts : List Lexeme) : Type 0 where
-  sort : Sort
-  no_word : g.word s ≡ None
-  no_prefix : if_prefix (g.op s) ≡ None
-  is : ts ≡ symbol sort s ∷ []
+pub record IsName (g : Table) (s : List ℕ) (ts : List Lexeme) : Type 0 where
+  pub sort : Sort
+  pub no_word : g.word s ≡ None
+  pub no_prefix : if_prefix (g.op s) ≡ None
+  pub is : ts ≡ symbol sort s ∷ []
 
 -- such a symbol, an open parenthesis and arguments
-record HasArguments (n : ℕ) (g : Table) (s : List ℕ) (built : Option (List RawTree)) (ts : List Lexeme) : Type 0 where
-  sort : Sort
-  no_word : g.word s ≡ None
-  no_prefix : if_prefix (g.op s) ≡ None
-  tokens : List Lexeme
-  trees : List RawTree
-  given : Given g tokens trees
-  is_built : built ≡ all_capped n trees
-  is : ts ≡ symbol sort s ∷ open_paren ∷ tokens
+pub record HasArguments (n : ℕ) (g : Table) (s : List ℕ) (built : Option (List RawTree)) (ts : List Lexeme) : Type 0 where
+  pub sort : Sort
+  pub no_word : g.word s ≡ None
+  pub no_prefix : if_prefix (g.op s) ≡ None
+  pub tokens : List Lexeme
+  pub trees : List RawTree
+  pub given : Given g tokens trees
+  pub is_built : built ≡ all_capped n trees
+  pub is : ts ≡ symbol sort s ∷ open_paren ∷ tokens
 
 -- a word whose term may stand on top of what waits
-record IsWord (g : Table) (fs : List Frame) (w : Quantifier) (ts : List Lexeme) : Type 0 where
-  sort : Sort
-  name : List ℕ
-  is_word : g.word name ≡ Some w
-  fits : allows fs 750 false ≡ true
-  is : ts ≡ symbol sort name ∷ []
+pub record IsWord (g : Table) (fs : List Frame) (w : Quantifier) (ts : List Lexeme) : Type 0 where
+  pub sort : Sort
+  pub name : List ℕ
+  pub is_word : g.word name ≡ Some w
+  pub fits : allows fs 750 false ≡ true
+  pub is : ts ≡ symbol sort name ∷ []
 
 -- a readable item
-record IsItem (n : ℕ) (g : Table) (built : Option RawTree) (ts : List Lexeme) : Type 0 where
-  tree : RawTree
-  is : built ≡ capped n tree
-  item : Item g ts tree
+pub record IsItem (n : ℕ) (g : Table) (built : Option RawTree) (ts : List Lexeme) : Type 0 where
+  pub tree : RawTree
+  pub is : built ≡ capped n tree
+  pub item : Item g ts tree
 
 -- the tokens of all that waits
-abbrev Spells : ℕ → Table → List Frame → List Lexeme → Type 0
+abbrev pub Spells : ℕ → Table → List Frame → List Lexeme → Type 0
 Spells n g [] vs = vs ≡ []
 Spells n g (Group ∷ fs) vs = Split (Spells n g fs) (λ ts. ts ≡ open_paren ∷ []) vs
 Spells n g (Applied s us ∷ fs) vs = Split (Spells n g fs) (HasArguments n g s us) vs
 Spells n g (Waiting part side p ∷ fs) vs = Split (Spells n g fs) (Waits n g fs part side p) vs
 
 -- the tokens that lead to a place
-abbrev IsAt : ℕ → Table → Place → List Frame → List Lexeme → Type 0
+abbrev pub IsAt : ℕ → Table → Place → List Frame → List Lexeme → Type 0
 IsAt n g Operand fs vs = Spells n g fs vs
 IsAt n g (Named s) fs vs = Split (Spells n g fs) (IsName g s) vs
 IsAt n g (Word w) fs vs = Split (Spells n g fs) (IsWord g fs w) vs
 IsAt n g (Term t q) fs vs = Split (Spells n g fs) (Becomes n g fs t q) vs
 IsAt n g (Done t q) fs vs = IsItem n g t vs
 
-abbrev MayBe : ℕ → Table → Option State → List Lexeme → Type 0
+abbrev pub MayBe : ℕ → Table → Option State → List Lexeme → Type 0
 MayBe n g None vs = Unit {0}
 MayBe n g (Some s) vs = IsAt n g s.place s.stack vs
 
@@ -162,7 +162,7 @@ module _ (n : ℕ) (g : Table) (lawful : Lawful g) where
   starts (symbol k s) fs vs h = symbol_starts k s fs vs h (g.word s) refl (if_prefix (g.op s)) refl
   starts x fs vs h = tt
 
-  variable_binds :
+  pub variable_binds :
       (j : Sort) (y : List ℕ) (w : Quantifier) (fs : List Frame) (vs : List Lexeme) →
       Split (Spells n g fs) (IsWord g fs w) vs → (b : Bool) → g.variable j y ≡ b →
       MayBe n g (bind w (if b then Some y else None) fs) (vs ++ symbol j y ∷ [])
@@ -186,7 +186,7 @@ module _ (n : ℕ) (g : Table) (lawful : Lawful g) where
   binds x w fs vs h = tt
 
   -- behind a term and a closing parenthesis
-  closed :
+  pub closed :
       (fs : List Frame) (vs : List Lexeme) (t : Option RawTree) (q : ℕ) → Split (Spells n g fs) (Becomes n g fs t q) vs →
       MayBe n g (behind_close n t fs) (vs ++ close_paren ∷ [])
   closed [] vs t q h = tt
@@ -239,7 +239,7 @@ module _ (n : ℕ) (g : Table) (lawful : Lawful g) where
       (λ bs b. b)
 
   -- behind a term and a full stop
-  stopped :
+  pub stopped :
       (fs : List Frame) (vs : List Lexeme) (t : Option RawTree) (q : ℕ) → Split (Spells n g fs) (Becomes n g fs t q) vs →
       MayBe n g (behind_stop t q fs) (vs ++ full_stop ∷ [])
   stopped (f ∷ fs) vs t q h = tt
@@ -315,6 +315,15 @@ module _ (n : ℕ) (g : Table) (lawful : Lawful g) where
   acts (symbol k s) fs vs t q h = symbol_acts k s fs vs t q h (if_after (g.op s)) refl
   acts x fs vs t q h = tt
 
+  -- a part with its last argument
+  pub ended :
+      (part : Part) (side : Side) (p : ℕ) (fs : List Frame) (vs : List Lexeme) (t : Option RawTree) (q : ℕ) →
+      Split (Spells n g (Waiting part side p ∷ fs)) (Becomes n g (Waiting part side p ∷ fs) t q) vs →
+      Split (Spells n g fs) (Becomes n g fs (whole n part t) p) vs
+  ended part side p fs vs t q h =
+      joined (Spells n g fs) (Waits n g fs part side p) (Becomes n g (Waiting part side p ∷ fs) t q) (Becomes n g fs (whole n part t) p) vs h
+      (λ ws bs w b. rw b.is (w.becomes bs b.tree q b.reads b.fits))
+
   -- behind a term
   follows :
       (x : Lexeme) (fs : List Frame) (vs : List Lexeme) (t : Option RawTree) (q : ℕ) →
@@ -324,12 +333,10 @@ module _ (n : ℕ) (g : Table) (lawful : Lawful g) where
   follows x (Applied s us ∷ fs) vs t q h = acts x (Applied s us ∷ fs) vs t q h
   follows x (Waiting part side p ∷ fs) vs t q h =
       either n g (closes (follow_of g x) p) (after n (follow_of g x) (whole n part t) p fs) (act n (follow_of g x) t q (Waiting part side p ∷ fs)) (vs ++ x ∷ [])
-      (follows x fs vs (whole n part t) p
-      (joined (Spells n g fs) (Waits n g fs part side p) (Becomes n g (Waiting part side p ∷ fs) t q) (Becomes n g fs (whole n part t) p) vs h
-      (λ ws bs w b. rw b.is (w.becomes bs b.tree q b.reads b.fits))))
+      (follows x fs vs (whole n part t) p (ended part side p fs vs t q h))
       (acts x (Waiting part side p ∷ fs) vs t q h)
 
-  as_atom :
+  pub as_atom :
       (s : List ℕ) (fs : List Frame) (vs : List Lexeme) → Split (Spells n g fs) (IsName g s) vs →
       Split (Spells n g fs) (Becomes n g fs (capped n (named s no_raws)) 0) vs
   as_atom s fs vs h =
@@ -376,9 +383,15 @@ module _ (n : ℕ) (g : Table) (lawful : Lawful g) where
   goes [] s vs h = rw append-nil h
   goes (x ∷ xs) s vs h = rw (← append_assoc vs (x ∷ []) xs) (goes xs (next n g s x) (vs ++ x ∷ []) (nexts x s vs h))
 
+  -- the tokens of a run from the start
+  pub runs :
+      (xs : List Lexeme) (place : Place) (fs : List Frame) → go n g (operand []) xs ≡ standing (Some place) fs →
+      IsAt n g place fs xs
+  runs xs place fs e = subst (λ (s : Option State). MayBe n g s xs) e (goes xs (operand []) [] refl)
+
   -- what a run from the start makes of tokens that end an item
   pub sound :
       (xs : List Lexeme) (t : Option RawTree) (q : ℕ) (fs : List Frame) →
       go n g (operand []) xs ≡ standing (Some (Done t q)) fs → (u : RawTree) × (t ≡ capped n u) × Item g xs u
   sound xs t q fs e =
-      let i = subst (λ (s : Option State). MayBe n g s xs) e (goes xs (operand []) [] refl) in (i.tree, i.is, i.item)
+      let i = runs xs (Done t q) fs e in (i.tree, i.is, i.item)

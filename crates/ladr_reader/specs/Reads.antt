@@ -1,5 +1,5 @@
 -- What the tokens of a term are, by how they split.
-use Rattle.std.specs.Prelude.{◌≡◌, ℕ, ◌≤◌, IsTrue, List, [], ◌∷◌, ◌++◌, Some, None}
+use Rattle.std.specs.Prelude.{◌≡◌, ℕ, ◌+◌, ◌≤◌, ◌<◌, IsTrue, List, [], ◌∷◌, ◌++◌, Some, None, length, take}
 use Rattle.fol_core.specs.RawTree.{RawTree, named, quantified, no_raws, raws_of}
 use Rattle.fol_core.specs.declared.raw.Quantifier.{Quantifier}
 use Rattle.ladr_lex.specs.Lexeme.{Sort, Lexeme, open_paren, close_paren, comma, full_stop, symbol}
@@ -60,3 +60,16 @@ pub record Item (g : Table) (item : List Lexeme) (tree : RawTree) : Type 0 where
   pub reads : Reads g tokens tree precedence
   pub bounded : precedence ≤ 999
   pub stops : item ≡ tokens ++ full_stop ∷ []
+
+-- some readable item begins with these tokens
+pub record Begins (g : Table) (ts : List Lexeme) : Type 0 where
+  pub more : List Lexeme
+  pub tree : RawTree
+  pub item : Item g (ts ++ more) tree
+
+-- Token k is the first that goes on with no readable item, or the tokens end there too early: some item begins with the k tokens
+-- before it, and none with it as well.
+pub record IsBadToken (g : Table) (ts : List Lexeme) (k : ℕ) : Type 0 where
+  pub within : k ≤ length ts
+  pub before : Begins g (take k ts)
+  pub here : k < length ts → ¬ Begins g (take (k + 1) ts)

@@ -2,9 +2,12 @@
 use std::alloc::AllocError;
 
 /// Why tokens have no term: they are no readable item, it is nested too deep, or memory ran out.
+///
+/// `Bad` has the number, from 0, of the first token that goes on with no readable item; it is that behind the last where
+/// the tokens end too early.
 #[derive(Clone, Copy, Debug, PartialEq, Eq)]
 pub enum TermFault {
-    Bad,
+    Bad(usize),
     Deep,
     Memory,
 }

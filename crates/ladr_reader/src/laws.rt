@@ -3,7 +3,7 @@ ghost use Rattle.std.specs.Prelude.{◌≡◌, ℕ, List, [], ◌∷◌};
 ghost use Rattle.fol_core.specs.RawTree.{RawTree};
 ghost use Rattle.fol_core.specs.declared.raw.Quantifier.TheVariants.{All, Exists};
 ghost use Rattle.ladr_lex.specs.Lexeme.{Lexeme};
-ghost use Rattle.ladr_reader.specs.Reads.{Reads, Item};
+ghost use Rattle.ladr_reader.specs.Reads.{Reads, Item, IsBadToken};
 ghost use Rattle.ladr_reader.specs.Table.{Table};
 ghost use Rattle.ladr_reader.specs.Worked.{line, term, constant, binder, IsUnreadable, first_form, more_operators};
 
@@ -23,6 +23,7 @@ pub fn worked_first()
     ensures head { Item first_form (line "=(a,b).") (term "=" (constant "a" ∷ constant "b" ∷ [])) }
     ensures argument { Item first_form (line "p(=).") (term "p" (constant "=" ∷ [])) }
     ensures chain { IsUnreadable first_form (line "a = b = c.") }
+    ensures chain_token { IsBadToken first_form (line "a = b = c.") 3 }
     ensures bound_word { IsUnreadable first_form (line "all exists p.") }
 {}
 

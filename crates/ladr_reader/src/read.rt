@@ -34,15 +34,15 @@ pub fn read_term(alloc: Global, ops: &Ops, tokens: &[Token]) -> Result<Raw, Term
     let mut stack = Stack::new(alloc);
     let mut place = Place::Operand;
     let mut parentheses = Parentheses::new();
-    for token in tokens {
+    for (i, token) in tokens.iter().enumerate() {
         parentheses.note(token);
         match step(alloc, ops, &mut stack, place, token)? {
             Some(next) => place = next,
-            None => return Err(TermFault::Bad),
+            None => return Err(TermFault::Bad(i)),
         }
     }
     let Place::Done(term, _) = place else {
-        return Err(TermFault::Bad);
+        return Err(TermFault::Bad(tokens.len()));
     };
     shallow(term, parentheses.most())
 }

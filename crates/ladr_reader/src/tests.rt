@@ -18,19 +18,19 @@ fn items_have_their_trees(rt: HostRuntime) -> Result<(), Fail> {
         (b"=(a,(all x p(x))).", Ok(b"=/2 a/0 all x p/1 x/0 ")),
         (b"p(=,!=).", Ok(b"p/2 =/0 !=/0 ")),
         (b"((a)).", Ok(b"a/0 ")),
-        (b"a = b = c.", Err(TermFault::Bad)),
-        (b"a = all x p(x).", Err(TermFault::Bad)),
-        (b"all 1 p.", Err(TermFault::Bad)),
-        (b"all all p.", Err(TermFault::Bad)),
-        (b"all - p.", Err(TermFault::Bad)),
-        (b"p().", Err(TermFault::Bad)),
-        (b"p(a.", Err(TermFault::Bad)),
-        (b"p(a)", Err(TermFault::Bad)),
-        (b"p(a). q", Err(TermFault::Bad)),
-        (b"[a].", Err(TermFault::Bad)),
-        (b"a b.", Err(TermFault::Bad)),
-        (b".", Err(TermFault::Bad)),
-        (b"", Err(TermFault::Bad)),
+        (b"a = b = c.", Err(TermFault::Bad(3))),
+        (b"a = all x p(x).", Err(TermFault::Bad(2))),
+        (b"all 1 p.", Err(TermFault::Bad(1))),
+        (b"all all p.", Err(TermFault::Bad(1))),
+        (b"all - p.", Err(TermFault::Bad(1))),
+        (b"p().", Err(TermFault::Bad(2))),
+        (b"p(a.", Err(TermFault::Bad(3))),
+        (b"p(a)", Err(TermFault::Bad(4))),
+        (b"p(a). q", Err(TermFault::Bad(5))),
+        (b"[a].", Err(TermFault::Bad(0))),
+        (b"a b.", Err(TermFault::Bad(1))),
+        (b".", Err(TermFault::Bad(0))),
+        (b"", Err(TermFault::Bad(0))),
     ] {
         let tokens = tokens(rt.alloc(), text).map_err(|_| "memory")?;
         let shown = match read_term(rt.alloc(), &ops, &tokens) {
@@ -56,8 +56,8 @@ fn nesting_is_limited(rt: HostRuntime) -> Result<(), Fail> {
         (500, b"f(", b"a", b")", Some(TermFault::Deep)),
         (499, b"all x ", b"p", b"", None),
         (500, b"all x ", b"p", b"", Some(TermFault::Deep)),
-        (500, b"all x ", b"", b"", Some(TermFault::Bad)),
-        (100_000, b"(", b"", b"", Some(TermFault::Bad)),
+        (500, b"all x ", b"", b"", Some(TermFault::Bad(1000))),
+        (100_000, b"(", b"", b"", Some(TermFault::Bad(100_000))),
     ] {
         let mut text = Vec::new(rt.alloc());
         for _ in 0..count {
