@@ -67,8 +67,8 @@ pub record Begins (g : Table) (ts : List Lexeme) : Type 0 where
   pub tree : RawTree
   pub item : Item g (ts ++ more) tree
 
--- Token k is the first that goes on with no readable item, or the tokens end there too early: some item begins with the k tokens
--- before it, and none with it as well.
+-- Token k is the first that goes on with no readable item, or the tokens end there too early: some item begins with
+-- the k tokens before it, and none with it as well.
 pub record IsBadToken (g : Table) (ts : List Lexeme) (k : ℕ) : Type 0 where
   pub within : k ≤ length ts
   pub before : Begins g (take k ts)

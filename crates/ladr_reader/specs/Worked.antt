@@ -21,12 +21,18 @@ lexemes_in (p ∷ ps) = lexeme p.kind p.text ∷ lexemes_in ps
 abbrev pub line : String → List Lexeme
 line text = lexemes_in (lexed (codes text))
 
--- a name with arguments; an atom; a quantifier with its variable and body
+-- a name with arguments, with none, with one, with two; a quantifier with its variable and body
 abbrev pub term : String → List RawTree → RawTree
 term name ts = named (codes name) (raws_of ts)
 
 abbrev pub constant : String → RawTree
 constant name = term name []
+
+abbrev pub unary : String → RawTree → RawTree
+unary name t = term name (t ∷ [])
+
+abbrev pub binary : String → RawTree → RawTree → RawTree
+binary name t u = term name (t ∷ u ∷ [])
 
 abbrev pub binder : Quantifier → String → RawTree → RawTree
 binder word x body = quantified word (codes x) body

@@ -28,7 +28,8 @@ impl Parentheses {
     pub fn note(&mut self, token: &Token)
         requires { self.old.unclosed + 1 < 2 ^ 64 }
         ensures unclosed { self.new.unclosed ≤ self.old.unclosed + 1 }
-        ensures most { (ts : List Lexeme) → max self.new.most (most_open self.new.unclosed ts) ≡ max self.old.most (most_open self.old.unclosed (lexeme_of token.now ∷ ts)) }
+        ensures most { (ts : List Lexeme) → max self.new.most (most_open self.new.unclosed ts)
+            ≡ max self.old.most (most_open self.old.unclosed (lexeme_of token.now ∷ ts)) }
     {
         match token.kind {
             TokenKind::Open => self.unclosed += 1,

@@ -49,8 +49,10 @@ pub fn read_term(alloc: Global, ops: &Ops, tokens: &[Token]) -> Result<Raw, Term
 
 // The tree, unless the item is nested too deep.
 fn shallow(term: Capped, most_open: usize) -> Result<Raw, TermFault>
-    ensures ok { (t : RawTree) → term ≡ capped 500 t → IfOk result (λ raw. (raw_of raw ≡ t) × (max (depth t) most_open ≤ 500)) }
-    ensures err { (t : RawTree) → term ≡ capped 500 t → IfErr result (λ fault. (fault ≡ TermFault.Deep) × (500 < max (depth t) most_open)) }
+    ensures ok { (t : RawTree) → term ≡ capped 500 t →
+        IfOk result (λ raw. (raw_of raw ≡ t) × (max (depth t) most_open ≤ 500)) }
+    ensures err { (t : RawTree) → term ≡ capped 500 t →
+        IfErr result (λ fault. (fault ≡ TermFault.Deep) × (500 < max (depth t) most_open)) }
 {
     match term.into_tree() {
         Some(raw) if most_open <= MOST_OPEN => Ok(raw),

@@ -46,7 +46,8 @@ impl Start {
     }
 
     fn of_symbol(alloc: Global, ops: &Ops, text: &[u8]) -> Result<Start, AllocError>
-        ensures { IfOk result (λ start. start ≡ start_of_symbol (quantifier_of text.now) (if_prefix (operator_of ops.now text.now)) text.now) }
+        ensures { IfOk result (λ start.
+            start ≡ start_of_symbol (quantifier_of text.now) (if_prefix (operator_of ops.now text.now)) text.now) }
     {
         if let Some(quantifier) = quantifier_of(text) {
             return Ok(Start::Quantifies(quantifier));

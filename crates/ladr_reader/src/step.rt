@@ -25,7 +25,8 @@ pub fn step(
     place: Place,
     token: &Token,
 ) -> Result<Option<Place>, AllocError>
-    ensures { IfOk result (λ place'. standing place' stack.new ≡ step 500 (table_of ops.now) place stack.old (lexeme_of token.now)) }
+    ensures { IfOk result (λ next.
+        standing next stack.new ≡ step 500 (table_of ops.now) place stack.old (lexeme_of token.now)) }
 {
     match place {
         Place::Operand => begin(stack, Start::of(alloc, ops, token)?),
@@ -141,7 +142,8 @@ fn take_closed(stack: &mut Stack, follow: &Follow) -> Option<(Part, u16)>
     ensures shorter { IfSome result (λ _. length stack.new < length stack.old) }
     ensures same { MatchOption result
         ((t : Option RawTree) (q : ℕ) → after 500 follow.now t q stack.old ≡ act 500 follow.now t q stack.new)
-        (λ r. (t : Option RawTree) (q : ℕ) → after 500 follow.now t q stack.old ≡ after 500 follow.now (whole 500 r.0 t) r.1 stack.new) }
+        (λ r. (t : Option RawTree) (q : ℕ) →
+        after 500 follow.now t q stack.old ≡ after 500 follow.now (whole 500 r.0 t) r.1 stack.new) }
 {
     if !stack.is_closed_by(follow) {
         return None;
@@ -189,7 +191,8 @@ fn behind_operator(
     operator: Operator,
     term: Capped,
 ) -> Result<Option<Place>, AllocError>
-    ensures { IfOk result (λ place. standing place stack.new ≡ behind_operator 500 (right operator.kind) name operator term stack.old) }
+    ensures { IfOk result (λ place.
+        standing place stack.new ≡ behind_operator 500 (right operator.kind) name operator term stack.old) }
 {
     match right(operator.kind) {
         Side::Nothing => {
