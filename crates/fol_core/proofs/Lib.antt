@@ -1,3 +1,5 @@
+mod Examples
 pub mod Places
 pub mod SymbolLemmas
+pub mod TruthLemmas
 pub mod Variables

@@ -3,6 +3,7 @@ pub mod FolCodes
 pub mod FormulaFalls
 pub mod FormulaView
 pub mod Free
+pub mod Laws
 pub mod Meaning
 pub mod Outside
 pub mod RawCodes

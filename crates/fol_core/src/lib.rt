@@ -4,6 +4,7 @@
 mod formula;
 mod free;
 mod interpretation;
+mod laws;
 mod name;
 mod problem;
 mod raw;
@@ -13,6 +14,7 @@ mod term;
 pub use formula::{Formula, Shape, Sub};
 pub use free::{closure, free_vars};
 pub use interpretation::Interpretation;
+pub use laws::{closure_is_general, free_variables_decide, truth_is_stable, values_are_within};
 pub use name::{Name, Names};
 pub use problem::{Input, Problem, Role};
 pub use raw::{Quantifier, Raw, RawSub, Raws};
