@@ -10,6 +10,8 @@ mod problem;
 mod raw;
 mod symbols;
 mod term;
+#[cfg(test)]
+mod tests;
 
 pub use formula::{Formula, Shape, Sub};
 pub use free::{closure, free_vars};
