@@ -1,9 +1,13 @@
 pub mod Bounds
 pub mod Complete
+pub mod FormulaLemmas
 pub mod Lawful
 pub mod Levels
 pub mod Live
 pub mod Moves
+pub mod NumberingLemmas
 pub mod Runs
+pub mod ScopeLemmas
 pub mod Sound
 pub mod Splits
+pub mod TermLemmas

@@ -1,5 +1,6 @@
 -- How a term as read is a formula.
-use Rattle.std.specs.Prelude.{ℕ, suc, ◌==◌, nat_le, nat_lt, min, Bool, true, false, not, ◌&&◌, ◌||◌, List, [], ◌∷◌, ◌++◌, length, Option, Some, None, is_some, unwrap_or, if◌then◌else◌, codes}
+use Rattle.std.specs.Prelude.{◌≡◌, IsTrue, ℕ, suc, ◌+◌, ◌==◌, nat_le, nat_lt, min, Bool, true, false, not, ◌&&◌, ◌||◌, List, [], ◌∷◌, ◌++◌, length, Option, Some, None, is_some, is_none, unwrap_or, if◌then◌else◌, codes}
+use Rattle.std.specs.Option.{option_map}
 use Rattle.std.specs.Str.{bytes_eq}
 use Rattle.fol_core.specs.Fol.{Fol, verum, falsum, equal, atom, denied, both, either, implies, iff, every, some}
 use Rattle.fol_core.specs.RawTree.{RawTree, named, quantified, RawTrees, no_raws, more_raws}
@@ -10,11 +11,14 @@ use Rattle.fol_core.specs.declared.raw.Quantifier.TheVariants.{All, Exists}
 use Rattle.fol_core.specs.declared.symbols.Kind.{Kind}
 use Rattle.fol_core.specs.declared.symbols.Kind.TheVariants.{Function, Relation}
 use Rattle.ladr_lex.specs.Numeral.{is_numeral, number}
-
--- how names are read: whether numerals name elements, and whether variables begin with `A` to `Z` or `_`
-pub record Style : Type 0 where
-  pub elements : Bool
-  pub prolog : Bool
+use Rattle.ladr_reader.specs.declared.connectives.Connective.{Connective}
+use Rattle.ladr_reader.specs.declared.connectives.Connective.TheVariants.{And, Or, IfThen, ThenIf, IfAndOnlyIf}
+use Rattle.ladr_reader.specs.declared.styles.Mode.{Mode}
+use Rattle.ladr_reader.specs.declared.styles.Mode.TheVariants.{Prover, Mace, Tester}
+use Rattle.ladr_reader.specs.declared.styles.FormulaError.{FormulaError}
+use Rattle.ladr_reader.specs.declared.styles.FormulaError.TheVariants.{Row, Large, Memory}
+use Rattle.ladr_reader.specs.declared.styles.What.TheVariants as what
+pub use Rattle.ladr_reader.specs.declared.styles.Style.{Style}
 
 -- a variable of a formula: its printed name, and whether no quantifier brought it
 pub record Variable : Type 0 where
@@ -28,6 +32,11 @@ pub record Reading : Type 0 where
   pub variables : List Variable
   pub least : Option ℕ
   pub large : Bool
+
+-- a tree, and what has been read with it
+pub record Made (A : Type 0) : Type 0 where
+  pub tree : A
+  pub reading : Reading
 
 -- the variables that quantifiers around bind, the innermost first, with their numbers
 pub record Bound : Type 0 where
@@ -68,6 +77,12 @@ variable_number scope name s = unwrap_or (bound_number scope name) (unwrap_or (f
 abbrev pub with_name : List Bound → List ℕ → Reading → Reading
 with_name scope name s = if is_some (bound_number scope name) || is_some (free_number 0 s.variables name) then s else with_variable name true s
 
+-- the number of a name without arguments, if it is a variable
+unfoldable pub named_variable : Style → List Bound → List ℕ → Reading → Made (Option ℕ)
+named_variable st scope name s =
+    if is_variable st scope name then record { tree = Some (variable_number scope name s); reading = with_name scope name s }
+    else record { tree = None; reading = s }
+
 -- a symbol is entered; a clash of kinds is row 9, `#` is row 12, more than 255 arguments are too many
 abbrev pub with_symbol : List ℕ → ℕ → Kind → Reading → Reading
 with_symbol name arity kind s =
@@ -89,17 +104,17 @@ is_too_great st name = st.elements && is_numeral name && nat_lt 999999999 (numbe
 abbrev pub is_element : Style → List ℕ → Bool
 is_element st name = st.elements && is_numeral name
 
--- a tree, and what has been read with it
-pub record Made (A : Type 0) : Type 0 where
-  pub tree : A
-  pub reading : Reading
+-- a term without arguments: a variable, else an element or a constant
+abbrev pub constant_as : Style → List ℕ → Option ℕ → Reading → Made Tree
+constant_as st name (Some n) s = record { tree = var n; reading = s }
+constant_as st name None s =
+    if is_element st name then record { tree = elem (number name); reading = meets (is_too_great st name) 16 s }
+    else (let after = with_symbol name 0 Function s in record { tree = app (symbol_number name 0 after) none; reading = after })
 
--- a term without arguments
 abbrev pub constant : Style → List Bound → List ℕ → Reading → Made Tree
 constant st scope name s =
-    if is_variable st scope name then record { tree = var (variable_number scope name s); reading = with_name scope name s }
-    else (if is_element st name then record { tree = elem (number name); reading = meets (is_too_great st name) 16 (meets (bytes_eq name (codes "#")) 12 s) }
-    else (let after = with_symbol name 0 Function s in record { tree = app (symbol_number name 0 after) none; reading = after }))
+    let v = named_variable st scope name s in
+    constant_as st name v.tree v.reading
 
 abbrev mutual
   -- a term below a relation, in which every symbol is a function; a quantifier there is row 11, and its body is read on
@@ -128,13 +143,18 @@ relation_of st scope name ts s =
     let arguments = terms_of st scope after ts in
     record { tree = atom (symbol_number name arity after) arguments.tree; reading = arguments.reading }
 
--- a formula without arguments: a constant or a relation; a variable is row 10
+-- a formula without arguments: a variable, which is row 10, else a constant or a relation
+abbrev pub sentence_as : Style → List Bound → List ℕ → Option ℕ → Reading → Made Fol
+sentence_as st scope name (Some n) s = record { tree = verum; reading = meets true 10 s }
+sentence_as st scope name None s =
+    if bytes_eq name (codes "$T") then record { tree = verum; reading = s }
+    else (if bytes_eq name (codes "$F") then record { tree = falsum; reading = s }
+    else relation_of st scope name no_raws s)
+
 abbrev pub sentence : Style → List Bound → List ℕ → Reading → Made Fol
 sentence st scope name s =
-    if is_variable st scope name then record { tree = verum; reading = meets true 10 (with_name scope name s) }
-    else (if bytes_eq name (codes "$T") then record { tree = verum; reading = s }
-    else (if bytes_eq name (codes "$F") then record { tree = falsum; reading = s }
-    else relation_of st scope name no_raws s))
+    let v = named_variable st scope name s in
+    sentence_as st scope name v.tree v.reading
 
 abbrev pub equation : Style → List Bound → RawTree → RawTree → Reading → Made Fol
 equation st scope t u s =
@@ -150,38 +170,56 @@ abbrev pub bound_by : Quantifier → ℕ → Fol → Fol
 bound_by All n f = every n f
 bound_by Exists n f = some n f
 
--- The connective of a name with two arguments.
-pub data Connective : Type 0 where
-  and : Connective
-  or : Connective
-  if_then : Connective
-  then_if : Connective
-  if_and_only_if : Connective
+-- whether a name with one argument denies it
+abbrev pub is_denial : List ℕ → Bool
+is_denial name = bytes_eq name (codes "-")
 
+-- the connective of a name with two arguments
 abbrev pub connective_of : List ℕ → Option Connective
 connective_of name =
-    if bytes_eq name (codes "&") then Some and else (if bytes_eq name (codes "|") then Some or else (if bytes_eq name (codes "->") then Some if_then
-    else (if bytes_eq name (codes "<-") then Some then_if else (if bytes_eq name (codes "<->") then Some if_and_only_if else None))))
+    if bytes_eq name (codes "&") then Some And else (if bytes_eq name (codes "|") then Some Or else (if bytes_eq name (codes "->") then Some IfThen
+    else (if bytes_eq name (codes "<-") then Some ThenIf else (if bytes_eq name (codes "<->") then Some IfAndOnlyIf else None))))
 
--- A formula. A name with two arguments may be a connective (`a <- b` is `b -> a`, b being read first), `=` or `!=`, a denied
--- equation; one with one argument may be a denial; any other is a relation.
+-- two formulas, read one behind the other
+abbrev pub joined : (Fol → Fol → Fol) → (Reading → Made Fol) → (Reading → Made Fol) → Reading → Made Fol
+joined join first second s =
+    let left = first s in
+    under (join left.tree) (second left.reading)
+
+-- two formulas under a connective, the premise of an implication first
+abbrev pub joined_by : Connective → Fol → Fol → Fol
+joined_by And f g = both f g
+joined_by Or f g = either f g
+joined_by IfThen f g = implies f g
+joined_by ThenIf f g = implies f g
+joined_by IfAndOnlyIf f g = iff f g
+
+-- the two parts of a connective; `a <- b` is `b -> a`, and b is read first
+abbrev pub by_connective : Option Connective → (Reading → Made Fol) → (Reading → Made Fol) → (Reading → Made Fol) → Reading → Made Fol
+by_connective (Some And) first second otherwise = joined (joined_by And) first second
+by_connective (Some Or) first second otherwise = joined (joined_by Or) first second
+by_connective (Some IfThen) first second otherwise = joined (joined_by IfThen) first second
+by_connective (Some ThenIf) first second otherwise = joined (joined_by ThenIf) second first
+by_connective (Some IfAndOnlyIf) first second otherwise = joined (joined_by IfAndOnlyIf) first second
+by_connective None first second otherwise = otherwise
+
+-- an equation, its denial, or a relation of two terms
+abbrev pub comparison : Style → List Bound → List ℕ → RawTree → RawTree → Reading → Made Fol
+comparison st scope name t u s =
+    if bytes_eq name (codes "=") then equation st scope t u s
+    else (if bytes_eq name (codes "!=") then under denied (equation st scope t u s)
+    else relation_of st scope name (more_raws t (more_raws u no_raws)) s)
+
+-- A formula. A name with two arguments may be a connective, `=` or `!=`, one with one argument a denial; any other is a relation.
 abbrev pub formula_in : Style → List Bound → Reading → RawTree → Made Fol
 formula_in st scope s (quantified q x t) =
     under (bound_by q (length s.variables)) (formula_in st (record { name = x; number = length s.variables } ∷ scope) (with_variable x false s) t)
 formula_in st scope s (named name no_raws) = sentence st scope name s
 formula_in st scope s (named name (more_raws t no_raws)) =
-    if bytes_eq name (codes "-") then under denied (formula_in st scope s t) else relation_of st scope name (more_raws t no_raws) s
+    if is_denial name then under denied (formula_in st scope s t) else relation_of st scope name (more_raws t no_raws) s
 formula_in st scope s (named name (more_raws t (more_raws u no_raws))) =
-    elim (connective_of name) [
-      | Some and ↦ (let left = formula_in st scope s t in under (both left.tree) (formula_in st scope left.reading u))
-      | Some or ↦ (let left = formula_in st scope s t in under (either left.tree) (formula_in st scope left.reading u))
-      | Some if_then ↦ (let left = formula_in st scope s t in under (implies left.tree) (formula_in st scope left.reading u))
-      | Some then_if ↦ (let left = formula_in st scope s u in under (implies left.tree) (formula_in st scope left.reading t))
-      | Some if_and_only_if ↦ (let left = formula_in st scope s t in under (iff left.tree) (formula_in st scope left.reading u))
-      | None ↦ (if bytes_eq name (codes "=") then equation st scope t u s else (if bytes_eq name (codes "!=") then under denied (equation st scope t u s)
-          else relation_of st scope name (more_raws t (more_raws u no_raws)) s))
-    ]
-formula_in st scope s (named name ts) = relation_of st scope name ts s
+    by_connective (connective_of name) (λ r. formula_in st scope r t) (λ r. formula_in st scope r u) (comparison st scope name t u) s
+formula_in st scope s (named name (more_raws t (more_raws u (more_raws v ts)))) = relation_of st scope name (more_raws t (more_raws u (more_raws v ts))) s
 
 -- before a formula is read
 abbrev pub unread : List Symbol → Reading
@@ -191,6 +229,34 @@ unread table = record { symbols = table; variables = []; least = None; large = f
 abbrev pub formula_reading : Style → List Symbol → RawTree → Made Fol
 formula_reading st table t = formula_in st [] (unread table) t
 
+-- numerals name elements but for the prover
+abbrev pub style_of : Mode → Bool → Style
+style_of Prover prolog = record { elements = false; prolog = prolog }
+style_of Mace prolog = record { elements = true; prolog = prolog }
+style_of Tester prolog = record { elements = true; prolog = prolog }
+
+-- the printed names of the variables, by number
+abbrev pub names_of : List Variable → List (List ℕ)
+names_of [] = []
+names_of (v ∷ vs) = v.name ∷ names_of vs
+
+-- why what was read is refused, if it is: too many symbols, else too large an arity, else the least row of misuse
+abbrev pub fault_of : Reading → Option FormulaError
+fault_of s = if nat_lt 65535 (length s.symbols) then Some (Large what.Symbols) else (if s.large then Some (Large what.Arity) else option_map Row s.least)
+
 -- nothing is misused, and nothing too large
 abbrev pub is_sound : Reading → Bool
-is_sound s = not (is_some s.least) && nat_le (length s.symbols) 65535 && not s.large
+is_sound s = is_none (fault_of s)
+
+-- what is answered in place of a formula; want of memory may come at any time
+abbrev pub IsFault : Reading → FormulaError → Type 0
+IsFault s Memory = Unit {0}
+IsFault s (Row k) = fault_of s ≡ Some (Row k)
+IsFault s (Large w) = fault_of s ≡ Some (Large w)
+
+-- a sound reading is this formula, with these names and behind it this table
+pub record IsReadAs (m : Made Fol) (f : Fol) (names : List (List ℕ)) (table : List Symbol) : Type 0 where
+  pub sound : IsTrue (is_sound m.reading)
+  pub formula : f ≡ m.tree
+  pub named : names ≡ names_of m.reading.variables
+  pub symbols : table ≡ m.reading.symbols

@@ -3,6 +3,10 @@ pub mod Faults
 pub mod Formulas
 pub mod Machine
 pub mod Nesting
+pub mod Numbering
+pub mod ReaderView
 pub mod Reads
+pub mod ScopeView
 pub mod Table
 pub mod Worked
+pub mod WorkedFormulas

@@ -2,19 +2,31 @@
 #![tactic(auto)]
 
 mod capped;
+mod connectives;
+mod examples;
 mod fault;
+mod formulas;
 mod laws;
 mod nesting;
+mod numbering;
 mod place;
 mod read;
+mod reader;
 mod roles;
+mod scopes;
 mod sides;
 mod stack;
 mod step;
+mod styles;
 
+pub use examples::worked_formulas;
 pub use fault::TermFault;
+pub use formulas::formula_of;
 pub use laws::{one_reading, worked_first, worked_more};
 pub use read::read_term;
+pub use styles::{FormulaError, Mode, Style, What};
 
+#[cfg(test)]
+mod formula_tests;
 #[cfg(test)]
 mod tests;

@@ -1,0 +1,7 @@
+use Rattle.std.proofs.Common.{refl}
+use Rattle.ladr_reader.specs.Formulas.{named_variable}
+use Rattle.ladr_reader.proofs.examples.worked_formulas.Goals as goal
+
+pub returns : goal.returns
+unfolding named_variable
+returns c = record { bound_and_free = refl; names = refl; symbols = refl; involution = refl; one_name_twice = refl; misuses = refl }

@@ -1,0 +1,28 @@
+use Rattle.std.proofs.Common.{◌≡◌, ◌∙◌, List, [], ℕ, sym, ap, subst}
+use Rattle.std.specs.Prelude.{IfErr}
+use Rattle.fol_core.specs.Fol.{Fol}
+use Rattle.fol_core.specs.RawView.{raw_of}
+use Rattle.fol_core.specs.SymbolTable.{Symbol, KeepsNumbers}
+use Rattle.ladr_reader.specs.Formulas.{Made, unread, style_of, formula_in, formula_reading, IsFault}
+use Rattle.ladr_reader.specs.ReaderView.{Progress}
+use Rattle.ladr_reader.proofs.FormulaLemmas.{read_as_same}
+use Rattle.ladr_reader.proofs.formulas.formula_of.Goals as goal
+
+-- the reader begins with the table
+start : (c : goal.After-drop-symbols-8) → c.new-reader.result ≡ record { reading = unread c.args.symbols.now; scope = [] }
+start c = c.new-reader.ensures ∙ ap (λ (table : List Symbol). record { reading = unread table; scope = [] }) c.replace-table.ensures.value
+
+whole : (c : goal.After-drop-symbols-8) →
+    formula_in c.style_of.result c.new-reader.result.scope c.new-reader.result.reading (raw_of c.args.raw.now) ≡ formula_reading (style_of c.args.mode c.args.prolog) c.args.symbols.now (raw_of c.args.raw.now)
+whole c = λ i. formula_in (c.style_of.ensures i) (start c i).scope (start c i).reading (raw_of c.args.raw.now)
+
+pub returns-clause-read : goal.returns-clause-read
+returns-clause-read c = read_as_same c.sound_formula-answer.result _ _ _ _ (whole c) (sym c.into_symbols.ensures) c.sound_formula-answer.ensures.read
+
+pub returns-clause-fault : goal.returns-clause-fault
+returns-clause-fault c = subst (λ (m : Made Fol). IfErr c.sound_formula-answer.result (IsFault m.reading)) (whole c) c.sound_formula-answer.ensures.fault
+
+pub returns-clause-kept : goal.returns-clause-kept
+returns-clause-kept c =
+    subst (λ (table : List Symbol). KeepsNumbers c.args.symbols.now table) (sym c.into_symbols.ensures)
+    (subst (λ (p : Progress). KeepsNumbers p.reading.symbols c.sound_formula-answer.new.reader.reading.symbols) (start c) c.sound_formula-answer.ensures.kept)

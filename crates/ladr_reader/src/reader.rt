@@ -1,0 +1,173 @@
+// What the reader of formulas has read so far.
+ghost use Rattle.std.specs.Prelude.{◌≡◌, ℕ, [], ◌∷◌, IfOk, OnOk, length, unwrap_or, false};
+ghost use Rattle.fol_core.specs.SymbolTable.{symbol, number_of, entered, is_clash, KeepsNumbers};
+ghost use Rattle.ladr_reader.specs.Formulas.{unread, meets, with_symbol, symbol_number, is_free_name, named_variable, with_variable, fault_of, names_of};
+ghost use Rattle.ladr_reader.specs.ScopeView.{outer};
+
+use crate::numbering::Variables;
+use crate::scopes::Scope;
+use crate::styles::{FormulaError, Style, What};
+use fol_core::{Clash, Kind, Name, Names, Sym, Symbols};
+use std::alloc::{AllocError, Global};
+use std::marker::Model;
+
+const MOST_SYMBOLS: usize = 65_535;
+const MOST_ARGUMENTS: usize = 255;
+
+/// The symbols and variables so far, the quantifiers around the place where the reader is, the least row of misuse that was
+/// met, and whether an arity was too large.
+#[derive(Drop)]
+pub struct Reader {
+    symbols: Symbols,
+    variables: Variables,
+    scope: Scope,
+    least: Option<u8>,
+    large: bool,
+}
+
+impl Model for Reader {
+    ghost use Rattle.ladr_reader.specs.ReaderView.{Progress, progress};
+
+    ghost Value = { Progress };
+
+    ghost view = { λ a. progress a.symbols a.variables a.scope a.least a.large };
+}
+
+// The symbol of a name, an arity and a kind, and whether the name and arity have the other kind.
+fn enter(symbols: &mut Symbols, name: &[u8], arity: u64, kind: Kind) -> Result<(Sym, bool), AllocError>
+    ensures table { OnOk result (symbols.new ≡ entered symbols.old (symbol name.now arity kind)) }
+    ensures number { IfOk result (λ r. r.0.0 ≡ unwrap_or (number_of symbols.new name.now arity) 0) }
+    ensures clash { IfOk result (λ r. r.1 ≡ is_clash symbols.old (symbol name.now arity kind)) }
+    ensures kept { KeepsNumbers symbols.old symbols.new }
+{
+    match symbols.enter(name, arity, kind) {
+        Ok(s) => Ok((s, false)),
+        Err(Clash::OtherKind) => Ok((symbols.find(name, arity).unwrap_or(Sym(0)), true)),
+        Err(Clash::Memory) => Err(AllocError),
+    }
+}
+
+fn is_free_name(style: Style, name: &[u8]) -> bool
+    ensures { result ≡ is_free_name style name.now }
+{
+    match name {
+        [] => false,
+        [first, ..] => {
+            if style.prolog {
+                first.is_ascii_uppercase() || *first == b'_'
+            } else {
+                matches!(*first, b'u'..=b'z')
+            }
+        }
+    }
+}
+
+impl Reader {
+    /// Behind these symbols nothing is read.
+    pub fn new(alloc: Global, symbols: Symbols) -> Reader
+        ensures { result ≡ record { reading = unread symbols; scope = [] } }
+    {
+        Reader {
+            symbols,
+            variables: Variables::new(alloc),
+            scope: Scope::new(alloc),
+            least: None,
+            large: false,
+        }
+    }
+
+    /// A row of misuse is met, if the test says so.
+    pub fn meet(&mut self, test: bool, row: u8)
+        ensures { self.new ≡ record self.old { reading = meets test row self.old.reading } }
+    {
+        if test {
+            self.least = Some(row.min(self.least.unwrap_or(row)));
+        }
+    }
+
+    /// The symbol of a name, an arity and a kind.
+    pub fn enter(&mut self, name: &[u8], arity: usize, kind: Kind) -> Result<Sym, AllocError>
+        ensures read { OnOk result (self.new ≡ record self.old { reading = with_symbol name.now arity kind self.old.reading }) }
+        ensures number { IfOk result (λ s. s.0 ≡ symbol_number name.now arity self.new.reading) }
+        ensures kept { KeepsNumbers self.old.reading.symbols self.new.reading.symbols }
+    {
+        let (s, clashes) = enter(&mut self.symbols, name, arity as u64, kind)?;
+        self.meet(clashes, 9);
+        self.meet(name == b"#".as_slice(), 12);
+        self.large = self.large || arity > MOST_ARGUMENTS;
+        Ok(s)
+    }
+
+    #[tactic(auto, unfolding(crate::specs::Formulas::named_variable))]
+    /// The number of the variable that a name without arguments is, if it is one.
+    pub fn variable(&mut self, alloc: Global, style: Style, name: &[u8]) -> Result<Option<u64>, AllocError>
+        ensures read { IfOk result (λ n. named_variable style self.old.scope name.now self.old.reading ≡ record { tree = n; reading = self.new.reading }) }
+        ensures scope { OnOk result (self.new.scope ≡ self.old.scope) }
+        ensures symbols { self.new.reading.symbols ≡ self.old.reading.symbols }
+    {
+        if let Some(number) = self.scope.number(name) {
+            return Ok(Some(number));
+        }
+        if !is_free_name(style, name) {
+            return Ok(None);
+        }
+        match self.variables.free_number(name) {
+            Some(number) => Ok(Some(number)),
+            None => {
+                let number = self.variables.len() as u64;
+                self.variables.push_free(alloc, name)?;
+                Ok(Some(number))
+            }
+        }
+    }
+
+    /// A quantifier brings a variable; its number is answered, and its name stands for it from now on.
+    pub fn bind(&mut self, alloc: Global, name: &[u8]) -> Result<u64, AllocError>
+        ensures number { IfOk result (λ n. n ≡ length self.old.reading.variables) }
+        ensures read { OnOk result (self.new.reading ≡ with_variable name.now false self.old.reading) }
+        ensures scope { OnOk result (self.new.scope ≡ record { name = name.now; number = length self.old.reading.variables } ∷ self.old.scope) }
+        ensures symbols { self.new.reading.symbols ≡ self.old.reading.symbols }
+    {
+        let number = self.variables.len() as u64;
+        let bound = Name::from_slice(alloc, name)?;
+        self.variables.push_bound(bound)?;
+        let bound = Name::from_slice(alloc, name)?;
+        self.scope.push(bound, number)?;
+        Ok(number)
+    }
+
+    /// The body of the innermost quantifier is read.
+    pub fn unbind(&mut self)
+        ensures { self.new ≡ record self.old { scope = outer self.old.scope } }
+    {
+        self.scope.pop();
+    }
+
+    /// Why what was read is refused, if it is.
+    pub fn fault(&self) -> Option<FormulaError>
+        ensures { result ≡ fault_of self.now.reading }
+    {
+        if self.symbols.len() > MOST_SYMBOLS {
+            return Some(FormulaError::Large(What::Symbols));
+        }
+        if self.large {
+            return Some(FormulaError::Large(What::Arity));
+        }
+        self.least.map(FormulaError::Row)
+    }
+
+    /// The names of the variables.
+    pub fn names(&self, alloc: Global) -> Result<Names, AllocError>
+        ensures { IfOk result (λ names. names ≡ names_of self.now.reading.variables) }
+    {
+        self.variables.names(alloc)
+    }
+
+    /// The symbols.
+    pub fn into_symbols(self) -> Symbols
+        ensures { result ≡ self.reading.symbols }
+    {
+        let Reader { symbols, .. } = self;
+        symbols
+    }
+}
