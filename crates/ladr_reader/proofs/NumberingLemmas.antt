@@ -62,7 +62,7 @@ pub free_number_free : (n : ℕ) (vs : List formulas.Variable) (x q : List ℕ) 
 free_number_free n [] x q h = ap (λ (m : ℕ). if bytes_eq x q then Some m else None) (sym (add-zero n))
 free_number_free n (v ∷ vs) x q h =
     elim (cases_Bool (v.free && bytes_eq v.name x)) [
-      inl t ↦ absurd (some_is_none n (sym (cond-true (v.free && bytes_eq v.name x) (Some n) (free_number (suc n) vs x) t) ∙ h))
+      | inl t ↦ absurd (some_is_none n (sym (cond-true (v.free && bytes_eq v.name x) (Some n) (free_number (suc n) vs x) t) ∙ h))
       | inr t ↦ (
           let rest = free_number_free (suc n) vs x q (sym (cond-false (v.free && bytes_eq v.name x) (Some n) (free_number (suc n) vs x) t) ∙ h) in
           ap (λ (o : Option ℕ). if v.free && bytes_eq v.name q then Some n else o) rest ∙
@@ -76,7 +76,7 @@ pub number_put : (es : List (Vec ℕ × ℕ)) (k : Vec ℕ) (n : ℕ) (q : List 
 number_put [] k n q = refl
 number_put (e ∷ es) k n q =
     elim (cases_Bool (bytes_eq k.items e.0.items)) [
-      inl t ↦ ap (λ (l : List (Vec ℕ × ℕ)). number_in l q) (cond-true (bytes_eq k.items e.0.items) ((e.0, n) ∷ es) (e ∷ insert_entry (λ u v. bytes_eq u.items v.items) es k n) t) ∙
+      | inl t ↦ ap (λ (l : List (Vec ℕ × ℕ)). number_in l q) (cond-true (bytes_eq k.items e.0.items) ((e.0, n) ∷ es) (e ∷ insert_entry (λ u v. bytes_eq u.items v.items) es k n) t) ∙
           same_choice (bytes_eq q k.items) (bytes_eq q e.0.items) (Some n) (Some e.1) (number_in es q) (ap (bytes_eq q) ((bytes_eq-Decides k.items e.0.items).0 t))
       | inr t ↦ ap (λ (l : List (Vec ℕ × ℕ)). number_in l q) (cond-false (bytes_eq k.items e.0.items) ((e.0, n) ∷ es) (e ∷ insert_entry (λ u v. bytes_eq u.items v.items) es k n) t) ∙
           ap (λ (o : Option ℕ). cond (bytes_eq q e.0.items) (Some e.1) o) (number_put es k n q) ∙

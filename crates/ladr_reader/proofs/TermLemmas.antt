@@ -38,8 +38,8 @@ terms_more st scope around s t ts more_ts tree arg args i h e same read pushed =
     let here : drop i args ≡ arg ∷ rest = drop_more args i arg h ∙ ap (λ (a : Raw). a ∷ rest) (sym e) in
     let first : term_of st scope s (raw_of arg) ≡ record { tree = tree; reading = t } = ap (λ (c : List Bound). term_of st c s (raw_of arg)) (sym same) ∙ read in
     let made : terms_of st scope s (raws_of (raw_list (drop i args))) ≡ record { tree = more tree others.tree; reading = others.reading } =
-        ap (λ (l : List Raw). terms_of st scope s (raws_of (raw_list l))) here ∙
-        ap (λ (m : Made Tree). let o = terms_of st scope m.reading (raws_of (raw_list rest)) in record { tree = more m.tree o.tree; reading = o.reading }) first in
+    ap (λ (l : List Raw). terms_of st scope s (raws_of (raw_list l))) here ∙
+    ap (λ (m : Made Tree). let o = terms_of st scope m.reading (raws_of (raw_list rest)) in record { tree = more m.tree o.tree; reading = o.reading }) first in
     ap (λ (l : List Tree). read_onto l others) pushed ∙ ap (λ (us : Trees). record { tree = us; reading = others.reading }) (onto_last ts tree others.tree) ∙ ap (read_onto ts) (sym made)
 
 -- where no argument is left the terms so far are all

@@ -20,5 +20,4 @@ pub fn worked_formulas()
     ensures one_name_twice { (formula_reading for_tester [] one_name_twice).tree ≡ implies (every 0 (atom 0 (more (var 0) none))) (atom 1 (more (var 1) none)) }
     // f is a relation and a function (9), x a variable where a formula is wanted (10), and a numeral too great (16).
     ensures misuses { fault_of (formula_reading for_tester [] misuses).reading ≡ Some (Row 9) }
-{
-}
+{}

@@ -9,26 +9,68 @@ use std::test::Fail;
 fn terms_have_their_formulas(rt: HostRuntime) -> Result<(), Fail> {
     let ops = Ops::first_form(rt.alloc())?;
     for (text, mode, prolog, wanted) in [
-        (b"all x p(x,f(y)).".as_slice(), Mode::Tester, false, Ok(b"A0 r1 v0 s0 v1 ".as_slice())),
+        (
+            b"all x p(x,f(y)).".as_slice(),
+            Mode::Tester,
+            false,
+            Ok(b"A0 r1 v0 s0 v1 ".as_slice()),
+        ),
         (b"f(f(x)) = x.", Mode::Prover, false, Ok(b"= s0 s0 v0 v0 ")),
         (b"a != 2.", Mode::Prover, false, Ok(b"- = s1 s2 ")),
         (b"a != 2.", Mode::Mace, false, Ok(b"- = s1 e2 ")),
-        (b"<-(p(x),exists x q(x)).", Mode::Tester, false, Ok(b"> E0 r1 v0 r2 v1 ")),
-        (b"<->($T,&($F,|(t,->(u(x),X)))).", Mode::Tester, false, Ok(b"~ T & F | r1 > r2 v0 r3 ")),
-        (b"->(-(p(X,x)),_).", Mode::Tester, true, Err(FormulaError::Row(10))),
+        (
+            b"<-(p(x),exists x q(x)).",
+            Mode::Tester,
+            false,
+            Ok(b"> E0 r1 v0 r2 v1 "),
+        ),
+        (
+            b"<->($T,&($F,|(t,->(u(x),X)))).",
+            Mode::Tester,
+            false,
+            Ok(b"~ T & F | r1 > r2 v0 r3 "),
+        ),
+        (
+            b"->(-(p(X,x)),_).",
+            Mode::Tester,
+            true,
+            Err(FormulaError::Row(10)),
+        ),
         (b"all $T p($T).", Mode::Tester, false, Ok(b"A0 r1 v0 ")),
         (b"-(p,q).", Mode::Tester, false, Ok(b"r1 s2 s3 ")),
         (b"f(a).", Mode::Tester, false, Err(FormulaError::Row(9))),
-        (b"p(f,f(x),f(x,x)).", Mode::Tester, false, Ok(b"r1 s2 s0 v0 s3 v0 v0 ")),
-        (b"p(all x q(x)).", Mode::Tester, false, Err(FormulaError::Row(11))),
+        (
+            b"p(f,f(x),f(x,x)).",
+            Mode::Tester,
+            false,
+            Ok(b"r1 s2 s0 v0 s3 v0 v0 "),
+        ),
+        (
+            b"p(all x q(x)).",
+            Mode::Tester,
+            false,
+            Err(FormulaError::Row(11)),
+        ),
         (b"p(#).", Mode::Tester, false, Err(FormulaError::Row(12))),
-        (b"p(1000000000).", Mode::Tester, false, Err(FormulaError::Row(16))),
+        (
+            b"p(1000000000).",
+            Mode::Tester,
+            false,
+            Err(FormulaError::Row(16)),
+        ),
         (b"p(1000000000(a)).", Mode::Prover, false, Ok(b"r1 s2 s3 ")),
         (b"3(a).", Mode::Mace, false, Err(FormulaError::Row(16))),
-        (b"&(3(#),&(f(a),x)).", Mode::Mace, false, Err(FormulaError::Row(9))),
+        (
+            b"&(3(#),&(f(a),x)).",
+            Mode::Mace,
+            false,
+            Err(FormulaError::Row(9)),
+        ),
     ] {
         let mut symbols = Symbols::new(rt.alloc());
-        symbols.enter(b"f", 1, Kind::Function).map_err(|_| "memory")?;
+        symbols
+            .enter(b"f", 1, Kind::Function)
+            .map_err(|_| "memory")?;
         let tokens = tokens(rt.alloc(), text).map_err(|_| "memory")?;
         let raw = read_term(rt.alloc(), &ops, &tokens).map_err(|_| "term")?;
         let shown = match formula_of(rt.alloc(), &raw, &mut symbols, mode, prolog) {

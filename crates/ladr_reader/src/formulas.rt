@@ -32,7 +32,12 @@ fn is_too_great(style: Style, name: &[u8]) -> bool
 }
 
 // A term without arguments.
-fn constant(alloc: Global, name: &[u8], style: Style, reader: &mut Reader) -> Result<Term, AllocError>
+fn constant(
+    alloc: Global,
+    name: &[u8],
+    style: Style,
+    reader: &mut Reader,
+) -> Result<Term, AllocError>
     ensures read { IfOk result (λ term. constant style reader.old.scope name.now reader.old.reading ≡ record { tree = tree_of term; reading = reader.new.reading }) }
     ensures scope { OnOk result (reader.new.scope ≡ reader.old.scope) }
     ensures kept { KeepsNumbers reader.old.reading.symbols reader.new.reading.symbols }
@@ -105,7 +110,13 @@ fn terms(alloc: Global, raws: &Raws, style: Style, reader: &mut Reader) -> Resul
 
 #[tactic(auto, using(crate::proofs::TermLemmas::kept_both, crate::proofs::TermLemmas::arity_is_length))]
 // A relation with its arguments.
-fn relation(alloc: Global, name: &[u8], args: &Raws, style: Style, reader: &mut Reader) -> Result<Shape, AllocError>
+fn relation(
+    alloc: Global,
+    name: &[u8],
+    args: &Raws,
+    style: Style,
+    reader: &mut Reader,
+) -> Result<Shape, AllocError>
     ensures read { IfOk result (λ shape. relation_of style reader.old.scope name.now (raws_of args.now) reader.old.reading ≡ record { tree = fol_of shape; reading = reader.new.reading }) }
     ensures scope { OnOk result (reader.new.scope ≡ reader.old.scope) }
     ensures kept { KeepsNumbers reader.old.reading.symbols reader.new.reading.symbols }
@@ -118,7 +129,13 @@ fn relation(alloc: Global, name: &[u8], args: &Raws, style: Style, reader: &mut 
 
 #[tactic(auto, using(crate::proofs::TermLemmas::kept_both))]
 // An equation.
-fn equation(alloc: Global, left: &Raw, right: &Raw, style: Style, reader: &mut Reader) -> Result<Shape, AllocError>
+fn equation(
+    alloc: Global,
+    left: &Raw,
+    right: &Raw,
+    style: Style,
+    reader: &mut Reader,
+) -> Result<Shape, AllocError>
     ensures read { IfOk result (λ shape. equation style reader.old.scope (raw_of left.now) (raw_of right.now) reader.old.reading ≡ record { tree = fol_of shape; reading = reader.new.reading }) }
     ensures scope { OnOk result (reader.new.scope ≡ reader.old.scope) }
     ensures kept { KeepsNumbers reader.old.reading.symbols reader.new.reading.symbols }
@@ -130,7 +147,13 @@ fn equation(alloc: Global, left: &Raw, right: &Raw, style: Style, reader: &mut R
 
 #[tactic(auto, using(crate::proofs::TermLemmas::kept_both))]
 // A formula without arguments; `args` has none.
-fn sentence(alloc: Global, name: &[u8], args: &Raws, style: Style, reader: &mut Reader) -> Result<Shape, AllocError>
+fn sentence(
+    alloc: Global,
+    name: &[u8],
+    args: &Raws,
+    style: Style,
+    reader: &mut Reader,
+) -> Result<Shape, AllocError>
     requires { args.now ≡ [] }
     ensures read { IfOk result (λ shape. sentence style reader.old.scope name.now reader.old.reading ≡ record { tree = fol_of shape; reading = reader.new.reading }) }
     ensures scope { OnOk result (reader.new.scope ≡ reader.old.scope) }
@@ -150,7 +173,15 @@ fn sentence(alloc: Global, name: &[u8], args: &Raws, style: Style, reader: &mut 
 }
 
 // An equation, its denial, or a relation; the two terms are the arguments.
-fn comparison(alloc: Global, name: &[u8], args: &Raws, left: &Raw, right: &Raw, style: Style, reader: &mut Reader) -> Result<Shape, AllocError>
+fn comparison(
+    alloc: Global,
+    name: &[u8],
+    args: &Raws,
+    left: &Raw,
+    right: &Raw,
+    style: Style,
+    reader: &mut Reader,
+) -> Result<Shape, AllocError>
     requires { args.now ≡ raw_of left.now ∷ raw_of right.now ∷ [] }
     ensures read { IfOk result (λ shape. comparison style reader.old.scope name.now (raw_of left.now) (raw_of right.now) reader.old.reading ≡ record { tree = fol_of shape; reading = reader.new.reading }) }
     ensures scope { OnOk result (reader.new.scope ≡ reader.old.scope) }
@@ -224,7 +255,12 @@ fn formula(alloc: Global, raw: &Raw, style: Style, reader: &mut Reader) -> Resul
 }
 
 // Two formulas that a connective joins, the premise first.
-fn joined(alloc: Global, connective: Connective, first: Shape, second: Shape) -> Result<Shape, AllocError>
+fn joined(
+    alloc: Global,
+    connective: Connective,
+    first: Shape,
+    second: Shape,
+) -> Result<Shape, AllocError>
     ensures { IfOk result (λ shape. fol_of shape ≡ joined_by connective (fol_of first) (fol_of second)) }
 {
     let first = Sub::new(alloc, first)?;
@@ -238,7 +274,12 @@ fn joined(alloc: Global, connective: Connective, first: Shape, second: Shape) ->
 }
 
 // The formula of a term, or why it is refused.
-fn sound_formula(alloc: Global, raw: &Raw, style: Style, reader: &mut Reader) -> Result<Formula, FormulaError>
+fn sound_formula(
+    alloc: Global,
+    raw: &Raw,
+    style: Style,
+    reader: &mut Reader,
+) -> Result<Formula, FormulaError>
     ensures read { IfOk result (λ f. IsReadAs (formula_in style reader.old.scope reader.old.reading (raw_of raw.now)) (fol_of f.shape) f.names reader.new.reading.symbols) }
     ensures fault { IfErr result (IsFault (formula_in style reader.old.scope reader.old.reading (raw_of raw.now)).reading) }
     ensures kept { KeepsNumbers reader.old.reading.symbols reader.new.reading.symbols }
@@ -254,7 +295,13 @@ fn sound_formula(alloc: Global, raw: &Raw, style: Style, reader: &mut Reader) ->
 }
 
 /// The formula that a term is read as, behind formulas with these symbols; the formula's own are entered.
-pub fn formula_of(alloc: Global, raw: &Raw, symbols: &mut Symbols, mode: Mode, prolog: bool) -> Result<Formula, FormulaError>
+pub fn formula_of(
+    alloc: Global,
+    raw: &Raw,
+    symbols: &mut Symbols,
+    mode: Mode,
+    prolog: bool,
+) -> Result<Formula, FormulaError>
     // A formula comes exactly where nothing is misused and nothing is too large, unless memory is lacking.
     ensures read { IfOk result (λ f. IsReadAs (formula_reading (style_of mode prolog) symbols.old (raw_of raw.now)) (fol_of f.shape) f.names symbols.new) }
     // Else the error is the one that the reading tells.

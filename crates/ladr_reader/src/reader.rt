@@ -12,6 +12,7 @@ use std::alloc::{AllocError, Global};
 use std::marker::Model;
 
 const MOST_SYMBOLS: usize = 65_535;
+
 const MOST_ARGUMENTS: usize = 255;
 
 /// The symbols and variables so far, the quantifiers around the place where the reader is, the least row of misuse that was
@@ -34,7 +35,12 @@ impl Model for Reader {
 }
 
 // The symbol of a name, an arity and a kind, and whether the name and arity have the other kind.
-fn enter(symbols: &mut Symbols, name: &[u8], arity: u64, kind: Kind) -> Result<(Sym, bool), AllocError>
+fn enter(
+    symbols: &mut Symbols,
+    name: &[u8],
+    arity: u64,
+    kind: Kind,
+) -> Result<(Sym, bool), AllocError>
     ensures table { OnOk result (symbols.new ≡ entered symbols.old (symbol name.now arity kind)) }
     ensures number { IfOk result (λ r. r.0.0 ≡ unwrap_or (number_of symbols.new name.now arity) 0) }
     ensures clash { IfOk result (λ r. r.1 ≡ is_clash symbols.old (symbol name.now arity kind)) }
@@ -100,7 +106,12 @@ impl Reader {
 
     #[tactic(auto, unfolding(crate::specs::Formulas::named_variable))]
     /// The number of the variable that a name without arguments is, if it is one.
-    pub fn variable(&mut self, alloc: Global, style: Style, name: &[u8]) -> Result<Option<u64>, AllocError>
+    pub fn variable(
+        &mut self,
+        alloc: Global,
+        style: Style,
+        name: &[u8],
+    ) -> Result<Option<u64>, AllocError>
         ensures read { IfOk result (λ n. named_variable style self.old.scope name.now self.old.reading ≡ record { tree = n; reading = self.new.reading }) }
         ensures scope { OnOk result (self.new.scope ≡ self.old.scope) }
         ensures symbols { self.new.reading.symbols ≡ self.old.reading.symbols }

@@ -8,10 +8,11 @@ use Rattle.ladr_reader.proofs.TermLemmas.{terms_more, terms_end, term_applied, k
 use Rattle.ladr_reader.proofs.formulas.+term.Goals as goal
 
 pub loop-arg-preserved : goal.loop-arg-preserved
-loop-arg-preserved t c =
-    (terms_more c.args.style c.args.reader.now.scope _ _ _ c.loop-arg.terms _ _ c.arg-item.result c.deref-arg-items.result.now c.loop-arg.arg-index c.loop-arg-test.true c.arg-item.is c.loop-arg.invariant.1 c.in_ok-term-in-App.ensures.read c.in_ok-push-in-App.ensures.ok ∙ c.loop-arg.invariant.0,
-    c.in_ok-term-in-App.ensures.scope ∙ c.loop-arg.invariant.1,
-    kept_both _ _ _ c.loop-arg.invariant.2 c.in_ok-term-in-App.ensures.kept)
+loop-arg-preserved t c = (
+  terms_more c.args.style c.args.reader.now.scope _ _ _ c.loop-arg.terms _ _ c.arg-item.result c.deref-arg-items.result.now c.loop-arg.arg-index c.loop-arg-test.true c.arg-item.is c.loop-arg.invariant.1 c.in_ok-term-in-App.ensures.read c.in_ok-push-in-App.ensures.ok ∙ c.loop-arg.invariant.0,
+  c.in_ok-term-in-App.ensures.scope ∙ c.loop-arg.invariant.1,
+  kept_both _ _ _ c.loop-arg.invariant.2 c.in_ok-term-in-App.ensures.kept,
+)
 
 pub returns-after-loop-arg-clause-read : goal.returns-after-loop-arg-clause-read
 returns-after-loop-arg-clause-read t c =

@@ -10,6 +10,6 @@ loop-binding-preserved c =
     let more = bound_number_more c.deref-binding-items.result.now c.loop-binding.binding-index c.binding-item.result c.args.name.now c.loop-binding-test.true c.binding-item.is in
     let name = ap (λ (n : List ℕ). bytes_eq n c.args.name.now) (sym c.bytes.ensures) in
     elim c.if-eq.branch [
-      then-eq w ↦ w.number-is ∙ sym (more ∙ cond-true _ _ _ (name ∙ sym w.if-eq.ensures))
+      | then-eq w ↦ w.number-is ∙ sym (more ∙ cond-true _ _ _ (name ∙ sym w.if-eq.ensures))
       | else-eq w ↦ w.number-is ∙ c.loop-binding.invariant ∙ sym (more ∙ cond-false _ _ _ (name ∙ sym w.if-eq.ensures))
     ]
