@@ -1,19 +1,18 @@
 // Free variables, and the closure of a formula.
-ghost use Rattle.std.specs.Prelude.{◌≡◌, IfOk, OnOk};
+ghost use Rattle.std.specs.Prelude.{◌≡◌, IfOk, OnOk, if◌then◌else◌};
 ghost use Rattle.fol_core.specs.TermView.{tree_of};
 ghost use Rattle.fol_core.specs.FormulaView.{fol_of};
 ghost use Rattle.fol_core.specs.Tree.{trees_of};
 ghost use Rattle.fol_core.specs.Free.{noted, joined, is_in, variables_of, variables_of_all, free_vars_of, closure_of};
 ghost use Rattle.fol_core.specs.Outside.{outside};
-ghost use Rattle.std.specs.Prelude.{if◌then◌else◌};
 
 use crate::formula::{Formula, Shape, Sub};
 use crate::term::{Term, Terms};
 use indexmap::IndexSet;
 use std::alloc::{AllocError, Global};
 
-#[tactic(auto, using(crate::proofs::Variables::closed_over_push))]
 /// The formula under a universal quantifier for each of its free variables, the first outermost.
+#[tactic(auto, using(crate::proofs::Variables::closed_over_push))]
 pub fn closure(alloc: Global, formula: &Formula) -> Result<Formula, AllocError>
     ensures shape { IfOk result (λ closed. fol_of closed.shape ≡ closure_of (fol_of formula.now.shape)) }
     ensures names { IfOk result (λ closed. closed.names ≡ formula.now.names) }
@@ -27,8 +26,8 @@ pub fn closure(alloc: Global, formula: &Formula) -> Result<Formula, AllocError>
     Ok(Formula { shape, names })
 }
 
-#[tactic(auto, using(crate::proofs::Variables::free_once))]
 /// The free variables of a formula, each once, by first free occurrence.
+#[tactic(auto, using(crate::proofs::Variables::free_once))]
 pub fn free_vars(alloc: Global, formula: &Formula) -> Result<Vec<u64>, AllocError>
     ensures { IfOk result (λ variables. variables.items ≡ free_vars_of (fol_of formula.now.shape)) }
 {
@@ -38,8 +37,8 @@ pub fn free_vars(alloc: Global, formula: &Formula) -> Result<Vec<u64>, AllocErro
     found.iter().copied().collect(alloc)
 }
 
-#[tactic(auto, using(crate::proofs::Variables::joined_outside, crate::proofs::Variables::outside_push, crate::proofs::Variables::outside_none))]
 // Adds the free variables of a formula that aren't bound around it.
+#[tactic(auto, using(crate::proofs::Variables::joined_outside, crate::proofs::Variables::outside_push, crate::proofs::Variables::outside_none))]
 fn add_free(
     shape: &Shape,
     bound: &mut Vec<u64>,
@@ -69,8 +68,8 @@ fn add_free(
     }
 }
 
-#[tactic(auto, using(crate::proofs::Variables::variables_next, crate::proofs::Variables::variables_end, crate::proofs::Variables::outside_none, crate::proofs::Variables::joined_one))]
 // Adds the variables of a term that aren't bound around it.
+#[tactic(auto, using(crate::proofs::Variables::variables_next, crate::proofs::Variables::variables_end, crate::proofs::Variables::outside_none, crate::proofs::Variables::joined_one))]
 fn add_variables(term: &Term, bound: &[u64], found: &mut IndexSet<u64>) -> Result<(), AllocError>
     ensures { OnOk result (found.new.keys ≡ joined found.old.keys (outside bound.now (variables_of (tree_of term.now)))) }
 {
@@ -86,8 +85,8 @@ fn add_variables(term: &Term, bound: &[u64], found: &mut IndexSet<u64>) -> Resul
     }
 }
 
+// Adds the variables of terms that aren't bound around them.
 #[tactic(auto, using(crate::proofs::Variables::variables_next, crate::proofs::Variables::variables_end))]
-// The same of each of the terms.
 fn add_variables_of_all(
     terms: &Terms,
     bound: &[u64],

@@ -49,8 +49,8 @@ impl Model for Symbols {
 
 type Rows = IndexMap<(u64, u64), Kind>;
 
-#[tactic(auto, using(crate::proofs::Places::first_place_is_position))]
 // The place of a name, which is kept from now on.
+#[tactic(auto, using(crate::proofs::Places::first_place_is_position))]
 fn keep(names: &mut IndexSet<Vec<u8>>, name: &[u8]) -> Result<u64, AllocError>
     ensures place { IfOk result (λ n. place_of names.new.keys name.now ≡ Some n) }
     ensures places { KeepsPlaces names.old.keys names.new.keys }
@@ -94,15 +94,16 @@ impl Symbols {
         self.rows.len()
     }
 
-    #[tactic(auto, using(crate::proofs::SymbolLemmas::symbol_there, crate::proofs::SymbolLemmas::number_of_push, crate::proofs::Places::slice_get_last, crate::proofs::Places::slice_get_more))]
     /// The symbol of this name, arity and kind, a new last one where the name and arity aren't there. An error leaves the table
     /// as it was.
+    #[tactic(auto, using(crate::proofs::SymbolLemmas::symbol_there, crate::proofs::SymbolLemmas::number_of_push, crate::proofs::Places::slice_get_last, crate::proofs::Places::slice_get_more))]
     pub fn enter(&mut self, name: &[u8], arity: u64, kind: Kind) -> Result<Sym, Clash>
         ensures table { OnOk result (self.new ≡ entered self.old (symbol name.now arity kind)) }
         ensures number { IfOk result (λ s. number_of self.new name.now arity ≡ Some s.0) }
         ensures symbol { IfOk result (λ s. slice_get self.new s.0 ≡ Some (symbol name.now arity kind)) }
 
         ensures other_kind { (result ≡ Err Clash.OtherKind) ↔ IsTrue (is_clash self.old (symbol name.now arity kind)) }
+        ensures memory { result ≡ Err Clash.Memory → number_of self.old name.now arity ≡ None }
         ensures err { OnErr result (self.new ≡ self.old) }
 
         ensures numbers { KeepsNumbers self.old self.new }
@@ -122,8 +123,8 @@ impl Symbols {
         }
     }
 
-    #[tactic(auto, using(crate::proofs::Places::first_place_is_position, crate::proofs::SymbolLemmas::number_of_unnamed))]
     /// The symbol of this name and arity.
+    #[tactic(auto, using(crate::proofs::Places::first_place_is_position, crate::proofs::SymbolLemmas::number_of_unnamed))]
     pub fn find(&self, name: &[u8], arity: u64) -> Option<Sym>
         ensures number { option_map (λ s. s.0) result ≡ number_of self.now name.now arity }
         ensures within { IfSome result (λ s. s.0 < length self.now) }
@@ -161,8 +162,8 @@ impl Symbols {
         row_at(&self.rows, s).1
     }
 
-    #[tactic(auto, using(crate::proofs::SymbolLemmas::absent_before, crate::proofs::SymbolLemmas::symbols_more))]
     /// An equal table.
+    #[tactic(auto, using(crate::proofs::SymbolLemmas::absent_before, crate::proofs::SymbolLemmas::symbols_more))]
     pub fn copy(&self, alloc: Global) -> Result<Symbols, AllocError>
         ensures { IfOk result (λ copy. copy ≡ self.now) }
     {
@@ -174,8 +175,8 @@ impl Symbols {
         Ok(copy)
     }
 
-    #[tactic(auto, using(crate::proofs::SymbolLemmas::IsTable_kept, crate::proofs::SymbolLemmas::symbols_of_kept))]
     // A new last symbol, whose name and arity aren't there.
+    #[tactic(auto, using(crate::proofs::SymbolLemmas::IsTable_kept, crate::proofs::SymbolLemmas::symbols_of_kept))]
     fn append(&mut self, name: &[u8], arity: u64, kind: Kind) -> Result<Sym, AllocError>
         requires { number_of self.old name.now arity ≡ None }
         ensures number { IfOk result (λ s. s.0 ≡ length self.old) }
