@@ -1,0 +1,7 @@
+// The one public call of the program, and what it stands on.
+#![tactic(auto)]
+
+mod cursor;
+mod entry;
+mod fault;
+mod interpretation;
