@@ -3,5 +3,8 @@
 
 mod cursor;
 mod entry;
+mod env;
 mod fault;
 mod interpretation;
+mod tables;
+mod truth;

@@ -1,0 +1,27 @@
+-- Which variables have elements.
+use Rattle.std.specs.Prelude.{ℕ, suc, max, List, Option, None, unwrap_or}
+use Rattle.std.specs.List.{slice_index_or}
+use Rattle.fol_core.specs.Fol.{Fol, verum, falsum, equal, atom, denied, both, either, implies, iff, every, some}
+use Rattle.fol_core.specs.Truth.{Assignment}
+
+-- what the slot of a variable holds, None also where there is no slot
+abbrev pub slot : List (Option ℕ) → ℕ → Option ℕ
+slot slots x = slice_index_or slots x None
+
+-- the assignment that the slots give: a variable whose slot is empty or isn't there has 0
+abbrev pub assignment : List (Option ℕ) → Assignment
+assignment slots x = unwrap_or (slot slots x) 0
+
+-- how many slots the quantifiers of a formula need
+abbrev pub room_of : Fol → ℕ
+room_of verum = 0
+room_of falsum = 0
+room_of (equal s t) = 0
+room_of (atom r ts) = 0
+room_of (denied f) = room_of f
+room_of (both f g) = max (room_of f) (room_of g)
+room_of (either f g) = max (room_of f) (room_of g)
+room_of (implies f g) = max (room_of f) (room_of g)
+room_of (iff f g) = max (room_of f) (room_of g)
+room_of (every x f) = max (suc x) (room_of f)
+room_of (some x f) = max (suc x) (room_of f)
