@@ -1,3 +1,4 @@
 pub mod Places
+pub mod Printing
 pub mod Reading
 pub mod Slots

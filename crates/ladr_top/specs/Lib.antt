@@ -1,8 +1,14 @@
+pub mod ByName
 pub mod Entries
 pub mod Grammar
 pub mod LexemeCodes
+pub mod Outcome
+pub mod Output
+pub mod Problem
 pub mod Reading
 pub mod Tables
 pub mod TablesLaws
 pub mod Tests
 pub mod Variables
+pub mod Verdicts
+pub mod Words

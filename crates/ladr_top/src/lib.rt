@@ -1,10 +1,17 @@
 // The one public call of the program, and what it stands on.
 #![tactic(auto)]
 
+mod cause;
 mod cursor;
 mod entry;
 mod env;
 mod fault;
 mod interpretation;
+mod running;
 mod tables;
+mod text;
 mod truth;
+mod verdicts;
+
+pub use cause::{Cause, Exit, Limit, Place, Shown};
+pub use running::run;

@@ -1,0 +1,88 @@
+-- How a run of `clausetester` ends, and what it prints.
+use Rattle.std.specs.Prelude.{◌≡◌, ℕ, ◌<◌, ◌≤◌, Bool, true, false, Result, IsOkAnd, List, [], length, Option, codes}
+use Rattle.std.specs.Global.{Vec}
+use Rattle.std.specs.declared.alloc.AllocError.{AllocError}
+use Rattle.ladr_io.specs.Streams.{Gives, Takes, TakesFront, IsDrained, Rose}
+use Rattle.ladr_top.specs.Output.{report, read_fault_line, unreadable_line, too_large_line, no_command_line}
+use Rattle.ladr_top.specs.Problem.{Tested, IsProblem, meaning_in}
+use Rattle.ladr_top.specs.Verdicts.{AreTrueAsTold}
+use Rattle.ladr_top.specs.declared.cause.Cause.{Cause}
+use Rattle.ladr_top.specs.declared.cause.Cause.TheVariants.{Done, Words, Unreadable, TooLarge, ReadFault, WriteFault, Memory}
+use Rattle.ladr_top.specs.declared.cause.Place.{Place}
+use Rattle.ladr_top.specs.declared.cause.Shown.{Shown}
+use Rattle.ladr_top.specs.declared.cause.Shown.TheVariants as shown
+use Rattle.ladr_top.specs.declared.cause.Limit.{Limit}
+use Rattle.ladr_top.specs.declared.cause.Limit.TheVariants as limits
+
+-- the exit status of each cause
+abbrev pub status_of : Cause → ℕ
+status_of Done = 0
+status_of (Unreadable place) = 1
+status_of (TooLarge byte what) = 1
+status_of Words = 9
+status_of ReadFault = 10
+status_of WriteFault = 11
+status_of Memory = 12
+
+-- the most bytes that an input may have
+abbrev pub most_bytes : ℕ
+most_bytes = 16777216
+
+abbrev pub shown_text : Shown → List ℕ
+shown_text shown.Input = codes "input"
+
+abbrev pub limit_text : Limit → List ℕ
+limit_text limits.Input = codes "input"
+
+-- the place that every input of another form is refused at: its beginning
+abbrev pub beginning : Place
+beginning = record { byte = 0; line = 1; column = 1; token = shown.Input }
+
+-- what a source gave in a run, what is left of it, and its count of faults before and after
+pub record Given : Type 0 where
+  pub bytes : List ℕ
+  pub left : Option (List ℕ)
+  pub faults_before : ℕ
+  pub faults_after : ℕ
+
+-- all of the input was read, and it isn't too large
+abbrev pub IsRead : Given → Type 0
+IsRead g = IsDrained g.left × (length g.bytes ≤ most_bytes)
+
+-- What the source gave leads to this cause with this text as the whole output: of an input of today's form the truth of
+-- each formula; else the refusal.
+abbrev pub Ends : Given → Cause → List ℕ → Type 0
+Ends g Done text = IsRead g × ((p : Tested) × IsProblem g.bytes p × ((all : List Bool) × AreTrueAsTold (meaning_in p) p.formulas all × (text ≡ report all)))
+Ends g (Unreadable place) text = IsRead g × ((p : Tested) → ¬ IsProblem g.bytes p) × (place ≡ beginning) × (text ≡ unreadable_line 0 1 1 (codes "input"))
+Ends g (TooLarge byte what) text = (most_bytes < length g.bytes) × (byte ≡ most_bytes) × (what ≡ limits.Input) × (text ≡ too_large_line most_bytes (codes "input"))
+Ends g ReadFault text = Rose g.faults_before g.faults_after × (text ≡ read_fault_line)
+Ends g Words text = ⊥
+Ends g WriteFault text = ⊥
+Ends g Memory text = ⊥
+
+-- The sink took all of the output that the run ends with; a front of it, where a write failed; nothing, where memory was
+-- lacking.
+abbrev pub Printed : (Cause → List ℕ → Type 0) → Option (List ℕ) → Option (List ℕ) → Cause → Type 0
+Printed ends old new WriteFault = (cause : Cause) × ((text : List ℕ) × ends cause text × TakesFront old new text)
+Printed ends old new Memory = Takes old new []
+Printed ends old new cause = (text : List ℕ) × ends cause text × Takes old new text
+
+-- the causes that leave the output cut off
+abbrev pub is_cut : Cause → Bool
+is_cut WriteFault = true
+is_cut Memory = true
+is_cut cause = false
+
+-- this cause, with the text that memory sufficed for
+abbrev pub IsText : Result (Vec ℕ) AllocError → Cause → Cause → List ℕ → Type 0
+IsText made cause c text = (c ≡ cause) × IsOkAnd made (λ v. v.items ≡ text)
+
+-- a run for words that are no command
+abbrev pub Refuses : Cause → List ℕ → Type 0
+Refuses cause text = (cause ≡ Words) × (text ≡ no_command_line)
+
+-- a run of `clausetester`: what the source gave, and what came of it
+pub record Tests (left left' : Option (List ℕ)) (faults faults' : ℕ) (held held' : Option (List ℕ)) (cause : Cause) : Type 0 where
+  pub bytes : List ℕ
+  pub gave : Gives left left' bytes
+  pub printed : Printed (Ends (record { bytes = bytes; left = left'; faults_before = faults; faults_after = faults' })) held held' cause

@@ -1,0 +1,39 @@
+-- What is printed.
+use Rattle.std.specs.Prelude.{ℕ, ◌+◌, Bool, true, not, List, [], ◌∷◌, ◌++◌, count_by, if◌then◌else◌, codes}
+use Rattle.std.specs.Fmt.{decimal}
+
+-- a line of text with its end
+abbrev pub line : List ℕ → List ℕ
+line text = text ++ 10 ∷ []
+
+-- the line of formula k, and those of it and the later ones
+abbrev pub formula_line : ℕ → Bool → List ℕ
+formula_line k holds = line (codes "formula " ++ decimal k ++ (if holds then codes " true" else codes " false"))
+
+abbrev pub formula_lines : ℕ → List Bool → List ℕ
+formula_lines k [] = []
+formula_lines k (holds ∷ others) = formula_line k holds ++ formula_lines (k + 1) others
+
+-- how many formulas are true and how many false
+abbrev pub totals_line : List Bool → List ℕ
+totals_line all = line (codes "% True=" ++ decimal (count_by (λ b. b) all) ++ codes ". False=" ++ decimal (count_by not all) ++ codes ".")
+
+-- the whole output for formulas that are true or false as told
+abbrev pub report : List Bool → List ℕ
+report all = formula_lines 1 all ++ totals_line all ++ line (codes "% Exit tested.")
+
+-- the lines of the refusals
+abbrev pub no_command_line : List ℕ
+no_command_line = line (codes "ladr: no such command")
+
+abbrev pub read_fault_line : List ℕ
+read_fault_line = line (codes "ladr: read fault")
+
+-- what couldn't be read: the place of a byte, its line and column, and what stands there
+abbrev pub unreadable_line : ℕ → ℕ → ℕ → List ℕ → List ℕ
+unreadable_line byte row column token =
+    line (codes "ladr: unreadable at byte " ++ decimal byte ++ codes ", line " ++ decimal row ++ codes ", column " ++ decimal column ++ codes ": " ++ token)
+
+-- what was too large, and where
+abbrev pub too_large_line : ℕ → List ℕ → List ℕ
+too_large_line byte what = line (codes "ladr: too large at byte " ++ decimal byte ++ codes ": " ++ what)

@@ -1,0 +1,48 @@
+// Why a run ended.
+
+/// What stands at a place that is told: today an input is refused as a whole.
+#[derive(Clone, Copy, Debug, PartialEq, Eq)]
+pub enum Shown {
+    Input,
+}
+
+/// A place of the input: its byte, counted from 0, its line and column, counted from 1, and what stands there.
+#[derive(Clone, Copy, Debug, PartialEq, Eq)]
+pub struct Place {
+    pub byte: u64,
+    pub line: u64,
+    pub column: u64,
+    pub token: Shown,
+}
+
+/// What an input may be too large in.
+#[derive(Clone, Copy, Debug, PartialEq, Eq)]
+pub enum Limit {
+    Input,
+}
+
+/// Why a run ended.
+#[derive(Clone, Copy, Debug, PartialEq, Eq)]
+pub enum Cause {
+    /// What was asked is done.
+    Done,
+    /// The words are no command.
+    Words,
+    /// The input isn't of the form that is read.
+    Unreadable(Place),
+    /// A limit is passed.
+    TooLarge { byte: u64, what: Limit },
+    /// A read of the source failed.
+    ReadFault,
+    /// A write to the sink failed.
+    WriteFault,
+    /// Memory was lacking.
+    Memory,
+}
+
+/// The exit status of a run, and why it ended.
+#[derive(Clone, Copy, Debug, PartialEq, Eq)]
+pub struct Exit {
+    pub status: u8,
+    pub cause: Cause,
+}
