@@ -1,4 +1,5 @@
 pub mod Places
+pub mod Powers
 pub mod Printing
 pub mod Reading
 pub mod Slots

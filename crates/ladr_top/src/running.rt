@@ -110,6 +110,16 @@ fn status(cause: Cause) -> u8
     }
 }
 
+fn exit_by(cause: Cause) -> Exit
+    ensures status { result.status ≡ status_of cause }
+    ensures cause { result.cause ≡ cause }
+{
+    Exit {
+        status: status(cause),
+        cause,
+    }
+}
+
 /// All that the program does: reads the source, if the words are a command, and prints to the sink. `any` is any
 /// interpretation: what the clauses say of it holds for every one.
 pub fn run<I: Interpretation, S: Source, K: Sink, C: Clock>(
@@ -137,13 +147,8 @@ pub fn run<I: Interpretation, S: Source, K: Sink, C: Clock>(
     // The clock isn't asked.
     ensures clock { C.times clock.new ≡ C.times clock.old }
 {
-    let cause = if is_clausetester(words) {
-        clausetester(alloc, source, sink)
-    } else {
-        refuse(alloc, sink)
-    };
-    Exit {
-        status: status(cause),
-        cause,
+    if is_clausetester(words) {
+        return exit_by(clausetester(alloc, source, sink));
     }
+    exit_by(refuse(alloc, sink))
 }

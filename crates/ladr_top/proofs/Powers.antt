@@ -1,0 +1,10 @@
+-- Powers that are passed.
+use Rattle.std.proofs.Common.{◌≡◌, ℕ, suc, ◌+◌, ◌*◌, ◌^◌, ◌<◌, ◌≤◌, ◌==◌, false, sym, arith}
+use Rattle.std.proofs.Math.Nat.{pow-le-pow_right}
+use Rattle.std.proofs.lemmas.Bool.Decides.{nat_tests}
+
+-- what is less than a later power is no power of this many
+pub not_power : (len size arity i product : ℕ) → 1 ≤ size → i < arity → product ≡ size ^ i → len < product * size → false ≡ (len == size ^ arity)
+not_power len size arity i product one below e less =
+    let k : size ^ (i + 1) ≤ size ^ arity = pow-le-pow_right one (omega arith) in
+    ?
