@@ -1,5 +1,7 @@
+pub mod ItemLemmas
 pub mod Places
 pub mod Powers
 pub mod Printing
 pub mod Reading
 pub mod Slots
+pub mod ValuesFor

@@ -99,6 +99,12 @@ pub fn is_equality(token: Token) -> bool
     token.kind == TokenKind::Special && token.text == b"=".as_slice()
 }
 
+pub fn is_number(token: Token) -> bool
+    ensures { result ≡ is_number (lexeme_of token.entry) }
+{
+    token.kind == TokenKind::Ordinary && is_numeral(token.text)
+}
+
 // The bytes of a symbol of any sort.
 pub fn symbol<'a>(token: Token<'a>) -> Option<&'a [u8]>
     ensures { MatchOption result (is_symbol (lexeme_of token.entry) ≡ false) (λ text. (is_symbol (lexeme_of token.entry) ≡ true) × (text.now ≡ text_of (lexeme_of token.entry))) }

@@ -7,6 +7,7 @@ mod entry;
 mod env;
 mod fault;
 mod interpretation;
+mod items;
 mod named;
 mod running;
 mod tables;

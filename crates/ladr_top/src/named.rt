@@ -1,15 +1,16 @@
 // Interpretations by names.
 ghost use Rattle.std.specs.Prelude.{◌≡◌, ◌^◌, ◌==◌, ◌≤◌, nat_lt, not, is_some, [], false, Err, IfOk, IsTrue};
 ghost use Rattle.std.specs.List.{list_all};
-ghost use Rattle.fol_core.specs.SymbolTable.{number_of};
-ghost use Rattle.ladr_top.specs.ByName.{bound_of, is_filled, is_good, heads_of, are_new};
+ghost use Rattle.fol_core.specs.SymbolTable.{number_of, symbol, is_same_kind};
+ghost use Rattle.ladr_top.specs.ByName.{bound_of, is_filled, is_good, heads_of, are_new, values_for, tables_for};
 ghost use Rattle.ladr_top.specs.Entries.{table_of, tables_of};
 ghost use Rattle.ladr_top.specs.Grammar.{ByName};
 
 use crate::entry::Entry;
 use crate::fault::Fault;
-use fol_core::{Kind, Symbols};
-use std::alloc::Global;
+use crate::tables::{Row, Tables};
+use fol_core::{Kind, Sym, Symbols};
+use std::alloc::{AllocError, Global};
 
 /// An interpretation by names: how many elements, the entries, and the table of their symbols.
 #[derive(Drop)]
@@ -20,13 +21,13 @@ pub struct Named {
 }
 
 // Whether so many is the size to the power of the arity.
-fn is_power(len: usize, size: u32, arity: u64) -> bool
+fn is_power(len: usize, size: u64, arity: u64) -> bool
     requires { 1 ≤ size }
     ensures { result ≡ (len == size ^ arity) }
 {
     let mut product: u64 = 1;
     for _ in 0..arity {
-        let Some(next) = product.checked_mul(u64::from(size)) else {
+        let Some(next) = product.checked_mul(size) else {
             return false;
         };
         if next > len as u64 {
@@ -59,7 +60,7 @@ fn is_filled(size: u32, entry: &Entry) -> bool
     ensures { result ≡ is_filled size (table_of entry.now) }
 {
     let values = entry.values.as_slice();
-    is_power(values.len(), size, entry.arity) && are_below(values, bound(size, entry.kind))
+    is_power(values.len(), u64::from(size), entry.arity) && are_below(values, bound(size, entry.kind))
 }
 
 fn are_filled(size: u32, entries: &[Entry]) -> bool
@@ -113,4 +114,46 @@ pub fn checked(alloc: Global, size: u32, entries: Vec<Entry>) -> Result<Named, F
         entries,
         heads,
     })
+}
+
+fn is_same_kind(kind: Kind, other: Kind) -> bool
+    ensures { result ≡ is_same_kind kind other }
+{
+    match (kind, other) {
+        (Kind::Function, Kind::Function) => true,
+        (Kind::Relation, Kind::Relation) => true,
+        _ => false,
+    }
+}
+
+// The values of the entry for a symbol's name, arity and kind, none where there is no such entry.
+fn values_for<'a>(named: &'a Named, name: &[u8], arity: u64, kind: Kind) -> &'a [u32]
+    requires { named.now.heads ≡ heads_of (tables_of named.now.entries.items) }
+    ensures { result.now ≡ values_for (tables_of named.now.entries.items) (symbol name.now arity kind) }
+{
+    let Some(head) = named.heads.find(name, arity) else {
+        return &[];
+    };
+    if !is_same_kind(named.heads.kind(head), kind) {
+        return &[];
+    }
+    match named.entries.get(head.0 as usize) {
+        None => &[],
+        Some(entry) => entry.values.as_slice(),
+    }
+}
+
+/// The tables of the interpretation for these symbols: each has the values of the entry of its name, arity and kind.
+pub fn bind(alloc: Global, named: &Named, symbols: &Symbols) -> Result<Tables, AllocError>
+    requires size { 1 ≤ named.now.size }
+    requires heads { named.now.heads ≡ heads_of (tables_of named.now.entries.items) }
+    ensures { IfOk result (λ t. t ≡ tables_for (record { size = named.now.size; entries = tables_of named.now.entries.items }) symbols.now) }
+{
+    let mut rows = Vec::new(alloc);
+    for number in 0..symbols.len() {
+        let symbol = Sym(number as u64);
+        let values = values_for(named, symbols.name(symbol), symbols.arity(symbol), symbols.kind(symbol));
+        rows.push(Row::new(Vec::from_slice(alloc, values)?))?;
+    }
+    Ok(Tables::new(named.size - 1, rows))
 }

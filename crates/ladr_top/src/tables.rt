@@ -1,6 +1,7 @@
 // Finite interpretations given by tables.
-ghost use Rattle.std.specs.Prelude.{◌≡◌, ℕ, ◌+◌, ◌*◌, ◌≤◌, ◌<◌, List, slice_index};
-ghost use Rattle.ladr_top.specs.Tables.{row_of, has, place_from, element, meaning_of};
+ghost use Rattle.std.specs.Prelude.{◌≡◌, ◌+◌, ◌==◌, not, length};
+ghost use Rattle.std.specs.List.{list_all};
+ghost use Rattle.ladr_top.specs.Tables.{row_of, has, element, meaning_of};
 
 use fol_core::{Interpretation, Sym};
 use std::marker::Model;
@@ -30,6 +31,12 @@ impl Row {
         ensures { result.now ≡ self.now }
     {
         self.values.as_slice()
+    }
+
+    pub fn is_empty(&self) -> bool
+        ensures { result ≡ (length self.now == 0) }
+    {
+        self.values.is_empty()
     }
 }
 
@@ -84,6 +91,13 @@ impl Tables {
             None => &[],
             Some(row) => row.values(),
         }
+    }
+
+    /// Whether each symbol that there is a row for has an entry.
+    pub fn is_whole(&self) -> bool
+        ensures { result ≡ list_all (λ row. not (length row == 0)) self.now.rows }
+    {
+        self.rows.iter().all(|row| !row.is_empty())
     }
 
     /// Whether a symbol has an entry.

@@ -1,0 +1,42 @@
+-- The first item of a list of tokens.
+use Rattle.std.proofs.Common.{◌≡◌, ℕ, zero, suc, ◌+◌, ◌<◌, Bool, true, false, ◌||◌, cond, List, [], ◌∷◌, length, get_or, take, drop, refl, ap, ◌∙◌, arith}
+use Rattle.std.specs.List.{list_any}
+use Rattle.ladr_lex.specs.Lexeme.{Lexeme, lexeme_of, lexemes_of}
+use Rattle.ladr_lex.specs.declared.token.Token.{Token}
+use Rattle.ladr_top.specs.Items.{items_of, in_front}
+use Rattle.ladr_top.specs.Tests.{is_stop}
+
+or_false : (a b : Bool) → (a || b) ≡ false → (a ≡ false) × (b ≡ false)
+or_false true b e = absurd cc
+or_false false b e = (refl, e)
+
+passed : (b : Bool) (x y : List (List Lexeme)) → b ≡ false → cond b x y ≡ y
+passed b x y e = rw e refl
+
+-- up to the first full stop
+pub first_item : (ts : List Token) (i : ℕ) (d : Token) → list_any is_stop (lexemes_of (take i ts)) ≡ false → i < length ts → is_stop (lexeme_of (get_or ts i d)) ≡ true
+    → items_of (lexemes_of ts) ≡ lexemes_of (take (i + 1) ts) ∷ items_of (lexemes_of (drop (i + 1) ts))
+first_item [] i d none h stop = absurd (omega arith)
+first_item (t ∷ ts) zero d none h stop = rw stop refl
+first_item (t ∷ ts) (suc i) d none h stop =
+    let parts = or_false (is_stop (lexeme_of t)) (list_any is_stop (lexemes_of (take i ts))) none in
+    let l : i < length ts = omega arith in
+    let n : suc i + 1 ≡ suc (i + 1) = omega arith in
+    passed (is_stop (lexeme_of t)) _ _ parts.0 ∙ rw n (ap (in_front (lexeme_of t)) (first_item ts i d parts.1 l stop))
+
+-- all of them, where there is none
+pub whole_item : (ts : List Token) → list_any is_stop (lexemes_of ts) ≡ false → 0 < length ts → items_of (lexemes_of ts) ≡ lexemes_of ts ∷ []
+whole_item [] none h = absurd (omega arith)
+whole_item (t ∷ []) none h = let parts = or_false (is_stop (lexeme_of t)) false none in passed (is_stop (lexeme_of t)) _ _ parts.0
+whole_item (t ∷ u ∷ ts) none h =
+    let parts = or_false (is_stop (lexeme_of t)) (list_any is_stop (lexemes_of (u ∷ ts))) none in
+    passed (is_stop (lexeme_of t)) _ _ parts.0 ∙ ap (in_front (lexeme_of t)) (whole_item (u ∷ ts) parts.1 (omega arith))
+
+pub no_stop_more : (ts : List Token) (i : ℕ) (d : Token) → list_any is_stop (lexemes_of (take i ts)) ≡ false → i < length ts → is_stop (lexeme_of (get_or ts i d)) ≡ false → list_any is_stop (lexemes_of (take (i + 1) ts)) ≡ false
+no_stop_more [] i d none h s = absurd (omega arith)
+no_stop_more (t ∷ ts) zero d none h s = rw s refl
+no_stop_more (t ∷ ts) (suc i) d none h s =
+    let parts = or_false (is_stop (lexeme_of t)) (list_any is_stop (lexemes_of (take i ts))) none in
+    let l : i < length ts = omega arith in
+    let n : suc i + 1 ≡ suc (i + 1) = omega arith in
+    rw (n, parts.0) (no_stop_more ts i d parts.1 l s)

@@ -1,0 +1,112 @@
+// Items of the input.
+ghost use Rattle.std.specs.Prelude.{◌≡◌, ◌∷◌, ◌<◌, ◌≤◌, take, drop, length};
+ghost use Rattle.std.specs.List.{list_all};
+ghost use Rattle.ladr_lex.specs.Lexeme.{lexeme_of, lexemes_of};
+ghost use Rattle.ladr_top.specs.Items.{items_of};
+ghost use Rattle.ladr_top.specs.Problem.{is_plain, is_in_formula, is_opening, is_closing};
+
+use crate::cursor::{Cursor, is_close, is_open, is_stop, is_number, is_word};
+use ladr_lex::{Token, TokenKind};
+
+/// How many tokens the first item has: those up to the first full stop, or all.
+pub fn item_len(tokens: &[Token]) -> usize
+    requires { 0 < length tokens.now }
+    ensures some { 0 < result }
+    ensures within { result ≤ length tokens.now }
+    ensures item { items_of (lexemes_of tokens.now) ≡ lexemes_of (take result tokens.now) ∷ items_of (lexemes_of (drop result tokens.now)) }
+{
+    for (i, token) in tokens.iter().enumerate() {
+        if is_stop(*token) {
+            return i + 1;
+        }
+    }
+    tokens.len()
+}
+
+// Whether a token is punctuation, an ordinary symbol, `=` or `!=`.
+fn is_plain(token: Token) -> bool
+    ensures { result ≡ is_plain (lexeme_of token.entry) }
+{
+    match token.kind {
+        TokenKind::Other => false,
+        TokenKind::Special => token.text == b"=".as_slice() || token.text == b"!=".as_slice(),
+        _ => true,
+    }
+}
+
+/// Whether all tokens are punctuation, ordinary symbols, `=` and `!=`.
+pub fn are_plain(tokens: &[Token]) -> bool
+    ensures { result ≡ list_all is_plain (lexemes_of tokens.now) }
+{
+    for token in tokens {
+        if !is_plain(*token) {
+            return false;
+        }
+    }
+    true
+}
+
+// Whether a token is no numeral and not `v`.
+fn is_in_formula(token: Token) -> bool
+    ensures { result ≡ is_in_formula (lexeme_of token.entry) }
+{
+    !is_number(token) && !is_word(token, b"v")
+}
+
+/// Whether the tokens of a formula are no numerals and not `v`.
+pub fn are_in_formula(tokens: &[Token]) -> bool
+    ensures { result ≡ list_all is_in_formula (lexemes_of tokens.now) }
+{
+    for token in tokens {
+        if !is_in_formula(*token) {
+            return false;
+        }
+    }
+    true
+}
+
+/// Whether an item is `formulas(assumptions).`
+pub fn is_opening(tokens: &[Token]) -> bool
+    ensures { result ≡ is_opening (lexemes_of tokens.now) }
+{
+    let mut cursor = Cursor::new(tokens);
+    let Some(word) = cursor.next() else {
+        return false;
+    };
+    let Some(open) = cursor.next() else {
+        return false;
+    };
+    let Some(name) = cursor.next() else {
+        return false;
+    };
+    let Some(close) = cursor.next() else {
+        return false;
+    };
+    let Some(stop) = cursor.next() else {
+        return false;
+    };
+    if cursor.next().is_some() {
+        return false;
+    }
+    if !is_word(word, b"formulas") || !is_open(open) || !is_word(name, b"assumptions") {
+        return false;
+    }
+    is_close(close) && is_stop(stop)
+}
+
+/// Whether an item is `end_of_list.`
+pub fn is_closing(tokens: &[Token]) -> bool
+    ensures { result ≡ is_closing (lexemes_of tokens.now) }
+{
+    let mut cursor = Cursor::new(tokens);
+    let Some(word) = cursor.next() else {
+        return false;
+    };
+    let Some(stop) = cursor.next() else {
+        return false;
+    };
+    if cursor.next().is_some() {
+        return false;
+    }
+    is_word(word, b"end_of_list") && is_stop(stop)
+}
