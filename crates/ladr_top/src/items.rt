@@ -1,5 +1,5 @@
 // Items of the input.
-ghost use Rattle.std.specs.Prelude.{◌≡◌, ◌∷◌, ◌<◌, ◌≤◌, take, drop, length};
+ghost use Rattle.std.specs.Prelude.{◌≡◌, ◌∷◌, ◌<◌, ◌≤◌, take, drop, length, slice_range};
 ghost use Rattle.std.specs.List.{list_all};
 ghost use Rattle.ladr_lex.specs.Lexeme.{lexeme_of, lexemes_of};
 ghost use Rattle.ladr_top.specs.Items.{items_of};
@@ -8,8 +8,8 @@ ghost use Rattle.ladr_top.specs.Problem.{is_plain, is_in_formula, is_opening, is
 use crate::cursor::{Cursor, is_close, is_open, is_stop, is_number, is_word};
 use ladr_lex::{Token, TokenKind};
 
-/// How many tokens the first item has: those up to the first full stop, or all.
-pub fn item_len(tokens: &[Token]) -> usize
+// How many tokens the first item has: those up to the first full stop, or all.
+fn item_len(tokens: &[Token]) -> usize
     requires { 0 < length tokens.now }
     ensures some { 0 < result }
     ensures within { result ≤ length tokens.now }
@@ -21,6 +21,16 @@ pub fn item_len(tokens: &[Token]) -> usize
         }
     }
     tokens.len()
+}
+
+/// Where the item that begins at a place ends.
+pub fn item_end(tokens: &[Token], at: usize) -> usize
+    requires { at < length tokens.now }
+    ensures some { at < result }
+    ensures within { result ≤ length tokens.now }
+    ensures item { items_of (lexemes_of (drop at tokens.now)) ≡ lexemes_of (slice_range tokens.now at result) ∷ items_of (lexemes_of (drop result tokens.now)) }
+{
+    at + item_len(&tokens[at..])
 }
 
 // Whether a token is punctuation, an ordinary symbol, `=` or `!=`.

@@ -1,0 +1,88 @@
+-- How the items of a list go on.
+use Rattle.std.proofs.Common.{◌≡◌, ◌≤◌, ◌<◌, ℕ, arith, Bool, true, false, List, [], ◌∷◌, ◌++◌, refl, ap, sym, subst, ◌∙◌, MatchBool}
+use Rattle.fol_core.specs.Fol.{Fol}
+use Rattle.fol_core.specs.RawTree.{RawTree}
+use Rattle.fol_core.specs.SymbolTable.{Symbol}
+use Rattle.ladr_lex.specs.Lexeme.{Lexeme, full_stop}
+use Rattle.ladr_lex.specs.Operators.{first_rows}
+use Rattle.ladr_reader.proofs.Complete.{reads_one}
+use Rattle.ladr_reader.specs.Reads.{Reads, Item}
+use Rattle.ladr_reader.specs.Table.{Table, table_of}
+use Rattle.ladr_top.specs.Problem.{Tested, IsFormula, GoesOn, Ends, is_closing, style}
+use Rattle.ladr_reader.specs.Formulas.{formula_reading, is_sound}
+use Rattle.ladr_reader.specs.Nesting.{nesting}
+
+push_inj : {X : Type 0} (xs ys : List X) (x : X) → xs ++ x ∷ [] ≡ ys ++ x ∷ [] → xs ≡ ys
+push_inj [] [] x e = refl
+push_inj [] (y ∷ []) x e = absurd cc
+push_inj [] (y ∷ z ∷ ys) x e = absurd cc
+push_inj (w ∷ []) [] x e = absurd cc
+push_inj (w ∷ z ∷ ws) [] x e = absurd cc
+push_inj {X} (w ∷ ws) (y ∷ ys) x e = let h : w ≡ y = cc in let t : ws ++ x ∷ [] ≡ ys ++ x ∷ [] = cc in let k = push_inj ws ys x t in cc
+
+-- an item has one tree
+pub one_item : (g : Table) (item : List Lexeme) (t u : RawTree) → Item g item t → Item g item u → t ≡ u
+one_item g item t u p q =
+    let same : p.tokens ≡ q.tokens = push_inj p.tokens q.tokens full_stop (sym p.stops ∙ q.stops) in
+    let r : Reads g q.tokens t p.precedence = subst (λ (ts : List Lexeme). Reads g ts t p.precedence) same p.reads in
+    (reads_one g q.tokens t u p.precedence q.precedence r q.reads).0
+
+-- and is one formula, with one table behind it
+pub one_formula : (table : List Symbol) (item : List Lexeme) (f h : Fol) (after later : List Symbol) → IsFormula table item f after → IsFormula table item h later → (f ≡ h) × (after ≡ later)
+one_formula table item f h after later p q =
+    let same = one_item (table_of first_rows) item p.tree q.tree p.spells q.spells in
+    (p.formula ∙ ap (λ (t : RawTree). (formula_reading style table t).tree) same ∙ sym q.formula,
+    p.symbols ∙ ap (λ (t : RawTree). (formula_reading style table t).reading.symbols) same ∙ sym q.symbols)
+
+at_false : (P Q : Type 0) (b : Bool) → b ≡ false → Q → MatchBool b P Q
+at_false P Q true e q = absurd cc
+at_false P Q false e q = q
+
+from_false : (P Q : Type 0) (b : Bool) → b ≡ false → MatchBool b P Q → Q
+from_false P Q true e q = absurd cc
+from_false P Q false e q = q
+
+at_true : (P Q : Type 0) (b : Bool) → b ≡ true → P → MatchBool b P Q
+at_true P Q true e p = p
+at_true P Q false e p = absurd cc
+
+from_true : (P Q : Type 0) (b : Bool) → b ≡ true → MatchBool b P Q → P
+from_true P Q true e p = p
+from_true P Q false e p = absurd cc
+
+-- behind a formula
+pub goes_there : (table : List Symbol) (fs : List Fol) (item : List Lexeme) (items : List (List Lexeme)) (f : Fol) (after : List Symbol) (p : Tested) → is_closing item ≡ false → IsFormula table item f after
+    → GoesOn after (fs ++ f ∷ []) items p → GoesOn table fs (item ∷ items) p
+goes_there table fs item items f after p going is rest = at_false _ _ (is_closing item) going (f, (after, is, rest))
+
+pub goes_only : (table : List Symbol) (fs : List Fol) (item : List Lexeme) (items : List (List Lexeme)) (f : Fol) (after : List Symbol) (p : Tested) → is_closing item ≡ false → IsFormula table item f after
+    → GoesOn table fs (item ∷ items) p → GoesOn after (fs ++ f ∷ []) items p
+goes_only table fs item items f after p going is whole =
+    let w = from_false _ _ (is_closing item) going whole in
+    let same = one_formula table item w.0 f w.1.0 after w.1.1 is in
+    subst (λ (g : Fol). GoesOn after (fs ++ g ∷ []) items p) same.0 (subst (λ (later : List Symbol). GoesOn later (fs ++ w.0 ∷ []) items p) same.1 w.1.2)
+
+-- an item that is no formula
+pub goes_not : (table : List Symbol) (fs : List Fol) (item : List Lexeme) (items : List (List Lexeme)) (p : Tested) → is_closing item ≡ false → ((f : Fol) (after : List Symbol) → IsFormula table item f after → ⊥)
+    → GoesOn table fs (item ∷ items) p → ⊥
+goes_not table fs item items p going none whole = let w = from_false _ _ (is_closing item) going whole in none w.0 w.1.0 w.1.1
+
+-- at the end of the list
+pub ends_there : (table : List Symbol) (fs : List Fol) (item : List Lexeme) (items : List (List Lexeme)) (p : Tested) → is_closing item ≡ true → Ends table fs items p → GoesOn table fs (item ∷ items) p
+ends_there table fs item items p closed e = at_true _ _ (is_closing item) closed e
+
+pub ends_only : (table : List Symbol) (fs : List Fol) (item : List Lexeme) (items : List (List Lexeme)) (p : Tested) → is_closing item ≡ true → GoesOn table fs (item ∷ items) p → Ends table fs items p
+ends_only table fs item items p closed e = from_true _ _ (is_closing item) closed e
+
+-- a tree that is misused or too large is no formula
+pub no_formula : (table : List Symbol) (item : List Lexeme) (t : RawTree) → Item (table_of first_rows) item t → is_sound (formula_reading style table t).reading ≡ false → (f : Fol) (after : List Symbol) → IsFormula table item f after → ⊥
+no_formula table item t spells unsound f after is =
+    let same = one_item (table_of first_rows) item is.tree t is.spells spells in
+    let sound : is_sound (formula_reading style table t).reading ≡ true = subst (λ (u : RawTree). is_sound (formula_reading style table u).reading ≡ true) same is.sound in
+    cc
+
+pub deep_formula : (table : List Symbol) (item : List Lexeme) (t : RawTree) → Item (table_of first_rows) item t → 500 < nesting item t → (f : Fol) (after : List Symbol) → IsFormula table item f after → ⊥
+deep_formula table item t spells deep f after is =
+    let same = one_item (table_of first_rows) item is.tree t is.spells spells in
+    let shallow : nesting item t ≤ 500 = subst (λ (u : RawTree). nesting item u ≤ 500) same is.shallow in
+    omega arith

@@ -1,0 +1,20 @@
+use Rattle.std.proofs.Common.{List, subst, refl}
+use Rattle.fol_core.specs.RawTree.{RawTree}
+use Rattle.ladr_lex.specs.Lexeme.{lexemes_of}
+use Rattle.ladr_reader.specs.Reads.{Item}
+use Rattle.ladr_reader.specs.Table.{table_of}
+use Rattle.ladr_top.proofs.ProblemLemmas.{no_formula, deep_formula}
+use Rattle.ladr_top.proofs.problem.formula.Goals as goal
+
+pub returns-in-Ok-clause-bad : goal.returns-in-Ok-clause-bad
+returns-in-Ok-clause-bad c = λ e f after is.
+    no_formula _ _ _ (rw c.requires at c.in-Ok.ensures.read) (c.formula_of.ensures.bad e) f after is
+
+pub returns-in-Err-Bad-clause-bad : goal.returns-in-Err-Bad-clause-bad
+returns-in-Err-Bad-clause-bad c = λ e f after is.
+    (rw (c.requires, c.in-Err-Bad.field-0-is) at c.in-Err-Bad.ensures.fault) is.tree is.spells
+
+pub returns-in-Err-Deep-clause-bad : goal.returns-in-Err-Deep-clause-bad
+returns-in-Err-Deep-clause-bad c = λ e f after is.
+    let deep = rw (c.requires, c.in-Err-Deep.field-0-is) at c.in-Err-Deep.ensures.fault in
+    deep_formula _ _ deep.0 deep.1 deep.2 f after is
