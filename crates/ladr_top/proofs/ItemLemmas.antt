@@ -1,9 +1,12 @@
 -- The first item of a list of tokens.
-use Rattle.std.proofs.Common.{◌≡◌, ℕ, zero, suc, ◌+◌, ◌<◌, Bool, true, false, ◌||◌, cond, List, [], ◌∷◌, length, get_or, take, drop, refl, ap, ◌∙◌, arith}
+use Rattle.std.proofs.Common.{◌≡◌, ℕ, zero, suc, ◌+◌, ◌<◌, Bool, true, false, ◌||◌, cond, List, [], ◌∷◌, length, get_or, take, drop, length-drop, refl, ap, ◌∙◌, arith}
 use Rattle.std.specs.List.{list_any}
+use Rattle.fol_core.specs.Fol.{Fol}
+use Rattle.fol_core.specs.SymbolTable.{Symbol}
 use Rattle.ladr_lex.specs.Lexeme.{Lexeme, lexeme_of, lexemes_of}
 use Rattle.ladr_lex.specs.declared.token.Token.{Token}
 use Rattle.ladr_top.specs.Items.{items_of, in_front}
+use Rattle.ladr_top.specs.Problem.{Tested, Ends}
 use Rattle.ladr_top.specs.Tests.{is_stop}
 
 or_false : (a b : Bool) → (a || b) ≡ false → (a ≡ false) × (b ≡ false)
@@ -40,3 +43,24 @@ no_stop_more (t ∷ ts) (suc i) d none h s =
     let l : i < length ts = omega arith in
     let n : suc i + 1 ≡ suc (i + 1) = omega arith in
     rw (n, parts.0) (no_stop_more ts i d parts.1 l s)
+
+in_front_some : (t : Lexeme) (items : List (List Lexeme)) → (i : List Lexeme) × ((is : List (List Lexeme)) × (in_front t items ≡ i ∷ is))
+in_front_some t [] = (t ∷ [], ([], refl))
+in_front_some t (i ∷ is) = (t ∷ i, (is, refl))
+
+cond_some : (b : Bool) (x y : List (List Lexeme)) → (i : List Lexeme) × ((is : List (List Lexeme)) × (x ≡ i ∷ is)) → (i : List Lexeme) × ((is : List (List Lexeme)) × (y ≡ i ∷ is)) → (i : List Lexeme) × ((is : List (List Lexeme)) × (cond b x y ≡ i ∷ is))
+cond_some true x y h k = h
+cond_some false x y h k = k
+
+-- tokens have an item
+pub some_item : (ts : List Token) → 0 < length ts → (i : List Lexeme) × ((is : List (List Lexeme)) × (items_of (lexemes_of ts) ≡ i ∷ is))
+some_item [] h = absurd (omega arith)
+some_item (t ∷ ts) h = cond_some (is_stop (lexeme_of t)) _ _ (lexeme_of t ∷ [], (items_of (lexemes_of ts), refl)) (in_front_some (lexeme_of t) (items_of (lexemes_of ts)))
+
+-- where further tokens follow the first item, it isn't the last one
+pub two_items : (ts : List Token) (item : List Lexeme) (end : ℕ) → items_of (lexemes_of ts) ≡ item ∷ items_of (lexemes_of (drop end ts)) → end < length ts
+    → (table : List Symbol) (fs : List Fol) (p : Tested) → Ends table fs (items_of (lexemes_of ts)) p → ⊥
+two_items ts item end e h table fs p whole =
+    let l : 0 < length (drop end ts) = omega (arith, length-drop end ts) in
+    let more = some_item (drop end ts) l in
+    rw (e, more.1.1) at whole

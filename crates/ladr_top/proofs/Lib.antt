@@ -5,4 +5,5 @@ pub mod Printing
 pub mod ProblemLemmas
 pub mod Reading
 pub mod Slots
+pub mod Told
 pub mod ValuesFor

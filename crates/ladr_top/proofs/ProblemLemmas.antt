@@ -1,14 +1,20 @@
 -- How the items of a list go on.
-use Rattle.std.proofs.Common.{◌≡◌, ◌≤◌, ◌<◌, ℕ, arith, Bool, true, false, List, [], ◌∷◌, ◌++◌, refl, ap, sym, subst, ◌∙◌, MatchBool}
+use Rattle.std.proofs.Common.{◌≡◌, ◌≤◌, ◌<◌, ℕ, arith, Bool, true, false, ◌&&◌, map, List, [], ◌∷◌, ◌++◌, refl, ap, sym, subst, ◌∙◌, MatchBool}
 use Rattle.fol_core.specs.Fol.{Fol}
 use Rattle.fol_core.specs.RawTree.{RawTree}
 use Rattle.fol_core.specs.SymbolTable.{Symbol}
-use Rattle.ladr_lex.specs.Lexeme.{Lexeme, full_stop}
+use Rattle.std.specs.List.{list_all}
+use Rattle.std.specs.Bool.{IsTrue}
+use Rattle.ladr_lex.proofs.Unique.{cut_once}
+use Rattle.ladr_lex.specs.Cuts.{Piece, Cuts, pieces_of}
+use Rattle.ladr_lex.specs.Lexeme.{Lexeme, lexeme_of, lexemes_of, full_stop}
+use Rattle.ladr_lex.specs.declared.token.Token.{Token}
 use Rattle.ladr_lex.specs.Operators.{first_rows}
 use Rattle.ladr_reader.proofs.Complete.{reads_one}
 use Rattle.ladr_reader.specs.Reads.{Reads, Item}
 use Rattle.ladr_reader.specs.Table.{Table, table_of}
-use Rattle.ladr_top.specs.Problem.{Tested, IsFormula, GoesOn, Ends, is_closing, style}
+use Rattle.ladr_top.specs.Problem.{Tested, IsProblem, IsFormula, Begins, GoesOn, Ends, is_plain, is_closing, lexemes, style}
+use Rattle.ladr_top.specs.Items.{items_of}
 use Rattle.ladr_reader.specs.Formulas.{formula_reading, is_sound}
 use Rattle.ladr_reader.specs.Nesting.{nesting}
 
@@ -86,3 +92,23 @@ deep_formula table item t spells deep f after is =
     let same = one_item (table_of first_rows) item is.tree t is.spells spells in
     let shallow : nesting item t ≤ 500 = subst (λ (u : RawTree). nesting item u ≤ 500) same is.shallow in
     omega arith
+
+-- the tokens of the code stand for themselves
+pub lexemes-pieces_of : (ts : List Token) → lexemes (pieces_of ts) ≡ lexemes_of ts
+lexemes-pieces_of [] = refl
+lexemes-pieces_of (t ∷ ts) = ap (λ (ls : List Lexeme). lexeme_of t ∷ ls) (lexemes-pieces_of ts)
+
+-- what the bytes say is what their tokens say
+pub said : (bytes : List ℕ) (ts : List Token) (p : Tested) → Cuts 0 bytes (pieces_of ts) → IsProblem bytes p → IsTrue (list_all is_plain (lexemes_of ts)) × Begins (items_of (lexemes_of ts)) p
+said bytes ts p cut is =
+    let same : lexemes is.tokens ≡ lexemes_of ts = ap lexemes (cut_once 0 bytes is.tokens (pieces_of ts) is.cut cut) ∙ lexemes-pieces_of ts in
+    (subst (λ (ls : List Lexeme). IsTrue (list_all is_plain ls)) same is.plain, subst (λ (ls : List Lexeme). Begins (items_of ls) p) same is.says)
+
+pub says : (bytes : List ℕ) (ts : List Token) (p : Tested) → Cuts 0 bytes (pieces_of ts) → IsTrue (list_all is_plain (lexemes_of ts)) → Begins (items_of (lexemes_of ts)) p → IsProblem bytes p
+says bytes ts p cut plain begins =
+    let same = sym (lexemes-pieces_of ts) in
+    record { tokens = pieces_of ts; cut = cut; plain = subst (λ (ls : List Lexeme). IsTrue (list_all is_plain ls)) same plain; says = subst (λ (ls : List Lexeme). Begins (items_of ls) p) same begins }
+
+pub list_all-map : {X Y : Type 0} (q : Y → Bool) (f : X → Y) (xs : List X) → list_all q (map f xs) ≡ list_all (λ x. q (f x)) xs
+list_all-map q f [] = refl
+list_all-map q f (x ∷ xs) = ap (λ (b : Bool). q (f x) && b) (list_all-map q f xs)

@@ -25,6 +25,9 @@ pub record Tested : Type 0 where
   pub formulas : List Fol
   pub by_name : ByName
 
+abbrev pub tested : List Symbol → List Fol → ByName → Tested
+tested symbols formulas by_name = record { symbols = symbols; formulas = formulas; by_name = by_name }
+
 -- the interpretation, by its tables for the symbols
 abbrev pub meaning_in : Tested → Meaning
 meaning_in p = meaning_of (tables_for p.by_name p.symbols)

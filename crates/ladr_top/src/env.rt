@@ -1,7 +1,5 @@
 // Elements for variables.
-ghost use Rattle.std.specs.Prelude.{◌≡◌, ◌+◌, ◌<◌, ◌≤◌, ◌++◌, [], Some, None, length, slice_index, slice_set, OnOk, OnErr, replicate};
-ghost use Rattle.std.specs.List.{slice_get};
-ghost use Rattle.std.specs.Option.{option_and_then};
+ghost use Rattle.std.specs.Prelude.{◌≡◌, ◌<◌, None, length, slice_set, IfOk, replicate};
 ghost use Rattle.ladr_top.specs.Variables.{slot};
 
 use std::alloc::{AllocError, Global};
@@ -22,23 +20,13 @@ impl Model for Env {
 }
 
 impl Env {
-    /// Elements for no variables.
-    pub fn new(alloc: Global) -> Env
-        ensures { result ≡ [] }
+    /// Room for the variables below `room`, none of which has an element.
+    pub fn with_room(alloc: Global, room: usize) -> Result<Env, AllocError>
+        ensures { IfOk result (λ env. env ≡ replicate room None) }
     {
-        Env {
-            slots: Vec::new(alloc),
-        }
-    }
-
-    /// Makes room for the variables below `room`.
-    pub fn reserve(&mut self, room: usize) -> Result<(), AllocError>
-        ensures room { OnOk result (room ≤ length self.new) }
-    {
-        while self.slots.len() < room {
-            self.slots.push(None)?;
-        }
-        Ok(())
+        Ok(Env {
+            slots: vec![in alloc; None; room]?,
+        })
     }
 
     /// The element of a variable, if it is set.

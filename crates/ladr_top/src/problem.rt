@@ -1,5 +1,6 @@
 // The problem that an input states.
 ghost use Rattle.std.specs.Prelude.{◌≡◌, ◌≤◌, ◌<◌, ◌^◌, IfOk, Err, List, [], drop, length, IsTrue};
+ghost use Rattle.std.specs.List.{list_all};
 ghost use Rattle.fol_core.specs.Fol.{Fol};
 ghost use Rattle.fol_core.specs.FormulaView.{fol_of};
 ghost use Rattle.fol_core.specs.SymbolTable.{Symbol};
@@ -7,13 +8,18 @@ ghost use Rattle.ladr_lex.specs.Lexeme.{lexemes_of};
 ghost use Rattle.ladr_lex.specs.Operators.{first_rows};
 ghost use Rattle.ladr_top.specs.Inputs.{fols_of};
 ghost use Rattle.ladr_top.specs.Items.{items_of};
-ghost use Rattle.ladr_top.specs.Problem.{Tested, IsFormula, GoesOn, Ends};
+ghost use Rattle.ladr_top.specs.Problem.{Tested, tested, IsFormula, IsProblem, Begins, GoesOn, Ends, is_plain};
+ghost use Rattle.ladr_top.specs.ByName.{is_good, covers, heads_of, tables_for};
+ghost use Rattle.ladr_top.specs.Entries.{tables_of, by_name_of};
 
 use crate::fault::Fault;
 use crate::formula_stub::formula_of;
-use crate::items::{are_in_formula, is_closing, item_end};
+use crate::interpretation::read_by_name;
+use crate::items::{are_in_formula, are_plain, is_closing, is_opening, item_end};
+use crate::named::{Named, bind, checked};
+use crate::tables::Tables;
 use fol_core::{Formula, Input, Problem, Role, Symbols};
-use ladr_lex::{Ops, Token};
+use ladr_lex::{Ops, Token, tokens};
 use ladr_reader::{TermFault, read_term};
 use std::alloc::Global;
 
@@ -63,4 +69,84 @@ fn formulas(alloc: Global, ops: &Ops, tokens: &[Token]) -> Result<(Problem, usiz
         })?;
     }
     Err(Fault::Bad)
+}
+
+// The interpretation that all the tokens are.
+fn last(alloc: Global, tokens: &[Token]) -> Result<Named, Fault>
+    requires { length tokens.now < 2 ^ 63 }
+    ensures good { IfOk result (λ n. IsTrue (is_good (by_name_of n))) }
+    ensures heads { IfOk result (λ n. n.heads ≡ heads_of (tables_of n.entries.items)) }
+    ensures there { IfOk result (λ n. (table : List Symbol) (fs : List Fol) → IsTrue (covers (by_name_of n) table) → Ends table fs (items_of (lexemes_of tokens.now)) (tested table fs (by_name_of n))) }
+    ensures only { IfOk result (λ n. (table : List Symbol) (fs : List Fol) (p : Tested) → Ends table fs (items_of (lexemes_of tokens.now)) p → IsTrue (covers (by_name_of n) table)) }
+    ensures bad { result ≡ Err Fault.Bad → (table : List Symbol) (fs : List Fol) (p : Tested) → ¬ Ends table fs (items_of (lexemes_of tokens.now)) p }
+{
+    if tokens.is_empty() {
+        return Err(Fault::Bad);
+    }
+    if item_end(tokens, 0) != tokens.len() {
+        return Err(Fault::Bad);
+    }
+    let (size, entries) = match read_by_name(alloc, tokens) {
+        Ok(read) => read,
+        Err(fault) => return Err(fault),
+    };
+    checked(alloc, size, entries)
+}
+
+/// The problem and the interpretation of an input, with the tables that it gives to the symbols, each of which has an entry.
+pub fn read_problem(alloc: Global, bytes: &[u8]) -> Result<(Problem, Tables), Fault>
+    ensures ok { IfOk result (λ r. (p : Tested) × IsProblem bytes.now p × (p.formulas ≡ fols_of r.0.inputs.items) × (r.1 ≡ tables_for p.by_name p.symbols)) }
+    ensures bad { result ≡ Err Fault.Bad → (p : Tested) → ¬ IsProblem bytes.now p }
+{
+    let tokens = match tokens(alloc, bytes) {
+        Ok(tokens) => tokens,
+        Err(_) => return Err(Fault::Memory),
+    };
+    let ops = Ops::first_form(alloc)?;
+    let (problem, named) = match items(alloc, &ops, &tokens) {
+        Ok(read) => read,
+        Err(fault) => return Err(fault),
+    };
+    let tables = bind(alloc, &named, &problem.symbols)?;
+    if !tables.is_whole() {
+        return Err(Fault::Bad);
+    }
+    Ok((problem, tables))
+}
+
+// The tokens from a place on.
+fn behind<'a>(tokens: &'a [Token<'a>], at: usize) -> &'a [Token<'a>]
+    requires { at ≤ length tokens.now }
+    ensures { result.now ≡ drop at tokens.now }
+{
+    &tokens[at..]
+}
+
+// What the items of an input say, but for whether each symbol has an entry.
+fn items<'a>(alloc: Global, ops: &Ops, tokens: &'a [Token<'a>]) -> Result<(Problem, Named), Fault>
+    requires { ops.now ≡ first_rows }
+    ensures good { IfOk result (λ r. IsTrue (is_good (by_name_of r.1))) }
+    ensures heads { IfOk result (λ r. r.1.heads ≡ heads_of (tables_of r.1.entries.items)) }
+    ensures plain { IfOk result (λ r. IsTrue (list_all is_plain (lexemes_of tokens.now))) }
+    ensures there { IfOk result (λ r. IsTrue (covers (by_name_of r.1) r.0.symbols) → Begins (items_of (lexemes_of tokens.now)) (tested r.0.symbols (fols_of r.0.inputs.items) (by_name_of r.1))) }
+    ensures only { IfOk result (λ r. (p : Tested) → Begins (items_of (lexemes_of tokens.now)) p → IsTrue (covers (by_name_of r.1) r.0.symbols)) }
+    ensures bad { result ≡ Err Fault.Bad → (p : Tested) → IsTrue (list_all is_plain (lexemes_of tokens.now)) → ¬ Begins (items_of (lexemes_of tokens.now)) p }
+{
+    if !are_plain(tokens) || tokens.is_empty() {
+        return Err(Fault::Bad);
+    }
+    let end = item_end(tokens, 0);
+    if !is_opening(&tokens[..end]) {
+        return Err(Fault::Bad);
+    }
+    let rest = behind(tokens, end);
+    let (problem, at) = match formulas(alloc, ops, rest) {
+        Ok(read) => read,
+        Err(fault) => return Err(fault),
+    };
+    let named = match last(alloc, behind(rest, at)) {
+        Ok(named) => named,
+        Err(fault) => return Err(fault),
+    };
+    Ok((problem, named))
 }

@@ -1,0 +1,9 @@
+-- the formulas so far are true as told
+use Rattle.std.proofs.Common.{take}
+use Rattle.ladr_top.specs.Inputs.{fols_of}
+use Rattle.ladr_top.specs.Tables.{meaning_of}
+use Rattle.ladr_top.specs.Verdicts.{AreTrueAsTold}
+use Rattle.ladr_top.proofs.verdicts.hold.Given as goal
+
+abbrev pub invariant-loop-input : goal.invariant-loop-input
+invariant-loop-input l = AreTrueAsTold (meaning_of l.tables) (fols_of (take l.input-index l.inputs)) l.all.items
