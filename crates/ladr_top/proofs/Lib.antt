@@ -1,4 +1,5 @@
 pub mod ItemLemmas
+pub mod OneEnd
 pub mod Places
 pub mod Powers
 pub mod Printing

@@ -44,7 +44,7 @@ at_false : (P Q : Type 0) (b : Bool) → b ≡ false → Q → MatchBool b P Q
 at_false P Q true e q = absurd cc
 at_false P Q false e q = q
 
-from_false : (P Q : Type 0) (b : Bool) → b ≡ false → MatchBool b P Q → Q
+pub from_false : (P Q : Type 0) (b : Bool) → b ≡ false → MatchBool b P Q → Q
 from_false P Q true e q = absurd cc
 from_false P Q false e q = q
 
@@ -52,7 +52,7 @@ at_true : (P Q : Type 0) (b : Bool) → b ≡ true → P → MatchBool b P Q
 at_true P Q true e p = p
 at_true P Q false e p = absurd cc
 
-from_true : (P Q : Type 0) (b : Bool) → b ≡ true → MatchBool b P Q → P
+pub from_true : (P Q : Type 0) (b : Bool) → b ≡ true → MatchBool b P Q → P
 from_true P Q true e p = p
 from_true P Q false e p = absurd cc
 

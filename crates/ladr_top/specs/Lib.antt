@@ -14,3 +14,4 @@ pub mod Tests
 pub mod Variables
 pub mod Verdicts
 pub mod Words
+pub mod Worked

@@ -9,6 +9,7 @@ mod fault;
 mod formula_stub;
 mod interpretation;
 mod items;
+mod laws;
 mod named;
 mod problem;
 mod running;
@@ -18,4 +19,8 @@ mod truth;
 mod verdicts;
 
 pub use cause::{Cause, Exit, Limit, Place, Shown};
+pub use laws::{one_outcome, worked};
 pub use running::run;
+
+#[cfg(test)]
+mod tests;

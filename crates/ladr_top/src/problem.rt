@@ -34,7 +34,7 @@ fn formula(alloc: Global, ops: &Ops, item: &[Token], symbols: &mut Symbols) -> R
     }
     match read_term(alloc, ops, item) {
         Ok(raw) => formula_of(alloc, &raw, symbols),
-        Err(TermFault::Bad) => Err(Fault::Bad),
+        Err(TermFault::Bad(_)) => Err(Fault::Bad),
         Err(TermFault::Deep) => Err(Fault::Bad),
         Err(TermFault::Memory) => Err(Fault::Memory),
     }

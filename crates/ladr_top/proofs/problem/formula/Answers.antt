@@ -12,7 +12,7 @@ returns-in-Ok-clause-bad c = λ e f after is.
 
 pub returns-in-Err-Bad-clause-bad : goal.returns-in-Err-Bad-clause-bad
 returns-in-Err-Bad-clause-bad c = λ e f after is.
-    (rw (c.requires, c.in-Err-Bad.field-0-is) at c.in-Err-Bad.ensures.fault) is.tree is.spells
+    (rw (c.requires, c.in-Err-Bad.field-0-is) at c.in-Err-Bad.ensures.fault).1 is.tree is.spells
 
 pub returns-in-Err-Deep-clause-bad : goal.returns-in-Err-Deep-clause-bad
 returns-in-Err-Deep-clause-bad c = λ e f after is.
