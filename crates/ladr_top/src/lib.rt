@@ -6,7 +6,6 @@ mod cursor;
 mod entry;
 mod env;
 mod fault;
-mod formula_stub;
 mod interpretation;
 mod items;
 mod laws;

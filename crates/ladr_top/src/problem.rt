@@ -13,14 +13,13 @@ ghost use Rattle.ladr_top.specs.ByName.{is_good, covers, heads_of, tables_for};
 ghost use Rattle.ladr_top.specs.Entries.{tables_of, by_name_of};
 
 use crate::fault::Fault;
-use crate::formula_stub::formula_of;
 use crate::interpretation::read_by_name;
 use crate::items::{are_in_formula, are_plain, is_closing, is_opening, item_end};
 use crate::named::{Named, bind, checked};
 use crate::tables::Tables;
 use fol_core::{Formula, Input, Problem, Role, Symbols};
 use ladr_lex::{Ops, Token, tokens};
-use ladr_reader::{TermFault, read_term};
+use ladr_reader::{FormulaError, Mode, TermFault, formula_of, read_term};
 use std::alloc::Global;
 
 // The formula of an item; its symbols are entered.
@@ -33,7 +32,12 @@ fn formula(alloc: Global, ops: &Ops, item: &[Token], symbols: &mut Symbols) -> R
         return Err(Fault::Bad);
     }
     match read_term(alloc, ops, item) {
-        Ok(raw) => formula_of(alloc, &raw, symbols),
+        Ok(raw) => match formula_of(alloc, &raw, symbols, Mode::Tester, false) {
+            Ok(formula) => Ok(formula),
+            Err(FormulaError::Memory) => Err(Fault::Memory),
+            Err(FormulaError::Row(_)) => Err(Fault::Bad),
+            Err(FormulaError::Large(_)) => Err(Fault::Bad),
+        },
         Err(TermFault::Bad(_)) => Err(Fault::Bad),
         Err(TermFault::Deep) => Err(Fault::Bad),
         Err(TermFault::Memory) => Err(Fault::Memory),
