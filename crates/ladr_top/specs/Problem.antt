@@ -9,10 +9,11 @@ use Rattle.fol_core.specs.SymbolTable.{Symbol}
 use Rattle.ladr_lex.specs.Cuts.{Piece, Cuts}
 use Rattle.ladr_lex.specs.Lexeme.{Lexeme, lexeme, ordinary, special, symbol, unreadable}
 use Rattle.ladr_lex.specs.Operators.{first_rows}
-use Rattle.ladr_reader.specs.Formulas.{Style, formula_reading, is_sound}
+use Rattle.ladr_reader.specs.Formulas.{formula_reading, is_sound}
 use Rattle.ladr_reader.specs.Nesting.{nesting}
 use Rattle.ladr_reader.specs.Reads.{Item}
 use Rattle.ladr_reader.specs.Table.{table_of}
+use Rattle.ladr_reader.specs.declared.styles.Style.{Style}
 use Rattle.ladr_top.specs.ByName.{tables_for, is_good, covers}
 use Rattle.ladr_top.specs.Grammar.{ByName, interpretation_of}
 use Rattle.ladr_top.specs.Items.{items_of}

@@ -1,14 +1,16 @@
 // The problem that an input states.
-ghost use Rattle.std.specs.Prelude.{◌≡◌, ◌≤◌, ◌<◌, ◌^◌, IfOk, Err, List, [], drop, length, IsTrue};
+ghost use Rattle.std.specs.Prelude.{◌≡◌, ◌≤◌, ◌<◌, ◌^◌, IfOk, OnOk, Err, List, [], drop, length, IsTrue, false};
 ghost use Rattle.std.specs.List.{list_all};
 ghost use Rattle.fol_core.specs.Fol.{Fol};
 ghost use Rattle.fol_core.specs.FormulaView.{fol_of};
+ghost use Rattle.fol_core.specs.RawView.{raw_of};
 ghost use Rattle.fol_core.specs.SymbolTable.{Symbol};
 ghost use Rattle.ladr_lex.specs.Lexeme.{lexemes_of};
 ghost use Rattle.ladr_lex.specs.Operators.{first_rows};
+ghost use Rattle.ladr_reader.specs.Formulas.{formula_reading, is_sound};
 ghost use Rattle.ladr_top.specs.Inputs.{fols_of};
 ghost use Rattle.ladr_top.specs.Items.{items_of};
-ghost use Rattle.ladr_top.specs.Problem.{Tested, tested, IsFormula, IsProblem, Begins, GoesOn, Ends, is_plain};
+ghost use Rattle.ladr_top.specs.Problem.{style, Tested, tested, IsFormula, IsProblem, Begins, GoesOn, Ends, is_plain};
 ghost use Rattle.ladr_top.specs.ByName.{is_good, covers, heads_of, tables_for};
 ghost use Rattle.ladr_top.specs.Entries.{tables_of, by_name_of};
 
@@ -17,10 +19,24 @@ use crate::interpretation::read_by_name;
 use crate::items::{are_in_formula, are_plain, is_closing, is_opening, item_end};
 use crate::named::{Named, bind, checked};
 use crate::tables::Tables;
-use fol_core::{Formula, Input, Problem, Role, Symbols};
+use fol_core::{Formula, Input, Problem, Raw, Role, Symbols};
 use ladr_lex::{Ops, Token, tokens};
 use ladr_reader::{FormulaError, Mode, TermFault, formula_of, read_term};
 use std::alloc::Global;
+
+// The formula of a term as read, if it is sound; its symbols are entered.
+fn sound_formula(alloc: Global, raw: &Raw, symbols: &mut Symbols) -> Result<Formula, Fault>
+    ensures sound { OnOk result (IsTrue (is_sound (formula_reading style symbols.old (raw_of raw.now)).reading)) }
+    ensures tree { IfOk result (λ f. fol_of f.shape ≡ (formula_reading style symbols.old (raw_of raw.now)).tree) }
+    ensures table { OnOk result (symbols.new ≡ (formula_reading style symbols.old (raw_of raw.now)).reading.symbols) }
+    ensures bad { result ≡ Err Fault.Bad → is_sound (formula_reading style symbols.old (raw_of raw.now)).reading ≡ false }
+{
+    match formula_of(alloc, raw, symbols, Mode::Tester, false) {
+        Ok(formula) => Ok(formula),
+        Err(FormulaError::Memory) => Err(Fault::Memory),
+        Err(_) => Err(Fault::Bad),
+    }
+}
 
 // The formula of an item; its symbols are entered.
 fn formula(alloc: Global, ops: &Ops, item: &[Token], symbols: &mut Symbols) -> Result<Formula, Fault>
@@ -32,12 +48,7 @@ fn formula(alloc: Global, ops: &Ops, item: &[Token], symbols: &mut Symbols) -> R
         return Err(Fault::Bad);
     }
     match read_term(alloc, ops, item) {
-        Ok(raw) => match formula_of(alloc, &raw, symbols, Mode::Tester, false) {
-            Ok(formula) => Ok(formula),
-            Err(FormulaError::Memory) => Err(Fault::Memory),
-            Err(FormulaError::Row(_)) => Err(Fault::Bad),
-            Err(FormulaError::Large(_)) => Err(Fault::Bad),
-        },
+        Ok(raw) => sound_formula(alloc, &raw, symbols),
         Err(TermFault::Bad(_)) => Err(Fault::Bad),
         Err(TermFault::Deep) => Err(Fault::Bad),
         Err(TermFault::Memory) => Err(Fault::Memory),

@@ -7,6 +7,7 @@ use Rattle.ladr_lex.specs.Lexed.{lexed}
 use Rattle.ladr_lex.specs.Operators.{first_rows}
 use Rattle.ladr_reader.proofs.Lawful.{Lawful, table_lawful}
 use Rattle.ladr_reader.proofs.Runs.{run_item}
+use Rattle.ladr_reader.specs.Formulas.{named_variable}
 use Rattle.ladr_reader.specs.Table.{table_of}
 use Rattle.ladr_top.specs.Problem.{IsProblem}
 use Rattle.ladr_top.specs.Worked.{involution_text, involution}
@@ -29,7 +30,7 @@ pub returns-clause-told : goal.returns-clause-told
 returns-clause-told c = (each _ refl refl, (λ some. some (each _ (λ e. absurd cc) (λ e. absurd cc)), tt))
 
 pub returns-clause-says : goal.returns-clause-says
-unfolding is_blank is_ordinary is_special
+unfolding is_blank is_ordinary is_special named_variable
 returns-clause-says c = record {
   tokens = lexed involution_text;
   cut = cuts_text involution_text;

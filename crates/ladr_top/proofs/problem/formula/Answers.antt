@@ -8,7 +8,7 @@ use Rattle.ladr_top.proofs.problem.formula.Goals as goal
 
 pub returns-in-Ok-clause-bad : goal.returns-in-Ok-clause-bad
 returns-in-Ok-clause-bad c = λ e f after is.
-    no_formula _ _ _ (rw c.requires at c.in-Ok.ensures.read) (c.formula_of.ensures.bad e) f after is
+    no_formula _ _ _ (rw c.requires at c.in-Ok.ensures.read) (c.sound_formula.ensures.bad e) f after is
 
 pub returns-in-Err-Bad-clause-bad : goal.returns-in-Err-Bad-clause-bad
 returns-in-Err-Bad-clause-bad c = λ e f after is.
