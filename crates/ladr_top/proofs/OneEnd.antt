@@ -1,5 +1,5 @@
 -- An input says one thing, and a run has one outcome.
-use Rattle.std.proofs.Common.{◌≡◌, ◌≢◌, ℕ, ◌<◌, ◌≤◌, Bool, true, false, List, [], ◌∷◌, ◌++◌, length, Some, refl, ap, sym, subst, ◌∙◌, ◌⊎◌, inl, inr, MatchBool, arith}
+use Rattle.std.proofs.Common.{◌≡◌, ◌≢◌, ℕ, Bool, true, false, List, [], ◌∷◌, ◌++◌, Some, refl, ap, sym, subst, ◌∙◌, ◌⊎◌, inl, inr, MatchBool, arith}
 use Rattle.fol_core.specs.Fol.{Fol}
 use Rattle.fol_core.specs.Free.{closure_of}
 use Rattle.fol_core.specs.Meaning.{Meaning}

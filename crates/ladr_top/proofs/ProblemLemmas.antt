@@ -6,7 +6,7 @@ use Rattle.fol_core.specs.SymbolTable.{Symbol}
 use Rattle.std.specs.List.{list_all}
 use Rattle.std.specs.Bool.{IsTrue}
 use Rattle.ladr_lex.proofs.Unique.{cut_once}
-use Rattle.ladr_lex.specs.Cuts.{Piece, Cuts, pieces_of}
+use Rattle.ladr_lex.specs.Cuts.{Cuts, pieces_of}
 use Rattle.ladr_lex.specs.Lexeme.{Lexeme, lexeme_of, lexemes_of, full_stop}
 use Rattle.ladr_lex.specs.declared.token.Token.{Token}
 use Rattle.ladr_lex.specs.Operators.{first_rows}
@@ -36,9 +36,10 @@ one_item g item t u p q =
 -- and is one formula, with one table behind it
 pub one_formula : (table : List Symbol) (item : List Lexeme) (f h : Fol) (after later : List Symbol) → IsFormula table item f after → IsFormula table item h later → (f ≡ h) × (after ≡ later)
 one_formula table item f h after later p q =
-    let same = one_item (table_of first_rows) item p.tree q.tree p.spells q.spells in
-    (p.formula ∙ ap (λ (t : RawTree). (formula_reading style table t).tree) same ∙ sym q.formula,
-    p.symbols ∙ ap (λ (t : RawTree). (formula_reading style table t).reading.symbols) same ∙ sym q.symbols)
+    let same = one_item (table_of first_rows) item p.tree q.tree p.spells q.spells in (
+      p.formula ∙ ap (λ (t : RawTree). (formula_reading style table t).tree) same ∙ sym q.formula,
+      p.symbols ∙ ap (λ (t : RawTree). (formula_reading style table t).reading.symbols) same ∙ sym q.symbols,
+    )
 
 at_false : (P Q : Type 0) (b : Bool) → b ≡ false → Q → MatchBool b P Q
 at_false P Q true e q = absurd cc

@@ -1,5 +1,5 @@
 -- The steps of the reader of interpretations.
-use Rattle.std.proofs.Common.{◌≡◌, ℕ, Bool, true, false, List, [], ◌∷◌, ◌++◌, length, suc, refl, ap}
+use Rattle.std.proofs.Common.{◌≡◌, ℕ, true, false, List, [], ◌∷◌, length, suc, refl, ap}
 use Rattle.std.specs.Prelude.{codes, None}
 use Rattle.fol_core.specs.declared.symbols.Kind.{Kind}
 use Rattle.ladr_lex.specs.Lexeme.{Lexeme, lexemes_of}

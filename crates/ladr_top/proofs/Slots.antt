@@ -3,7 +3,7 @@ use Rattle.std.proofs.Common.{◌≡◌, ℕ, zero, suc, replicate, ◌<◌, Lis
 use Rattle.std.proofs.lemmas.Grind.{common_steps}
 use Rattle.std.proofs.lemmas.Bool.Decides.{nat_tests}
 use Rattle.std.proofs.lemmas.List.{set-set, set-get_or}
-use Rattle.fol_core.specs.Truth.{Assignment, with_var}
+use Rattle.fol_core.specs.Truth.{with_var}
 use Rattle.ladr_top.specs.Verdicts as first
 use Rattle.ladr_top.specs.Variables.{assignment, slot}
 

@@ -1,7 +1,7 @@
 -- The values of the entry that is found by its number.
 use Rattle.std.proofs.Common.{◌≡◌, ℕ, zero, suc, ◌+◌, ◌<◌, Bool, true, false, cond, List, [], ◌∷◌, ◌++◌, length, map, take, get_or, Option, Some, None, refl, ap, arith}
 use Rattle.std.specs.Option.{option_map}
-use Rattle.fol_core.specs.SymbolTable.{Symbol, symbol, number_of, is_called, is_same_kind, first_place, name_at, arity_at, kind_at}
+use Rattle.fol_core.specs.SymbolTable.{Symbol, symbol, number_of, is_called, is_same_kind, name_at, arity_at, kind_at}
 use Rattle.fol_core.specs.declared.symbols.Kind.{Kind}
 use Rattle.ladr_top.specs.ByName.{heads_of, values_for}
 use Rattle.ladr_top.specs.Entries.{tables_of}

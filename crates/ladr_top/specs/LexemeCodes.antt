@@ -1,8 +1,7 @@
 -- How the logic stores tokens.
 use Rattle.std.specs.Prelude.{ℕ, ◌≡◌, List, [], ◌==◌, if◌then◌else◌, refl}
-use Rattle.std.proofs.Common.{ap}
 use Rattle.std.specs.Coded.{Coded, code_by, coded×, coded_ℕ, coded_list}
-use Rattle.ladr_lex.specs.Lexeme.{Lexeme, Sort, ordinary, special, open_paren, close_paren, open_square, close_square, comma, full_stop, symbol, unreadable}
+use Rattle.ladr_lex.specs.Lexeme.{Lexeme, ordinary, special, open_paren, close_paren, open_square, close_square, comma, full_stop, symbol, unreadable}
 
 abbrev pub tag : Lexeme → ℕ × List ℕ
 tag open_paren = (0, [])

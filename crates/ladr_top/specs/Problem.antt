@@ -7,7 +7,7 @@ use Rattle.fol_core.specs.Meaning.{Meaning}
 use Rattle.fol_core.specs.RawTree.{RawTree}
 use Rattle.fol_core.specs.SymbolTable.{Symbol}
 use Rattle.ladr_lex.specs.Cuts.{Piece, Cuts}
-use Rattle.ladr_lex.specs.Lexeme.{Lexeme, lexeme, ordinary, special, symbol, unreadable}
+use Rattle.ladr_lex.specs.Lexeme.{Lexeme, lexeme, special, symbol, unreadable}
 use Rattle.ladr_lex.specs.Operators.{first_rows}
 use Rattle.ladr_reader.specs.Formulas.{formula_reading, is_sound}
 use Rattle.ladr_reader.specs.Nesting.{nesting}

@@ -1,8 +1,8 @@
 -- What the parts of the reader of interpretations say of the tokens that they passed.
-use Rattle.std.specs.Prelude.{◌≡◌, ℕ, ◌+◌, Bool, List, [], ◌∷◌, ◌++◌, map, None, Some, if◌then◌else◌}
+use Rattle.std.specs.Prelude.{◌≡◌, ℕ, ◌+◌, Bool, List, [], ◌∷◌, ◌++◌, None, if◌then◌else◌}
 use Rattle.fol_core.specs.declared.symbols.Kind.{Kind}
 use Rattle.ladr_lex.specs.Lexeme.{Lexeme}
-use Rattle.ladr_top.specs.Grammar.{Table, ByName, table, entry_at, head_at, place_at, list_at, listed_at, value_at, more_at, end_at, entries_at, behind_comments, comment_at, comments_at}
+use Rattle.ladr_top.specs.Grammar.{Table, table, entry_at, head_at, place_at, list_at, listed_at, value_at, more_at, end_at, entries_at, behind_comments, comment_at, comments_at}
 
 -- a value is read, and further ones follow or the entry ends
 abbrev pub ReadsValue : List Lexeme → ℕ → Bool → List Lexeme → Type 0

@@ -1,6 +1,6 @@
 -- Finite interpretations given by tables.
-use Rattle.std.specs.Prelude.{ℕ, ◌+◌, ◌*◌, ◌==◌, nat_le, Bool, not, if◌then◌else◌, List, [], ◌∷◌, length, Option, None, Some, unwrap_or, slice_index}
-use Rattle.std.specs.List.{slice_index_or, slice_get}
+use Rattle.std.specs.Prelude.{ℕ, ◌+◌, ◌*◌, ◌==◌, nat_le, Bool, not, if◌then◌else◌, List, [], ◌∷◌, length, slice_index}
+use Rattle.std.specs.List.{slice_index_or}
 use Rattle.fol_core.specs.Meaning.{Meaning}
 
 -- the greatest element, the elements being 0 and up to it, and for each symbol number the list of its values,

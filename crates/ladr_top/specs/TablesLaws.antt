@@ -1,8 +1,8 @@
 -- Tables are an interpretation.
-use Rattle.std.specs.Prelude.{ℕ, ◌≡◌, ◌≤◌, nat_le, IsTrue, refl, Bool, true, false, if◌then◌else◌}
+use Rattle.std.specs.Prelude.{ℕ, ◌≡◌, nat_le, IsTrue, refl, Bool, true, false, if◌then◌else◌}
 use Rattle.std.proofs.Common.{rules, tests}
-use Rattle.fol_core.specs.Meaning.{IsLawful, AllWithin}
-use Rattle.ladr_top.specs.Tables.{Finite, meaning_of, element}
+use Rattle.fol_core.specs.Meaning.{IsLawful}
+use Rattle.ladr_top.specs.Tables.{Finite, meaning_of}
 
 zero_within : (t : Finite) → IsTrue (nat_le 0 t.top)
 zero_within t = search (rules, tests)

@@ -4,7 +4,6 @@ use Rattle.fol_core.specs.Fol.{Fol}
 use Rattle.fol_core.specs.Free.{closure_of}
 use Rattle.fol_core.specs.Meaning.{Meaning}
 use Rattle.fol_core.specs.Truth.{Assignment, Holds}
-use Rattle.ladr_top.specs.Problem.{Tested}
 
 -- every variable is element 0; a closure has no variable that it matters for
 abbrev pub zero : Assignment

@@ -1,7 +1,7 @@
 -- An input worked out.
 use Rattle.std.specs.Prelude.{ℕ, List, [], ◌∷◌, codes}
-use Rattle.fol_core.specs.Fol.{Fol, equal, some}
-use Rattle.fol_core.specs.SymbolTable.{Symbol, symbol}
+use Rattle.fol_core.specs.Fol.{equal, some}
+use Rattle.fol_core.specs.SymbolTable.{symbol}
 use Rattle.fol_core.specs.Tree.{Tree, var, app, none, more}
 use Rattle.fol_core.specs.declared.symbols.Kind.TheVariants.{Function}
 use Rattle.ladr_top.specs.Grammar.{table}

@@ -125,4 +125,3 @@ pub fn numeral(token: Token) -> Option<u32>
         _ => None,
     }
 }
-

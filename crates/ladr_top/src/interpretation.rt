@@ -7,7 +7,10 @@ ghost use Rattle.ladr_top.specs.Grammar.{Table, interpretation_of, comments_at, 
 ghost use Rattle.ladr_top.specs.Entries.{table_of, tables_of};
 ghost use Rattle.ladr_top.specs.Reading.{ReadsValue, HasNoValue, ReadsValues, HasNoValues, ReadsPlace, HasNoPlace, ReadsPlaces, HasNoPlaces, ReadsArity, HasNoArity, ReadsHead, HasNoHead, ReadsEntry, HasNoEntry, GoesOn, GoesNotOn, ReadsOne, ReadsEntries, HasNoEntries, ReadsAllEntries, HasNoList, ReadsComment, HasNoComment, ReadsComments, ReadsCommentList, PassesComments, HasNoComments};
 
-use crate::cursor::{Cursor, is_close, is_close_square, is_comma, is_equality, is_open, is_open_square, is_stop, is_word, numeral, symbol};
+use crate::cursor::{
+    Cursor, is_close, is_close_square, is_comma, is_equality, is_open, is_open_square, is_stop,
+    is_word, numeral, symbol,
+};
 use crate::entry::Entry;
 use crate::fault::Fault;
 use fol_core::{Kind, Name};

@@ -5,7 +5,7 @@ ghost use Rattle.ladr_lex.specs.Lexeme.{lexeme_of, lexemes_of};
 ghost use Rattle.ladr_top.specs.Items.{items_of};
 ghost use Rattle.ladr_top.specs.Problem.{is_plain, is_in_formula, is_opening, is_closing};
 
-use crate::cursor::{Cursor, is_close, is_open, is_stop, is_number, is_word};
+use crate::cursor::{Cursor, is_close, is_number, is_open, is_stop, is_word};
 use ladr_lex::{Token, TokenKind};
 
 // How many tokens the first item has: those up to the first full stop, or all.

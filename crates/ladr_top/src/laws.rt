@@ -12,13 +12,11 @@ ghost use Rattle.ladr_top.specs.declared.cause.Cause.TheVariants.{ReadFault};
 pub fn one_outcome()
     ensures says { (bytes : List ℕ) (p q : Tested) → IsProblem bytes p → IsProblem bytes q → p ≡ q }
     ensures ends { (g : Given) (c d : Cause) (t u : List ℕ) → Ends g c t → Ends g d u → c ≢ ReadFault → d ≢ ReadFault → (c ≡ d) × (t ≡ u) }
-{
-}
+{}
 
 /// A function that is its own inverse, and whether it leaves an element where it is.
 pub fn worked()
     ensures says { IsProblem involution_text involution }
     ensures told { AreTrueAsTold (meaning_in involution) involution.formulas (true ∷ false ∷ []) }
     ensures printed { report (true ∷ false ∷ []) ≡ codes "formula 1 true\nformula 2 false\n% True=1. False=1.\n% Exit tested.\n" }
-{
-}
+{}

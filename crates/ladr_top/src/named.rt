@@ -60,7 +60,8 @@ fn is_filled(size: u32, entry: &Entry) -> bool
     ensures { result ≡ is_filled size (table_of entry.now) }
 {
     let values = entry.values.as_slice();
-    is_power(values.len(), u64::from(size), entry.arity) && are_below(values, bound(size, entry.kind))
+    is_power(values.len(), u64::from(size), entry.arity)
+        && are_below(values, bound(size, entry.kind))
 }
 
 fn are_filled(size: u32, entries: &[Entry]) -> bool
@@ -92,7 +93,10 @@ fn heads(alloc: Global, entries: &[Entry]) -> Result<Symbols, Fault>
         if !is_new(&heads, entry) {
             return Err(Fault::Bad);
         }
-        if heads.enter(entry.name.bytes(), entry.arity, entry.kind).is_err() {
+        if heads
+            .enter(entry.name.bytes(), entry.arity, entry.kind)
+            .is_err()
+        {
             return Err(Fault::Memory);
         }
     }
@@ -152,7 +156,12 @@ pub fn bind(alloc: Global, named: &Named, symbols: &Symbols) -> Result<Tables, A
     let mut rows = Vec::new(alloc);
     for number in 0..symbols.len() {
         let symbol = Sym(number as u64);
-        let values = values_for(named, symbols.name(symbol), symbols.arity(symbol), symbols.kind(symbol));
+        let values = values_for(
+            named,
+            symbols.name(symbol),
+            symbols.arity(symbol),
+            symbols.kind(symbol),
+        );
         rows.push(Row::new(Vec::from_slice(alloc, values)?))?;
     }
     Ok(Tables::new(named.size - 1, rows))

@@ -39,7 +39,12 @@ fn sound_formula(alloc: Global, raw: &Raw, symbols: &mut Symbols) -> Result<Form
 }
 
 // The formula of an item; its symbols are entered.
-fn formula(alloc: Global, ops: &Ops, item: &[Token], symbols: &mut Symbols) -> Result<Formula, Fault>
+fn formula(
+    alloc: Global,
+    ops: &Ops,
+    item: &[Token],
+    symbols: &mut Symbols,
+) -> Result<Formula, Fault>
     requires { ops.now ≡ first_rows }
     ensures ok { IfOk result (λ f. IsFormula symbols.old (lexemes_of item.now) (fol_of f.shape) symbols.new) }
     ensures bad { result ≡ Err Fault.Bad → (f : Fol) (after : List Symbol) → ¬ IsFormula symbols.old (lexemes_of item.now) f after }

@@ -59,6 +59,7 @@ impl Interpretation for Tables {
     ghost use Rattle.ladr_top.specs.TablesLaws.{tables_lawful};
 
     ghost meaning = { meaning_of };
+
     ghost lawful = { tables_lawful };
 }
 

@@ -77,7 +77,13 @@ pub fn report(alloc: Global, all: &[bool]) -> Result<Vec<u8>, AllocError>
 }
 
 /// The line for an input that can't be read, with the place and what stands there.
-pub fn unreadable(alloc: Global, byte: u64, row: u64, column: u64, token: &[u8]) -> Result<Vec<u8>, AllocError>
+pub fn unreadable(
+    alloc: Global,
+    byte: u64,
+    row: u64,
+    column: u64,
+    token: &[u8],
+) -> Result<Vec<u8>, AllocError>
     ensures { IfOk result (λ v. v.items ≡ unreadable_line byte row column token.now) }
 {
     let mut out = Vec::new(alloc);

@@ -79,10 +79,14 @@ pub fn truth(tables: &Tables, shape: &Shape, env: &mut Env) -> bool
         Shape::Eq(left, right) => value(tables, left, env) == value(tables, right, env),
         Shape::Atom(relation, terms) => atom(tables, *relation, terms, env) == 1,
         Shape::Not(part) => !truth(tables, part.shape(), env),
-        Shape::And(left, right) => truth(tables, left.shape(), env) && truth(tables, right.shape(), env),
-        Shape::Or(left, right) => truth(tables, left.shape(), env) || truth(tables, right.shape(), env),
-        Shape::If(left, right) => !truth(tables, left.shape(), env) || truth(tables, right.shape(), env),
-        Shape::Iff(left, right) => truth(tables, left.shape(), env) == truth(tables, right.shape(), env),
+        Shape::And(left, right) => truth(tables, left.shape(), env)
+            && truth(tables, right.shape(), env),
+        Shape::Or(left, right) => truth(tables, left.shape(), env)
+            || truth(tables, right.shape(), env),
+        Shape::If(left, right) => !truth(tables, left.shape(), env)
+            || truth(tables, right.shape(), env),
+        Shape::Iff(left, right) => truth(tables, left.shape(), env)
+            == truth(tables, right.shape(), env),
         Shape::All(variable, part) => true_of_all(tables, *variable, part.shape(), env),
         Shape::Exists(variable, part) => true_of_some(tables, *variable, part.shape(), env),
     }

@@ -1,5 +1,5 @@
 -- the values so far, and what is left to read of the list
-use Rattle.std.proofs.Common.{◌≡◌, ◌<◌, ℕ, List, [], length}
+use Rattle.std.proofs.Common.{◌≡◌, ◌<◌, ℕ, List, length}
 use Rattle.fol_core.specs.declared.symbols.Kind.{Kind}
 use Rattle.ladr_top.specs.Grammar.{Table, list_at, value_at}
 use Rattle.ladr_top.proofs.interpretation.values.Given as goal

@@ -1,4 +1,4 @@
-use Rattle.std.proofs.Common.{◌≡◌, ◌<◌, length, false, List, take, drop, [], sym, subst, arith}
+use Rattle.std.proofs.Common.{◌≡◌, length, false, List, take, drop, [], sym, subst, arith}
 use Rattle.std.proofs.lemmas.List.{take_all, drop_all}
 use Rattle.std.specs.List.{list_any}
 use Rattle.ladr_lex.specs.Lexeme.{lexemes_of}

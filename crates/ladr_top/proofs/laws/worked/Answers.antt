@@ -1,4 +1,4 @@
-use Rattle.std.proofs.Common.{◌≡◌, ℕ, zero, suc, ◌≤◌, true, List, [], ◌∷◌, refl, lit≤, arith, leb}
+use Rattle.std.proofs.Common.{◌≡◌, ℕ, zero, suc, true, refl, lit≤, arith, leb}
 use Rattle.std.proofs.lemmas.Bool.{leb-true}
 use Rattle.std.specs.Fmt.{digits}
 use Rattle.ladr_lex.proofs.Lexing.{cuts_text}
@@ -9,8 +9,7 @@ use Rattle.ladr_reader.proofs.Lawful.{Lawful, table_lawful}
 use Rattle.ladr_reader.proofs.Runs.{run_item}
 use Rattle.ladr_reader.specs.Formulas.{named_variable}
 use Rattle.ladr_reader.specs.Table.{table_of}
-use Rattle.ladr_top.specs.Problem.{IsProblem}
-use Rattle.ladr_top.specs.Worked.{involution_text, involution}
+use Rattle.ladr_top.specs.Worked.{involution_text}
 use Rattle.ladr_top.proofs.laws.worked.Goals as goal
 
 lawful : Lawful (table_of first_rows)
@@ -35,7 +34,22 @@ returns-clause-says c = record {
   tokens = lexed involution_text;
   cut = cuts_text involution_text;
   plain = refl;
-  says = (refl, (_, (_, (record { tree = _; plain = refl; spells = run_item (table_of first_rows) lawful _ _ 700 refl; shallow = lit≤ tt; sound = refl; formula = refl; symbols = refl }),
-      (_, (_, (record { tree = _; plain = refl; spells = run_item (table_of first_rows) lawful _ _ 750 refl; shallow = lit≤ tt; sound = refl; formula = refl; symbols = refl }),
-          (_, refl, refl, refl, refl))))));
+  says = (
+    refl,
+    (
+      _,
+      (
+        _,
+        (record { tree = _; plain = refl; spells = run_item (table_of first_rows) lawful _ _ 700 refl; shallow = lit≤ tt; sound = refl; formula = refl; symbols = refl }),
+        (
+          _,
+          (
+            _,
+            (record { tree = _; plain = refl; spells = run_item (table_of first_rows) lawful _ _ 750 refl; shallow = lit≤ tt; sound = refl; formula = refl; symbols = refl }),
+            (_, refl, refl, refl, refl),
+          ),
+        ),
+      ),
+    ),
+  );
 }

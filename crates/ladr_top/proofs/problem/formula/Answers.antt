@@ -1,8 +1,3 @@
-use Rattle.std.proofs.Common.{List, subst, refl}
-use Rattle.fol_core.specs.RawTree.{RawTree}
-use Rattle.ladr_lex.specs.Lexeme.{lexemes_of}
-use Rattle.ladr_reader.specs.Reads.{Item}
-use Rattle.ladr_reader.specs.Table.{table_of}
 use Rattle.ladr_top.proofs.ProblemLemmas.{no_formula, deep_formula}
 use Rattle.ladr_top.proofs.problem.formula.Goals as goal
 

@@ -1,10 +1,8 @@
 use Rattle.std.proofs.Common.{◌≡◌, ◌++◌, ◌∷◌, [], sym}
 use Rattle.std.proofs.lemmas.List.{map_push}
 use Rattle.fol_core.specs.FormulaView.{fol_of}
-use Rattle.ladr_lex.specs.Lexeme.{Lexeme, lexemes_of}
 use Rattle.ladr_top.specs.Inputs.{fols_of}
-use Rattle.ladr_top.specs.Problem.{Tested, GoesOn}
-use Rattle.ladr_top.proofs.ProblemLemmas.{goes_there, goes_only, goes_not, ends_there, ends_only}
+use Rattle.ladr_top.proofs.ProblemLemmas.{goes_there, goes_only, goes_not}
 use Rattle.ladr_top.proofs.problem.formulas.Goals as goal
 
 pub returns-in-Err-clause-bad : goal.returns-in-Err-clause-bad

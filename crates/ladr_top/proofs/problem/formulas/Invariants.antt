@@ -1,5 +1,5 @@
 -- what is left goes on as the whole does
-use Rattle.std.proofs.Common.{◌≡◌, ◌≤◌, ◌-◌, [], drop, length}
+use Rattle.std.proofs.Common.{◌≤◌, ◌-◌, [], drop, length}
 use Rattle.ladr_lex.specs.Lexeme.{lexemes_of}
 use Rattle.ladr_top.specs.Inputs.{fols_of}
 use Rattle.ladr_top.specs.Items.{items_of}

@@ -1,4 +1,4 @@
-use Rattle.std.proofs.Common.{◌≤◌, ◌<◌, refl, sym, arith}
+use Rattle.std.proofs.Common.{refl, sym, arith}
 use Rattle.std.specs.Prelude.{codes}
 use Rattle.ladr_top.specs.Outcome.{Given, Ends, most_bytes}
 use Rattle.ladr_top.specs.Output.{too_large_line}

@@ -1,6 +1,6 @@
 use Rattle.std.proofs.Common.{◌≤◌, ℕ, List, length, refl, ap, sym, subst}
 use Rattle.std.specs.Prelude.{codes}
-use Rattle.ladr_top.specs.Outcome.{Given, Ends, IsText, beginning, most_bytes}
+use Rattle.ladr_top.specs.Outcome.{Ends, beginning, most_bytes}
 use Rattle.ladr_top.specs.Output.{report, unreadable_line}
 use Rattle.ladr_top.specs.Problem.{Tested, IsProblem}
 use Rattle.ladr_top.specs.declared.cause.Cause.TheVariants.{Done, Unreadable}
@@ -13,7 +13,7 @@ returns-in-Ok-clause-printed g c = λ given e drained.
     let P : List ℕ → Type 0 = λ bytes. IsProblem bytes found.0 in
     let L : List ℕ → Type 0 = λ bytes. length bytes ≤ most_bytes in
     let ends : Ends given Done (report c.deref.result.now) =
-        ((drained, subst L (sym e) c.requires), (found.0, subst P (sym e) found.1, (c.in-Ok.all.items, found.2, ap report c.deref.ensures.value))) in
+    ((drained, subst L (sym e) c.requires), (found.0, subst P (sym e) found.1, (c.in-Ok.all.items, found.2, ap report c.deref.ensures.value))) in
     Printed-weaker _ (Ends given) (made_text c.report.result Done _ (Ends given) c.report.ensures ends) _ _ _ c.conclude.ensures.printed
 
 pub returns-in-Err-Bad-clause-printed : goal.returns-in-Err-Bad-clause-printed
@@ -21,5 +21,5 @@ returns-in-Err-Bad-clause-printed g c = λ given e drained.
     let L : List ℕ → Type 0 = λ bytes. length bytes ≤ most_bytes in
     let N : List ℕ → Type 0 = λ bytes. (p : Tested) → IsProblem bytes p → ⊥ in
     let ends : Ends given (Unreadable beginning) (unreadable_line 0 1 1 (codes "input")) =
-        ((drained, subst L (sym e) c.requires), subst N (sym e) (c.in-Err-Bad.ensures.bad (cc)), refl, refl) in
+    ((drained, subst L (sym e) c.requires), subst N (sym e) (c.in-Err-Bad.ensures.bad (cc)), refl, refl) in
     Printed-weaker _ (Ends given) (made_text c.unreadable-text.result (Unreadable beginning) _ (Ends given) c.unreadable-text.ensures ends) _ _ _ c.conclude-in-Err-Bad.ensures.printed

@@ -1,4 +1,4 @@
-use Rattle.std.proofs.Common.{◌≡◌, ℕ, subst, sym, MatchBool}
+use Rattle.std.proofs.Common.{subst, MatchBool}
 use Rattle.fol_core.specs.FormulaView.{fol_of}
 use Rattle.fol_core.specs.Truth.{Holds, Assignment}
 use Rattle.ladr_top.specs.Tables.{meaning_of}

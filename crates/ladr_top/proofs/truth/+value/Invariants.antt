@@ -1,6 +1,6 @@
 -- The nodes of a term are more than those of an argument;
 -- the place of all arguments is that of those to come behind those passed
-use Rattle.std.proofs.Common.{◌≡◌, ◌+◌, drop, slice_index}
+use Rattle.std.proofs.Common.{◌≡◌, drop, slice_index}
 use Rattle.fol_core.specs.Tree.{trees_of, nodes}
 use Rattle.fol_core.specs.TermView.{tree_of, tree_list}
 use Rattle.fol_core.specs.Truth.{values_of}

@@ -1,5 +1,5 @@
 -- the place of all arguments is that of those to come behind those passed
-use Rattle.std.proofs.Common.{◌≡◌, ◌+◌, drop, slice_index}
+use Rattle.std.proofs.Common.{◌≡◌, drop, slice_index}
 use Rattle.fol_core.specs.Tree.{trees_of}
 use Rattle.fol_core.specs.TermView.{tree_list}
 use Rattle.fol_core.specs.Truth.{values_of}

@@ -1,4 +1,3 @@
-use Rattle.std.proofs.Common.{◌≡◌, List, ℕ}
 use Rattle.ladr_top.specs.Tables.{meaning_of}
 use Rattle.ladr_top.proofs.Told.{told_more, fols_more}
 use Rattle.ladr_top.proofs.verdicts.hold.Goals as goal

@@ -1,4 +1,4 @@
-use Rattle.std.proofs.Common.{◌≡◌, ◌∙◌, ap, subst, MatchBool}
+use Rattle.std.proofs.Common.{◌∙◌, ap, subst, MatchBool}
 use Rattle.fol_core.specs.Fol.{Fol}
 use Rattle.fol_core.specs.FormulaView.{fol_of}
 use Rattle.fol_core.specs.Truth.{Assignment, Holds}
