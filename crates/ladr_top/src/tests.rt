@@ -11,7 +11,7 @@ const REPORT: &str = "formula 1 true\nformula 2 false\n% True=1. False=1.\n% Exi
 
 // The call of a stream that is to fail, none being number 0.
 fn failing(alloc: Global, call: u64) -> Result<Vec<u64>, AllocError> {
-    vec![in alloc; call]
+    Ok(vec![in alloc; call]?)
 }
 
 // The source gives a whole text in its first call and the end in its second; the sink takes a text in one call.

@@ -1,0 +1,108 @@
+// Standard input, or another reader, as a source.
+ghost use Rattle.std.specs.Prelude.{◌≡◌, ℕ, ◌<◌, ◌≤◌, [], None, length, take, IfOk, IfSome, OnOk, OnErr, MatchResult, Ok};
+ghost use Rattle.ladr_io.specs.Streams.{Gives, IsDrained, Rose};
+
+use ladr_io::{Failed, Source};
+use std::io::{ErrorKind, Read};
+
+/// A reader that counts its faults; contracts see nothing of its bytes.
+#[derive(Drop)]
+pub struct Input<R> {
+    reader: R,
+    // How many reads failed, at most the greatest u64.
+    faults: u64,
+}
+
+impl<R: Read> Input<R> {
+    pub fn new(reader: R) -> Input<R>
+        ensures { result.faults ≡ 0 }
+    {
+        Input { reader, faults: 0 }
+    }
+}
+
+impl<R: Read> Source for Input<R> {
+    ghost left = { λ _. None };
+
+    ghost faults = { λ s. s.faults };
+
+    fn read(&mut self, buf: &mut [u8]) -> Result<usize, Failed> {
+        match read(&mut self.reader, buf) {
+            Some(count) => Ok(count),
+            None => {
+                self.faults = self.faults.saturating_add(1);
+                Err(Failed)
+            }
+        }
+    }
+}
+
+// How many bytes a read gives, if it doesn't fail. One that a signal broke off is tried again.
+fn read<R: Read>(reader: &mut R, buf: &mut [u8]) -> Option<usize>
+    ensures { IfSome result (λ n. n ≤ length buf.new) }
+{
+    for _ in 0..u64::MAX {
+        match reader.read(buf) {
+            Ok(count) => return Some(count),
+            Err(error) if error.kind() == ErrorKind::Interrupted => {}
+            Err(_) => break,
+        }
+    }
+    None
+}
+
+#[cfg(test)]
+mod tests {
+    use super::*;
+    use std::io;
+    use std::test::Fail;
+
+    // What the reads give, one after another: so many bytes, or an error.
+    #[derive(Drop)]
+    struct Given {
+        reads: [Result<u8, ErrorKind>; 6],
+        at: usize,
+    }
+
+    impl Read for Given {
+        fn read(&mut self, buf: &mut [u8]) -> io::Result<usize> {
+            if self.at >= self.reads.len() {
+                return Ok(0);
+            }
+            let read = self.reads[self.at];
+            self.at += 1;
+            match read {
+                Ok(count) => Ok(buf.len().min(count as usize)),
+                Err(kind) => Err(io::Error::from(kind)),
+            }
+        }
+    }
+
+    #[test]
+    fn counts_each_fault_and_reads_on(rt: HostRuntime) -> Result<(), Fail> {
+        let mut input = Input::new(Given {
+            reads: [
+                Ok(3),
+                Err(ErrorKind::Interrupted),
+                Ok(200),
+                Err(ErrorKind::PermissionDenied),
+                Ok(1),
+                Err(ErrorKind::Other),
+            ],
+            at: 0,
+        });
+        let mut buf = [0u8; 16];
+        for (read, faults) in [
+            (Ok(3), 0),
+            (Ok(16), 0),
+            (Err(Failed), 1),
+            (Ok(1), 1),
+            (Err(Failed), 2),
+            (Ok(0), 2),
+        ] {
+            assert_eq!(rt; input.read(&mut buf), read);
+            assert_eq!(rt; input.faults, faults);
+        }
+        Ok(())
+    }
+}

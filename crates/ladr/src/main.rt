@@ -1,0 +1,49 @@
+//! The program: gives its words, its streams and the machine's clock to the one call that does all.
+#![tactic(auto)]
+
+ghost use Rattle.std.specs.Prelude.{◌≡◌};
+ghost use Rattle.ladr_top.specs.Outcome.{status_of};
+
+mod input;
+mod one_element;
+mod output;
+mod stopwatch;
+mod words;
+
+use input::Input;
+use ladr_top::{Cause, Exit, run};
+use one_element::OneElement;
+use output::Output;
+use std::process::ExitCode;
+use stopwatch::Stopwatch;
+use words::words;
+
+// Where memory is lacking for the words.
+const NO_MEMORY: Exit = Exit {
+    status: 12,
+    cause: Cause::Memory,
+};
+
+// Runs on what the process has.
+fn exit(rt: HostRuntime) -> Exit
+    ensures { result.status ≡ status_of result.cause }
+{
+    let Ok(words) = words(&rt) else {
+        return NO_MEMORY;
+    };
+    let mut source = Input::new(rt.stdin());
+    let mut sink = Output::new(rt.stdout());
+    let mut clock = Stopwatch::new(rt);
+    run(
+        rt.alloc(),
+        &words,
+        &OneElement,
+        &mut source,
+        &mut sink,
+        &mut clock,
+    )
+}
+
+fn main(rt: HostRuntime) -> ExitCode {
+    ExitCode::from(exit(rt).status)
+}
