@@ -1,9 +1,9 @@
--- An input worked out.
+-- Inputs worked out.
 use Rattle.std.specs.Prelude.{ℕ, List, [], ◌∷◌, codes}
-use Rattle.fol_core.specs.Fol.{equal, some}
+use Rattle.fol_core.specs.Fol.{equal, atom, every, some}
 use Rattle.fol_core.specs.SymbolTable.{symbol}
 use Rattle.fol_core.specs.Tree.{Tree, var, app, none, more}
-use Rattle.fol_core.specs.declared.symbols.Kind.TheVariants.{Function}
+use Rattle.fol_core.specs.declared.symbols.Kind.TheVariants.{Function, Relation}
 use Rattle.ladr_top.specs.Grammar.{table}
 use Rattle.ladr_top.specs.Problem.{Tested, tested}
 
@@ -19,3 +19,17 @@ f t = app 0 (more t none)
 abbrev pub involution : Tested
 involution =
     tested (symbol (codes "f") 1 Function ∷ []) (equal (f (f (var 0))) (var 0) ∷ some 0 (equal (f (var 0)) (var 0)) ∷ []) (record { size = 2; entries = table Function (codes "f") 1 (1 ∷ 0 ∷ []) ∷ [] })
+
+-- a relation that holds of the first element alone, and a function with no other value: `y` is free, and is closed over
+-- the whole formula
+abbrev pub constant_text : List ℕ
+constant_text =
+    codes "formulas(assumptions).\nall x p(x,f(y)).\nexists x f(x) = y.\nend_of_list.\ninterpretation(2, [number = 1,seconds = 0], [function(f(_), [0,0]),relation(p(_,_), [1,0,1,0])]).\n"
+
+abbrev pub g : Tree → Tree
+g t = app 1 (more t none)
+
+-- what that text says
+abbrev pub constant : Tested
+constant =
+    tested (symbol (codes "p") 2 Relation ∷ symbol (codes "f") 1 Function ∷ []) (every 0 (atom 0 (more (var 0) (more (g (var 1)) none))) ∷ some 0 (equal (g (var 0)) (var 1)) ∷ []) (record { size = 2; entries = table Function (codes "f") 1 (0 ∷ 0 ∷ []) ∷ table Relation (codes "p") 2 (1 ∷ 0 ∷ 1 ∷ 0 ∷ []) ∷ [] })

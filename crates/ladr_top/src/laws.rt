@@ -4,7 +4,7 @@ ghost use Rattle.ladr_top.specs.Outcome.{Given, Ends};
 ghost use Rattle.ladr_top.specs.Problem.{Tested, IsProblem, meaning_in};
 ghost use Rattle.ladr_top.specs.Output.{report};
 ghost use Rattle.ladr_top.specs.Verdicts.{AreTrueAsTold};
-ghost use Rattle.ladr_top.specs.Worked.{involution_text, involution};
+ghost use Rattle.ladr_top.specs.Worked.{involution_text, involution, constant_text, constant};
 ghost use Rattle.ladr_top.specs.declared.cause.Cause.{Cause};
 ghost use Rattle.ladr_top.specs.declared.cause.Cause.TheVariants.{ReadFault};
 
@@ -19,4 +19,10 @@ pub fn worked()
     ensures says { IsProblem involution_text involution }
     ensures told { AreTrueAsTold (meaning_in involution) involution.formulas (true ∷ false ∷ []) }
     ensures printed { report (true ∷ false ∷ []) ≡ codes "formula 1 true\nformula 2 false\n% True=1. False=1.\n% Exit tested.\n" }
+{}
+
+/// Where a variable is free the formula is asked for each of its elements, so the second of these formulas is false.
+pub fn worked_free()
+    ensures says { IsProblem constant_text constant }
+    ensures told { AreTrueAsTold (meaning_in constant) constant.formulas (true ∷ false ∷ []) }
 {}

@@ -18,7 +18,7 @@ mod truth;
 mod verdicts;
 
 pub use cause::{Cause, Exit, Limit, Place, Shown};
-pub use laws::{one_outcome, worked};
+pub use laws::{one_outcome, worked, worked_free};
 pub use running::run;
 
 #[cfg(test)]
