@@ -10,6 +10,7 @@ pub mod RawCodes
 pub mod RawFalls
 pub mod RawTree
 pub mod RawView
+pub mod Stated
 pub mod SymbolRows
 pub mod SymbolTable
 pub mod TermFalls

@@ -1,0 +1,56 @@
+-- What a file states, and when an interpretation is a countermodel of it.
+use Rattle.std.specs.Prelude.{List, [], ◌∷◌, map}
+use Rattle.fol_core.specs.Fol.{Fol}
+use Rattle.fol_core.specs.FormulaView.{fol_of}
+use Rattle.fol_core.specs.Free.{closure_of}
+use Rattle.fol_core.specs.Meaning.{Meaning}
+use Rattle.fol_core.specs.SymbolTable.{Symbol}
+use Rattle.fol_core.specs.Truth.{Assignment, Holds}
+use Rattle.fol_core.specs.declared.problem.Input.{Input}
+use Rattle.fol_core.specs.declared.problem.Problem.{Problem}
+use Rattle.fol_core.specs.declared.problem.Role.{Role}
+use Rattle.fol_core.specs.declared.problem.Role.TheVariants.{Assumption, Goal}
+
+-- a formula and its role
+pub record Said : Type 0 where
+  pub role : Role
+  pub formula : Fol
+
+abbrev pub said : Role → Fol → Said
+said role formula = record { role = role; formula = formula }
+
+-- what a file states: its symbols by number, and its formulas in their order
+pub record Stated : Type 0 where
+  pub symbols : List Symbol
+  pub formulas : List Said
+
+abbrev pub stated : List Symbol → List Said → Stated
+stated symbols formulas = record { symbols = symbols; formulas = formulas }
+
+-- what a problem of the code states
+abbrev pub said_of : Input → Said
+said_of i = said i.role (fol_of i.formula.shape)
+
+abbrev pub all_said : List Input → List Said
+all_said inputs = map said_of inputs
+
+abbrev pub stated_of : Problem → Stated
+stated_of p = stated p.symbols (all_said p.inputs.items)
+
+-- every variable is element 0; a closure has no variable that it matters for
+abbrev pub zero : Assignment
+zero x = 0
+
+-- the closure of a formula is true in an interpretation
+abbrev pub IsTrueIn : Meaning → Fol → Type 0
+IsTrueIn m f = Holds m zero (closure_of f)
+
+-- an assumption is true, a goal is false
+abbrev pub IsAsRoled : Meaning → Role → Fol → Type 0
+IsAsRoled m Assumption f = IsTrueIn m f
+IsAsRoled m Goal f = ¬ IsTrueIn m f
+
+-- each assumption is true, and each goal is false
+abbrev pub IsCountermodel : Meaning → List Said → Type 0
+IsCountermodel m [] = Unit {0}
+IsCountermodel m (s ∷ ss) = IsAsRoled m s.role s.formula × IsCountermodel m ss
