@@ -81,10 +81,20 @@ impl MemSource {
         ensures piece { result.piece ≡ usize.MAX }
         ensures calls { result.calls ≡ record { fails = fails.items; made = 0; faults = 0 } }
     {
+        MemSource::with_piece(bytes, usize::MAX, fails)
+    }
+
+    /// The same, but a call gives at most so many bytes.
+    pub fn with_piece(bytes: Vec<u8>, piece: usize, fails: Vec<u64>) -> Self
+        requires { 0 < piece }
+        ensures left { result.left ≡ bytes.items }
+        ensures piece { result.piece ≡ piece }
+        ensures calls { result.calls ≡ record { fails = fails.items; made = 0; faults = 0 } }
+    {
         MemSource {
             bytes,
             at: 0,
-            piece: usize::MAX,
+            piece,
             calls: Calls::new(fails),
         }
     }
@@ -160,9 +170,19 @@ impl MemSink {
         ensures piece { result.piece ≡ usize.MAX }
         ensures calls { result.calls ≡ record { fails = fails.items; made = 0; faults = 0 } }
     {
+        MemSink::with_piece(alloc, usize::MAX, fails)
+    }
+
+    /// The same, but a call takes at most so many bytes.
+    pub fn with_piece(alloc: Global, piece: usize, fails: Vec<u64>) -> Self
+        requires { 0 < piece }
+        ensures held { result.held ≡ [] }
+        ensures piece { result.piece ≡ piece }
+        ensures calls { result.calls ≡ record { fails = fails.items; made = 0; faults = 0 } }
+    {
         MemSink {
             bytes: Vec::new(alloc),
-            piece: usize::MAX,
+            piece,
             calls: Calls::new(fails),
         }
     }

@@ -56,3 +56,16 @@ fn last_reading_repeats(rt: HostRuntime) -> Result<(), Fail> {
     assert_eq!(rt; MemClock::new(Vec::new(rt.alloc())).read(), 0);
     Ok(())
 }
+
+// Two bytes a call: the third read and the third write fail.
+#[test]
+fn moves_small_pieces(rt: HostRuntime) -> Result<(), Fail> {
+    let bytes = vec![in rt.alloc(); b'a'; 5]?;
+    let mut source = MemSource::with_piece(bytes, 2, vec![in rt.alloc(); 3]?);
+    assert_eq!(rt; read_all(rt.alloc(), &mut source, 5), Err(ReadAll::Failed));
+    assert_eq!(rt; source.left().len(), 1);
+    let mut sink = MemSink::with_piece(rt.alloc(), 2, vec![in rt.alloc(); 3]?);
+    assert_eq!(rt; write_all(&mut sink, b"pieces"), Err(Failed));
+    assert_eq!(rt; sink.bytes(), b"piec".as_slice());
+    Ok(())
+}
