@@ -1,0 +1,57 @@
+-- The task that words are.
+use Rattle.std.specs.Prelude.{ℕ, ◌==◌, ◌&&◌, ◌^◌, ◌-◌, ◌≤◌, if◌then◌else◌, nat_le, List, length, Option, Some, None, option_and_then, IfSome, codes}
+use Rattle.std.specs.Str.{bytes_eq}
+use Rattle.std.specs.Str.Parse.{digits_value, without_leading_plus}
+use Rattle.clap.specs.Walk.{Row, one_of}
+use Rattle.clap.specs.Simple.{subcommand_of}
+use Rattle.clap.specs.Faults.{fault_of}
+use Rattle.clap.specs.ValueTests.{is_unsigned_in}
+use Rattle.ladr_words.specs.Commands.{ladr_app}
+use Rattle.ladr_words.specs.declared.task.Task.{Task}
+use Rattle.ladr_words.specs.declared.task.Task.TheVariants.{Clausetester, Mace4}
+use Rattle.ladr_words.specs.declared.task.ModelOptions.{ModelOptions}
+
+-- the number that a text writes in decimal digits, with a plus before them or not; it has at most 64 bits
+abbrev pub number_of : List ℕ → Option ℕ
+number_of text = if is_unsigned_in 0 (2 ^ 64 - 1) text then Some (digits_value 10 (without_leading_plus text)) else None
+
+-- the number, if it is from least to most
+abbrev pub within : ℕ → ℕ → ℕ → Option ℕ
+within least most n = if nat_le least n && nat_le n most then Some n else None
+
+-- the number of an option, where it is given
+abbrev pub number_given : List ℕ → List Row → Option ℕ
+number_given name rows = option_and_then number_of (one_of name rows)
+
+abbrev pub number_within : List ℕ → ℕ → ℕ → List Row → Option ℕ
+number_within name least most rows = option_and_then (within least most) (number_given name rows)
+
+-- the options of a search for models
+abbrev pub model_options : List Row → ModelOptions
+model_options rows = record {
+  start_size = number_within (codes "start_size") 1 200 rows;
+  end_size = number_within (codes "end_size") 1 200 rows;
+  max_models = number_within (codes "max_models") 1 2147483647 rows;
+  max_seconds = number_within (codes "max_seconds") 0 2147483647 rows;
+}
+
+-- the task of a command's name and of what clap found of its arguments
+abbrev pub task_named : List ℕ → List Row → Option Task
+task_named name rows =
+    if bytes_eq name (codes "clausetester") then Some Clausetester
+    else (if bytes_eq name (codes "mace4") then Some (Mace4 (model_options rows)) else None)
+
+-- the task of the words: none where clap has an error for them
+unfoldable pub task_of : List (List ℕ) → Option Task
+task_of words =
+    if length (fault_of ladr_app words) == 0 then option_and_then (λ found. task_named found.0 found.1) (subcommand_of ladr_app words) else None
+
+-- a number that is given is from least to most
+abbrev pub IsFrom : ℕ → ℕ → Option ℕ → Type 0
+IsFrom least most given = IfSome given (λ n. (least ≤ n) × (n ≤ most))
+
+-- each number of a task is in its range
+abbrev pub HasRanges : Task → Type 0
+HasRanges Clausetester = Unit {0}
+HasRanges (Mace4 options) =
+    IsFrom 1 200 options.start_size × IsFrom 1 200 options.end_size × IsFrom 1 2147483647 options.max_models × IsFrom 0 2147483647 options.max_seconds
