@@ -1,5 +1,5 @@
 -- How a term as read is a formula.
-use Rattle.std.specs.Prelude.{◌≡◌, IsTrue, ℕ, suc, ◌+◌, ◌==◌, nat_le, nat_lt, min, Bool, true, false, not, ◌&&◌, ◌||◌, List, [], ◌∷◌, ◌++◌, length, Option, Some, None, is_some, is_none, unwrap_or, if◌then◌else◌, codes}
+use Rattle.std.specs.Prelude.{◌≡◌, IsTrue, ℕ, suc, ◌==◌, nat_le, nat_lt, min, Bool, true, false, ◌&&◌, ◌||◌, List, [], ◌∷◌, ◌++◌, length, Option, Some, None, is_some, is_none, unwrap_or, if◌then◌else◌, codes}
 use Rattle.std.specs.Option.{option_map}
 use Rattle.std.specs.Str.{bytes_eq}
 use Rattle.fol_core.specs.Fol.{Fol, verum, falsum, equal, atom, denied, both, either, implies, iff, every, some}

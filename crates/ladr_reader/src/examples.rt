@@ -1,14 +1,14 @@
 // Readings of terms, worked out.
-ghost use Rattle.std.specs.Prelude.{◌≡◌, [], ◌∷◌, codes, Some};
-ghost use Rattle.fol_core.specs.Fol.{equal, atom, implies, every};
+ghost use Rattle.std.specs.Prelude.{◌≡◌, [], ◌∷◌, codes, None, Some};
+ghost use Rattle.fol_core.specs.Fol.{verum, falsum, equal, atom, denied, both, either, implies, iff, every};
 ghost use Rattle.fol_core.specs.SymbolTable.{symbol};
-ghost use Rattle.fol_core.specs.Tree.{var, none, more};
+ghost use Rattle.fol_core.specs.Tree.{var, elem, app, none, more};
 ghost use Rattle.fol_core.specs.declared.symbols.Kind.TheVariants.{Function, Relation};
-ghost use Rattle.ladr_reader.specs.Formulas.{formula_reading, fault_of, names_of};
-ghost use Rattle.ladr_reader.specs.WorkedFormulas.{for_tester, function, bound_and_free, involution, one_name_twice, misuses};
+ghost use Rattle.ladr_reader.specs.Formulas.{formula_reading, names_of};
+ghost use Rattle.ladr_reader.specs.WorkedFormulas.{for_tester, for_prover, in_prolog, refusal, leaf, one_part, function, bound_and_free, involution, one_name_twice, misuses, numeral, three_arities, constant_bound, denial_of_two, connectives, great_numeral, great_function};
 ghost use Rattle.ladr_reader.specs.declared.styles.FormulaError.TheVariants.{Row};
 
-/// The formulas of four terms.
+/// Terms and their formulas.
 pub fn worked_formulas()
     // all x p(x,f(y)): the bound variable is number 0, the free one number 1; p comes before f.
     ensures bound_and_free { (formula_reading for_tester [] bound_and_free).tree ≡ every 0 (atom 0 (more (var 0) (more (function 1 (var 1)) none))) }
@@ -18,6 +18,35 @@ pub fn worked_formulas()
     ensures involution { (formula_reading for_tester [] involution).tree ≡ equal (function 0 (function 0 (var 0))) (var 0) }
     // p(x) <- (all x q(x)): the premise is read first, and the free x is another variable than the bound one.
     ensures one_name_twice { (formula_reading for_tester [] one_name_twice).tree ≡ implies (every 0 (atom 0 (more (var 0) none))) (atom 1 (more (var 1) none)) }
+    // p(f,f(x),f(x,x)): three symbols have the name f.
+    ensures three_arities { (formula_reading for_tester [] three_arities).tree ≡ atom 0 (more (app 1 none) (more (function 2 (var 0)) (more (app 3 (more (var 0) (more (var 0) none))) none))) }
+    // $T <-> ($F & (t | u(x)))
+    ensures connectives { (formula_reading for_tester [] connectives).tree ≡ iff verum (both falsum (either (atom 0 none) (atom 1 (more (var 0) none)))) }
+    // all $T p($T): what is quantified is a variable whatever its name.
+    ensures constant_bound { (formula_reading for_tester [] constant_bound).tree ≡ every 0 (atom 0 (more (var 0) none)) }
+    // -(p,q): `-` denies one formula, and of two terms it is a relation.
+    ensures denial_of_two { (formula_reading for_tester [] denial_of_two).tree ≡ atom 0 (more (app 1 none) (more (app 2 none) none)) }
+    // a != 2: for the prover 2 is a constant.
+    ensures element { (formula_reading for_tester [] numeral).tree ≡ denied (equal (app 0 none) (elem 2)) }
+    ensures constant { (formula_reading for_prover [] numeral).tree ≡ denied (equal (app 0 none) (app 1 none)) }
+{}
+
+/// Terms that aren't read as formulas.
+pub fn worked_refusals()
     // f is a relation and a function (9), x a variable where a formula is wanted (10), and a numeral too great (16).
-    ensures misuses { fault_of (formula_reading for_tester [] misuses).reading ≡ Some (Row 9) }
+    ensures misuses { refusal for_tester misuses ≡ Some (Row 9) }
+    // x and, with the variables of Prolog, X
+    ensures variable { refusal for_tester (leaf (codes "x")) ≡ Some (Row 10) }
+    ensures prolog { refusal in_prolog (leaf (codes "X")) ≡ Some (Row 10) }
+    ensures no_variable { refusal in_prolog (leaf (codes "x")) ≡ None }
+    // p(all x p(x)): a quantifier below a relation
+    ensures quantifier { refusal for_tester (one_part (codes "p") bound_and_free) ≡ Some (Row 11) }
+    // p(#)
+    ensures hash { refusal for_tester (one_part (codes "p") (leaf (codes "#"))) ≡ Some (Row 12) }
+    // 3(a)
+    ensures numeral { refusal for_tester (one_part (codes "3") (leaf (codes "a"))) ≡ Some (Row 16) }
+    // p(1000000000) and p(1000000000(a)): for the prover these are symbols.
+    ensures great { refusal for_tester great_numeral ≡ Some (Row 16) }
+    ensures great_function { refusal for_tester great_function ≡ Some (Row 16) }
+    ensures symbols { refusal for_prover great_function ≡ None }
 {}

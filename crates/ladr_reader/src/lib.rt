@@ -19,7 +19,7 @@ mod stack;
 mod step;
 mod styles;
 
-pub use examples::worked_formulas;
+pub use examples::{worked_formulas, worked_refusals};
 pub use fault::TermFault;
 pub use formulas::formula_of;
 pub use laws::{one_reading, worked_first, worked_more};
