@@ -1,10 +1,8 @@
 pub mod ItemLemmas
 pub mod OneEnd
-pub mod Places
 pub mod Powers
 pub mod Printing
 pub mod ProblemLemmas
 pub mod Reading
-pub mod Slots
 pub mod Told
 pub mod ValuesFor

@@ -46,10 +46,10 @@ values_some (t ∷ ts) name arity k kind e =
     some_step (is_called name arity t.head) (number_of (heads_of ts) name arity) t ts k kind _ e (λ j f. values_some ts name arity j kind f)
 
 -- a function of the symbols so far and of one more
-pub map_one_more : (f : Symbol → List ℕ) (table : List Symbol) (n : ℕ) → n < length table → map f (take (n + 1) table) ≡ map f (take n table) ++ f (symbol (name_at table n) (arity_at table n) (kind_at table n)) ∷ []
+pub map_one_more : {A : Type 0} (f : Symbol → A) (table : List Symbol) (n : ℕ) → n < length table → map f (take (n + 1) table) ≡ map f (take n table) ++ f (symbol (name_at table n) (arity_at table n) (kind_at table n)) ∷ []
 map_one_more f [] n h = absurd (omega arith)
 map_one_more f (s ∷ ss) zero h = refl
-map_one_more f (s ∷ ss) (suc n) h = let k : n < length ss = omega arith in let e : suc n + 1 ≡ suc (n + 1) = omega arith in rw e (ap (λ (r : List (List ℕ)). f s ∷ r) (map_one_more f ss n k))
+map_one_more f (s ∷ ss) (suc n) h = let k : n < length ss = omega arith in let e : suc n + 1 ≡ suc (n + 1) = omega arith in rw e (ap (λ r. f s ∷ r) (map_one_more f ss n k))
 
 -- the values of an entry are those at its place
 pub values_of_entry : (es : List Entry) (k : ℕ) (e : Entry) → k < length es → e ≡ get_or es k e → e.values.items ≡ values_at (tables_of es) k

@@ -5,7 +5,7 @@ use Rattle.fol_core.specs.SymbolTable.{Symbol, is_called, is_same_kind, number_o
 use Rattle.fol_core.specs.declared.symbols.Kind.{Kind}
 use Rattle.fol_core.specs.declared.symbols.Kind.TheVariants.{Function, Relation}
 use Rattle.ladr_top.specs.Grammar.{Table, ByName}
-use Rattle.ladr_top.specs.Tables.{Finite}
+use Rattle.model_tables.specs.Tables.{Listing, Finite, listing}
 
 -- what the values of a symbol are below, where there are n elements
 abbrev pub bound_of : ℕ → Kind → ℕ
@@ -33,9 +33,13 @@ abbrev pub values_for : List Table → Symbol → List ℕ
 values_for [] s = []
 values_for (t ∷ ts) s = if is_called s.name s.arity t.head then (if is_same_kind t.head.kind s.kind then t.values else []) else values_for ts s
 
+-- the symbol's kind and those values
+abbrev pub listing_for : List Table → Symbol → Listing
+listing_for ts s = listing s.kind (values_for ts s)
+
 -- the tables that it gives to the symbols
 abbrev pub tables_for : ByName → List Symbol → Finite
-tables_for it table = record { top = it.size - 1; rows = map (values_for it.entries) table }
+tables_for it table = record { top = it.size - 1; rows = map (listing_for it.entries) table }
 
 -- each of the symbols has an entry
 abbrev pub covers : ByName → List Symbol → Bool

@@ -8,10 +8,7 @@ pub mod Outcome
 pub mod Output
 pub mod Problem
 pub mod Reading
-pub mod Tables
-pub mod TablesLaws
 pub mod Tests
-pub mod Variables
 pub mod Verdicts
 pub mod Words
 pub mod Worked

@@ -17,7 +17,7 @@ use Rattle.ladr_reader.specs.declared.styles.Style.{Style}
 use Rattle.ladr_top.specs.ByName.{tables_for, is_good, covers}
 use Rattle.ladr_top.specs.Grammar.{ByName, interpretation_of}
 use Rattle.ladr_top.specs.Items.{items_of}
-use Rattle.ladr_top.specs.Tables.{meaning_of}
+use Rattle.model_tables.specs.Tables.{meaning_of}
 use Rattle.ladr_top.specs.Tests.{is_open, is_close, is_stop, is_word, is_number}
 
 -- what an input says: its symbols by number, its formulas in order, and its interpretation

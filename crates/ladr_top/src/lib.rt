@@ -4,7 +4,6 @@
 mod cause;
 mod cursor;
 mod entry;
-mod env;
 mod fault;
 mod interpretation;
 mod items;
@@ -12,9 +11,7 @@ mod laws;
 mod named;
 mod problem;
 mod running;
-mod tables;
 mod text;
-mod truth;
 mod verdicts;
 
 pub use cause::{Cause, Exit, Limit, Place, Shown};

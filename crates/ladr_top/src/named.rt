@@ -8,8 +8,8 @@ ghost use Rattle.ladr_top.specs.Grammar.{ByName};
 
 use crate::entry::Entry;
 use crate::fault::Fault;
-use crate::tables::{Row, Tables};
 use fol_core::{Kind, Sym, Symbols};
+use model_tables::{Row, Tables};
 use std::alloc::{AllocError, Global};
 
 /// An interpretation by names: how many elements, the entries, and the table of their symbols.
@@ -156,13 +156,9 @@ pub fn bind(alloc: Global, named: &Named, symbols: &Symbols) -> Result<Tables, A
     let mut rows = Vec::new(alloc);
     for number in 0..symbols.len() {
         let symbol = Sym(number as u64);
-        let values = values_for(
-            named,
-            symbols.name(symbol),
-            symbols.arity(symbol),
-            symbols.kind(symbol),
-        );
-        rows.push(Row::new(Vec::from_slice(alloc, values)?))?;
+        let kind = symbols.kind(symbol);
+        let values = values_for(named, symbols.name(symbol), symbols.arity(symbol), kind);
+        rows.push(Row::new(kind, Vec::from_slice(alloc, values)?))?;
     }
-    Ok(Tables::new(named.size - 1, rows))
+    Ok(Tables::new(named.size, rows))
 }

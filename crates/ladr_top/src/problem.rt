@@ -18,10 +18,10 @@ use crate::fault::Fault;
 use crate::interpretation::read_by_name;
 use crate::items::{are_in_formula, are_plain, is_closing, is_opening, item_end};
 use crate::named::{Named, bind, checked};
-use crate::tables::Tables;
 use fol_core::{Formula, Input, Problem, Raw, Role, Symbols};
 use ladr_lex::{Ops, Token, tokens};
 use ladr_reader::{FormulaError, Mode, TermFault, formula_of, read_term};
+use model_tables::Tables;
 use std::alloc::Global;
 
 // The formula of a term as read, if it is sound; its symbols are entered.

@@ -1,6 +1,6 @@
 use crate::run;
-use crate::tables::Tables;
 use ladr_io::{MemClock, MemSink, MemSource};
+use model_tables::Tables;
 use std::alloc::{AllocError, Global};
 use std::test::Fail;
 
@@ -37,7 +37,7 @@ fn runs_end_as_told(rt: HostRuntime) -> Result<(), Fail> {
         ("mace4", INVOLUTION, 0, 1, 11, ""),
     ] {
         let words = vec![in rt.alloc(); String::from_str(rt.alloc(), word)?]?;
-        let any = Tables::new(0, Vec::new(rt.alloc()));
+        let any = Tables::new(1, Vec::new(rt.alloc()));
         let bytes = input.as_bytes().to_vec(rt.alloc())?;
         let mut source = MemSource::new(bytes, failing(rt.alloc(), read)?);
         let mut sink = MemSink::new(rt.alloc(), failing(rt.alloc(), write)?);

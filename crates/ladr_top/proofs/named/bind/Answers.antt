@@ -1,6 +1,6 @@
 use Rattle.std.proofs.Common.{◌≡◌, ◌<◌, length, refl, sym, ◌∙◌, arith}
 use Rattle.fol_core.specs.SymbolTable.{symbol, name_at, arity_at, kind_at}
-use Rattle.ladr_top.specs.ByName.{values_for}
+use Rattle.ladr_top.specs.ByName.{values_for, listing_for}
 use Rattle.ladr_top.specs.Entries.{tables_of}
 use Rattle.ladr_top.proofs.ValuesFor.{map_one_more}
 use Rattle.ladr_top.proofs.named.bind.Goals as goal
@@ -12,5 +12,5 @@ loop-number-preserved c =
     let n = c.loop-number.number in
     let below : n < length table = omega arith in
     let made : c.in_ok-from_slice.field-0.items ≡ values_for ts (symbol (name_at table n) (arity_at table n) (kind_at table n)) =
-    c.in_ok-from_slice.ensures.items ∙ rw (c.values_for-values.ensures, c.name.ensures, c.arity.ensures, c.kind.ensures) refl in
-    rw (c.in_ok-push.ensures.items, c.new.ensures, made, c.loop-number.invariant) (sym (map_one_more (values_for ts) table n below))
+    c.in_ok-from_slice.ensures.items ∙ rw (c.values_for-values.ensures, c.name.ensures, c.arity.ensures, c.kind-kind.ensures) refl in
+    rw (c.in_ok-push.ensures.items, c.new.ensures, made, c.kind-kind.ensures, c.loop-number.invariant) (sym (map_one_more (listing_for ts) table n below))

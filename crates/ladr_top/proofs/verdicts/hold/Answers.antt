@@ -1,4 +1,4 @@
-use Rattle.ladr_top.specs.Tables.{meaning_of}
+use Rattle.model_tables.specs.Tables.{meaning_of}
 use Rattle.ladr_top.proofs.Told.{told_more, fols_more}
 use Rattle.ladr_top.proofs.verdicts.hold.Goals as goal
 

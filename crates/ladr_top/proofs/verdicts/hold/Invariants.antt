@@ -1,7 +1,7 @@
 -- the formulas so far are true as told
 use Rattle.std.proofs.Common.{take}
 use Rattle.ladr_top.specs.Inputs.{fols_of}
-use Rattle.ladr_top.specs.Tables.{meaning_of}
+use Rattle.model_tables.specs.Tables.{meaning_of}
 use Rattle.ladr_top.specs.Verdicts.{AreTrueAsTold}
 use Rattle.ladr_top.proofs.verdicts.hold.Given as goal
 

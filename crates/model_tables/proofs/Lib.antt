@@ -1,0 +1,5 @@
+pub mod Elements
+pub mod Numbers
+pub mod Places
+pub mod Slots
+pub mod Stepped

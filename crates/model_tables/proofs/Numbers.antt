@@ -1,0 +1,82 @@
+-- Numbers of lists of digits.
+use Rattle.std.proofs.Common.{◌≡◌, ℕ, zero, suc, ◌+◌, ◌*◌, ◌<◌, ◌≤◌, List, [], ◌∷◌, length, set, get_or, drop, inl, inr, refl, sym, ap, ap₂, ◌∙◌, arith}
+use Rattle.std.proofs.lemmas.Bool.{cases_lt}
+use Rattle.std.proofs.Math.Nat.{mul-le-mul_right}
+use Rattle.model_tables.specs.Digits.{AreDigits, count, number}
+
+-- a number of digits is below the count
+pub number_below : (bs ds : List ℕ) → AreDigits bs ds → number bs ds < count bs
+number_below [] [] h = omega arith
+number_below [] (d ∷ ds) h = absurd h
+number_below (b ∷ bs) [] h = absurd h
+number_below (b ∷ bs) (d ∷ ds) h =
+    let more : suc d * count bs ≤ b * count bs = mul-le-mul_right (count bs) h.0 in
+    omega (arith, number_below bs ds h.1)
+
+first_same : (c d e r s : ℕ) → r < c → s < c → d * c + r ≡ e * c + s → (d ≡ e) × (r ≡ s)
+first_same c d e r s rc sc h = elim (cases_lt d e) [
+  | inl lt ↦ let more : suc d * c ≤ e * c = mul-le-mul_right c lt in absurd (omega arith)
+  | inr le ↦ elim (cases_lt e d) [
+    | inl lt ↦ let more : suc e * c ≤ d * c = mul-le-mul_right c lt in absurd (omega arith)
+    | inr ge ↦ let same : d ≡ e = omega arith in (same, omega (arith, ap (λ x. x * c) same))
+  ]
+]
+
+-- digits that write the same number are the same
+pub number_same : (bs ds es : List ℕ) → AreDigits bs ds → AreDigits bs es → number bs ds ≡ number bs es → ds ≡ es
+number_same [] [] [] h k e = refl
+number_same [] [] (x ∷ es) h k e = absurd k
+number_same [] (d ∷ ds) es h k e = absurd h
+number_same (b ∷ bs) [] es h k e = absurd h
+number_same (b ∷ bs) (d ∷ ds) [] h k e = absurd k
+number_same (b ∷ bs) (d ∷ ds) (x ∷ es) h k e =
+    let parts = first_same (count bs) d x (number bs ds) (number bs es) (number_below bs ds h.1) (number_below bs es k.1) e in
+    ap₂ (λ y ys. y ∷ ys) parts.0 (number_same bs ds es h.1 k.1 parts.1)
+
+-- what a changed digit changes
+pub number_set : (bs ds : List ℕ) (i v : ℕ) → AreDigits bs ds → i < length ds
+    → number bs (set ds i v) + get_or ds i 0 * count (drop (suc i) bs) ≡ number bs ds + v * count (drop (suc i) bs)
+number_set [] [] i v h l = absurd (omega arith)
+number_set [] (d ∷ ds) i v h l = absurd h
+number_set (b ∷ bs) [] i v h l = absurd h
+number_set (b ∷ bs) (d ∷ ds) zero v h l = omega arith
+number_set (b ∷ bs) (d ∷ ds) (suc i) v h l = omega (arith, number_set bs ds i v h.1 (omega arith))
+
+-- a digit below its bound may be changed
+pub set_digit : (bs ds : List ℕ) (i v : ℕ) → AreDigits bs ds → v < get_or bs i 0 → AreDigits bs (set ds i v)
+set_digit [] [] i v h l = tt
+set_digit [] (d ∷ ds) i v h l = absurd h
+set_digit (b ∷ bs) [] i v h l = absurd h
+set_digit (b ∷ bs) (d ∷ ds) zero v h l = (l, h.1)
+set_digit (b ∷ bs) (d ∷ ds) (suc i) v h l = (h.0, set_digit bs ds i v h.1 l)
+
+pub digit_below : (bs ds : List ℕ) (i : ℕ) → AreDigits bs ds → i < length ds → get_or ds i 0 < get_or bs i 0
+digit_below [] [] i h l = absurd (omega arith)
+digit_below [] (d ∷ ds) i h l = absurd h
+digit_below (b ∷ bs) [] i h l = absurd h
+digit_below (b ∷ bs) (d ∷ ds) zero h l = h.0
+digit_below (b ∷ bs) (d ∷ ds) (suc i) h l = digit_below bs ds i h.1 (omega arith)
+
+pub digits_many : (bs ds : List ℕ) → AreDigits bs ds → length ds ≡ length bs
+digits_many [] [] h = refl
+digits_many [] (d ∷ ds) h = absurd h
+digits_many (b ∷ bs) [] h = absurd h
+digits_many (b ∷ bs) (d ∷ ds) h = ap suc (digits_many bs ds h.1)
+
+-- the digit at i counts as many as its bound allows of what it counts
+pub count_drop : (bs : List ℕ) (i : ℕ) → i < length bs → count (drop i bs) ≡ get_or bs i 0 * count (drop (suc i) bs)
+count_drop [] i l = absurd (omega arith)
+count_drop (b ∷ bs) zero l = refl
+count_drop (b ∷ bs) (suc i) l = count_drop bs i (omega arith)
+
+-- one more at i, where what is behind it has run through
+pub step_up : (bs ds : List ℕ) (i n : ℕ) → AreDigits bs ds → i < length ds → number bs ds + count (drop (suc i) bs) ≡ n → number bs (set ds i (get_or ds i 0 + 1)) ≡ n
+step_up bs ds i n h l e = omega (arith, number_set bs ds i (get_or ds i 0 + 1) h l)
+
+-- 0 at i, where it and what is behind it have run through
+pub step_over : (bs ds : List ℕ) (i n : ℕ) → AreDigits bs ds → i < length ds → get_or ds i 0 + 1 ≡ get_or bs i 0
+    → number bs ds + count (drop (suc i) bs) ≡ n → number bs (set ds i 0) + count (drop i bs) ≡ n
+step_over bs ds i n h l top e =
+    let many : i < length bs = omega (arith, digits_many bs ds h) in
+    let whole : count (drop i bs) ≡ (get_or ds i 0 + 1) * count (drop (suc i) bs) = count_drop bs i many ∙ ap (λ b. b * count (drop (suc i) bs)) (sym top) in
+    omega (arith, number_set bs ds i 0 h l, whole)

@@ -1,0 +1,4 @@
+pub mod Digits
+pub mod Tables
+pub mod TablesLaws
+pub mod Variables

@@ -1,0 +1,61 @@
+// A function that exchanges two elements, and whether it is its own inverse and moves each element.
+use crate::{Env, Row, Tables, closure_truth, reserve_closure, truth, value};
+use fol_core::{Formula, Kind, Names, Shape, Sub, Sym, Term, Terms, free_vars};
+use std::alloc::{AllocError, Global};
+use std::test::Fail;
+
+// f of a term.
+fn f(alloc: Global, term: Term) -> Result<Term, AllocError> {
+    let mut terms = Terms::new(alloc);
+    terms.push(term)?;
+    Ok(Term::App(Sym(0), terms))
+}
+
+fn exchange(alloc: Global) -> Result<Tables, AllocError> {
+    let values = vec![in alloc; 1, 0]?;
+    Ok(Tables::new(2, vec![in alloc; Row::new(Kind::Function, values)]?))
+}
+
+// Whether the closure of a formula is true where f exchanges two elements.
+fn holds(alloc: Global, shape: Shape) -> Result<bool, AllocError> {
+    let tables = exchange(alloc)?;
+    let names = Names::new(alloc);
+    let formula = Formula { shape, names };
+    let variables = free_vars(alloc, &formula)?;
+    let mut env = Env::new(alloc);
+    reserve_closure(&mut env, &formula, &variables)?;
+    Ok(closure_truth(&tables, &formula, &variables, &mut env))
+}
+
+#[test]
+fn closures_are_true_or_false(rt: HostRuntime) -> Result<(), Fail> {
+    let alloc = rt.alloc();
+    let twice = f(alloc, f(alloc, Term::Var(0))?)?;
+    assert!(rt; holds(alloc, Shape::Eq(twice, Term::Var(0)))?);
+    let once = f(alloc, Term::Var(0))?;
+    assert!(rt; !holds(alloc, Shape::Eq(once, Term::Var(0)))?);
+    let once = f(alloc, Term::Var(0))?;
+    let fixed = Shape::Exists(0, Sub::new(alloc, Shape::Eq(once, Term::Var(0)))?);
+    assert!(rt; !holds(alloc, fixed)?);
+    Ok(())
+}
+
+#[test]
+fn variables_have_elements(rt: HostRuntime) -> Result<(), Fail> {
+    let alloc = rt.alloc();
+    let tables = exchange(alloc)?;
+    let mut env = Env::new(alloc);
+    env.reserve(2)?;
+    env.set(1, 1);
+    assert_eq!(rt; (env.get(0), env.get(1), env.get(2)), (None, Some(1), None));
+    assert_eq!(rt; value(&tables, &f(alloc, Term::Var(1))?, &env), 0);
+    let shape = Shape::Eq(f(alloc, Term::Var(1))?, Term::Elem(0));
+    let names = Names::new(alloc);
+    assert!(rt; truth(&tables, &Formula { shape, names }, &mut env));
+    assert_eq!(rt;
+        (tables.size(), tables.has(Sym(0)), tables.has(Sym(1))),
+        (2, true, false)
+    );
+    assert_eq!(rt; tables.entry(Sym(0), 0), 1);
+    Ok(())
+}
