@@ -1,12 +1,14 @@
 -- The first item of a list of tokens.
-use Rattle.std.proofs.Common.{◌≡◌, ℕ, zero, suc, ◌+◌, ◌<◌, Bool, true, false, ◌||◌, cond, List, [], ◌∷◌, length, get_or, take, drop, length-drop, refl, ap, ◌∙◌, arith}
+use Rattle.std.proofs.Common.{◌≡◌, ℕ, zero, suc, ◌+◌, ◌<◌, Bool, true, false, ◌||◌, cond, List, [], ◌∷◌, length, get_or, take, drop, length-drop, refl, ap, ◌∙◌, arith, Some}
+use Rattle.std.proofs.lemmas.List.{drop-drop}
 use Rattle.std.specs.List.{list_any}
-use Rattle.fol_core.specs.Fol.{Fol}
+use Rattle.fol_core.specs.Stated.{Said, Stated}
 use Rattle.fol_core.specs.SymbolTable.{Symbol}
 use Rattle.ladr_lex.specs.Lexeme.{Lexeme, lexeme_of, lexemes_of}
 use Rattle.ladr_lex.specs.declared.token.Token.{Token}
+use Rattle.ladr_top.specs.Grammar.{ByName}
 use Rattle.ladr_top.specs.Items.{items_of, in_front}
-use Rattle.ladr_top.specs.Problem.{Tested, Ends}
+use Rattle.ladr_top.specs.Problem.{Ends}
 use Rattle.ladr_top.specs.Tests.{is_stop}
 
 or_false : (a b : Bool) → (a || b) ≡ false → (a ≡ false) × (b ≡ false)
@@ -59,8 +61,12 @@ some_item (t ∷ ts) h = cond_some (is_stop (lexeme_of t)) _ _ (lexeme_of t ∷ 
 
 -- where further tokens follow the first item, it isn't the last one
 pub two_items : (ts : List Token) (item : List Lexeme) (end : ℕ) → items_of (lexemes_of ts) ≡ item ∷ items_of (lexemes_of (drop end ts)) → end < length ts
-    → (table : List Symbol) (fs : List Fol) (p : Tested) → Ends table fs (items_of (lexemes_of ts)) p → ⊥
-two_items ts item end e h table fs p whole =
+    → (table : List Symbol) (ss : List Said) (p : Stated) (it : ByName) → Ends table ss (items_of (lexemes_of ts)) p (Some it) → ⊥
+two_items ts item end e h table ss p it whole =
     let l : 0 < length (drop end ts) = omega (arith, length-drop end ts) in
     let more = some_item (drop end ts) l in
     rw (e, more.1.1) at whole
+
+-- what is left is left of the whole
+pub drop_thrice : (ts : List Token) (a b c : ℕ) → drop c (drop b (drop a ts)) ≡ drop (a + b + c) ts
+drop_thrice ts a b c = ap (drop c) (drop-drop b a ts) ∙ drop-drop c (a + b) ts

@@ -1,7 +1,6 @@
 pub mod ByName
 pub mod Entries
 pub mod Grammar
-pub mod Inputs
 pub mod Items
 pub mod LexemeCodes
 pub mod Outcome

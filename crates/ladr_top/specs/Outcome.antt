@@ -1,10 +1,12 @@
 -- How a run of `clausetester` ends, and what it prints.
-use Rattle.std.specs.Prelude.{◌≡◌, ℕ, ◌<◌, ◌≤◌, Bool, true, false, Result, IsOkAnd, List, [], length, Option, codes}
+use Rattle.std.specs.Prelude.{◌≡◌, ℕ, ◌<◌, ◌≤◌, Bool, true, false, Result, IsOkAnd, List, [], length, Option, Some, codes}
 use Rattle.std.specs.Global.{Vec}
 use Rattle.std.specs.declared.alloc.AllocError.{AllocError}
+use Rattle.fol_core.specs.Stated.{Stated}
 use Rattle.ladr_io.specs.Streams.{Gives, Takes, TakesFront, IsDrained, Rose}
 use Rattle.ladr_top.specs.Output.{report, read_fault_line, unreadable_line, too_large_line, no_command_line}
-use Rattle.ladr_top.specs.Problem.{Tested, IsProblem, meaning_in}
+use Rattle.ladr_top.specs.Grammar.{ByName}
+use Rattle.ladr_top.specs.Problem.{IsProblem, meaning_in}
 use Rattle.ladr_top.specs.Verdicts.{AreTrueAsTold}
 use Rattle.ladr_top.specs.declared.cause.Cause.{Cause}
 use Rattle.ladr_top.specs.declared.cause.Cause.TheVariants.{Done, Words, Unreadable, TooLarge, ReadFault, WriteFault, Memory}
@@ -52,8 +54,9 @@ IsRead g = IsDrained g.left × (length g.bytes ≤ most_bytes)
 -- What the source gave leads to this cause with this text as the whole output: of an input of today's form the truth of
 -- each formula; else the refusal.
 abbrev pub Ends : Given → Cause → List ℕ → Type 0
-Ends g Done text = IsRead g × ((p : Tested) × IsProblem g.bytes p × ((all : List Bool) × AreTrueAsTold (meaning_in p) p.formulas all × (text ≡ report all)))
-Ends g (Unreadable place) text = IsRead g × ((p : Tested) → ¬ IsProblem g.bytes p) × (place ≡ beginning) × (text ≡ unreadable_line 0 1 1 (codes "input"))
+Ends g Done text =
+    IsRead g × ((p : Stated) × ((it : ByName) × IsProblem g.bytes p (Some it) × ((all : List Bool) × AreTrueAsTold (meaning_in p.symbols it) p.formulas all × (text ≡ report all))))
+Ends g (Unreadable place) text = IsRead g × ((p : Stated) (it : ByName) → ¬ IsProblem g.bytes p (Some it)) × (place ≡ beginning) × (text ≡ unreadable_line 0 1 1 (codes "input"))
 Ends g (TooLarge byte what) text = (most_bytes < length g.bytes) × (byte ≡ most_bytes) × (what ≡ limits.Input) × (text ≡ too_large_line most_bytes (codes "input"))
 Ends g ReadFault text = Rose g.faults_before g.faults_after × (text ≡ read_fault_line)
 Ends g Words text = ⊥

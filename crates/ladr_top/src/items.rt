@@ -1,11 +1,12 @@
 // Items of the input.
-ghost use Rattle.std.specs.Prelude.{◌≡◌, ◌∷◌, ◌<◌, ◌≤◌, take, drop, length, slice_range};
+ghost use Rattle.std.specs.Prelude.{◌≡◌, ◌∷◌, ◌<◌, ◌≤◌, take, drop, length, slice_range, MatchOption, None};
 ghost use Rattle.std.specs.List.{list_all};
 ghost use Rattle.ladr_lex.specs.Lexeme.{lexeme_of, lexemes_of};
 ghost use Rattle.ladr_top.specs.Items.{items_of};
-ghost use Rattle.ladr_top.specs.Problem.{is_plain, is_in_formula, is_opening, is_closing};
+ghost use Rattle.ladr_top.specs.Problem.{is_plain, is_in_formula, role_in, opens, is_closing};
 
 use crate::cursor::{Cursor, is_close, is_number, is_open, is_stop, is_word};
+use fol_core::Role;
 use ladr_lex::{Token, TokenKind};
 
 // How many tokens the first item has: those up to the first full stop, or all.
@@ -75,33 +76,49 @@ pub fn are_in_formula(tokens: &[Token]) -> bool
     true
 }
 
-/// Whether an item is `formulas(assumptions).`
-pub fn is_opening(tokens: &[Token]) -> bool
-    ensures { result ≡ is_opening (lexemes_of tokens.now) }
+// The role of the formulas of a list with this name.
+fn role(token: Token) -> Option<Role>
+    ensures { result ≡ role_in (lexeme_of token.entry) }
+{
+    if is_word(token, b"assumptions") {
+        Some(Role::Assumption)
+    } else if is_word(token, b"goals") {
+        Some(Role::Goal)
+    } else {
+        None
+    }
+}
+
+// The name of the list that an item opens.
+fn opened<'a>(tokens: &'a [Token<'a>]) -> Option<Token<'a>>
+    ensures { MatchOption result (opens (lexemes_of tokens.now) ≡ None) (λ name. opens (lexemes_of tokens.now) ≡ role_in (lexeme_of name)) }
 {
     let mut cursor = Cursor::new(tokens);
-    let Some(word) = cursor.next() else {
-        return false;
-    };
-    let Some(open) = cursor.next() else {
-        return false;
-    };
-    let Some(name) = cursor.next() else {
-        return false;
-    };
-    let Some(close) = cursor.next() else {
-        return false;
-    };
-    let Some(stop) = cursor.next() else {
-        return false;
-    };
+    let word = cursor.next()?;
+    let open = cursor.next()?;
+    let name = cursor.next()?;
+    let close = cursor.next()?;
+    let stop = cursor.next()?;
     if cursor.next().is_some() {
-        return false;
+        return None;
     }
-    if !is_word(word, b"formulas") || !is_open(open) || !is_word(name, b"assumptions") {
-        return false;
+    if !is_word(word, b"formulas") || !is_open(open) {
+        return None;
     }
-    is_close(close) && is_stop(stop)
+    if !is_close(close) || !is_stop(stop) {
+        return None;
+    }
+    Some(name)
+}
+
+/// The role of the list that an item opens: it is `formulas(assumptions).` or `formulas(goals).`
+pub fn opens(tokens: &[Token]) -> Option<Role>
+    ensures { result ≡ opens (lexemes_of tokens.now) }
+{
+    match opened(tokens) {
+        None => None,
+        Some(name) => role(name),
+    }
 }
 
 /// Whether an item is `end_of_list.`

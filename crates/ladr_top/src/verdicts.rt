@@ -1,12 +1,11 @@
 // The truth of the formulas of an input.
 ghost use Rattle.std.specs.Prelude.{◌≡◌, ◌≢◌, IfOk, Err, MatchBool};
 ghost use Rattle.fol_core.specs.FormulaView.{fol_of};
-ghost use Rattle.fol_core.specs.Free.{closure_of};
-ghost use Rattle.fol_core.specs.Truth.{Holds};
-ghost use Rattle.ladr_top.specs.Inputs.{fols_of};
-ghost use Rattle.ladr_top.specs.Problem.{Tested, IsProblem, meaning_in};
+ghost use Rattle.fol_core.specs.Stated.{Stated, IsTrueIn, all_said};
+ghost use Rattle.ladr_top.specs.Grammar.{ByName};
+ghost use Rattle.ladr_top.specs.Problem.{IsProblem, meaning_in};
 ghost use Rattle.model_tables.specs.Tables.{meaning_of};
-ghost use Rattle.ladr_top.specs.Verdicts.{AreTrueAsTold, zero};
+ghost use Rattle.ladr_top.specs.Verdicts.{AreTrueAsTold};
 
 use crate::fault::Fault;
 use crate::problem::read_problem;
@@ -16,7 +15,7 @@ use std::alloc::Global;
 
 // Whether the closure of a formula is true in the tables.
 fn holds(alloc: Global, tables: &Tables, formula: &Formula, env: &mut Env) -> Result<bool, Fault>
-    ensures holds { IfOk result (λ b. MatchBool b (Holds (meaning_of tables.now) zero (closure_of (fol_of formula.now.shape))) (¬ Holds (meaning_of tables.now) zero (closure_of (fol_of formula.now.shape)))) }
+    ensures holds { IfOk result (λ b. MatchBool b (IsTrueIn (meaning_of tables.now) (fol_of formula.now.shape)) (¬ IsTrueIn (meaning_of tables.now) (fol_of formula.now.shape))) }
     ensures memory { result ≢ Err Fault.Bad }
 {
     let variables = free_vars(alloc, formula)?;
@@ -26,7 +25,7 @@ fn holds(alloc: Global, tables: &Tables, formula: &Formula, env: &mut Env) -> Re
 
 // Whether the closure of each formula is true in the tables.
 fn hold(alloc: Global, tables: &Tables, inputs: &[Input]) -> Result<Vec<bool>, Fault>
-    ensures told { IfOk result (λ all. AreTrueAsTold (meaning_of tables.now) (fols_of inputs.now) all.items) }
+    ensures told { IfOk result (λ all. AreTrueAsTold (meaning_of tables.now) (all_said inputs.now) all.items) }
     ensures memory { result ≢ Err Fault.Bad }
 {
     let mut env = Env::new(alloc);
@@ -42,8 +41,8 @@ fn hold(alloc: Global, tables: &Tables, inputs: &[Input]) -> Result<Vec<bool>, F
 
 /// Whether each formula of an input is true in its interpretation.
 pub fn verdicts(alloc: Global, bytes: &[u8]) -> Result<Vec<bool>, Fault>
-    ensures found { IfOk result (λ all. (p : Tested) × IsProblem bytes.now p × AreTrueAsTold (meaning_in p) p.formulas all.items) }
-    ensures bad { result ≡ Err Fault.Bad → (p : Tested) → ¬ IsProblem bytes.now p }
+    ensures found { IfOk result (λ all. (p : Stated) × ((it : ByName) × IsProblem bytes.now p (Some it) × AreTrueAsTold (meaning_in p.symbols it) p.formulas all.items)) }
+    ensures bad { result ≡ Err Fault.Bad → (p : Stated) (it : ByName) → ¬ IsProblem bytes.now p (Some it) }
 {
     let (problem, tables) = match read_problem(alloc, bytes) {
         Ok(read) => read,

@@ -35,19 +35,16 @@ returns-clause-says c = record {
   cut = cuts_text involution_text;
   plain = refl;
   says = (
-    refl,
+    _,
     (
       _,
+      (record { tree = _; plain = refl; spells = run_item (table_of first_rows) lawful _ _ 700 refl; shallow = lit≤ tt; sound = refl; formula = refl; symbols = refl }),
       (
         _,
-        (record { tree = _; plain = refl; spells = run_item (table_of first_rows) lawful _ _ 700 refl; shallow = lit≤ tt; sound = refl; formula = refl; symbols = refl }),
         (
           _,
-          (
-            _,
-            (record { tree = _; plain = refl; spells = run_item (table_of first_rows) lawful _ _ 750 refl; shallow = lit≤ tt; sound = refl; formula = refl; symbols = refl }),
-            (_, refl, refl, refl, refl),
-          ),
+          (record { tree = _; plain = refl; spells = run_item (table_of first_rows) lawful _ _ 750 refl; shallow = lit≤ tt; sound = refl; formula = refl; symbols = refl }),
+          (refl, refl, refl, refl),
         ),
       ),
     ),
