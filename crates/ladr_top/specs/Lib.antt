@@ -1,13 +1,4 @@
-pub mod ByName
-pub mod Entries
-pub mod Grammar
-pub mod Items
-pub mod LexemeCodes
 pub mod Outcome
 pub mod Output
-pub mod Problem
-pub mod Reading
-pub mod Tests
 pub mod Verdicts
 pub mod Words
-pub mod Worked

@@ -5,8 +5,8 @@ use Rattle.std.specs.declared.alloc.AllocError.{AllocError}
 use Rattle.fol_core.specs.Stated.{Stated}
 use Rattle.ladr_io.specs.Streams.{Gives, Takes, TakesFront, IsDrained, Rose}
 use Rattle.ladr_top.specs.Output.{report, read_fault_line, unreadable_line, too_large_line, no_command_line}
-use Rattle.ladr_top.specs.Grammar.{ByName}
-use Rattle.ladr_top.specs.Problem.{IsProblem, meaning_in}
+use Rattle.ladr_input.specs.Grammar.{ByName}
+use Rattle.ladr_input.specs.Problem.{IsProblem, meaning_in}
 use Rattle.ladr_top.specs.Verdicts.{AreTrueAsTold}
 use Rattle.ladr_top.specs.declared.cause.Cause.{Cause}
 use Rattle.ladr_top.specs.declared.cause.Cause.TheVariants.{Done, Words, Unreadable, TooLarge, ReadFault, WriteFault, Memory}

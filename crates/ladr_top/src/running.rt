@@ -6,10 +6,10 @@ ghost use Rattle.ladr_top.specs.Words.{is_clausetester};
 ghost use Rattle.ladr_top.specs.Outcome.{Given, Ends, status_of, most_bytes, is_cut, IsText, Tests, Printed, Refuses};
 
 use crate::cause::{Cause, Exit, Limit, Place, Shown};
-use crate::fault::Fault;
 use crate::text;
 use crate::verdicts::verdicts;
 use fol_core::Interpretation;
+use ladr_input::Fault;
 use ladr_io::{Clock, ReadAll, Sink, Source, read_all, write_all};
 use std::alloc::{AllocError, Global};
 

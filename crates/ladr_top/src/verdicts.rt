@@ -2,14 +2,13 @@
 ghost use Rattle.std.specs.Prelude.{◌≡◌, ◌≢◌, IfOk, Err, MatchBool};
 ghost use Rattle.fol_core.specs.FormulaView.{fol_of};
 ghost use Rattle.fol_core.specs.Stated.{Stated, IsTrueIn, all_said};
-ghost use Rattle.ladr_top.specs.Grammar.{ByName};
-ghost use Rattle.ladr_top.specs.Problem.{IsProblem, meaning_in};
+ghost use Rattle.ladr_input.specs.Grammar.{ByName};
+ghost use Rattle.ladr_input.specs.Problem.{IsProblem, meaning_in};
 ghost use Rattle.model_tables.specs.Tables.{meaning_of};
 ghost use Rattle.ladr_top.specs.Verdicts.{AreTrueAsTold};
 
-use crate::fault::Fault;
-use crate::problem::read_problem;
 use fol_core::{Formula, Input, free_vars};
+use ladr_input::{Fault, read_problem};
 use model_tables::{Env, Tables, closure_truth, reserve_closure};
 use std::alloc::Global;
 

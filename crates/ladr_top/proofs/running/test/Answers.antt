@@ -3,8 +3,8 @@ use Rattle.std.specs.Prelude.{codes}
 use Rattle.ladr_top.specs.Outcome.{Ends, beginning, most_bytes}
 use Rattle.ladr_top.specs.Output.{report, unreadable_line}
 use Rattle.fol_core.specs.Stated.{Stated}
-use Rattle.ladr_top.specs.Grammar.{ByName}
-use Rattle.ladr_top.specs.Problem.{IsProblem}
+use Rattle.ladr_input.specs.Grammar.{ByName}
+use Rattle.ladr_input.specs.Problem.{IsProblem}
 use Rattle.ladr_top.specs.declared.cause.Cause.TheVariants.{Done, Unreadable}
 use Rattle.ladr_top.proofs.Printing.{Printed-weaker, made_text}
 use Rattle.ladr_top.proofs.running.test.Goals as goal

@@ -1,0 +1,6 @@
+pub mod ItemLemmas
+pub mod OneProblem
+pub mod Powers
+pub mod ProblemLemmas
+pub mod Reading
+pub mod ValuesFor

@@ -1,0 +1,37 @@
+use Rattle.std.proofs.Common.{refl, lit≤}
+use Rattle.ladr_lex.proofs.Lexing.{cuts_text}
+use Rattle.ladr_lex.specs.Bytes.{is_blank, is_ordinary, is_special}
+use Rattle.ladr_lex.specs.Lexed.{lexed}
+use Rattle.ladr_lex.specs.Operators.{first_rows}
+use Rattle.ladr_reader.proofs.Lawful.{Lawful, table_lawful}
+use Rattle.ladr_reader.proofs.Runs.{run_item}
+use Rattle.ladr_reader.specs.Formulas.{named_variable}
+use Rattle.ladr_reader.specs.Table.{table_of}
+use Rattle.ladr_input.specs.Worked.{constant_text}
+use Rattle.ladr_input.proofs.laws.worked_lists.Goals as goal
+
+lawful : Lawful (table_of first_rows)
+lawful = table_lawful first_rows refl
+
+pub returns : goal.returns
+unfolding is_blank is_ordinary is_special named_variable
+returns c = record {
+  tokens = lexed constant_text;
+  cut = cuts_text constant_text;
+  plain = refl;
+  says = (
+    _,
+    (
+      _,
+      (record { tree = _; plain = refl; spells = run_item (table_of first_rows) lawful _ _ 750 refl; shallow = lit≤ tt; sound = refl; formula = refl; symbols = refl }),
+      (
+        _,
+        (
+          _,
+          (record { tree = _; plain = refl; spells = run_item (table_of first_rows) lawful _ _ 750 refl; shallow = lit≤ tt; sound = refl; formula = refl; symbols = refl }),
+          (refl, refl, refl, refl),
+        ),
+      ),
+    ),
+  );
+}
