@@ -49,18 +49,18 @@ agree_bound xs d e y n h x i = by (x == y) refl
 
 module _ (m : Meaning) where
   mutual
-    alike_value : (d e : Assignment) (t : Tree) → Agree (variables_of t) d e → value_of m d t ≡ value_of m e t
+    pub alike_value : (d e : Assignment) (t : Tree) → Agree (variables_of t) d e → value_of m d t ≡ value_of m e t
     alike_value d e (var x) h = h x (or_left (x == x) false (eq-eqb x x refl))
     alike_value d e (elem k) h = refl
     alike_value d e (app f ts) h = ap (m.function f) (alike_values d e ts h)
 
-    alike_values : (d e : Assignment) (ts : Trees) → Agree (variables_of_all ts) d e → values_of m d ts ≡ values_of m e ts
+    pub alike_values : (d e : Assignment) (ts : Trees) → Agree (variables_of_all ts) d e → values_of m d ts ≡ values_of m e ts
     alike_values d e none h = refl
     alike_values d e (more t ts) h =
         ap₂ (λ v vs. v ∷ vs) (alike_value d e t (agree_left (variables_of t) (variables_of_all ts) d e h)) (alike_values d e ts (agree_right (variables_of t) (variables_of_all ts) d e h))
 
   -- assignments that agree on the free variables agree on the truth
-  alike : (d e : Assignment) (f : Fol) → Agree (free_vars_of f) d e → Holds m d f ≡ Holds m e f
+  pub alike : (d e : Assignment) (f : Fol) → Agree (free_vars_of f) d e → Holds m d f ≡ Holds m e f
   alike d e verum h = refl
   alike d e falsum h = refl
   alike d e (equal s t) h = λ i. alike_value d e s (agree_left (variables_of s) (variables_of t) d e h) i ≡ alike_value d e t (agree_right (variables_of s) (variables_of t) d e h) i

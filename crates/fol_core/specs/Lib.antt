@@ -1,9 +1,11 @@
+pub mod Bound
 pub mod Fol
 pub mod FolCodes
 pub mod FormulaFalls
 pub mod FormulaView
 pub mod Free
 pub mod Laws
+pub mod Literals
 pub mod Meaning
 pub mod Outside
 pub mod RawCodes
@@ -18,3 +20,4 @@ pub mod TermView
 pub mod Tree
 pub mod TreeCodes
 pub mod Truth
+pub mod Witnesses

@@ -1,0 +1,112 @@
+-- The clauses of what a file states.
+use Rattle.std.specs.Prelude.{ℕ, zero, suc, ◌+◌, ◌<◌, Bool, true, false, nat_lt, max, if◌then◌else◌, length, List, [], ◌∷◌, ◌++◌, map, Option, Some, None}
+use Rattle.std.specs.List.{list_any}
+use Rattle.fol_core.specs.Tree.{Tree, var, elem, app, Trees, none, more}
+use Rattle.fol_core.specs.Fol.{Fol, verum, falsum, equal, atom, denied, both, either, implies, iff, every, some}
+use Rattle.fol_core.specs.Bound.{BindsOnce, HasSymbolsBelow, uses_symbol}
+use Rattle.fol_core.specs.Free.{closure_of}
+use Rattle.fol_core.specs.Literals.{ClauseTree}
+use Rattle.fol_core.specs.Stated.{Said}
+use Rattle.fol_core.specs.SymbolTable.{Symbol}
+use Rattle.fol_core.specs.Witnesses.{Witness}
+use Rattle.fol_core.specs.declared.problem.Role.{Role}
+use Rattle.fol_core.specs.declared.problem.Role.TheVariants.{Assumption, Goal}
+use Rattle.clausify.specs.Clausal.{clauses_in, renumbered}
+use Rattle.clausify.specs.Forms.{form_of, clause_count}
+use Rattle.clausify.specs.Names.{skolem_symbols, all_entered, numbers_of}
+use Rattle.clausify.specs.Skolem.{somes, arities, witnesses}
+
+-- whether a formula is taken as it stands; a goal's denial is taken
+abbrev pub is_taken : Role → Bool
+is_taken Assumption = true
+is_taken Goal = false
+
+-- the negation form of the closure, or of its denial
+abbrev pub form : Said → Fol
+form s = form_of (is_taken s.role) (closure_of s.formula)
+
+-- how many arguments each Skolem symbol has
+abbrev pub all_arities : List Said → List ℕ
+all_arities [] = []
+all_arities (s ∷ ss) = arities 0 (form s) ++ all_arities ss
+
+-- the Skolem symbols of what is said in the words of a table
+abbrev pub skolems : List Symbol → List Said → List Symbol
+skolems input ss = skolem_symbols input 0 0 (all_arities ss)
+
+-- a clause with the number of its formula
+abbrev pub Row : Type 0
+Row = ℕ × ClauseTree
+
+-- the clauses of the formulas, of which the first has number n and its first Skolem symbol stands at place k
+abbrev pub rows_from : List ℕ → ℕ → ℕ → List Said → List Row
+rows_from symbols n k [] = []
+rows_from symbols n k (s ∷ ss) = map (λ c. (n, renumbered c)) (clauses_in symbols k [] var (form s)) ++ rows_from symbols (n + 1) (k + somes (form s)) ss
+
+-- and their witnesses
+abbrev pub witnesses_from : List ℕ → ℕ → List Said → List Witness
+witnesses_from symbols k [] = []
+witnesses_from symbols k (s ∷ ss) = witnesses symbols k [] var (form s) ++ witnesses_from symbols (k + somes (form s)) ss
+
+abbrev pub all_rows : List ℕ → List Said → List Row
+all_rows symbols ss = rows_from symbols 1 0 ss
+
+abbrev pub all_witnesses : List ℕ → List Said → List Witness
+all_witnesses symbols ss = witnesses_from symbols 0 ss
+
+-- the number of the first formula, from n on, that gives more than 20,000 clauses
+abbrev pub first_over : ℕ → List Said → Option ℕ
+first_over n [] = None
+first_over n (s ∷ ss) = if nat_lt 20000 (clause_count (form s)) then Some n else first_over (n + 1) ss
+
+-- whether one of the formulas has the symbol
+abbrev pub is_used : List Said → ℕ → Bool
+is_used ss n = list_any (λ s. uses_symbol n s.formula) ss
+
+-- the numbers from n on that pass a test, so many of them being tried
+abbrev pub passing : (ℕ → Bool) → ℕ → ℕ → List ℕ
+passing test n zero = []
+passing test n (suc left) = if test n then n ∷ passing test (n + 1) left else passing test (n + 1) left
+
+-- the numbers of the table's symbols that the formulas have
+abbrev pub used_symbols : List Symbol → List Said → List ℕ
+used_symbols table ss = passing (is_used ss) 0 (length table)
+
+-- the greater of an element and what may be one
+abbrev pub raised : Option ℕ → ℕ → Option ℕ
+raised None k = Some k
+raised (Some n) k = Some (max n k)
+
+abbrev mutual
+  -- the greatest of the elements that a term names, and of one before
+  pub greatest_in : Option ℕ → Tree → Option ℕ
+  greatest_in before (var x) = before
+  greatest_in before (elem k) = raised before k
+  greatest_in before (app f ts) = greatest_in_all before ts
+
+  pub greatest_in_all : Option ℕ → Trees → Option ℕ
+  greatest_in_all before none = before
+  greatest_in_all before (more t ts) = greatest_in_all (greatest_in before t) ts
+
+abbrev pub greatest_of : Option ℕ → Fol → Option ℕ
+greatest_of before verum = before
+greatest_of before falsum = before
+greatest_of before (equal s t) = greatest_in (greatest_in before s) t
+greatest_of before (atom r ts) = greatest_in_all before ts
+greatest_of before (denied f) = greatest_of before f
+greatest_of before (both f g) = greatest_of (greatest_of before f) g
+greatest_of before (either f g) = greatest_of (greatest_of before f) g
+greatest_of before (implies f g) = greatest_of (greatest_of before f) g
+greatest_of before (iff f g) = greatest_of (greatest_of before f) g
+greatest_of before (every x f) = greatest_of before f
+greatest_of before (some x f) = greatest_of before f
+
+-- the greatest element that the formulas name
+abbrev pub numeral_of : Option ℕ → List Said → Option ℕ
+numeral_of before [] = before
+numeral_of before (s ∷ ss) = numeral_of (greatest_of before s.formula) ss
+
+-- each formula binds a variable once, and its symbols have numbers below this one
+abbrev pub AreSound : ℕ → List Said → Type 0
+AreSound size [] = Unit {0}
+AreSound size (s ∷ ss) = BindsOnce s.formula × HasSymbolsBelow size s.formula × AreSound size ss
