@@ -1,5 +1,6 @@
 // Laws of clauses, of every interpretation: the functions do nothing, and their contracts are the laws.
 ghost use Rattle.clausify.specs.Laws.{ClausesSuffice, ClausesFollow};
+ghost use Rattle.clausify.specs.Worked.{WorkedIff, WorkedSingle, WorkedGoal, WorkedNames, WorkedNested, WorkedConstants, WorkedLimit, WorkedSymbols};
 
 use fol_core::Interpretation;
 
@@ -11,4 +12,16 @@ pub fn clauses_suffice<I: Interpretation>(any: &I)
 /// In an interpretation that picks witnesses the converse holds.
 pub fn clauses_follow<I: Interpretation>(any: &I)
     ensures { ClausesFollow (I.meaning any.now) }
+{}
+
+/// Some formulas worked out.
+pub fn worked()
+    ensures iff { WorkedIff }
+    ensures single { WorkedSingle }
+    ensures goal { WorkedGoal }
+    ensures names { WorkedNames }
+    ensures nested { WorkedNested }
+    ensures constants { WorkedConstants }
+    ensures limit { WorkedLimit }
+    ensures symbols { WorkedSymbols }
 {}

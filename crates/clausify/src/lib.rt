@@ -3,4 +3,4 @@
 
 mod laws;
 
-pub use laws::{clauses_follow, clauses_suffice};
+pub use laws::{clauses_follow, clauses_suffice, worked};
