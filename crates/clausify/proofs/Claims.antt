@@ -1,20 +1,20 @@
 -- Clauses that are all true make their negation form true, and the other way round by witnesses.
-use Rattle.std.proofs.Common.{◌≡◌, ◌⊎◌, inl, inr, ℕ, ◌+◌, Bool, true, false, not, ◌==◌, ◌||◌, ◌&&◌, if◌then◌else◌, IsTrue, List, [], ◌∷◌, ◌++◌, map, slice_index, refl, sym, ap, ap₂, ◌∙◌, subst}
-use Rattle.std.proofs.lemmas.Bool.{or_left, or_right, or_from, or_parts, or_cases, and_from, and_parts, eqb-true, eq-eqb, false≢true, true≢false, cases_Bool, true_from_ne_false, false_from_ne_true, and_cases, and_left, and_right, not_from_true, not_from_false}
+use Rattle.std.proofs.Common.{◌≡◌, inl, inr, ℕ, ◌+◌, Bool, true, false, not, ◌==◌, ◌||◌, ◌&&◌, if◌then◌else◌, IsTrue, List, [], ◌∷◌, ◌++◌, map, slice_index, refl, sym, ap, ap₂, ◌∙◌, subst}
+use Rattle.std.proofs.lemmas.Bool.{or_left, or_right, or_from, or_parts, or_cases, and_from, eqb-true, false≢true, true≢false, cases_Bool, true_from_ne_false, false_from_ne_true, and_left, and_right, not_from_false}
 use Rattle.std.proofs.lemmas.List.Folds.{list_all-append}
-use Rattle.fol_core.specs.Tree.{Tree, var, elem, app, Trees, none, more, trees_of}
+use Rattle.fol_core.specs.Tree.{Tree, app, Trees, none, more}
 use Rattle.fol_core.specs.Fol.{Fol, verum, falsum, equal, atom, denied, both, either, implies, iff, every, some}
 use Rattle.fol_core.specs.Bound.{binders_of}
-use Rattle.fol_core.specs.Free.{is_in, joined, without, variables_of, variables_of_all, free_vars_of}
-use Rattle.fol_core.specs.Literals.{Lit, literal, ClauseTree, equality, is_true_clause, are_equal}
+use Rattle.fol_core.specs.Free.{is_in, variables_of_all, free_vars_of}
+use Rattle.fol_core.specs.Literals.{literal, equality, is_true_clause, are_equal}
 use Rattle.fol_core.specs.Meaning.{Meaning, IsLawful}
-use Rattle.fol_core.specs.Truth.{Assignment, with_var, IsWithin, value_of, values_of, Holds}
-use Rattle.fol_core.specs.Witnesses.{Witness, PicksWitness, PicksWitnesses}
+use Rattle.fol_core.specs.Truth.{Assignment, with_var, IsWithin, value_of, Holds}
+use Rattle.fol_core.specs.Witnesses.{Witness, PicksWitnesses}
 use Rattle.fol_core.proofs.TruthLemmas.{alike_value, alike_values, alike, stable}
-use Rattle.clausify.specs.Clausal.{crossed, literal_clauses, clauses_in}
-use Rattle.clausify.specs.Skolem.{Terms, with_term, put_all, put_in, skolem_term, somes, witnesses}
+use Rattle.clausify.specs.Clausal.{literal_clauses, clauses_in}
+use Rattle.clausify.specs.Skolem.{Terms, with_term, put_all, skolem_term, somes, witnesses}
 use Rattle.clausify.proofs.Clauses.{IsAtom, IsApart, Agree, all_true, crossed_true, test, test_holds, holds_test, signed, literal_true}
-use Rattle.clausify.proofs.Scopes.{Known, known_more, known_term, valued, put_value, put_values, put_holds, valued_var, skolem_value, skolem_within, within_var}
+use Rattle.clausify.proofs.Scopes.{Known, known_more, known_term, valued, put_values, put_holds, valued_var, skolem_value, skolem_within, within_var}
 use Rattle.clausify.proofs.Sets.{Set, plus, also, Sub, In, Out, sub_plus, sub_also, in_cases, in_left, in_right, joined_left, joined_right, under}
 
 in_more : (u v : Set) (xs : List ℕ) → Sub u v → In xs u → In xs v
@@ -165,12 +165,14 @@ module _ (m : Meaning) where
     suffice lawful u k scope terms e (implies f g) apart free known scoped w wrong each = absurd apart
     suffice lawful u k scope terms e (iff f g) apart free known scoped w wrong each = absurd apart
     suffice lawful u k scope terms e (both f g) apart free known scoped w wrong each =
-        wrong (stable m (valued m e terms) f (λ x. suffice lawful u k scope terms e f apart.0 (joined_left (free_vars_of f) (free_vars_of g) u free) known scoped w x
-          (λ d v a h. each d v a (list_all-append (is_true_clause m d) (clauses_in symbols k scope terms f) (clauses_in symbols (k + somes f) scope terms g)
-            ∙ and_left (said_true d k scope terms f) (said_true d (k + somes f) scope terms g) h))),
-        stable m (valued m e terms) g (λ x. suffice lawful u (k + somes f) scope terms e g apart.1 (joined_right (free_vars_of f) (free_vars_of g) u free) known scoped w x
-          (λ d v a h. each d v a (list_all-append (is_true_clause m d) (clauses_in symbols k scope terms f) (clauses_in symbols (k + somes f) scope terms g)
-            ∙ and_right (said_true d k scope terms f) (said_true d (k + somes f) scope terms g) h))))
+        wrong (
+          stable m (valued m e terms) f (λ x. suffice lawful u k scope terms e f apart.0 (joined_left (free_vars_of f) (free_vars_of g) u free) known scoped w x
+              (λ d v a h. each d v a (list_all-append (is_true_clause m d) (clauses_in symbols k scope terms f) (clauses_in symbols (k + somes f) scope terms g)
+              ∙ and_left (said_true d k scope terms f) (said_true d (k + somes f) scope terms g) h))),
+          stable m (valued m e terms) g (λ x. suffice lawful u (k + somes f) scope terms e g apart.1 (joined_right (free_vars_of f) (free_vars_of g) u free) known scoped w x
+              (λ d v a h. each d v a (list_all-append (is_true_clause m d) (clauses_in symbols k scope terms f) (clauses_in symbols (k + somes f) scope terms g)
+              ∙ and_right (said_true d k scope terms f) (said_true d (k + somes f) scope terms g) h))),
+        )
     suffice lawful u k scope terms e (either f g) apart free known scoped w wrong each =
         let free_f = joined_left (free_vars_of f) (free_vars_of g) u free in
         let free_g = joined_right (free_vars_of f) (free_vars_of g) u free in
@@ -179,21 +181,21 @@ module _ (m : Meaning) where
         let sub_f = sub_also (binders_of g) u in
         let sub_g = sub_also (binders_of f) u in
         wrong (λ p. suffice lawful uf k scope terms e f apart.0 (in_more u uf (free_vars_of f) sub_f free_f) (known_more u uf terms sub_f known) (in_more u uf scope sub_f scoped) w p.0
-          (λ d v a x.
-            let near = agree_less u uf d e sub_f a in
-            suffice lawful ug (k + somes f) scope terms d g apart.1 (in_more u ug (free_vars_of g) sub_g free_g) (known_more u ug terms sub_g known) (in_more u ug scope sub_g scoped) v
-            (λ h. p.1 (subst (λ A. A) (same_holds u terms d e g known free_g near) h))
-            (λ c z b y.
-              let same = same_clauses u k scope terms c d f free_f known scoped (agree_less u ug c d sub_g b) (λ q i. b q (or_left (is_in q (binders_of f)) (u q) i)) in
-              each c z (agree_through u c d e (agree_less u ug c d sub_g b) near)
-              (crossed_true m c (clauses_in symbols k scope terms f) (clauses_in symbols (k + somes f) scope terms g)
-              ∙ or_from (said_true c k scope terms f) (said_true c (k + somes f) scope terms g) (same ∙ x) y))))
+        (λ d v a x.
+        let near = agree_less u uf d e sub_f a in
+        suffice lawful ug (k + somes f) scope terms d g apart.1 (in_more u ug (free_vars_of g) sub_g free_g) (known_more u ug terms sub_g known) (in_more u ug scope sub_g scoped) v
+        (λ h. p.1 (subst (λ A. A) (same_holds u terms d e g known free_g near) h))
+        (λ c z b y.
+        let same = same_clauses u k scope terms c d f free_f known scoped (agree_less u ug c d sub_g b) (λ q i. b q (or_left (is_in q (binders_of f)) (u q) i)) in
+        each c z (agree_through u c d e (agree_less u ug c d sub_g b) near)
+        (crossed_true m c (clauses_in symbols k scope terms f) (clauses_in symbols (k + somes f) scope terms g)
+        ∙ or_from (said_true c k scope terms f) (said_true c (k + somes f) scope terms g) (same ∙ x) y))))
     suffice lawful u k scope terms e (every x f) apart free known scoped w wrong each =
         wrong (λ n i. stable m (with_var (valued m e terms) x n) f (λ h.
-          suffice lawful (plus x u) k (scope ++ x ∷ []) terms (with_var e x n) f apart.1 (under x (free_vars_of f) u free)
-          (known_more u (plus x u) terms (sub_plus x u) known) (in_pushed u scope x scoped) (within_var m e x n w i)
-          (λ y. h (subst (λ d. Holds m d f) (valued_var m u terms e x n known apart.0) y))
-          (λ d v a. each d v (λ y j. a y (or_right (y == x) (u y) j) ∙ other u e x n apart.0 y j))))
+        suffice lawful (plus x u) k (scope ++ x ∷ []) terms (with_var e x n) f apart.1 (under x (free_vars_of f) u free)
+        (known_more u (plus x u) terms (sub_plus x u) known) (in_pushed u scope x scoped) (within_var m e x n w i)
+        (λ y. h (subst (λ d. Holds m d f) (valued_var m u terms e x n known apart.0) y))
+        (λ d v a. each d v (λ y j. a y (or_right (y == x) (u y) j) ∙ other u e x n apart.0 y j))))
       where
         other : (u : Set) (e : Assignment) (x n : ℕ) → u x ≡ false → (y : ℕ) → IsTrue (u y) → with_var e x n y ≡ e y
         other u e x n new y i = elim (cases_Bool (y == x)) [
@@ -202,11 +204,11 @@ module _ (m : Meaning) where
         ]
     suffice lawful u k scope terms e (some x f) apart free known scoped w wrong each =
         wrong (λ each_not.
-          let n = m.function (slice_index symbols k) (map e scope) in
-          suffice lawful (plus x u) (k + 1) scope (with_term terms x (term_at k scope)) e f apart.1 (under x (free_vars_of f) u free)
-          (known_term u terms scope x (slice_index symbols k) known scoped) (in_more u (plus x u) scope (sub_plus x u) scoped) w
-          (λ h. each_not n (skolem_within m lawful e w (slice_index symbols k) scope) (subst (λ d. Holds m d f) (picked terms e k scope x) h))
-          (λ d v a. each d v (λ y j. a y (or_right (y == x) (u y) j))))
+        let n = m.function (slice_index symbols k) (map e scope) in
+        suffice lawful (plus x u) (k + 1) scope (with_term terms x (term_at k scope)) e f apart.1 (under x (free_vars_of f) u free)
+        (known_term u terms scope x (slice_index symbols k) known scoped) (in_more u (plus x u) scope (sub_plus x u) scoped) w
+        (λ h. each_not n (skolem_within m lawful e w (slice_index symbols k) scope) (subst (λ d. Holds m d f) (picked terms e k scope x) h))
+        (λ d v a. each d v (λ y j. a y (or_right (y == x) (u y) j))))
 
     pub picks_left : (ws vs : List Witness) → PicksWitnesses m (ws ++ vs) → PicksWitnesses m ws
     picks_left [] vs h = tt
@@ -255,11 +257,11 @@ module _ (m : Meaning) where
         let sub_g = sub_also (binders_of f) u in
         crossed_true m e (clauses_in symbols k scope terms f) (clauses_in symbols (k + somes f) scope terms g)
         ∙ true_from_ne_false (said_true e k scope terms f || said_true e (k + somes f) scope terms g) (λ x.
-          let parts = or_parts (said_true e k scope terms f) (said_true e (k + somes f) scope terms g) x in
-          h (
-            λ y. true≢false (sym (follow uf k scope terms e f apart.0 (known_more u uf terms sub_f known) (in_more u uf scope sub_f scoped) w (picks_left ws vs picks) y) ∙ parts.0),
-            λ y. true≢false (sym (follow ug (k + somes f) scope terms e g apart.1 (known_more u ug terms sub_g known) (in_more u ug scope sub_g scoped) w (picks_right ws vs picks) y) ∙ parts.1),
-          ))
+        let parts = or_parts (said_true e k scope terms f) (said_true e (k + somes f) scope terms g) x in
+        h (
+          λ y. true≢false (sym (follow uf k scope terms e f apart.0 (known_more u uf terms sub_f known) (in_more u uf scope sub_f scoped) w (picks_left ws vs picks) y) ∙ parts.0),
+          λ y. true≢false (sym (follow ug (k + somes f) scope terms e g apart.1 (known_more u ug terms sub_g known) (in_more u ug scope sub_g scoped) w (picks_right ws vs picks) y) ∙ parts.1),
+        ))
     follow u k scope terms e (every x f) apart known scoped w picks h =
         follow (plus x u) k (scope ++ x ∷ []) terms e f apart.1 (known_more u (plus x u) terms (sub_plus x u) known) (in_pushed u scope x scoped) w picks
         (subst (λ d. Holds m d f) (sym (valued_var m u terms e x (e x) known apart.0) ∙ ap (λ d. valued m d terms) (own e x)) (h (e x) (w x)))
@@ -268,7 +270,7 @@ module _ (m : Meaning) where
         let body = λ (n : ℕ). put_holds m u terms (with_var e x n) f known new ∙ ap (λ d. Holds m d f) (valued_var m u terms e x n known apart.0) in
         let element = m.function (slice_index symbols k) (map e scope) in
         true_from_ne_false (said_true e (k + 1) scope (with_term terms x (term_at k scope)) f) (λ no_clause. h (λ n i y.
-          let picked_one = picks.0 e w n i (subst (λ A. A) (sym (body n)) y) in
-          true≢false (sym (follow (plus x u) (k + 1) scope (with_term terms x (term_at k scope)) e f apart.1
-            (known_term u terms scope x (slice_index symbols k) known scoped) (in_more u (plus x u) scope (sub_plus x u) scoped) w picks.1
-            (subst (λ d. Holds m d f) (sym (picked terms e k scope x)) (subst (λ A. A) (body element) picked_one))) ∙ no_clause)))
+        let picked_one = picks.0 e w n i (subst (λ A. A) (sym (body n)) y) in
+        true≢false (sym (follow (plus x u) (k + 1) scope (with_term terms x (term_at k scope)) e f apart.1
+        (known_term u terms scope x (slice_index symbols k) known scoped) (in_more u (plus x u) scope (sub_plus x u) scoped) w picks.1
+        (subst (λ d. Holds m d f) (sym (picked terms e k scope x)) (subst (λ A. A) (body element) picked_one))) ∙ no_clause)))

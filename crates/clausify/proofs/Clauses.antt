@@ -1,22 +1,19 @@
 -- What the clauses of a negation form say.
-use Rattle.std.proofs.Common.{◌≡◌, ◌⊎◌, inl, inr, ℕ, ◌+◌, Bool, true, false, not, ◌==◌, ◌||◌, ◌&&◌, if◌then◌else◌, IsTrue, List, [], ◌∷◌, ◌++◌, map, slice_index, refl, sym, ap, ap₂, ◌∙◌, subst}
-use Rattle.std.proofs.lemmas.Bool.{or_left, or_right, or_parts, or_cases, and_from, and_parts, eqb-true, eq-eqb, false≢true, true≢false, cases_Bool, true_from_ne_false, false_from_ne_true, and_cases, and_left, and_right}
+use Rattle.std.proofs.Common.{◌≡◌, ℕ, Bool, true, false, not, ◌==◌, ◌||◌, ◌&&◌, if◌then◌else◌, IsTrue, List, [], ◌∷◌, refl, sym, ap, ap₂, ◌∙◌}
+use Rattle.std.proofs.lemmas.Bool.{eqb-true, eq-eqb, false≢true}
 use Rattle.std.proofs.Math.Bool.{or-true, or-false, and-true}
 use Rattle.std.proofs.lemmas.List.Folds.{list_any-append, list_all-append}
-use Rattle.std.specs.List.{list_all, list_any}
-use Rattle.fol_core.specs.Tree.{Tree, var, elem, app, Trees, none, more, trees_of}
+use Rattle.std.specs.List.{list_all}
+use Rattle.fol_core.specs.Tree.{app, none, more}
 use Rattle.fol_core.specs.Fol.{Fol, verum, falsum, equal, atom, denied, both, either, implies, iff, every, some}
 use Rattle.fol_core.specs.Bound.{binders_of}
-use Rattle.fol_core.specs.Free.{is_in, joined, without, variables_of, variables_of_all, free_vars_of}
-use Rattle.fol_core.specs.Literals.{Lit, literal, ClauseTree, equality, is_true_atom, is_true_literal, is_true_clause, are_equal}
-use Rattle.fol_core.specs.Meaning.{Meaning, IsLawful}
-use Rattle.fol_core.specs.Truth.{Assignment, with_var, IsWithin, value_of, values_of, Holds}
-use Rattle.fol_core.specs.Witnesses.{Witness, PicksWitness, PicksWitnesses}
-use Rattle.fol_core.proofs.TruthLemmas.{alike_value, alike_values, alike, stable}
-use Rattle.clausify.specs.Clausal.{with_each, crossed, literal_clauses, clauses_in}
-use Rattle.clausify.specs.Skolem.{Terms, with_term, put, put_all, put_in, skolem_term, somes, witnesses}
-use Rattle.clausify.proofs.Scopes.{Known, known_more, known_term, valued, put_value, put_values, put_holds, valued_var, skolem_value, skolem_within, within_var}
-use Rattle.clausify.proofs.Sets.{Set, plus, also, Sub, In, Out, sub_plus, sub_also, in_cases, in_left, in_right, joined_left, joined_right, under}
+use Rattle.fol_core.specs.Literals.{Lit, literal, ClauseTree, equality, is_true_literal, is_true_clause, are_equal}
+use Rattle.fol_core.specs.Meaning.{Meaning}
+use Rattle.fol_core.specs.Truth.{Assignment, value_of, values_of, Holds}
+use Rattle.clausify.specs.Clausal.{with_each, crossed, literal_clauses}
+use Rattle.clausify.specs.Skolem.{Terms, put, put_all}
+use Rattle.clausify.proofs.Scopes.{valued, put_value, put_values}
+use Rattle.clausify.proofs.Sets.{Set, plus, also}
 
 -- an atom, none of whose relations has equality's number
 abbrev pub IsAtom : Fol → Type 0

@@ -1,14 +1,14 @@
 -- What a negation form binds, and that its sides bind different variables.
-use Rattle.std.proofs.Common.{◌≡◌, ◌⊎◌, inl, inr, ℕ, ◌<◌, Bool, true, false, ◌==◌, ◌||◌, if◌then◌else◌, IsTrue, List, [], ◌∷◌, ◌++◌, refl, sym, ap, ◌∙◌, subst, arith, ne_eqb}
-use Rattle.std.proofs.lemmas.Bool.{or_left, or_right, or_from, or_cases, eqb-true, eq-eqb, false≢true, true≢false, false_from_ne_true}
-use Rattle.fol_core.specs.Tree.{Tree, Trees, none, more}
+use Rattle.std.proofs.Common.{◌≡◌, inl, inr, ℕ, ◌<◌, Bool, true, false, ◌==◌, ◌||◌, if◌then◌else◌, IsTrue, List, ◌∷◌, ◌++◌, refl, sym, ◌∙◌, subst, arith, ne_eqb}
+use Rattle.std.proofs.lemmas.Bool.{or_left, or_right, or_from, or_cases, eqb-true, eq-eqb, true≢false, false_from_ne_true}
+use Rattle.fol_core.specs.Tree.{Trees}
 use Rattle.fol_core.specs.Fol.{Fol, verum, falsum, equal, atom, denied, both, either, implies, iff, every, some}
 use Rattle.fol_core.specs.Bound.{binders_of, IsOnce, uses_symbol, have_symbol, HasSymbolsBelow}
 use Rattle.fol_core.specs.Free.{is_in, joined, without, free_vars_of}
 use Rattle.fol_core.specs.Literals.{equality}
 use Rattle.fol_core.proofs.Variables.{is_in_joined, is_in_without}
 use Rattle.clausify.specs.Forms.{form_of}
-use Rattle.clausify.proofs.Clauses.{IsAtom, IsApart}
+use Rattle.clausify.proofs.Clauses.{IsApart}
 use Rattle.clausify.proofs.Sets.{Set, plus, also, In, Out, in_cases, in_left, in_right, once_left, once_right, once_apart}
 
 abbrev pub members : List ℕ → Set
@@ -140,9 +140,9 @@ apart_either : (sign other : Bool) (f g : Fol) → Goes sign f → Goes other g
     → Sides (λ u. IsApart (also (binders_of (form_of other g)) u) (form_of sign f) × IsApart (also (binders_of (form_of sign f)) u) (form_of other g)) f g
 apart_either sign other f g one two u once new symbols = (
   one (also (binders_of (form_of other g)) u) (once_left (binders_of f) (binders_of g) once)
-  (beside u (binders_of f) (binders_of g) (binders_of (form_of other g)) once new (bound_form other g)) (left_symbols f g symbols),
+      (beside u (binders_of f) (binders_of g) (binders_of (form_of other g)) once new (bound_form other g)) (left_symbols f g symbols),
   two (also (binders_of (form_of sign f)) u) (once_right (binders_of f) (binders_of g) once)
-  (behind u (binders_of f) (binders_of g) (binders_of (form_of sign f)) once new (bound_form sign f)) (right_symbols f g symbols),
+      (behind u (binders_of f) (binders_of g) (binders_of (form_of sign f)) once new (bound_form sign f)) (right_symbols f g symbols),
 )
 
 apart_under : (sign : Bool) (x : ℕ) (f : Fol) → Goes sign f

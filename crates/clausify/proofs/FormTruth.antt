@@ -1,5 +1,5 @@
 -- A negation form is true exactly where its formula, or its denial, is.
-use Rattle.std.proofs.Common.{◌≡◌, ℕ, Bool, true, false, ◌↔◌}
+use Rattle.std.proofs.Common.{true, false}
 use Rattle.fol_core.specs.Fol.{Fol, verum, falsum, equal, atom, denied, both, either, implies, iff, every, some}
 use Rattle.fol_core.specs.Meaning.{Meaning}
 use Rattle.fol_core.specs.Truth.{Assignment, with_var, Holds}

@@ -1,16 +1,16 @@
 -- A clause says the same with its variables numbered anew.
-use Rattle.std.proofs.Common.{◌≡◌, ◌⊎◌, inl, inr, ℕ, suc, Bool, true, false, not, ◌==◌, ◌||◌, if◌then◌else◌, IsTrue, List, [], ◌∷◌, ◌++◌, map, slice_index, refl, sym, ap, ap₂, ◌∙◌}
+use Rattle.std.proofs.Common.{◌≡◌, ◌⊎◌, inl, inr, ℕ, suc, Bool, true, false, not, ◌==◌, ◌||◌, if◌then◌else◌, IsTrue, List, [], ◌∷◌, map, slice_index, refl, sym, ap, ap₂, ◌∙◌}
 use Rattle.std.proofs.lemmas.Bool.{or_cases, eqb-true, false≢true}
-use Rattle.fol_core.specs.Tree.{Tree, var, elem, app, Trees, none, more}
-use Rattle.fol_core.specs.Free.{is_in, variables_of, variables_of_all}
-use Rattle.fol_core.specs.Literals.{Lit, literal, ClauseTree, equality, are_equal, is_true_atom, is_true_literal, is_true_clause, IsTrueClause}
+use Rattle.fol_core.specs.Tree.{Tree, var, elem, app}
+use Rattle.fol_core.specs.Free.{is_in, variables_of}
+use Rattle.fol_core.specs.Literals.{Lit, literal, ClauseTree, equality, are_equal, is_true_literal, is_true_clause, IsTrueClause}
 use Rattle.fol_core.specs.Meaning.{Meaning}
-use Rattle.fol_core.specs.Truth.{Assignment, IsWithin, value_of, values_of}
+use Rattle.fol_core.specs.Truth.{Assignment}
 use Rattle.fol_core.proofs.TruthLemmas.{alike_values}
 use Rattle.clausify.specs.Clausal.{clause_variables, place_in, renumbered}
-use Rattle.clausify.specs.Skolem.{put, put_all}
+use Rattle.clausify.specs.Skolem.{put}
 use Rattle.clausify.proofs.Scopes.{put_values}
-use Rattle.clausify.proofs.Sets.{Set, In, joined_left, joined_right}
+use Rattle.clausify.proofs.Sets.{joined_left, joined_right}
 use Rattle.clausify.proofs.FormSets.{members}
 
 -- the number at its place

@@ -1,16 +1,16 @@
 -- Terms that stand for variables, and truth under them.
-use Rattle.std.proofs.Common.{◌≡◌, ◌⊎◌, inl, inr, ℕ, Bool, true, false, ◌==◌, ◌||◌, if◌then◌else◌, IsTrue, List, [], ◌∷◌, ◌++◌, map, refl, sym, ap, ap₂, ◌∙◌, subst}
+use Rattle.std.proofs.Common.{◌≡◌, ◌⊎◌, inl, inr, ℕ, Bool, true, false, ◌==◌, ◌||◌, if◌then◌else◌, IsTrue, List, [], ◌∷◌, map, refl, sym, ap, ap₂, ◌∙◌, subst}
 use Rattle.std.proofs.lemmas.Bool.{or_left, or_right, or_parts, or_cases, eqb-true, eq-eqb, false≢true, true≢false, cases_Bool}
 use Rattle.fol_core.specs.Tree.{Tree, var, elem, app, Trees, none, more, trees_of}
 use Rattle.fol_core.specs.Fol.{Fol, verum, falsum, equal, atom, denied, both, either, implies, iff, every, some}
 use Rattle.fol_core.specs.Bound.{binders_of}
-use Rattle.fol_core.specs.Free.{is_in, noted, joined, variables_of, variables_of_all, free_vars_of}
+use Rattle.fol_core.specs.Free.{is_in, variables_of, variables_of_all}
 use Rattle.fol_core.specs.Meaning.{Meaning, AllWithin, IsLawful}
 use Rattle.fol_core.specs.Truth.{Assignment, with_var, IsWithin, value_of, values_of, Holds}
-use Rattle.fol_core.proofs.TruthLemmas.{alike_value, alike_values, alike}
+use Rattle.fol_core.proofs.TruthLemmas.{alike_value}
 use Rattle.fol_core.proofs.Variables.{is_in_joined}
 use Rattle.clausify.specs.Skolem.{Terms, with_term, put, put_all, put_in, skolem_term}
-use Rattle.clausify.proofs.Sets.{Set, plus, also, Sub, In, Out, sub_plus, sub_also, in_appended, in_left, in_right}
+use Rattle.clausify.proofs.Sets.{Set, plus, Sub, In, Out, in_left, in_right}
 
 -- Inside the set terms have variables of the set, and outside each variable stands for itself.
 pub record Known (u : Set) (terms : Terms) : Type 0 where
@@ -139,9 +139,9 @@ module _ (m : Meaning) where
       λ i. (l i → r i) × (r i → l i)
   put_holds u terms e (every x f) known new =
       let h = λ (n : ℕ). put_holds u terms (with_var e x n) f known (λ y j. new y (or_right (y == x) (is_in y (binders_of f)) j))
-          ∙ ap (λ d. Holds m d f) (valued_var u terms e x n known (new x (or_left (x == x) (is_in x (binders_of f)) (eq-eqb x x refl)))) in
+      ∙ ap (λ d. Holds m d f) (valued_var u terms e x n known (new x (or_left (x == x) (is_in x (binders_of f)) (eq-eqb x x refl)))) in
       λ i. (n : ℕ) → IsTrue (m.within n) → h n i
   put_holds u terms e (some x f) known new =
       let h = λ (n : ℕ). put_holds u terms (with_var e x n) f known (λ y j. new y (or_right (y == x) (is_in y (binders_of f)) j))
-          ∙ ap (λ d. Holds m d f) (valued_var u terms e x n known (new x (or_left (x == x) (is_in x (binders_of f)) (eq-eqb x x refl)))) in
+      ∙ ap (λ d. Holds m d f) (valued_var u terms e x n known (new x (or_left (x == x) (is_in x (binders_of f)) (eq-eqb x x refl)))) in
       λ i. ¬ ((n : ℕ) → IsTrue (m.within n) → ¬ h n i)

@@ -1,6 +1,6 @@
 -- Sets of variables, as tests, and lists in which none stands twice.
 use Rattle.std.proofs.Common.{◌≡◌, ◌⊎◌, inl, inr, ℕ, Bool, true, false, ◌==◌, ◌||◌, if◌then◌else◌, IsTrue, List, [], ◌∷◌, ◌++◌, refl, sym, ap, ◌∙◌, subst}
-use Rattle.std.proofs.lemmas.Bool.{or_left, or_right, or_parts, or_cases, eqb-true, eq-eqb, false≢true, cases_Bool}
+use Rattle.std.proofs.lemmas.Bool.{or_left, or_right, or_parts, or_cases, eqb-true, false≢true}
 use Rattle.std.proofs.lemmas.List.Folds.{list_any-append}
 use Rattle.fol_core.specs.Bound.{IsOnce}
 use Rattle.fol_core.specs.Free.{is_in, joined, without}

@@ -1,15 +1,15 @@
 -- The clauses of all formulas.
-use Rattle.std.proofs.Common.{◌≡◌, ◌⊎◌, inl, inr, ◌↔◌, ℕ, ◌+◌, ◌<◌, Bool, true, false, not, ◌==◌, ◌||◌, ◌&&◌, if◌then◌else◌, IsTrue, List, [], ◌∷◌, ◌++◌, map, refl, sym, ap, ◌∙◌, subst}
+use Rattle.std.proofs.Common.{◌≡◌, ℕ, ◌+◌, Bool, true, false, not, ◌==◌, ◌||◌, ◌&&◌, if◌then◌else◌, IsTrue, List, [], ◌∷◌, ◌++◌, map, refl, sym, ap, ◌∙◌}
 use Rattle.std.proofs.lemmas.Bool.{and_parts, and_from, false≢true, true≢false}
 use Rattle.fol_core.specs.Tree.{var}
-use Rattle.fol_core.specs.Fol.{Fol, every}
-use Rattle.fol_core.specs.Bound.{binders_of, IsOnce, BindsOnce, uses_symbol, HasSymbolsBelow}
-use Rattle.fol_core.specs.Free.{is_in, without, free_vars_of, closed_over, closure_of}
-use Rattle.fol_core.specs.Literals.{ClauseTree, equality, is_true_clause, IsTrueClause, AreTrueClauses}
+use Rattle.fol_core.specs.Fol.{Fol}
+use Rattle.fol_core.specs.Bound.{BindsOnce, uses_symbol, HasSymbolsBelow}
+use Rattle.fol_core.specs.Free.{is_in, free_vars_of, closed_over, closure_of}
+use Rattle.fol_core.specs.Literals.{ClauseTree, equality, is_true_clause}
 use Rattle.fol_core.specs.Meaning.{Meaning, IsLawful}
-use Rattle.fol_core.specs.Stated.{Said, IsTrueIn, IsAsRoled, IsCountermodel}
+use Rattle.fol_core.specs.Stated.{Said, IsAsRoled, IsCountermodel}
 use Rattle.fol_core.specs.Truth.{Assignment, IsWithin, Holds}
-use Rattle.fol_core.specs.Witnesses.{Witness, PicksWitness, PicksWitnesses}
+use Rattle.fol_core.specs.Witnesses.{PicksWitnesses}
 use Rattle.fol_core.specs.declared.problem.Role.{Role}
 use Rattle.fol_core.specs.declared.problem.Role.TheVariants.{Assumption, Goal}
 use Rattle.fol_core.proofs.TruthLemmas.{stable, free_decide}

@@ -1,9 +1,9 @@
 -- The clauses of a negation form.
 use Rattle.std.specs.Prelude.{ℕ, suc, ◌+◌, ◌==◌, if◌then◌else◌, Bool, true, false, List, [], ◌∷◌, ◌++◌, map, slice_index}
-use Rattle.fol_core.specs.Tree.{Tree, var, elem, app, Trees, none, more}
-use Rattle.fol_core.specs.Fol.{Fol, verum, falsum, equal, atom, denied, both, either, implies, iff, every, some}
+use Rattle.fol_core.specs.Tree.{var, app, none, more}
+use Rattle.fol_core.specs.Fol.{Fol, verum, falsum, equal, atom, denied, both, either, every, some}
 use Rattle.fol_core.specs.Free.{variables_of, joined}
-use Rattle.fol_core.specs.Literals.{Lit, literal, ClauseTree, equality}
+use Rattle.fol_core.specs.Literals.{literal, ClauseTree, equality}
 use Rattle.clausify.specs.Skolem.{Terms, with_term, put, put_all, skolem_term, somes}
 
 -- the literals of a clause and of each of some others

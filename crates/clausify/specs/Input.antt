@@ -1,5 +1,5 @@
 -- The clauses of what a file states.
-use Rattle.std.specs.Prelude.{ℕ, zero, suc, ◌+◌, ◌<◌, Bool, true, false, nat_lt, max, if◌then◌else◌, length, List, [], ◌∷◌, ◌++◌, map, Option, Some, None}
+use Rattle.std.specs.Prelude.{ℕ, zero, suc, ◌+◌, Bool, true, false, nat_lt, max, if◌then◌else◌, length, List, [], ◌∷◌, ◌++◌, map, Option, Some, None}
 use Rattle.std.specs.List.{list_any}
 use Rattle.fol_core.specs.Tree.{Tree, var, elem, app, Trees, none, more}
 use Rattle.fol_core.specs.Fol.{Fol, verum, falsum, equal, atom, denied, both, either, implies, iff, every, some}
@@ -13,7 +13,7 @@ use Rattle.fol_core.specs.declared.problem.Role.{Role}
 use Rattle.fol_core.specs.declared.problem.Role.TheVariants.{Assumption, Goal}
 use Rattle.clausify.specs.Clausal.{clauses_in, renumbered}
 use Rattle.clausify.specs.Forms.{form_of, clause_count}
-use Rattle.clausify.specs.Names.{skolem_symbols, all_entered, numbers_of}
+use Rattle.clausify.specs.Names.{skolem_symbols}
 use Rattle.clausify.specs.Skolem.{somes, arities, witnesses}
 
 -- whether a formula is taken as it stands; a goal's denial is taken

@@ -1,5 +1,5 @@
 -- What the clauses say, in every interpretation.
-use Rattle.std.specs.Prelude.{ℕ, List, [], ◌∷◌, map}
+use Rattle.std.specs.Prelude.{ℕ, List, map}
 use Rattle.fol_core.specs.Literals.{AreTrueClauses, equality}
 use Rattle.fol_core.specs.Meaning.{Meaning}
 use Rattle.fol_core.specs.Stated.{Said, IsCountermodel}

@@ -1,16 +1,15 @@
 -- Formulas worked out.
-use Rattle.std.specs.Prelude.{ℕ, ◌≡◌, zero, suc, Bool, true, false, List, [], ◌∷◌, Option, Some, None, codes}
+use Rattle.std.specs.Prelude.{ℕ, ◌≡◌, zero, suc, Bool, true, false, List, [], ◌∷◌, Some, None, codes}
 use Rattle.fol_core.specs.Tree.{Tree, var, elem, app, Trees, none, more}
 use Rattle.fol_core.specs.Fol.{Fol, verum, falsum, equal, atom, denied, both, either, implies, iff, every, some}
 use Rattle.fol_core.specs.Literals.{literal, ClauseTree, equality}
 use Rattle.fol_core.specs.Stated.{Said, said}
-use Rattle.fol_core.specs.SymbolTable.{Symbol, symbol}
-use Rattle.fol_core.specs.Witnesses.{Witness}
+use Rattle.fol_core.specs.SymbolTable.{symbol}
 use Rattle.fol_core.specs.declared.problem.Role.TheVariants.{Assumption, Goal}
 use Rattle.fol_core.specs.declared.symbols.Kind.TheVariants.{Function, Relation}
 use Rattle.clausify.specs.Clausal.{clauses_in}
 use Rattle.clausify.specs.Forms.{form_of}
-use Rattle.clausify.specs.Input.{Row, all_rows, all_witnesses, skolems, first_over, used_symbols, numeral_of}
+use Rattle.clausify.specs.Input.{all_rows, all_witnesses, skolems, first_over, used_symbols, numeral_of}
 
 -- relation 0 of one thing, and of nothing
 abbrev p : Tree → Fol
