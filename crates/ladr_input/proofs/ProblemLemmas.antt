@@ -17,7 +17,7 @@ use Rattle.ladr_lex.specs.Operators.{first_rows}
 use Rattle.ladr_reader.proofs.Complete.{reads_one}
 use Rattle.ladr_reader.specs.Reads.{Reads, Item}
 use Rattle.ladr_reader.specs.Table.{Table, table_of}
-use Rattle.ladr_input.specs.Problem.{IsProblem, IsFormula, Begins, Inside, Outside, Ends, is_plain, is_closing, opens, lexemes, style}
+use Rattle.ladr_input.specs.Problem.{IsProblem, IsFormula, Begins, Inside, Outside, Ends, is_plain, is_uncommented, is_closing, opens, lexemes, style}
 use Rattle.ladr_input.proofs.ItemLemmas.{some_item}
 use Rattle.ladr_input.specs.Items.{items_of}
 use Rattle.ladr_reader.specs.Formulas.{formula_reading, is_sound}
@@ -125,10 +125,10 @@ tokens_say bytes ts p rest cut is =
     let same : lexemes is.tokens ≡ lexemes_of ts = ap lexemes (cut_once 0 bytes is.tokens (pieces_of ts) is.cut cut) ∙ lexemes-pieces_of ts in
     (subst (λ (ls : List Lexeme). IsTrue (list_all is_plain ls)) same is.plain, subst (λ (ls : List Lexeme). Begins (items_of ls) p rest) same is.says)
 
-pub says : (bytes : List ℕ) (ts : List Token) (p : Stated) (rest : Option ByName) → Cuts 0 bytes (pieces_of ts) → IsTrue (list_all is_plain (lexemes_of ts)) → Begins (items_of (lexemes_of ts)) p rest → IsProblem bytes p rest
-says bytes ts p rest cut plain begins =
+pub says : (bytes : List ℕ) (ts : List Token) (p : Stated) (rest : Option ByName) → IsTrue (is_uncommented bytes) → Cuts 0 bytes (pieces_of ts) → IsTrue (list_all is_plain (lexemes_of ts)) → Begins (items_of (lexemes_of ts)) p rest → IsProblem bytes p rest
+says bytes ts p rest uncommented cut plain begins =
     let same = sym (lexemes-pieces_of ts) in
-    record { tokens = pieces_of ts; cut = cut; plain = subst (λ (ls : List Lexeme). IsTrue (list_all is_plain ls)) same plain; says = subst (λ (ls : List Lexeme). Begins (items_of ls) p rest) same begins }
+    record { uncommented = uncommented; tokens = pieces_of ts; cut = cut; plain = subst (λ (ls : List Lexeme). IsTrue (list_all is_plain ls)) same plain; says = subst (λ (ls : List Lexeme). Begins (items_of ls) p rest) same begins }
 
 pub list_all-map : {X Y : Type 0} (q : Y → Bool) (f : X → Y) (xs : List X) → list_all q (map f xs) ≡ list_all (λ x. q (f x)) xs
 list_all-map q f [] = refl

@@ -10,8 +10,9 @@ use Rattle.fol_core.specs.Stated.{Said, Stated, said, stated}
 use Rattle.fol_core.specs.SymbolTable.{Symbol}
 use Rattle.fol_core.specs.declared.problem.Role.{Role}
 use Rattle.fol_core.specs.declared.problem.Role.TheVariants.{Assumption, Goal}
+use Rattle.ladr_lex.specs.Bytes.{is_percent}
 use Rattle.ladr_lex.specs.Cuts.{Piece, Cuts}
-use Rattle.ladr_lex.specs.Lexeme.{Lexeme, lexeme, special, symbol, unreadable}
+use Rattle.ladr_lex.specs.Lexeme.{Lexeme, lexeme, quoted, special, symbol, unreadable}
 use Rattle.ladr_lex.specs.Operators.{first_rows}
 use Rattle.ladr_reader.specs.Formulas.{formula_reading, is_sound}
 use Rattle.ladr_reader.specs.Nesting.{nesting}
@@ -31,6 +32,7 @@ meaning_in table it = meaning_of (tables_for it table)
 -- the tokens of such an input: punctuation, ordinary symbols, `=` and `!=`
 abbrev pub is_plain : Lexeme → Bool
 is_plain (symbol special text) = bytes_eq text (codes "=") || bytes_eq text (codes "!=")
+is_plain (symbol quoted text) = false
 is_plain unreadable = false
 is_plain t = true
 
@@ -96,8 +98,13 @@ abbrev pub lexemes : List Piece → List Lexeme
 lexemes [] = []
 lexemes (t ∷ ts) = lexeme t.kind t.text ∷ lexemes ts
 
--- the bytes say this, in lists and by an interpretation, if one stands behind them
+-- no byte is `%`, which begins a comment
+abbrev pub is_uncommented : List ℕ → Bool
+is_uncommented bytes = list_all (λ b. not (is_percent b)) bytes
+
+-- the bytes, none of which is `%`, say this, in lists and by an interpretation, if one stands behind them
 pub record IsProblem (bytes : List ℕ) (p : Stated) (rest : Option ByName) : Type 0 where
+  pub uncommented : IsTrue (is_uncommented bytes)
   pub tokens : List Piece
   pub cut : Cuts 0 bytes tokens
   pub plain : IsTrue (list_all is_plain (lexemes tokens))

@@ -111,6 +111,7 @@ pub fn symbol<'a>(token: Token<'a>) -> Option<&'a [u8]>
 {
     match token.kind {
         TokenKind::Ordinary => Some(token.text),
+        TokenKind::Quoted => Some(token.text),
         TokenKind::Special => Some(token.text),
         _ => None,
     }

@@ -39,7 +39,7 @@ fn is_plain(token: Token) -> bool
     ensures { result ≡ is_plain (lexeme_of token.entry) }
 {
     match token.kind {
-        TokenKind::Other => false,
+        TokenKind::Unreadable | TokenKind::Quoted => false,
         TokenKind::Special => token.text == b"=".as_slice() || token.text == b"!=".as_slice(),
         _ => true,
     }

@@ -12,7 +12,7 @@ ghost use Rattle.ladr_lex.specs.Operators.{first_rows};
 ghost use Rattle.ladr_reader.specs.Formulas.{formula_reading, is_sound};
 ghost use Rattle.ladr_input.specs.Items.{items_of};
 ghost use Rattle.ladr_input.specs.Grammar.{ByName};
-ghost use Rattle.ladr_input.specs.Problem.{style, IsFormula, IsProblem, Begins, Inside, Outside, Ends, is_plain};
+ghost use Rattle.ladr_input.specs.Problem.{style, IsFormula, IsProblem, Begins, Inside, Outside, Ends, is_plain, is_uncommented};
 ghost use Rattle.ladr_input.specs.ByName.{is_good, covers, heads_of, tables_for};
 ghost use Rattle.ladr_input.specs.Entries.{tables_of, by_name_of};
 
@@ -184,12 +184,23 @@ fn last(alloc: Global, tokens: &[Token]) -> Result<Named, Fault>
     checked(alloc, size, entries)
 }
 
+// Whether no byte is `%`, which begins a comment.
+fn is_uncommented(bytes: &[u8]) -> bool
+    ensures { result ≡ is_uncommented bytes.now }
+{
+    bytes.iter().all(|byte| *byte != b'%')
+}
+
 // The tokens of an input, all of which are plain.
 fn plain_tokens<'a>(alloc: Global, bytes: &'a [u8]) -> Result<Vec<Token<'a>>, Fault>
+    ensures uncommented { OnOk result (IsTrue (is_uncommented bytes.now)) }
     ensures cut { IfOk result (λ ts. Cuts 0 bytes.now (pieces_of ts.items)) }
     ensures plain { IfOk result (λ ts. IsTrue (list_all is_plain (lexemes_of ts.items))) }
     ensures bad { result ≡ Err Fault.Bad → (p : Stated) (rest : Option ByName) → ¬ IsProblem bytes.now p rest }
 {
+    if !is_uncommented(bytes) {
+        return Err(Fault::Bad);
+    }
     let tokens = match tokens(alloc, bytes) {
         Ok(tokens) => tokens,
         Err(_) => return Err(Fault::Memory),

@@ -1,16 +1,13 @@
--- The classes of bytes lie apart, and a token's first byte tells its kind.
-use Rattle.std.proofs.Common.{◌≡◌, ℕ, Bool, true, false, List, [], ◌∷◌, Some, refl, sym, subst, ⊎_elim, arith}
-use Rattle.std.specs.Str.{bytes_eq}
-use Rattle.std.specs.Prelude.{not, ◌||◌, ◌==◌, codes}
+-- The classes of bytes lie apart, and a byte's class tells what begins with it.
+use Rattle.std.proofs.Common.{◌≡◌, ℕ, Bool, true, false, List, [], ◌∷◌, refl, arith}
+use Rattle.std.specs.Prelude.{not, ◌||◌, ◌==◌, if◌then◌else◌, codes}
 use Rattle.std.specs.List.{list_any, list_all}
-use Rattle.std.proofs.lemmas.Bool.{or_cases}
 use Rattle.std.proofs.lemmas.Bool.Decides.{nat_tests}
-use Rattle.std.proofs.lemmas.Slice.Eq.{bytes_eq-Decides}
-use Rattle.ladr_lex.specs.Bytes.{is_blank, is_punctuation, is_ordinary, is_special}
-use Rattle.ladr_lex.specs.Cuts.{can_be, is_other, is_special_run}
-use Rattle.ladr_lex.specs.Lexed.{kind_of}
-use Rattle.ladr_lex.specs.declared.token.TokenKind.{TokenKind}
-use Rattle.ladr_lex.specs.declared.token.TokenKind.TheVariants.{Open, Close, LeftSquare, RightSquare, Comma, Stop, Ordinary, Special, Other}
+use Rattle.ladr_lex.specs.Bytes.{is_blank, is_punctuation, is_ordinary, is_special, is_quote}
+use Rattle.ladr_lex.specs.Cuts.{is_stray, is_special_run}
+use Rattle.ladr_lex.specs.Lexed.{start_of}
+use Rattle.ladr_lex.specs.declared.bytes.Start.TheVariants.{Blank, Word, Sign, Quote, Percent, Single}
+use Rattle.ladr_lex.specs.declared.token.TokenKind.TheVariants.{Unreadable}
 
 -- what holds of each byte of a list holds of a byte that is in it
 of_each : (p : ℕ → Bool) (b : ℕ) (cs : List ℕ) → list_all p cs ≡ true → list_any (λ c. b == c) cs ≡ true → p b ≡ true
@@ -25,66 +22,52 @@ pub ordinary_apart : (b : ℕ) → is_ordinary b ≡ true → is_blank b ≡ fal
 unfolding is_blank is_ordinary
 ordinary_apart b h = grind (arith, nat_tests)
 
--- a text of this kind begins with a byte that tells it
-data Tells (kind : TokenKind) : List ℕ → Type 0 where
-  tells : (b : ℕ) (bs : List ℕ) → kind_of b ≡ Some kind → is_blank b ≡ false → Tells kind (b ∷ bs)
+-- what begins with a byte of a class
+pub blank_start : (b : ℕ) → is_blank b ≡ true → start_of b ≡ Blank
+unfolding start_of
+blank_start b h = rw h refl
 
--- the same, with the byte named
-pub record First (kind : TokenKind) (text : List ℕ) : Type 0 where
-  pub byte : ℕ
-  pub others : List ℕ
-  pub is : text ≡ byte ∷ others
-  pub told : kind_of byte ≡ Some kind
-  pub ink : is_blank byte ≡ false
+pub ordinary_start : (b : ℕ) → is_ordinary b ≡ true → start_of b ≡ Word
+unfolding start_of
+ordinary_start b h = rw (ordinary_apart b h, h) refl
 
-first_of : (kind : TokenKind) (text : List ℕ) → Tells kind text → First kind text
-first_of kind text (tells b bs k i) = record { byte = b; others = bs; is = refl; told = k; ink = i }
+pub special_start : (b : ℕ) → is_special b ≡ true → start_of b ≡ Sign
+unfolding start_of
+special_start b h = let e = special_apart b h in grind arith
 
-ordinary_kind : (b : ℕ) → is_ordinary b ≡ true → kind_of b ≡ Some Ordinary
-ordinary_kind b h = let e = ordinary_apart b h in grind arith
+pub stray_start : (b : ℕ) → is_stray b ≡ true → start_of b ≡ (if is_quote b then Quote else Single Unreadable)
+unfolding start_of is_stray is_punctuation
+stray_start b h = grind (arith, nat_tests)
 
-special_kind : (b : ℕ) → is_special b ≡ true → (kind_of b ≡ Some Special) × (is_blank b ≡ false)
-special_kind b h = let e = special_apart b h in grind arith
+pub quote_begins : start_of 34 ≡ Quote
+unfolding start_of is_special is_ordinary is_blank
+quote_begins = refl
+
+pub percent_begins : start_of 37 ≡ Percent
+unfolding start_of is_special is_ordinary is_blank
+percent_begins = refl
 
 pub special_first : (b : ℕ) (bs : List ℕ) → is_special_run (b ∷ bs) ≡ true → is_special b ≡ true
 special_first b [] h = grind arith
 special_first b (c ∷ cs) h = grind arith
 
-ordinary_tells : (b : ℕ) (bs : List ℕ) → list_all is_ordinary (b ∷ bs) ≡ true → Tells Ordinary (b ∷ bs)
-ordinary_tells b bs h = let o : is_ordinary b ≡ true = grind arith in tells b bs (ordinary_kind b o) (ordinary_apart b o)
+-- the class of a byte with which something begins
+pub start_blank : (b : ℕ) → start_of b ≡ Blank → is_blank b ≡ true
+unfolding start_of
+start_blank b h = grind arith
 
-other_kind : (b : ℕ) → is_other (b ∷ []) ≡ true → (kind_of b ≡ Some Other) × (is_blank b ≡ false)
-unfolding is_other is_punctuation
-other_kind b h = (grind (arith, nat_tests), grind (arith, nat_tests))
+pub start_ordinary : (b : ℕ) → start_of b ≡ Word → is_ordinary b ≡ true
+unfolding start_of
+start_ordinary b h = grind arith
 
-other_tells : (text : List ℕ) → is_other text ≡ true → Tells Other text
-unfolding is_other
-other_tells [] h = absurd (cc)
-other_tells (b ∷ []) h = let k = other_kind b h in tells b [] k.0 k.1
-other_tells (b ∷ c ∷ cs) h = absurd (cc)
+pub start_special : (b : ℕ) → start_of b ≡ Sign → is_special b ≡ true
+unfolding start_of
+start_special b h = grind arith
 
-word_tells : (kind : TokenKind) (word text : List ℕ) → Tells kind word → bytes_eq text word ≡ true → Tells kind text
-word_tells kind word text t h = subst (Tells kind) (sym ((bytes_eq-Decides text word).0 h)) t
+pub start_quote : (b : ℕ) → start_of b ≡ Quote → b ≡ 34
+unfolding start_of
+start_quote b h = grind (arith, nat_tests)
 
-special_tells : (text : List ℕ) → is_special_run text ≡ true → Tells Special text
-special_tells (b ∷ bs) h = let k = special_kind b (special_first b bs h) in tells b bs k.0 k.1
-special_tells [] h = absurd (cc)
-
-tell : (kind : TokenKind) (text : List ℕ) → can_be kind text ≡ true → Tells kind text
-unfolding is_blank is_ordinary is_special
-tell Open text h = word_tells Open (codes "(") text (tells 40 [] refl refl) h
-tell Close text h = word_tells Close (codes ")") text (tells 41 [] refl refl) h
-tell LeftSquare text h = word_tells LeftSquare (codes "[") text (tells 91 [] refl refl) h
-tell RightSquare text h = word_tells RightSquare (codes "]") text (tells 93 [] refl refl) h
-tell Comma text h = word_tells Comma (codes ",") text (tells 44 [] refl refl) h
-tell Stop text h = word_tells Stop (codes ".") text (tells 46 [] refl refl) h
-tell Ordinary [] h = absurd (cc)
-tell Ordinary (b ∷ bs) h = ordinary_tells b bs h
-tell Special text h =
-    ⊎_elim (λ e. ⊎_elim (λ f. ⊎_elim (λ g. word_tells Special (codes "'") text (tells 39 [] refl refl) g) (λ g. word_tells Special (codes "-") text (tells 45 [] refl refl) g) (or_cases _ _ f))
-    (λ f. word_tells Special (codes "<-") text (tells 60 (45 ∷ []) refl refl) f) (or_cases _ _ e))
-    (special_tells text) (or_cases _ _ h)
-tell Other text h = other_tells text h
-
-pub first : (kind : TokenKind) (text : List ℕ) → can_be kind text ≡ true → First kind text
-first kind text h = first_of kind text (tell kind text h)
+pub start_percent : (b : ℕ) → start_of b ≡ Percent → b ≡ 37
+unfolding start_of
+start_percent b h = grind (arith, nat_tests)

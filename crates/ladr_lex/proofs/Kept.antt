@@ -4,6 +4,8 @@ use Rattle.std.specs.Prelude.{◌≢◌}
 use Rattle.std.specs.List.{prefix_len, list_all}
 use Rattle.std.proofs.Math.Numerals.{one-add}
 use Rattle.std.proofs.lemmas.Bool.{cases_Bool, cases_eq, and_from}
+use Rattle.std.proofs.lemmas.List.{append-nil}
+use Rattle.std.proofs.lemmas.List.Sums.{prefix_len-le-length}
 use Rattle.std.proofs.lemmas.Bool.Decides.{nat_tests}
 use Rattle.ladr_lex.specs.Bytes.{is_special, is_dash}
 use Rattle.ladr_lex.specs.Cuts.{is_special_run}
@@ -82,3 +84,19 @@ run_longest p (b ∷ m) r h =
     let t : list_all p m ≡ true = grind arith in
     let more = run_longest p m r t in
     grind (arith, nat_tests)
+
+-- a whole run
+pub kept_whole : (m : List ℕ) → is_special_run m ≡ true → kept m ≡ length m
+kept_whole m h = omega (arith, kept_within m, kept_longest m [] h, ap (λ (l : List ℕ). kept l) (append-nil m))
+
+pub run_whole : (p : ℕ → Bool) (m : List ℕ) → list_all p m ≡ true → prefix_len p m ≡ length m
+run_whole p m h = omega (arith, prefix_len-le-length p m, run_longest p m [] h, ap (λ (l : List ℕ). prefix_len p l) (append-nil m))
+
+-- more bytes behind make no run shorter
+pub kept_grows : (m r : List ℕ) → kept m ≤ kept (m ++ r)
+kept_grows [] r = omega arith
+kept_grows (b ∷ m) r = grind (arith, nat_tests, kept_grows m r)
+
+pub run_grows : (p : ℕ → Bool) (m r : List ℕ) → prefix_len p m ≤ prefix_len p (m ++ r)
+run_grows p [] r = omega arith
+run_grows p (b ∷ m) r = grind (arith, nat_tests, run_grows p m r)

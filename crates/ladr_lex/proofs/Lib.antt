@@ -1,5 +1,9 @@
+pub mod Blocks
 pub mod Classes
+pub mod Comments
+pub mod Extents
 pub mod Kept
+pub mod Quotes
 pub mod Lexing
 pub mod Steps
 pub mod Unique

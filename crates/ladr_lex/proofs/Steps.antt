@@ -1,32 +1,24 @@
 -- What one token more does to the tokens that are ahead.
-use Rattle.std.proofs.Common.{◌≡◌, ℕ, zero, suc, ◌+◌, ◌-◌, ◌≤◌, ◌<◌, true, cond, List, [], ◌∷◌, ◌++◌, length, take, drop, get_or, Option, Some, None, Result, Ok, Err, refl, sym, ap, ◌∙◌, subst, append_assoc, arith, add-zero, drop-drop}
+use Rattle.std.proofs.Common.{◌≡◌, ℕ, suc, ◌+◌, ◌-◌, ◌≤◌, ◌<◌, true, List, [], ◌∷◌, ◌++◌, length, take, drop, get_or, Option, Some, None, Result, Ok, Err, refl, sym, ap, ◌∙◌, subst, append_assoc, arith, drop-drop}
 use Rattle.std.proofs.Common.{length-drop}
 use Rattle.std.proofs.lemmas.Bool.Decides.{nat_tests}
 use Rattle.ladr_lex.specs.Bytes.{is_blank, is_ordinary, is_special}
 use Rattle.ladr_lex.specs.declared.token.TokenKind.{TokenKind}
 use Rattle.ladr_lex.specs.declared.token.TokenKind.TheVariants.{Special}
 use Rattle.ladr_lex.specs.Cuts.{Piece, piece_of, pieces_of, Cuts}
-use Rattle.ladr_lex.specs.Lexed.{kind_of, behind, begins_with_dash, special_behind, kept, piece, lexed_behind, lexed, lexed_from, Advances}
-use Rattle.ladr_lex.proofs.Lexing.{behind_within, extent_none, cuts_text}
+use Rattle.ladr_lex.specs.Lexed.{start_of, kind_at, behind_in, behind, begins_with_dash, kept, piece, lexed_behind, lexed, lexed_from, Advances}
+use Rattle.ladr_lex.proofs.Lexing.{behind_within, cuts_text}
+use Rattle.ladr_lex.proofs.Unique.{lexed_front}
 use Rattle.ladr_lex.specs.declared.token.Token.{Token}
 use Rattle.std.proofs.lemmas.List.{drop_more, drop_all, append-nil}
-use Rattle.std.proofs.lemmas.Bool.{eqb-true, cond-true, cond-false, or_parts, not-true, cond_both, and_parts}
+use Rattle.std.proofs.lemmas.Bool.{eqb-true, cond_both, and_parts}
 use Rattle.std.specs.Prelude.{IfOk, ◌==◌, ◌&&◌}
-use Rattle.ladr_lex.proofs.Classes.{special_apart}
+use Rattle.ladr_lex.proofs.Classes.{special_start}
 use Rattle.ladr_lex.proofs.Kept.{kept_behind}
-
--- bytes that are in the token before are passed over
-lexed_skip : (i n : ℕ) (bs : List ℕ) → n ≤ length bs → lexed_behind i n bs ≡ lexed_behind (i + n) 0 (drop n bs)
-lexed_skip i zero bs h = ap (λ (k : ℕ). lexed_behind k 0 bs) (sym (add-zero i))
-lexed_skip i (suc n) [] h = absurd (omega arith)
-lexed_skip i (suc n) (b ∷ bs) h = lexed_skip (suc i) n bs (omega arith) ∙ ap (λ (k : ℕ). lexed_behind k 0 (drop n bs)) (omega arith)
-
-lexed_front : (i b : ℕ) (bs : List ℕ) → lexed_behind i 0 (b ∷ bs) ≡ piece (kind_of b) (b ∷ take (behind b bs) bs) i ++ lexed_behind (suc i + behind b bs) 0 (drop (behind b bs) bs)
-lexed_front i b bs = ap (λ (l : List Piece). piece (kind_of b) (b ∷ take (behind b bs) bs) i ++ l) (lexed_skip (suc i) (behind b bs) bs (behind_within b bs))
 
 -- the tokens from a place on are the one that begins there, if one does, and those behind it
 lexed_place : (bytes : List ℕ) (at end : ℕ) → at < length bytes → end ≡ at + 1 + behind (get_or bytes at 0) (drop (at + 1) bytes) →
-    lexed_from at bytes ≡ piece (kind_of (get_or bytes at 0)) (take (end - at) (drop at bytes)) at ++ lexed_from end bytes
+    lexed_from at bytes ≡ piece (kind_at (get_or bytes at 0) (drop (at + 1) bytes)) (take (end - at) (drop at bytes)) at ++ lexed_from end bytes
 lexed_place bytes at end h e =
     let b = get_or bytes at 0 in
     let bs = drop (at + 1) bytes in
@@ -35,7 +27,7 @@ lexed_place bytes at end h e =
     ap (λ (n : ℕ). take n (b ∷ bs)) {x = suc (behind b bs)} {y = end - at} (omega arith) ∙ ap (take (end - at)) (sym here) in
     let place : suc at + behind b bs ≡ end = omega arith in
     let rest : drop (behind b bs) bs ≡ drop end bytes = drop-drop (behind b bs) (at + 1) bytes ∙ ap (λ (n : ℕ). drop n bytes) (sym e) in
-    ap (lexed_behind at 0) here ∙ lexed_front at b bs ∙ (λ i. piece (kind_of b) (text i) at ++ lexed_behind (place i) 0 (rest i))
+    ap (lexed_behind at 0) here ∙ lexed_front at b bs ∙ (λ i. piece (kind_at b bs) (text i) at ++ lexed_behind (place i) 0 (rest i))
 
 end_within : (bytes : List ℕ) (at : ℕ) → at < length bytes → at + 1 + behind (get_or bytes at 0) (drop (at + 1) bytes) ≤ length bytes
 end_within bytes at h = omega (arith, behind_within (get_or bytes at 0) (drop (at + 1) bytes), length-drop (at + 1) bytes)
@@ -44,7 +36,7 @@ pieces-append : (ts us : List Token) → pieces_of (ts ++ us) ≡ pieces_of ts +
 pieces-append [] us = refl
 pieces-append (t ∷ ts) us = ap (λ (l : List Piece). piece_of t ∷ l) (pieces-append ts us)
 
-advances_add : (bytes : List ℕ) (old : List Token) (t : Token) (at end : ℕ) → at < length bytes → kind_of (get_or bytes at 0) ≡ Some t.kind →
+advances_add : (bytes : List ℕ) (old : List Token) (t : Token) (at end : ℕ) → at < length bytes → kind_at (get_or bytes at 0) (drop (at + 1) bytes) ≡ Some t.kind →
     end ≡ at + 1 + behind (get_or bytes at 0) (drop (at + 1) bytes) → t.text.now ≡ take (end - at) (drop at bytes) → t.start ≡ at →
     Advances bytes old (old ++ t ∷ []) at end
 advances_add bytes old t at end h k e text start = record {
@@ -59,20 +51,20 @@ advances_add bytes old t at end h k e text start = record {
 }
 
 -- what `add` does
-pub advances_pushed : (bytes : List ℕ) (old new : List Token) (t : Token) (at end : ℕ) → new ≡ old ++ t ∷ [] → at < length bytes → kind_of (get_or bytes at 0) ≡ Some t.kind →
+pub advances_pushed : (bytes : List ℕ) (old new : List Token) (t : Token) (at end : ℕ) → new ≡ old ++ t ∷ [] → at < length bytes → kind_at (get_or bytes at 0) (drop (at + 1) bytes) ≡ Some t.kind →
     end ≡ at + 1 + behind (get_or bytes at 0) (drop (at + 1) bytes) → t.text.now ≡ take (end - at) (drop at bytes) → t.start ≡ at →
     Advances bytes old new at end
 advances_pushed bytes old new t at end pushed h k e text start = subst (λ (l : List Token). Advances bytes old l at end) (sym pushed) (advances_add bytes old t at end h k e text start)
 
--- white space is passed over
-pub advances_blank : (bytes : List ℕ) (old : List Token) (at : ℕ) → at < length bytes → kind_of (get_or bytes at 0) ≡ None → Advances bytes old old at (at + 1)
-advances_blank bytes old at h k = record {
+-- white space and comments are passed over
+pub advances_gap : (bytes : List ℕ) (old : List Token) (at end : ℕ) → at < length bytes → kind_at (get_or bytes at 0) (drop (at + 1) bytes) ≡ None →
+    end ≡ at + 1 + behind (get_or bytes at 0) (drop (at + 1) bytes) → Advances bytes old old at end
+advances_gap bytes old at end h k e = record {
   onward = omega arith;
-  within = omega arith;
+  within = omega (arith, end_within bytes at h);
   found =
-      let none = (extent_none (get_or bytes at 0) (drop (at + 1) bytes) k).1 in
-      let ahead = lexed_place bytes at (at + 1) h (omega arith) in
-      ap (λ (l : List Piece). pieces_of old ++ l) (sym (ahead ∙ ap (λ (o : Option TokenKind). piece o (take (at + 1 - at) (drop at bytes)) at ++ lexed_from (at + 1) bytes) k));
+      let ahead = lexed_place bytes at end h e in
+      ap (λ (l : List Piece). pieces_of old ++ l) (sym (ahead ∙ ap (λ (o : Option TokenKind). piece o (take (end - at) (drop at bytes)) at ++ lexed_from end bytes) k));
 }
 
 pub advances_both : (bytes : List ℕ) (old mid new : List Token) (at place next : ℕ) → Advances bytes old mid at place → Advances bytes mid new place next → Advances bytes old new at next
@@ -85,7 +77,7 @@ advances_then bytes old mid new at place (Err e) h a b = tt
 
 -- a `-` before which no longer token ends is a token
 pub record IsDash (bytes : List ℕ) (at : ℕ) : Type 0 where
-  pub kind : kind_of (get_or bytes at 0) ≡ Some Special
+  pub kind : kind_at (get_or bytes at 0) (drop (at + 1) bytes) ≡ Some Special
   pub end : at + 1 ≡ at + 1 + behind (get_or bytes at 0) (drop (at + 1) bytes)
   pub ahead : kept (drop (at + 1) bytes) ≡ 0
 
@@ -93,19 +85,19 @@ dash_none : (bs : List ℕ) → kept (45 ∷ bs) ≡ 0 → kept bs ≡ 0
 unfolding is_special
 dash_none bs h = grind (arith, nat_tests)
 
-dash_kind : kind_of 45 ≡ Some Special
-unfolding is_special is_ordinary is_blank
-dash_kind = refl
+dash_kind : (bs : List ℕ) → kind_at 45 bs ≡ Some Special
+unfolding start_of is_special is_ordinary is_blank
+dash_kind bs = refl
 
 dash_behind : (bs : List ℕ) → behind 45 bs ≡ kept bs
-unfolding is_special is_ordinary
+unfolding start_of is_special is_ordinary is_blank
 dash_behind bs = refl
 
 pub dash_alone : (bytes : List ℕ) (at : ℕ) → at < length bytes → get_or bytes at 0 ≡ 45 → kept (drop at bytes) ≡ 0 → IsDash bytes at
 dash_alone bytes at h d k =
     let ahead = dash_none (drop (at + 1) bytes) (ap (λ (b : ℕ). kept (b ∷ drop (at + 1) bytes)) (sym d) ∙ ap kept (sym (drop_more bytes at 0 h)) ∙ k) in
     record {
-      kind = ap kind_of d ∙ dash_kind;
+      kind = ap (λ (b : ℕ). kind_at b (drop (at + 1) bytes)) d ∙ dash_kind (drop (at + 1) bytes);
       end = omega (arith, ap (λ (b : ℕ). behind b (drop (at + 1) bytes)) d, dash_behind (drop (at + 1) bytes), ahead);
       ahead = ahead;
     }
@@ -117,8 +109,7 @@ arrow_rest (b ∷ bs) k d = dash_none bs (ap (λ (c : ℕ). kept (c ∷ bs)) (sy
 
 special_rest : (b : ℕ) (bs : List ℕ) → is_special b ≡ true → kept (drop (behind b bs) bs) ≡ 0
 special_rest b bs s =
-    let first : behind b bs ≡ special_behind b bs = cond-false (is_ordinary b) _ (cond (is_special b) (special_behind b bs) 0) (or_parts _ _ (not-true _ (special_apart b s))).1 ∙ cond-true (is_special b) _ _ s in
-    ap (λ (n : ℕ). kept (drop n bs)) first ∙
+    ap (λ t. kept (drop (behind_in t b bs) bs)) (special_start b s) ∙
     cond_both (b == 60 && kept bs == 0 && begins_with_dash bs) 1 (kept bs) (λ (n : ℕ). kept (drop n bs) ≡ 0)
     (λ t. let parts = and_parts _ _ t in arrow_rest bs (eqb-true (kept bs) 0 (and_parts _ _ parts.0).1) parts.1)
     (λ f. kept_behind bs)

@@ -1,13 +1,12 @@
--- A text is cut in one way.
-use Rattle.std.proofs.Common.{◌≡◌, ℕ, ◌+◌, true, false, List, [], ◌∷◌, ◌++◌, length, Some, refl, sym, ap, ◌∙◌, subst, arith}
+-- A text is cut in one way: what cuts it is what is computed.
+use Rattle.std.proofs.Common.{◌≡◌, ℕ, zero, suc, ◌+◌, ◌≤◌, List, [], ◌∷◌, ◌++◌, length, take, drop, Option, Some, None, refl, sym, ap, ◌∙◌, subst, add-zero, arith}
 use Rattle.std.specs.Prelude.{IsTrue}
-use Rattle.std.specs.List.{list_all}
-use Rattle.std.proofs.lemmas.List.{append-nil}
-use Rattle.ladr_lex.specs.Bytes.{is_blank}
-use Rattle.ladr_lex.specs.Lexed.{kind_of}
-use Rattle.ladr_lex.specs.Cuts.{Piece, can_be, IsToken, BeginsWith, Cuts}
-use Rattle.ladr_lex.proofs.Classes.{first}
+use Rattle.std.proofs.lemmas.List.{append-nil, take-append-drop, length-take-le}
+use Rattle.ladr_lex.specs.Cuts.{Piece, can_be, IsLongest, Cuts, nothing, gap, token}
+use Rattle.ladr_lex.specs.Lexed.{kind_at, behind, piece, lexed_behind}
 use Rattle.ladr_lex.specs.declared.token.TokenKind.{TokenKind}
+use Rattle.ladr_lex.proofs.Extents.{told}
+use Rattle.ladr_lex.proofs.Lexing.{behind_within, longest_at}
 
 -- of two fronts of one list one is a front of the other
 data Fronts (t r u s : List ℕ) : Type 0 where
@@ -25,71 +24,54 @@ fronts (x ∷ t) r (y ∷ u) s e =
     let same : x ≡ y = cc in
     subst (λ (z : ℕ). Fronts (x ∷ t) r (z ∷ u) s) same (fronts_more x t r u s (fronts t r u s (cc)))
 
--- at one place one token of a kind begins
-token_unique : (k : TokenKind) (t r u s : List ℕ) → IsToken k t r → IsToken k u s → t ++ r ≡ u ++ s → (t ≡ u) × (r ≡ s)
-token_unique k t r u s one two e =
+-- at one place one text is the longest
+longest_unique : (k l : Option TokenKind) (t r u s : List ℕ) → IsLongest k t r → IsLongest l u s → t ++ r ≡ u ++ s → (t ≡ u) × (r ≡ s)
+longest_unique k l t r u s one two e =
     elim (fronts t r u s e) [
-      | shorter more e f ↦ (let none = one.longest more s f (subst (λ (l : List ℕ). IsTrue (can_be k l)) e two.fits) in (sym (append-nil t) ∙ ap (λ (l : List ℕ). t ++ l) (sym none) ∙ sym e, f ∙ ap (λ (l : List ℕ). l ++ s) none))
-      | longer more e f ↦ (let none = two.longest more r f (subst (λ (l : List ℕ). IsTrue (can_be k l)) e one.fits) in (e ∙ ap (λ (l : List ℕ). u ++ l) none ∙ append-nil u, sym (f ∙ ap (λ (l : List ℕ). l ++ r) none)))
+      | shorter more e f ↦ (let none = one.longest l more s f (subst (λ (w : List ℕ). IsTrue (can_be l w)) e two.fits) in (sym (append-nil t) ∙ ap (λ (w : List ℕ). t ++ w) (sym none) ∙ sym e, f ∙ ap (λ (w : List ℕ). w ++ s) none))
+      | longer more e f ↦ (let none = two.longest k more r f (subst (λ (w : List ℕ). IsTrue (can_be k w)) e one.fits) in (e ∙ ap (λ (w : List ℕ). u ++ w) none ∙ append-nil u, sym (f ∙ ap (λ (w : List ℕ). w ++ r) none)))
     ]
 
--- white space before a text that begins with none is its longest front of white space
-gap_unique : (g : List ℕ) (x : ℕ) (xs : List ℕ) (h : List ℕ) (y : ℕ) (ys : List ℕ) → list_all is_blank g ≡ true → list_all is_blank h ≡ true → is_blank x ≡ false → is_blank y ≡ false → g ++ (x ∷ xs) ≡ h ++ (y ∷ ys) → (g ≡ h) × ((x ≡ y) × (xs ≡ ys))
-gap_unique [] x xs [] y ys a b c d e = (refl, (cc, cc))
-gap_unique [] x xs (z ∷ h) y ys a b c d e = grind arith
-gap_unique (z ∷ g) x xs [] y ys a b c d e = grind arith
-gap_unique (z ∷ g) x xs (w ∷ h) y ys a b c d e =
-    let r = gap_unique g x xs h y ys (grind arith) (grind arith) c d (cc) in
-    (cc, r.1)
+-- what the first byte of the longest text tells
+record Leads (o : Option TokenKind) (b : ℕ) (m rest : List ℕ) : Type 0 where
+  kind : kind_at b (m ++ rest) ≡ o
+  text : take (behind b (m ++ rest)) (m ++ rest) ≡ m
+  rest_of : drop (behind b (m ++ rest)) (m ++ rest) ≡ rest
 
-blank_first : (g : List ℕ) (x : ℕ) (xs : List ℕ) → list_all is_blank (g ++ (x ∷ xs)) ≡ true → is_blank x ≡ true
-blank_first [] x xs h = grind arith
-blank_first (y ∷ g) x xs h = blank_first g x xs (grind arith)
-
--- the place, the token in front and the rest
-same_piece : (p q : Piece) → p.kind ≡ q.kind → p.text ≡ q.text → p.start ≡ q.start → p ≡ q
-same_piece p q k t s = λ i. record { kind = k i; text = t i; start = s i }
-
-record Same (p q : Piece) (r s : List ℕ) : Type 0 where
-  piece : p ≡ q
-  rest : r ≡ s
-
-text_same : (k l : TokenKind) (t r u s : List ℕ) → k ≡ l → IsToken k t r → IsToken l u s → t ++ r ≡ u ++ s → (t ≡ u) × (r ≡ s)
-text_same k l t r u s same one two e = token_unique k t r u s one (subst (λ (m : TokenKind). IsToken m u s) (sym same) two) e
-
-kind_same : (k l : TokenKind) → Some k ≡ Some l → k ≡ l
-kind_same k l e = cc
-
-not_blank : (i : ℕ) (bytes : List ℕ) (p : Piece) (r : List ℕ) → BeginsWith i bytes p r → list_all is_blank bytes ≡ true → ⊥
-not_blank i bytes p r one h =
-    let a = first p.kind p.text one.is_token.fits in
-    let split = one.split ∙ ap (λ (l : List ℕ). one.gap ++ (l ++ r)) a.is in
-    let ink = a.ink in
-    let blank = blank_first one.gap a.byte (a.others ++ r) (ap (list_all is_blank) (sym split) ∙ h) in
-    cc
-
-begins_same : (i j : ℕ) (bytes others : List ℕ) (p q : Piece) (r s : List ℕ) → i ≡ j → bytes ≡ others → BeginsWith i bytes p r → BeginsWith j others q s → Same p q r s
-begins_same i j bytes others p q r s e f one two =
-    let a = first p.kind p.text one.is_token.fits in
-    let b = first q.kind q.text two.is_token.fits in
-    let split : one.gap ++ (a.byte ∷ (a.others ++ r)) ≡ two.gap ++ (b.byte ∷ (b.others ++ s)) =
-    ap (λ (l : List ℕ). one.gap ++ (l ++ r)) (sym a.is) ∙ sym one.split ∙ f ∙ two.split ∙ ap (λ (l : List ℕ). two.gap ++ (l ++ s)) b.is in
-    let gaps = gap_unique one.gap a.byte _ two.gap b.byte _ one.blank two.blank a.ink b.ink split in
-    let kinds : p.kind ≡ q.kind = kind_same _ _ (sym a.told ∙ ap kind_of gaps.1.0 ∙ b.told) in
-    let texts : p.text ++ r ≡ q.text ++ s = ap (λ (l : List ℕ). l ++ r) a.is ∙ (λ k. gaps.1.0 k ∷ gaps.1.1 k) ∙ ap (λ (l : List ℕ). l ++ s) (sym b.is) in
-    let same = text_same p.kind q.kind p.text r q.text s kinds one.is_token two.is_token texts in
+leads : (o : Option TokenKind) (b : ℕ) (m rest : List ℕ) → IsLongest o (b ∷ m) rest → Leads o b m rest
+leads o b m rest l =
+    let bs = m ++ rest in
+    let n = behind b bs in
+    let found = longest_at b bs in
+    let same = longest_unique (kind_at b bs) o (b ∷ take n bs) (drop n bs) (b ∷ m) rest found l (ap (λ (w : List ℕ). b ∷ w) (take-append-drop n bs)) in
+    let tail : take n bs ≡ m = cc in
     record {
-      piece = same_piece p q kinds same.0 (one.start ∙ ap (λ (g : List ℕ). i + length g) gaps.0 ∙ ap (λ (n : ℕ). n + length two.gap) e ∙ sym two.start);
-      rest = same.1;
+      kind = sym (told (kind_at b bs) (b ∷ take n bs) found.fits).kind ∙ ap (kind_at b) tail ∙ (told o (b ∷ m) l.fits).kind;
+      text = tail;
+      rest_of = same.1;
     }
 
-cut_same : (i j : ℕ) (bytes others : List ℕ) (ps qs : List Piece) → i ≡ j → bytes ≡ others → Cuts i bytes ps → Cuts j others qs → ps ≡ qs
-cut_same i j bytes others [] [] e f one two = refl
-cut_same i j bytes others [] (q ∷ qs) e f one two = absurd (not_blank j others q two.0 two.1 (subst (λ (l : List ℕ). list_all is_blank l ≡ true) f one))
-cut_same i j bytes others (p ∷ ps) [] e f one two = absurd (not_blank i bytes p one.0 one.1 (subst (λ (l : List ℕ). list_all is_blank l ≡ true) (sym f) two))
-cut_same i j bytes others (p ∷ ps) (q ∷ qs) e f one two =
-    let s = begins_same i j bytes others p q one.0 two.0 e f one.1 two.1 in
-    λ k. s.piece k ∷ cut_same (p.start + length p.text) (q.start + length q.text) one.0 two.0 ps qs (ap (λ (t : Piece). t.start + length t.text) s.piece) s.rest one.2 two.2 k
+-- bytes that belong to what is before are passed over
+pub lexed_skip : (i n : ℕ) (bs : List ℕ) → n ≤ length bs → lexed_behind i n bs ≡ lexed_behind (i + n) 0 (drop n bs)
+lexed_skip i zero bs h = ap (λ (k : ℕ). lexed_behind k 0 bs) (sym (add-zero i))
+lexed_skip i (suc n) [] h = absurd (omega arith)
+lexed_skip i (suc n) (b ∷ bs) h = lexed_skip (suc i) n bs (omega arith) ∙ ap (λ (k : ℕ). lexed_behind k 0 (drop n bs)) (omega arith)
+
+pub lexed_front : (i b : ℕ) (bs : List ℕ) → lexed_behind i 0 (b ∷ bs) ≡ piece (kind_at b bs) (b ∷ take (behind b bs) bs) i ++ lexed_behind (suc i + behind b bs) 0 (drop (behind b bs) bs)
+lexed_front i b bs = ap (λ (l : List Piece). piece (kind_at b bs) (b ∷ take (behind b bs) bs) i ++ l) (lexed_skip (suc i) (behind b bs) bs (behind_within b bs))
+
+lexed_longest : (i : ℕ) (o : Option TokenKind) (text rest : List ℕ) → IsLongest o text rest → lexed_behind i 0 (text ++ rest) ≡ piece o text i ++ lexed_behind (i + length text) 0 rest
+lexed_longest i o [] rest l = absurd (told o [] l.fits)
+lexed_longest i o (b ∷ m) rest l =
+    let t = leads o b m rest l in
+    let place : suc i + behind b (m ++ rest) ≡ i + length (b ∷ m) = omega (arith, ap length t.text, length-take-le (behind b (m ++ rest)) (m ++ rest) (behind_within b (m ++ rest))) in
+    lexed_front i b (m ++ rest) ∙ (λ j. piece (t.kind j) (b ∷ t.text j) i ++ lexed_behind (place j) 0 (t.rest_of j))
+
+-- the tokens are those computed
+pub is_lexed : {i : ℕ} {bytes : List ℕ} {ts : List Piece} → Cuts i bytes ts → ts ≡ lexed_behind i 0 bytes
+is_lexed nothing = refl
+is_lexed (gap {i} {text} {rest} l c) = is_lexed c ∙ sym (lexed_longest i None text rest l)
+is_lexed (token {i} {text} {rest} kind l c) = ap (λ (ps : List Piece). record { kind = kind; text = text; start = i } ∷ ps) (is_lexed c) ∙ sym (lexed_longest i (Some kind) text rest l)
 
 pub cut_once : (i : ℕ) (bytes : List ℕ) (ps qs : List Piece) → Cuts i bytes ps → Cuts i bytes qs → ps ≡ qs
-cut_once i bytes ps qs one two = cut_same i i bytes bytes ps qs refl refl one two
+cut_once i bytes ps qs one two = is_lexed one ∙ sym (is_lexed two)

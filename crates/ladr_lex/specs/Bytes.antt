@@ -1,5 +1,5 @@
 -- The classes of bytes.
-use Rattle.std.specs.Prelude.{ℕ, Bool, ◌==◌, ◌||◌, codes}
+use Rattle.std.specs.Prelude.{ℕ, Bool, not, ◌==◌, ◌||◌, ◌&&◌, nat_le, codes}
 use Rattle.std.specs.List.{list_any}
 use Rattle.std.specs.Char.{is_ascii_alphanumeric}
 
@@ -23,3 +23,14 @@ is_dash b = b == 45
 
 abbrev pub is_apostrophe : ℕ → Bool
 is_apostrophe b = b == 39
+
+abbrev pub is_quote : ℕ → Bool
+is_quote b = b == 34
+
+-- what stands between quotes: bytes from 32 on, but no quote
+abbrev pub is_quotable : ℕ → Bool
+is_quotable b = nat_le 32 b && not (is_quote b)
+
+-- `%`, which begins a comment
+abbrev pub is_percent : ℕ → Bool
+is_percent b = b == 37

@@ -1,11 +1,12 @@
 -- How tokens cut a text.
-use Rattle.std.specs.Prelude.{◌≡◌, ℕ, ◌+◌, Bool, false, not, ◌||◌, ◌&&◌, IsTrue, codes, length, List, [], ◌∷◌, ◌++◌}
+use Rattle.std.specs.Prelude.{◌≡◌, ℕ, ◌+◌, Bool, false, not, ◌||◌, ◌&&◌, IsTrue, codes, length, List, [], ◌∷◌, ◌++◌, Option, Some, None}
 use Rattle.std.specs.List.{list_all}
 use Rattle.std.specs.Str.{bytes_eq}
-use Rattle.ladr_lex.specs.Bytes.{is_blank, is_punctuation, is_ordinary, is_special, is_dash, is_apostrophe}
+use Rattle.ladr_lex.specs.Bytes.{is_blank, is_punctuation, is_ordinary, is_special, is_dash, is_apostrophe, is_quote, is_quotable, is_percent}
+use Rattle.ladr_lex.specs.Comments.{is_comment, is_open_block}
 use Rattle.ladr_lex.specs.declared.token.Token.{Token}
 use Rattle.ladr_lex.specs.declared.token.TokenKind.{TokenKind}
-use Rattle.ladr_lex.specs.declared.token.TokenKind.TheVariants.{Open, Close, LeftSquare, RightSquare, Comma, Stop, Ordinary, Special, Other}
+use Rattle.ladr_lex.specs.declared.token.TokenKind.TheVariants.{Open, Close, LeftSquare, RightSquare, Comma, Stop, Ordinary, Quoted, Special, Unreadable}
 
 -- a token as definitions see it: its kind, its bytes, and the place of the first of them
 pub record Piece : Type 0 where
@@ -31,39 +32,57 @@ is_special_run [] = false
 is_special_run (b ∷ []) = is_special b && not (is_dash b)
 is_special_run (b ∷ c ∷ cs) = is_special b && is_special_run (c ∷ cs)
 
--- one byte, which is neither white space nor in any other token
-unfoldable pub is_other : List ℕ → Bool
-is_other [] = false
-is_other (b ∷ []) = not (is_blank b || is_punctuation b || is_ordinary b || is_special b || is_apostrophe b)
-is_other (b ∷ c ∷ cs) = false
+-- bytes that may be quoted, and a quote
+abbrev pub ends_quoted : List ℕ → Bool
+ends_quoted [] = false
+ends_quoted (b ∷ []) = is_quote b
+ends_quoted (b ∷ c ∷ cs) = is_quotable b && ends_quoted (c ∷ cs)
 
--- the texts of a kind; a special symbol ends with `-` only as `-` itself and as `<-`
-abbrev pub can_be : TokenKind → List ℕ → Bool
-can_be Open text = bytes_eq text (codes "(")
-can_be Close text = bytes_eq text (codes ")")
-can_be LeftSquare text = bytes_eq text (codes "[")
-can_be RightSquare text = bytes_eq text (codes "]")
-can_be Comma text = bytes_eq text (codes ",")
-can_be Stop text = bytes_eq text (codes ".")
-can_be Ordinary text = is_run is_ordinary text
-can_be Special text = bytes_eq text (codes "'") || bytes_eq text (codes "-") || bytes_eq text (codes "<-") || is_special_run text
-can_be Other text = is_other text
+abbrev pub is_quoted : List ℕ → Bool
+is_quoted [] = false
+is_quoted (b ∷ bs) = is_quote b && ends_quoted bs
 
--- A token in front of these bytes: its text is of its kind, and no longer front of the text and these bytes is.
-pub record IsToken (kind : TokenKind) (text rest : List ℕ) : Type 0 where
+-- one byte of a class
+abbrev pub is_single : (ℕ → Bool) → List ℕ → Bool
+is_single class [] = false
+is_single class (b ∷ []) = class b
+is_single class (b ∷ c ∷ cs) = false
+
+-- a byte that begins neither a comment nor any token but a quoted symbol
+unfoldable pub is_stray : ℕ → Bool
+is_stray b = not (is_blank b || is_punctuation b || is_ordinary b || is_special b || is_apostrophe b || is_percent b)
+
+-- what stands between tokens: a byte of white space, or a comment
+abbrev pub is_gap : List ℕ → Bool
+is_gap text = is_single is_blank text || is_comment text
+
+-- The texts of a kind, and of what stands between tokens, which has none. A special symbol ends with `-` only as `-` itself
+-- and as `<-`; unreadable are a stray byte and a block without its end.
+abbrev pub can_be : Option TokenKind → List ℕ → Bool
+can_be None text = is_gap text
+can_be (Some Open) text = bytes_eq text (codes "(")
+can_be (Some Close) text = bytes_eq text (codes ")")
+can_be (Some LeftSquare) text = bytes_eq text (codes "[")
+can_be (Some RightSquare) text = bytes_eq text (codes "]")
+can_be (Some Comma) text = bytes_eq text (codes ",")
+can_be (Some Stop) text = bytes_eq text (codes ".")
+can_be (Some Ordinary) text = is_run is_ordinary text
+can_be (Some Quoted) text = is_quoted text
+can_be (Some Special) text = bytes_eq text (codes "'") || bytes_eq text (codes "-") || bytes_eq text (codes "<-") || is_special_run text
+can_be (Some Unreadable) text = is_single is_stray text || is_open_block text
+
+-- The text in front of the rest is of this kind, and no longer front of both is of any.
+pub record IsLongest (kind : Option TokenKind) (text rest : List ℕ) : Type 0 where
   pub fits : IsTrue (can_be kind text)
-  pub longest : (more behind : List ℕ) → rest ≡ more ++ behind → IsTrue (can_be kind (text ++ more)) → more ≡ []
+  pub longest : (other : Option TokenKind) (more behind : List ℕ) → rest ≡ more ++ behind → IsTrue (can_be other (text ++ more)) → more ≡ []
 
--- The bytes, which stand at place i, are white space, then the token, then the rest.
-pub record BeginsWith (i : ℕ) (bytes : List ℕ) (token : Piece) (rest : List ℕ) : Type 0 where
-  pub gap : List ℕ
-  pub blank : IsTrue (list_all is_blank gap)
-  pub split : bytes ≡ gap ++ (token.text ++ rest)
-  pub start : token.start ≡ i + length gap
-  pub is_token : IsToken token.kind token.text rest
-
--- The tokens cut the bytes, which stand at place i: where there is none the bytes are white space, else they begin with the
--- first, and the others cut the rest.
-abbrev pub Cuts : ℕ → List ℕ → List Piece → Type 0
-Cuts i bytes [] = IsTrue (list_all is_blank bytes)
-Cuts i bytes (t ∷ ts) = (rest : List ℕ) × BeginsWith i bytes t rest × Cuts (t.start + length t.text) rest ts
+-- The tokens cut the bytes, which stand at place i: these are, from the first to the last, white space, comments and the tokens,
+-- each as long as it can be.
+pub data Cuts : ℕ → List ℕ → List Piece → Type 0 where
+  nothing : {i : ℕ} → Cuts i [] []
+  gap :
+      {i : ℕ} {text rest : List ℕ} {ts : List Piece} → IsLongest None text rest → Cuts (i + length text) rest ts →
+      Cuts i (text ++ rest) ts
+  token :
+      {i : ℕ} {text rest : List ℕ} {ts : List Piece} (kind : TokenKind) → IsLongest (Some kind) text rest →
+      Cuts (i + length text) rest ts → Cuts i (text ++ rest) (record { kind = kind; text = text; start = i } ∷ ts)

@@ -1,25 +1,62 @@
 -- The tokens of a text, computed.
-use Rattle.std.specs.Prelude.{◌≡◌, ◌≤◌, length, ℕ, zero, suc, Bool, false, ◌==◌, ◌&&◌, ◌||◌, if◌then◌else◌, Option, Some, None, List, [], ◌∷◌, ◌++◌, take, drop}
+use Rattle.std.specs.Prelude.{◌≡◌, ◌≤◌, length, ℕ, zero, suc, Bool, false, ◌==◌, ◌&&◌, if◌then◌else◌, unwrap_or, Option, Some, None, List, [], ◌∷◌, ◌++◌, take, drop, codes}
 use Rattle.std.specs.List.{prefix_len}
-use Rattle.ladr_lex.specs.Bytes.{is_blank, is_ordinary, is_special, is_dash, is_apostrophe}
+use Rattle.ladr_lex.specs.Bytes.{is_blank, is_ordinary, is_special, is_dash, is_apostrophe, is_quote, is_quotable, is_percent}
+use Rattle.ladr_lex.specs.Comments.{begins_with, up_to, contains, is_in_line}
 use Rattle.ladr_lex.specs.Cuts.{Piece, pieces_of}
+use Rattle.ladr_lex.specs.declared.bytes.Class.{Class}
+use Rattle.ladr_lex.specs.declared.bytes.Class.TheVariants as class
+use Rattle.ladr_lex.specs.declared.bytes.Start.{Start}
+use Rattle.ladr_lex.specs.declared.bytes.Start.TheVariants.{Blank, Word, Sign, Quote, Percent, Single}
 use Rattle.ladr_lex.specs.declared.token.Token.{Token}
 use Rattle.ladr_lex.specs.declared.token.TokenKind.{TokenKind}
-use Rattle.ladr_lex.specs.declared.token.TokenKind.TheVariants.{Open, Close, LeftSquare, RightSquare, Comma, Stop, Ordinary, Special, Other}
+use Rattle.ladr_lex.specs.declared.token.TokenKind.TheVariants.{Open, Close, LeftSquare, RightSquare, Comma, Stop, Ordinary, Quoted, Special, Unreadable}
 
--- the kind of the token that begins with this byte; white space begins none
-abbrev pub kind_of : ℕ → Option TokenKind
-kind_of b =
-    if is_blank b then None
-    else (if is_ordinary b then Some Ordinary
-    else (if is_special b || is_apostrophe b then Some Special
-    else (if b == 40 then Some Open
-    else (if b == 41 then Some Close
-    else (if b == 91 then Some LeftSquare
-    else (if b == 93 then Some RightSquare
-    else (if b == 44 then Some Comma
-    else (if b == 46 then Some Stop
-    else Some Other))))))))
+-- what begins with a byte
+unfoldable pub start_of : ℕ → Start
+start_of b =
+    if is_blank b then Blank
+    else (if is_ordinary b then Word
+    else (if is_special b then Sign
+    else (if is_quote b then Quote
+    else (if is_percent b then Percent
+    else (if is_apostrophe b then Single Special
+    else (if b == 40 then Single Open
+    else (if b == 41 then Single Close
+    else (if b == 91 then Single LeftSquare
+    else (if b == 93 then Single RightSquare
+    else (if b == 44 then Single Comma
+    else (if b == 46 then Single Stop
+    else Single Unreadable)))))))))))
+
+-- the classes of bytes whose runs are looked for
+abbrev pub in_class : Class → ℕ → Bool
+in_class class.Ordinary b = is_ordinary b
+in_class class.Quotable b = is_quotable b
+in_class class.InLine b = is_in_line b
+
+-- whether a quoted symbol ends in the bytes behind its first quote
+abbrev pub is_closed : List ℕ → Bool
+is_closed bs = begins_with (codes "\"") (drop (prefix_len is_quotable bs) bs)
+
+-- whether a block begins with `%` and these bytes, and whether it ends in them
+abbrev pub is_block : List ℕ → Bool
+is_block bs = begins_with (codes "BEGIN") bs
+
+abbrev pub is_ended : List ℕ → Bool
+is_ended bs = contains (codes "%END") bs
+
+-- the kind of what begins with a byte and those behind it: of a token, or none, of white space and comments
+abbrev pub kind_in : Start → List ℕ → Option TokenKind
+kind_in Blank bs = None
+kind_in Word bs = Some Ordinary
+kind_in Sign bs = Some Special
+kind_in Quote bs = if is_closed bs then Some Quoted else Some Unreadable
+kind_in Percent bs = if is_block bs then (if is_ended bs then None else Some Unreadable) else None
+kind_in (Single kind) bs = Some kind
+
+abbrev pub kind_at : ℕ → List ℕ → Option TokenKind
+kind_at b bs = kind_in (start_of b) bs
 
 -- how many bytes the longest run of special bytes has that doesn't end with `-`
 abbrev pub kept : List ℕ → ℕ
@@ -30,24 +67,38 @@ abbrev pub begins_with_dash : List ℕ → Bool
 begins_with_dash [] = false
 begins_with_dash (b ∷ bs) = is_dash b
 
--- how many of the bytes behind a special byte are in its token
+-- how many of the bytes behind a special byte, a quote and a `%` belong to it
 abbrev pub special_behind : ℕ → List ℕ → ℕ
 special_behind b bs = if b == 60 && kept bs == 0 && begins_with_dash bs then 1 else kept bs
 
--- how many of the bytes behind the first are in its token
+abbrev pub quoted_behind : List ℕ → ℕ
+quoted_behind bs = if is_closed bs then suc (prefix_len is_quotable bs) else 0
+
+abbrev pub comment_behind : List ℕ → ℕ
+comment_behind bs = if is_block bs then unwrap_or (up_to (codes "%END") bs) (length bs) else prefix_len is_in_line bs
+
+-- how many of the bytes behind the first belong to it
+abbrev pub behind_in : Start → ℕ → List ℕ → ℕ
+behind_in Blank b bs = 0
+behind_in Word b bs = prefix_len is_ordinary bs
+behind_in Sign b bs = special_behind b bs
+behind_in Quote b bs = quoted_behind bs
+behind_in Percent b bs = comment_behind bs
+behind_in (Single kind) b bs = 0
+
 abbrev pub behind : ℕ → List ℕ → ℕ
-behind b bs = if is_ordinary b then prefix_len is_ordinary bs else (if is_special b then special_behind b bs else 0)
+behind b bs = behind_in (start_of b) b bs
 
 -- the token of this kind, if it is one
 abbrev pub piece : Option TokenKind → List ℕ → ℕ → List Piece
 piece None text i = []
 piece (Some kind) text i = record { kind = kind; text = text; start = i } ∷ []
 
--- the tokens of the bytes, which stand at place i, when the first n of them are in the token before
+-- the tokens of the bytes, which stand at place i, when the first n of them belong to what is before
 abbrev pub lexed_behind : ℕ → ℕ → List ℕ → List Piece
 lexed_behind i n [] = []
 lexed_behind i (suc n) (b ∷ bs) = lexed_behind (suc i) n bs
-lexed_behind i zero (b ∷ bs) = piece (kind_of b) (b ∷ take (behind b bs) bs) i ++ lexed_behind (suc i) (behind b bs) bs
+lexed_behind i zero (b ∷ bs) = piece (kind_at b bs) (b ∷ take (behind b bs) bs) i ++ lexed_behind (suc i) (behind b bs) bs
 
 -- the tokens of a text
 abbrev pub lexed : List ℕ → List Piece

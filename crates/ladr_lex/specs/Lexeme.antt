@@ -2,14 +2,15 @@
 use Rattle.std.specs.Prelude.{ℕ, List, [], ◌∷◌}
 use Rattle.ladr_lex.specs.declared.token.Token.{Token}
 use Rattle.ladr_lex.specs.declared.token.TokenKind.{TokenKind}
-use Rattle.ladr_lex.specs.declared.token.TokenKind.TheVariants.{Open, Close, LeftSquare, RightSquare, Comma, Stop, Ordinary, Special, Other}
+use Rattle.ladr_lex.specs.declared.token.TokenKind.TheVariants.{Open, Close, LeftSquare, RightSquare, Comma, Stop, Ordinary, Quoted, Special, Unreadable}
 
--- how a symbol is written: as a run of letters and digits, or of special bytes
+-- how a symbol is written: as a run of letters and digits, in quotes, or as a run of special bytes
 pub data Sort : Type 0 where
   ordinary : Sort
+  quoted : Sort
   special : Sort
 
--- punctuation, a symbol by its sort and its bytes, or a byte that no token has
+-- punctuation, a symbol by its sort and its bytes (the quotes too), or what no item has
 pub data Lexeme : Type 0 where
   open_paren : Lexeme
   close_paren : Lexeme
@@ -29,8 +30,9 @@ lexeme RightSquare text = close_square
 lexeme Comma text = comma
 lexeme Stop text = full_stop
 lexeme Ordinary text = symbol ordinary text
+lexeme Quoted text = symbol quoted text
 lexeme Special text = symbol special text
-lexeme Other text = unreadable
+lexeme Unreadable text = unreadable
 
 abbrev pub lexeme_of : Token → Lexeme
 lexeme_of t = lexeme t.kind t.text.now

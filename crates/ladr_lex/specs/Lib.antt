@@ -1,4 +1,5 @@
 pub mod Bytes
+pub mod Comments
 pub mod Cuts
 pub mod Lexed
 pub mod Lexeme

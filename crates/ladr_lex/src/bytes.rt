@@ -1,13 +1,48 @@
 // The classes of bytes.
 ghost use Rattle.std.specs.Prelude.{◌≡◌};
 ghost use Rattle.ladr_lex.specs.Bytes.{is_blank, is_ordinary, is_special};
-ghost use Rattle.ladr_lex.specs.Lexed.{kind_of};
+ghost use Rattle.ladr_lex.specs.Lexed.{start_of};
 
 use crate::token::TokenKind;
 
-/// Whether a byte is a letter, a digit, `_` or `$`.
+/// What begins with a byte: white space, an ordinary symbol, a special one, a quoted one, a comment, or a token of one byte.
+#[derive(Clone, Copy)]
+pub enum Start {
+    Blank,
+    Word,
+    Sign,
+    Quote,
+    Percent,
+    Single(TokenKind),
+}
+
+/// The classes whose runs are looked for: bytes of ordinary symbols, bytes between quotes, bytes of one line.
+#[derive(Clone, Copy)]
+pub enum Class {
+    Ordinary,
+    Quotable,
+    InLine,
+}
+
+impl Class {
+    ghost use Rattle.std.specs.Prelude.{◌≡◌};
+    ghost use Rattle.ladr_lex.specs.Lexed.{in_class};
+
+    /// Whether a byte is of the class.
+    pub fn has(self, byte: u8) -> bool
+        ensures { result ≡ in_class self byte }
+    {
+        match self {
+            Class::Ordinary => is_ordinary(byte),
+            Class::Quotable => byte >= b' ' && byte != b'"',
+            Class::InLine => byte != b'\n',
+        }
+    }
+}
+
+// Whether a byte is a letter, a digit, `_` or `$`.
 #[tactic(auto, unfolding(crate::specs::Bytes::is_ordinary))]
-pub fn is_ordinary(byte: u8) -> bool
+fn is_ordinary(byte: u8) -> bool
     ensures { result ≡ is_ordinary byte }
 {
     byte.is_ascii_alphanumeric() || byte == b'_' || byte == b'$'
@@ -47,27 +82,30 @@ fn is_blank(byte: u8) -> bool
     matches!(byte, b'\t' | b'\n' | b'\r' | b' ')
 }
 
-// The kind of the token that begins with a byte; white space begins none.
-pub fn kind_of(byte: u8) -> Option<TokenKind>
-    ensures { result ≡ kind_of byte }
+/// What begins with a byte.
+#[tactic(auto, unfolding(crate::specs::Lexed::start_of))]
+pub fn start_of(byte: u8) -> Start
+    ensures { result ≡ start_of byte }
 {
     if is_blank(byte) {
-        return None;
+        return Start::Blank;
     }
     if is_ordinary(byte) {
-        return Some(TokenKind::Ordinary);
+        return Start::Word;
     }
     if is_special(byte) {
-        return Some(TokenKind::Special);
+        return Start::Sign;
     }
     match byte {
-        b'\'' => Some(TokenKind::Special),
-        b'(' => Some(TokenKind::Open),
-        b')' => Some(TokenKind::Close),
-        b'[' => Some(TokenKind::LeftSquare),
-        b']' => Some(TokenKind::RightSquare),
-        b',' => Some(TokenKind::Comma),
-        b'.' => Some(TokenKind::Stop),
-        _ => Some(TokenKind::Other),
+        b'"' => Start::Quote,
+        b'%' => Start::Percent,
+        b'\'' => Start::Single(TokenKind::Special),
+        b'(' => Start::Single(TokenKind::Open),
+        b')' => Start::Single(TokenKind::Close),
+        b'[' => Start::Single(TokenKind::LeftSquare),
+        b']' => Start::Single(TokenKind::RightSquare),
+        b',' => Start::Single(TokenKind::Comma),
+        b'.' => Start::Single(TokenKind::Stop),
+        _ => Start::Single(TokenKind::Unreadable),
     }
 }

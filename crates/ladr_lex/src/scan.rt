@@ -1,11 +1,12 @@
 // Cuts a text into its tokens.
-ghost use Rattle.std.specs.Prelude.{◌≡◌, ◌+◌, ◌<◌, ◌≤◌, ◌↔◌, length, drop, slice_index, IfOk, OnOk, Err};
+ghost use Rattle.std.specs.Prelude.{◌≡◌, ◌+◌, ◌<◌, ◌≤◌, ◌↔◌, length, drop, slice_index, codes, IsTrue, Some, IfSome, IfOk, OnOk, Err};
 ghost use Rattle.std.specs.List.{prefix_len};
-ghost use Rattle.ladr_lex.specs.Bytes.{is_ordinary};
+ghost use Rattle.ladr_lex.specs.Comments.{begins_with, up_to};
 ghost use Rattle.ladr_lex.specs.Cuts.{pieces_of, Cuts};
-ghost use Rattle.ladr_lex.specs.Lexed.{kind_of, kept, behind, special_behind, Advances};
+ghost use Rattle.ladr_lex.specs.Lexed.{kind_in, kind_at, kept, behind, special_behind, quoted_behind, comment_behind, in_class, Advances};
+ghost use Rattle.ladr_lex.specs.declared.bytes.Start.TheVariants.{Quote, Percent};
 
-use crate::bytes::{is_ordinary, is_special, kind_of};
+use crate::bytes::{Class, Start, is_special, start_of};
 use crate::token::{Token, TokenKind};
 use std::alloc::{AllocError, Global};
 
@@ -46,18 +47,17 @@ pub fn tokens<'a>(alloc: Global, bytes: &'a [u8]) -> Result<Vec<Token<'a>>, Lex>
     Ok(found)
 }
 
-// Adds the tokens that begin at a place, and answers the place behind them.
+// Adds the token that begins at a place, if one does, with each `-` that was cut off its end, and answers the place behind them.
 fn step<'a>(found: &mut Vec<Token<'a>>, bytes: &'a [u8], at: usize) -> Result<usize, AllocError>
     requires { at < length bytes.now }
     ensures { IfOk result (λ next. Advances bytes.now found.old.items found.new.items at next × (at < next)) }
 {
-    let byte = bytes[at];
-    match kind_of(byte) {
-        None => Ok(at + 1),
+    let (kind, end) = piece_at(bytes, at);
+    match kind {
+        None => Ok(end),
         Some(kind) => {
-            let end = token_end(bytes, at);
             add(found, kind, bytes, at, end)?;
-            if is_special(byte) {
+            if is_special(bytes[at]) {
                 dashes(found, bytes, end)
             } else {
                 Ok(end)
@@ -89,7 +89,7 @@ fn add<'a>(
     end: usize,
 ) -> Result<(), AllocError>
     requires place { at < length bytes.now }
-    requires kind { kind_of (slice_index bytes.now at) ≡ Some kind }
+    requires kind { kind_at (slice_index bytes.now at) (drop (at + 1) bytes.now) ≡ Some kind }
     requires end { end ≡ at + 1 + behind (slice_index bytes.now at) (drop (at + 1) bytes.now) }
     requires within { end ≤ length bytes.now }
     ensures { OnOk result (Advances bytes.now found.old.items found.new.items at end) }
@@ -102,30 +102,88 @@ fn add<'a>(
     Ok(())
 }
 
-// Where the token that begins at a place ends.
-fn token_end(bytes: &[u8], at: usize) -> usize
+// What begins at a place: its kind, if it is a token, and its end.
+fn piece_at(bytes: &[u8], at: usize) -> (Option<TokenKind>, usize)
     requires { at < length bytes.now }
-    ensures end { result ≡ at + 1 + behind (slice_index bytes.now at) (drop (at + 1) bytes.now) }
-    ensures within { result ≤ length bytes.now }
+    ensures kind { result.0 ≡ kind_at (slice_index bytes.now at) (drop (at + 1) bytes.now) }
+    ensures end { result.1 ≡ at + 1 + behind (slice_index bytes.now at) (drop (at + 1) bytes.now) }
+    ensures within { result.1 ≤ length bytes.now }
 {
-    let byte = bytes[at];
-    if is_ordinary(byte) {
-        run_end(bytes, at + 1)
-    } else if is_special(byte) {
-        special_end(bytes, at)
-    } else {
-        at + 1
+    match start_of(bytes[at]) {
+        Start::Blank => (None, at + 1),
+        Start::Word => (
+            Some(TokenKind::Ordinary),
+            run_end(bytes, at + 1, Class::Ordinary),
+        ),
+        Start::Sign => (Some(TokenKind::Special), special_end(bytes, at)),
+        Start::Quote => quoted_at(bytes, at),
+        Start::Percent => comment_at(bytes, at),
+        Start::Single(kind) => (Some(kind), at + 1),
     }
 }
 
-// Where the run of ordinary bytes from a place on ends.
-fn run_end(bytes: &[u8], from: usize) -> usize
+// What begins with the quote at a place: a quoted symbol, or the quote alone where that isn't closed.
+fn quoted_at(bytes: &[u8], at: usize) -> (Option<TokenKind>, usize)
+    requires { at < length bytes.now }
+    ensures kind { result.0 ≡ kind_in Quote (drop (at + 1) bytes.now) }
+    ensures end { result.1 ≡ at + 1 + quoted_behind (drop (at + 1) bytes.now) }
+    ensures within { result.1 ≤ length bytes.now }
+{
+    let end = run_end(bytes, at + 1, Class::Quotable);
+    if has_at(bytes, end, b"\"") {
+        (Some(TokenKind::Quoted), end + 1)
+    } else {
+        (Some(TokenKind::Unreadable), at + 1)
+    }
+}
+
+// What begins with the `%` at a place: a comment, or a block that isn't closed, which all that is left belongs to.
+fn comment_at(bytes: &[u8], at: usize) -> (Option<TokenKind>, usize)
+    requires { at < length bytes.now }
+    ensures kind { result.0 ≡ kind_in Percent (drop (at + 1) bytes.now) }
+    ensures end { result.1 ≡ at + 1 + comment_behind (drop (at + 1) bytes.now) }
+    ensures within { result.1 ≤ length bytes.now }
+{
+    if !has_at(bytes, at + 1, b"BEGIN") {
+        return (None, run_end(bytes, at + 1, Class::InLine));
+    }
+    match to_block_end(bytes, at + 1) {
+        Some(more) => (None, at + 1 + more),
+        None => (Some(TokenKind::Unreadable), bytes.len()),
+    }
+}
+
+// How many bytes there are from a place on up to the end of the first `%END`.
+fn to_block_end(bytes: &[u8], from: usize) -> Option<usize>
     requires { from ≤ length bytes.now }
-    ensures end { result ≡ from + prefix_len is_ordinary (drop from bytes.now) }
+    ensures end { result ≡ up_to (codes "%END") (drop from bytes.now) }
+    ensures within { IfSome result (λ more. from + more ≤ length bytes.now) }
+{
+    for at in from..bytes.len() {
+        if has_at(bytes, at, b"%END") {
+            return Some(at + 4 - from);
+        }
+    }
+    None
+}
+
+// Whether the bytes from a place on begin with a word.
+fn has_at(bytes: &[u8], at: usize, word: &[u8]) -> bool
+    requires { at ≤ length bytes.now }
+    ensures word { result ≡ begins_with word.now (drop at bytes.now) }
+    ensures room { IsTrue result → at + length word.now ≤ length bytes.now }
+{
+    bytes[at..].starts_with(word)
+}
+
+// Where the run of bytes of a class ends, from a place on.
+fn run_end(bytes: &[u8], from: usize, class: Class) -> usize
+    requires { from ≤ length bytes.now }
+    ensures end { result ≡ from + prefix_len (in_class class) (drop from bytes.now) }
     ensures within { result ≤ length bytes.now }
 {
     let mut end = from;
-    while end < bytes.len() && is_ordinary(bytes[end]) {
+    while end < bytes.len() && class.has(bytes[end]) {
         end += 1;
     }
     end

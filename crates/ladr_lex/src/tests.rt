@@ -15,7 +15,15 @@ fn texts_have_their_tokens(rt: HostRuntime) -> Result<(), Fail> {
             b"a <-- b '\\'` -- +--",
             b"oa s<- s- ob s' s\\ s' s` s- s- s+ s- s- ",
         ),
-        (b"x\"%\x7f\xc3", b"ox ?\" ?% ?\x7f ?\xc3 "),
+        (b"x\"%\x7f\xc3", b"ox ?\" "),
+        (
+            b"\"a\"\t\"\"\"\n\x7f\xc3%",
+            b"q\"a\" q\"\" ?\" ?\x7f ?\xc3 ",
+        ),
+        (
+            b"%a\nb%BEGIN\n%END\"%c\"%BEGIN%EN",
+            b"ob q\"%c\" ?%BEGIN%EN ",
+        ),
     ] {
         let mut shown = Vec::new(rt.alloc());
         for token in tokens(rt.alloc(), text).map_err(|_| "memory")? {
@@ -27,8 +35,9 @@ fn texts_have_their_tokens(rt: HostRuntime) -> Result<(), Fail> {
                 TokenKind::Comma => b',',
                 TokenKind::Stop => b'.',
                 TokenKind::Ordinary => b'o',
+                TokenKind::Quoted => b'q',
                 TokenKind::Special => b's',
-                TokenKind::Other => b'?',
+                TokenKind::Unreadable => b'?',
             })?;
             shown.extend_from_slice(token.text)?;
             shown.push(b' ')?;

@@ -1,6 +1,7 @@
 // A token: its kind, its text, and where it begins.
 
-/// The kinds of tokens. `Other` is a byte that no token of the language has.
+/// The kinds of tokens. `Unreadable` is what no item has: a byte that begins no other token and no comment, or a block that
+/// isn't closed, up to the end of the text. The first byte of either is the place to name.
 #[derive(Clone, Copy, Debug, PartialEq, Eq)]
 pub enum TokenKind {
     Open,
@@ -10,11 +11,12 @@ pub enum TokenKind {
     Comma,
     Stop,
     Ordinary,
+    Quoted,
     Special,
-    Other,
+    Unreadable,
 }
 
-/// A token of a text. `text` is what it stands for in the text, `start` the place of its first byte, from 0.
+/// A token of a text. `text` is what it stands for in the text, quotes included, `start` the place of its first byte, from 0.
 #[derive(Clone, Copy)]
 pub struct Token<'a> {
     pub kind: TokenKind,

@@ -4,7 +4,7 @@ use Rattle.std.specs.Str.{bytes_eq}
 use Rattle.fol_core.specs.RawTree.{RawTree, named, quantified}
 use Rattle.fol_core.specs.declared.raw.Quantifier.{Quantifier}
 use Rattle.fol_core.specs.declared.raw.Quantifier.TheVariants.{All, Exists}
-use Rattle.ladr_lex.specs.Lexeme.{Sort, ordinary, special}
+use Rattle.ladr_lex.specs.Lexeme.{Sort, ordinary, quoted, special}
 use Rattle.ladr_lex.specs.Numeral.{is_numeral}
 use Rattle.ladr_lex.specs.Operators.{OperatorRow, operator_of, is_word, if_after}
 use Rattle.ladr_lex.specs.declared.operators.Operator.{Operator}
@@ -27,6 +27,7 @@ quantifier_of name =
 -- a quantifier's variable is an ordinary symbol, but no numeral and neither of the words
 abbrev pub may_be_bound : Sort → List ℕ → Bool
 may_be_bound ordinary name = not (is_numeral name) && not (is_word name)
+may_be_bound quoted name = false
 may_be_bound special name = false
 
 -- what the rows of a table of operators say of names

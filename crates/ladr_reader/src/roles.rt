@@ -40,7 +40,9 @@ impl Start {
     {
         match token.kind {
             TokenKind::Open => Ok(Start::Opens),
-            TokenKind::Ordinary | TokenKind::Special => Start::of_symbol(alloc, ops, token.text),
+            TokenKind::Ordinary | TokenKind::Quoted | TokenKind::Special => Start::of_symbol(
+                alloc, ops, token.text,
+            ),
             _ => Ok(Start::StartsNot),
         }
     }
@@ -70,7 +72,9 @@ impl Follow {
             TokenKind::Close => Ok(Follow::Closes),
             TokenKind::Comma => Ok(Follow::Separates),
             TokenKind::Stop => Ok(Follow::Stops),
-            TokenKind::Ordinary | TokenKind::Special => Follow::of_symbol(alloc, ops, token.text),
+            TokenKind::Ordinary | TokenKind::Quoted | TokenKind::Special => Follow::of_symbol(
+                alloc, ops, token.text,
+            ),
             _ => Ok(Follow::FollowsNot),
         }
     }

@@ -1,7 +1,7 @@
 use Rattle.std.proofs.Common.{refl, lit≤}
 use Rattle.ladr_lex.proofs.Lexing.{cuts_text}
 use Rattle.ladr_lex.specs.Bytes.{is_blank, is_ordinary, is_special}
-use Rattle.ladr_lex.specs.Lexed.{lexed}
+use Rattle.ladr_lex.specs.Lexed.{start_of, lexed}
 use Rattle.ladr_lex.specs.Operators.{first_rows}
 use Rattle.ladr_reader.proofs.Lawful.{Lawful, table_lawful}
 use Rattle.ladr_reader.proofs.Runs.{run_item}
@@ -14,10 +14,11 @@ lawful : Lawful (table_of first_rows)
 lawful = table_lawful first_rows refl
 
 pub returns : goal.returns
-unfolding is_blank is_ordinary is_special named_variable
+unfolding start_of is_blank is_ordinary is_special named_variable
 returns c = record {
   tokens = lexed involution_text;
   cut = cuts_text involution_text;
+  uncommented = refl;
   plain = refl;
   says = (
     _,

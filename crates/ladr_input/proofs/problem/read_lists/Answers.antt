@@ -27,4 +27,4 @@ pub returns-clause-ok : goal.returns-clause-ok
 returns-clause-ok c =
     let cut : Cuts 0 c.args.bytes.now (pieces_of c.deref.result.now) = rw c.deref.ensures.value c.in-Ok.ensures.cut in
     let p = stated_of c.in-Ok-lists.read.0 in
-    says c.args.bytes.now c.deref.result.now p None cut (rw c.deref.ensures.value c.in-Ok.ensures.plain) (c.in-Ok-lists.ensures.there p None (nothing_more c.deref.result.now c.in-Ok-lists.read.1 p.symbols p.formulas (omega arith)))
+    says c.args.bytes.now c.deref.result.now p None c.in-Ok.ensures.uncommented cut (rw c.deref.ensures.value c.in-Ok.ensures.plain) (c.in-Ok-lists.ensures.there p None (nothing_more c.deref.result.now c.in-Ok-lists.read.1 p.symbols p.formulas (omega arith)))

@@ -37,4 +37,4 @@ returns-clause-ok c =
     let covered : covers (by_name_of c.in-Ok-items.read.1) c.in-Ok-items.read.0.symbols ≡ true = cc in
     let it = by_name_of c.in-Ok-items.read.1 in
     let p = stated_of c.in-Ok-items.read.0 in
-    (it, says c.args.bytes.now c.deref.result.now p (Some it) cut plain (c.in-Ok-items.ensures.there covered), c.in_ok-tables.ensures)
+    (it, says c.args.bytes.now c.deref.result.now p (Some it) c.in-Ok.ensures.uncommented cut plain (c.in-Ok-items.ensures.there covered), c.in_ok-tables.ensures)

@@ -1,6 +1,7 @@
 -- A run of the machine shows each.
 use Rattle.std.proofs.Common.{refl, ◌≤◌, length, lit≤}
 use Rattle.ladr_lex.specs.Bytes.{is_blank, is_ordinary, is_special}
+use Rattle.ladr_lex.specs.Lexed.{start_of}
 use Rattle.ladr_lex.specs.Operators.{first_rows}
 use Rattle.ladr_reader.specs.Worked.{first_form, line}
 use Rattle.ladr_reader.proofs.Lawful.{Lawful, table_lawful}
@@ -12,7 +13,7 @@ lawful : Lawful first_form
 lawful = table_lawful first_rows refl
 
 pub returns : goal.returns
-unfolding is_blank is_ordinary is_special
+unfolding start_of is_blank is_ordinary is_special
 returns c =
     let few : 3 ≤ length (line "a = b = c.") = lit≤ tt in
     record {

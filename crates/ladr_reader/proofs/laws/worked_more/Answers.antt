@@ -1,6 +1,7 @@
 -- A run of the machine shows each.
 use Rattle.std.proofs.Common.{refl}
 use Rattle.ladr_lex.specs.Bytes.{is_blank, is_ordinary, is_special}
+use Rattle.ladr_lex.specs.Lexed.{start_of}
 use Rattle.ladr_reader.specs.Worked.{more_rows, more_operators}
 use Rattle.ladr_reader.proofs.Lawful.{Lawful, table_lawful}
 use Rattle.ladr_reader.proofs.Runs.{run_item}
@@ -10,7 +11,7 @@ lawful : Lawful more_operators
 lawful = table_lawful more_rows refl
 
 pub returns : goal.returns
-unfolding is_blank is_ordinary is_special
+unfolding start_of is_blank is_ordinary is_special
 returns c =
     record {
       left = run_item more_operators lawful _ _ 500 refl;
