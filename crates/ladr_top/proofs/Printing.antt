@@ -1,7 +1,9 @@
 -- What is printed, under a weaker claim.
-use Rattle.std.proofs.Common.{◌≡◌, List, ℕ, Option, Result, Ok, Err, IfOk, subst, sym, ◌∙◌}
+use Rattle.std.proofs.Common.{◌≡◌, ◌≢◌, List, ℕ, Option, Result, Ok, Err, IfOk, subst, sym, ◌∙◌}
 use Rattle.std.specs.Global.{Vec}
 use Rattle.std.specs.declared.alloc.AllocError.{AllocError}
+use Rattle.ladr_io.specs.declared.reading.ReadAll.{ReadAll}
+use Rattle.ladr_io.specs.declared.reading.ReadAll.TheVariants as reading
 use Rattle.ladr_top.specs.Outcome.{Printed, IsText}
 use Rattle.ladr_top.specs.declared.cause.Cause.{Cause}
 use Rattle.ladr_top.specs.declared.cause.Cause.TheVariants.{Done, Words, Unreadable, TooLarge, ReadFault, WriteFault, Memory}
@@ -19,3 +21,7 @@ Printed-weaker E F k old new ReadFault h = (h.0, k ReadFault h.0 h.1, h.2)
 pub made_text : (made : Result (Vec ℕ) AllocError) (cause : Cause) (text : List ℕ) (E : Cause → List ℕ → Type 0) → IfOk made (λ v. v.items ≡ text) → E cause text → (c : Cause) (t : List ℕ) → IsText made cause c t → E c t
 made_text (Ok v) cause text E h x c t p = let F : Cause → Type 0 = λ d. E d t in subst F (sym p.0) (subst (E cause) (sym h ∙ p.1) x)
 made_text (Err e) cause text E h x c t p = elim p.1 [ ]
+
+-- no read failed where an input is too large
+pub large_is_read : (r : Result (Vec ℕ) ReadAll) → r ≡ Err reading.TooLarge → r ≢ Err reading.Failed
+large_is_read r e f = cc

@@ -1,5 +1,5 @@
 -- How a run of `clausetester` ends, and what it prints.
-use Rattle.std.specs.Prelude.{◌≡◌, ℕ, ◌<◌, ◌≤◌, Bool, true, false, Result, IsOkAnd, List, [], length, Option, Some, codes}
+use Rattle.std.specs.Prelude.{◌≡◌, ℕ, ◌+◌, ◌≤◌, Bool, true, false, Result, IsOkAnd, List, [], length, Option, Some, codes}
 use Rattle.std.specs.Global.{Vec}
 use Rattle.std.specs.declared.alloc.AllocError.{AllocError}
 use Rattle.fol_core.specs.Stated.{Stated}
@@ -47,9 +47,21 @@ pub record Given : Type 0 where
   pub faults_before : ℕ
   pub faults_after : ℕ
 
--- all of the input was read, and it isn't too large
-abbrev pub IsRead : Given → Type 0
-IsRead g = IsDrained g.left × (length g.bytes ≤ most_bytes)
+-- all of the input was read, no read failed, and it isn't too large
+pub record IsRead (g : Given) : Type 0 where
+  pub drained : IsDrained g.left
+  pub unfailing : g.faults_after ≡ g.faults_before
+  pub within : length g.bytes ≤ most_bytes
+
+-- no read failed, and one byte too many was read
+pub record IsTooLarge (g : Given) : Type 0 where
+  pub unfailing : g.faults_after ≡ g.faults_before
+  pub beyond : length g.bytes ≡ most_bytes + 1
+
+-- a read failed before the input was too large
+pub record IsFailed (g : Given) : Type 0 where
+  pub rose : Rose g.faults_before g.faults_after
+  pub within : length g.bytes ≤ most_bytes
 
 -- What the source gave leads to this cause with this text as the whole output: of an input of today's form the truth of
 -- each formula; else the refusal.
@@ -57,8 +69,8 @@ abbrev pub Ends : Given → Cause → List ℕ → Type 0
 Ends g Done text =
     IsRead g × ((p : Stated) × ((it : ByName) × IsProblem g.bytes p (Some it) × ((all : List Bool) × AreTrueAsTold (meaning_in p.symbols it) p.formulas all × (text ≡ report all))))
 Ends g (Unreadable place) text = IsRead g × ((p : Stated) (it : ByName) → ¬ IsProblem g.bytes p (Some it)) × (place ≡ beginning) × (text ≡ unreadable_line 0 1 1 (codes "input"))
-Ends g (TooLarge byte what) text = (most_bytes < length g.bytes) × (byte ≡ most_bytes) × (what ≡ limits.Input) × (text ≡ too_large_line most_bytes (codes "input"))
-Ends g ReadFault text = Rose g.faults_before g.faults_after × (text ≡ read_fault_line)
+Ends g (TooLarge byte what) text = IsTooLarge g × (byte ≡ most_bytes) × (what ≡ limits.Input) × (text ≡ too_large_line most_bytes (codes "input"))
+Ends g ReadFault text = IsFailed g × (text ≡ read_fault_line)
 Ends g Words text = ⊥
 Ends g WriteFault text = ⊥
 Ends g Memory text = ⊥

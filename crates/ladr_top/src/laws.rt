@@ -1,16 +1,19 @@
 // What the definitions of a run amount to.
-ghost use Rattle.std.specs.Prelude.{◌≡◌, ◌≢◌, ℕ, List, [], ◌∷◌, true, false, codes};
+ghost use Rattle.std.specs.Prelude.{◌≡◌, ◌≢◌, ◌<◌, ℕ, List, [], ◌∷◌, true, false, codes};
 ghost use Rattle.ladr_input.specs.Problem.{meaning_in};
 ghost use Rattle.ladr_input.specs.Worked.{involution, exchange, constant, zeros};
+ghost use Rattle.ladr_io.specs.Streams.{greatest};
 ghost use Rattle.ladr_top.specs.Outcome.{Given, Ends};
 ghost use Rattle.ladr_top.specs.Output.{report};
 ghost use Rattle.ladr_top.specs.Verdicts.{AreTrueAsTold};
 ghost use Rattle.ladr_top.specs.declared.cause.Cause.{Cause};
 ghost use Rattle.ladr_top.specs.declared.cause.Cause.TheVariants.{ReadFault};
 
-/// What the source gave determines cause and output, but for a fault of the source.
+/// What the source gave, and whether its count of faults rose, determine cause and output.
 pub fn one_outcome()
-    ensures { (g : Given) (c d : Cause) (t u : List ℕ) → Ends g c t → Ends g d u → c ≢ ReadFault → d ≢ ReadFault → (c ≡ d) × (t ≡ u) }
+    ensures counted { (g : Given) (c d : Cause) (t u : List ℕ) → g.faults_before < greatest → Ends g c t → Ends g d u → (c ≡ d) × (t ≡ u) }
+    // Where the count can rise no further, cause and output are determined but for a fault of the source.
+    ensures otherwise { (g : Given) (c d : Cause) (t u : List ℕ) → c ≢ ReadFault → d ≢ ReadFault → Ends g c t → Ends g d u → (c ≡ d) × (t ≡ u) }
 {}
 
 /// A function that is its own inverse, and whether it leaves an element where it is. Where a variable is free the formula is

@@ -1,9 +1,9 @@
 // The one call of the program.
-ghost use Rattle.std.specs.Prelude.{◌≡◌, ◌≢◌, ◌≤◌, true, false, map, length};
+ghost use Rattle.std.specs.Prelude.{◌≡◌, ◌≢◌, ◌≤◌, true, false, map};
 ghost use Rattle.std.specs.String.{string_bytes};
-ghost use Rattle.ladr_io.specs.Streams.{IsDrained, Rose};
+ghost use Rattle.ladr_io.specs.Streams.{Rose};
 ghost use Rattle.ladr_top.specs.Words.{is_clausetester};
-ghost use Rattle.ladr_top.specs.Outcome.{Given, Ends, status_of, most_bytes, is_cut, IsText, Tests, Printed, Refuses};
+ghost use Rattle.ladr_top.specs.Outcome.{Given, Ends, IsRead, status_of, is_cut, IsText, Tests, Printed, Refuses};
 
 use crate::cause::{Cause, Exit, Limit, Place, Shown};
 use crate::text;
@@ -28,8 +28,9 @@ const BEGINNING: Place = Place {
 fn conclude<K: Sink>(text: Result<Vec<u8>, AllocError>, cause: Cause, sink: &mut K) -> Cause
     requires { is_cut cause ≡ false }
     ensures printed { Printed (IsText text cause) (K.held sink.old) (K.held sink.new) result }
-    ensures rose { result ≡ Cause.WriteFault → Rose (K.faults sink.old) (K.faults sink.new) }
     ensures same { result ≡ Cause.ReadFault → cause ≡ Cause.ReadFault }
+    ensures write_fault { result ≡ Cause.WriteFault → Rose (K.faults sink.old) (K.faults sink.new) }
+    ensures no_write_fault { result ≢ Cause.WriteFault → K.faults sink.new ≡ K.faults sink.old }
 {
     match text {
         Err(_) => Cause::Memory,
@@ -53,18 +54,19 @@ fn is_clausetester(words: &[String]) -> bool
 // Prints the line for words that are no command.
 fn refuse<K: Sink>(alloc: Global, sink: &mut K) -> Cause
     ensures printed { Printed Refuses (K.held sink.old) (K.held sink.new) result }
-    ensures rose { result ≡ Cause.WriteFault → Rose (K.faults sink.old) (K.faults sink.new) }
     ensures never { result ≢ Cause.ReadFault }
+    ensures write_fault { result ≡ Cause.WriteFault → Rose (K.faults sink.old) (K.faults sink.new) }
+    ensures no_write_fault { result ≢ Cause.WriteFault → K.faults sink.new ≡ K.faults sink.old }
 {
     conclude(text::no_command(alloc), Cause::Words, sink)
 }
 
 // Prints the truth of each formula of an input, or that it isn't of the form that is read.
 fn test<K: Sink>(alloc: Global, bytes: &[u8], sink: &mut K) -> Cause
-    requires { length bytes.now ≤ most_bytes }
-    ensures printed { (g : Given) → g.bytes ≡ bytes.now → IsDrained g.left → Printed (Ends g) (K.held sink.old) (K.held sink.new) result }
-    ensures rose { result ≡ Cause.WriteFault → Rose (K.faults sink.old) (K.faults sink.new) }
+    ensures printed { (g : Given) → g.bytes ≡ bytes.now → IsRead g → Printed (Ends g) (K.held sink.old) (K.held sink.new) result }
     ensures never { result ≢ Cause.ReadFault }
+    ensures write_fault { result ≡ Cause.WriteFault → Rose (K.faults sink.old) (K.faults sink.new) }
+    ensures no_write_fault { result ≢ Cause.WriteFault → K.faults sink.new ≡ K.faults sink.old }
 {
     match verdicts(alloc, bytes) {
         Ok(all) => conclude(text::report(alloc, &all), Cause::Done, sink),
@@ -80,7 +82,9 @@ fn test<K: Sink>(alloc: Global, bytes: &[u8], sink: &mut K) -> Cause
 fn clausetester<S: Source, K: Sink>(alloc: Global, source: &mut S, sink: &mut K) -> Cause
     ensures tests { Tests (S.left source.old) (S.left source.new) (S.faults source.old) (S.faults source.new) (K.held sink.old) (K.held sink.new) result }
     ensures read_fault { result ≡ Cause.ReadFault → Rose (S.faults source.old) (S.faults source.new) }
+    ensures never_falls { S.faults source.old ≤ S.faults source.new }
     ensures write_fault { result ≡ Cause.WriteFault → Rose (K.faults sink.old) (K.faults sink.new) }
+    ensures no_write_fault { result ≢ Cause.WriteFault → K.faults sink.new ≡ K.faults sink.old }
 {
     match read_all(alloc, source, MOST_BYTES) {
         Ok(bytes) => test(alloc, &bytes, sink),
@@ -140,9 +144,11 @@ pub fn run<I: Interpretation, S: Source, K: Sink, C: Clock>(
     ensures tests { is_clausetester (map string_bytes words.now) ≡ true
         → Tests (S.left source.old) (S.left source.new) (S.faults source.old) (S.faults source.new) (K.held sink.old) (K.held sink.new) result.cause }
 
-    // A fault is told only where the stream counted one.
+    // A fault is told only where the stream counted one, and a failed write is told wherever one was counted.
     ensures read_fault { result.cause ≡ Cause.ReadFault → Rose (S.faults source.old) (S.faults source.new) }
     ensures write_fault { result.cause ≡ Cause.WriteFault → Rose (K.faults sink.old) (K.faults sink.new) }
+    ensures no_write_fault { result.cause ≢ Cause.WriteFault → K.faults sink.new ≡ K.faults sink.old }
+    ensures never_falls { S.faults source.old ≤ S.faults source.new }
 
     // The clock isn't asked.
     ensures clock { C.times clock.new ≡ C.times clock.old }

@@ -1,24 +1,17 @@
-use Rattle.std.proofs.Common.{refl, sym, arith}
+use Rattle.std.proofs.Common.{refl}
 use Rattle.std.specs.Prelude.{codes}
 use Rattle.ladr_top.specs.Outcome.{Given, Ends, most_bytes}
 use Rattle.ladr_top.specs.Output.{too_large_line}
 use Rattle.ladr_top.specs.declared.cause.Cause.TheVariants.{TooLarge}
 use Rattle.ladr_top.specs.declared.cause.Limit.TheVariants as limits
-use Rattle.ladr_top.proofs.Printing.{Printed-weaker, made_text}
+use Rattle.ladr_top.proofs.Printing.{Printed-weaker, made_text, large_is_read}
 use Rattle.ladr_top.proofs.running.clausetester.Goals as goal
-
-pub returns-in-Ok-clause-tests : goal.returns-in-Ok-clause-tests
-returns-in-Ok-clause-tests g c = record {
-  bytes = c.in-Ok.bytes.items;
-  gave = c.in-Ok.ensures.gives;
-  printed = c.test.ensures.printed _ (sym c.deref.ensures.value) c.in-Ok.ensures.drained;
-}
 
 pub returns-in-Err-TooLarge-clause-tests : goal.returns-in-Err-TooLarge-clause-tests
 returns-in-Err-TooLarge-clause-tests g c =
     let taken = c.in-Err-TooLarge.ensures.given_too_large (cc) in
     let given : Given = record { bytes = taken.bytes; left = g.S.Source.left c.read_all.new.source; faults_before = g.S.Source.faults c.args.source.now; faults_after = g.S.Source.faults c.read_all.new.source } in
-    let ends : Ends given (TooLarge most_bytes limits.Input) (too_large_line most_bytes (codes "input")) = (omega (arith, taken.count), refl, refl, refl) in
+    let ends : Ends given (TooLarge most_bytes limits.Input) (too_large_line most_bytes (codes "input")) = (record { unfailing = c.in-Err-TooLarge.ensures.no_fault (large_is_read _ (cc)); beyond = taken.count }, refl, refl, refl) in
     record {
       bytes = taken.bytes;
       gave = taken.gave;
