@@ -3,7 +3,9 @@ pub mod Classes
 pub mod Comments
 pub mod Extents
 pub mod Kept
+pub mod OperatorLemmas
 pub mod Quotes
 pub mod Lexing
 pub mod Steps
+pub mod Wholes
 pub mod Unique

@@ -71,6 +71,10 @@ can_be (Some Quoted) text = is_quoted text
 can_be (Some Special) text = bytes_eq text (codes "'") || bytes_eq text (codes "-") || bytes_eq text (codes "<-") || is_special_run text
 can_be (Some Unreadable) text = is_single is_stray text || is_open_block text
 
+-- an ordinary or special symbol
+abbrev pub is_symbol : List ℕ → Bool
+is_symbol text = can_be (Some Ordinary) text || can_be (Some Special) text
+
 -- The text in front of the rest is of this kind, and no longer front of both is of any.
 pub record IsLongest (kind : Option TokenKind) (text rest : List ℕ) : Type 0 where
   pub fits : IsTrue (can_be kind text)

@@ -89,6 +89,11 @@ behind_in (Single kind) b bs = 0
 abbrev pub behind : ℕ → List ℕ → ℕ
 behind b bs = behind_in (start_of b) b bs
 
+-- the kind of what bytes are, if all of them are what begins with the first, and it is a token
+abbrev pub whole_kind : List ℕ → Option TokenKind
+whole_kind [] = None
+whole_kind (b ∷ bs) = if behind b bs == length bs then kind_at b bs else None
+
 -- the token of this kind, if it is one
 abbrev pub piece : Option TokenKind → List ℕ → ℕ → List Piece
 piece None text i = []

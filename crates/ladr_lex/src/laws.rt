@@ -1,8 +1,12 @@
 // Laws of the definitions, and examples worked out.
-ghost use Rattle.std.specs.Prelude.{◌≡◌, ℕ, List, codes};
-ghost use Rattle.ladr_lex.specs.Cuts.{Piece, Cuts};
+ghost use Rattle.std.specs.Prelude.{◌≡◌, ℕ, Bool, true, false, IsTrue, List, Option, Some, None, if◌then◌else◌, codes};
+ghost use Rattle.std.specs.Str.{bytes_eq};
+ghost use Rattle.ladr_lex.specs.Cuts.{Piece, is_quoted, Cuts};
 ghost use Rattle.ladr_lex.specs.Lexed.{lexed};
+ghost use Rattle.ladr_lex.specs.Operators.{OperatorRow, operator_of, are_lawful, is_fixed, standard_rows, unquoted, breaks_row_5, breaks_row_6, declared, with_row};
 ghost use Rattle.ladr_lex.specs.Places.{line_of, column_of};
+ghost use Rattle.ladr_lex.specs.declared.operators.Operator.{Operator};
+ghost use Rattle.ladr_lex.specs.declared.operators.OperatorKind.TheVariants.{InfixLeft, Prefix};
 ghost use Rattle.ladr_lex.specs.Worked.{formula_line, formula_tokens, special_line, special_tokens, comment_lines, comment_tokens, quoted_line, quoted_tokens, open_lines, open_tokens};
 
 /// Each text is cut by one list of tokens and no other.
@@ -20,4 +24,28 @@ pub fn worked()
     ensures unclosed { Cuts 0 open_lines open_tokens }
     ensures line { line_of (codes "p(a).\nq(b).\n") 8 ≡ 2 }
     ensures column { column_of (codes "p(a).\nq(b).\n") 8 ≡ 3 }
+{}
+
+/// What a table says once a name has an operator, and what no table says.
+pub fn one_operator()
+    // The name has it, and each other name what it had.
+    ensures put { (rows : List OperatorRow) (name : List ℕ) (o : Option Operator) (other : List ℕ) →
+        operator_of (with_row name o rows) other ≡ (if bytes_eq other name then o else operator_of rows other) }
+    // A fixed symbol has what it had, whatever is declared.
+    ensures kept { (rows : List OperatorRow) (p : ℕ) (type symbol name : List ℕ) → breaks_row_6 symbol ≡ false → is_fixed name ≡ true →
+        operator_of (declared p type symbol rows) name ≡ operator_of rows name }
+    // A quoted symbol is never an operator.
+    ensures quotes { (rows : List OperatorRow) (text : List ℕ) → IsTrue (are_lawful rows) → is_quoted text ≡ true → operator_of rows text ≡ None }
+{}
+
+/// Symbols that are declared, with quotes and without, and such as can't be.
+pub fn worked_operators()
+    ensures unquoted_name { unquoted (codes "\"@@\"") ≡ codes "@@" }
+    ensures operates { operator_of (declared 700 (codes "infix_left") (codes "\"@@\"") standard_rows) (codes "@@") ≡ Some (record { precedence = 700; kind = InfixLeft }) }
+    ensures replaced { operator_of (declared 400 (codes "prefix") (codes "v") standard_rows) (codes "v") ≡ Some (record { precedence = 400; kind = Prefix }) }
+    ensures taken_away { operator_of (declared 1 (codes "ordinary") (codes "+") standard_rows) (codes "+") ≡ None }
+    ensures precedences { (breaks_row_5 0 (codes "infix") ≡ true) × (breaks_row_5 998 (codes "infix") ≡ false) × (breaks_row_5 999 (codes "infix") ≡ true) }
+    ensures types { breaks_row_5 500 (codes "\"infix\"") ≡ true }
+    ensures fixed_symbols { (breaks_row_6 (codes "->") ≡ true) × (breaks_row_6 (codes "\"$T\"") ≡ true) × (breaks_row_6 (codes "exists") ≡ true) }
+    ensures symbols { (breaks_row_6 (codes "\"a b\"") ≡ true) × (breaks_row_6 (codes "\"--\"") ≡ true) × (breaks_row_6 (codes "\"'\"") ≡ false) }
 {}

@@ -11,9 +11,9 @@ mod scan;
 mod tests;
 mod token;
 
-pub use laws::{one_cutting, worked};
+pub use laws::{one_cutting, one_operator, worked, worked_operators};
 pub use numeral::{is_numeral, number};
-pub use operators::{Operator, OperatorKind, Ops};
+pub use operators::{DeclareError, Operator, OperatorKind, Ops};
 pub use places::{Place, place_of};
 pub use scan::{Lex, MOST_BYTES, tokens};
 pub use token::{Token, TokenKind};

@@ -1,8 +1,11 @@
 // Operators: how each stands to its arguments, and the table of those in force.
-ghost use Rattle.std.specs.Prelude.{◌≡◌, IfOk, IsTrue};
-ghost use Rattle.ladr_lex.specs.OperatorView.{row_list};
-ghost use Rattle.ladr_lex.specs.Operators.{operator_of, if_prefix, if_after, are_lawful, first_rows};
+ghost use Rattle.std.specs.Prelude.{◌≡◌, ◌↔◌, ◌&&◌, not, IfOk, OnOk, OnErr, Err, IsTrue, [], Some, false};
+ghost use Rattle.ladr_lex.specs.Cuts.{is_symbol};
+ghost use Rattle.ladr_lex.specs.OperatorView.{row_list, with_rows, may_be_put};
+ghost use Rattle.ladr_lex.specs.Operators.{OperatorRow, operator_of, if_prefix, if_after, is_prefix, is_word, has_precedence, are_lawful, first_rows, standard_rows, with_row, is_precedence, is_fixed, type_named, operator_with, unquoted, breaks_row_5, breaks_row_6, declared};
 
+use crate::scan::{is_quoted, is_symbol};
+use indexmap::IndexMap;
 use std::alloc::{AllocError, Global};
 use std::marker::Model;
 
@@ -21,6 +24,13 @@ pub enum OperatorKind {
     PostfixParen,
 }
 
+/// What a symbol is declared as: an operator of a kind, or none.
+#[derive(Clone, Copy)]
+pub enum SymbolType {
+    Operates(OperatorKind),
+    Ordinary,
+}
+
 /// An operator: the precedence of its terms, and where its arguments stand.
 #[derive(Clone, Copy, Debug, PartialEq, Eq)]
 pub struct Operator {
@@ -28,18 +38,22 @@ pub struct Operator {
     pub kind: OperatorKind,
 }
 
-#[derive(Drop)]
-struct Row {
-    name: Vec<u8>,
-    operator: Operator,
+/// Why a symbol isn't declared: by the rows of misuse for precedences and types, and for symbols; or memory is lacking.
+#[derive(Clone, Copy, Debug, PartialEq, Eq)]
+pub enum DeclareError {
+    Row5,
+    Row6,
+    Memory,
 }
 
-/// The operators in force; contracts see the list of their names and operators.
+/// The operators in force; contracts see the list of names with their operators.
 ///
-/// A name has one operator at most, and none is named like a quantifier. Precedences are from 1 to 998.
+/// A name has one operator at most; it is a symbol without quotes, and none of the words of quantifiers. Precedences are from 1
+/// to 998.
 #[derive(Drop)]
 pub struct Ops {
-    rows: Vec<Row>,
+    // A name whose operator was taken away has none.
+    rows: IndexMap<Vec<u8>, Option<Operator>>,
 }
 
 impl Model for Ops {
@@ -50,20 +64,56 @@ impl Model for Ops {
 
     ghost use Rattle.ladr_lex.specs.OperatorView.{row_list};
 
-    ghost view = { λ a. row_list a.rows.items };
+    ghost view = { λ a. row_list a.rows.entries };
 
-    ghost invariant = { λ a. IsTrue (are_lawful (row_list a.rows.items)) };
+    ghost invariant = { λ a. IsTrue (are_lawful (row_list a.rows.entries)) };
 }
 
 impl Ops {
+    #[tactic(auto, unfolding(crate::specs::Bytes::is_ordinary, crate::specs::Bytes::is_special))]
+    /// The operators at the start.
+    pub fn standard(alloc: Global) -> Result<Ops, AllocError>
+        ensures { IfOk result (λ ops. ops ≡ standard_rows) }
+    {
+        let mut ops = Ops::none(alloc);
+        ops.put_all(&[
+            (b"#".as_slice(), 810, OperatorKind::InfixRight),
+            (b"<->", 800, OperatorKind::Infix),
+            (b"->", 800, OperatorKind::Infix),
+            (b"<-", 800, OperatorKind::Infix),
+            (b"|", 790, OperatorKind::InfixRight),
+            (b"&", 780, OperatorKind::InfixRight),
+            (b"=", 700, OperatorKind::Infix),
+            (b"!=", 700, OperatorKind::Infix),
+            (b"==", 700, OperatorKind::Infix),
+            (b"<", 700, OperatorKind::Infix),
+            (b"<=", 700, OperatorKind::Infix),
+            (b">", 700, OperatorKind::Infix),
+            (b">=", 700, OperatorKind::Infix),
+            (b"+", 500, OperatorKind::Infix),
+            (b"*", 500, OperatorKind::Infix),
+            (b"@", 500, OperatorKind::Infix),
+            (b"/", 500, OperatorKind::Infix),
+            (b"\\", 500, OperatorKind::Infix),
+            (b"^", 500, OperatorKind::Infix),
+            (b"v", 500, OperatorKind::Infix),
+            (b"-", 350, OperatorKind::Prefix),
+            (b"'", 300, OperatorKind::Postfix),
+        ])?;
+        Ok(ops)
+    }
+
+    #[tactic(auto, unfolding(crate::specs::Bytes::is_ordinary, crate::specs::Bytes::is_special))]
     /// Equality and its denial alone.
     pub fn first_form(alloc: Global) -> Result<Ops, AllocError>
         ensures { IfOk result (λ ops. ops ≡ first_rows) }
     {
-        let mut rows = Vec::new(alloc);
-        rows.push(Row::infix(alloc, b"=", 700)?)?;
-        rows.push(Row::infix(alloc, b"!=", 700)?)?;
-        Ok(Ops { rows })
+        let mut ops = Ops::none(alloc);
+        ops.put_all(&[
+            (b"=".as_slice(), 700, OperatorKind::Infix),
+            (b"!=", 700, OperatorKind::Infix),
+        ])?;
+        Ok(ops)
     }
 
     /// The operator of this name that stands before its argument.
@@ -89,45 +139,162 @@ impl Ops {
         let _ = &self.rows;
     }
 
+    /// Declares a symbol, whose quotes don't count: the operator that it had, if any, gives way to one of this precedence and
+    /// type, or to none.
+    pub fn declare(
+        &mut self,
+        precedence: u32,
+        type_name: &[u8],
+        symbol: &[u8],
+    ) -> Result<(), DeclareError>
+        ensures declared { OnOk result (self.new ≡ declared precedence type_name.now symbol.now self.old) }
+        ensures row5 { (result ≡ Err DeclareError.Row5) ↔ IsTrue (breaks_row_5 precedence type_name.now) }
+        ensures row6 { (result ≡ Err DeclareError.Row6) ↔ IsTrue (not (breaks_row_5 precedence type_name.now) && breaks_row_6 symbol.now) }
+        ensures err { OnErr result (self.new ≡ self.old) }
+    {
+        if precedence < 1 || precedence > 998 {
+            return Err(DeclareError::Row5);
+        }
+        let Some(symbol_type) = type_named(type_name) else {
+            return Err(DeclareError::Row5);
+        };
+        let name = unquoted(symbol);
+        if is_fixed(name) || !is_symbol(name) {
+            return Err(DeclareError::Row6);
+        }
+        match self.put(name, symbol_type.with(precedence as u16)) {
+            Ok(()) => Ok(()),
+            Err(_) => Err(DeclareError::Memory),
+        }
+    }
+
+    fn none(alloc: Global) -> Ops
+        ensures { result ≡ [] }
+    {
+        Ops {
+            rows: IndexMap::new(alloc),
+        }
+    }
+
+    // Gives names these operators, one after the other.
+    fn put_all(&mut self, rows: &[(&[u8], u16, OperatorKind)]) -> Result<(), AllocError>
+        requires { IsTrue (may_be_put rows.now) }
+        ensures { OnOk result (self.new ≡ with_rows rows.now self.old) }
+    {
+        for (name, precedence, kind) in rows {
+            self.put(name, kind.with(*precedence))?;
+        }
+        Ok(())
+    }
+
+    // Gives a name this operator, or none, in place of the one that it has.
+    fn put(&mut self, name: &[u8], operator: Option<Operator>) -> Result<(), AllocError>
+        requires symbol { IsTrue (is_symbol name.now) }
+        requires word { is_word name.now ≡ false }
+        requires precedence { IsTrue (has_precedence operator) }
+        ensures ok { OnOk result (self.new ≡ with_row name.now operator self.old) }
+        ensures err { OnErr result (self.new ≡ self.old) }
+    {
+        let key = Vec::from_slice(*self.rows.allocator(), name)?;
+        self.rows.insert(key, operator)?;
+        Ok(())
+    }
+
+    #[tactic(auto, using(crate::proofs::OperatorLemmas::found_row))]
     fn operator_of(&self, name: &[u8]) -> Option<Operator>
         ensures { result ≡ operator_of self.now name.now }
     {
-        find(&self.rows, name)
+        match self.rows.get(name) {
+            Some(operator) => *operator,
+            None => None,
+        }
     }
 }
 
 impl OperatorKind {
-    ghost use Rattle.ladr_lex.specs.Operators.{is_prefix};
-
     /// Whether the operator stands before its argument.
     pub fn is_prefix(self) -> bool
         ensures { result ≡ is_prefix self }
     {
         matches!(self, OperatorKind::Prefix | OperatorKind::PrefixParen)
     }
-}
 
-impl Row {
-    fn infix(alloc: Global, name: &[u8], precedence: u16) -> Result<Row, AllocError>
-        ensures name { IfOk result (λ row. row.name.items ≡ name.now) }
-        ensures operator { IfOk result (λ row. row.operator ≡ record { precedence = precedence; kind = OperatorKind.Infix }) }
+    // An operator of this kind.
+    fn with(self, precedence: u16) -> Option<Operator>
+        ensures { result ≡ Some (record { precedence = precedence; kind = self }) }
     {
-        let name = Vec::from_slice(alloc, name)?;
-        let kind = OperatorKind::Infix;
-        Ok(Row {
-            name,
-            operator: Operator { precedence, kind },
+        Some(Operator {
+            precedence,
+            kind: self,
         })
     }
 }
 
-fn find(rows: &[Row], name: &[u8]) -> Option<Operator>
-    ensures { result ≡ operator_of (row_list rows.now) name.now }
-{
-    for row in rows {
-        if row.name.as_slice() == name {
-            return Some(row.operator);
+impl SymbolType {
+    // The operator of this type, if it is one of operators.
+    fn with(self, precedence: u16) -> Option<Operator>
+        ensures { result ≡ operator_with precedence self }
+    {
+        match self {
+            SymbolType::Operates(kind) => kind.with(precedence),
+            SymbolType::Ordinary => None,
         }
     }
-    None
+}
+
+// The type of a name.
+fn type_named(name: &[u8]) -> Option<SymbolType>
+    ensures { result ≡ type_named name.now }
+{
+    if name == b"infix".as_slice() {
+        Some(SymbolType::Operates(OperatorKind::Infix))
+    } else if name == b"infix_left".as_slice() {
+        Some(SymbolType::Operates(OperatorKind::InfixLeft))
+    } else if name == b"infix_right".as_slice() {
+        Some(SymbolType::Operates(OperatorKind::InfixRight))
+    } else if name == b"prefix".as_slice() {
+        Some(SymbolType::Operates(OperatorKind::Prefix))
+    } else if name == b"prefix_paren".as_slice() {
+        Some(SymbolType::Operates(OperatorKind::PrefixParen))
+    } else if name == b"postfix".as_slice() {
+        Some(SymbolType::Operates(OperatorKind::Postfix))
+    } else if name == b"postfix_paren".as_slice() {
+        Some(SymbolType::Operates(OperatorKind::PostfixParen))
+    } else if name == b"ordinary".as_slice() {
+        Some(SymbolType::Ordinary)
+    } else {
+        None
+    }
+}
+
+// Whether a symbol's operator, or its lack of one, can't be changed.
+fn is_fixed(name: &[u8]) -> bool
+    ensures { result ≡ is_fixed name.now }
+{
+    matches!(
+        name,
+        b"#" | b"<->"
+            | b"->"
+            | b"<-"
+            | b"|"
+            | b"&"
+            | b"="
+            | b"!="
+            | b"-"
+            | b"$T"
+            | b"$F"
+            | b"all"
+            | b"exists"
+    )
+}
+
+// A symbol without its quotes, where it has some.
+fn unquoted(symbol: &[u8]) -> &[u8]
+    ensures { result.now ≡ unquoted symbol.now }
+{
+    if is_quoted(symbol) {
+        &symbol[1..symbol.len() - 1]
+    } else {
+        symbol
+    }
 }

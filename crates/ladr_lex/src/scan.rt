@@ -2,8 +2,8 @@
 ghost use Rattle.std.specs.Prelude.{◌≡◌, ◌+◌, ◌<◌, ◌≤◌, ◌↔◌, length, drop, slice_index, codes, IsTrue, Some, IfSome, IfOk, OnOk, Err};
 ghost use Rattle.std.specs.List.{prefix_len};
 ghost use Rattle.ladr_lex.specs.Comments.{begins_with, up_to};
-ghost use Rattle.ladr_lex.specs.Cuts.{pieces_of, Cuts};
-ghost use Rattle.ladr_lex.specs.Lexed.{kind_in, kind_at, kept, behind, special_behind, quoted_behind, comment_behind, in_class, Advances};
+ghost use Rattle.ladr_lex.specs.Cuts.{pieces_of, is_symbol, is_quoted, Cuts};
+ghost use Rattle.ladr_lex.specs.Lexed.{kind_in, kind_at, kept, behind, special_behind, quoted_behind, comment_behind, in_class, whole_kind, Advances};
 ghost use Rattle.ladr_lex.specs.declared.bytes.Start.TheVariants.{Quote, Percent};
 
 use crate::bytes::{Class, Start, is_special, start_of};
@@ -45,6 +45,36 @@ pub fn tokens<'a>(alloc: Global, bytes: &'a [u8]) -> Result<Vec<Token<'a>>, Lex>
         at = step(&mut found, bytes, at)?;
     }
     Ok(found)
+}
+
+/// Whether bytes are one ordinary or special symbol.
+#[tactic(auto, using(crate::proofs::Wholes::symbol_by_kind))]
+pub fn is_symbol(text: &[u8]) -> bool
+    ensures { result ≡ is_symbol text.now }
+{
+    matches!(
+        whole_kind(text),
+        Some(TokenKind::Ordinary | TokenKind::Special)
+    )
+}
+
+/// Whether bytes are one quoted symbol.
+#[tactic(auto, using(crate::proofs::Wholes::quoted_by_kind))]
+pub fn is_quoted(text: &[u8]) -> bool
+    ensures { result ≡ is_quoted text.now }
+{
+    matches!(whole_kind(text), Some(TokenKind::Quoted))
+}
+
+// The kind of the token that bytes are, if they are one.
+fn whole_kind(text: &[u8]) -> Option<TokenKind>
+    ensures { result ≡ whole_kind text.now }
+{
+    if text.is_empty() {
+        return None;
+    }
+    let (kind, end) = piece_at(text, 0);
+    if end == text.len() { kind } else { None }
 }
 
 // Adds the token that begins at a place, if one does, with each `-` that was cut off its end, and answers the place behind them.

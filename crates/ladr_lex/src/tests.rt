@@ -1,4 +1,4 @@
-use crate::{Lex, MOST_BYTES, TokenKind, place_of, tokens};
+use crate::{DeclareError, Lex, MOST_BYTES, OperatorKind, Ops, TokenKind, place_of, tokens};
 use std::test::Fail;
 
 // Tokens as a text: each with a letter for its kind in front, and a space behind.
@@ -55,5 +55,25 @@ fn limit_and_places(rt: HostRuntime) -> Result<(), Fail> {
     assert_eq!(rt; whole.len(), 1);
     let place = place_of(b"p(a).\n\nq(b)", 9);
     assert_eq!(rt; (place.byte, place.line, place.column), (9, 3, 3));
+    Ok(())
+}
+
+#[test]
+fn symbols_are_declared(rt: HostRuntime) -> Result<(), Fail> {
+    let mut ops = Ops::standard(rt.alloc())?;
+    for (precedence, type_name, symbol, wanted) in [
+        (700, b"infix_left".as_slice(), b"\"@@\"".as_slice(), Ok(())),
+        (1, b"ordinary", b"+", Ok(())),
+        (999, b"ordinary", b"#", Err(DeclareError::Row5)),
+        (500, b"infix", b"\"#\"", Err(DeclareError::Row6)),
+    ] {
+        let answer = ops.declare(precedence, type_name, symbol);
+        assert_eq!(rt; answer, wanted, "{symbol:?}");
+    }
+    let left = ops.after_of(b"@@").map(|operator| operator.kind);
+    assert_eq!(rt; left, Some(OperatorKind::InfixLeft));
+    let minus = ops.prefix_of(b"-").map(|operator| operator.precedence);
+    assert_eq!(rt; minus, Some(350));
+    assert_eq!(rt; ops.after_of(b"+"), None);
     Ok(())
 }

@@ -1,10 +1,13 @@
 -- What follows from the precedences of a table.
 use Rattle.std.proofs.Common.{◌≡◌, ℕ, ◌≤◌, Bool, true, false, List, [], ◌∷◌, Option, Some, None, arith, rules, if◌then◌else◌}
+use Rattle.std.proofs.Common.{refl}
+use Rattle.std.proofs.lemmas.Bool.{and_parts}
 use Rattle.std.proofs.lemmas.Bool.Decides.{nat_tests}
+use Rattle.ladr_lex.specs.Bytes.{is_ordinary, is_special}
 use Rattle.std.specs.Str.{bytes_eq}
 use Rattle.fol_core.specs.RawTree.{RawTree}
 use Rattle.ladr_lex.specs.Lexeme.{Lexeme}
-use Rattle.ladr_lex.specs.Operators.{OperatorRow, operator_of, are_lawful, is_prefix, if_prefix, if_after}
+use Rattle.ladr_lex.specs.Operators.{OperatorRow, operator_of, has_precedence, are_lawful, first_rows, standard_rows, is_prefix, if_prefix, if_after}
 use Rattle.ladr_lex.specs.declared.operators.Operator.{Operator}
 use Rattle.ladr_lex.specs.declared.operators.OperatorKind.{OperatorKind}
 use Rattle.ladr_lex.specs.declared.operators.OperatorKind.TheVariants as kind
@@ -66,11 +69,15 @@ pub prefix_room :
     ends (right o.kind) o.precedence 0 b ≡ true
 prefix_room g l s o b h = kind_room o.kind o.precedence b (prefix_kind (g.op s) o h) (prefix_own g l s o h).0
 
+own_of : (q : Option Operator) (o : Operator) → has_precedence q ≡ true → q ≡ Some o → (1 ≤ o.precedence) × (o.precedence ≤ 998)
+own_of None o h e = cc
+own_of (Some q) o h e = grind (arith, nat_tests)
+
 row_at :
-    (r : OperatorRow) (rs : List OperatorRow) (s : List ℕ) (o : Operator) (b : Bool) → are_lawful (r ∷ rs) ≡ true →
+    (r : OperatorRow) (rs : List OperatorRow) (s : List ℕ) (o : Operator) (b : Bool) → has_precedence r.operator ≡ true →
     (operator_of rs s ≡ Some o → (1 ≤ o.precedence) × (o.precedence ≤ 998)) →
-    (if b then Some r.operator else operator_of rs s) ≡ Some o → (1 ≤ o.precedence) × (o.precedence ≤ 998)
-row_at r rs s o true h rest e = grind (arith, nat_tests)
+    (if b then r.operator else operator_of rs s) ≡ Some o → (1 ≤ o.precedence) × (o.precedence ≤ 998)
+row_at r rs s o true h rest e = own_of r.operator o h e
 row_at r rs s o false h rest e = rest e
 
 row_lawful :
@@ -78,9 +85,18 @@ row_lawful :
     (1 ≤ o.precedence) × (o.precedence ≤ 998)
 row_lawful [] h s o e = cc
 row_lawful (r ∷ rs) h s o e =
-    let rest : are_lawful rs ≡ true = grind (arith, nat_tests) in
-    row_at r rs s o (bytes_eq r.name s) h (row_lawful rs rest s o) e
+    let parts = and_parts _ _ h in
+    let own = (and_parts _ _ (and_parts _ _ parts.0).0).1 in
+    row_at r rs s o (bytes_eq s r.name) own (row_lawful rs parts.1 s o) e
 
 -- the rows of a table of operators are lawful
 pub table_lawful : (rows : List OperatorRow) → are_lawful rows ≡ true → Lawful (table_of rows)
 table_lawful rows h = record { own = row_lawful rows h }
+
+pub first_lawful : Lawful (table_of first_rows)
+unfolding is_ordinary is_special
+first_lawful = table_lawful first_rows refl
+
+pub standard_lawful : Lawful (table_of standard_rows)
+unfolding is_ordinary is_special
+standard_lawful = table_lawful standard_rows refl

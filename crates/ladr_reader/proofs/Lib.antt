@@ -6,6 +6,7 @@ pub mod Levels
 pub mod Live
 pub mod Moves
 pub mod NumberingLemmas
+pub mod Quoted
 pub mod Runs
 pub mod ScopeLemmas
 pub mod Sound

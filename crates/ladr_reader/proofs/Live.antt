@@ -70,6 +70,13 @@ module _ (n : ℕ) (g : Table) (lawful : Lawful g) where
   begins names (Done t q) fs vs h = record { more = []; tree = h.tree; item = rw (append-nil vs) h.item }
 
 -- a name that is longer than another is another one
+longer : (xs ys : List ℕ) → length xs < length ys → bytes_eq ys xs ≡ false
+longer [] [] h = absurd (omega arith)
+longer [] (y ∷ ys) h = refl
+longer (x ∷ xs) [] h = absurd (omega arith)
+longer (x ∷ xs) (y ∷ ys) h =
+    let rest : bytes_eq ys xs ≡ false = longer xs ys (omega arith) in grind (arith, nat_tests)
+
 apart : (xs ys : List ℕ) → length xs < length ys → bytes_eq xs ys ≡ false
 apart [] [] h = absurd (omega arith)
 apart [] (y ∷ ys) h = refl
@@ -89,7 +96,7 @@ lengths_up (r ∷ rs) = omega (arith, lengths_up rs)
 long_is_none : (rows : List OperatorRow) (s : List ℕ) → lengths rows ≤ length s → operator_of rows s ≡ None
 long_is_none [] s h = refl
 long_is_none (r ∷ rs) s h =
-    let other : bytes_eq r.name s ≡ false = apart r.name s (omega (arith, lengths_up rs)) in
+    let other : bytes_eq s r.name ≡ false = longer r.name s (omega (arith, lengths_up rs)) in
     rw other (long_is_none rs s (omega arith))
 
 long_is_no_word : (s : List ℕ) → 7 ≤ length s → quantifier_of s ≡ None

@@ -1,6 +1,6 @@
 -- Terms read one behind the other.
-use Rattle.std.proofs.Common.{◌≡◌, ℕ, suc, ◌+◌, ◌<◌, ◌≤◌, get_or, arith, List, [], ◌∷◌, ◌++◌, length, take, drop, refl, sym, ap, ◌∙◌}
-use Rattle.fol_core.specs.RawTree.{RawTree, named, RawTrees, no_raws, more_raws, raws_of}
+use Rattle.std.proofs.Common.{◌≡◌, ℕ, suc, ◌+◌, ◌<◌, ◌≤◌, get_or, arith, List, [], ◌∷◌, ◌++◌, length, drop, refl, sym, ap, ◌∙◌}
+use Rattle.fol_core.specs.RawTree.{RawTree, named, raws_of}
 use Rattle.fol_core.specs.RawView.{raw_of, raw_list}
 use Rattle.fol_core.specs.SymbolTable.{Symbol, KeepsNumbers}
 use Rattle.fol_core.specs.Tree.{Tree, app, Trees, none, more, trees_of}

@@ -6,11 +6,10 @@ use Rattle.fol_core.specs.declared.raw.Quantifier.{Quantifier}
 use Rattle.ladr_lex.specs.Cuts.{Piece}
 use Rattle.ladr_lex.specs.Lexed.{lexed}
 use Rattle.ladr_lex.specs.Lexeme.{Lexeme, lexeme}
-use Rattle.ladr_lex.specs.Operators.{OperatorRow, first_rows}
-use Rattle.ladr_lex.specs.declared.operators.OperatorKind.{OperatorKind}
-use Rattle.ladr_lex.specs.declared.operators.OperatorKind.TheVariants.{InfixLeft, InfixRight, Prefix, Postfix}
-use Rattle.ladr_reader.specs.Reads.{Item}
+use Rattle.ladr_lex.specs.Operators.{OperatorRow, standard_rows, declared}
+use Rattle.ladr_reader.specs.Faults.{IsTermFault}
 use Rattle.ladr_reader.specs.Table.{Table, table_of}
+use Rattle.ladr_reader.specs.declared.fault.TermFault.TheVariants.{Bad}
 
 -- pieces without their places
 abbrev pub lexemes_in : List Piece → List Lexeme
@@ -37,20 +36,18 @@ binary name t u = term name (t ∷ u ∷ [])
 abbrev pub binder : Quantifier → String → RawTree → RawTree
 binder word x body = quantified word (codes x) body
 
--- no tree is read
-abbrev pub IsUnreadable : Table → List Lexeme → Type 0
-IsUnreadable g ts = (t : RawTree) → ¬ Item g ts t
+-- these are no item, and this token is the first bad one
+abbrev pub IsBadAt : Table → String → ℕ → Type 0
+IsBadAt g text k = IsTermFault g (line text) (Bad k)
 
--- equality and its denial
-abbrev pub first_form : Table
-first_form = table_of first_rows
+-- the operators at the start
+abbrev pub standard : Table
+standard = table_of standard_rows
 
-abbrev pub row : String → ℕ → OperatorKind → OperatorRow
-row name p kind = record { name = codes name; operator = record { precedence = p; kind = kind } }
+-- the same, with operators declared
+abbrev pub declared_rows : List OperatorRow
+declared_rows =
+    declared 350 (codes "postfix") (codes "!") (declared 400 (codes "prefix_paren") (codes "~") (declared 750 (codes "infix_left") (codes "\"@@\"") standard_rows))
 
--- operators of other types
-abbrev pub more_rows : List OperatorRow
-more_rows = row "|" 790 InfixRight ∷ row "@@" 500 InfixLeft ∷ row "-" 350 Prefix ∷ row "'" 300 Postfix ∷ first_rows
-
-abbrev pub more_operators : Table
-more_operators = table_of more_rows
+abbrev pub with_declared : Table
+with_declared = table_of declared_rows

@@ -1,11 +1,15 @@
 // Laws of the definitions, and examples worked out.
-ghost use Rattle.std.specs.Prelude.{◌≡◌, ℕ, List};
+ghost use Rattle.std.specs.Prelude.{◌≡◌, ℕ, true, false, IsTrue, List, None};
 ghost use Rattle.fol_core.specs.RawTree.{RawTree};
 ghost use Rattle.fol_core.specs.declared.raw.Quantifier.TheVariants.{All, Exists};
-ghost use Rattle.ladr_lex.specs.Lexeme.{Lexeme};
-ghost use Rattle.ladr_reader.specs.Reads.{Reads, Item, IsBadToken};
-ghost use Rattle.ladr_reader.specs.Table.{Table};
-ghost use Rattle.ladr_reader.specs.Worked.{line, constant, unary, binary, binder, IsUnreadable, first_form, more_operators};
+ghost use Rattle.ladr_lex.specs.Cuts.{is_quoted};
+ghost use Rattle.ladr_lex.specs.Lexeme.{Lexeme, quoted};
+ghost use Rattle.ladr_lex.specs.Numeral.{is_numeral};
+ghost use Rattle.ladr_lex.specs.Operators.{OperatorRow, are_lawful};
+ghost use Rattle.ladr_reader.specs.Formulas.{Style, is_free_name};
+ghost use Rattle.ladr_reader.specs.Reads.{Reads, Item};
+ghost use Rattle.ladr_reader.specs.Table.{Table, table_of};
+ghost use Rattle.ladr_reader.specs.Worked.{line, constant, unary, binary, binder, IsBadAt, standard, with_declared};
 
 /// Tokens are at most one term, of one precedence, and an item has one tree.
 pub fn one_reading()
@@ -14,31 +18,53 @@ pub fn one_reading()
     ensures items { (g : Table) (ts : List Lexeme) (t u : RawTree) → Item g ts t → Item g ts u → t ≡ u }
 {}
 
-/// Items with equality and its denial alone.
-pub fn worked_first()
-    ensures quantified { Item first_form (line "all x p(x,f(y)) = a.")
-        (binder All "x" (binary "=" (binary "p" (constant "x") (unary "f" (constant "y"))) (constant "a"))) }
-    ensures nested { Item first_form (line "f(f(x)) = x.")
-        (binary "=" (unary "f" (unary "f" (constant "x"))) (constant "x")) }
-    ensures exists { Item first_form (line "exists x f(x) = x.")
-        (binder Exists "x" (binary "=" (unary "f" (constant "x")) (constant "x"))) }
-    ensures in_parentheses { Item first_form (line "(all x p(x)).") (binder All "x" (unary "p" (constant "x"))) }
-    ensures equation { Item first_form (line "a = b.") (binary "=" (constant "a") (constant "b")) }
-    ensures head { Item first_form (line "=(a,b).") (binary "=" (constant "a") (constant "b")) }
-    ensures argument { Item first_form (line "p(=).") (unary "p" (constant "=")) }
-    ensures chain { IsUnreadable first_form (line "a = b = c.") }
-    ensures chain_token { IsBadToken first_form (line "a = b = c.") 3 }
-    ensures bound_word { IsUnreadable first_form (line "all exists p.") }
+/// What a quoted symbol is whatever is declared: no operator, no word of a quantifier, no variable, and no numeral.
+pub fn quoted_symbols()
+    ensures operator { (rows : List OperatorRow) (text : List ℕ) → IsTrue (are_lawful rows) → is_quoted text ≡ true → (table_of rows).op text ≡ None }
+    ensures word { (rows : List OperatorRow) (text : List ℕ) → is_quoted text ≡ true → (table_of rows).word text ≡ None }
+    ensures bound { (rows : List OperatorRow) (text : List ℕ) → (table_of rows).variable quoted text ≡ false }
+    ensures free { (st : Style) (text : List ℕ) → is_quoted text ≡ true → is_free_name st text ≡ false }
+    ensures numeral { (text : List ℕ) → is_quoted text ≡ true → is_numeral text ≡ false }
 {}
 
-/// Items with operators of other types.
-pub fn worked_more()
-    ensures left { Item more_operators (line "a @@ b @@ c.")
-        (binary "@@" (binary "@@" (constant "a") (constant "b")) (constant "c")) }
-    ensures right { Item more_operators (line "a | b | c.")
-        (binary "|" (constant "a") (binary "|" (constant "b") (constant "c"))) }
-    ensures prefix { Item more_operators (line "- - p.") (unary "-" (unary "-" (constant "p"))) }
-    ensures postfix { Item more_operators (line "- a ' '.") (unary "-" (unary "'" (unary "'" (constant "a")))) }
-    ensures body { Item more_operators (line "all x p(x) | q(x).")
+/// Items with the operators at the start.
+pub fn worked_terms()
+    ensures quantified { Item standard (line "all x p(x,f(y)) = a.")
+        (binder All "x" (binary "=" (binary "p" (constant "x") (unary "f" (constant "y"))) (constant "a"))) }
+    ensures in_parentheses { Item standard (line "(exists x p(x)).") (binder Exists "x" (unary "p" (constant "x"))) }
+    ensures head { Item standard (line "=(a,b).") (binary "=" (constant "a") (constant "b")) }
+    ensures argument { Item standard (line "p(=,\"=\").") (binary "p" (constant "=") (constant "\"=\"")) }
+    ensures body { Item standard (line "all x p(x) | q(x).")
         (binary "|" (binder All "x" (unary "p" (constant "x"))) (unary "q" (constant "x"))) }
+    ensures denied { Item standard (line "-(all x p(x)).") (unary "-" (binder All "x" (unary "p" (constant "x")))) }
+    ensures twice { Item standard (line "- -p.") (unary "-" (unary "-" (constant "p"))) }
+    ensures dashes { Item standard (line "p|--q.") (binary "|" (constant "p") (unary "-" (unary "-" (constant "q")))) }
+    ensures arrows { Item standard (line "a<->(b<-c).") (binary "<->" (constant "a") (binary "<-" (constant "b") (constant "c"))) }
+    ensures apostrophes { Item standard (line "-f''.") (unary "-" (unary "'" (unary "'" (constant "f")))) }
+    ensures to_the_right { Item standard (line "a | b | c.")
+        (binary "|" (constant "a") (binary "|" (constant "b") (constant "c"))) }
+{}
+
+/// Items once `@@` is infix_left of 750, `~` is prefix_paren of 400 and `!` is postfix of 350. An argument of just an operator's
+/// precedence stands on the left of `@@`; a last argument doesn't go on with `@@` or `!` of just the precedence around it.
+pub fn worked_declared()
+    ensures to_the_left { Item with_declared (line "a @@ b @@ c.")
+        (binary "@@" (binary "@@" (constant "a") (constant "b")) (constant "c")) }
+    ensures body { Item with_declared (line "all x p @@ q.") (binary "@@" (binder All "x" (constant "p")) (constant "q")) }
+    ensures postfix { Item with_declared (line "- a !.") (unary "!" (unary "-" (constant "a"))) }
+    ensures below { Item with_declared (line "~ - a.") (unary "~" (unary "-" (constant "a"))) }
+    ensures not_below { IsBadAt with_declared "~ ~ a." 1 }
+{}
+
+/// Lines that are no items, each with its first bad token.
+pub fn worked_faults()
+    ensures chain { IsBadAt standard "a = b = c." 3 }
+    ensures arrows { IsBadAt standard "a <-> b -> c." 3 }
+    ensures quantified { IsBadAt standard "-all x p(x)." 1 }
+    ensures word { IsBadAt standard "all exists p." 1 }
+    ensures quoted_operator { IsBadAt standard "a \"+\" b." 1 }
+    ensures quoted_variable { IsBadAt standard "all \"x\" p." 1 }
+    ensures two_items { IsBadAt standard "a. b." 2 }
+    ensures unclosed { IsBadAt standard "p(\"a)." 2 }
+    ensures end { IsBadAt standard "p(a" 3 }
 {}

@@ -22,7 +22,7 @@ mod styles;
 pub use examples::{worked_formulas, worked_refusals};
 pub use fault::TermFault;
 pub use formulas::formula_of;
-pub use laws::{one_reading, worked_first, worked_more};
+pub use laws::{one_reading, quoted_symbols, worked_declared, worked_faults, worked_terms};
 pub use read::read_term;
 pub use styles::{FormulaError, Mode, Style, What};
 

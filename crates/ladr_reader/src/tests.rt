@@ -7,7 +7,7 @@ use std::test::Fail;
 // Items and their trees.
 #[test]
 fn items_have_their_trees(rt: HostRuntime) -> Result<(), Fail> {
-    let ops = Ops::first_form(rt.alloc())?;
+    let ops = Ops::standard(rt.alloc())?;
     for (text, wanted) in [
         (
             b"all x p(x,f(y)) = a.".as_slice(),
@@ -18,6 +18,10 @@ fn items_have_their_trees(rt: HostRuntime) -> Result<(), Fail> {
         (b"=(a,(all x p(x))).", Ok(b"=/2 a/0 all x p/1 x/0 ")),
         (b"p(=,!=).", Ok(b"p/2 =/0 !=/0 ")),
         (b"((a)).", Ok(b"a/0 ")),
+        (
+            b"-p|a''=\"b\"->q#r.",
+            Ok(b"#/2 ->/2 |/2 -/1 p/0 =/2 '/1 '/1 a/0 \"b\"/0 q/0 r/0 "),
+        ),
         (b"a = b = c.", Err(TermFault::Bad(3))),
         (b"a = all x p(x).", Err(TermFault::Bad(2))),
         (b"all 1 p.", Err(TermFault::Bad(1))),

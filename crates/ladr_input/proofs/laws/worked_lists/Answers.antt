@@ -3,15 +3,12 @@ use Rattle.ladr_lex.proofs.Lexing.{cuts_text}
 use Rattle.ladr_lex.specs.Bytes.{is_blank, is_ordinary, is_special}
 use Rattle.ladr_lex.specs.Lexed.{start_of, lexed}
 use Rattle.ladr_lex.specs.Operators.{first_rows}
-use Rattle.ladr_reader.proofs.Lawful.{Lawful, table_lawful}
+use Rattle.ladr_reader.proofs.Lawful.{first_lawful}
 use Rattle.ladr_reader.proofs.Runs.{run_item}
 use Rattle.ladr_reader.specs.Formulas.{named_variable}
 use Rattle.ladr_reader.specs.Table.{table_of}
 use Rattle.ladr_input.specs.Worked.{constant_text}
 use Rattle.ladr_input.proofs.laws.worked_lists.Goals as goal
-
-lawful : Lawful (table_of first_rows)
-lawful = table_lawful first_rows refl
 
 pub returns : goal.returns
 unfolding start_of is_blank is_ordinary is_special named_variable
@@ -24,12 +21,12 @@ returns c = record {
     _,
     (
       _,
-      (record { tree = _; plain = refl; spells = run_item (table_of first_rows) lawful _ _ 750 refl; shallow = lit≤ tt; sound = refl; formula = refl; symbols = refl }),
+      (record { tree = _; plain = refl; spells = run_item (table_of first_rows) first_lawful _ _ 750 refl; shallow = lit≤ tt; sound = refl; formula = refl; symbols = refl }),
       (
         _,
         (
           _,
-          (record { tree = _; plain = refl; spells = run_item (table_of first_rows) lawful _ _ 750 refl; shallow = lit≤ tt; sound = refl; formula = refl; symbols = refl }),
+          (record { tree = _; plain = refl; spells = run_item (table_of first_rows) first_lawful _ _ 750 refl; shallow = lit≤ tt; sound = refl; formula = refl; symbols = refl }),
           (refl, refl, refl, refl),
         ),
       ),

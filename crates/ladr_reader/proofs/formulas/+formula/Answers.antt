@@ -1,11 +1,10 @@
-use Rattle.std.proofs.Common.{◌≡◌, ◌≤◌, ◌∷◌, [], ◌∙◌, List, ℕ, Option, Some, length, sym, ap, arith}
+use Rattle.std.proofs.Common.{◌≡◌, ◌∙◌, List, ℕ, Some, length, sym, ap, arith}
 use Rattle.std.proofs.lemmas.Result.{IfOk-from_err}
 use Rattle.fol_core.specs.FormulaView.{fol_of}
-use Rattle.fol_core.specs.RawTree.{RawTree, raws_of}
+use Rattle.fol_core.specs.RawTree.{raws_of}
 use Rattle.fol_core.specs.RawView.{raw_of, raw_list}
 use Rattle.fol_core.specs.declared.raw.Raw.{Raw}
 use Rattle.ladr_reader.specs.Formulas.{is_denial, connective_of, formula_in, relation_of}
-use Rattle.ladr_reader.specs.declared.connectives.Connective.{Connective}
 use Rattle.ladr_reader.proofs.TermLemmas.{kept_both, one_raw, two_raws, length_raw_list}
 use Rattle.ladr_reader.proofs.FormulaLemmas.{if_ok_same, if_ok_made, on_ok_so, formula_two, formula_one, formula_many}
 use Rattle.ladr_reader.proofs.formulas.+formula.Goals as goal

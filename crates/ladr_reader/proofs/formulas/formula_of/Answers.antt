@@ -1,4 +1,4 @@
-use Rattle.std.proofs.Common.{◌≡◌, ◌∙◌, List, [], ℕ, sym, ap, subst}
+use Rattle.std.proofs.Common.{◌≡◌, ◌∙◌, List, [], sym, ap, subst}
 use Rattle.std.specs.Prelude.{IfErr}
 use Rattle.fol_core.specs.Fol.{Fol}
 use Rattle.fol_core.specs.RawView.{raw_of}

@@ -1,7 +1,5 @@
 use Rattle.std.proofs.Common.{◌∙◌, sym, ap}
 use Rattle.fol_core.specs.RawView.{raw_list}
-use Rattle.fol_core.specs.Tree.{Trees}
-use Rattle.ladr_reader.specs.Formulas.{Made}
 use Rattle.ladr_reader.proofs.TermLemmas.{onto_none, terms_more, terms_end, kept_both}
 use Rattle.ladr_reader.proofs.formulas.terms.Goals as goal
 

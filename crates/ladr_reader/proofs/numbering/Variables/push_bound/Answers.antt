@@ -1,4 +1,4 @@
-use Rattle.std.proofs.Common.{◌≡◌, ◌∙◌, ◌++◌, ◌∷◌, [], List, ℕ, false, sym, ap, refl}
+use Rattle.std.proofs.Common.{◌∙◌, ◌++◌, ◌∷◌, [], List, false, sym, ap, refl}
 use Rattle.ladr_reader.proofs.NumberingLemmas.{has_free_bound, variable_list_last}
 use Rattle.ladr_reader.specs.Formulas.{free_number}
 use Rattle.ladr_reader.specs.Numbering.{variable_list}

@@ -1,0 +1,157 @@
+-- Tables of operators.
+use Rattle.std.proofs.Common.{◌≡◌, ℕ, ◌+◌, ◌<◌, length, drop, get_or, Bor, Bool, true, false, List, [], ◌∷◌, Option, Some, None, inl, inr, refl, sym, ap, ◌∙◌}
+use Rattle.std.specs.Prelude.{not, if◌then◌else◌}
+use Rattle.std.specs.Global.{Vec}
+use Rattle.std.specs.List.{list_all}
+use Rattle.std.specs.Map.{lookup}
+use Rattle.std.specs.Str.{bytes_eq}
+use Rattle.std.proofs.lemmas.Bool.{cases_Bool, and_from, and_parts, or_parts, both_ways, not-true}
+use Rattle.std.proofs.lemmas.List.{drop_more}
+use Rattle.std.proofs.lemmas.Slice.Eq.{bytes_eq-Decides}
+use Rattle.indexmap.specs.IndexMap.{insert_entry}
+use Rattle.ladr_lex.specs.Cuts.{is_symbol, is_quoted}
+use Rattle.ladr_lex.specs.OperatorView.{row_list, with_rows, may_be_put}
+use Rattle.ladr_lex.specs.Operators.{OperatorRow, operator_of, is_word, is_precedence, has_precedence, are_lawful, is_fixed, unquoted, breaks_row_6, declared, with_row}
+use Rattle.ladr_lex.specs.declared.operators.Operator.{Operator}
+use Rattle.ladr_lex.specs.declared.operators.OperatorKind.{OperatorKind}
+use Rattle.ladr_lex.specs.declared.token.TokenKind.{TokenKind}
+use Rattle.ladr_lex.specs.declared.token.TokenKind.TheVariants.{Open, Close, LeftSquare, RightSquare, Comma, Stop, Ordinary, Quoted, Special, Unreadable}
+use Rattle.ladr_lex.proofs.Wholes.{symbol_by_kind, quoted_by_kind, is_symbol_kind, is_quoted_kind}
+
+-- the rows once a name has an operator
+pub rows_put : (es : List (Vec ℕ × Option Operator)) (k : Vec ℕ) (o : Option Operator) → row_list (insert_entry (λ u v. bytes_eq u.items v.items) es k o) ≡ with_row k.items o (row_list es)
+rows_put [] k o = refl
+rows_put (e ∷ es) k o =
+    elim (cases_Bool (bytes_eq k.items e.0.items)) [
+      | inl y ↦ rw y refl
+      | inr y ↦ rw y (ap (λ (rs : List OperatorRow). record { name = e.0.items; operator = e.1 } ∷ rs) (rows_put es k o))
+    ]
+
+-- what the table has under a name
+abbrev pub flat : Option (Option Operator) → Option Operator
+flat None = None
+flat (Some o) = o
+
+pub found_row : (es : List (Vec ℕ × Option Operator)) (name : List ℕ) → operator_of (row_list es) name ≡ flat (lookup (λ v. bytes_eq name v.items) es)
+found_row [] name = refl
+found_row (e ∷ es) name =
+    elim (cases_Bool (bytes_eq name e.0.items)) [
+      | inl y ↦ rw y refl
+      | inr y ↦ rw y (found_row es name)
+    ]
+
+-- names that pass a test go on passing it
+all_put : (p : List ℕ → Bool) (name : List ℕ) (o : Option Operator) (rs : List OperatorRow) → p name ≡ true → list_all (λ (r : OperatorRow). p r.name) rs ≡ true → list_all (λ (r : OperatorRow). p r.name) (with_row name o rs) ≡ true
+all_put p name o [] h a = and_from (p name) true h refl
+all_put p name o (r ∷ rs) h a =
+    let parts = and_parts (p r.name) _ a in
+    elim (cases_Bool (bytes_eq name r.name)) [
+      | inl y ↦ rw y a
+      | inr y ↦ rw y (and_from (p r.name) _ parts.0 (all_put p name o rs h parts.1))
+    ]
+
+other_name : (name x : List ℕ) → bytes_eq name x ≡ false → not (bytes_eq x name) ≡ true
+other_name name x h =
+    elim (cases_Bool (bytes_eq x name)) [
+      | inl y ↦ absurd (let e = (bytes_eq-Decides name x).1 (sym ((bytes_eq-Decides x name).0 y)) in cc)
+      | inr y ↦ ap not y
+    ]
+
+-- a table stays lawful
+pub lawful_put : (name : List ℕ) (o : Option Operator) (rs : List OperatorRow) → is_symbol name ≡ true → is_word name ≡ false → has_precedence o ≡ true → are_lawful rs ≡ true → are_lawful (with_row name o rs) ≡ true
+lawful_put name o [] s w p h = and_from _ true (and_from _ true (and_from _ _ (and_from _ _ s (ap not w)) p) refl) refl
+lawful_put name o (r ∷ rs) s w p h =
+    let outer = and_parts _ _ h in
+    let inner = and_parts _ _ outer.0 in
+    let row = and_parts _ _ inner.0 in
+    elim (cases_Bool (bytes_eq name r.name)) [
+      | inl y ↦ rw y (and_from _ _ (and_from _ _ (and_from _ _ row.0 p) inner.1) outer.1)
+      | inr y ↦ rw y (and_from _ _ (and_from _ _ inner.0 (all_put (λ x. not (bytes_eq r.name x)) name o rs (other_name name r.name y) inner.1)) (lawful_put name o rs s w p outer.1))
+    ]
+
+-- a name has what it was given, and each other what it had
+pub operator_put : (rs : List OperatorRow) (name : List ℕ) (o : Option Operator) (x : List ℕ) → operator_of (with_row name o rs) x ≡ (if bytes_eq x name then o else operator_of rs x)
+operator_put [] name o x = refl
+operator_put (r ∷ rs) name o x =
+    elim (cases_Bool (bytes_eq name r.name)) [
+      | inl y ↦ (let same : name ≡ r.name = (bytes_eq-Decides name r.name).0 y in
+          rw y (elim (cases_Bool (bytes_eq x r.name)) [
+            | inl z ↦ (let k : bytes_eq x name ≡ true = ap (bytes_eq x) same ∙ z in rw (z, k) refl)
+            | inr z ↦ (let k : bytes_eq x name ≡ false = ap (bytes_eq x) same ∙ z in rw (z, k) refl)
+          ]))
+      | inr y ↦ rw y (elim (cases_Bool (bytes_eq x r.name)) [
+        | inl z ↦ (let k : bytes_eq x name ≡ false = other x r.name name ((bytes_eq-Decides x r.name).0 z) y in rw (z, k) refl)
+        | inr z ↦ rw z (operator_put rs name o x)
+      ])
+    ]
+  where
+    other : (x s n : List ℕ) → x ≡ s → bytes_eq n s ≡ false → bytes_eq x n ≡ false
+    other x s n e h =
+        elim (cases_Bool (bytes_eq x n)) [
+          | inl k ↦ absurd (let f = (bytes_eq-Decides n s).1 (sym ((bytes_eq-Decides x n).0 k) ∙ e) in cc)
+          | inr k ↦ k
+        ]
+
+-- a quoted symbol is no name of the table
+no_symbol : (text name : List ℕ) → is_quoted text ≡ true → is_symbol name ≡ true → bytes_eq text name ≡ false
+no_symbol text name q s =
+    elim (cases_Bool (bytes_eq text name)) [
+      | inl y ↦ absurd (let e = (bytes_eq-Decides text name).0 y in apart _ (sym (quoted_by_kind text) ∙ q) (sym (symbol_by_kind text) ∙ ap (λ t. is_symbol t) e ∙ s))
+      | inr y ↦ y
+    ]
+  where
+    apart : (k : Option TokenKind) → is_quoted_kind k ≡ true → is_symbol_kind k ≡ true → ⊥
+    apart (Some Quoted) a b = cc
+    apart None a b = cc
+    apart (Some Ordinary) a b = cc
+    apart (Some Special) a b = cc
+    apart (Some Open) a b = cc
+    apart (Some Close) a b = cc
+    apart (Some LeftSquare) a b = cc
+    apart (Some RightSquare) a b = cc
+    apart (Some Comma) a b = cc
+    apart (Some Stop) a b = cc
+    apart (Some Unreadable) a b = cc
+
+pub quoted_none : (rs : List OperatorRow) (text : List ℕ) → are_lawful rs ≡ true → is_quoted text ≡ true → operator_of rs text ≡ None
+quoted_none [] text h q = refl
+quoted_none (r ∷ rs) text h q =
+    let outer = and_parts _ _ h in
+    let row = and_parts _ _ (and_parts _ _ (and_parts _ _ outer.0).0).0 in
+    rw (no_symbol text r.name q row.0) (quoted_none rs text outer.1 q)
+
+-- the next of the rows that are put
+abbrev Put : Type 0
+Put = Bor (List ℕ) × ℕ × OperatorKind
+
+pub record Next (rows : List Put) (i : ℕ) (e : Put) (rs : List OperatorRow) : Type 0 where
+  pub symbol : is_symbol e.0.now ≡ true
+  pub word : is_word e.0.now ≡ false
+  pub precedence : is_precedence e.1 ≡ true
+  pub rest : with_rows (drop i rows) rs ≡ with_rows (drop (i + 1) rows) (with_row e.0.now (Some (record { precedence = e.1; kind = e.2 })) rs)
+  pub good : may_be_put (drop (i + 1) rows) ≡ true
+
+pub next_row : (rows : List Put) (i : ℕ) (d : Put) (rs : List OperatorRow) → i < length rows → may_be_put (drop i rows) ≡ true → Next rows i (get_or rows i d) rs
+next_row rows i d rs h good =
+    let here = drop_more rows i d h in
+    let parts = and_parts _ _ (ap may_be_put (sym here) ∙ good) in
+    let e = and_parts _ _ parts.0 in
+    let n = and_parts _ _ e.0 in
+    record { symbol = n.0; word = not-true _ n.1; precedence = e.1; rest = ap (λ (l : List Put). with_rows l rs) here; good = parts.1 }
+
+pub put_next : (rows : List Put) (i : ℕ) (d : Put) (o : Option Operator) (rs new whole : List OperatorRow) → i < length rows → may_be_put (drop i rows) ≡ true →
+    o ≡ Some (record { precedence = (get_or rows i d).1; kind = (get_or rows i d).2 }) → new ≡ with_row (get_or rows i d).0.now o rs → with_rows (drop i rows) rs ≡ whole →
+    (with_rows (drop (i + 1) rows) new ≡ whole) × (may_be_put (drop (i + 1) rows) ≡ true)
+put_next rows i d o rs new whole h good e made all =
+    let next = next_row rows i d rs h good in
+    (ap (with_rows (drop (i + 1) rows)) (made ∙ ap (λ (p : Option Operator). with_row (get_or rows i d).0.now p rs) e) ∙ sym next.rest ∙ all, next.good)
+
+-- a fixed symbol can't be declared
+pub fixed_kept : (rs : List OperatorRow) (p : ℕ) (type symbol name : List ℕ) → breaks_row_6 symbol ≡ false → is_fixed name ≡ true → operator_of (declared p type symbol rs) name ≡ operator_of rs name
+fixed_kept rs p type symbol name free fixed =
+    let n = unquoted symbol in
+    let other : bytes_eq name n ≡ false = elim (cases_Bool (bytes_eq name n)) [
+      | inl y ↦ absurd (let e : is_fixed n ≡ true = ap (λ (l : List ℕ). is_fixed l) (sym ((bytes_eq-Decides name n).0 y)) ∙ fixed in both_ways (is_fixed n) (or_parts (is_fixed n) _ free).0 e)
+      | inr y ↦ y
+    ] in
+    operator_put rs n _ name ∙ rw other refl
