@@ -1,4 +1,5 @@
 mod Examples
+pub mod Marks
 pub mod Places
 pub mod SymbolLemmas
 pub mod TruthLemmas

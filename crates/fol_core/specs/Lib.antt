@@ -7,6 +7,7 @@ pub mod Free
 pub mod Laws
 pub mod Literals
 pub mod Meaning
+pub mod Occurs
 pub mod Outside
 pub mod RawCodes
 pub mod RawFalls

@@ -2,15 +2,9 @@
 use Rattle.std.specs.Prelude.{ℕ, ◌-◌, ◌^◌, ◌==◌, nat_lt, nat_le, Bool, true, not, ◌&&◌, List, [], ◌∷◌, ◌++◌, length, map, is_some, if◌then◌else◌}
 use Rattle.std.specs.List.{list_all}
 use Rattle.fol_core.specs.SymbolTable.{Symbol, is_called, is_same_kind, number_of}
-use Rattle.fol_core.specs.declared.symbols.Kind.{Kind}
-use Rattle.fol_core.specs.declared.symbols.Kind.TheVariants.{Function, Relation}
 use Rattle.ladr_input.specs.Grammar.{Table, ByName}
+use Rattle.model_tables.specs.Size.{bound_of}
 use Rattle.model_tables.specs.Tables.{Listing, Finite, listing}
-
--- what the values of a symbol are below, where there are n elements
-abbrev pub bound_of : ℕ → Kind → ℕ
-bound_of n Function = n
-bound_of n Relation = 2
 
 -- a value for each list of arguments, and none too great
 abbrev pub is_filled : ℕ → Table → Bool

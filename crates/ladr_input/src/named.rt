@@ -2,14 +2,14 @@
 ghost use Rattle.std.specs.Prelude.{◌≡◌, ◌^◌, ◌==◌, ◌≤◌, nat_lt, not, is_some, [], false, Err, IfOk, IsTrue};
 ghost use Rattle.std.specs.List.{list_all};
 ghost use Rattle.fol_core.specs.SymbolTable.{number_of, symbol, is_same_kind};
-ghost use Rattle.ladr_input.specs.ByName.{bound_of, is_filled, is_good, heads_of, are_new, values_for, tables_for};
+ghost use Rattle.ladr_input.specs.ByName.{is_filled, is_good, heads_of, are_new, values_for, tables_for};
 ghost use Rattle.ladr_input.specs.Entries.{table_of, tables_of};
 ghost use Rattle.ladr_input.specs.Grammar.{ByName};
 
 use crate::entry::Entry;
 use crate::fault::Fault;
 use fol_core::{Kind, Sym, Symbols};
-use model_tables::{Row, Tables};
+use model_tables::{Row, Tables, bound};
 use std::alloc::{AllocError, Global};
 
 /// An interpretation by names: how many elements, the entries, and the table of their symbols.
@@ -36,16 +36,6 @@ fn is_power(len: usize, size: u64, arity: u64) -> bool
         product = next;
     }
     product == len as u64
-}
-
-// What the values of a symbol are below.
-fn bound(size: u32, kind: Kind) -> u32
-    ensures { result ≡ bound_of size kind }
-{
-    match kind {
-        Kind::Function => size,
-        Kind::Relation => 2,
-    }
 }
 
 fn are_below(values: &[u32], bound: u32) -> bool

@@ -1,5 +1,5 @@
 -- The elements of a list of variables.
-use Rattle.std.proofs.Common.{◌≡◌, ℕ, zero, suc, ◌+◌, ◌<◌, ◌≤◌, ◌==◌, ◌-◌, if◌then◌else◌, Bool, true, false, List, [], ◌∷◌, length, map, set, get_or, drop, Option, Some, inl, inr, refl, sym, ap, ap₂, ◌∙◌, arith}
+use Rattle.std.proofs.Common.{◌≡◌, ℕ, zero, suc, ◌+◌, ◌<◌, ◌≤◌, ◌==◌, ◌-◌, if◌then◌else◌, Bool, true, false, List, [], ◌∷◌, length, map, set, get_or, Option, Some, inl, inr, refl, sym, ap, ap₂, ◌∙◌, arith}
 use Rattle.std.proofs.lemmas.Bool.{or_parts, false≢true, cases_lt, eq-eqb}
 use Rattle.std.proofs.lemmas.Bool.Decides.{nat_tests}
 use Rattle.std.proofs.lemmas.Grind.{common_steps}
@@ -8,7 +8,7 @@ use Rattle.fol_core.specs.Free.{is_in}
 use Rattle.model_tables.specs.Digits.{AreDigits, count, number}
 use Rattle.model_tables.specs.Variables.{assignment, HasRoom, AreApart}
 use Rattle.model_tables.proofs.Slots.{at_each}
-use Rattle.model_tables.proofs.Numbers.{number_below, set_digit, digit_below, step_up, step_over}
+use Rattle.model_tables.proofs.Numbers.{Carries, carries_none, digit, set_digit, carries_up, carries_over, carries_all}
 
 other_there : (x : ℕ) (xs : List ℕ) (i : ℕ) → is_in x xs ≡ false → i < length xs → (x == get_or xs i 0) ≡ false
 other_there x [] i h l = absurd (omega arith)
@@ -48,71 +48,60 @@ pub same_room : (xs : List ℕ) (a b : List (Option ℕ)) → length a ≡ lengt
 same_room [] a b e h = tt
 same_room (x ∷ xs) a b e h = (omega (arith, h.0), same_room xs a b e h.1)
 
-all_same : (size : ℕ) (xs : List ℕ) (i : ℕ) → i < length xs → get_or (map (λ x. size) xs) i 0 ≡ size
-all_same size [] i l = absurd (omega arith)
-all_same size (x ∷ xs) zero l = refl
-all_same size (x ∷ xs) (suc i) l = all_same size xs i (omega arith)
+same_for_all : (size : ℕ) (xs : List ℕ) (i : ℕ) → i < length xs → get_or (map (λ x. size) xs) i 0 ≡ size
+same_for_all size [] i l = absurd (omega arith)
+same_for_all size (x ∷ xs) zero l = refl
+same_for_all size (x ∷ xs) (suc i) l = same_for_all size xs i (omega arith)
 
 element_at : (slots : List (Option ℕ)) (xs : List ℕ) (i : ℕ) → i < length xs → get_or (map (assignment slots) xs) i 0 ≡ assignment slots (get_or xs i 0)
 element_at slots [] i l = absurd (omega arith)
 element_at slots (x ∷ xs) zero l = refl
 element_at slots (x ∷ xs) (suc i) l = element_at slots xs i (omega arith)
 
--- the elements from `at` on have run through and are 0 again; one more is to be carried to those before
-pub record Carries (size : ℕ) (xs : List ℕ) (before now : List (Option ℕ)) (at : ℕ) : Type 0 where
+-- the room stays, and the elements from `at` on have run through
+pub record Steps (size : ℕ) (xs : List ℕ) (before now : List (Option ℕ)) (at : ℕ) : Type 0 where
   pub room : length now ≡ length before
-  pub within : at ≤ length xs
-  pub digits : AreDigits (map (λ x. size) xs) (map (assignment now) xs)
-  pub carried : number (map (λ x. size) xs) (map (assignment now) xs) + count (drop at (map (λ x. size) xs)) ≡ number (map (λ x. size) xs) (map (assignment before) xs) + 1
+  pub carries : Carries (map (λ x. size) xs) (map (assignment before) xs) (map (assignment now) xs) at
 
-module _ (size : ℕ) (xs : List ℕ) (before now : List (Option ℕ)) (at : ℕ) (room : HasRoom xs before) (c : Carries size xs before now at) (more : 0 < at) where
+module _ (size : ℕ) (xs : List ℕ) (before now : List (Option ℕ)) (at : ℕ) (room : HasRoom xs before) (s : Steps size xs before now at) (more : 0 < at) where
   inside : at - 1 < length xs
-  inside = omega (arith, c.within)
+  inside = omega (arith, s.carries.within, length-map xs (assignment now))
 
   pub room_now : get_or xs (at - 1) 0 < length now
-  room_now = there xs now (at - 1) (same_room xs now before c.room room) inside
-
-  pub digit : assignment now (get_or xs (at - 1) 0) < size
-  digit = rw (← element_at now xs (at - 1) inside) (
-      let below = digit_below (map (λ x. size) xs) (map (assignment now) xs) (at - 1) c.digits (rw length-map inside) in
-      rw (all_same size xs (at - 1) inside) at below)
-
-  top_there : get_or (map (λ x. size) xs) (at - 1) 0 ≡ size
-  top_there = all_same size xs (at - 1) inside
+  room_now = there xs now (at - 1) (same_room xs now before s.room room) inside
 
   digit_there : get_or (map (assignment now) xs) (at - 1) 0 ≡ assignment now (get_or xs (at - 1) 0)
   digit_there = element_at now xs (at - 1) inside
 
-  carried_there : number (map (λ x. size) xs) (map (assignment now) xs) + count (drop (suc (at - 1)) (map (λ x. size) xs)) ≡ number (map (λ x. size) xs) (map (assignment before) xs) + 1
-  carried_there = let same : suc (at - 1) ≡ at = omega arith in rw same c.carried
+  bound_there : get_or (map (λ x. size) xs) (at - 1) 0 ≡ size
+  bound_there = same_for_all size xs (at - 1) inside
+
+  pub element_below : assignment now (get_or xs (at - 1) 0) < size
+  element_below = omega (arith, digit (map (λ x. size) xs) (map (assignment before) xs) (map (assignment now) xs) at s.carries more, digit_there, bound_there)
 
   module _ (apart : AreApart xs) where
     after : (v : ℕ) → map (assignment (set now (get_or xs (at - 1) 0) (Some v))) xs ≡ set (map (assignment now) xs) (at - 1) v
-    after v = elements_set xs now (at - 1) v apart (same_room xs now before c.room room) inside
+    after v = elements_set xs now (at - 1) v apart (same_room xs now before s.room room) inside
 
     pub set_there : (v : ℕ) → v < size → AreDigits (map (λ x. size) xs) (map (assignment (set now (get_or xs (at - 1) 0) (Some v))) xs)
-    set_there v l = rw (after v) (set_digit (map (λ x. size) xs) (map (assignment now) xs) (at - 1) v c.digits (rw top_there l))
+    set_there v l = rw (after v) (set_digit (map (λ x. size) xs) (map (assignment now) xs) (at - 1) v s.carries.digits (rw bound_there l))
 
-    pub carried_up : number (map (λ x. size) xs) (map (assignment (set now (get_or xs (at - 1) 0) (Some (assignment now (get_or xs (at - 1) 0) + 1)))) xs)
+    pub steps_up : number (map (λ x. size) xs) (map (assignment (set now (get_or xs (at - 1) 0) (Some (assignment now (get_or xs (at - 1) 0) + 1)))) xs)
         ≡ number (map (λ x. size) xs) (map (assignment before) xs) + 1
-    carried_up = rw (after (assignment now (get_or xs (at - 1) 0) + 1), ← digit_there)
-        (step_up (map (λ x. size) xs) (map (assignment now) xs) (at - 1) _ c.digits (rw length-map inside) carried_there)
+    steps_up = rw (after (assignment now (get_or xs (at - 1) 0) + 1), ← digit_there) (carries_up (map (λ x. size) xs) (map (assignment before) xs) (map (assignment now) xs) at s.carries more)
 
-    pub carried_over : size ≤ assignment now (get_or xs (at - 1) 0) + 1 → Carries size xs before (set now (get_or xs (at - 1) 0) (Some 0)) (at - 1)
-    carried_over over =
-        let top : assignment now (get_or xs (at - 1) 0) + 1 ≡ size = omega (arith, digit) in
-        record {
-          room = length-set now (get_or xs (at - 1) 0) (Some 0) ∙ c.room;
-          within = omega (arith, c.within);
-          digits = set_there 0 (omega (arith, top));
-          carried = rw (after 0) (step_over (map (λ x. size) xs) (map (assignment now) xs) (at - 1) _ c.digits (rw length-map inside) (ap (λ d. d + 1) digit_there ∙ (top ∙ sym top_there)) carried_there);
-        }
+    pub steps_over : size ≤ assignment now (get_or xs (at - 1) 0) + 1 → Steps size xs before (set now (get_or xs (at - 1) 0) (Some 0)) (at - 1)
+    steps_over over = record {
+      room = length-set now (get_or xs (at - 1) 0) (Some 0) ∙ s.room;
+      carries = rw (after 0) (carries_over (map (λ x. size) xs) (map (assignment before) xs) (map (assignment now) xs) at s.carries more (omega (arith, digit_there, bound_there)));
+    }
 
--- where it is to be carried beyond the first, all have run through
-pub carried_all : (size : ℕ) (xs : List ℕ) (before now : List (Option ℕ)) (at : ℕ) → Carries size xs before now at → at ≤ 0 → AreDigits (map (λ x. size) xs) (map (assignment before) xs)
+pub steps_none : (size : ℕ) (xs : List ℕ) (slots : List (Option ℕ)) → AreDigits (map (λ x. size) xs) (map (assignment slots) xs) → Steps size xs slots slots (length xs)
+steps_none size xs slots h = record { room = refl; carries = rw (← length-map xs (assignment slots)) (carries_none (map (λ x. size) xs) (map (assignment slots) xs) h) }
+
+pub steps_all : (size : ℕ) (xs : List ℕ) (before now : List (Option ℕ)) (at : ℕ) → Steps size xs before now at → at ≤ 0 → AreDigits (map (λ x. size) xs) (map (assignment before) xs)
     → count (map (λ x. size) xs) ≡ number (map (λ x. size) xs) (map (assignment before) xs) + 1
-carried_all size xs before now zero c l d = omega (arith, c.carried, number_below (map (λ x. size) xs) (map (assignment before) xs) d)
-carried_all size xs before now (suc at) c l d = absurd (omega arith)
+steps_all size xs before now at s l d = (carries_all (map (λ x. size) xs) (map (assignment before) xs) (map (assignment now) xs) at s.carries l d).0
 
 -- elements that are 0 one by one
 pub zero_each : (a : ℕ → ℕ) (xs : List ℕ) → ((k : ℕ) → k < length xs → a (get_or xs k 0) ≡ 0) → map a xs ≡ map (λ x. 0) xs

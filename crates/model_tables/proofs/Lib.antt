@@ -1,5 +1,11 @@
 pub mod Elements
+pub mod Exchange
 pub mod Numbers
+pub mod Orders
 pub mod Places
+pub mod ReadsBack
+pub mod Rows
+pub mod Sizing
 pub mod Slots
 pub mod Stepped
+pub mod Texts

@@ -1,6 +1,7 @@
 -- Numbers of lists of digits.
-use Rattle.std.proofs.Common.{◌≡◌, ℕ, zero, suc, ◌+◌, ◌*◌, ◌<◌, ◌≤◌, List, [], ◌∷◌, length, set, get_or, drop, inl, inr, refl, sym, ap, ap₂, ◌∙◌, arith}
+use Rattle.std.proofs.Common.{◌≡◌, ℕ, zero, suc, ◌+◌, ◌*◌, ◌-◌, ◌<◌, ◌≤◌, List, [], ◌∷◌, length, set, get_or, drop, inl, inr, refl, sym, ap, ap₂, replicate, ◌∙◌, arith}
 use Rattle.std.proofs.lemmas.Bool.{cases_lt}
+use Rattle.std.proofs.lemmas.List.{length-set, drop_all}
 use Rattle.std.proofs.Math.Nat.{mul-le-mul_right}
 use Rattle.model_tables.specs.Digits.{AreDigits, count, number}
 
@@ -69,6 +70,11 @@ count_drop [] i l = absurd (omega arith)
 count_drop (b ∷ bs) zero l = refl
 count_drop (b ∷ bs) (suc i) l = count_drop bs i (omega arith)
 
+pub all_same : (n b i : ℕ) → i < n → get_or (replicate n b) i 0 ≡ b
+all_same zero b i l = absurd (omega arith)
+all_same (suc n) b zero l = refl
+all_same (suc n) b (suc i) l = all_same n b i (omega arith)
+
 -- one more at i, where what is behind it has run through
 pub step_up : (bs ds : List ℕ) (i n : ℕ) → AreDigits bs ds → i < length ds → number bs ds + count (drop (suc i) bs) ≡ n → number bs (set ds i (get_or ds i 0 + 1)) ≡ n
 step_up bs ds i n h l e = omega (arith, number_set bs ds i (get_or ds i 0 + 1) h l)
@@ -80,3 +86,43 @@ step_over bs ds i n h l top e =
     let many : i < length bs = omega (arith, digits_many bs ds h) in
     let whole : count (drop i bs) ≡ (get_or ds i 0 + 1) * count (drop (suc i) bs) = count_drop bs i many ∙ ap (λ b. b * count (drop (suc i) bs)) (sym top) in
     omega (arith, number_set bs ds i 0 h l, whole)
+
+-- the digits from `at` on have run through and are 0 again; one more is to be carried to those before
+pub record Carries (bs before now : List ℕ) (at : ℕ) : Type 0 where
+  pub within : at ≤ length now
+  pub digits : AreDigits bs now
+  pub carried : number bs now + count (drop at bs) ≡ number bs before + 1
+
+pub carries_none : (bs ds : List ℕ) → AreDigits bs ds → Carries bs ds ds (length ds)
+carries_none bs ds h = record {
+  within = omega arith;
+  digits = h;
+  carried = let all : drop (length ds) bs ≡ [] = drop_all (length ds) bs (omega (arith, digits_many bs ds h)) in ap (λ (xs : List ℕ). number bs ds + count xs) all;
+}
+
+module _ (bs before now : List ℕ) (at : ℕ) (c : Carries bs before now at) (more : 0 < at) where
+  inside : at - 1 < length now
+  inside = omega (arith, c.within)
+
+  pub digit : get_or now (at - 1) 0 < get_or bs (at - 1) 0
+  digit = digit_below bs now (at - 1) c.digits inside
+
+  carried_there : number bs now + count (drop (suc (at - 1)) bs) ≡ number bs before + 1
+  carried_there = let same : suc (at - 1) ≡ at = omega arith in rw same c.carried
+
+  -- one more there
+  pub carries_up : number bs (set now (at - 1) (get_or now (at - 1) 0 + 1)) ≡ number bs before + 1
+  carries_up = step_up bs now (at - 1) (number bs before + 1) c.digits inside carried_there
+
+  -- 0 there, where it is the greatest
+  pub carries_over : get_or bs (at - 1) 0 ≤ get_or now (at - 1) 0 + 1 → Carries bs before (set now (at - 1) 0) (at - 1)
+  carries_over over = record {
+    within = omega (arith, length-set now (at - 1) 0, c.within);
+    digits = set_digit bs now (at - 1) 0 c.digits (omega (arith, digit));
+    carried = step_over bs now (at - 1) (number bs before + 1) c.digits inside (omega (arith, digit)) carried_there;
+  }
+
+-- where it is to be carried beyond the first, all have run through
+pub carries_all : (bs before now : List ℕ) (at : ℕ) → Carries bs before now at → at ≤ 0 → AreDigits bs before → (count bs ≡ number bs before + 1) × (number bs now ≡ 0)
+carries_all bs before now zero c l d = let below = number_below bs before d in (omega (arith, c.carried), omega (arith, c.carried))
+carries_all bs before now (suc at) c l d = absurd (omega arith)

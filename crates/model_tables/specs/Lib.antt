@@ -1,4 +1,10 @@
 pub mod Digits
+pub mod ModelText
+pub mod Order
+pub mod Reads
+pub mod Renaming
+pub mod Size
 pub mod Tables
 pub mod TablesLaws
 pub mod Variables
+pub mod Worked

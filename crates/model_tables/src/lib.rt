@@ -4,14 +4,22 @@
 mod closures;
 mod env;
 mod evaluate;
+mod laws;
+mod order;
 mod room;
+mod sizes;
 mod tables;
 
 pub use closures::closure_truth;
 pub use env::Env;
 pub use evaluate::{truth, value};
+pub use laws::{each_comes_once, renames_itself, text_tells, worked};
+pub use order::bound;
 pub use room::reserve_closure;
+pub use sizes::{cell_count, size_needed};
 pub use tables::{Row, Tables};
+pub use text::interpretation_text;
 
 #[cfg(test)]
 mod tests;
+mod text;

@@ -9,8 +9,8 @@ use std::marker::Model;
 /// What a symbol is, and its values, the last argument running fastest.
 #[derive(Drop)]
 pub struct Row {
-    kind: Kind,
-    values: Vec<u32>,
+    pub(crate) kind: Kind,
+    pub(crate) values: Vec<u32>,
 }
 
 impl Model for Row {
@@ -45,7 +45,7 @@ impl Row {
 #[derive(Drop)]
 pub struct Tables {
     size: u32,
-    rows: Vec<Row>,
+    pub(crate) rows: Vec<Row>,
 }
 
 impl Model for Tables {
@@ -78,6 +78,13 @@ impl Tables {
         ensures { result ≡ self.now.top + 1 }
     {
         self.size.max(1)
+    }
+
+    // The rows by symbol number.
+    pub(crate) fn rows(&self) -> &[Row]
+        ensures { result.now ≡ self.now.rows }
+    {
+        self.rows.as_slice()
     }
 
     /// The values of a symbol, none where it has no entry.

@@ -1,6 +1,11 @@
-// A function that exchanges two elements, and whether it is its own inverse and moves each element.
-use crate::{Env, Row, Tables, closure_truth, reserve_closure, truth, value};
-use fol_core::{Formula, Kind, Names, Shape, Sub, Sym, Term, Terms, free_vars};
+// A function that exchanges two elements, and the tables of a problem in order.
+use crate::{
+    Env, Row, Tables, cell_count, closure_truth, interpretation_text, reserve_closure, size_needed,
+    truth, value,
+};
+use fol_core::{
+    Formula, Input, Kind, Names, Problem, Role, Shape, Sub, Sym, Symbols, Term, Terms, free_vars,
+};
 use std::alloc::{AllocError, Global};
 use std::test::Fail;
 
@@ -57,5 +62,50 @@ fn variables_have_elements(rt: HostRuntime) -> Result<(), Fail> {
         (2, true, false)
     );
     assert_eq!(rt; tables.entry(Sym(0), 0), 1);
+    Ok(())
+}
+
+// The problem that f(x) is element 1, and a symbol that stands in no formula.
+fn problem(alloc: Global) -> Result<Problem, AllocError> {
+    let mut symbols = Symbols::new(alloc);
+    for name in [b"f", b"g"] {
+        if symbols.enter(name, 1, Kind::Function).is_err() {
+            return Err(AllocError);
+        }
+    }
+    let shape = Shape::Eq(f(alloc, Term::Var(0))?, Term::Elem(1));
+    let names = Names::new(alloc);
+    let formula = Formula { shape, names };
+    let input = Input {
+        role: Role::Assumption,
+        formula,
+        byte: 0,
+    };
+    let inputs = vec![in alloc; input]?;
+    Ok(Problem { symbols, inputs })
+}
+
+const LAST: &str =
+    "interpretation(2, [number = 7,seconds = 0], [\n    function(f(_), [1,1])\n]).\n";
+
+#[test]
+fn tables_come_in_order(rt: HostRuntime) -> Result<(), Fail> {
+    let alloc = rt.alloc();
+    let problem = problem(alloc)?;
+    assert_eq!(rt; size_needed(&problem), 2);
+    let cells = cell_count(alloc, &problem, 2)?;
+    assert_eq!(rt; cells, 2);
+    if cells > 50_000_000 {
+        return Ok(());
+    }
+    let mut tables = Tables::first(alloc, &problem, 2)?;
+    for _ in 0..3 {
+        let next = tables.advance();
+        assert!(rt; next);
+    }
+    let text = interpretation_text(alloc, &tables, &problem.symbols, 7)?;
+    assert_eq!(rt; text.as_slice(), LAST.as_bytes());
+    let next = tables.advance();
+    assert!(rt; !next);
     Ok(())
 }

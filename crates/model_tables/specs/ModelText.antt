@@ -1,0 +1,57 @@
+-- The text of an interpretation.
+use Rattle.std.specs.Prelude.{ℕ, zero, suc, ◌+◌, ◌==◌, if◌then◌else◌, Bool, List, [], ◌∷◌, ◌++◌, length, codes}
+use Rattle.std.specs.Fmt.{decimal}
+use Rattle.fol_core.specs.SymbolTable.{Symbol}
+use Rattle.fol_core.specs.declared.symbols.Kind.{Kind}
+use Rattle.fol_core.specs.declared.symbols.Kind.TheVariants.{Function, Relation}
+use Rattle.model_tables.specs.Tables.{Listing, Finite}
+
+-- numbers with commas between them
+abbrev pub numbers_behind : List ℕ → List ℕ
+numbers_behind [] = []
+numbers_behind (x ∷ xs) = codes "," ++ decimal x ++ numbers_behind xs
+
+abbrev pub numbers_text : List ℕ → List ℕ
+numbers_text [] = []
+numbers_text (x ∷ xs) = decimal x ++ numbers_behind xs
+
+-- `(_,_)` for two arguments, and nothing for none
+abbrev pub further_places : ℕ → List ℕ
+further_places zero = []
+further_places (suc n) = codes ",_" ++ further_places n
+
+abbrev pub places_text : ℕ → List ℕ
+places_text zero = []
+places_text (suc n) = codes "(_" ++ further_places n ++ codes ")"
+
+abbrev pub word_of : Kind → List ℕ
+word_of Function = codes "function"
+word_of Relation = codes "relation"
+
+-- `function(f(_), [1,0])`
+abbrev pub entry_text : List ℕ → ℕ → Kind → List ℕ → List ℕ
+entry_text name arity kind values = word_of kind ++ codes "(" ++ name ++ places_text arity ++ codes ", [" ++ numbers_text values ++ codes "])"
+
+-- the entries of the symbols that have values
+abbrev pub entries_of : List Symbol → List Listing → List (List ℕ)
+entries_of [] ls = []
+entries_of (s ∷ ss) [] = []
+entries_of (s ∷ ss) (l ∷ ls) = if length l.values == 0 then entries_of ss ls else entry_text s.name s.arity l.kind l.values ∷ entries_of ss ls
+
+-- each entry in a line of its own, after four spaces, with a comma at its end if one more follows
+abbrev pub lines_behind : List (List ℕ) → List ℕ
+lines_behind [] = codes "\n"
+lines_behind (e ∷ es) = codes ",\n    " ++ e ++ lines_behind es
+
+abbrev pub lines_of : List (List ℕ) → List ℕ
+lines_of [] = []
+lines_of (e ∷ es) = codes "\n    " ++ e ++ lines_behind es
+
+-- the line of a symbol with values, where an entry stands before, or none
+abbrev pub line_of : Bool → List ℕ → ℕ → Listing → List ℕ
+line_of before name arity l = if length l.values == 0 then [] else (if before then codes ",\n    " else codes "\n    ") ++ entry_text name arity l.kind l.values
+
+-- the text of tables for these symbols, as model number k
+unfoldable pub model_text : List Symbol → ℕ → Finite → List ℕ
+model_text ss k t =
+    codes "interpretation(" ++ decimal (t.top + 1) ++ codes ", [number = " ++ decimal k ++ codes ",seconds = 0], [" ++ lines_of (entries_of ss t.rows) ++ codes "]).\n"

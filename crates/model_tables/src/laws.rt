@@ -1,0 +1,36 @@
+// Laws of the order of tables and of their text: the functions do nothing, and their contracts are the laws.
+ghost use Rattle.std.specs.Prelude.{ℕ, ◌≡◌, ◌∷◌, ◌≤◌, List};
+ghost use Rattle.fol_core.specs.Stated.{Stated, IsCountermodel};
+ghost use Rattle.model_tables.specs.ModelText.{model_text};
+ghost use Rattle.model_tables.specs.Order.{first_of, GoesOn, EachComesOnce, table_count, table_number};
+ghost use Rattle.model_tables.specs.Reads.{TextTells};
+ghost use Rattle.model_tables.specs.Renaming.{IsRenaming};
+ghost use Rattle.model_tables.specs.Size.{IsInterpretation, cell_count};
+ghost use Rattle.model_tables.specs.Tables.{Finite, meaning_of};
+ghost use Rattle.model_tables.specs.Worked.{apart, tables, exchange, tables_text, group_symbols, group, group_text};
+
+/// From the first tables of a size to the last, one step after the other, every interpretation of the size comes just once.
+pub fn each_comes_once()
+    ensures { (n : ℕ) (p : Stated) (ts : List Finite) → 1 ≤ n → GoesOn (first_of n p) ts → EachComesOnce n p (first_of n p ∷ ts) }
+{}
+
+/// The text of an interpretation tells its tables and its number.
+pub fn text_tells()
+    ensures { TextTells }
+{}
+
+/// Tables are a renaming of themselves.
+pub fn renames_itself()
+    ensures { (n : ℕ) (p : Stated) (t : Finite) → IsRenaming n p (λ x. x) t t }
+{}
+
+/// Tables of three elements: they are an interpretation of this size and a countermodel, come at a place among all, and have a
+/// text; with names exchanged they are other tables.
+pub fn worked()
+    ensures interpretation { IsInterpretation 3 apart (tables 0 1) }
+    ensures countermodel { IsCountermodel (meaning_of (tables 0 1)) apart.formulas }
+    ensures place { (cell_count 3 apart ≡ 5) × (table_count (tables 0 1) ≡ 72) × (table_number (tables 0 1) ≡ 9) }
+    ensures text { model_text apart.symbols 7 (tables 0 1) ≡ tables_text }
+    ensures operation { model_text group_symbols 1 group ≡ group_text }
+    ensures renaming { IsRenaming 3 apart exchange (tables 0 1) (tables 1 0) }
+{}
