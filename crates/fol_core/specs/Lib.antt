@@ -14,6 +14,7 @@ pub mod RawFalls
 pub mod RawTree
 pub mod RawView
 pub mod Stated
+pub mod StatedCodes
 pub mod SymbolRows
 pub mod SymbolTable
 pub mod TermFalls

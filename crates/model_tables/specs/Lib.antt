@@ -5,6 +5,7 @@ pub mod Reads
 pub mod Renaming
 pub mod Size
 pub mod Tables
+pub mod TablesCodes
 pub mod TablesLaws
 pub mod Variables
 pub mod Worked

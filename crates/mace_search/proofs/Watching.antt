@@ -1,0 +1,21 @@
+-- A clock that is watched.
+use Rattle.std.proofs.Common.{◌≡◌, ℕ, ◌+◌, ◌<◌, ◌≤◌, ◌==◌, Option, None, Some, refl, ap, ◌∙◌, arith, cond, inl, inr}
+use Rattle.std.proofs.lemmas.Bool.Decides.{nat_tests}
+use Rattle.ladr_io.specs.Times.{Times, later}
+use Rattle.mace_search.specs.Watch.{IsEarly, GoesOn}
+
+-- the first reading stands
+pub first_stays : (t : Times) (now : ℕ) → 0 < t.count → (later t now).first ≡ t.first
+first_stays t now some = grind (arith, nat_tests)
+
+pub goes_on : (stop : Option ℕ) (t t' : Times) (s now : ℕ) → stop ≡ Some s → IsEarly stop t → t' ≡ later t now → GoesOn stop t t'
+goes_on None t t' s now e early l = absurd cc
+goes_on (Some r) t t' s now e early l = ap (λ (x : Times). x.first) l ∙ first_stays t now early.0
+
+pub goes_both : (stop : Option ℕ) (t u v : Times) → GoesOn stop t u → GoesOn stop u v → GoesOn stop t v
+goes_both None t u v h k = k ∙ h
+goes_both (Some s) t u v h k = k ∙ h
+
+pub goes_none : (stop : Option ℕ) (t : Times) → GoesOn stop t t
+goes_none None t = refl
+goes_none (Some s) t = refl

@@ -1,0 +1,5 @@
+pub mod Models
+pub mod Plain
+pub mod PlainView
+pub mod Room
+pub mod Watch
