@@ -12,7 +12,8 @@ use Rattle.fol_core.specs.Truth.{Assignment, with_var, IsWithin, value_of, Holds
 use Rattle.fol_core.specs.Witnesses.{Witness, PicksWitnesses}
 use Rattle.fol_core.proofs.TruthLemmas.{alike_value, alike_values, alike, stable}
 use Rattle.clausify.specs.Clausal.{literal_clauses, clauses_in}
-use Rattle.clausify.specs.Skolem.{Terms, with_term, put_all, skolem_term, somes, witnesses}
+use Rattle.fol_core.specs.Put.{Substitution, with_term, put_all}
+use Rattle.clausify.specs.Skolem.{skolem_term, somes, witnesses}
 use Rattle.clausify.proofs.Clauses.{IsAtom, IsApart, Agree, all_true, crossed_true, test, test_holds, holds_test, signed, literal_true}
 use Rattle.clausify.proofs.Scopes.{Known, known_more, known_term, valued, put_values, put_holds, valued_var, skolem_value, skolem_within, within_var}
 use Rattle.clausify.proofs.Sets.{Set, plus, also, Sub, In, Out, sub_plus, sub_also, in_cases, in_left, in_right, joined_left, joined_right, under}
@@ -77,25 +78,25 @@ out_of u (some x f) a y i = elim (or_cases (y == x) (is_in y (binders_of f)) i) 
 
 module _ (m : Meaning) where
   -- terms that stand for the variables of the set have the same elements
-  agree_valued : (u : Set) (terms : Terms) (d e : Assignment) → Known u terms → Agree u d e → Agree u (valued m d terms) (valued m e terms)
+  agree_valued : (u : Set) (terms : Substitution) (d e : Assignment) → Known u terms → Agree u d e → Agree u (valued m d terms) (valued m e terms)
   agree_valued u terms d e known a y i = alike_value m d e (terms y) (λ z j. a z (known.inside y i z j))
 
-  same_holds : (u : Set) (terms : Terms) (d e : Assignment) (f : Fol) → Known u terms → In (free_vars_of f) u → Agree u d e → Holds m (valued m d terms) f ≡ Holds m (valued m e terms) f
+  same_holds : (u : Set) (terms : Substitution) (d e : Assignment) (f : Fol) → Known u terms → In (free_vars_of f) u → Agree u d e → Holds m (valued m d terms) f ≡ Holds m (valued m e terms) f
   same_holds u terms d e f known free a = alike m (valued m d terms) (valued m e terms) f (λ y i. agree_valued u terms d e known a y (free y i))
 
   module _ (symbols : List ℕ) where
-    abbrev said_true : Assignment → ℕ → List ℕ → Terms → Fol → Bool
+    abbrev said_true : Assignment → ℕ → List ℕ → Substitution → Fol → Bool
     said_true e k scope terms f = all_true m e (clauses_in symbols k scope terms f)
 
     abbrev term_at : ℕ → List ℕ → Tree
     term_at k scope = skolem_term (slice_index symbols k) scope
 
-    same_arguments : (u : Set) (terms : Terms) (d e : Assignment) (positive : Bool) (r : ℕ) (ts : Trees) → Known u terms → In (variables_of_all ts) u → Agree u d e
+    same_arguments : (u : Set) (terms : Substitution) (d e : Assignment) (positive : Bool) (r : ℕ) (ts : Trees) → Known u terms → In (variables_of_all ts) u → Agree u d e
         → all_true m d ((literal positive (app r (put_all terms ts)) ∷ []) ∷ []) ≡ all_true m e ((literal positive (app r (put_all terms ts)) ∷ []) ∷ [])
     same_arguments u terms d e positive r ts known free a = ap (λ xs. (signed m positive (if r == equality then are_equal xs else m.relation r xs) || false) && true)
         (put_values m d terms ts ∙ alike_values m (valued m d terms) (valued m e terms) ts (λ y i. agree_valued u terms d e known a y (free y i)) ∙ sym (put_values m e terms ts))
 
-    same_literals : (u : Set) (terms : Terms) (d e : Assignment) (positive : Bool) (f : Fol) → Known u terms → In (free_vars_of f) u → Agree u d e
+    same_literals : (u : Set) (terms : Substitution) (d e : Assignment) (positive : Bool) (f : Fol) → Known u terms → In (free_vars_of f) u → Agree u d e
         → all_true m d (literal_clauses terms positive f) ≡ all_true m e (literal_clauses terms positive f)
     same_literals u terms d e true verum known free a = refl
     same_literals u terms d e false verum known free a = refl
@@ -112,7 +113,7 @@ module _ (m : Meaning) where
     same_literals u terms d e positive (some x f) known free a = refl
 
     -- the truth of clauses depends on the variables in scope and those that are bound
-    same_clauses : (u : Set) (k : ℕ) (scope : List ℕ) (terms : Terms) (d e : Assignment) (f : Fol) → In (free_vars_of f) u → Known u terms → In scope u
+    same_clauses : (u : Set) (k : ℕ) (scope : List ℕ) (terms : Substitution) (d e : Assignment) (f : Fol) → In (free_vars_of f) u → Known u terms → In scope u
         → Agree u d e → ((y : ℕ) → IsTrue (is_in y (binders_of f)) → d y ≡ e y) → said_true d k scope terms f ≡ said_true e k scope terms f
     same_clauses u k scope terms d e verum free known scoped a b = refl
     same_clauses u k scope terms d e falsum free known scoped a b = refl
@@ -142,7 +143,7 @@ module _ (m : Meaning) where
         (agree_plus u x (binders_of f) d e a b) (λ y i. b y (or_right (y == x) (is_in y (binders_of f)) i))
 
     -- the Skolem term's element
-    picked : (terms : Terms) (e : Assignment) (k : ℕ) (scope : List ℕ) (x : ℕ)
+    picked : (terms : Substitution) (e : Assignment) (k : ℕ) (scope : List ℕ) (x : ℕ)
         → ◌≡◌ {A = Assignment} (valued m e (with_term terms x (term_at k scope))) (with_var (valued m e terms) x (m.function (slice_index symbols k) (map e scope)))
     picked terms e k scope x = λ i y. by (y == x) y i
       where
@@ -151,7 +152,7 @@ module _ (m : Meaning) where
         by false y = refl
 
     -- If the form is false, some assignment with the same elements in scope makes some clause false.
-    pub suffice : IsLawful m → (u : Set) (k : ℕ) (scope : List ℕ) (terms : Terms) (e : Assignment) (f : Fol)
+    pub suffice : IsLawful m → (u : Set) (k : ℕ) (scope : List ℕ) (terms : Substitution) (e : Assignment) (f : Fol)
         → IsApart u f → In (free_vars_of f) u → Known u terms → In scope u → IsWithin m e → ¬ Holds m (valued m e terms) f
         → ((d : Assignment) → IsWithin m d → Agree u d e → said_true d k scope terms f ≡ false → ⊥) → ⊥
     suffice lawful u k scope terms e verum apart free known scoped w wrong each = wrong tt
@@ -230,7 +231,7 @@ module _ (m : Meaning) where
             at false h = refl
 
     -- If the form is true and its witnesses are picked, all clauses are true.
-    pub follow : (u : Set) (k : ℕ) (scope : List ℕ) (terms : Terms) (e : Assignment) (f : Fol)
+    pub follow : (u : Set) (k : ℕ) (scope : List ℕ) (terms : Substitution) (e : Assignment) (f : Fol)
         → IsApart u f → Known u terms → In scope u → IsWithin m e → PicksWitnesses m (witnesses symbols k scope terms f) → Holds m (valued m e terms) f
         → said_true e k scope terms f ≡ true
     follow u k scope terms e verum apart known scoped w picks h = refl

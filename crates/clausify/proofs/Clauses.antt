@@ -11,7 +11,7 @@ use Rattle.fol_core.specs.Literals.{Lit, literal, ClauseTree, equality, is_true_
 use Rattle.fol_core.specs.Meaning.{Meaning}
 use Rattle.fol_core.specs.Truth.{Assignment, value_of, values_of, Holds}
 use Rattle.clausify.specs.Clausal.{with_each, crossed, literal_clauses}
-use Rattle.clausify.specs.Skolem.{Terms, put, put_all}
+use Rattle.fol_core.specs.Put.{Substitution, put, put_all}
 use Rattle.clausify.proofs.Scopes.{valued, put_value, put_values}
 use Rattle.clausify.proofs.Sets.{Set, plus, also}
 
@@ -102,7 +102,7 @@ module _ (m : Meaning) where
   one_true e l = and-true (is_true_literal m e l || false) ∙ or-false (is_true_literal m e l)
 
   -- the clauses of an atom or its denial say what its test does
-  pub literal_true : (e : Assignment) (terms : Terms) (positive : Bool) (f : Fol) → IsAtom f
+  pub literal_true : (e : Assignment) (terms : Substitution) (positive : Bool) (f : Fol) → IsAtom f
       → all_true e (literal_clauses terms positive f) ≡ signed positive (test (valued m e terms) f)
   literal_true e terms true verum a = refl
   literal_true e terms false verum a = refl

@@ -1,8 +1,17 @@
 mod Claims
 mod Clauses
+mod Closures
+mod Crossing
+mod Denials
 mod FormSets
 mod FormTruth
 mod WholeLaws
+mod Works
+mod Marks
+mod NameLemmas
 mod Numbering
+mod Rows
 mod Scopes
+mod Seeing
 mod Sets
+mod SkolemLemmas

@@ -1,14 +1,16 @@
 -- A clause says the same with its variables numbered anew.
-use Rattle.std.proofs.Common.{◌≡◌, ◌⊎◌, inl, inr, ℕ, suc, Bool, true, false, not, ◌==◌, ◌||◌, if◌then◌else◌, IsTrue, List, [], ◌∷◌, map, slice_index, refl, sym, ap, ap₂, ◌∙◌}
-use Rattle.std.proofs.lemmas.Bool.{or_cases, eqb-true, false≢true}
+use Rattle.std.proofs.Common.{◌≡◌, ◌⊎◌, inl, inr, ℕ, suc, Bool, true, false, not, ◌==◌, ◌||◌, if◌then◌else◌, IsTrue, List, [], ◌∷◌, map, slice_index, Option, Some, None, is_some, unwrap_or, option_map, refl, sym, ap, ap₂, ◌∙◌}
+use Rattle.std.proofs.lemmas.Bool.{eqb-true, false≢true}
+use Rattle.fol_core.specs.SymbolTable.{first_place}
+use Rattle.fol_core.proofs.Places.{first_place-any}
 use Rattle.fol_core.specs.Tree.{Tree, var, elem, app}
 use Rattle.fol_core.specs.Free.{is_in, variables_of}
 use Rattle.fol_core.specs.Literals.{Lit, literal, ClauseTree, equality, are_equal, is_true_literal, is_true_clause, IsTrueClause}
 use Rattle.fol_core.specs.Meaning.{Meaning}
 use Rattle.fol_core.specs.Truth.{Assignment}
 use Rattle.fol_core.proofs.TruthLemmas.{alike_values}
-use Rattle.clausify.specs.Clausal.{clause_variables, place_in, renumbered}
-use Rattle.clausify.specs.Skolem.{put}
+use Rattle.fol_core.specs.Renumbered.{clause_variables, place_in, renumbered}
+use Rattle.fol_core.specs.Put.{put}
 use Rattle.clausify.proofs.Scopes.{put_values}
 use Rattle.clausify.proofs.Sets.{joined_left, joined_right}
 use Rattle.clausify.proofs.FormSets.{members}
@@ -16,13 +18,13 @@ use Rattle.clausify.proofs.FormSets.{members}
 -- the number at its place
 at_place : (xs : List ℕ) (x : ℕ) → IsTrue (is_in x xs) → slice_index xs (place_in xs x) ≡ x
 at_place [] x i = absurd (false≢true i)
-at_place (y ∷ ys) x i = by (x == y) refl (or_cases (x == y) (is_in x ys) i) (at_place ys x)
+at_place (y ∷ ys) x i = by (x == y) refl (first_place (λ z. x == z) ys) refl (at_place ys x)
   where
-    by : (b : Bool) → (x == y) ≡ b → (IsTrue (x == y) ⊎ IsTrue (is_in x ys)) → (IsTrue (is_in x ys) → slice_index ys (place_in ys x) ≡ x)
-        → slice_index (y ∷ ys) (if b then 0 else suc (place_in ys x)) ≡ x
-    by true e c rest = sym (eqb-true x y e)
-    by false e (inl h) rest = absurd (false≢true (sym e ∙ h))
-    by false e (inr h) rest = rest h
+    by : (b : Bool) → (x == y) ≡ b → (o : Option ℕ) → first_place (λ z. x == z) ys ≡ o → (IsTrue (is_in x ys) → slice_index ys (place_in ys x) ≡ x)
+        → slice_index (y ∷ ys) (unwrap_or (if b then Some 0 else option_map suc o) 0) ≡ x
+    by true e o is rest = sym (eqb-true x y e)
+    by false e None is rest = absurd (false≢true (ap is_some (sym is) ∙ first_place-any (λ z. x == z) ys ∙ sym (ap (λ b. b || is_in x ys) e) ∙ i))
+    by false e (Some n) is rest = ap (λ o. slice_index ys (unwrap_or o 0)) (sym is) ∙ rest (sym (ap (λ b. b || is_in x ys) e) ∙ i)
 
 module _ (m : Meaning) where
   -- a literal's truth by its arguments' values

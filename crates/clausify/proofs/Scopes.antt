@@ -1,4 +1,4 @@
--- Terms that stand for variables, and truth under them.
+-- Substitution that stand for variables, and truth under them.
 use Rattle.std.proofs.Common.{◌≡◌, ◌⊎◌, inl, inr, ℕ, Bool, true, false, ◌==◌, ◌||◌, if◌then◌else◌, IsTrue, List, [], ◌∷◌, map, refl, sym, ap, ap₂, ◌∙◌, subst}
 use Rattle.std.proofs.lemmas.Bool.{or_left, or_right, or_parts, or_cases, eqb-true, eq-eqb, false≢true, true≢false, cases_Bool}
 use Rattle.fol_core.specs.Tree.{Tree, var, elem, app, Trees, none, more, trees_of}
@@ -9,11 +9,12 @@ use Rattle.fol_core.specs.Meaning.{Meaning, AllWithin, IsLawful}
 use Rattle.fol_core.specs.Truth.{Assignment, with_var, IsWithin, value_of, values_of, Holds}
 use Rattle.fol_core.proofs.TruthLemmas.{alike_value}
 use Rattle.fol_core.proofs.Variables.{is_in_joined}
-use Rattle.clausify.specs.Skolem.{Terms, with_term, put, put_all, put_in, skolem_term}
+use Rattle.fol_core.specs.Put.{Substitution, with_term, put, put_all}
+use Rattle.clausify.specs.Skolem.{put_in, skolem_term}
 use Rattle.clausify.proofs.Sets.{Set, plus, Sub, In, Out, in_left, in_right}
 
 -- Inside the set terms have variables of the set, and outside each variable stands for itself.
-pub record Known (u : Set) (terms : Terms) : Type 0 where
+pub record Known (u : Set) (terms : Substitution) : Type 0 where
   pub inside : (y : ℕ) → IsTrue (u y) → In (variables_of (terms y)) u
   pub outside : (y : ℕ) → u y ≡ false → terms y ≡ var y
 
@@ -28,7 +29,7 @@ one_in : (y z : ℕ) → IsTrue (is_in z (y ∷ [])) → z ≡ y
 one_in y z i = elim (or_cases (z == y) false i) [ inl e ↦ eqb-true z y e | inr e ↦ absurd (false≢true e) ]
 
 -- a greater set does as well
-pub known_more : (u v : Set) (terms : Terms) → Sub u v → Known u terms → Known v terms
+pub known_more : (u v : Set) (terms : Substitution) → Sub u v → Known u terms → Known v terms
 known_more u v terms sub known = record {
   inside = λ y i. elim (either_in u y) [
     | inl h ↦ λ z j. sub z (known.inside y h z j)
@@ -48,7 +49,7 @@ noted_in z (x ∷ xs) i = elim (or_cases (is_in z (x ∷ [])) (is_in z (variable
 ]
 
 -- a Skolem term for one more variable
-pub known_term : (u : Set) (terms : Terms) (scope : List ℕ) (y s : ℕ) → Known u terms → In scope u → Known (plus y u) (with_term terms y (skolem_term s scope))
+pub known_term : (u : Set) (terms : Substitution) (scope : List ℕ) (y s : ℕ) → Known u terms → In scope u → Known (plus y u) (with_term terms y (skolem_term s scope))
 known_term u terms scope y s known scoped = record {
   inside = λ z i. inside z (z == y) refl i;
   outside = λ z o. let parts = or_parts (z == y) (u z) o in ap (λ b. if b then skolem_term s scope else terms z) parts.0 ∙ known.outside z parts.1;
@@ -60,16 +61,16 @@ known_term u terms scope y s known scoped = record {
 
 module _ (m : Meaning) where
   -- the elements of the terms that stand for variables
-  abbrev pub valued : Assignment → Terms → Assignment
+  abbrev pub valued : Assignment → Substitution → Assignment
   valued e terms = λ x. value_of m e (terms x)
 
   mutual
-    pub put_value : (e : Assignment) (terms : Terms) (t : Tree) → value_of m e (put terms t) ≡ value_of m (valued e terms) t
+    pub put_value : (e : Assignment) (terms : Substitution) (t : Tree) → value_of m e (put terms t) ≡ value_of m (valued e terms) t
     put_value e terms (var x) = refl
     put_value e terms (elem k) = refl
     put_value e terms (app f ts) = ap (m.function f) (put_values e terms ts)
 
-    pub put_values : (e : Assignment) (terms : Terms) (ts : Trees) → values_of m e (put_all terms ts) ≡ values_of m (valued e terms) ts
+    pub put_values : (e : Assignment) (terms : Substitution) (ts : Trees) → values_of m e (put_all terms ts) ≡ values_of m (valued e terms) ts
     put_values e terms none = refl
     put_values e terms (more t ts) = ap₂ (λ v vs. v ∷ vs) (put_value e terms t) (put_values e terms ts)
 
@@ -97,7 +98,7 @@ module _ (m : Meaning) where
       by false y = w y
 
   -- Where the variable isn't in the set, terms stand for the same elements but there.
-  pub valued_var : (u : Set) (terms : Terms) (e : Assignment) (x n : ℕ) → Known u terms → u x ≡ false
+  pub valued_var : (u : Set) (terms : Substitution) (e : Assignment) (x n : ℕ) → Known u terms → u x ≡ false
       → ◌≡◌ {A = Assignment} (valued (with_var e x n) terms) (with_var (valued e terms) x n)
   valued_var u terms e x n known new = λ i y. at y i
     where
@@ -115,7 +116,7 @@ module _ (m : Meaning) where
       ]
 
   -- the terms put in, a formula is true where it is so of their elements
-  pub put_holds : (u : Set) (terms : Terms) (e : Assignment) (f : Fol) → Known u terms → Out (binders_of f) u → Holds m e (put_in terms f) ≡ Holds m (valued e terms) f
+  pub put_holds : (u : Set) (terms : Substitution) (e : Assignment) (f : Fol) → Known u terms → Out (binders_of f) u → Holds m e (put_in terms f) ≡ Holds m (valued e terms) f
   put_holds u terms e verum known new = refl
   put_holds u terms e falsum known new = refl
   put_holds u terms e (equal s t) known new = λ i. put_value e terms s i ≡ put_value e terms t i

@@ -1,5 +1,5 @@
 -- The clauses of all formulas.
-use Rattle.std.proofs.Common.{◌≡◌, ℕ, ◌+◌, Bool, true, false, not, ◌==◌, ◌||◌, ◌&&◌, if◌then◌else◌, IsTrue, List, [], ◌∷◌, ◌++◌, map, refl, sym, ap, ◌∙◌}
+use Rattle.std.proofs.Common.{◌≡◌, ℕ, ◌+◌, ◌≤◌, Bool, true, false, not, ◌==◌, ◌||◌, ◌&&◌, if◌then◌else◌, IsTrue, List, [], ◌∷◌, ◌++◌, map, refl, sym, ap, ◌∙◌, arith}
 use Rattle.std.proofs.lemmas.Bool.{and_parts, and_from, false≢true, true≢false}
 use Rattle.fol_core.specs.Tree.{var}
 use Rattle.fol_core.specs.Fol.{Fol}
@@ -14,7 +14,8 @@ use Rattle.fol_core.specs.declared.problem.Role.{Role}
 use Rattle.fol_core.specs.declared.problem.Role.TheVariants.{Assumption, Goal}
 use Rattle.fol_core.proofs.TruthLemmas.{stable, free_decide}
 use Rattle.fol_core.proofs.Variables.{is_in_without}
-use Rattle.clausify.specs.Clausal.{clauses_in, renumbered}
+use Rattle.fol_core.specs.Renumbered.{renumbered}
+use Rattle.clausify.specs.Clausal.{clauses_in}
 use Rattle.clausify.specs.Forms.{form_of}
 use Rattle.clausify.specs.Input.{AreSound, Row, form, is_taken, rows_from, witnesses_from}
 use Rattle.clausify.specs.Laws.{AreTrueRows}
@@ -121,3 +122,8 @@ module _ (m : Meaning) where
     all_follow n k (s ∷ ss) sound picks h = true_rows n (clauses_in symbols k [] var (form s)) (rows_from symbols (n + 1) (k + somes (form s)) ss)
         (role_follows k s.role s.formula sound.0 sound.1 (picks_left m symbols (witnesses symbols k [] var (form s)) (witnesses_from symbols (k + somes (form s)) ss) picks) h.0)
         (all_follow (n + 1) (k + somes (form s)) ss sound.2 (picks_right m symbols (witnesses symbols k [] var (form s)) (witnesses_from symbols (k + somes (form s)) ss) picks) h.1)
+
+-- symbols below a smaller number
+pub sound_below : (small great : ℕ) (ss : List Said) → small ≤ great → AreSound small ss → AreSound great ss
+sound_below small great [] le sound = tt
+sound_below small great (s ∷ ss) le sound = (sound.0, λ n i. let lt = sound.1 n i in omega arith, sound_below small great ss le sound.2)

@@ -4,7 +4,8 @@ use Rattle.fol_core.specs.Tree.{var, app, none, more}
 use Rattle.fol_core.specs.Fol.{Fol, verum, falsum, equal, atom, denied, both, either, every, some}
 use Rattle.fol_core.specs.Free.{variables_of, joined}
 use Rattle.fol_core.specs.Literals.{literal, ClauseTree, equality}
-use Rattle.clausify.specs.Skolem.{Terms, with_term, put, put_all, skolem_term, somes}
+use Rattle.fol_core.specs.Put.{Substitution, with_term, put, put_all}
+use Rattle.clausify.specs.Skolem.{skolem_term, somes}
 
 -- the literals of a clause and of each of some others
 abbrev pub with_each : ClauseTree → List ClauseTree → List ClauseTree
@@ -17,7 +18,7 @@ crossed [] ds = []
 crossed (c ∷ cs) ds = with_each c ds ++ crossed cs ds
 
 -- the one clause of an atom or its denial; "true" and "not false" have no clause, "false" and "not true" the empty one
-abbrev pub literal_clauses : Terms → Bool → Fol → List ClauseTree
+abbrev pub literal_clauses : Substitution → Bool → Fol → List ClauseTree
 literal_clauses terms positive verum = if positive then [] else [] ∷ []
 literal_clauses terms positive falsum = if positive then [] ∷ [] else []
 literal_clauses terms positive (equal s t) = (literal positive (app equality (more (put terms s) (more (put terms t) none))) ∷ []) ∷ []
@@ -26,24 +27,10 @@ literal_clauses terms positive f = []
 
 -- The clauses of a negation form, with Skolem terms put in: those of "A and B" are A's, then B's; those of "A or B" the
 -- crossed ones, where a clause with "true" is dropped and "false" is left out. Symbols, scope and terms as for witnesses.
-abbrev pub clauses_in : List ℕ → ℕ → List ℕ → Terms → Fol → List ClauseTree
+abbrev pub clauses_in : List ℕ → ℕ → List ℕ → Substitution → Fol → List ClauseTree
 clauses_in symbols k scope terms (both f g) = clauses_in symbols k scope terms f ++ clauses_in symbols (k + somes f) scope terms g
 clauses_in symbols k scope terms (either f g) = crossed (clauses_in symbols k scope terms f) (clauses_in symbols (k + somes f) scope terms g)
 clauses_in symbols k scope terms (every x f) = clauses_in symbols k (scope ++ x ∷ []) terms f
 clauses_in symbols k scope terms (some y f) = clauses_in symbols (k + 1) scope (with_term terms y (skolem_term (slice_index symbols k) scope)) f
 clauses_in symbols k scope terms (denied f) = literal_clauses terms false f
 clauses_in symbols k scope terms f = literal_clauses terms true f
-
--- the variables of a clause, each once, by first occurrence
-abbrev pub clause_variables : ClauseTree → List ℕ
-clause_variables [] = []
-clause_variables (l ∷ c) = joined (variables_of l.atom) (clause_variables c)
-
--- the place of a number in a list, and its length where it isn't there
-abbrev pub place_in : List ℕ → ℕ → ℕ
-place_in [] x = 0
-place_in (y ∷ ys) x = if x == y then 0 else suc (place_in ys x)
-
--- the clause with its variables numbered by first occurrence
-abbrev pub renumbered : ClauseTree → ClauseTree
-renumbered c = map (λ l. literal l.positive (put (λ x. var (place_in (clause_variables c) x)) l.atom)) c

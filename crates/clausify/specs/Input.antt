@@ -6,14 +6,15 @@ use Rattle.fol_core.specs.Fol.{Fol, verum, falsum, equal, atom, denied, both, ei
 use Rattle.fol_core.specs.Bound.{BindsOnce, HasSymbolsBelow, uses_symbol}
 use Rattle.fol_core.specs.Free.{closure_of}
 use Rattle.fol_core.specs.Literals.{ClauseTree}
-use Rattle.fol_core.specs.Stated.{Said}
+use Rattle.fol_core.specs.Stated.{Said, Stated}
 use Rattle.fol_core.specs.SymbolTable.{Symbol}
 use Rattle.fol_core.specs.Witnesses.{Witness}
 use Rattle.fol_core.specs.declared.problem.Role.{Role}
 use Rattle.fol_core.specs.declared.problem.Role.TheVariants.{Assumption, Goal}
-use Rattle.clausify.specs.Clausal.{clauses_in, renumbered}
+use Rattle.fol_core.specs.Renumbered.{renumbered}
+use Rattle.clausify.specs.Clausal.{clauses_in}
 use Rattle.clausify.specs.Forms.{form_of, clause_count}
-use Rattle.clausify.specs.Names.{skolem_symbols}
+use Rattle.clausify.specs.Names.{skolem_symbols, all_entered, entered_numbers}
 use Rattle.clausify.specs.Skolem.{somes, arities, witnesses}
 
 -- whether a formula is taken as it stands; a goal's denial is taken
@@ -110,3 +111,21 @@ numeral_of before (s ∷ ss) = numeral_of (greatest_of before s.formula) ss
 abbrev pub AreSound : ℕ → List Said → Type 0
 AreSound size [] = Unit {0}
 AreSound size (s ∷ ss) = BindsOnce s.formula × HasSymbolsBelow size s.formula × AreSound size ss
+
+-- the formulas bind variables once, and have symbols of the table alone
+abbrev pub IsSound : Stated → Type 0
+IsSound p = AreSound (length p.symbols) p.formulas
+
+-- the numbers of the Skolem symbols as they are entered into a table, and the table then
+abbrev pub skolem_numbers : List Symbol → Stated → List ℕ
+skolem_numbers table p = entered_numbers table (skolems p.symbols p.formulas)
+
+abbrev pub with_skolems : List Symbol → Stated → List Symbol
+with_skolems table p = all_entered table (skolems p.symbols p.formulas)
+
+-- the clauses and the witnesses, with the numbers of that table
+abbrev pub clauses_in_table : List Symbol → Stated → List Row
+clauses_in_table table p = all_rows (skolem_numbers table p) p.formulas
+
+abbrev pub witnesses_in_table : List Symbol → Stated → List Witness
+witnesses_in_table table p = all_witnesses (skolem_numbers table p) p.formulas

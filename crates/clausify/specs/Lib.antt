@@ -1,7 +1,12 @@
+pub mod Capped
 pub mod Clausal
 pub mod Forms
 pub mod Input
 pub mod Laws
+pub mod Made
 pub mod Names
+pub mod OneElement
+pub mod Seen
 pub mod Skolem
+pub mod View
 pub mod Worked

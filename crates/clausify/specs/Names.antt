@@ -1,10 +1,10 @@
 -- The names of Skolem symbols, and their numbers in a table.
-use Rattle.std.specs.Prelude.{ℕ, zero, suc, ◌+◌, Bool, if◌then◌else◌, length, List, [], ◌∷◌, map, unwrap_or}
+use Rattle.std.specs.Prelude.{ℕ, zero, suc, ◌≡◌, ◌⊎◌, ◌+◌, ◌==◌, Bool, true, false, if◌then◌else◌, length, List, [], ◌∷◌, unwrap_or}
 use Rattle.std.specs.List.{list_any}
 use Rattle.std.specs.Str.{bytes_eq}
 use Rattle.std.specs.Fmt.{decimal}
-use Rattle.fol_core.specs.SymbolTable.{Symbol, symbol, number_of, entered}
-use Rattle.fol_core.specs.declared.symbols.Kind.TheVariants.{Function}
+use Rattle.fol_core.specs.SymbolTable.{Symbol, symbol, number_of, entered, kind_at, name_at}
+use Rattle.fol_core.specs.declared.symbols.Kind.TheVariants.{Function, Relation}
 
 -- a letter with a number behind it
 abbrev pub numbered : ℕ → ℕ → List ℕ
@@ -23,20 +23,42 @@ free_from table letter (suc most) n = if is_named table (numbered letter n) then
 abbrev pub next_free : List Symbol → ℕ → ℕ → ℕ
 next_free table letter n = free_from table letter (length table) (n + 1)
 
--- The Skolem symbols with these arities, whose names are c1, c2, .. without arguments and f1, f2, .. with, no name of the
--- input's symbols being taken; the last numbers so far are c and f.
+-- the name of a Skolem symbol with so many arguments, where the last numbers were c and f: c1, c2, .. without, f1, f2, .. with
+abbrev pub next_name : List Symbol → ℕ → ℕ → ℕ → List ℕ
+next_name input c f arity = if arity == 0 then numbered 99 (next_free input 99 c) else numbered 102 (next_free input 102 f)
+
+-- the last numbers after it
+abbrev pub next_constant : List Symbol → ℕ → ℕ → ℕ
+next_constant input c arity = if arity == 0 then next_free input 99 c else c
+
+abbrev pub next_function : List Symbol → ℕ → ℕ → ℕ
+next_function input f arity = if arity == 0 then f else next_free input 102 f
+
+-- the Skolem symbols with these arities, no name of the input's symbols being taken
 abbrev pub skolem_symbols : List Symbol → ℕ → ℕ → List ℕ → List Symbol
 skolem_symbols input c f [] = []
-skolem_symbols input c f (zero ∷ arities) =
-    symbol (numbered 99 (next_free input 99 c)) 0 Function ∷ skolem_symbols input (next_free input 99 c) f arities
-skolem_symbols input c f (suc n ∷ arities) =
-    symbol (numbered 102 (next_free input 102 f)) (suc n) Function ∷ skolem_symbols input c (next_free input 102 f) arities
+skolem_symbols input c f (arity ∷ arities) =
+    symbol (next_name input c f arity) arity Function ∷ skolem_symbols input (next_constant input c arity) (next_function input f arity) arities
 
 -- the table with these symbols at its end, but for those that stand in it
 abbrev pub all_entered : List Symbol → List Symbol → List Symbol
 all_entered table [] = table
 all_entered table (s ∷ ss) = all_entered (entered table s) ss
 
--- the number of each symbol in a table
-abbrev pub numbers_of : List Symbol → List Symbol → List ℕ
-numbers_of table ss = map (λ s. unwrap_or (number_of table s.name s.arity) 0) ss
+-- the number of each as it is entered
+abbrev pub entered_numbers : List Symbol → List Symbol → List ℕ
+entered_numbers table [] = []
+entered_numbers table (s ∷ ss) = unwrap_or (number_of (entered table s) s.name s.arity) 0 ∷ entered_numbers (entered table s) ss
+
+-- A relation of the table that is named like a Skolem symbol has a name of the input.
+abbrev pub HasNoSkolemRelation : List Symbol → List Symbol → Type 0
+HasNoSkolemRelation input table = (r letter n : ℕ) → kind_at table r ≡ Relation → (letter ≡ 99) ⊎ (letter ≡ 102) → name_at table r ≡ numbered letter n
+    → is_named input (numbered letter n) ≡ true
+
+-- the name is one of a Skolem symbol, and no name of the input
+pub record IsNew (input : List Symbol) (name : List ℕ) : Type 0 where
+  pub letter : ℕ
+  pub number : ℕ
+  pub skolem : (letter ≡ 99) ⊎ (letter ≡ 102)
+  pub is : name ≡ numbered letter number
+  pub free : is_named input name ≡ false

@@ -2,29 +2,11 @@
 use Rattle.std.specs.Prelude.{ℕ, ◌+◌, ◌==◌, if◌then◌else◌, List, [], ◌∷◌, ◌++◌, map, slice_index}
 use Rattle.fol_core.specs.Tree.{Tree, var, elem, app, Trees, none, more, trees_of}
 use Rattle.fol_core.specs.Fol.{Fol, verum, falsum, equal, atom, denied, both, either, implies, iff, every, some}
+use Rattle.fol_core.specs.Put.{Substitution, with_term, put, put_all}
 use Rattle.fol_core.specs.Witnesses.{Witness}
 
--- a term for each variable
-abbrev pub Terms : Type 0
-Terms = ℕ → Tree
-
--- with this term for one of them
-abbrev pub with_term : Terms → ℕ → Tree → Terms
-with_term terms y t = λ x. if x == y then t else terms x
-
-abbrev mutual
-  -- a term with terms put in for its variables
-  pub put : Terms → Tree → Tree
-  put terms (var x) = terms x
-  put terms (elem k) = elem k
-  put terms (app f ts) = app f (put_all terms ts)
-
-  pub put_all : Terms → Trees → Trees
-  put_all terms none = none
-  put_all terms (more t ts) = more (put terms t) (put_all terms ts)
-
 -- a formula with terms put in for its variables; its quantifiers stay
-abbrev pub put_in : Terms → Fol → Fol
+abbrev pub put_in : Substitution → Fol → Fol
 put_in terms verum = verum
 put_in terms falsum = falsum
 put_in terms (equal s t) = equal (put terms s) (put terms t)
@@ -59,7 +41,7 @@ arities n f = []
 
 -- What each is to pick: the symbols are numbers by the place of their existential variable, the first being at place k; the
 -- scope has the universal variables around, outermost first; and terms stand for the existential variables around.
-abbrev pub witnesses : List ℕ → ℕ → List ℕ → Terms → Fol → List Witness
+abbrev pub witnesses : List ℕ → ℕ → List ℕ → Substitution → Fol → List Witness
 witnesses symbols k scope terms (both f g) = witnesses symbols k scope terms f ++ witnesses symbols (k + somes f) scope terms g
 witnesses symbols k scope terms (either f g) = witnesses symbols k scope terms f ++ witnesses symbols (k + somes f) scope terms g
 witnesses symbols k scope terms (every x f) = witnesses symbols k (scope ++ x ∷ []) terms f

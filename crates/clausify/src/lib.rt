@@ -1,6 +1,23 @@
 // The clauses of a problem, and the witnesses that its Skolem symbols are.
 #![tactic(auto)]
 
+mod arity;
+mod clausal;
+mod counts;
+mod error;
+mod form;
+mod inputs;
 mod laws;
+mod limit;
+mod names;
+mod problem;
+mod put;
+mod seen;
+mod skolem;
 
+pub use error::ClauseError;
 pub use laws::{clauses_follow, clauses_suffice, worked};
+pub use problem::clauses_of;
+
+#[cfg(test)]
+mod tests;

@@ -57,7 +57,7 @@ joined_noted f xs y = by (is_in y xs) refl
     by false h = joined_append f xs (y ∷ [])
 
 -- to join a list is to join its parts in turn
-joined_joined : (f xs ys : List ℕ) → joined f (joined xs ys) ≡ joined (joined f xs) ys
+pub joined_joined : (f xs ys : List ℕ) → joined f (joined xs ys) ≡ joined (joined f xs) ys
 joined_joined f xs [] = refl
 joined_joined f xs (y ∷ ys) = joined_joined f (noted xs y) ys ∙ ap (λ l. joined l ys) (joined_noted f xs y)
 
@@ -93,7 +93,7 @@ without_joined x xs (y ∷ ys) = without_joined x (noted xs y) ys ∙ ap (λ l. 
     by true = refl
     by false = refl
 
-once_joined : (xs ys : List ℕ) → joined [] xs ≡ xs → joined [] (joined xs ys) ≡ joined xs ys
+pub once_joined : (xs ys : List ℕ) → joined [] xs ≡ xs → joined [] (joined xs ys) ≡ joined xs ys
 once_joined xs ys h = joined_joined [] xs ys ∙ ap (λ l. joined l ys) h
 
 pub outside_none : (bs : List ℕ) → outside bs [] ≡ []
@@ -132,7 +132,7 @@ joined_one f bs x = ap (joined f) (outside_one bs x) ∙ by (is_in x bs)
     by false = refl
 
 mutual
-  once : (t : Tree) → joined [] (variables_of t) ≡ variables_of t
+  pub once : (t : Tree) → joined [] (variables_of t) ≡ variables_of t
   once (var x) = refl
   once (elem k) = refl
   once (app f ts) = once_all ts

@@ -70,7 +70,11 @@ fn add_free(
 
 // Adds the variables of a term that aren't bound around it.
 #[tactic(auto, using(crate::proofs::Variables::variables_next, crate::proofs::Variables::variables_end, crate::proofs::Variables::outside_none, crate::proofs::Variables::joined_one))]
-fn add_variables(term: &Term, bound: &[u64], found: &mut IndexSet<u64>) -> Result<(), AllocError>
+pub fn add_variables(
+    term: &Term,
+    bound: &[u64],
+    found: &mut IndexSet<u64>,
+) -> Result<(), AllocError>
     ensures { OnOk result (found.new.keys ≡ joined found.old.keys (outside bound.now (variables_of (tree_of term.now)))) }
 {
     match term {

@@ -1,0 +1,72 @@
+-- The denial of a closure: a Skolem constant for each free variable.
+use Rattle.std.proofs.Common.{◌≡◌, ◌<◌, ◌≤◌, ℕ, suc, ◌+◌, ◌-◌, Bool, true, false, List, [], ◌∷◌, ◌++◌, length, drop, get_or, map, refl, sym, ap, ap₂, ◌∙◌, arith, add-one, drop-cons, append_assoc, slice_index, subst}
+use Rattle.std.proofs.lemmas.List.{drop_all}
+use Rattle.fol_core.specs.EntryView.{witness_of}
+use Rattle.fol_core.specs.Fol.{Fol, some}
+use Rattle.fol_core.specs.Free.{closed_over}
+use Rattle.fol_core.specs.Put.{Substitution, with_term}
+use Rattle.fol_core.specs.Witnesses.{Witness}
+use Rattle.clausify.specs.Clausal.{clauses_in}
+use Rattle.clausify.specs.Forms.{form_of}
+use Rattle.clausify.specs.Made.{clauses_at, witnesses_at, Begins, Leads, Notes, Works}
+use Rattle.clausify.specs.Skolem.{put_in, somes, witnesses, skolem_term}
+use Rattle.clausify.specs.View.{terms_of}
+use Rattle.clausify.specs.declared.clausal.Work.{Work}
+
+front : (xs : List ℕ) (i : ℕ) → i < length xs → drop i xs ≡ get_or xs i 0 ∷ drop (i + 1) xs
+front xs i lt = rw (add-one, drop-cons xs i 0) refl
+
+-- one more variable is bound around
+pub bound_next : (values : Substitution) (xs : List ℕ) (f : Fol) (i j : ℕ) → i < length xs → j ≡ i + 1
+    → some (get_or xs i 0) (put_in values (form_of false (closed_over (drop j xs) f))) ≡ put_in values (form_of false (closed_over (drop i xs) f))
+bound_next values xs f i j lt is =
+    ap (λ k. some (get_or xs i 0) (put_in values (form_of false (closed_over (drop k xs) f)))) is ∙ sym (ap (λ ys. put_in values (form_of false (closed_over ys f))) (front xs i lt))
+
+pub bound_none : (values : Substitution) (xs : List ℕ) (f : Fol) → put_in values (form_of false f) ≡ put_in values (form_of false (closed_over (drop (length xs) xs) f))
+bound_none values xs f = sym (ap (λ ys. put_in values (form_of false (closed_over ys f))) (drop_all (length xs) xs (omega arith)))
+
+pub bound_all : (values : Substitution) (xs : List ℕ) (f : Fol) (i : ℕ) → i ≤ 0 → put_in values (form_of false (closed_over (drop i xs) f)) ≡ put_in values (form_of false (closed_over xs f))
+bound_all values xs f i none_left = let first : i ≡ 0 = omega arith in ap (λ k. put_in values (form_of false (closed_over (drop k xs) f))) first
+
+abbrev put_at : List ℕ → Work → ℕ → Substitution
+put_at symbols a x = with_term (terms_of a.terms.items) x (skolem_term (slice_index symbols (length a.entries.items)) a.scope.items)
+
+-- where the work stands behind a variable that it began
+moved : {R : Type 0} (P : ℕ → List ℕ → Substitution → R) (symbols : List ℕ) (a b : Work) (x : ℕ) (body : Fol) → Begins symbols a b x body
+    → P (length a.entries.items + 1) a.scope.items (put_at symbols a x) ≡ P (length b.entries.items) b.scope.items (terms_of b.terms.items)
+moved P symbols a b x body begun =
+    ap (λ k. P k a.scope.items (put_at symbols a x)) (sym begun.1)
+    ∙ ap (λ s. P (length b.entries.items) s (put_at symbols a x)) (sym begun.2)
+    ∙ ap (λ ts. P (length b.entries.items) b.scope.items ts) (sym begun.5)
+
+-- to begin with a variable is to stand in front of its body
+leads_some : (symbols : List ℕ) (a b : Work) (x : ℕ) (g : Fol) → Begins symbols a b x (put_in (terms_of a.terms.items) g) → Leads symbols a b (some x g) g
+leads_some symbols a b x g begun =
+    let body = put_in (terms_of a.terms.items) g in (
+      moved (λ k s ts. clauses_in symbols k s ts g) symbols a b x body begun,
+      sym (
+          ap (λ ws. ws ++ witnesses_at symbols b g) begun.0
+          ∙ append_assoc (map witness_of a.entries.items) (record { symbol = slice_index symbols (length a.entries.items); variables = a.scope.items; variable = x; body = body } ∷ []) (witnesses_at symbols b g)
+          ∙ ap (λ ws. map witness_of a.entries.items ++ record { symbol = slice_index symbols (length a.entries.items); variables = a.scope.items; variable = x; body = body } ∷ ws)
+          (sym (moved (λ k s ts. witnesses symbols k s ts g) symbols a b x body begun))
+          ),
+      omega (arith, begun.1),
+    )
+
+leads_through : (symbols : List ℕ) (a b c : Work) (f g h : Fol) → Leads symbols a b f g → Leads symbols b c g h → Leads symbols a c f h
+leads_through symbols a b c f g h p q = (p.0 ∙ q.0, p.1 ∙ q.1, p.2 ∙ q.2)
+
+-- one more variable
+pub leads_next : (symbols : List ℕ) (start a b : Work) (xs : List ℕ) (f g : Fol) (i : ℕ) → i < length xs
+    → Leads symbols start a g (form_of false (closed_over (drop i xs) f))
+    → Begins symbols a b (get_or xs i 0) (put_in (terms_of a.terms.items) (form_of false (closed_over (drop (i + 1) xs) f)))
+    → Leads symbols start b g (form_of false (closed_over (drop (i + 1) xs) f))
+leads_next symbols start a b xs f g i lt before begun =
+    let rest = form_of false (closed_over (drop (i + 1) xs) f) in
+    let there : Leads symbols start a g (some (get_or xs i 0) rest) = subst (λ ys. Leads symbols start a g (form_of false (closed_over ys f))) (front xs i lt) before in
+    leads_through symbols start a b g (some (get_or xs i 0) rest) rest there (leads_some symbols a b (get_or xs i 0) rest begun)
+
+-- and none
+pub leads_end : (symbols : List ℕ) (start a : Work) (xs : List ℕ) (f g : Fol) (i : ℕ) → length xs ≤ i
+    → Leads symbols start a g (form_of false (closed_over (drop i xs) f)) → Leads symbols start a g (form_of false f)
+leads_end symbols start a xs f g i end before = subst (λ ys. Leads symbols start a g (form_of false (closed_over ys f))) (drop_all i xs end) before

@@ -1,0 +1,27 @@
+-- Two parts worked on in turn.
+use Rattle.std.proofs.Common.{◌≡◌, ℕ, ◌+◌, length, List, ◌++◌, map, Result, Ok, Err, OnOk, sym, ap, ap₂, ◌∙◌, append_assoc, arith}
+use Rattle.fol_core.specs.EntryView.{witness_of}
+use Rattle.fol_core.specs.Fol.{Fol, both}
+use Rattle.fol_core.specs.Witnesses.{Witness}
+use Rattle.clausify.specs.Made.{Works}
+use Rattle.fol_core.specs.Put.{Substitution}
+use Rattle.clausify.specs.Skolem.{somes, witnesses}
+use Rattle.clausify.specs.View.{terms_of}
+use Rattle.clausify.specs.declared.clausal.Work.{Work}
+
+pub works_both : (symbols : List ℕ) (a b c : Work) (f g : Fol) → Works symbols a b f → Works symbols b c g → Works symbols a c (both f g)
+works_both symbols a b c f g h k = (
+  k.0 ∙ ap₂ (λ (vs : List Witness) ws. vs ++ ws) h.0 (
+      ap (λ n. witnesses symbols n b.scope.items (terms_of b.terms.items) g) h.1
+      ∙ ap (λ s. witnesses symbols (length a.entries.items + somes f) s (terms_of b.terms.items) g) h.2
+      ∙ ap (λ ts. witnesses symbols (length a.entries.items + somes f) a.scope.items (terms_of ts) g) h.3
+      )
+      ∙ append_assoc (map witness_of a.entries.items) (witnesses symbols (length a.entries.items) a.scope.items (terms_of a.terms.items) f) (witnesses symbols (length a.entries.items + somes f) a.scope.items (terms_of a.terms.items) g),
+  omega (arith, h.1, k.1),
+  k.2 ∙ h.2,
+  k.3 ∙ h.3,
+)
+
+pub on_ok : {T E : Type 0} (P : Type 0) (r : Result T E) → P → OnOk r P
+on_ok P (Ok x) p = p
+on_ok P (Err e) p = tt

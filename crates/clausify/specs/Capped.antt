@@ -1,0 +1,29 @@
+-- Counts of clauses that are kept up to 20,001.
+use Rattle.std.specs.Prelude.{ℕ, ◌≡◌, ◌≤◌, min}
+use Rattle.fol_core.specs.Fol.{Fol, both, either}
+use Rattle.clausify.specs.Forms.{clause_count}
+use Rattle.clausify.specs.declared.counts.Counts.{Counts}
+
+-- a count, or 20,001 where it is greater
+abbrev pub capped : ℕ → ℕ
+capped n = min n 20001
+
+-- the count of a negation form
+abbrev pub IsCountOf : ℕ → Fol → Type 0
+IsCountOf a f = a ≡ capped (clause_count f)
+
+-- two pairs of counts kept so are at most 20,001 each
+abbrev pub AreCapped : Counts → Counts → Type 0
+AreCapped f g = (f.plain ≤ 20001) × (f.denied ≤ 20001) × (g.plain ≤ 20001) × (g.denied ≤ 20001)
+
+-- whatever forms a and b are the counts of, c is that of "and"
+abbrev pub IsSum : ℕ → ℕ → ℕ → Type 0
+IsSum a b c = (x y : Fol) → IsCountOf a x → IsCountOf b y → IsCountOf c (both x y)
+
+-- and of "or"
+abbrev pub IsProduct : ℕ → ℕ → ℕ → Type 0
+IsProduct a b c = (x y : Fol) → IsCountOf a x → IsCountOf b y → IsCountOf c (either x y)
+
+-- and of "or", "and", "or"
+abbrev pub IsSumOfProducts : ℕ → ℕ → ℕ → ℕ → ℕ → Type 0
+IsSumOfProducts a b c d e = (w x y z : Fol) → IsCountOf a w → IsCountOf b x → IsCountOf c y → IsCountOf d z → IsCountOf e (both (either w x) (either y z))

@@ -1,0 +1,166 @@
+// The clauses of all formulas of a problem.
+ghost use Rattle.std.specs.Prelude.{◌≡◌, ◌+◌, [], ◌++◌, length, IfOk, OnOk, true, false, map};
+ghost use Rattle.fol_core.specs.EntryView.{witness_of};
+ghost use Rattle.fol_core.specs.FormulaView.{fol_of};
+ghost use Rattle.fol_core.specs.Free.{closed_over};
+ghost use Rattle.fol_core.specs.Renumbered.{renumbered};
+ghost use Rattle.fol_core.specs.Stated.{said_of, all_said};
+ghost use Rattle.fol_core.specs.Tree.{var};
+ghost use Rattle.clausify.specs.Clausal.{clauses_in};
+ghost use Rattle.clausify.specs.Forms.{form_of};
+ghost use Rattle.clausify.specs.Input.{form, all_rows, all_witnesses};
+ghost use Rattle.clausify.specs.Made.{clauses_at, Leads, Notes};
+ghost use Rattle.clausify.specs.Skolem.{put_in, somes, witnesses};
+ghost use Rattle.clausify.specs.View.{terms_of};
+
+use crate::clausal::{Work, begin, clauses};
+use crate::form::form;
+use fol_core::{Clause, Entry, Input, Role, Shape, Sub, Term, free_vars, renumber};
+use std::alloc::{AllocError, Global};
+
+// The negation form of the denial of a formula around which variables are bound, with terms put in.
+#[tactic(auto, using(crate::proofs::Denials::bound_next, crate::proofs::Denials::bound_none, crate::proofs::Denials::bound_all))]
+fn denied_over(
+    alloc: Global,
+    shape: &Shape,
+    variables: &[u64],
+    values: &[(u64, Term)],
+) -> Result<Shape, AllocError>
+    ensures { IfOk result (λ f. fol_of f ≡ put_in (terms_of values.now) (form_of false (closed_over variables.now (fol_of shape.now)))) }
+{
+    let mut body = form(alloc, shape, false, values)?;
+    let mut place = variables.len();
+    while place > 0 {
+        place -= 1;
+        body = Shape::Exists(variables[place], Sub::new(alloc, body)?);
+    }
+    Ok(body)
+}
+
+// Notes a Skolem constant for each variable that is bound around the denial of a formula.
+fn deny(
+    alloc: Global,
+    symbols: &[u64],
+    shape: &Shape,
+    variables: &[u64],
+    work: &mut Work,
+) -> Result<(), AllocError>
+    ensures { OnOk result (Leads symbols.now work.old work.new (form_of false (closed_over variables.now (fol_of shape.now))) (form_of false (fol_of shape.now))) }
+{
+    for place in 0..variables.len() {
+        let body = denied_over(alloc, shape, &variables[place + 1..], &work.terms)?;
+        begin(alloc, symbols, variables[place], body, work)?;
+    }
+    Ok(())
+}
+
+// The clauses of a formula around which variables are bound.
+fn closed_clauses(
+    alloc: Global,
+    symbols: &[u64],
+    shape: &Shape,
+    variables: Vec<u64>,
+    work: &mut Work,
+) -> Result<Vec<Clause>, AllocError>
+    requires { work.old.scope.items ≡ [] }
+    ensures clauses { IfOk result (λ all. all.items ≡ clauses_at symbols.now work.old (form_of true (closed_over variables.items (fol_of shape.now)))) }
+    ensures notes { OnOk result (Notes symbols.now work.old work.new (form_of true (closed_over variables.items (fol_of shape.now)))) }
+{
+    work.scope = variables;
+    let found = clauses(alloc, symbols, shape, true, work)?;
+    Ok(found)
+}
+
+// The clauses of the denial of a formula around which variables are bound.
+fn denied_clauses(
+    alloc: Global,
+    symbols: &[u64],
+    shape: &Shape,
+    variables: &[u64],
+    work: &mut Work,
+) -> Result<Vec<Clause>, AllocError>
+    ensures clauses { IfOk result (λ all. all.items ≡ clauses_at symbols.now work.old (form_of false (closed_over variables.now (fol_of shape.now)))) }
+    ensures notes { OnOk result (Notes symbols.now work.old work.new (form_of false (closed_over variables.now (fol_of shape.now)))) }
+{
+    deny(alloc, symbols, shape, variables, work)?;
+    let found = clauses(alloc, symbols, shape, false, work)?;
+    Ok(found)
+}
+
+// The clauses of a formula of a problem.
+fn input_clauses(
+    alloc: Global,
+    symbols: &[u64],
+    input: &Input,
+    work: &mut Work,
+) -> Result<Vec<Clause>, AllocError>
+    requires scope { work.old.scope.items ≡ [] }
+    requires terms { work.old.terms.items ≡ [] }
+    ensures clauses { IfOk result (λ all. all.items ≡ clauses_at symbols.now work.old (form (said_of input.now))) }
+    ensures notes { OnOk result (Notes symbols.now work.old work.new (form (said_of input.now))) }
+{
+    let variables = free_vars(alloc, &input.formula)?;
+    match input.role {
+        Role::Assumption => {
+            closed_clauses(alloc, symbols, &input.formula.shape, variables, work)
+        }
+        Role::Goal => denied_clauses(alloc, symbols, &input.formula.shape, &variables, work),
+    }
+}
+
+// Adds renumbered clauses with the number of their formula.
+fn add_rows(
+    alloc: Global,
+    number: u64,
+    clauses: &[Clause],
+    rows: &mut Vec<(u64, Clause)>,
+) -> Result<(), AllocError>
+    ensures { OnOk result (rows.new.items ≡ rows.old.items ++ map (λ c. (number, renumbered c)) clauses.now) }
+{
+    for clause in clauses {
+        rows.push((number, renumber(alloc, clause)?))?;
+    }
+    Ok(())
+}
+
+// Adds the clauses of a formula, and its Skolem symbols.
+fn add_input(
+    alloc: Global,
+    symbols: &[u64],
+    number: u64,
+    input: &Input,
+    rows: &mut Vec<(u64, Clause)>,
+    entries: Vec<Entry>,
+) -> Result<Vec<Entry>, AllocError>
+    ensures rows { OnOk result (rows.new.items ≡ rows.old.items ++ map (λ c. (number, renumbered c)) (clauses_in symbols.now (length entries.items) [] var (form (said_of input.now)))) }
+    ensures entries { IfOk result (λ all. map witness_of all.items ≡ map witness_of entries.items ++ witnesses symbols.now (length entries.items) [] var (form (said_of input.now))) }
+    ensures count { IfOk result (λ all. length all.items ≡ length entries.items + somes (form (said_of input.now))) }
+{
+    let mut work = Work {
+        scope: Vec::new(alloc),
+        terms: Vec::new(alloc),
+        entries,
+    };
+    let found = input_clauses(alloc, symbols, input, &mut work)?;
+    add_rows(alloc, number, &found, rows)?;
+    let Work { entries, .. } = work;
+    Ok(entries)
+}
+
+/// The clauses of all formulas, each with the number of its formula, and their Skolem symbols.
+#[tactic(auto, using(crate::proofs::Rows::rows_next, crate::proofs::Rows::rows_end, crate::proofs::Rows::witnesses_next, crate::proofs::Rows::witnesses_end))]
+pub fn all_clauses(
+    alloc: Global,
+    symbols: &[u64],
+    inputs: &[Input],
+) -> Result<(Vec<(u64, Clause)>, Vec<Entry>), AllocError>
+    ensures rows { IfOk result (λ all. all.0.items ≡ all_rows symbols.now (all_said inputs.now)) }
+    ensures witnesses { IfOk result (λ all. map witness_of all.1.items ≡ all_witnesses symbols.now (all_said inputs.now)) }
+{
+    let mut rows = Vec::new(alloc);
+    let mut entries = Vec::new(alloc);
+    for (place, input) in inputs.iter().enumerate() {
+        entries = add_input(alloc, symbols, place as u64 + 1, input, &mut rows, entries)?;
+    }
+    Ok((rows, entries))
+}

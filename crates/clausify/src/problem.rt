@@ -1,0 +1,86 @@
+// The clauses of a problem.
+ghost use Rattle.std.specs.Prelude.{◌≡◌, ◌≤◌, ℕ, Some, None, Err, IfOk, OnOk, length, map};
+ghost use Rattle.fol_core.specs.EntryView.{witness_of};
+ghost use Rattle.fol_core.specs.Literals.{equality};
+ghost use Rattle.fol_core.specs.Stated.{stated_of, IsCountermodel};
+ghost use Rattle.fol_core.specs.SymbolTable.{KeepsNumbers};
+ghost use Rattle.fol_core.specs.Witnesses.{PicksWitnesses};
+ghost use Rattle.clausify.specs.Input.{IsSound, clauses_in_table, witnesses_in_table, with_skolems, first_over, used_symbols, numeral_of};
+ghost use Rattle.clausify.specs.Laws.{AreTrueRows};
+ghost use Rattle.clausify.specs.Names.{HasNoSkolemRelation};
+
+use crate::arity::all_arities;
+use crate::error::ClauseError;
+use crate::inputs::all_clauses;
+use crate::laws::{clauses_follow, clauses_suffice};
+use crate::limit::first_over;
+use crate::seen::symbols_and_numeral;
+use crate::skolem::enter_all;
+use fol_core::{Clauses, Interpretation, Problem, Symbols};
+use std::alloc::{AllocError, Global};
+
+// A table has fewer symbols than there are numbers, so equality's is none of theirs.
+fn fits(symbols: &Symbols)
+    ensures { length symbols.now ≤ equality }
+{
+    let _size = symbols.len();
+}
+
+// The clauses of a problem whose formulas are within the limit.
+fn made(alloc: Global, problem: &Problem, symbols: &mut Symbols) -> Result<Clauses, AllocError>
+    requires { HasNoSkolemRelation problem.now.symbols symbols.old }
+    ensures clauses { IfOk result (λ c. c.clauses.items ≡ clauses_in_table symbols.old (stated_of problem.now)) }
+    ensures skolem { IfOk result (λ c. map witness_of c.skolem.items ≡ witnesses_in_table symbols.old (stated_of problem.now)) }
+    ensures symbols { IfOk result (λ c. map (λ s. s.0) c.symbols.items ≡ used_symbols problem.now.symbols (stated_of problem.now).formulas) }
+    ensures numeral { IfOk result (λ c. c.numeral ≡ numeral_of None (stated_of problem.now).formulas) }
+    ensures table { OnOk result (symbols.new ≡ with_skolems symbols.old (stated_of problem.now)) }
+    ensures kept { KeepsNumbers symbols.old symbols.new }
+{
+    let arities = all_arities(alloc, &problem.inputs)?;
+    let numbers = enter_all(alloc, &problem.symbols, &arities, symbols)?;
+    let (clauses, skolem) = all_clauses(alloc, &numbers, &problem.inputs)?;
+    let (symbols, numeral) = symbols_and_numeral(alloc, problem)?;
+    Ok(Clauses {
+        clauses,
+        skolem,
+        symbols,
+        numeral,
+    })
+}
+
+/// The clauses of a problem. Its Skolem symbols are entered into a table that has the problem's symbols under their numbers.
+/// `any` is any interpretation: what the clauses say of it holds for every one.
+pub fn clauses_of<I: Interpretation>(
+    alloc: Global,
+    any: &I,
+    problem: &Problem,
+    symbols: &mut Symbols,
+) -> Result<Clauses, ClauseError>
+    requires sound { IsSound (stated_of problem.now) }
+    requires table { KeepsNumbers problem.now.symbols symbols.old }
+    requires no_relation { HasNoSkolemRelation problem.now.symbols symbols.old }
+
+    ensures clauses { IfOk result (λ c. c.clauses.items ≡ clauses_in_table symbols.old (stated_of problem.now)) }
+    ensures skolem { IfOk result (λ c. map witness_of c.skolem.items ≡ witnesses_in_table symbols.old (stated_of problem.now)) }
+    ensures symbols { IfOk result (λ c. map (λ s. s.0) c.symbols.items ≡ used_symbols problem.now.symbols (stated_of problem.now).formulas) }
+    ensures numeral { IfOk result (λ c. c.numeral ≡ numeral_of None (stated_of problem.now).formulas) }
+    ensures entered { OnOk result (symbols.new ≡ with_skolems symbols.old (stated_of problem.now)) }
+    ensures kept { KeepsNumbers symbols.old symbols.new }
+
+    // A formula over the limit is named, and comes to nothing else but want of memory.
+    ensures limit { (n : ℕ) → result ≡ Err (ClauseError.ClauseLimit n) → first_over 1 (stated_of problem.now).formulas ≡ Some n }
+    ensures within { OnOk result (first_over 1 (stated_of problem.now).formulas ≡ None) }
+
+    // Clauses and formulas say the same.
+    ensures suffice { IfOk result (λ c. AreTrueRows (I.meaning any.now) c.clauses.items → IsCountermodel (I.meaning any.now) (stated_of problem.now).formulas) }
+    ensures follow { IfOk result (λ c. PicksWitnesses (I.meaning any.now) (map witness_of c.skolem.items) → IsCountermodel (I.meaning any.now) (stated_of problem.now).formulas → AreTrueRows (I.meaning any.now) c.clauses.items) }
+{
+    if let Some(formula) = first_over(&problem.inputs) {
+        return Err(ClauseError::ClauseLimit { formula });
+    }
+    let clauses = made(alloc, problem, symbols)?;
+    fits(&problem.symbols);
+    clauses_suffice(any);
+    clauses_follow(any);
+    Ok(clauses)
+}
