@@ -1,3 +1,8 @@
+pub mod Begun
+pub mod Ended
+pub mod Found
 pub mod OneEnd
-pub mod Printing
+pub mod Printed
+pub mod Sought
+pub mod Stories
 pub mod Told

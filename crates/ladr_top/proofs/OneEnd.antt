@@ -10,7 +10,7 @@ use Rattle.ladr_top.specs.Outcome.{Given, Ends}
 use Rattle.ladr_top.specs.Output.{report}
 use Rattle.ladr_top.specs.Verdicts.{AreTrueAsTold}
 use Rattle.ladr_top.specs.declared.cause.Cause.{Cause}
-use Rattle.ladr_top.specs.declared.cause.Cause.TheVariants.{Done, Words, Unreadable, TooLarge, ReadFault, WriteFault, Memory}
+use Rattle.ladr_top.specs.declared.cause.Cause.TheVariants.{Done, Words, Unreadable, TooLarge, ReadFault, WriteFault, Memory, Exhausted, MaxMegs, MaxSeconds, AllModels, GroundLimit}
 
 one_truth : (P : Type 0) (b c : Bool) → MatchBool b P (¬ P) → MatchBool c P (¬ P) → b ≡ c
 one_truth P true true h k = refl
@@ -43,8 +43,8 @@ one_end g Done Done t u h k r s =
     let moved : AreTrueAsTold (meaning_in k.1.0.symbols b.0) k.1.0.formulas a.2.0 = subst (λ (it : ByName). AreTrueAsTold (meaning_in k.1.0.symbols it) k.1.0.formulas a.2.0) other told in
     let all = told_once (meaning_in k.1.0.symbols b.0) k.1.0.formulas a.2.0 b.2.0 moved b.2.1 in
     (refl, a.2.2 ∙ ap report all ∙ sym b.2.2)
-one_end g Done (Unreadable place) t u h k r s = absurd (k.1 h.1.0 h.1.1.0 h.1.1.1)
-one_end g (Unreadable place) Done t u h k r s = absurd (h.1 k.1.0 k.1.1.0 k.1.1.1)
+one_end g Done (Unreadable place) t u h k r s = absurd (k.1 (h.1.0, (h.1.1.0, h.1.1.1)))
+one_end g (Unreadable place) Done t u h k r s = absurd (h.1 (k.1.0, (k.1.1.0, k.1.1.1)))
 one_end g (Unreadable place) (Unreadable other) t u h k r s = (ap Unreadable (h.2 ∙ sym k.2), h.3 ∙ sym k.3)
 one_end g (TooLarge byte what) (TooLarge byte' what') t u h k r s = (let e = h.1 ∙ sym k.1 in let f = h.2 ∙ sym k.2 in cc, h.3 ∙ sym k.3)
 one_end g Done (TooLarge byte what) t u h k r s = absurd (omega (arith, h.0.within, k.0.beyond))
@@ -59,9 +59,19 @@ one_end g Done ReadFault t u h k r s = absurd (s refl h.0.unfailing)
 one_end g (Unreadable place) ReadFault t u h k r s = absurd (s refl h.0.unfailing)
 one_end g (TooLarge byte what) ReadFault t u h k r s = absurd (s refl h.0.unfailing)
 one_end g Words d t u h k r s = elim h [ ]
+one_end g Exhausted d t u h k r s = elim h [ ]
+one_end g MaxMegs d t u h k r s = elim h [ ]
+one_end g (MaxSeconds first last) d t u h k r s = elim h [ ]
+one_end g AllModels d t u h k r s = elim h [ ]
+one_end g (GroundLimit size) d t u h k r s = elim h [ ]
 one_end g WriteFault d t u h k r s = elim h [ ]
 one_end g Memory d t u h k r s = elim h [ ]
 one_end g c Words t u h k r s = elim k [ ]
+one_end g c Exhausted t u h k r s = elim k [ ]
+one_end g c MaxMegs t u h k r s = elim k [ ]
+one_end g c (MaxSeconds first last) t u h k r s = elim k [ ]
+one_end g c AllModels t u h k r s = elim k [ ]
+one_end g c (GroundLimit size) t u h k r s = elim k [ ]
 one_end g c WriteFault t u h k r s = elim k [ ]
 one_end g c Memory t u h k r s = elim k [ ]
 

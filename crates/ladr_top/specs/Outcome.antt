@@ -1,5 +1,5 @@
 -- How a run of `clausetester` ends, and what it prints.
-use Rattle.std.specs.Prelude.{◌≡◌, ℕ, ◌+◌, ◌≤◌, Bool, true, false, Result, IsOkAnd, List, [], length, Option, Some, codes}
+use Rattle.std.specs.Prelude.{◌≡◌, ℕ, ◌+◌, ◌≤◌, Bool, true, false, Result, IsOkAnd, List, [], length, Option, Some, codes, ◌⊎◌}
 use Rattle.std.specs.Global.{Vec}
 use Rattle.std.specs.declared.alloc.AllocError.{AllocError}
 use Rattle.fol_core.specs.Stated.{Stated}
@@ -9,7 +9,7 @@ use Rattle.ladr_input.specs.Grammar.{ByName}
 use Rattle.ladr_input.specs.Problem.{IsProblem, meaning_in}
 use Rattle.ladr_top.specs.Verdicts.{AreTrueAsTold}
 use Rattle.ladr_top.specs.declared.cause.Cause.{Cause}
-use Rattle.ladr_top.specs.declared.cause.Cause.TheVariants.{Done, Words, Unreadable, TooLarge, ReadFault, WriteFault, Memory}
+use Rattle.ladr_top.specs.declared.cause.Cause.TheVariants.{Done, Words, Unreadable, TooLarge, ReadFault, WriteFault, Memory, Exhausted, MaxMegs, MaxSeconds, AllModels, GroundLimit}
 use Rattle.ladr_top.specs.declared.cause.Place.{Place}
 use Rattle.ladr_top.specs.declared.cause.Shown.{Shown}
 use Rattle.ladr_top.specs.declared.cause.Shown.TheVariants as shown
@@ -21,10 +21,15 @@ abbrev pub status_of : Cause → ℕ
 status_of Done = 0
 status_of (Unreadable place) = 1
 status_of (TooLarge byte what) = 1
+status_of Exhausted = 2
+status_of MaxMegs = 3
+status_of (MaxSeconds first last) = 4
+status_of AllModels = 8
 status_of Words = 9
 status_of ReadFault = 10
 status_of WriteFault = 11
 status_of Memory = 12
+status_of (GroundLimit size) = 13
 
 -- the most bytes that an input may have
 abbrev pub most_bytes : ℕ
@@ -63,15 +68,43 @@ pub record IsFailed (g : Given) : Type 0 where
   pub rose : Rose g.faults_before g.faults_after
   pub within : length g.bytes ≤ most_bytes
 
+-- What the source gave is no input at all, with the refusal as the whole output: one byte too many, or a read failed.
+abbrev pub IsUnread : Given → Cause → List ℕ → Type 0
+IsUnread g (TooLarge byte what) text = IsTooLarge g × (byte ≡ most_bytes) × (what ≡ limits.Input) × (text ≡ too_large_line most_bytes (codes "input"))
+IsUnread g ReadFault text = IsFailed g × (text ≡ read_fault_line)
+IsUnread g Done text = ⊥
+IsUnread g Exhausted text = ⊥
+IsUnread g MaxMegs text = ⊥
+IsUnread g (MaxSeconds first last) text = ⊥
+IsUnread g AllModels text = ⊥
+IsUnread g (GroundLimit size) text = ⊥
+IsUnread g Words text = ⊥
+IsUnread g (Unreadable place) text = ⊥
+IsUnread g WriteFault text = ⊥
+IsUnread g Memory text = ⊥
+
+-- An input isn't of the form that is read, with the refusal as the whole output.
+abbrev pub IsRefused : Given → Type 0 → Place → List ℕ → Type 0
+IsRefused g form place text = IsRead g × (¬ form) × (place ≡ beginning) × (text ≡ unreadable_line 0 1 1 (codes "input"))
+
+-- the input states a problem and gives an interpretation of it
+abbrev pub IsWithTables : List ℕ → Type 0
+IsWithTables bytes = (p : Stated) × ((it : ByName) × IsProblem bytes p (Some it))
+
 -- What the source gave leads to this cause with this text as the whole output: of an input of today's form the truth of
 -- each formula; else the refusal.
 abbrev pub Ends : Given → Cause → List ℕ → Type 0
 Ends g Done text =
     IsRead g × ((p : Stated) × ((it : ByName) × IsProblem g.bytes p (Some it) × ((all : List Bool) × AreTrueAsTold (meaning_in p.symbols it) p.formulas all × (text ≡ report all))))
-Ends g (Unreadable place) text = IsRead g × ((p : Stated) (it : ByName) → ¬ IsProblem g.bytes p (Some it)) × (place ≡ beginning) × (text ≡ unreadable_line 0 1 1 (codes "input"))
-Ends g (TooLarge byte what) text = IsTooLarge g × (byte ≡ most_bytes) × (what ≡ limits.Input) × (text ≡ too_large_line most_bytes (codes "input"))
-Ends g ReadFault text = IsFailed g × (text ≡ read_fault_line)
+Ends g (Unreadable place) text = IsRefused g (IsWithTables g.bytes) place text
+Ends g (TooLarge byte what) text = IsUnread g (TooLarge byte what) text
+Ends g ReadFault text = IsUnread g ReadFault text
 Ends g Words text = ⊥
+Ends g Exhausted text = ⊥
+Ends g MaxMegs text = ⊥
+Ends g (MaxSeconds first last) text = ⊥
+Ends g AllModels text = ⊥
+Ends g (GroundLimit size) text = ⊥
 Ends g WriteFault text = ⊥
 Ends g Memory text = ⊥
 
@@ -81,6 +114,13 @@ abbrev pub Printed : (Cause → List ℕ → Type 0) → Option (List ℕ) → O
 Printed ends old new WriteFault = (cause : Cause) × ((text : List ℕ) × ends cause text × TakesFront old new text)
 Printed ends old new Memory = Takes old new []
 Printed ends old new cause = (text : List ℕ) × ends cause text × Takes old new text
+
+-- The same of a run that prints piece by piece: where a write failed the sink took a front of what goes before the end or of
+-- the whole output; where memory was lacking, what goes before the end.
+abbrev pub Told : (List ℕ → Type 0) → (Cause → List ℕ → Type 0) → Option (List ℕ) → Option (List ℕ) → Cause → Type 0
+Told goes ends old new WriteFault = (text : List ℕ) × (goes text ⊎ ((cause : Cause) × ends cause text)) × TakesFront old new text
+Told goes ends old new Memory = (text : List ℕ) × goes text × Takes old new text
+Told goes ends old new cause = (text : List ℕ) × ends cause text × Takes old new text
 
 -- the causes that leave the output cut off
 abbrev pub is_cut : Cause → Bool

@@ -37,3 +37,28 @@ unreadable_line byte row column token =
 -- what was too large, and where
 abbrev pub too_large_line : ℕ → List ℕ → List ℕ
 too_large_line byte what = line (codes "ladr: too large at byte " ++ decimal byte ++ codes ": " ++ what)
+
+-- a search: a size begins; it is skipped; it is searched to its end
+abbrev pub size_line : ℕ → List ℕ
+size_line n = line (codes "% Domain size " ++ decimal n ++ codes ".")
+
+abbrev pub skipped_line : ℕ → List ℕ
+skipped_line n = line (codes "% Domain size " ++ decimal n ++ codes " skipped.")
+
+abbrev pub exhausted_line : ℕ → List ℕ
+exhausted_line n = line (codes "% Domain size " ++ decimal n ++ codes " exhausted.")
+
+-- how many models were printed, and why the search ended
+abbrev pub models_line : ℕ → List ℕ
+models_line k = line (codes "% Models=" ++ decimal k ++ codes ".")
+
+abbrev pub exit_line : List ℕ → List ℕ
+exit_line reason = line (codes "% Exit " ++ reason ++ codes ".")
+
+-- the clock's first reading and its last
+abbrev pub seconds_line : ℕ → ℕ → List ℕ
+seconds_line first last = line (codes "% Exit max_seconds " ++ decimal first ++ codes " " ++ decimal last ++ codes ".")
+
+-- a size has too many cells by far
+abbrev pub ground_limit_line : ℕ → List ℕ
+ground_limit_line n = line (codes "ladr: ground limit at size " ++ decimal n)

@@ -15,6 +15,14 @@ pub struct Place {
     pub token: Shown,
 }
 
+/// The place at which an input of another form is refused.
+pub const BEGINNING: Place = Place {
+    byte: 0,
+    line: 1,
+    column: 1,
+    token: Shown::Input,
+};
+
 /// What an input may be too large in.
 #[derive(Clone, Copy, Debug, PartialEq, Eq)]
 pub enum Limit {
@@ -26,6 +34,16 @@ pub enum Limit {
 pub enum Cause {
     /// What was asked is done.
     Done,
+    /// Each size was skipped or is exhausted, and has no model.
+    Exhausted,
+    /// The cells of a size are too many to search.
+    MaxMegs,
+    /// The time is over, by the clock's first reading and its last.
+    MaxSeconds { first: u64, last: u64 },
+    /// Each size was skipped or is exhausted, and there are models, but fewer than were wanted.
+    AllModels,
+    /// The cells of a size are too many by far.
+    GroundLimit { size: u64 },
     /// The words are no command.
     Words,
     /// The input isn't of the form that is read.

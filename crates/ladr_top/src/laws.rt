@@ -4,7 +4,9 @@ ghost use Rattle.ladr_input.specs.Problem.{meaning_in};
 ghost use Rattle.ladr_input.specs.Worked.{involution, exchange, constant, zeros};
 ghost use Rattle.ladr_io.specs.Streams.{greatest};
 ghost use Rattle.ladr_top.specs.Outcome.{Given, Ends};
+ghost use Rattle.ladr_input.specs.ByName.{tables_for};
 ghost use Rattle.ladr_top.specs.Output.{report};
+ghost use Rattle.ladr_top.specs.Search.{skipped, searched, sizes_text};
 ghost use Rattle.ladr_top.specs.Verdicts.{AreTrueAsTold};
 ghost use Rattle.ladr_top.specs.declared.cause.Cause.{Cause};
 ghost use Rattle.ladr_top.specs.declared.cause.Cause.TheVariants.{ReadFault};
@@ -22,4 +24,6 @@ pub fn worked()
     ensures told { AreTrueAsTold (meaning_in involution.symbols exchange) involution.formulas (true ∷ false ∷ []) }
     ensures free { AreTrueAsTold (meaning_in constant.symbols zeros) constant.formulas (true ∷ false ∷ []) }
     ensures printed { report (true ∷ false ∷ []) ≡ codes "formula 1 true\nformula 2 false\n% True=1. False=1.\n% Exit tested.\n" }
+    // Of a search, a size that was skipped, and the next one, which was searched to its end and had one model.
+    ensures searched { sizes_text involution 1 0 (skipped ∷ searched (tables_for exchange involution.symbols ∷ []) ∷ []) ≡ codes "% Domain size 1 skipped.\n% Domain size 2.\ninterpretation(2, [number = 1,seconds = 0], [\n    function(f(_), [1,0])\n]).\n% Domain size 2 exhausted.\n" }
 {}

@@ -5,15 +5,15 @@ ghost use Rattle.ladr_top.specs.Output.{line, formula_line, formula_lines, repor
 
 use std::alloc::{AllocError, Global};
 
-// Puts bytes behind the text.
-fn text(out: &mut Vec<u8>, bytes: &[u8]) -> Result<(), AllocError>
+/// Puts bytes behind the text.
+pub fn text(out: &mut Vec<u8>, bytes: &[u8]) -> Result<(), AllocError>
     ensures { OnOk result (out.new.items ≡ out.old.items ++ bytes.now) }
 {
     out.extend_from_slice(bytes)
 }
 
-// Puts a number behind the text.
-fn number(out: &mut Vec<u8>, n: u64) -> Result<(), AllocError>
+/// Puts a number behind the text.
+pub fn number(out: &mut Vec<u8>, n: u64) -> Result<(), AllocError>
     ensures { OnOk result (out.new.items ≡ out.old.items ++ decimal n) }
 {
     let mut buffer = itoa::Buffer::new();

@@ -1,3 +1,4 @@
+pub mod Completing
 pub mod Passing
 pub mod Rooms
 pub mod Watching

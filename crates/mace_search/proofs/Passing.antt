@@ -1,8 +1,8 @@
 -- Tables that are passed.
-use Rattle.std.proofs.Common.{◌≡◌, ℕ, suc, ◌+◌, ◌<◌, ◌≤◌, List, inl, inr, refl, sym, subst, ap, ◌∙◌, arith}
+use Rattle.std.proofs.Common.{◌≡◌, ℕ, ◌+◌, ◌≤◌, List, inl, inr, refl, sym, subst, arith}
 use Rattle.std.proofs.lemmas.Bool.{cases_lt}
 use Rattle.fol_core.specs.Stated.{Said, Stated, IsCountermodel}
-use Rattle.mace_search.specs.Models.{IsModel, NoneFrom, NoneBetween, IsNextModel}
+use Rattle.mace_search.specs.Models.{NoneFrom, NoneBetween}
 use Rattle.ladr_io.specs.Times.{Times}
 use Rattle.mace_search.specs.Plain.{Search, Tells, Finds, NoneAmong}
 use Rattle.mace_search.specs.PlainView.{search_of, state_after}

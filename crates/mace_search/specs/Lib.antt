@@ -1,3 +1,4 @@
+pub mod Complete
 pub mod Models
 pub mod Plain
 pub mod PlainView

@@ -1,5 +1,5 @@
 -- The models of a size, in the order of their tables.
-use Rattle.std.specs.Prelude.{◌≡◌, ℕ, suc, ◌<◌, ◌≤◌, List, [], ◌∷◌}
+use Rattle.std.specs.Prelude.{ℕ, suc, ◌<◌, ◌≤◌, List, [], ◌∷◌}
 use Rattle.fol_core.specs.Stated.{Stated, IsCountermodel}
 use Rattle.model_tables.specs.Order.{table_number}
 use Rattle.model_tables.specs.Size.{IsInterpretation}

@@ -1,5 +1,5 @@
 -- A search that tries all tables of a size.
-use Rattle.std.specs.Prelude.{◌≡◌, ℕ, suc, ◌+◌, ◌<◌, ◌≤◌, List, Option, None, Some}
+use Rattle.std.specs.Prelude.{◌≡◌, ℕ, suc, ◌<◌, ◌≤◌, List, Option, None, Some}
 use Rattle.fol_core.specs.Stated.{Said, Stated, IsCountermodel}
 use Rattle.ladr_io.specs.Times.{Times}
 use Rattle.mace_search.specs.Models.{NoneFrom, NoneBetween, IsNextModel}

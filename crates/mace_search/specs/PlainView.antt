@@ -1,5 +1,5 @@
 -- What the code of a search stands for.
-use Rattle.std.specs.Prelude.{◌≡◌, ℕ, suc, ◌+◌, List, Option, None, Some, refl}
+use Rattle.std.specs.Prelude.{ℕ, suc, ◌+◌, Option, None, Some, refl}
 use Rattle.std.specs.Coded.{Coded, code_by, coded×, coded_ℕ, coded_option}
 use Rattle.fol_core.specs.Stated.{Stated}
 use Rattle.fol_core.specs.StatedCodes.{coded_stated}

@@ -4,10 +4,12 @@
 mod answer;
 mod check;
 mod find;
+mod laws;
 mod plain;
 mod sentence;
 
 pub use answer::Answer;
+pub use laws::{all_models, first_models};
 pub use plain::PlainSearch;
 
 #[cfg(test)]

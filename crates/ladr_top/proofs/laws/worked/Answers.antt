@@ -1,6 +1,7 @@
 use Rattle.std.proofs.Common.{◌≡◌, ℕ, zero, suc, true, refl, arith, leb}
 use Rattle.std.proofs.lemmas.Bool.{leb-true}
 use Rattle.std.specs.Fmt.{digits}
+use Rattle.model_tables.specs.ModelText.{model_text}
 use Rattle.ladr_top.proofs.laws.worked.Goals as goal
 
 pub returns-clause-printed : goal.returns-clause-printed
@@ -18,3 +19,7 @@ returns-clause-told c = (each _ refl refl, (λ some. some (each _ (λ e. absurd 
 
 pub returns-clause-free : goal.returns-clause-free
 returns-clause-free c = (each _ (each _ refl refl) (each _ refl refl), (λ all. all 1 refl (each _ (λ e. absurd cc) (λ e. absurd cc)), tt))
+
+pub returns-clause-searched : goal.returns-clause-searched
+unfolding digits model_text
+returns-clause-searched c = refl

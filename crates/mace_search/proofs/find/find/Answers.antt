@@ -1,6 +1,5 @@
-use Rattle.std.proofs.Common.{◌≡◌, ◌+◌, ◌∙◌, refl, sym, arith}
+use Rattle.std.proofs.Common.{◌≡◌, ◌+◌, ◌∙◌, refl, arith}
 use Rattle.fol_core.specs.Stated.{IsCountermodel}
-use Rattle.mace_search.specs.Plain.{NoneAmong}
 use Rattle.model_tables.specs.Order.{table_number, table_count}
 use Rattle.model_tables.specs.Tables.{meaning_of}
 use Rattle.model_tables.proofs.Orders.{shape_itself, shape_joined, shape_count, number_in_count}

@@ -1,8 +1,7 @@
-use Rattle.std.proofs.Common.{◌≡◌, ◌+◌, ◌++◌, ◌∷◌, [], take, get_or, ap, sym, ◌∙◌, length, subst}
+use Rattle.std.proofs.Common.{◌≡◌, ◌+◌, ◌++◌, ◌∷◌, [], take, get_or, ap, sym, ◌∙◌}
 use Rattle.std.proofs.lemmas.List.{map_push, take_more}
-use Rattle.fol_core.specs.Stated.{Said, all_said, said_of}
+use Rattle.fol_core.specs.Stated.{all_said, said_of}
 use Rattle.fol_core.specs.declared.problem.Input.{Input}
-use Rattle.mace_search.specs.Room.{HaveRoom}
 use Rattle.mace_search.proofs.Rooms.{room_more}
 use Rattle.mace_search.proofs.check.Check.new.Goals as goal
 

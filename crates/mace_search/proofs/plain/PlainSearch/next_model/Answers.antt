@@ -1,4 +1,4 @@
-use Rattle.std.proofs.Common.{◌≡◌, ◌+◌, ◌<◌, ◌≤◌, refl, sym, arith}
+use Rattle.std.proofs.Common.{◌+◌, ◌≤◌, refl, sym, arith}
 use Rattle.fol_core.specs.Stated.{stated_of}
 use Rattle.model_tables.specs.Order.{table_count, table_number}
 use Rattle.model_tables.proofs.Orders.{number_in_count}

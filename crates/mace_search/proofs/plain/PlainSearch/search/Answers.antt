@@ -1,7 +1,7 @@
-use Rattle.std.proofs.Common.{◌≡◌, ◌+◌, ◌∙◌, refl, sym, subst, ap, arith}
-use Rattle.fol_core.specs.Stated.{Said, stated_of}
-use Rattle.mace_search.specs.Plain.{Search, Finds, Tells}
-use Rattle.mace_search.specs.PlainView.{search_of, state_after}
+use Rattle.std.proofs.Common.{◌+◌, ◌∙◌, sym, arith}
+use Rattle.fol_core.specs.Stated.{stated_of}
+use Rattle.mace_search.specs.Plain.{Finds}
+use Rattle.mace_search.specs.PlainView.{search_of}
 use Rattle.mace_search.proofs.Passing.{filled_of, stays, found_tells}
 use Rattle.mace_search.proofs.plain.PlainSearch.search.Goals as goal
 

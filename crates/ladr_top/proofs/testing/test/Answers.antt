@@ -1,13 +1,11 @@
 use Rattle.std.proofs.Common.{ℕ, List, refl, ap, sym, subst, Some}
 use Rattle.std.specs.Prelude.{codes}
-use Rattle.ladr_top.specs.Outcome.{Ends, beginning}
+use Rattle.ladr_top.specs.Outcome.{Ends, IsWithTables, beginning}
 use Rattle.ladr_top.specs.Output.{report, unreadable_line}
-use Rattle.fol_core.specs.Stated.{Stated}
-use Rattle.ladr_input.specs.Grammar.{ByName}
 use Rattle.ladr_input.specs.Problem.{IsProblem}
 use Rattle.ladr_top.specs.declared.cause.Cause.TheVariants.{Done, Unreadable}
-use Rattle.ladr_top.proofs.Printing.{Printed-weaker, made_text}
-use Rattle.ladr_top.proofs.running.test.Goals as goal
+use Rattle.ladr_top.proofs.Printed.{Printed-weaker, made_text}
+use Rattle.ladr_top.proofs.testing.test.Goals as goal
 
 pub returns-in-Ok-clause-printed : goal.returns-in-Ok-clause-printed
 returns-in-Ok-clause-printed g c = λ given e read.
@@ -19,7 +17,8 @@ returns-in-Ok-clause-printed g c = λ given e read.
 
 pub returns-in-Err-Bad-clause-printed : goal.returns-in-Err-Bad-clause-printed
 returns-in-Err-Bad-clause-printed g c = λ given e read.
-    let N : List ℕ → Type 0 = λ bytes. (p : Stated) (it : ByName) → IsProblem bytes p (Some it) → ⊥ in
+    let N : List ℕ → Type 0 = λ bytes. ¬ IsWithTables bytes in
+    let none : N c.args.bytes.now = λ x. c.in-Err-Bad.ensures.bad (cc) x.0 x.1.0 x.1.1 in
     let ends : Ends given (Unreadable beginning) (unreadable_line 0 1 1 (codes "input")) =
-    (read, subst N (sym e) (c.in-Err-Bad.ensures.bad (cc)), refl, refl) in
+    (read, subst N (sym e) none, refl, refl) in
     Printed-weaker _ (Ends given) (made_text c.unreadable-text.result (Unreadable beginning) _ (Ends given) c.unreadable-text.ensures ends) _ _ _ c.conclude-in-Err-Bad.ensures.printed

@@ -1,0 +1,33 @@
+-- What it is to have all models of a size, the order of tables apart.
+use Rattle.std.specs.Prelude.{◌≢◌, ℕ, List, [], ◌∷◌, ◌⊎◌}
+use Rattle.fol_core.specs.Stated.{Stated}
+use Rattle.mace_search.specs.Models.{IsModel}
+use Rattle.model_tables.specs.Renaming.{IsRenaming}
+use Rattle.model_tables.specs.Tables.{Finite}
+
+-- each of these tables is a model of size n
+abbrev pub AreModels : Stated → ℕ → List Finite → Type 0
+AreModels p n [] = Unit {0}
+AreModels p n (t ∷ ts) = IsModel p n t × AreModels p n ts
+
+-- none of these is t
+abbrev pub IsNew : Finite → List Finite → Type 0
+IsNew t [] = Unit {0}
+IsNew t (u ∷ us) = (t ≢ u) × IsNew t us
+
+-- no two of these are the same
+abbrev pub AreDifferent : List Finite → Type 0
+AreDifferent [] = Unit {0}
+AreDifferent (t ∷ ts) = IsNew t ts × AreDifferent ts
+
+-- u is a renaming of one of these
+abbrev pub HasRenaming : Stated → ℕ → Finite → List Finite → Type 0
+HasRenaming p n u [] = ⊥
+HasRenaming p n u (t ∷ ts) = ((r : ℕ → ℕ) × IsRenaming n p r t u) ⊎ HasRenaming p n u ts
+
+-- These are models, no two the same, and every interpretation of the size in which each assumption is true and each goal is
+-- false is a renaming of one of them.
+pub record AreComplete (p : Stated) (n : ℕ) (ts : List Finite) : Type 0 where
+  pub models : AreModels p n ts
+  pub different : AreDifferent ts
+  pub every : (u : Finite) → IsModel p n u → HasRenaming p n u ts
