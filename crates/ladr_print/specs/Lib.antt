@@ -1,0 +1,4 @@
+pub mod Precedences
+pub mod RawText
+pub mod ReadsAs
+pub mod Spacing
