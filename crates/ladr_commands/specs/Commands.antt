@@ -1,0 +1,79 @@
+-- The commands that stand outside lists, and which tokens they are.
+use Rattle.std.specs.Prelude.{ℕ, true, false, if◌then◌else◌, unwrap_or, List, [], ◌∷◌, codes}
+use Rattle.std.specs.Str.{bytes_eq}
+use Rattle.ladr_lex.specs.Lexeme.{Lexeme}
+use Rattle.ladr_commands.specs.Form.{Form, ends, token, members, list}
+use Rattle.ladr_commands.specs.Wanted.{text_of, word_of, is_number, is_close, is_open_square}
+use Rattle.ladr_commands.specs.Whole.{whole}
+use Rattle.ladr_commands.specs.declared.command.Command.{Command}
+use Rattle.ladr_commands.specs.declared.command.Value.{Value}
+use Rattle.ladr_commands.specs.declared.command.Value.TheVariants as value
+use Rattle.ladr_commands.specs.declared.wanted.Wanted.TheVariants.{Open, Close, Comma, Stop, Symbol, Numeral, CommandWord, SymbolOrOpenSquare, NumeralOrClose}
+use Rattle.ladr_commands.specs.declared.word.Word.{Word}
+use Rattle.ladr_commands.specs.declared.word.Word.TheVariants as word
+use Rattle.ladr_commands.specs.declared.command.Command.TheVariants as command
+
+abbrev pub number_in : Lexeme → ℕ
+number_in t = whole (text_of t)
+
+-- `.`
+abbrev pub stopped : Command → Form
+stopped c = token Stop (λ _. ends c)
+
+-- `).`
+abbrev pub closed : Command → Form
+closed c = token Close (λ _. stopped c)
+
+-- `(`
+abbrev pub opened : Form → Form
+opened f = token Open (λ _. f)
+
+-- `name).`
+abbrev pub with_name : (List ℕ → Command) → Form
+with_name command = token Symbol (λ name. closed (command (text_of name)))
+
+-- `-` that is a value of its own, where `)` follows, or stands before a number
+abbrev pub behind_dash : List ℕ → Lexeme → Form
+behind_dash name t = if is_close t then stopped (command.Assign name (value.Symbol (codes "-"))) else closed (command.Assign name (value.Number true (number_in t)))
+
+abbrev pub value_of : Lexeme → Value
+value_of t = if is_number t then value.Number false (number_in t) else value.Symbol (text_of t)
+
+abbrev pub behind_value : List ℕ → Lexeme → Form
+behind_value name t = if bytes_eq (text_of t) (codes "-") then token NumeralOrClose (behind_dash name) else closed (command.Assign name (value_of t))
+
+-- `name, value).`, a value being a symbol, or a number with or without `-` before it
+abbrev pub assignment : Form
+assignment = token Symbol (λ name. token Comma (λ _. token Symbol (behind_value (text_of name))))
+
+-- one symbol, or a list of them
+abbrev pub behind_type : ℕ → List ℕ → Lexeme → Form
+behind_type p type t =
+    if is_open_square t then members Symbol [] (λ names. closed (command.Op p type names))
+    else closed (command.Op p type (text_of t ∷ []))
+
+-- `number, type, symbols).`
+abbrev pub declaration : Form
+declaration =
+    token Numeral (λ p. token Comma (λ _. token Symbol (λ type. token Comma (λ _. token SymbolOrOpenSquare (behind_type (number_in p) (text_of type))))))
+
+-- `[name, .., name]).`
+abbrev pub with_names : (List (List ℕ) → Command) → Form
+with_names command = list Symbol (λ names. closed (command names))
+
+-- behind a word: `(` and what it asks; `end_if` has no arguments
+abbrev pub behind_word : Word → Form
+behind_word word.Set = opened (with_name (command.Flag true))
+behind_word word.Clear = opened (with_name (command.Flag false))
+behind_word word.Assign = opened assignment
+behind_word word.Op = opened declaration
+behind_word word.FunctionOrder = opened (with_names command.FunctionOrder)
+behind_word word.PredicateOrder = opened (with_names command.PredicateOrder)
+behind_word word.Formulas = opened (with_name command.Formulas)
+behind_word word.List = opened (with_name command.List)
+behind_word word.If = opened (with_name command.If)
+behind_word word.EndIf = stopped command.EndIf
+
+-- a command
+abbrev pub commands : Form
+commands = token CommandWord (λ t. behind_word (unwrap_or (word_of (text_of t)) word.EndIf))

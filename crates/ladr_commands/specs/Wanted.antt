@@ -1,0 +1,77 @@
+-- Which tokens may stand at a place.
+use Rattle.std.specs.Prelude.{ℕ, Bool, true, false, ◌||◌, List, [], Option, Some, None, is_some, if◌then◌else◌, codes}
+use Rattle.std.specs.Str.{bytes_eq}
+use Rattle.ladr_lex.specs.Lexeme.{Lexeme, ordinary, open_paren, close_paren, open_square, close_square, comma, full_stop, symbol}
+use Rattle.ladr_lex.specs.Numeral.{is_numeral}
+use Rattle.ladr_commands.specs.declared.wanted.Wanted.{Wanted}
+use Rattle.ladr_commands.specs.declared.wanted.Wanted.TheVariants.{Open, Close, OpenSquare, CloseSquare, Comma, Stop, Symbol, Numeral, CommandWord, CommaOrCloseSquare, SymbolOrOpenSquare, NumeralOrClose}
+use Rattle.ladr_commands.specs.declared.word.Word.{Word}
+use Rattle.ladr_commands.specs.declared.word.Word.TheVariants as word
+
+-- punctuation; a symbol of any sort; a numeral
+abbrev pub is_open : Lexeme → Bool
+is_open open_paren = true
+is_open t = false
+
+abbrev pub is_close : Lexeme → Bool
+is_close close_paren = true
+is_close t = false
+
+abbrev pub is_open_square : Lexeme → Bool
+is_open_square open_square = true
+is_open_square t = false
+
+abbrev pub is_close_square : Lexeme → Bool
+is_close_square close_square = true
+is_close_square t = false
+
+abbrev pub is_comma : Lexeme → Bool
+is_comma comma = true
+is_comma t = false
+
+abbrev pub is_stop : Lexeme → Bool
+is_stop full_stop = true
+is_stop t = false
+
+abbrev pub is_symbol : Lexeme → Bool
+is_symbol (symbol sort text) = true
+is_symbol t = false
+
+abbrev pub is_number : Lexeme → Bool
+is_number (symbol ordinary text) = is_numeral text
+is_number t = false
+
+-- the bytes of a symbol
+abbrev pub text_of : Lexeme → List ℕ
+text_of (symbol sort text) = text
+text_of t = []
+
+-- the words that begin commands
+abbrev pub word_of : List ℕ → Option Word
+word_of text =
+    if bytes_eq text (codes "set") then Some word.Set
+    else (if bytes_eq text (codes "clear") then Some word.Clear
+    else (if bytes_eq text (codes "assign") then Some word.Assign
+    else (if bytes_eq text (codes "op") then Some word.Op
+    else (if bytes_eq text (codes "function_order") then Some word.FunctionOrder
+    else (if bytes_eq text (codes "predicate_order") then Some word.PredicateOrder
+    else (if bytes_eq text (codes "formulas") then Some word.Formulas
+    else (if bytes_eq text (codes "list") then Some word.List
+    else (if bytes_eq text (codes "if") then Some word.If
+    else (if bytes_eq text (codes "end_if") then Some word.EndIf
+    else None)))))))))
+
+-- the token is of the class that is wanted
+abbrev pub fits : Wanted → Lexeme → Bool
+fits Open t = is_open t
+fits Close t = is_close t
+fits OpenSquare t = is_open_square t
+fits CloseSquare t = is_close_square t
+fits Comma t = is_comma t
+fits Stop t = is_stop t
+fits Symbol t = is_symbol t
+fits Numeral t = is_number t
+fits CommandWord t = is_some (word_of (text_of t))
+fits CommaOrCloseSquare t = is_comma t || is_close_square t
+fits SymbolOrOpenSquare t = is_symbol t || is_open_square t
+fits NumeralOrClose t = is_number t || is_close t
