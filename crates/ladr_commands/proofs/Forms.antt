@@ -2,14 +2,17 @@
 use Rattle.std.proofs.Common.{◌≡◌, ℕ, suc, ◌+◌, ◌-◌, ◌≤◌, ◌<◌, true, List, [], ◌∷◌, ◌++◌, Option, Some, None, length, take, refl, ap, ap₂, ◌∙◌, sym, subst, append_assoc, arith, codes}
 use Rattle.std.proofs.lemmas.List.{length-append}
 use Rattle.std.proofs.Math.Seq.{take-append_seam}
-use Rattle.ladr_lex.specs.Lexeme.{Lexeme, lexemes_of, ordinary, open_paren, close_paren, open_square, close_square, comma, full_stop, symbol}
+use Rattle.ladr_lex.specs.Lexeme.{Lexeme, lexemes_of, ordinary, special, open_paren, close_paren, open_square, close_square, comma, full_stop, symbol}
 use Rattle.ladr_lex.specs.declared.token.Token.{Token}
+use Rattle.fol_core.specs.declared.symbols.Kind.TheVariants.{Function}
+use Rattle.ladr_commands.specs.ByName.{Table, table, by_name}
+use Rattle.ladr_commands.specs.declared.command.Command.TheVariants.{Interpretation}
 use Rattle.ladr_commands.specs.Faults.{Begins, IsBadToken}
-use Rattle.ladr_commands.specs.Form.{Form, ends, token, members, after, behind_member, outcome, Outcome, reads, stops, Says}
-use Rattle.ladr_commands.specs.Wanted.{fits, text_of}
+use Rattle.ladr_commands.specs.Form.{Form, ends, token, members, values, places, comments, comment, entries, entry, after, behind_member, behind_number, behind_place, number_in, outcome, Outcome, reads, stops, Says}
+use Rattle.ladr_commands.specs.Wanted.{fits, text_of, kind_in}
 use Rattle.ladr_commands.specs.declared.command.Command.{Command}
 use Rattle.ladr_commands.specs.declared.wanted.Wanted.{Wanted}
-use Rattle.ladr_commands.specs.declared.wanted.Wanted.TheVariants.{Open, Close, OpenSquare, CloseSquare, Comma, Stop, Symbol, Numeral, CommandWord, CommaOrCloseSquare, SymbolOrOpenSquare, NumeralOrClose}
+use Rattle.ladr_commands.specs.declared.wanted.Wanted.TheVariants.{Open, Close, OpenSquare, CloseSquare, Comma, Stop, Symbol, Numeral, CommandWord, CommaOrCloseSquare, SymbolOrOpenSquare, NumeralOrClose, TesterWord, InterpretationWord, Equality, Place, CommaOrOpen, CommaOrClose, SymbolOrCloseSquare, KindWord, KindWordOrCloseSquare}
 
 -- a token of each class
 abbrev pub example : Wanted → Lexeme
@@ -25,6 +28,15 @@ example CommandWord = symbol ordinary (codes "set")
 example CommaOrCloseSquare = close_square
 example SymbolOrOpenSquare = symbol ordinary (codes "a")
 example NumeralOrClose = symbol ordinary (codes "0")
+example TesterWord = symbol ordinary (codes "set")
+example InterpretationWord = symbol ordinary (codes "interpretation")
+example Equality = symbol special (codes "=")
+example Place = symbol ordinary (codes "_")
+example CommaOrOpen = comma
+example CommaOrClose = close_paren
+example SymbolOrCloseSquare = close_square
+example KindWord = symbol ordinary (codes "function")
+example KindWordOrCloseSquare = close_square
 
 pub example_fits : (w : Wanted) → fits w (example w) ≡ true
 example_fits Open = refl
@@ -39,6 +51,15 @@ example_fits CommandWord = refl
 example_fits CommaOrCloseSquare = refl
 example_fits SymbolOrOpenSquare = refl
 example_fits NumeralOrClose = refl
+example_fits TesterWord = refl
+example_fits InterpretationWord = refl
+example_fits Equality = refl
+example_fits Place = refl
+example_fits CommaOrOpen = refl
+example_fits CommaOrClose = refl
+example_fits SymbolOrCloseSquare = refl
+example_fits KindWord = refl
+example_fits KindWordOrCloseSquare = refl
 
 -- some tokens of a form
 pub record Filled (f : Form) : Type 0 where
@@ -54,6 +75,26 @@ filled (token w onward) =
 filled (members w read onward) =
     let more = filled (onward (read ++ text_of (example w) ∷ [])) in
     record { tokens = example w ∷ close_square ∷ more.tokens; command = more.command; says = rw (example_fits w) more.says }
+filled (values read onward) =
+    let more = filled (onward (read ++ 0 ∷ [])) in
+    record { tokens = symbol ordinary (codes "0") ∷ close_square ∷ more.tokens; command = more.command; says = more.says }
+filled (places n onward) =
+    let more = filled (onward (n + 1)) in
+    record { tokens = symbol ordinary (codes "_") ∷ close_paren ∷ more.tokens; command = more.command; says = more.says }
+filled (comments f) =
+    let more = filled f in
+    record {
+      tokens = symbol ordinary (codes "a") ∷ symbol special (codes "=") ∷ symbol ordinary (codes "0") ∷ close_square ∷ more.tokens;
+      command = more.command;
+      says = more.says;
+    }
+filled (entries n es) = record {
+  tokens =
+      symbol ordinary (codes "function") ∷ open_paren ∷ symbol ordinary (codes "a") ∷ comma ∷ open_square ∷ symbol ordinary (codes "0") ∷ close_square ∷ close_paren
+      ∷ close_square ∷ close_paren ∷ full_stop ∷ [];
+  command = Interpretation (by_name n (es ++ table Function (codes "a") 0 (0 ∷ []) ∷ []));
+  says = refl;
+}
 
 -- a form stops in the tokens with these left: those before lead to a form that the next one can't begin
 pub record Stopped (f : Form) (ts us : List Lexeme) : Type 0 where
@@ -89,6 +130,10 @@ at_end : (f : Form) (us : List Lexeme) → outcome f [] ≡ stops us → Stopped
 at_end (ends c) us e = absurd (no_stop c us e)
 at_end (token w onward) us e = let h : [] ≡ us = ap left_of e in subst (λ vs. Stopped (token w onward) [] vs) h (at_once (token w onward) [] (λ u rest i. absurd (nothing_is u rest i)))
 at_end (members w read onward) us e = let h : [] ≡ us = ap left_of e in subst (λ vs. Stopped (members w read onward) [] vs) h (at_once (members w read onward) [] (λ u rest i. absurd (nothing_is u rest i)))
+at_end (values read onward) us e = let h : [] ≡ us = ap left_of e in subst (λ vs. Stopped (values read onward) [] vs) h (at_once (values read onward) [] (λ u rest i. absurd (nothing_is u rest i)))
+at_end (places n onward) us e = let h : [] ≡ us = ap left_of e in subst (λ vs. Stopped (places n onward) [] vs) h (at_once (places n onward) [] (λ u rest i. absurd (nothing_is u rest i)))
+at_end (comments f) us e = let h : [] ≡ us = ap left_of e in subst (λ vs. Stopped (comments f) [] vs) h (at_once (comments f) [] (λ u rest i. absurd (nothing_is u rest i)))
+at_end (entries n es) us e = let h : [] ≡ us = ap left_of e in subst (λ vs. Stopped (entries n es) [] vs) h (at_once (entries n es) [] (λ u rest i. absurd (nothing_is u rest i)))
 
 -- a form that a token can't begin stops before it
 at_token : (f : Form) (t : Lexeme) (ts us : List Lexeme) → after f t ≡ None → outcome f (t ∷ ts) ≡ stops us → Stopped f (t ∷ ts) us
@@ -164,6 +209,28 @@ pub as_token : (w : Wanted) (read : List (List ℕ)) (onward : List (List ℕ) �
     → outcome (members w read onward) ts ≡ outcome (token w (λ t. token CommaOrCloseSquare (behind_member w (read ++ text_of t ∷ []) onward))) ts
 as_token w read onward [] = refl
 as_token w read onward (t ∷ ts) = refl
+
+pub as_number : (read : List ℕ) (onward : List ℕ → Form) (ts : List Lexeme)
+    → outcome (values read onward) ts ≡ outcome (token Numeral (λ t. token CommaOrCloseSquare (behind_number (read ++ number_in t ∷ []) onward))) ts
+as_number read onward [] = refl
+as_number read onward (t ∷ ts) = refl
+
+pub as_place : (n : ℕ) (onward : ℕ → Form) (ts : List Lexeme) → outcome (places n onward) ts ≡ outcome (token Place (λ _. token CommaOrClose (behind_place (n + 1) onward))) ts
+as_place n onward [] = refl
+as_place n onward (t ∷ ts) = refl
+
+-- nothing is left for a place
+pub no_place : (n : ℕ) (onward : ℕ → Form) (ts : List Lexeme) → length ts ≤ 0 → outcome (places n onward) ts ≡ stops ts
+no_place n onward [] h = refl
+no_place n onward (t ∷ ts) h = absurd (omega arith)
+
+pub as_comment : (f : Form) (ts : List Lexeme) → outcome (comments f) ts ≡ outcome (token Symbol (λ _. comment f)) ts
+as_comment f [] = refl
+as_comment f (t ∷ ts) = refl
+
+pub as_entry : (n : ℕ) (es : List Table) (ts : List Lexeme) → outcome (entries n es) ts ≡ outcome (token KindWord (λ t. entry n es (kind_in t))) ts
+as_entry n es [] = refl
+as_entry n es (t ∷ ts) = refl
 
 -- the command that was read, and this one where none was
 abbrev pub read_of : Command → Outcome → Command

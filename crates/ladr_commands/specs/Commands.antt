@@ -1,32 +1,21 @@
 -- The commands that stand outside lists, and which tokens they are.
-use Rattle.std.specs.Prelude.{ℕ, true, false, if◌then◌else◌, unwrap_or, List, [], ◌∷◌, codes}
+use Rattle.std.specs.Prelude.{Bool, ℕ, true, false, if◌then◌else◌, unwrap_or, List, [], ◌∷◌, codes}
 use Rattle.std.specs.Str.{bytes_eq}
 use Rattle.ladr_lex.specs.Lexeme.{Lexeme}
-use Rattle.ladr_commands.specs.Form.{Form, ends, token, members, list}
-use Rattle.ladr_commands.specs.Wanted.{text_of, word_of, is_number, is_close, is_open_square}
+use Rattle.ladr_commands.specs.ByName.{by_name}
+use Rattle.ladr_commands.specs.Form.{Form, token, members, list, stopped, closed, opened, number_in, comment, entry}
+use Rattle.ladr_commands.specs.Wanted.{text_of, word_of, is_number, is_close, is_open_square, is_close_square, is_interpretation, kind_in}
 use Rattle.ladr_commands.specs.Whole.{whole}
 use Rattle.ladr_commands.specs.declared.command.Command.{Command}
 use Rattle.ladr_commands.specs.declared.command.Value.{Value}
 use Rattle.ladr_commands.specs.declared.command.Value.TheVariants as value
-use Rattle.ladr_commands.specs.declared.wanted.Wanted.TheVariants.{Open, Close, Comma, Stop, Symbol, Numeral, CommandWord, SymbolOrOpenSquare, NumeralOrClose}
+use Rattle.ladr_commands.specs.declared.wanted.Wanted.TheVariants.{OpenSquare, Comma, Symbol, Numeral, CommandWord, SymbolOrOpenSquare, NumeralOrClose, TesterWord, InterpretationWord, SymbolOrCloseSquare, KindWordOrCloseSquare}
 use Rattle.ladr_commands.specs.declared.word.Word.{Word}
 use Rattle.ladr_commands.specs.declared.word.Word.TheVariants as word
 use Rattle.ladr_commands.specs.declared.command.Command.TheVariants as command
 
-abbrev pub number_in : Lexeme → ℕ
-number_in t = whole (text_of t)
-
--- `.`
-abbrev pub stopped : Command → Form
-stopped c = token Stop (λ _. ends c)
-
--- `).`
-abbrev pub closed : Command → Form
-closed c = token Close (λ _. stopped c)
-
--- `(`
-abbrev pub opened : Form → Form
-opened f = token Open (λ _. f)
+abbrev pub whole_in : Lexeme → ℕ
+whole_in t = whole (text_of t)
 
 -- `name).`
 abbrev pub with_name : (List ℕ → Command) → Form
@@ -34,10 +23,10 @@ with_name command = token Symbol (λ name. closed (command (text_of name)))
 
 -- `-` that is a value of its own, where `)` follows, or stands before a number
 abbrev pub behind_dash : List ℕ → Lexeme → Form
-behind_dash name t = if is_close t then stopped (command.Assign name (value.Symbol (codes "-"))) else closed (command.Assign name (value.Number true (number_in t)))
+behind_dash name t = if is_close t then stopped (command.Assign name (value.Symbol (codes "-"))) else closed (command.Assign name (value.Number true (whole_in t)))
 
 abbrev pub value_of : Lexeme → Value
-value_of t = if is_number t then value.Number false (number_in t) else value.Symbol (text_of t)
+value_of t = if is_number t then value.Number false (whole_in t) else value.Symbol (text_of t)
 
 abbrev pub behind_value : List ℕ → Lexeme → Form
 behind_value name t = if bytes_eq (text_of t) (codes "-") then token NumeralOrClose (behind_dash name) else closed (command.Assign name (value_of t))
@@ -55,7 +44,7 @@ behind_type p type t =
 -- `number, type, symbols).`
 abbrev pub declaration : Form
 declaration =
-    token Numeral (λ p. token Comma (λ _. token Symbol (λ type. token Comma (λ _. token SymbolOrOpenSquare (behind_type (number_in p) (text_of type))))))
+    token Numeral (λ p. token Comma (λ _. token Symbol (λ type. token Comma (λ _. token SymbolOrOpenSquare (behind_type (whole_in p) (text_of type))))))
 
 -- `[name, .., name]).`
 abbrev pub with_names : (List (List ℕ) → Command) → Form
@@ -74,6 +63,44 @@ behind_word word.List = opened (with_name command.List)
 behind_word word.If = opened (with_name command.If)
 behind_word word.EndIf = stopped command.EndIf
 
--- a command
+-- `name = number, .., name = number]`, or `]` alone
+abbrev pub comments_or : Form → Lexeme → Form
+comments_or f t = if is_close_square t then f else comment f
+
+-- `entry, .., entry]).`, or `]).` alone
+abbrev pub entries_or : ℕ → Lexeme → Form
+entries_or n t = if is_close_square t then closed (command.Interpretation (by_name n [])) else entry n [] (kind_in t)
+
+-- `[entry, ..]).`
+abbrev pub entry_list : ℕ → Form
+entry_list n = token OpenSquare (λ _. token KindWordOrCloseSquare (entries_or n))
+
+-- `, [entry, ..]).`
+abbrev pub behind_comments : ℕ → Form
+behind_comments n = token Comma (λ _. entry_list n)
+
+-- `[name = number, ..]`, and the entries behind it
+abbrev pub comment_list : ℕ → Form
+comment_list n = token OpenSquare (λ _. token SymbolOrCloseSquare (comments_or (behind_comments n)))
+
+-- `(n, [name = number, ..], [entry, ..]).`
+abbrev pub interpretation : Form
+interpretation = opened (token Numeral (λ n. token Comma (λ _. comment_list (number_in n))))
+
+abbrev pub behind_first : Lexeme → Form
+behind_first t = if is_interpretation t then interpretation else behind_word (unwrap_or (word_of (text_of t)) word.EndIf)
+
+-- a command of the program that tests interpretations, and one of another program
+abbrev pub tester_commands : Form
+tester_commands = token TesterWord behind_first
+
 abbrev pub commands : Form
-commands = token CommandWord (λ t. behind_word (unwrap_or (word_of (text_of t)) word.EndIf))
+commands = token CommandWord behind_first
+
+-- the commands of a program
+abbrev pub commands_of : Bool → Form
+commands_of tester = if tester then tester_commands else commands
+
+-- an interpretation
+abbrev pub interpretation_item : Form
+interpretation_item = token InterpretationWord (λ _. interpretation)

@@ -1,18 +1,41 @@
 -- Forms of items: which tokens may stand one behind the other, and what they say.
-use Rattle.std.specs.Prelude.{◌≡◌, ℕ, Bool, if◌then◌else◌, List, [], ◌∷◌, ◌++◌, Option, Some, None}
+use Rattle.std.specs.Prelude.{◌≡◌, ℕ, ◌+◌, Bool, if◌then◌else◌, List, [], ◌∷◌, ◌++◌, Option, Some, None}
 use Rattle.std.specs.Option.{option_map_or}
+use Rattle.fol_core.specs.declared.symbols.Kind.{Kind}
 use Rattle.ladr_lex.specs.Lexeme.{Lexeme}
-use Rattle.ladr_commands.specs.Wanted.{fits, is_comma, text_of}
+use Rattle.ladr_lex.specs.Numeral.{number}
+use Rattle.ladr_commands.specs.ByName.{Table, table, by_name}
+use Rattle.ladr_commands.specs.Wanted.{fits, is_comma, text_of, kind_in}
 use Rattle.ladr_commands.specs.declared.command.Command.{Command}
+use Rattle.ladr_commands.specs.declared.command.Command.TheVariants.{Interpretation}
 use Rattle.ladr_commands.specs.declared.wanted.Wanted.{Wanted}
-use Rattle.ladr_commands.specs.declared.wanted.Wanted.TheVariants.{OpenSquare, Symbol, CommaOrCloseSquare}
+use Rattle.ladr_commands.specs.declared.wanted.Wanted.TheVariants.{Open, Close, OpenSquare, Comma, Stop, Symbol, Numeral, CommaOrCloseSquare, Equality, Place, CommaOrOpen, CommaOrClose, KindWord}
 
--- Nothing more, and the command that was read; a token of a class, and then what it decides; behind members of a list, whose
--- texts are these, one more of this class, and so on with commas between them up to `]`, and then what the texts decide.
+-- Nothing more, and the command that was read; a token of a class, and then what it decides; and what may stand there any number
+-- of times, once at least and with commas between, and then what it says:
+-- further symbols of a list up to `]`, behind those with these texts; further numbers up to `]`, behind these; further `_` up to
+-- `)`, behind so many; `name = number` up to `]`; entries of an interpretation of a size, behind these.
 pub data Form : Type 0 where
   ends : Command → Form
   token : Wanted → (Lexeme → Form) → Form
   members : Wanted → List (List ℕ) → (List (List ℕ) → Form) → Form
+  values : List ℕ → (List ℕ → Form) → Form
+  places : ℕ → (ℕ → Form) → Form
+  comments : Form → Form
+  entries : ℕ → List Table → Form
+
+-- `.`, `).`, and a form behind `(`
+abbrev pub stopped : Command → Form
+stopped c = token Stop (λ _. ends c)
+
+abbrev pub closed : Command → Form
+closed c = token Close (λ _. stopped c)
+
+abbrev pub opened : Form → Form
+opened f = token Open (λ _. f)
+
+abbrev pub number_in : Lexeme → ℕ
+number_in t = number (text_of t)
 
 -- behind a member: a comma and one more, or `]`
 abbrev pub behind_member : Wanted → List (List ℕ) → (List (List ℕ) → Form) → Lexeme → Form
@@ -22,11 +45,47 @@ behind_member w read onward mark = if is_comma mark then members w read onward e
 abbrev pub list : Wanted → (List (List ℕ) → Form) → Form
 list w onward = token OpenSquare (λ _. members w [] onward)
 
+-- behind a value: a comma and one more, or `]`
+abbrev pub behind_number : List ℕ → (List ℕ → Form) → Lexeme → Form
+behind_number read onward mark = if is_comma mark then values read onward else onward read
+
+-- behind a place: a comma and one more, or `)`
+abbrev pub behind_place : ℕ → (ℕ → Form) → Lexeme → Form
+behind_place n onward mark = if is_comma mark then places n onward else onward n
+
+-- `= number` behind a name, and then a comma and one more, or `]`
+abbrev pub behind_comment : Form → Lexeme → Form
+behind_comment f mark = if is_comma mark then comments f else f
+
+abbrev pub comment : Form → Form
+comment f = token Equality (λ _. token Numeral (λ _. token CommaOrCloseSquare (behind_comment f)))
+
+-- behind an entry: a comma and one more, or `]).`
+abbrev pub behind_entry : ℕ → List Table → Lexeme → Form
+behind_entry n es mark = if is_comma mark then entries n es else closed (Interpretation (by_name n es))
+
+-- `[v, .., v])` of an entry, and what stands behind it
+abbrev pub listed : ℕ → List Table → Kind → List ℕ → ℕ → Form
+listed n es kind name arity =
+    token OpenSquare (λ _. values [] (λ vs. token Close (λ _. token CommaOrCloseSquare (behind_entry n (es ++ table kind name arity vs ∷ [])))))
+
+-- behind the name of an entry: its values, or places for arguments before them
+abbrev pub behind_name : ℕ → List Table → Kind → List ℕ → Lexeme → Form
+behind_name n es kind name mark = if is_comma mark then listed n es kind name 0 else places 0 (λ arity. token Comma (λ _. listed n es kind name arity))
+
+-- `(head, [v, .., v])`, a head being a name, or a name and `(_, .., _)`
+abbrev pub entry : ℕ → List Table → Kind → Form
+entry n es kind = opened (token Symbol (λ name. token CommaOrOpen (behind_name n es kind (text_of name))))
+
 -- what may stand behind a token, if it may stand here
 abbrev pub after : Form → Lexeme → Option Form
 after (ends c) t = None
 after (token w onward) t = if fits w t then Some (onward t) else None
 after (members w read onward) t = if fits w t then Some (token CommaOrCloseSquare (behind_member w (read ++ text_of t ∷ []) onward)) else None
+after (values read onward) t = if fits Numeral t then Some (token CommaOrCloseSquare (behind_number (read ++ number_in t ∷ []) onward)) else None
+after (places n onward) t = if fits Place t then Some (token CommaOrClose (behind_place (n + 1) onward)) else None
+after (comments f) t = if fits Symbol t then Some (comment f) else None
+after (entries n es) t = if fits KindWord t then Some (entry n es (kind_in t)) else None
 
 -- the tokens are a command, or they are left from the first one on that can't stand there, the end being the last
 pub data Outcome : Type 0 where
@@ -37,6 +96,10 @@ abbrev pub at_end : Form → Outcome
 at_end (ends c) = reads c
 at_end (token w onward) = stops []
 at_end (members w read onward) = stops []
+at_end (values read onward) = stops []
+at_end (places n onward) = stops []
+at_end (comments f) = stops []
+at_end (entries n es) = stops []
 
 abbrev pub outcome : Form → List Lexeme → Outcome
 outcome f [] = at_end f
@@ -55,3 +118,21 @@ abbrev pub IsMember : List Lexeme → List ℕ → Bool → List Lexeme → Type
 IsMember ts name last rest =
     (read : List (List ℕ)) (onward : List (List ℕ) → Form)
     → outcome (members Symbol read onward) ts ≡ outcome (if last then onward (read ++ name ∷ []) else members Symbol (read ++ name ∷ []) onward) rest
+
+-- further values are read, and the list of them ends
+abbrev pub ReadsValues : List Lexeme → List ℕ → List Lexeme → Type 0
+ReadsValues ts vs rest = (onward : List ℕ → Form) → outcome (values [] onward) ts ≡ outcome (onward vs) rest
+
+-- a value, and behind it `]` if it is the last one, else a comma
+abbrev pub IsValue : List Lexeme → ℕ → Bool → List Lexeme → Type 0
+IsValue ts v last rest =
+    (read : List ℕ) (onward : List ℕ → Form)
+    → outcome (values read onward) ts ≡ outcome (if last then onward (read ++ v ∷ []) else values (read ++ v ∷ []) onward) rest
+
+-- a place for an argument, and behind it `)` if it is the last one, else a comma
+abbrev pub IsPlace : List Lexeme → Bool → List Lexeme → Type 0
+IsPlace ts last rest = (n : ℕ) (onward : ℕ → Form) → outcome (places n onward) ts ≡ outcome (if last then onward (n + 1) else places (n + 1) onward) rest
+
+-- an entry behind its kind's word, and behind it a comma, if more follow
+abbrev pub IsEntry : List Lexeme → Kind → Table → Bool → List Lexeme → Type 0
+IsEntry ts kind t last rest = (n : ℕ) (es : List Table) → outcome (entry n es kind) ts ≡ outcome (if last then closed (Interpretation (by_name n (es ++ t ∷ []))) else entries n (es ++ t ∷ [])) rest

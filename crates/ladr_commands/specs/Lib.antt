@@ -1,3 +1,4 @@
+pub mod ByName
 pub mod Commands
 pub mod Faults
 pub mod Form

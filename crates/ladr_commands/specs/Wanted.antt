@@ -1,10 +1,12 @@
 -- Which tokens may stand at a place.
 use Rattle.std.specs.Prelude.{ℕ, Bool, true, false, ◌||◌, List, [], Option, Some, None, is_some, if◌then◌else◌, codes}
 use Rattle.std.specs.Str.{bytes_eq}
-use Rattle.ladr_lex.specs.Lexeme.{Lexeme, ordinary, open_paren, close_paren, open_square, close_square, comma, full_stop, symbol}
+use Rattle.fol_core.specs.declared.symbols.Kind.{Kind}
+use Rattle.fol_core.specs.declared.symbols.Kind.TheVariants.{Function, Relation}
+use Rattle.ladr_lex.specs.Lexeme.{Lexeme, ordinary, special, open_paren, close_paren, open_square, close_square, comma, full_stop, symbol}
 use Rattle.ladr_lex.specs.Numeral.{is_numeral}
 use Rattle.ladr_commands.specs.declared.wanted.Wanted.{Wanted}
-use Rattle.ladr_commands.specs.declared.wanted.Wanted.TheVariants.{Open, Close, OpenSquare, CloseSquare, Comma, Stop, Symbol, Numeral, CommandWord, CommaOrCloseSquare, SymbolOrOpenSquare, NumeralOrClose}
+use Rattle.ladr_commands.specs.declared.wanted.Wanted.TheVariants.{Open, Close, OpenSquare, CloseSquare, Comma, Stop, Symbol, Numeral, CommandWord, CommaOrCloseSquare, SymbolOrOpenSquare, NumeralOrClose, TesterWord, InterpretationWord, Equality, Place, CommaOrOpen, CommaOrClose, SymbolOrCloseSquare, KindWord, KindWordOrCloseSquare}
 use Rattle.ladr_commands.specs.declared.word.Word.{Word}
 use Rattle.ladr_commands.specs.declared.word.Word.TheVariants as word
 
@@ -61,6 +63,25 @@ word_of text =
     else (if bytes_eq text (codes "end_if") then Some word.EndIf
     else None)))))))))
 
+-- an ordinary symbol that is this word; the sign `=`
+abbrev pub is_word : List ℕ → Lexeme → Bool
+is_word word (symbol ordinary text) = bytes_eq text word
+is_word word t = false
+
+abbrev pub is_equality : Lexeme → Bool
+is_equality (symbol special text) = bytes_eq text (codes "=")
+is_equality t = false
+
+-- `interpretation`, and the words that tell a kind
+abbrev pub is_interpretation : Lexeme → Bool
+is_interpretation t = is_word (codes "interpretation") t
+
+abbrev pub is_kind_word : Lexeme → Bool
+is_kind_word t = is_word (codes "function") t || is_word (codes "relation") t
+
+abbrev pub kind_in : Lexeme → Kind
+kind_in t = if is_word (codes "function") t then Function else Relation
+
 -- the token is of the class that is wanted
 abbrev pub fits : Wanted → Lexeme → Bool
 fits Open t = is_open t
@@ -75,3 +96,12 @@ fits CommandWord t = is_some (word_of (text_of t))
 fits CommaOrCloseSquare t = is_comma t || is_close_square t
 fits SymbolOrOpenSquare t = is_symbol t || is_open_square t
 fits NumeralOrClose t = is_number t || is_close t
+fits TesterWord t = is_interpretation t || is_some (word_of (text_of t))
+fits InterpretationWord t = is_interpretation t
+fits Equality t = is_equality t
+fits Place t = is_word (codes "_") t
+fits CommaOrOpen t = is_comma t || is_open t
+fits CommaOrClose t = is_comma t || is_close t
+fits SymbolOrCloseSquare t = is_symbol t || is_close_square t
+fits KindWord t = is_kind_word t
+fits KindWordOrCloseSquare t = is_kind_word t || is_close_square t

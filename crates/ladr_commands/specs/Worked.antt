@@ -42,3 +42,10 @@ unknown = word "include" ∷ open_paren ∷ word "file" ∷ close_paren ∷ full
 -- `end_if`, where the input ends
 abbrev pub cut_off : List Lexeme
 cut_off = word "end_if" ∷ []
+
+-- `interpretation(2, [number = 1], [function(f(_), [1,0])]).`
+abbrev pub exchange : List Lexeme
+exchange =
+    word "interpretation" ∷ open_paren ∷ word "2" ∷ comma ∷ open_square ∷ word "number" ∷ symbol special (codes "=") ∷ word "1" ∷ close_square ∷ comma ∷ open_square
+    ∷ word "function" ∷ open_paren ∷ word "f" ∷ open_paren ∷ word "_" ∷ close_paren ∷ comma ∷ open_square ∷ word "1" ∷ comma ∷ word "0" ∷ close_square ∷ close_paren
+    ∷ close_square ∷ close_paren ∷ full_stop ∷ []

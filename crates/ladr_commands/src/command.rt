@@ -1,4 +1,5 @@
 // The commands.
+use crate::by_name::ByName;
 use fol_core::{Name, Names};
 
 /// What a parameter is assigned: a symbol, or a number, which may have `-` before it.
@@ -9,7 +10,7 @@ pub enum Value {
 }
 
 /// A command: a flag that is set or cleared; a parameter with its value; the precedence and the type of operators; names in
-/// their order; a list that is opened; items for the program of a name, and the end of these.
+/// their order; a list that is opened; items for the program of a name, and the end of these; an interpretation.
 #[derive(Drop)]
 pub enum Command {
     Flag(bool, Name),
@@ -21,4 +22,5 @@ pub enum Command {
     List(Name),
     If(Name),
     EndIf,
+    Interpretation(ByName),
 }

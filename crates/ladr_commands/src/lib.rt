@@ -1,9 +1,11 @@
 // The commands that stand outside lists: their grammar, and which token is the first bad one.
 #![tactic(auto)]
 
+mod by_name;
 mod command;
 mod cursor;
 mod fault;
+mod interpretation;
 mod laws;
 mod numbers;
 mod read;
@@ -12,8 +14,9 @@ mod tests;
 mod wanted;
 mod word;
 
+pub use by_name::{ByName, Entry};
 pub use command::{Command, Value};
 pub use fault::CommandFault;
 pub use laws::{one_command, worked};
 pub use numbers::whole;
-pub use read::read_command;
+pub use read::{read_command, read_interpretation};

@@ -1,44 +1,93 @@
 // Reading a command.
 ghost use Rattle.std.specs.Prelude.{◌≡◌, ◌<◌, length, ℕ, true, List, [], Err, IfOk, OnOk, IfErr};
 ghost use Rattle.ladr_lex.specs.Lexeme.{Lexeme, lexeme_of, lexemes_of};
-ghost use Rattle.ladr_commands.specs.Commands.{commands, behind_word, opened, with_name, with_names, assignment, behind_value, behind_dash, declaration, behind_type, closed, stopped};
+ghost use Rattle.ladr_commands.specs.Commands.{commands_of, interpretation_item, behind_first, behind_word, with_name, with_names, assignment, behind_value, behind_dash, declaration, behind_type};
 ghost use Rattle.ladr_commands.specs.Faults.{IsCommandFault};
-ghost use Rattle.ladr_commands.specs.Form.{Form, token, members, behind_text, IsMember, list, outcome, reads, stops, Says};
+ghost use Rattle.ladr_commands.specs.Form.{Form, token, members, opened, closed, stopped, behind_text, IsMember, list, outcome, reads, stops, Says};
 ghost use Rattle.ladr_commands.specs.declared.command.Command.{Command};
 ghost use Rattle.ladr_commands.specs.declared.command.Command.TheVariants as command;
+ghost use Rattle.ladr_commands.specs.declared.command.Command.TheVariants.{Interpretation};
 ghost use Rattle.ladr_commands.specs.declared.fault.Fault.TheVariants.{Bad};
 ghost use Rattle.ladr_commands.specs.declared.wanted.Wanted.TheVariants.{Symbol, NumeralOrClose, SymbolOrOpenSquare};
 
+use crate::by_name::ByName;
 use crate::command::{Command, Value};
 use crate::cursor::Cursor;
 use crate::fault::{CommandFault, Fault};
+use crate::interpretation::opened_interpretation;
 use crate::numbers::whole;
-use crate::wanted::{Wanted, is_close, is_comma, is_number, is_open_square, text_of};
+use crate::wanted::{
+    Wanted, is_close, is_comma, is_interpretation, is_number, is_open_square, text_of,
+};
 use crate::word::{Word, word_of};
 use fol_core::{Name, Names};
 use ladr_lex::Token;
 use std::alloc::Global;
 
-/// The command that the tokens of an item are.
-pub fn read_command(alloc: Global, tokens: &[Token]) -> Result<Command, CommandFault>
-    ensures read { IfOk result (λ c. Says commands (lexemes_of tokens.now) c) }
-    ensures fault { IfErr result (IsCommandFault commands (lexemes_of tokens.now)) }
+/// The command that the tokens of an item are; interpretations are commands of the program that tests them alone.
+pub fn read_command(alloc: Global, tester: bool, tokens: &[Token]) -> Result<Command, CommandFault>
+    ensures read { IfOk result (λ c. Says (commands_of tester) (lexemes_of tokens.now) c) }
+    ensures fault { IfErr result (IsCommandFault (commands_of tester) (lexemes_of tokens.now)) }
 {
     let mut cursor = Cursor::new(tokens);
-    match command(alloc, &mut cursor) {
+    match command(alloc, tester, &mut cursor) {
         Ok(command) => Ok(command),
         Err(Fault::Bad) => Err(CommandFault::Bad(tokens.len() - cursor.left())),
         Err(Fault::Memory) => Err(CommandFault::Memory),
     }
 }
 
-// All that is left is a command.
-fn command(alloc: Global, cursor: &mut Cursor) -> Result<Command, Fault>
-    ensures ok { IfOk result (λ c. outcome commands cursor.old ≡ reads c) }
-    ensures bad { result ≡ Err Bad → outcome commands cursor.old ≡ stops cursor.new }
+/// The interpretation that the tokens of an item are.
+pub fn read_interpretation(alloc: Global, tokens: &[Token]) -> Result<ByName, CommandFault>
+    ensures read { IfOk result (λ it. Says interpretation_item (lexemes_of tokens.now) (Interpretation it)) }
+    ensures fault { IfErr result (IsCommandFault interpretation_item (lexemes_of tokens.now)) }
 {
-    let token = cursor.take(Wanted::CommandWord)?;
-    let word = word_of(text_of(&token)).unwrap_or(Word::EndIf);
+    let mut cursor = Cursor::new(tokens);
+    match worded_interpretation(alloc, &mut cursor) {
+        Ok(it) => Ok(it),
+        Err(Fault::Bad) => Err(CommandFault::Bad(tokens.len() - cursor.left())),
+        Err(Fault::Memory) => Err(CommandFault::Memory),
+    }
+}
+
+fn worded_interpretation(alloc: Global, cursor: &mut Cursor) -> Result<ByName, Fault>
+    ensures ok { IfOk result (λ it. outcome interpretation_item cursor.old ≡ reads (Interpretation it)) }
+    ensures bad { result ≡ Err Bad → outcome interpretation_item cursor.old ≡ stops cursor.new }
+{
+    cursor.take(Wanted::InterpretationWord)?;
+    opened_interpretation(alloc, cursor)
+}
+
+// All that is left is a command.
+fn command(alloc: Global, tester: bool, cursor: &mut Cursor) -> Result<Command, Fault>
+    ensures ok { IfOk result (λ c. outcome (commands_of tester) cursor.old ≡ reads c) }
+    ensures bad { result ≡ Err Bad → outcome (commands_of tester) cursor.old ≡ stops cursor.new }
+{
+    let token = first_word(tester, cursor)?;
+    behind_first(alloc, cursor, &token)
+}
+
+// The word that a command begins with.
+fn first_word<'a>(tester: bool, cursor: &mut Cursor<'a>) -> Result<Token<'a>, Fault>
+    ensures ok { IfOk result (λ t. outcome (commands_of tester) cursor.old ≡ outcome (behind_first (lexeme_of t)) cursor.new) }
+    ensures bad { result ≡ Err Bad → outcome (commands_of tester) cursor.old ≡ stops cursor.new }
+{
+    if tester {
+        cursor.take(Wanted::TesterWord)
+    } else {
+        cursor.take(Wanted::CommandWord)
+    }
+}
+
+// What stands behind the first token.
+fn behind_first(alloc: Global, cursor: &mut Cursor, first: &Token) -> Result<Command, Fault>
+    ensures ok { IfOk result (λ c. outcome (behind_first (lexeme_of first.now)) cursor.old ≡ reads c) }
+    ensures bad { result ≡ Err Bad → outcome (behind_first (lexeme_of first.now)) cursor.old ≡ stops cursor.new }
+{
+    if is_interpretation(first) {
+        return Ok(Command::Interpretation(opened_interpretation(alloc, cursor)?));
+    }
+    let word = word_of(text_of(first)).unwrap_or(Word::EndIf);
     behind_word(alloc, cursor, word)
 }
 
@@ -65,7 +114,7 @@ fn behind_word(alloc: Global, cursor: &mut Cursor, word: Word) -> Result<Command
 }
 
 // `.`, and nothing more.
-fn stopped(cursor: &mut Cursor) -> Result<(), Fault>
+pub fn stopped(cursor: &mut Cursor) -> Result<(), Fault>
     ensures ok { OnOk result ((c : Command) → outcome (stopped c) cursor.old ≡ reads c) }
     ensures bad { result ≡ Err Bad → (c : Command) → outcome (stopped c) cursor.old ≡ stops cursor.new }
 {
@@ -74,7 +123,7 @@ fn stopped(cursor: &mut Cursor) -> Result<(), Fault>
 }
 
 // `).`, and nothing more.
-fn closed(cursor: &mut Cursor) -> Result<(), Fault>
+pub fn closed(cursor: &mut Cursor) -> Result<(), Fault>
     ensures ok { OnOk result ((c : Command) → outcome (closed c) cursor.old ≡ reads c) }
     ensures bad { result ≡ Err Bad → (c : Command) → outcome (closed c) cursor.old ≡ stops cursor.new }
 {

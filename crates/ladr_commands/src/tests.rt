@@ -16,6 +16,7 @@ fn shown(command: &Command) -> (&'static [u8], u64) {
         Command::List(_) => (b"list", 0),
         Command::If(_) => (b"if", 0),
         Command::EndIf => (b"end_if", 0),
+        Command::Interpretation(it) => (b"interpretation", u64::from(it.size())),
     }
 }
 
@@ -43,13 +44,21 @@ fn commands_are_read(rt: HostRuntime) -> Result<(), Fail> {
         (b"list(weights).", Ok((b"list", 0))),
         (b"if(\"Prover9\").", Ok((b"if", 0))),
         (b"end_if.", Ok((b"end_if", 0))),
+        (
+            b"interpretation(2, [], [function(f(_,_), [0,1,1,0]), relation(p, [1])]).",
+            Ok((b"interpretation", 2)),
+        ),
+        (
+            b"interpretation(2, [number = 1], [function(f, [])]).",
+            Err(CommandFault::Bad(16)),
+        ),
         (b"op(05, infix, +).", Err(CommandFault::Bad(2))),
         (b"set(auto)", Err(CommandFault::Bad(4))),
         (b"set(auto). x", Err(CommandFault::Bad(5))),
         (b"", Err(CommandFault::Bad(0))),
     ] {
         let tokens = tokens(rt.alloc(), text).map_err(|_| "memory")?;
-        let shown = read_command(rt.alloc(), &tokens).map(|command| shown(&command));
+        let shown = read_command(rt.alloc(), true, &tokens).map(|command| shown(&command));
         assert_eq!(rt; shown, wanted, "{text:?}");
     }
     Ok(())

@@ -14,3 +14,6 @@ returns-clause-unknown _ = (first_bad commands _ _ refl).0
 
 pub returns-clause-cut_off : goal.returns-clause-cut_off
 returns-clause-cut_off _ = (first_bad commands _ _ refl).0
+
+pub returns-clause-other_program : goal.returns-clause-other_program
+returns-clause-other_program _ = (first_bad commands _ _ refl).0

@@ -1,6 +1,6 @@
 use Rattle.std.proofs.Common.{◌≡◌, ◌≤◌, ◌∙◌, ap, subst, length, ◌-◌, arith}
 use Rattle.ladr_lex.specs.Lexeme.{lexemes_of}
-use Rattle.ladr_commands.specs.Commands.{commands}
+use Rattle.ladr_commands.specs.Commands.{commands_of}
 use Rattle.ladr_commands.specs.Faults.{IsBadToken}
 use Rattle.ladr_commands.specs.Form.{outcome, stops}
 use Rattle.ladr_commands.proofs.Forms.{length-lexemes_of, left_within, first_bad}
@@ -9,13 +9,13 @@ use Rattle.ladr_commands.proofs.read.read_command.Goals as goal
 pub overflow_sub-result : goal.overflow_sub-result
 overflow_sub-result c =
     let e : length c.new-cursor.result ≡ length c.args.tokens.now = ap length c.new-cursor.ensures ∙ length-lexemes_of c.args.tokens.now in
-    let l : length c.command.new.cursor ≤ length c.new-cursor.result = left_within commands _ _ (c.command.ensures.bad (cc)) in
+    let l : length c.command.new.cursor ≤ length c.new-cursor.result = left_within (commands_of c.args.tester) _ _ (c.command.ensures.bad (cc)) in
     omega (arith, c.left.ensures)
 
 pub returns-in-Err-Bad-clause-fault : goal.returns-in-Err-Bad-clause-fault
 returns-in-Err-Bad-clause-fault c =
-    let e : outcome commands c.new-cursor.result ≡ stops c.command.new.cursor = c.command.ensures.bad (cc) in
+    let e : outcome (commands_of c.args.tester) c.new-cursor.result ≡ stops c.command.new.cursor = c.command.ensures.bad (cc) in
     let k : length (lexemes_of c.args.tokens.now) - length c.command.new.cursor ≡ length c.args.tokens.now - c.left.result =
     omega (arith, length-lexemes_of c.args.tokens.now, c.left.ensures) in
-    let h = first_bad commands (lexemes_of c.args.tokens.now) c.command.new.cursor (rw c.new-cursor.ensures at e) in
-    (subst (λ n. IsBadToken commands (lexemes_of c.args.tokens.now) n) k h.0, h.1)
+    let h = first_bad (commands_of c.args.tester) (lexemes_of c.args.tokens.now) c.command.new.cursor (rw c.new-cursor.ensures at e) in
+    (subst (λ n. IsBadToken (commands_of c.args.tester) (lexemes_of c.args.tokens.now) n) k h.0, h.1)
