@@ -44,7 +44,7 @@ behind_type p type t =
 -- `number, type, symbols).`
 abbrev pub declaration : Form
 declaration =
-    token Numeral (λ p. token Comma (λ _. token Symbol (λ type. token Comma (λ _. token SymbolOrOpenSquare (behind_type (whole_in p) (text_of type))))))
+    token Numeral (λ p. token Comma (λ _. token Symbol (λ type. token Comma (λ _. token SymbolOrOpenSquare (behind_type (number_in p) (text_of type))))))
 
 -- `[name, .., name]).`
 abbrev pub with_names : (List (List ℕ) → Command) → Form

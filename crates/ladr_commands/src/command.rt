@@ -15,7 +15,7 @@ pub enum Value {
 pub enum Command {
     Flag(bool, Name),
     Assign(Name, Value),
-    Op(u64, Name, Names),
+    Op(u32, Name, Names),
     FunctionOrder(Names),
     PredicateOrder(Names),
     Formulas(Name),

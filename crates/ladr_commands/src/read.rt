@@ -21,7 +21,7 @@ use crate::wanted::{
 };
 use crate::word::{Word, word_of};
 use fol_core::{Name, Names};
-use ladr_lex::Token;
+use ladr_lex::{Token, number};
 use std::alloc::Global;
 
 /// The command that the tokens of an item are; interpretations are commands of the program that tests them alone.
@@ -245,7 +245,7 @@ fn opened_declaration(alloc: Global, cursor: &mut Cursor) -> Result<Command, Fau
     cursor.take(Wanted::Comma)?;
     let names = closed_symbols(alloc, cursor)?;
     let kind = Name::from_slice(alloc, text_of(&kind))?;
-    Ok(Command::Op(whole(text_of(&precedence)), kind, names))
+    Ok(Command::Op(number(text_of(&precedence)), kind, names))
 }
 
 // `symbol).` or `[symbol, .., symbol]).`

@@ -1,0 +1,22 @@
+// Interpretations by names worked out.
+ghost use Rattle.std.specs.Prelude.{◌≡◌, true, false, [], ◌∷◌, codes};
+ghost use Rattle.fol_core.specs.SymbolTable.{symbol};
+ghost use Rattle.fol_core.specs.declared.symbols.Kind.TheVariants.{Function, Relation};
+ghost use Rattle.ladr_commands.specs.ByName.{table, by_name};
+ghost use Rattle.ladr_named.specs.Good.{is_good, tables_for};
+ghost use Rattle.model_tables.specs.Tables.{listing};
+
+/// Interpretations that are one or aren't, and the tables that one gives to symbols.
+pub fn worked()
+    ensures exchange { is_good (by_name 2 (table Function (codes "f") 1 (1 ∷ 0 ∷ []) ∷ [])) ≡ true }
+    ensures empty { is_good (by_name 0 []) ≡ false }
+    ensures large { is_good (by_name 201 []) ≡ false }
+    ensures too_few { is_good (by_name 2 (table Function (codes "f") 1 (1 ∷ []) ∷ [])) ≡ false }
+    ensures no_element { is_good (by_name 2 (table Function (codes "c") 0 (2 ∷ []) ∷ [])) ≡ false }
+    ensures one_element { is_good (by_name 1 (table Relation (codes "p") 0 (1 ∷ []) ∷ [])) ≡ true }
+    ensures no_truth { is_good (by_name 3 (table Relation (codes "p") 0 (2 ∷ []) ∷ [])) ≡ false }
+    ensures twice { is_good (by_name 2 (table Function (codes "c") 0 (0 ∷ []) ∷ table Relation (codes "c") 0 (0 ∷ []) ∷ [])) ≡ false }
+    ensures other_arity { is_good (by_name 2 (table Function (codes "c") 0 (0 ∷ []) ∷ table Relation (codes "c") 1 (0 ∷ 1 ∷ []) ∷ [])) ≡ true }
+    ensures tables { tables_for (by_name 2 (table Function (codes "f") 1 (1 ∷ 0 ∷ []) ∷ [])) (symbol (codes "p") 0 Relation ∷ symbol (codes "f") 1 Function ∷ [])
+        ≡ record { top = 1; rows = listing Relation [] ∷ listing Function (1 ∷ 0 ∷ []) ∷ [] } }
+{}
