@@ -1,0 +1,168 @@
+-- What the commands of a file set, and which rows of misuse they break.
+use Rattle.std.specs.Prelude.{ℕ, Bool, true, false, not, ◌&&◌, ◌||◌, if◌then◌else◌, List, [], ◌∷◌, Option, Some, None, is_some, length, nat_lt, codes}
+use Rattle.std.specs.List.{list_any}
+use Rattle.std.specs.Option.{option_map_or}
+use Rattle.std.specs.Str.{bytes_eq}
+use Rattle.std.specs.declared.result.Result.{Result}
+use Rattle.std.specs.declared.result.Result.TheVariants.{Ok, Err}
+use Rattle.ladr_commands.specs.ByName.{ByName}
+use Rattle.ladr_commands.specs.declared.command.Command.{Command}
+use Rattle.ladr_commands.specs.declared.command.Command.TheVariants as command
+use Rattle.ladr_commands.specs.declared.command.Value.{Value}
+use Rattle.ladr_commands.specs.declared.command.Value.TheVariants as value
+use Rattle.ladr_lex.specs.Operators.{OperatorRow, standard_rows, breaks_row_5, breaks_row_6, declared}
+use Rattle.ladr_named.specs.Good.{is_good}
+use Rattle.ladr_options.specs.Options.{start, flagged, numbered, symbolized}
+use Rattle.ladr_options.specs.declared.options.Options.{Options}
+use Rattle.ladr_options.specs.declared.options.OptionError.{OptionError}
+use Rattle.ladr_options.specs.declared.options.OptionError.TheVariants.{Unknown, NotAValue}
+use Rattle.ladr_settings.specs.declared.lists.FormulaList.{FormulaList}
+use Rattle.ladr_settings.specs.declared.lists.FormulaList.TheVariants.{Assumptions, Usable, Demodulators, Goals, Hints}
+use Rattle.ladr_settings.specs.declared.lists.OpenList.{OpenList}
+use Rattle.ladr_settings.specs.declared.lists.OpenList.TheVariants.{Formulas, Weights, KboWeights, OtherFormulas, OtherRules}
+use Rattle.ladr_reader.specs.declared.styles.Mode.{Mode}
+use Rattle.ladr_reader.specs.declared.styles.Mode.TheVariants.{Prover, Mace, Tester}
+use Rattle.ladr_settings.specs.declared.settings.Settings.{Settings}
+
+-- the lists of formulas by name; `sos` is another name of the assumptions
+abbrev pub formulas_named : List ℕ → Option FormulaList
+formulas_named name =
+    if bytes_eq name (codes "assumptions") then Some Assumptions
+    else (if bytes_eq name (codes "sos") then Some Assumptions
+    else (if bytes_eq name (codes "usable") then Some Usable
+    else (if bytes_eq name (codes "demodulators") then Some Demodulators
+    else (if bytes_eq name (codes "goals") then Some Goals
+    else (if bytes_eq name (codes "hints") then Some Hints
+    else None)))))
+
+-- the list that `formulas(name)` opens, and the one that `list(name)` does
+abbrev pub formulas_opened : List ℕ → OpenList
+formulas_opened name = option_map_or Formulas (formulas_named name) OtherFormulas
+
+abbrev pub rules_opened : List ℕ → OpenList
+rules_opened name =
+    if bytes_eq name (codes "weights") then Weights else (if bytes_eq name (codes "kbo_weights") then KboWeights else OtherRules)
+
+-- whether a list has a name that is unknown
+abbrev pub is_other : OpenList → Bool
+is_other (Formulas list) = false
+is_other Weights = false
+is_other KboWeights = false
+is_other OtherFormulas = true
+is_other OtherRules = true
+
+-- whether the items behind `if` of a name are for a program
+abbrev pub is_for : Mode → List ℕ → Bool
+is_for Prover name = bytes_eq name (codes "Prover9")
+is_for Mace name = bytes_eq name (codes "Mace4")
+is_for Tester name = false
+
+-- whether an item that stands here is meant for the program
+abbrev pub is_meant : Mode → Settings → Bool
+is_meant p s = option_map_or (is_for p) s.block true
+
+-- an unknown flag is row 1, an unknown parameter row 2, and another value than those of a parameter row 3
+abbrev pub flag_row : OptionError → ℕ
+flag_row e = 1
+
+abbrev pub parameter_row : OptionError → ℕ
+parameter_row Unknown = 2
+parameter_row NotAValue = 3
+
+-- the settings with other options, or the row
+abbrev pub with_options : Settings → (OptionError → ℕ) → Result Options OptionError → Result Settings ℕ
+with_options s row (Ok o) = Ok (record s { options = o })
+with_options s row (Err e) = Err (row e)
+
+-- the style of variables can't be changed once a list was opened: row 7
+abbrev pub is_late_style : List ℕ → Settings → Bool
+is_late_style name s = bytes_eq name (codes "prolog_style_variables") && s.listed
+
+abbrev pub after_flag : Bool → List ℕ → Settings → Result Settings ℕ
+after_flag on name s = if is_late_style name s then Err 7 else with_options s flag_row (flagged name on s.options)
+
+abbrev pub after_value : List ℕ → Value → Settings → Result Settings ℕ
+after_value name (value.Symbol text) s = with_options s parameter_row (symbolized name text s.options)
+after_value name (value.Number negative n) s = with_options s parameter_row (numbered name negative n s.options)
+
+-- the table of operators once all these symbols are declared
+abbrev pub all_declared : ℕ → List ℕ → List (List ℕ) → List OperatorRow → List OperatorRow
+all_declared p type [] rows = rows
+all_declared p type (name ∷ names) rows = all_declared p type names (declared p type name rows)
+
+-- a wrong precedence or type is row 5, a symbol that can't be declared row 6, and a declaration once a list was opened row 7
+abbrev pub after_operators : ℕ → List ℕ → List (List ℕ) → Settings → Result Settings ℕ
+after_operators p type names s =
+    if nat_lt 0 (length names) && breaks_row_5 p type then Err 5
+    else (if list_any breaks_row_6 names then Err 6
+    else (if s.listed then Err 7
+    else Ok (record s { operators = all_declared p type names s.operators })))
+
+-- no name stands twice
+abbrev pub is_in : List ℕ → List (List ℕ) → Bool
+is_in name names = list_any (λ n. bytes_eq name n) names
+
+abbrev pub are_apart : List (List ℕ) → Bool
+are_apart [] = true
+are_apart (n ∷ ns) = not (is_in n ns) && are_apart ns
+
+-- a name that stands twice in an order is row 15
+abbrev pub after_order : List (List ℕ) → Settings → Result Settings ℕ
+after_order names s = if are_apart names then Ok (record s { function_order = names }) else Err 15
+
+-- a list of an unknown name is row 4
+abbrev pub after_opening : OpenList → Settings → Result Settings ℕ
+after_opening list s = if is_other list then Err 4 else Ok (record s { list = Some list; listed = true })
+
+-- `if` inside `if` is row 8, and so is `end_if` without `if`
+abbrev pub after_if : List ℕ → Settings → Result Settings ℕ
+after_if name s = if is_some s.block then Err 8 else Ok (record s { block = Some name })
+
+abbrev pub after_end_if : Settings → Result Settings ℕ
+after_end_if s = if is_some s.block then Ok (record s { block = None }) else Err 8
+
+-- a second interpretation is row 17, and so is a bad one
+abbrev pub after_interpretation : ByName → Settings → Result Settings ℕ
+after_interpretation it s = if is_some s.interpretation || not (is_good it) then Err 17 else Ok (record s { interpretation = Some it })
+
+-- what a command that is meant for the program makes of the settings, or the least row that it breaks
+abbrev pub after_meant : Command → Settings → Result Settings ℕ
+after_meant (command.Flag on name) s = after_flag on name s
+after_meant (command.Assign name v) s = after_value name v s
+after_meant (command.Op p type names) s = after_operators p type names s
+after_meant (command.FunctionOrder names) s = after_order names s
+after_meant (command.PredicateOrder names) s = Ok s
+after_meant (command.Formulas name) s = after_opening (formulas_opened name) s
+after_meant (command.List name) s = after_opening (rules_opened name) s
+after_meant (command.If name) s = after_if name s
+after_meant command.EndIf s = after_end_if s
+after_meant (command.Interpretation it) s = after_interpretation it s
+
+-- A command that isn't meant for the program adds nothing: only the list that it opens is gone through, and `end_if` ends the block.
+abbrev pub after_other : Command → Settings → Settings
+after_other (command.Flag on name) s = s
+after_other (command.Assign name v) s = s
+after_other (command.Op p type names) s = s
+after_other (command.FunctionOrder names) s = s
+after_other (command.PredicateOrder names) s = s
+after_other (command.Formulas name) s = record s { list = Some (formulas_opened name) }
+after_other (command.List name) s = record s { list = Some (rules_opened name) }
+after_other (command.If name) s = s
+after_other command.EndIf s = record s { block = None }
+after_other (command.Interpretation it) s = s
+
+-- what a command makes of the settings of a program, or the least row of misuse that it breaks
+abbrev pub after : Mode → Command → Settings → Result Settings ℕ
+after p c s = if is_meant p s then after_meant c s else Ok (after_other c s)
+
+-- before the first command
+abbrev pub at_start : Settings
+at_start = record {
+  operators = standard_rows;
+  options = start;
+  function_order = [];
+  block = None;
+  list = None;
+  listed = false;
+  interpretation = None;
+}

@@ -1,0 +1,13 @@
+// What the commands of a file set: options, operators, orders, the list and the block that are open, the interpretation.
+#![tactic(auto)]
+
+mod laws;
+mod lists;
+mod settings;
+mod symbols;
+#[cfg(test)]
+mod tests;
+
+pub use laws::worked;
+pub use lists::{FormulaList, OpenList};
+pub use settings::{Misuse, Settings};
