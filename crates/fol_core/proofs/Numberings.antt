@@ -3,7 +3,7 @@ use Rattle.std.proofs.Common.{◌≡◌, ◌<◌, ◌≤◌, ℕ, suc, ◌+◌, 
 use Rattle.std.proofs.lemmas.List.{drop_all}
 use Rattle.fol_core.specs.ClauseView.{literal_of}
 use Rattle.fol_core.specs.Free.{joined, variables_of}
-use Rattle.fol_core.specs.Literals.{Lit, ClauseTree}
+use Rattle.fol_core.specs.Literals.{ClauseTree}
 use Rattle.fol_core.specs.Renumbered.{clause_variables}
 use Rattle.fol_core.specs.TermView.{tree_of}
 use Rattle.fol_core.specs.declared.clause.Literal.{Literal}

@@ -1,7 +1,7 @@
 -- Terms put in for variables, as lists.
 use Rattle.std.proofs.Common.{◌≡◌, ◌≤◌, ◌∙◌, ℕ, List, [], ◌∷◌, map, take, length, refl, ap}
 use Rattle.std.proofs.lemmas.List.{take_all}
-use Rattle.fol_core.specs.Tree.{Tree, Trees, none, more, trees_of}
+use Rattle.fol_core.specs.Tree.{Tree, more, trees_of}
 use Rattle.fol_core.specs.TermView.{tree_of, tree_list}
 use Rattle.fol_core.specs.declared.term.Term.{Term}
 use Rattle.fol_core.specs.Put.{Substitution, put, put_all}

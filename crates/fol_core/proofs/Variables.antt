@@ -1,7 +1,7 @@
 -- Lists of variables, each once.
-use Rattle.std.proofs.Common.{◌≡◌, ℕ, suc, ◌+◌, ◌<◌, ◌≤◌, length, drop, get_or, add-one, Bool, true, false, ◌==◌, ◌||◌, if◌then◌else◌, List, [], ◌∷◌, ◌++◌, refl, sym, ap, ◌∙◌, arith}
+use Rattle.std.proofs.Common.{◌≡◌, ℕ, suc, ◌+◌, ◌<◌, ◌≤◌, length, drop, get_or, add-one, Bool, true, false, ◌==◌, ◌||◌, if◌then◌else◌, List, [], ◌∷◌, ◌++◌, refl, sym, ap, ap₂, ◌∙◌, subst, arith}
 use Rattle.std.proofs.Math.Bool.{or-true, or-false, or_assoc}
-use Rattle.std.proofs.lemmas.Bool.{eqb-true}
+use Rattle.std.proofs.lemmas.Bool.{eqb-true, or_parts}
 use Rattle.std.proofs.lemmas.List.{append-nil, drop_all}
 use Rattle.std.proofs.Math.Seq.{drop-cons}
 use Rattle.std.proofs.lemmas.Bool.Decides.{nat_tests}
@@ -9,6 +9,7 @@ use Rattle.fol_core.specs.Tree.{Tree, var, elem, app, Trees, none, more, trees_o
 use Rattle.fol_core.specs.TermView.{tree_of, tree_list}
 use Rattle.fol_core.specs.declared.term.Term.{Term}
 use Rattle.fol_core.specs.Fol.{Fol, verum, falsum, equal, atom, denied, both, either, implies, iff, every, some}
+use Rattle.fol_core.specs.Bound.{IsOnce}
 use Rattle.fol_core.specs.Free.{is_in, noted, joined, without, variables_of, variables_of_all, free_vars_of, closed_over}
 use Rattle.fol_core.specs.Outside.{outside}
 
@@ -154,6 +155,28 @@ free_once (implies f g) = once_joined (free_vars_of f) (free_vars_of g) (free_on
 free_once (iff f g) = once_joined (free_vars_of f) (free_vars_of g) (free_once f)
 free_once (every x f) = sym (without_joined x [] (free_vars_of f)) ∙ ap (without x) (free_once f)
 free_once (some x f) = sym (without_joined x [] (free_vars_of f)) ∙ ap (without x) (free_once f)
+
+turned : (x y : ℕ) → (x == y) ≡ false → (y == x) ≡ false
+turned x y h = grind (arith, nat_tests)
+
+-- numbers that stand once each do so with a further one
+pub noted_once : (xs : List ℕ) (x : ℕ) → IsOnce xs → is_in x xs ≡ false → IsOnce (xs ++ x ∷ [])
+noted_once [] x h n = (refl, tt)
+noted_once (y ∷ ys) x h n =
+    let parts = or_parts (x == y) (is_in x ys) n in
+    (is_in_append y ys (x ∷ []) ∙ ap₂ (λ b c. b || (c || false)) h.0 (turned x y parts.0), noted_once ys x h.1 parts.1)
+
+joined_once : (xs ys : List ℕ) → IsOnce xs → IsOnce (joined xs ys)
+joined_once xs [] h = h
+joined_once xs (y ∷ ys) h = joined_once (noted xs y) ys (by (is_in y xs) refl)
+  where
+    by : (b : Bool) → is_in y xs ≡ b → IsOnce (if b then xs else xs ++ y ∷ [])
+    by true e = h
+    by false e = noted_once xs y h e
+
+-- no variable is twice among the free ones
+pub free_vars_once : (f : Fol) → IsOnce (free_vars_of f)
+free_vars_once f = subst IsOnce (free_once f) (joined_once [] (free_vars_of f) tt)
 
 -- a quantifier goes round the formula before those of the variables in front
 pub closed_over_push : (xs : List ℕ) (x : ℕ) (f : Fol) → closed_over (xs ++ x ∷ []) f ≡ closed_over xs (every x f)

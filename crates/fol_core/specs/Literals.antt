@@ -1,7 +1,7 @@
 -- Literals and clauses, and when they are true.
-use Rattle.std.specs.Prelude.{ℕ, Bool, true, false, not, ◌==◌, if◌then◌else◌, IsTrue, List, [], ◌∷◌}
+use Rattle.std.specs.Prelude.{ℕ, Bool, false, not, ◌==◌, if◌then◌else◌, IsTrue, List, [], ◌∷◌}
 use Rattle.std.specs.List.{list_any}
-use Rattle.fol_core.specs.Tree.{Tree, var, elem, app}
+use Rattle.fol_core.specs.Tree.{Tree, app}
 use Rattle.fol_core.specs.Meaning.{Meaning}
 use Rattle.fol_core.specs.Truth.{Assignment, IsWithin, values_of}
 

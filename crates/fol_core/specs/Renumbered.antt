@@ -2,7 +2,7 @@
 use Rattle.std.specs.Prelude.{ℕ, ◌==◌, List, [], ◌∷◌, map, unwrap_or}
 use Rattle.fol_core.specs.Tree.{var}
 use Rattle.fol_core.specs.Free.{joined, variables_of}
-use Rattle.fol_core.specs.Literals.{Lit, literal, ClauseTree}
+use Rattle.fol_core.specs.Literals.{literal, ClauseTree}
 use Rattle.fol_core.specs.Put.{Substitution, put}
 use Rattle.fol_core.specs.SymbolTable.{first_place}
 

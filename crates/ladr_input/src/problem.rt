@@ -4,7 +4,7 @@ ghost use Rattle.std.specs.List.{list_all};
 ghost use Rattle.fol_core.specs.Fol.{Fol};
 ghost use Rattle.fol_core.specs.FormulaView.{fol_of};
 ghost use Rattle.fol_core.specs.RawView.{raw_of};
-ghost use Rattle.fol_core.specs.Stated.{Said, Stated, stated, stated_of, all_said};
+ghost use Rattle.fol_core.specs.Stated.{Said, Stated, stated, stated_of, all_said, IsSound};
 ghost use Rattle.fol_core.specs.SymbolTable.{Symbol};
 ghost use Rattle.ladr_lex.specs.Cuts.{Cuts, pieces_of};
 ghost use Rattle.ladr_lex.specs.Lexeme.{lexemes_of};
@@ -214,6 +214,7 @@ fn plain_tokens<'a>(alloc: Global, bytes: &'a [u8]) -> Result<Vec<Token<'a>>, Fa
 /// What an input of lists alone states.
 pub fn read_lists(alloc: Global, bytes: &[u8]) -> Result<Problem, Fault>
     ensures ok { IfOk result (λ p. IsProblem bytes.now (stated_of p) None) }
+    ensures sound { IfOk result (λ p. IsSound (stated_of p)) }
     ensures bad { result ≡ Err Fault.Bad → (p : Stated) → ¬ IsProblem bytes.now p None }
 {
     let tokens = match plain_tokens(alloc, bytes) {
@@ -235,6 +236,7 @@ pub fn read_lists(alloc: Global, bytes: &[u8]) -> Result<Problem, Fault>
 /// an entry.
 pub fn read_problem(alloc: Global, bytes: &[u8]) -> Result<(Problem, Tables), Fault>
     ensures ok { IfOk result (λ r. (it : ByName) × IsProblem bytes.now (stated_of r.0) (Some it) × (r.1 ≡ tables_for it r.0.symbols)) }
+    ensures sound { IfOk result (λ r. IsSound (stated_of r.0)) }
     ensures bad { result ≡ Err Fault.Bad → (p : Stated) (it : ByName) → ¬ IsProblem bytes.now p (Some it) }
 {
     let tokens = match plain_tokens(alloc, bytes) {

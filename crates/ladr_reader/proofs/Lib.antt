@@ -6,6 +6,9 @@ pub mod Levels
 pub mod Live
 pub mod Moves
 pub mod NumberingLemmas
+pub mod OwnFormulas
+pub mod OwnTerms
+pub mod OwnVariables
 pub mod Quoted
 pub mod Runs
 pub mod ScopeLemmas

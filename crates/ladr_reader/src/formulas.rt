@@ -1,6 +1,7 @@
 // From terms as they are read to formulas.
-ghost use Rattle.std.specs.Prelude.{◌≡◌, [], ◌∷◌, IfOk, IfErr, OnOk};
+ghost use Rattle.std.specs.Prelude.{◌≡◌, [], ◌∷◌, length, IfOk, IfErr, OnOk};
 ghost use Rattle.fol_core.specs.declared.symbols.Kind.TheVariants.{Function};
+ghost use Rattle.fol_core.specs.Bound.{BindsOnce, HasSymbolsBelow};
 ghost use Rattle.fol_core.specs.FormulaView.{fol_of};
 ghost use Rattle.fol_core.specs.RawTree.{raws_of};
 ghost use Rattle.fol_core.specs.RawView.{raw_of};
@@ -304,6 +305,9 @@ pub fn formula_of(
 ) -> Result<Formula, FormulaError>
     // A formula comes exactly where nothing is misused and nothing is too large, unless memory is lacking.
     ensures read { IfOk result (λ f. IsReadAs (formula_reading (style_of mode prolog) symbols.old (raw_of raw.now)) (fol_of f.shape) f.names symbols.new) }
+    // No variable is bound twice, and none is both bound and free; the symbols are of the table.
+    ensures once { IfOk result (λ f. BindsOnce (fol_of f.shape)) }
+    ensures symbols { IfOk result (λ f. HasSymbolsBelow (length symbols.new) (fol_of f.shape)) }
     // Else the error is the one that the reading tells.
     ensures fault { IfErr result (IsFault (formula_reading (style_of mode prolog) symbols.old (raw_of raw.now)).reading) }
     // Whatever the answer, the old symbols keep their numbers.

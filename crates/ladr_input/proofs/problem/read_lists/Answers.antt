@@ -7,6 +7,7 @@ use Rattle.ladr_input.specs.Items.{items_of}
 use Rattle.ladr_input.specs.Problem.{Ends}
 use Rattle.ladr_input.proofs.ItemLemmas.{some_item}
 use Rattle.ladr_input.proofs.ProblemLemmas.{tokens_say, says, nothing_more, something_more}
+use Rattle.ladr_input.proofs.SoundProblems.{problem_sound}
 use Rattle.ladr_input.proofs.problem.read_lists.Goals as goal
 
 pub returns-in-Err-clause-bad : goal.returns-in-Err-clause-bad
@@ -28,3 +29,6 @@ returns-clause-ok c =
     let cut : Cuts 0 c.args.bytes.now (pieces_of c.deref.result.now) = rw c.deref.ensures.value c.in-Ok.ensures.cut in
     let p = stated_of c.in-Ok-lists.read.0 in
     says c.args.bytes.now c.deref.result.now p None c.in-Ok.ensures.uncommented cut (rw c.deref.ensures.value c.in-Ok.ensures.plain) (c.in-Ok-lists.ensures.there p None (nothing_more c.deref.result.now c.in-Ok-lists.read.1 p.symbols p.formulas (omega arith)))
+
+pub returns-clause-sound : goal.returns-clause-sound
+returns-clause-sound c = problem_sound c.args.bytes.now (stated_of c.in-Ok-lists.read.0) None (returns-clause-ok c)

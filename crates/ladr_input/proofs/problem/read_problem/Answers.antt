@@ -8,6 +8,7 @@ use Rattle.ladr_lex.specs.Lexeme.{lexemes_of}
 use Rattle.ladr_input.specs.Problem.{is_plain}
 use Rattle.model_tables.specs.Tables.{Finite, Listing}
 use Rattle.ladr_input.proofs.ProblemLemmas.{tokens_say, says, list_all-map}
+use Rattle.ladr_input.proofs.SoundProblems.{problem_sound}
 use Rattle.ladr_input.proofs.problem.read_problem.Goals as goal
 
 pub returns-in-Err-items-clause-bad : goal.returns-in-Err-items-clause-bad
@@ -38,3 +39,6 @@ returns-clause-ok c =
     let it = by_name_of c.in-Ok-items.read.1 in
     let p = stated_of c.in-Ok-items.read.0 in
     (it, says c.args.bytes.now c.deref.result.now p (Some it) c.in-Ok.ensures.uncommented cut plain (c.in-Ok-items.ensures.there covered), c.in_ok-tables.ensures)
+
+pub returns-clause-sound : goal.returns-clause-sound
+returns-clause-sound c = let ok = returns-clause-ok c in problem_sound c.args.bytes.now (stated_of c.in-Ok-items.read.0) (Some ok.0) ok.1

@@ -6,6 +6,7 @@ use Rattle.fol_core.specs.SymbolTable.{Symbol, KeepsNumbers}
 use Rattle.ladr_reader.specs.Formulas.{Made, unread, style_of, formula_in, formula_reading, IsFault}
 use Rattle.ladr_reader.specs.ReaderView.{Progress}
 use Rattle.ladr_reader.proofs.FormulaLemmas.{read_as_same}
+use Rattle.ladr_reader.proofs.OwnFormulas.{read_once, read_below}
 use Rattle.ladr_reader.proofs.formulas.formula_of.Goals as goal
 
 -- the reader begins with the table
@@ -26,3 +27,9 @@ pub returns-clause-kept : goal.returns-clause-kept
 returns-clause-kept c =
     subst (λ (table : List Symbol). KeepsNumbers c.args.symbols.now table) (sym c.into_symbols.ensures)
     (subst (λ (p : Progress). KeepsNumbers p.reading.symbols c.sound_formula-answer.new.reader.reading.symbols) (start c) c.sound_formula-answer.ensures.kept)
+
+pub returns-clause-once : goal.returns-clause-once
+returns-clause-once c = read_once c.sound_formula-answer.result (style_of c.args.mode c.args.prolog) c.args.symbols.now (raw_of c.args.raw.now) _ (returns-clause-read c)
+
+pub returns-clause-symbols : goal.returns-clause-symbols
+returns-clause-symbols c = read_below c.sound_formula-answer.result (style_of c.args.mode c.args.prolog) c.args.symbols.now (raw_of c.args.raw.now) _ (returns-clause-read c)
