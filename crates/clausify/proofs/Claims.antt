@@ -18,11 +18,11 @@ use Rattle.clausify.proofs.Clauses.{IsAtom, IsApart, Agree, all_true, crossed_tr
 use Rattle.clausify.proofs.Scopes.{Known, known_more, known_term, valued, put_values, put_holds, valued_var, skolem_value, skolem_within, within_var}
 use Rattle.clausify.proofs.Sets.{Set, plus, also, Sub, In, Out, sub_plus, sub_also, in_cases, in_left, in_right, joined_left, joined_right, under}
 
-in_more : (u v : Set) (xs : List ℕ) → Sub u v → In xs u → In xs v
+pub in_more : (u v : Set) (xs : List ℕ) → Sub u v → In xs u → In xs v
 in_more u v xs sub h y i = sub y (h y i)
 
 -- a universal variable comes into scope
-in_pushed : (u : Set) (scope : List ℕ) (x : ℕ) → In scope u → In (scope ++ x ∷ []) (plus x u)
+pub in_pushed : (u : Set) (scope : List ℕ) (x : ℕ) → In scope u → In (scope ++ x ∷ []) (plus x u)
 in_pushed u scope x h y i = elim (in_cases y scope (x ∷ []) i) [
   | inl j ↦ or_right (y == x) (u y) (h y j)
   | inr j ↦ elim (or_cases (y == x) false j) [ inl e ↦ or_left (y == x) (u y) e | inr e ↦ absurd (false≢true e) ]
@@ -41,7 +41,7 @@ out_less : (u v : Set) (xs : List ℕ) → Sub u v → Out xs v → Out xs u
 out_less u v xs sub h y i = false_from_ne_true (u y) (λ j. true≢false (sym (sub y j) ∙ h y i))
 
 -- the quantifiers of a form bind no variable of the set
-out_of : (u : Set) (f : Fol) → IsApart u f → Out (binders_of f) u
+pub out_of : (u : Set) (f : Fol) → IsApart u f → Out (binders_of f) u
 out_of u verum a y i = absurd (false≢true i)
 out_of u falsum a y i = absurd (false≢true i)
 out_of u (equal s t) a y i = absurd (false≢true i)

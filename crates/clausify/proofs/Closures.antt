@@ -1,10 +1,10 @@
 -- The negation form of a closure: the quantifiers of the free variables stand in front.
-use Rattle.std.proofs.Common.{◌≡◌, ◌<◌, ◌≤◌, ℕ, zero, suc, ◌+◌, min, Bool, true, false, nat_lt, if◌then◌else◌, List, [], ◌∷◌, ◌++◌, length, drop, get_or, replicate, Option, Some, None, refl, sym, ap, ◌∙◌, arith, add-one, drop-cons, append_assoc}
+use Rattle.std.proofs.Common.{◌≡◌, ◌<◌, ◌≤◌, ℕ, suc, ◌+◌, Bool, true, false, nat_lt, if◌then◌else◌, List, [], ◌∷◌, ◌++◌, length, drop, get_or, replicate, Some, None, refl, sym, ap, ◌∙◌, arith, add-one, drop-cons, append_assoc}
 use Rattle.std.proofs.lemmas.Bool.Decides.{nat_tests}
 use Rattle.std.proofs.lemmas.List.{append-nil, drop_all}
 use Rattle.fol_core.specs.Fol.{Fol}
-use Rattle.fol_core.specs.Free.{closed_over, closure_of, free_vars_of}
-use Rattle.fol_core.specs.Stated.{Said, said, said_of, all_said}
+use Rattle.fol_core.specs.Free.{closed_over}
+use Rattle.fol_core.specs.Stated.{said_of, all_said}
 use Rattle.fol_core.specs.declared.problem.Input.{Input}
 use Rattle.clausify.specs.Capped.{capped}
 use Rattle.clausify.specs.Forms.{form_of, clause_count}

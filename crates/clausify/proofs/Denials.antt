@@ -1,15 +1,14 @@
 -- The denial of a closure: a Skolem constant for each free variable.
-use Rattle.std.proofs.Common.{◌≡◌, ◌<◌, ◌≤◌, ℕ, suc, ◌+◌, ◌-◌, Bool, true, false, List, [], ◌∷◌, ◌++◌, length, drop, get_or, map, refl, sym, ap, ap₂, ◌∙◌, arith, add-one, drop-cons, append_assoc, slice_index, subst}
+use Rattle.std.proofs.Common.{◌≡◌, ◌<◌, ◌≤◌, ℕ, ◌+◌, false, List, [], ◌∷◌, ◌++◌, length, drop, get_or, map, refl, sym, ap, ◌∙◌, arith, add-one, drop-cons, append_assoc, slice_index, subst}
 use Rattle.std.proofs.lemmas.List.{drop_all}
 use Rattle.fol_core.specs.EntryView.{witness_of}
 use Rattle.fol_core.specs.Fol.{Fol, some}
 use Rattle.fol_core.specs.Free.{closed_over}
 use Rattle.fol_core.specs.Put.{Substitution, with_term}
-use Rattle.fol_core.specs.Witnesses.{Witness}
 use Rattle.clausify.specs.Clausal.{clauses_in}
 use Rattle.clausify.specs.Forms.{form_of}
-use Rattle.clausify.specs.Made.{clauses_at, witnesses_at, Begins, Leads, Notes, Works}
-use Rattle.clausify.specs.Skolem.{put_in, somes, witnesses, skolem_term}
+use Rattle.clausify.specs.Made.{witnesses_at, Begins, Leads}
+use Rattle.clausify.specs.Skolem.{put_in, witnesses, skolem_term}
 use Rattle.clausify.specs.View.{terms_of}
 use Rattle.clausify.specs.declared.clausal.Work.{Work}
 

@@ -55,7 +55,7 @@ bound_form false (iff f g) = in_both (binders_of (form_of true f) ++ binders_of 
 bound_form false (every x f) = quantified x (binders_of (form_of false f)) (binders_of f) (bound_form false f)
 bound_form false (some x f) = quantified x (binders_of (form_of false f)) (binders_of f) (bound_form false f)
 
-joined_both : (xs ys : List ℕ) (u : Set) → In xs u → In ys u → In (joined xs ys) u
+pub joined_both : (xs ys : List ℕ) (u : Set) → In xs u → In ys u → In (joined xs ys) u
 joined_both xs ys u a b y i = elim (or_cases (is_in y xs) (is_in y ys) (sym (is_in_joined y xs ys) ∙ i)) [ inl j ↦ a y j | inr j ↦ b y j ]
 
 join : (xs ys vs ws : List ℕ) → In xs (members vs) → In ys (members ws) → In (joined xs ys) (members (joined vs ws))

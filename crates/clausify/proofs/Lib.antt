@@ -1,9 +1,11 @@
+mod Bodies
 mod Claims
 mod Clauses
 mod Closures
 mod Crossing
 mod Denials
 mod FormSets
+mod Fresh
 mod FormTruth
 mod WholeLaws
 mod Works

@@ -41,7 +41,7 @@ known_more u v terms sub known = record {
 pub known_none : Known (λ y. false) var
 known_none = record { inside = λ y i. absurd (false≢true i); outside = λ y o. refl }
 
-noted_in : (z : ℕ) (xs : List ℕ) → IsTrue (is_in z (variables_of_all (trees_of (map var xs)))) → IsTrue (is_in z xs)
+pub noted_in : (z : ℕ) (xs : List ℕ) → IsTrue (is_in z (variables_of_all (trees_of (map var xs)))) → IsTrue (is_in z xs)
 noted_in z [] i = i
 noted_in z (x ∷ xs) i = elim (or_cases (is_in z (x ∷ [])) (is_in z (variables_of_all (trees_of (map var xs)))) (sym (is_in_joined z (x ∷ []) (variables_of_all (trees_of (map var xs)))) ∙ i)) [
   | inl h ↦ or_left (z == x) (is_in z xs) (eq-eqb z x (one_in x z h))

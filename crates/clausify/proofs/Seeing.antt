@@ -1,5 +1,5 @@
 -- What terms have, one after the other.
-use Rattle.std.proofs.Common.{◌≡◌, ◌<◌, ◌≤◌, ℕ, suc, ◌+◌, Bool, List, [], ◌∷◌, length, drop, get_or, Option, refl, sym, ap, ◌∙◌, add-one, drop-cons}
+use Rattle.std.proofs.Common.{◌≡◌, ◌<◌, ◌≤◌, ℕ, suc, ◌+◌, Bool, List, ◌∷◌, length, drop, get_or, Option, sym, ap, add-one, drop-cons}
 use Rattle.std.proofs.lemmas.List.{drop_all}
 use Rattle.fol_core.specs.Tree.{trees_of}
 use Rattle.fol_core.specs.TermView.{tree_of, tree_list}

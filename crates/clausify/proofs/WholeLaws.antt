@@ -1,15 +1,16 @@
 -- The clauses of all formulas.
-use Rattle.std.proofs.Common.{◌≡◌, ℕ, ◌+◌, ◌≤◌, Bool, true, false, not, ◌==◌, ◌||◌, ◌&&◌, if◌then◌else◌, IsTrue, List, [], ◌∷◌, ◌++◌, map, refl, sym, ap, ◌∙◌, arith}
+use Rattle.std.proofs.Common.{◌≡◌, ℕ, ◌+◌, Bool, true, false, not, ◌==◌, ◌||◌, ◌&&◌, if◌then◌else◌, IsTrue, List, [], ◌∷◌, ◌++◌, map, refl, sym, ap, ◌∙◌}
 use Rattle.std.proofs.lemmas.Bool.{and_parts, and_from, false≢true, true≢false}
 use Rattle.fol_core.specs.Tree.{var}
 use Rattle.fol_core.specs.Fol.{Fol}
-use Rattle.fol_core.specs.Bound.{BindsOnce, uses_symbol, HasSymbolsBelow}
+use Rattle.fol_core.specs.Bound.{BindsOnce, HasSymbolsBelow}
 use Rattle.fol_core.specs.Free.{is_in, free_vars_of, closed_over, closure_of}
 use Rattle.fol_core.specs.Literals.{ClauseTree, equality, is_true_clause}
 use Rattle.fol_core.specs.Meaning.{Meaning, IsLawful}
-use Rattle.fol_core.specs.Stated.{Said, IsAsRoled, IsCountermodel}
+use Rattle.fol_core.specs.Stated.{Said, AreSound, IsAsRoled, IsCountermodel}
 use Rattle.fol_core.specs.Truth.{Assignment, IsWithin, Holds}
 use Rattle.fol_core.specs.Witnesses.{PicksWitnesses}
+use Rattle.fol_core.proofs.Soundness.{uses_closed}
 use Rattle.fol_core.specs.declared.problem.Role.{Role}
 use Rattle.fol_core.specs.declared.problem.Role.TheVariants.{Assumption, Goal}
 use Rattle.fol_core.proofs.TruthLemmas.{stable, free_decide}
@@ -17,7 +18,7 @@ use Rattle.fol_core.proofs.Variables.{is_in_without}
 use Rattle.fol_core.specs.Renumbered.{renumbered}
 use Rattle.clausify.specs.Clausal.{clauses_in}
 use Rattle.clausify.specs.Forms.{form_of}
-use Rattle.clausify.specs.Input.{AreSound, Row, form, is_taken, rows_from, witnesses_from}
+use Rattle.clausify.specs.Input.{Row, form, is_taken, rows_from, witnesses_from}
 use Rattle.clausify.specs.Laws.{AreTrueRows}
 use Rattle.clausify.specs.Skolem.{somes, witnesses}
 use Rattle.clausify.proofs.Claims.{suffice, follow, picks_left, picks_right}
@@ -28,12 +29,7 @@ use Rattle.clausify.proofs.Numbering.{renumbered_true, true_renumbered}
 use Rattle.clausify.proofs.Scopes.{known_none}
 use Rattle.clausify.proofs.Sets.{Set}
 
--- the closure has the formula's symbols
-closed_symbols : (xs : List ℕ) (f : Fol) (n : ℕ) → uses_symbol n (closed_over xs f) ≡ uses_symbol n f
-closed_symbols [] f n = refl
-closed_symbols (x ∷ xs) f n = closed_symbols xs f n
-
--- and no free variable
+-- the closure has no free variable
 closed_free : (xs : List ℕ) (f : Fol) (y : ℕ) → is_in y (free_vars_of (closed_over xs f)) ≡ (is_in y (free_vars_of f) && not (is_in y xs))
 closed_free [] f y = by (is_in y (free_vars_of f))
   where
@@ -57,10 +53,10 @@ closure_free f y i = by (is_in y (free_vars_of f)) (sym (closed_free (free_vars_
 abbrev empty : Set
 empty y = false
 
-apart_of : (sign : Bool) (f : Fol) → BindsOnce f → HasSymbolsBelow equality f → IsApart empty (form_of sign (closure_of f))
-apart_of sign f once symbols = apart_form sign (closure_of f) empty once (λ y i. refl) (λ n i. symbols n (sym (closed_symbols (free_vars_of f) f n) ∙ i))
+pub apart_of : (sign : Bool) (f : Fol) → BindsOnce f → HasSymbolsBelow equality f → IsApart empty (form_of sign (closure_of f))
+apart_of sign f once symbols = apart_form sign (closure_of f) empty once (λ y i. refl) (λ n i. symbols n (sym (uses_closed n (free_vars_of f) f) ∙ i))
 
-free_of : (sign : Bool) (f : Fol) (y : ℕ) → IsTrue (is_in y (free_vars_of (form_of sign (closure_of f)))) → IsTrue (empty y)
+pub free_of : (sign : Bool) (f : Fol) (y : ℕ) → IsTrue (is_in y (free_vars_of (form_of sign (closure_of f)))) → IsTrue (empty y)
 free_of sign f y i = absurd (closure_free f y (free_form sign (closure_of f) y i))
 
 module _ (m : Meaning) where
@@ -122,8 +118,3 @@ module _ (m : Meaning) where
     all_follow n k (s ∷ ss) sound picks h = true_rows n (clauses_in symbols k [] var (form s)) (rows_from symbols (n + 1) (k + somes (form s)) ss)
         (role_follows k s.role s.formula sound.0 sound.1 (picks_left m symbols (witnesses symbols k [] var (form s)) (witnesses_from symbols (k + somes (form s)) ss) picks) h.0)
         (all_follow (n + 1) (k + somes (form s)) ss sound.2 (picks_right m symbols (witnesses symbols k [] var (form s)) (witnesses_from symbols (k + somes (form s)) ss) picks) h.1)
-
--- symbols below a smaller number
-pub sound_below : (small great : ℕ) (ss : List Said) → small ≤ great → AreSound small ss → AreSound great ss
-sound_below small great [] le sound = tt
-sound_below small great (s ∷ ss) le sound = (sound.0, λ n i. let lt = sound.1 n i in omega arith, sound_below small great ss le sound.2)

@@ -1,10 +1,9 @@
 -- Two parts worked on in turn.
-use Rattle.std.proofs.Common.{◌≡◌, ℕ, ◌+◌, length, List, ◌++◌, map, Result, Ok, Err, OnOk, sym, ap, ap₂, ◌∙◌, append_assoc, arith}
+use Rattle.std.proofs.Common.{ℕ, ◌+◌, length, List, ◌++◌, map, Result, Ok, Err, OnOk, ap, ap₂, ◌∙◌, append_assoc, arith}
 use Rattle.fol_core.specs.EntryView.{witness_of}
 use Rattle.fol_core.specs.Fol.{Fol, both}
 use Rattle.fol_core.specs.Witnesses.{Witness}
 use Rattle.clausify.specs.Made.{Works}
-use Rattle.fol_core.specs.Put.{Substitution}
 use Rattle.clausify.specs.Skolem.{somes, witnesses}
 use Rattle.clausify.specs.View.{terms_of}
 use Rattle.clausify.specs.declared.clausal.Work.{Work}

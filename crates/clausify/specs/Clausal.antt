@@ -1,8 +1,7 @@
 -- The clauses of a negation form.
-use Rattle.std.specs.Prelude.{ℕ, suc, ◌+◌, ◌==◌, if◌then◌else◌, Bool, true, false, List, [], ◌∷◌, ◌++◌, map, slice_index}
-use Rattle.fol_core.specs.Tree.{var, app, none, more}
+use Rattle.std.specs.Prelude.{ℕ, ◌+◌, if◌then◌else◌, Bool, true, false, List, [], ◌∷◌, ◌++◌, slice_index}
+use Rattle.fol_core.specs.Tree.{app, none, more}
 use Rattle.fol_core.specs.Fol.{Fol, verum, falsum, equal, atom, denied, both, either, every, some}
-use Rattle.fol_core.specs.Free.{variables_of, joined}
 use Rattle.fol_core.specs.Literals.{literal, ClauseTree, equality}
 use Rattle.fol_core.specs.Put.{Substitution, with_term, put, put_all}
 use Rattle.clausify.specs.Skolem.{skolem_term, somes}

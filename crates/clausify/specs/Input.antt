@@ -3,7 +3,7 @@ use Rattle.std.specs.Prelude.{ℕ, zero, suc, ◌+◌, Bool, true, false, nat_lt
 use Rattle.std.specs.List.{list_any}
 use Rattle.fol_core.specs.Tree.{Tree, var, elem, app, Trees, none, more}
 use Rattle.fol_core.specs.Fol.{Fol, verum, falsum, equal, atom, denied, both, either, implies, iff, every, some}
-use Rattle.fol_core.specs.Bound.{BindsOnce, HasSymbolsBelow, uses_symbol}
+use Rattle.fol_core.specs.Bound.{uses_symbol}
 use Rattle.fol_core.specs.Free.{closure_of}
 use Rattle.fol_core.specs.Literals.{ClauseTree}
 use Rattle.fol_core.specs.Stated.{Said, Stated}
@@ -106,15 +106,6 @@ greatest_of before (some x f) = greatest_of before f
 abbrev pub numeral_of : Option ℕ → List Said → Option ℕ
 numeral_of before [] = before
 numeral_of before (s ∷ ss) = numeral_of (greatest_of before s.formula) ss
-
--- each formula binds a variable once, and its symbols have numbers below this one
-abbrev pub AreSound : ℕ → List Said → Type 0
-AreSound size [] = Unit {0}
-AreSound size (s ∷ ss) = BindsOnce s.formula × HasSymbolsBelow size s.formula × AreSound size ss
-
--- the formulas bind variables once, and have symbols of the table alone
-abbrev pub IsSound : Stated → Type 0
-IsSound p = AreSound (length p.symbols) p.formulas
 
 -- the numbers of the Skolem symbols as they are entered into a table, and the table then
 abbrev pub skolem_numbers : List Symbol → Stated → List ℕ

@@ -2,9 +2,9 @@
 use Rattle.std.specs.Prelude.{ℕ, List, map}
 use Rattle.fol_core.specs.Literals.{AreTrueClauses, equality}
 use Rattle.fol_core.specs.Meaning.{Meaning}
-use Rattle.fol_core.specs.Stated.{Said, IsCountermodel}
+use Rattle.fol_core.specs.Stated.{Said, AreSound, IsCountermodel}
 use Rattle.fol_core.specs.Witnesses.{PicksWitnesses}
-use Rattle.clausify.specs.Input.{AreSound, Row, all_rows, all_witnesses}
+use Rattle.clausify.specs.Input.{Row, all_rows, all_witnesses}
 
 -- each of the clauses is true
 abbrev pub AreTrueRows : Meaning → List Row → Type 0

@@ -1,5 +1,5 @@
 -- An interpretation for the tests: one element, of which every relation holds.
-use Rattle.std.specs.Prelude.{ℕ, Bool, true, ◌==◌, refl, List}
+use Rattle.std.specs.Prelude.{true, ◌==◌, refl}
 use Rattle.fol_core.specs.Fol.{Fol, equal, every, some}
 use Rattle.fol_core.specs.Tree.{var}
 use Rattle.fol_core.specs.Meaning.{Meaning, IsLawful}

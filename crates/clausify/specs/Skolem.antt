@@ -1,6 +1,6 @@
 -- Skolem terms in a negation form.
-use Rattle.std.specs.Prelude.{ℕ, ◌+◌, ◌==◌, if◌then◌else◌, List, [], ◌∷◌, ◌++◌, map, slice_index}
-use Rattle.fol_core.specs.Tree.{Tree, var, elem, app, Trees, none, more, trees_of}
+use Rattle.std.specs.Prelude.{ℕ, ◌+◌, List, [], ◌∷◌, ◌++◌, map, slice_index}
+use Rattle.fol_core.specs.Tree.{Tree, var, app, trees_of}
 use Rattle.fol_core.specs.Fol.{Fol, verum, falsum, equal, atom, denied, both, either, implies, iff, every, some}
 use Rattle.fol_core.specs.Put.{Substitution, with_term, put, put_all}
 use Rattle.fol_core.specs.Witnesses.{Witness}

@@ -2,10 +2,10 @@
 ghost use Rattle.std.specs.Prelude.{◌≡◌, ◌≤◌, ℕ, Some, None, Err, IfOk, OnOk, length, map};
 ghost use Rattle.fol_core.specs.EntryView.{witness_of};
 ghost use Rattle.fol_core.specs.Literals.{equality};
-ghost use Rattle.fol_core.specs.Stated.{stated_of, IsCountermodel};
+ghost use Rattle.fol_core.specs.Stated.{stated_of, IsSound, IsCountermodel, AreNewTo};
 ghost use Rattle.fol_core.specs.SymbolTable.{KeepsNumbers};
-ghost use Rattle.fol_core.specs.Witnesses.{PicksWitnesses};
-ghost use Rattle.clausify.specs.Input.{IsSound, clauses_in_table, witnesses_in_table, with_skolems, first_over, used_symbols, numeral_of};
+ghost use Rattle.fol_core.specs.Witnesses.{PicksWitnesses, AreInOrder};
+ghost use Rattle.clausify.specs.Input.{clauses_in_table, witnesses_in_table, with_skolems, first_over, used_symbols, numeral_of};
 ghost use Rattle.clausify.specs.Laws.{AreTrueRows};
 ghost use Rattle.clausify.specs.Names.{HasNoSkolemRelation};
 
@@ -28,11 +28,16 @@ fn fits(symbols: &Symbols)
 
 // The clauses of a problem whose formulas are within the limit.
 fn made(alloc: Global, problem: &Problem, symbols: &mut Symbols) -> Result<Clauses, AllocError>
-    requires { HasNoSkolemRelation problem.now.symbols symbols.old }
+    requires sound { IsSound (stated_of problem.now) }
+    requires small { length problem.now.symbols ≤ equality }
+    requires table { KeepsNumbers problem.now.symbols symbols.old }
+    requires no_relation { HasNoSkolemRelation problem.now.symbols symbols.old }
     ensures clauses { IfOk result (λ c. c.clauses.items ≡ clauses_in_table symbols.old (stated_of problem.now)) }
     ensures skolem { IfOk result (λ c. map witness_of c.skolem.items ≡ witnesses_in_table symbols.old (stated_of problem.now)) }
     ensures symbols { IfOk result (λ c. map (λ s. s.0) c.symbols.items ≡ used_symbols problem.now.symbols (stated_of problem.now).formulas) }
     ensures numeral { IfOk result (λ c. c.numeral ≡ numeral_of None (stated_of problem.now).formulas) }
+    ensures order { IfOk result (λ c. AreInOrder (map witness_of c.skolem.items)) }
+    ensures new { IfOk result (λ c. AreNewTo (stated_of problem.now).formulas (map witness_of c.skolem.items)) }
     ensures table { OnOk result (symbols.new ≡ with_skolems symbols.old (stated_of problem.now)) }
     ensures kept { KeepsNumbers symbols.old symbols.new }
 {
@@ -64,6 +69,9 @@ pub fn clauses_of<I: Interpretation>(
     ensures skolem { IfOk result (λ c. map witness_of c.skolem.items ≡ witnesses_in_table symbols.old (stated_of problem.now)) }
     ensures symbols { IfOk result (λ c. map (λ s. s.0) c.symbols.items ≡ used_symbols problem.now.symbols (stated_of problem.now).formulas) }
     ensures numeral { IfOk result (λ c. c.numeral ≡ numeral_of None (stated_of problem.now).formulas) }
+    // Each Skolem symbol's body has those before it alone, and no formula has one.
+    ensures order { IfOk result (λ c. AreInOrder (map witness_of c.skolem.items)) }
+    ensures new { IfOk result (λ c. AreNewTo (stated_of problem.now).formulas (map witness_of c.skolem.items)) }
     ensures entered { OnOk result (symbols.new ≡ with_skolems symbols.old (stated_of problem.now)) }
     ensures kept { KeepsNumbers symbols.old symbols.new }
 
@@ -78,8 +86,8 @@ pub fn clauses_of<I: Interpretation>(
     if let Some(formula) = first_over(&problem.inputs) {
         return Err(ClauseError::ClauseLimit { formula });
     }
-    let clauses = made(alloc, problem, symbols)?;
     fits(&problem.symbols);
+    let clauses = made(alloc, problem, symbols)?;
     clauses_suffice(any);
     clauses_follow(any);
     Ok(clauses)

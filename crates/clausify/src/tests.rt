@@ -1,8 +1,7 @@
 // The clauses of a small problem, with ample memory.
 ghost use Rattle.std.specs.Prelude.{◌≡◌, [], IfOk};
 ghost use Rattle.fol_core.specs.FormulaView.{fol_of};
-ghost use Rattle.fol_core.specs.Stated.{stated_of};
-ghost use Rattle.clausify.specs.Input.{IsSound};
+ghost use Rattle.fol_core.specs.Stated.{stated_of, IsSound};
 ghost use Rattle.clausify.specs.OneElement.{one_element, one_is_lawful, total};
 
 use crate::clauses_of;

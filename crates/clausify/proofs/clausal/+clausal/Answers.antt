@@ -1,7 +1,6 @@
-use Rattle.std.proofs.Common.{◌≡◌, sym, subst, true, false}
-use Rattle.fol_core.specs.Fol.{Fol, either}
+use Rattle.std.proofs.Common.{sym, subst, true, false}
+use Rattle.fol_core.specs.Fol.{either}
 use Rattle.fol_core.specs.FormulaView.{fol_of}
-use Rattle.fol_core.specs.declared.formula.Shape.{Shape}
 use Rattle.clausify.specs.Forms.{form_of}
 use Rattle.clausify.specs.Made.{Works}
 use Rattle.clausify.proofs.Works.{works_both, on_ok}

@@ -1,4 +1,4 @@
-use Rattle.std.proofs.Common.{◌≡◌, ◌+◌, ◌++◌, ap, ◌∙◌, length, map, drop}
+use Rattle.std.proofs.Common.{◌+◌, ◌++◌, ap, ◌∙◌, length, map, drop}
 use Rattle.fol_core.specs.EntryView.{witness_of}
 use Rattle.fol_core.specs.Stated.{all_said}
 use Rattle.clausify.specs.Input.{rows_from, witnesses_from}

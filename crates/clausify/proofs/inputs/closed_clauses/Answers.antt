@@ -4,7 +4,7 @@ use Rattle.fol_core.specs.FormulaView.{fol_of}
 use Rattle.fol_core.specs.Free.{closed_over}
 use Rattle.clausify.specs.Clausal.{clauses_in}
 use Rattle.clausify.specs.Forms.{form_of}
-use Rattle.clausify.specs.Skolem.{somes, witnesses}
+use Rattle.clausify.specs.Skolem.{witnesses}
 use Rattle.clausify.specs.View.{terms_of}
 use Rattle.clausify.proofs.Closures.{closed_clauses_in, closed_witnesses, closed_somes}
 use Rattle.clausify.proofs.inputs.closed_clauses.Goals as goal

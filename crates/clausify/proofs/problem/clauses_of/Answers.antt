@@ -5,7 +5,7 @@ use Rattle.fol_core.specs.Witnesses.{PicksWitnesses}
 use Rattle.clausify.specs.Input.{skolems}
 use Rattle.clausify.specs.Laws.{AreTrueRows}
 use Rattle.clausify.specs.Names.{entered_numbers}
-use Rattle.clausify.proofs.WholeLaws.{sound_below}
+use Rattle.fol_core.proofs.Soundness.{sound_below}
 use Rattle.clausify.proofs.problem.clauses_of.Goals as goal
 
 pub returns-clause-suffice : goal.returns-clause-suffice
