@@ -4,9 +4,10 @@ use Rattle.std.proofs.lemmas.Bool.{or_parts, false≢true, cases_lt, eq-eqb}
 use Rattle.std.proofs.lemmas.Bool.Decides.{nat_tests}
 use Rattle.std.proofs.lemmas.Grind.{common_steps}
 use Rattle.std.proofs.lemmas.List.{length-set, length-map}
+use Rattle.fol_core.specs.Bound.{IsOnce}
 use Rattle.fol_core.specs.Free.{is_in}
 use Rattle.model_tables.specs.Digits.{AreDigits, count, number}
-use Rattle.model_tables.specs.Variables.{assignment, HasRoom, AreApart}
+use Rattle.model_tables.specs.Variables.{assignment, HasRoom}
 use Rattle.model_tables.proofs.Slots.{at_each}
 use Rattle.model_tables.proofs.Numbers.{Carries, carries_none, digit, set_digit, carries_up, carries_over, carries_all}
 
@@ -36,7 +37,7 @@ there (x ∷ xs) slots zero h l = h.0
 there (x ∷ xs) slots (suc i) h l = there xs slots i h.1 (omega arith)
 
 -- the elements after one is set
-pub elements_set : (xs : List ℕ) (slots : List (Option ℕ)) (i v : ℕ) → AreApart xs → HasRoom xs slots → i < length xs
+pub elements_set : (xs : List ℕ) (slots : List (Option ℕ)) (i v : ℕ) → IsOnce xs → HasRoom xs slots → i < length xs
     → map (assignment (set slots (get_or xs i 0) (Some v))) xs ≡ set (map (assignment slots) xs) i v
 elements_set [] slots i v a h l = absurd (omega arith)
 elements_set (x ∷ xs) slots zero v a h l = ap₂ (λ d ds. d ∷ ds) (gets slots x v h.0) (others slots x v xs h.0 a.0)
@@ -79,7 +80,7 @@ module _ (size : ℕ) (xs : List ℕ) (before now : List (Option ℕ)) (at : ℕ
   pub element_below : assignment now (get_or xs (at - 1) 0) < size
   element_below = omega (arith, digit (map (λ x. size) xs) (map (assignment before) xs) (map (assignment now) xs) at s.carries more, digit_there, bound_there)
 
-  module _ (apart : AreApart xs) where
+  module _ (apart : IsOnce xs) where
     after : (v : ℕ) → map (assignment (set now (get_or xs (at - 1) 0) (Some v))) xs ≡ set (map (assignment now) xs) (at - 1) v
     after v = elements_set xs now (at - 1) v apart (same_room xs now before s.room room) inside
 

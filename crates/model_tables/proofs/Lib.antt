@@ -1,5 +1,7 @@
 pub mod Elements
 pub mod Exchange
+pub mod Expanding
+pub mod Filling
 pub mod Numbers
 pub mod Orders
 pub mod Places

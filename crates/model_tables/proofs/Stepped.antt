@@ -1,18 +1,16 @@
 -- A formula at the elements of its variables, one list of elements after the other.
-use Rattle.std.proofs.Common.{◌≡◌, ℕ, ◌+◌, ◌<◌, ◌≤◌, ◌==◌, ◌||◌, Bool, true, false, if◌then◌else◌, IsTrue, List, [], ◌∷◌, ◌++◌, length, map, Option, inl, inr, refl, sym, ap, ap₂, subst, arith}
+use Rattle.std.proofs.Common.{◌≡◌, ℕ, ◌+◌, ◌<◌, ◌≤◌, IsTrue, List, [], ◌∷◌, length, map, Option, inl, inr, refl, sym, arith}
 use Rattle.std.specs.Prelude.{nat_le}
-use Rattle.std.proofs.lemmas.Bool.{cases_lt, cases_eq, false≢true, or_parts}
+use Rattle.std.proofs.lemmas.Bool.{cases_lt, cases_eq, false≢true}
 use Rattle.std.proofs.lemmas.Bool.Decides.{nat_tests}
 use Rattle.fol_core.specs.Fol.{Fol}
-use Rattle.fol_core.specs.Free.{is_in, free_vars_of, closed_over, closure_of, joined, noted}
+use Rattle.fol_core.specs.Free.{is_in, free_vars_of, closed_over, closure_of}
 use Rattle.fol_core.specs.Truth.{Assignment, IsWithin, Holds}
 use Rattle.fol_core.proofs.TruthLemmas.{free_decide, closure_general}
-use Rattle.fol_core.proofs.Variables.{free_once}
 use Rattle.model_tables.specs.Digits.{AreDigits, count, number}
 use Rattle.model_tables.specs.Tables.{Finite, meaning_of, element}
 use Rattle.model_tables.specs.TablesLaws.{tables_lawful, element_within}
-use Rattle.model_tables.specs.Variables.{room_of, HasRoom, AreApart}
-use Rattle.model_tables.proofs.Elements.{turned}
+use Rattle.model_tables.specs.Variables.{room_of, HasRoom}
 use Rattle.model_tables.proofs.Numbers.{number_below, number_same}
 
 -- what has room for a closure has it for the variables and the formula
@@ -63,29 +61,6 @@ digit_of size a (y ∷ ys) h x i =
 
 itself : (t : Finite) (x : ℕ) → x < t.top + 1 → element t x ≡ x
 itself t x h = grind (arith, nat_tests)
-
-in_append : (x : ℕ) (xs ys : List ℕ) → is_in x xs ≡ false → is_in x ys ≡ false → is_in x (xs ++ ys) ≡ false
-in_append x [] ys h k = k
-in_append x (z ∷ zs) ys h k = let parts = or_parts (x == z) (is_in x zs) h in ap₂ (λ b c. b || c) parts.0 (in_append x zs ys parts.1 k)
-
--- variables that are apart stay so with a further one
-noted_apart : (xs : List ℕ) (x : ℕ) → AreApart xs → is_in x xs ≡ false → AreApart (xs ++ x ∷ [])
-noted_apart [] x h n = (refl, tt)
-noted_apart (y ∷ ys) x h n =
-    let parts = or_parts (x == y) (is_in x ys) n in
-    (in_append y ys (x ∷ []) h.0 (ap (λ b. b || false) (turned x y parts.0)), noted_apart ys x h.1 parts.1)
-
-joined_apart : (xs ys : List ℕ) → AreApart xs → AreApart (joined xs ys)
-joined_apart xs [] h = h
-joined_apart xs (y ∷ ys) h = joined_apart (noted xs y) ys (by (is_in y xs) refl)
-  where
-    by : (b : Bool) → is_in y xs ≡ b → AreApart (if b then xs else xs ++ y ∷ [])
-    by true e = h
-    by false e = noted_apart xs y h e
-
--- no variable is twice among the free ones
-pub free_apart : (f : Fol) → AreApart (free_vars_of f)
-free_apart f = subst AreApart (free_once f) (joined_apart [] (free_vars_of f) tt)
 
 module _ (t : Finite) (f : Fol) (xs : List ℕ) where
   -- the formula is true at all elements that come before those of an assignment

@@ -1,4 +1,5 @@
 pub mod Digits
+pub mod Expansion
 pub mod ModelText
 pub mod Order
 pub mod Reads

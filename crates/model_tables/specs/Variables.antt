@@ -1,8 +1,7 @@
 -- Which variables have elements.
-use Rattle.std.specs.Prelude.{ℕ, ◌≡◌, ◌<◌, suc, ◌-◌, max, false, List, [], ◌∷◌, ◌++◌, length, replicate, Option, None, unwrap_or}
+use Rattle.std.specs.Prelude.{ℕ, ◌<◌, suc, ◌-◌, max, List, [], ◌∷◌, ◌++◌, length, replicate, Option, None, unwrap_or}
 use Rattle.std.specs.List.{slice_index_or}
 use Rattle.fol_core.specs.Fol.{Fol, verum, falsum, equal, atom, denied, both, either, implies, iff, every, some}
-use Rattle.fol_core.specs.Free.{is_in}
 use Rattle.fol_core.specs.Truth.{Assignment}
 
 -- what the slot of a variable holds, None also where there is no slot
@@ -35,8 +34,3 @@ room_of (some x f) = max (suc x) (room_of f)
 abbrev pub HasRoom : List ℕ → List (Option ℕ) → Type 0
 HasRoom [] slots = Unit {0}
 HasRoom (x ∷ xs) slots = (x < length slots) × HasRoom xs slots
-
--- no variable stands twice
-abbrev pub AreApart : List ℕ → Type 0
-AreApart [] = Unit {0}
-AreApart (x ∷ xs) = (is_in x xs ≡ false) × AreApart xs

@@ -1,12 +1,13 @@
 -- Tables worked out.
-use Rattle.std.specs.Prelude.{ℕ, ◌==◌, if◌then◌else◌, List, [], ◌∷◌, codes}
-use Rattle.fol_core.specs.Fol.{equal, denied, atom}
+use Rattle.std.specs.Prelude.{ℕ, ◌==◌, if◌then◌else◌, List, [], ◌∷◌, ◌++◌, codes}
+use Rattle.fol_core.specs.Fol.{equal, denied, atom, every}
 use Rattle.fol_core.specs.Stated.{Stated, said, stated}
 use Rattle.fol_core.specs.SymbolTable.{Symbol, symbol}
-use Rattle.fol_core.specs.Tree.{Tree, app, none, more}
+use Rattle.fol_core.specs.Tree.{Tree, var, app, none, more}
+use Rattle.fol_core.specs.Witnesses.{Witness}
 use Rattle.fol_core.specs.declared.problem.Role.TheVariants.{Assumption, Goal}
 use Rattle.fol_core.specs.declared.symbols.Kind.TheVariants.{Function, Relation}
-use Rattle.model_tables.specs.Tables.{Finite, listing}
+use Rattle.model_tables.specs.Tables.{Listing, Finite, listing}
 
 abbrev pub constant : ℕ → Tree
 constant s = app s none
@@ -37,3 +38,23 @@ group = record { top = 1; rows = listing Function (0 ∷ 1 ∷ 1 ∷ 0 ∷ []) �
 
 abbrev pub group_text : List ℕ
 group_text = codes "interpretation(2, [number = 1,seconds = 0], [\n    function(*(_,_), [0,1,1,0])\n]).\n"
+
+-- "some x equals all y" is made true by the one element that there is
+abbrev pub single : Witness
+single = record { symbol = 0; variables = []; variable = 0; body = every 1 (equal (var 0) (var 1)) }
+
+abbrev pub one : List Listing → Finite
+one rows = record { top = 0; rows = rows }
+
+-- "p holds of some y", "for each x some y is another element", and "some y isn't itself"
+abbrev pub seekers : List Witness
+seekers =
+    record { symbol = 4; variables = []; variable = 1; body = atom 3 (more (var 1) none) }
+    ∷ record { symbol = 5; variables = 0 ∷ []; variable = 1; body = denied (equal (var 1) (var 0)) }
+    ∷ record { symbol = 6; variables = []; variable = 1; body = denied (equal (var 1) (var 1)) } ∷ []
+
+abbrev pub found : List Listing
+found = listing Function (2 ∷ []) ∷ listing Function (1 ∷ 0 ∷ 0 ∷ []) ∷ listing Function (0 ∷ []) ∷ []
+
+abbrev pub expanded : Finite
+expanded = record { top = 2; rows = (tables 0 1).rows ++ found }

@@ -1,11 +1,12 @@
 // The truth of closures, without quantifiers for the free variables.
 ghost use Rattle.std.specs.Prelude.{◌≡◌, ◌+◌, ◌<◌, ◌≤◌, map, length, MatchBool};
 ghost use Rattle.fol_core.specs.FormulaView.{fol_of};
+ghost use Rattle.fol_core.specs.Bound.{IsOnce};
 ghost use Rattle.fol_core.specs.Free.{closure_of, free_vars_of};
 ghost use Rattle.fol_core.specs.Truth.{Assignment, Holds};
 ghost use Rattle.model_tables.specs.Digits.{AreDigits, count, number};
 ghost use Rattle.model_tables.specs.Tables.{meaning_of};
-ghost use Rattle.model_tables.specs.Variables.{assignment, room_of, HasRoom, AreApart};
+ghost use Rattle.model_tables.specs.Variables.{assignment, room_of, HasRoom};
 
 use crate::env::Env;
 use crate::evaluate::truth;
@@ -30,7 +31,7 @@ pub fn closure_truth(tables: &Tables, formula: &Formula, variables: &[u64], env:
 }
 
 // Element 0 for each of the variables.
-fn clear(variables: &[u64], env: &mut Env)
+pub(crate) fn clear(variables: &[u64], env: &mut Env)
     requires { HasRoom variables.now env.old }
     ensures room { length env.new ≡ length env.old }
     ensures zero { map (assignment env.new) variables.now ≡ map (λ x. 0) variables.now }
@@ -41,9 +42,9 @@ fn clear(variables: &[u64], env: &mut Env)
 }
 
 // The next elements for the variables, the last variable running fastest; false after the last ones.
-fn advance(tables: &Tables, variables: &[u64], env: &mut Env) -> bool
+pub(crate) fn advance(tables: &Tables, variables: &[u64], env: &mut Env) -> bool
     requires room { HasRoom variables.now env.old }
-    requires apart { AreApart variables.now }
+    requires apart { IsOnce variables.now }
     requires digits { AreDigits (map (λ x. tables.now.top + 1) variables.now) (map (assignment env.old) variables.now) }
     ensures room { length env.new ≡ length env.old }
     ensures digits { AreDigits (map (λ x. tables.now.top + 1) variables.now) (map (assignment env.new) variables.now) }

@@ -103,7 +103,13 @@ fn is_true(tables: &Tables, shape: &Shape, env: &mut Env) -> bool
 
 // Whether a formula is true with this element for the variable.
 #[cycle(is_true)]
-fn true_at(tables: &Tables, variable: u64, element: u32, shape: &Shape, env: &mut Env) -> bool
+pub(crate) fn true_at(
+    tables: &Tables,
+    variable: u64,
+    element: u32,
+    shape: &Shape,
+    env: &mut Env,
+) -> bool
     requires room { room_of (fol_of shape.now) ≤ length env.old }
     requires slot { variable < length env.old }
     ensures same { env.new ≡ env.old }

@@ -1,13 +1,15 @@
 // Laws of the order of tables and of their text: the functions do nothing, and their contracts are the laws.
-ghost use Rattle.std.specs.Prelude.{ℕ, ◌≡◌, ◌∷◌, ◌≤◌, List};
+ghost use Rattle.std.specs.Prelude.{ℕ, ◌≡◌, [], ◌∷◌, ◌≤◌, List};
 ghost use Rattle.fol_core.specs.Stated.{Stated, IsCountermodel};
+ghost use Rattle.fol_core.specs.declared.symbols.Kind.TheVariants.{Function};
+ghost use Rattle.model_tables.specs.Expansion.{IsExpansion, ExpansionPicks, ExpansionKeeps, ExpansionSays};
 ghost use Rattle.model_tables.specs.ModelText.{model_text};
 ghost use Rattle.model_tables.specs.Order.{first_of, GoesOn, EachComesOnce, table_count, table_number};
 ghost use Rattle.model_tables.specs.Reads.{TextTells};
 ghost use Rattle.model_tables.specs.Renaming.{IsRenaming};
 ghost use Rattle.model_tables.specs.Size.{IsInterpretation, cell_count};
-ghost use Rattle.model_tables.specs.Tables.{Finite, meaning_of};
-ghost use Rattle.model_tables.specs.Worked.{apart, tables, exchange, tables_text, group_symbols, group, group_text};
+ghost use Rattle.model_tables.specs.Tables.{Finite, listing, meaning_of};
+ghost use Rattle.model_tables.specs.Worked.{apart, tables, exchange, tables_text, group_symbols, group, group_text, one, single, seekers, expanded};
 
 /// From the first tables of a size to the last, one step after the other, every interpretation of the size comes just once.
 pub fn each_comes_once()
@@ -33,4 +35,18 @@ pub fn worked()
     ensures text { model_text apart.symbols 7 (tables 0 1) ≡ tables_text }
     ensures operation { model_text group_symbols 1 group ≡ group_text }
     ensures renaming { IsRenaming 3 apart exchange (tables 0 1) (tables 1 0) }
+{}
+
+/// The tables with the values of Skolem symbols pick witnesses, and keep the tables of all other symbols and what is said in these.
+pub fn expansions()
+    ensures picks { ExpansionPicks }
+    ensures keeps { ExpansionKeeps }
+    ensures says { ExpansionSays }
+{}
+
+/// Values of Skolem symbols: the one element; of three elements, of which the last has `p`, this one, the least other one for
+/// each, and the first where none will do.
+pub fn worked_expansions()
+    ensures single { IsExpansion (one []) (single ∷ []) (one (listing Function (0 ∷ []) ∷ [])) }
+    ensures seekers { IsExpansion (tables 0 1) seekers expanded }
 {}

@@ -8,15 +8,19 @@ mod laws;
 mod order;
 mod room;
 mod sizes;
+mod skolem;
 mod tables;
 
 pub use closures::closure_truth;
 pub use env::Env;
 pub use evaluate::{truth, value};
-pub use laws::{each_comes_once, renames_itself, text_tells, worked};
+pub use laws::{
+    each_comes_once, expansions, renames_itself, text_tells, worked, worked_expansions,
+};
 pub use order::bound;
 pub use room::reserve_closure;
 pub use sizes::{cell_count, size_needed};
+pub use skolem::expand;
 pub use tables::{Row, Tables};
 pub use text::interpretation_text;
 

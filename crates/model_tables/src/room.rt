@@ -1,11 +1,11 @@
 // How much room the variables of a formula need.
-ghost use Rattle.std.specs.Prelude.{◌≡◌, ◌≤◌, suc, max, length, Some, OnOk, OnErr, MatchOption, ⊤};
+ghost use Rattle.std.specs.Prelude.{◌≡◌, ◌<◌, ◌≤◌, suc, max, length, Some, OnOk, OnErr, MatchOption, ⊤};
 ghost use Rattle.fol_core.specs.FormulaView.{fol_of};
 ghost use Rattle.fol_core.specs.Free.{closed_over};
 ghost use Rattle.model_tables.specs.Variables.{room_of};
 
 use crate::env::Env;
-use fol_core::{Formula, Shape};
+use fol_core::{Entry, Formula, Shape};
 use std::alloc::AllocError;
 
 /// Makes room for the closure of a formula, whose free variables these are; room that was there stays.
@@ -22,6 +22,16 @@ pub fn reserve_closure(
         None => Err(AllocError),
         Some(room) => env.reserve(room),
     }
+}
+
+/// Makes room for what a Skolem symbol is to pick: its variables, the replaced one and the quantifiers of the body.
+pub(crate) fn reserve_entry(env: &mut Env, entry: &Entry) -> Result<(), AllocError>
+    ensures closed { OnOk result (room_of (closed_over entry.now.variables.items (fol_of entry.now.body)) ≤ length env.new) }
+    ensures variable { OnOk result (entry.now.variable < length env.new) }
+{
+    let closed = closed_room(&entry.body, &entry.variables).ok_or(AllocError)?;
+    let variable = behind(entry.variable).ok_or(AllocError)?;
+    env.reserve(closed.max(variable))
 }
 
 // How many slots a formula and these variables need, if so many can be had.

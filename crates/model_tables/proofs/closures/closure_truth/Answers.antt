@@ -1,9 +1,10 @@
 use Rattle.std.proofs.Common.{Option, ◌∙◌, ℕ, List, ap, length, arith}
 use Rattle.fol_core.specs.FormulaView.{fol_of}
 use Rattle.fol_core.specs.Free.{free_vars_of}
+use Rattle.fol_core.proofs.Variables.{free_vars_once}
 use Rattle.model_tables.proofs.Elements.{same_room}
 use Rattle.model_tables.proofs.Numbers.{number_below}
-use Rattle.model_tables.proofs.Stepped.{closed_room, inner_room, zero_digits, zero_number, free_apart, passed_more, passed_all, fails}
+use Rattle.model_tables.proofs.Stepped.{closed_room, inner_room, zero_digits, zero_number, passed_more, passed_all, fails}
 use Rattle.model_tables.proofs.closures.closure_truth.Goals as goal
 
 pub clear-requires : goal.clear-requires
@@ -23,7 +24,7 @@ pub advance-requires-clause-room : goal.advance-requires-clause-room
 advance-requires-clause-room c = same_room _ _ _ (ap (λ (s : List (Option ℕ)). length s) c.truth.ensures.same ∙ c.loop-env.invariant.room) (rw c.requires.variables (closed_room _ (fol_of c.args.formula.now.shape) _ c.requires.room))
 
 pub advance-requires-clause-apart : goal.advance-requires-clause-apart
-advance-requires-clause-apart c = rw c.requires.variables (free_apart (fol_of c.args.formula.now.shape))
+advance-requires-clause-apart c = rw c.requires.variables (free_vars_once (fol_of c.args.formula.now.shape))
 
 pub returns-then-not-advance-clause-truth : goal.returns-then-not-advance-clause-truth
 returns-then-not-advance-clause-truth c =

@@ -1,0 +1,128 @@
+-- Lists of least witnesses, one value after the other.
+use Rattle.std.proofs.Common.{◌≡◌, inl, inr, ℕ, zero, suc, ◌+◌, ◌*◌, ◌^◌, ◌<◌, ◌≤◌, List, [], ◌∷◌, ◌++◌, length, map, drop, get_or, set, slice_index, refl, sym, ap, ◌∙◌, subst, arith}
+use Rattle.std.proofs.lemmas.Bool.{cases_lt}
+use Rattle.std.proofs.lemmas.List.{drop_more, drop_all}
+use Rattle.std.proofs.Math.Nat.{pow-zero, pow-suc}
+use Rattle.fol_core.specs.EntryView.{witness_of}
+use Rattle.fol_core.specs.Truth.{Assignment}
+use Rattle.fol_core.specs.Witnesses.{Witness, IsClosedBody, AreInOrder}
+use Rattle.fol_core.specs.declared.clause.Entry.{Entry}
+use Rattle.fol_core.specs.declared.symbols.Kind.TheVariants.{Function}
+use Rattle.model_tables.specs.Digits.{AreDigits, count, number}
+use Rattle.model_tables.specs.Expansion.{assigned, IsWitness, IsLeastWitness, AreLeastWitnesses, with_row, with_values, IsExpansion}
+use Rattle.model_tables.specs.Size.{AllBelow}
+use Rattle.model_tables.specs.Tables.{Listing, Finite, listing, place_from}
+use Rattle.model_tables.proofs.Expanding.{assigned_own, same_witness}
+use Rattle.model_tables.proofs.Numbers.{number_below, number_same}
+
+-- room for a further row
+pub with_row_more : (rs : List Listing) (s : ℕ) (l : Listing) → length rs ≤ s → with_row (rs ++ listing Function [] ∷ []) s l ≡ with_row rs s l
+with_row_more [] zero l h = refl
+with_row_more [] (suc s) l h = refl
+with_row_more (r ∷ rs) zero l h = absurd (omega arith)
+with_row_more (r ∷ rs) (suc s) l h = ap (λ (ls : List Listing). r ∷ ls) (with_row_more rs s l (omega arith))
+
+pub with_row_there : (rs : List Listing) (s : ℕ) (l : Listing) → s < length rs → set rs s l ≡ with_row rs s l
+with_row_there [] s l h = absurd (omega arith)
+with_row_there (r ∷ rs) zero l h = refl
+with_row_there (r ∷ rs) (suc s) l h = ap (λ (ls : List Listing). r ∷ ls) (with_row_there rs s l (omega arith))
+
+-- the least witness for an assignment is that for its elements of the variables
+least_same : (t : Finite) (w : Witness) → IsClosedBody w → (e : Assignment) (v : ℕ) → IsLeastWitness t e w v → IsLeastWitness t (assigned w.variables (map e w.variables)) w v
+least_same t w closed e v h = by h
+  where
+    d : Assignment
+    d = assigned w.variables (map e w.variables)
+
+    there : (n : ℕ) → IsWitness t e w n → IsWitness t d w n
+    there = same_witness t w closed e d (λ x i. sym (assigned_own e w.variables x i))
+
+    back : (n : ℕ) → IsWitness t d w n → IsWitness t e w n
+    back = same_witness t w closed d e (assigned_own e w.variables)
+
+    by : IsLeastWitness t e w v → IsLeastWitness t d w v
+    by (inl h) = inl (h.0, there v h.1, λ n l is. h.2 n l (back n is))
+    by (inr h) = inr (h.0, λ n l is. h.1 n l (back n is))
+
+get_or_before : (xs : List ℕ) (x i : ℕ) → i < length xs → get_or (xs ++ x ∷ []) i 0 ≡ get_or xs i 0
+get_or_before [] x i h = absurd (omega arith)
+get_or_before (y ∷ ys) x zero h = refl
+get_or_before (y ∷ ys) x (suc i) h = get_or_before ys x i (omega arith)
+
+get_or_last : (xs : List ℕ) (x : ℕ) → get_or (xs ++ x ∷ []) (length xs) 0 ≡ x
+get_or_last [] x = refl
+get_or_last (y ∷ ys) x = get_or_last ys x
+
+length_more : (xs : List ℕ) (x : ℕ) → length (xs ++ x ∷ []) ≡ length xs + 1
+length_more [] x = refl
+length_more (y ∷ ys) x = omega (arith, length_more ys x)
+
+-- the bounds of the elements of variables
+abbrev pub bounds : Finite → List ℕ → List ℕ
+bounds t xs = map (λ x. t.top + 1) xs
+
+-- the first k values are least witnesses
+abbrev pub AreFilledTo : Finite → Witness → ℕ → List ℕ → Type 0
+AreFilledTo t w k values = (length values ≡ k)
+    × ((ns : List ℕ) → AreDigits (bounds t w.variables) ns → number (bounds t w.variables) ns < k → IsLeastWitness t (assigned w.variables ns) w (get_or values (number (bounds t w.variables) ns) 0))
+
+pub filled_none : (t : Finite) (w : Witness) → AreFilledTo t w 0 []
+filled_none t w = (refl, λ ns d l. absurd (omega arith))
+
+pub filled_more : (t : Finite) (w : Witness) → IsClosedBody w → (k : ℕ) (values : List ℕ) (e : Assignment) (v : ℕ) → AreFilledTo t w k values → AreDigits (bounds t w.variables) (map e w.variables)
+    → number (bounds t w.variables) (map e w.variables) ≡ k → IsLeastWitness t e w v → AreFilledTo t w (k + 1) (values ++ v ∷ [])
+filled_more t w closed k values e v h digits here least = (length_more values v ∙ ap (λ (n : ℕ). n + 1) h.0, each)
+  where
+    bs : List ℕ
+    bs = bounds t w.variables
+
+    each : (ns : List ℕ) → AreDigits bs ns → number bs ns < k + 1 → IsLeastWitness t (assigned w.variables ns) w (get_or (values ++ v ∷ []) (number bs ns) 0)
+    each ns d l = elim (cases_lt (number bs ns) k) [
+      | inl before ↦ subst (IsLeastWitness t (assigned w.variables ns) w) (sym (get_or_before values v (number bs ns) (omega (arith, h.0)))) (h.1 ns d before)
+      | inr now ↦ (
+          let same : map e w.variables ≡ ns = number_same bs (map e w.variables) ns digits d (omega (arith, here)) in
+          let last : number bs ns ≡ length values = omega (arith, h.0) in
+          subst (λ (ms : List ℕ). IsLeastWitness t (assigned w.variables ms) w (get_or (values ++ v ∷ []) (number bs ns) 0)) same
+          (subst (IsLeastWitness t (assigned w.variables (map e w.variables)) w) (sym (ap (λ (n : ℕ). get_or (values ++ v ∷ []) n 0) last ∙ get_or_last values v)) (least_same t w closed e v least)))
+    ]
+
+count_power : (n : ℕ) (xs : List ℕ) → count (map (λ x. n) xs) ≡ n ^ length xs
+count_power n [] = sym (pow-zero n)
+count_power n (x ∷ xs) = ap (λ (k : ℕ). n * k) (count_power n xs) ∙ omega (arith, pow-suc n (length xs))
+
+digits_of : (n : ℕ) (xs ns : List ℕ) → length ns ≡ length xs → AllBelow n ns → AreDigits (map (λ x. n) xs) ns
+digits_of n [] [] h below = tt
+digits_of n [] (m ∷ ns) h below = absurd (omega arith)
+digits_of n (x ∷ xs) [] h below = absurd (omega arith)
+digits_of n (x ∷ xs) (m ∷ ns) h below = (below.0, digits_of n xs ns (omega arith) below.1)
+
+place_number : (n : ℕ) (xs ns : List ℕ) (p : ℕ) → length ns ≡ length xs → place_from n p ns ≡ p * count (map (λ x. n) xs) + number (map (λ x. n) xs) ns
+place_number n [] [] p h = omega arith
+place_number n [] (m ∷ ns) p h = absurd (omega arith)
+place_number n (x ∷ xs) [] p h = absurd (omega arith)
+place_number n (x ∷ xs) (m ∷ ns) p h = omega (arith, place_number n xs ns (p * n + m) (omega arith))
+
+pub filled_all : (t : Finite) (w : Witness) (k : ℕ) (values : List ℕ) → AreFilledTo t w k values → count (bounds t w.variables) ≡ k → AreLeastWitnesses t w values
+filled_all t w k values h all = (h.0 ∙ sym all ∙ count_power (t.top + 1) w.variables, each)
+  where
+    each : (ns : List ℕ) → length ns ≡ length w.variables → AllBelow (t.top + 1) ns → IsLeastWitness t (assigned w.variables ns) w (slice_index values (place_from (t.top + 1) 0 ns))
+    each ns many below =
+        let d = digits_of (t.top + 1) w.variables ns many below in
+        let place : place_from (t.top + 1) 0 ns ≡ number (bounds t w.variables) ns = omega (arith, place_number (t.top + 1) w.variables ns 0 many) in
+        subst (λ (p : ℕ). IsLeastWitness t (assigned w.variables ns) w (get_or values p 0)) (sym place) (h.1 ns d (omega (arith, number_below (bounds t w.variables) ns d, all)))
+
+-- one entry after the other
+pub entry_closed : (es : List Entry) (i : ℕ) (e : Entry) → AreInOrder (map witness_of es) → i < length es → e ≡ get_or es i e → IsClosedBody (witness_of e)
+entry_closed [] i e h l is = absurd (omega arith)
+entry_closed (f ∷ es) zero e h l is = subst (λ (x : Entry). IsClosedBody (witness_of x)) (sym is) h.0
+entry_closed (f ∷ es) (suc i) e h l is = entry_closed es i e h.3 (omega arith) is
+
+pub entry_next : (es : List Entry) (i : ℕ) (e : Entry) (t v u : Finite) → i < length es → e ≡ get_or es i e
+    → ((values : List ℕ) × (AreLeastWitnesses t (witness_of e) values × (v ≡ with_values t e.symbol.0 values))) → IsExpansion v (map witness_of (drop (i + 1) es)) u
+    → IsExpansion t (map witness_of (drop i es)) u
+entry_next es i e t v u l is h rest =
+    let here : drop i es ≡ e ∷ drop (i + 1) es = drop_more es i e l ∙ ap (λ (x : Entry). x ∷ drop (i + 1) es) (sym is) in
+    subst (λ (xs : List Entry). IsExpansion t (map witness_of xs) u) (sym here) (h.0, (h.1.0, subst (λ (x : Finite). IsExpansion x (map witness_of (drop (i + 1) es)) u) h.1.1 rest))
+
+pub entries_end : (es : List Entry) (i : ℕ) (t : Finite) → length es ≤ i → IsExpansion t (map witness_of (drop i es)) t
+entries_end es i t past = subst (λ (xs : List Entry). IsExpansion t (map witness_of xs) t) (sym (drop_all i es past)) refl

@@ -1,0 +1,15 @@
+use Rattle.std.proofs.Common.{subst, sym}
+use Rattle.model_tables.proofs.Expanding.{same_top, kept_row, kept_truth, kept_countermodel, expansion_picks}
+use Rattle.model_tables.proofs.laws.expansions.Goals as goal
+
+pub returns-clause-picks : goal.returns-clause-picks
+returns-clause-picks c = λ t u ws order h. expansion_picks ws t u order h
+
+pub returns-clause-keeps : goal.returns-clause-keeps
+returns-clause-keeps c = λ t u ws h. (same_top ws t u h, kept_row ws t u h)
+
+pub returns-clause-says : goal.returns-clause-says
+returns-clause-says c = λ t u ws h. (
+  λ e f new. (subst (λ A. A) (kept_truth ws t u h e f new), subst (λ A. A) (sym (kept_truth ws t u h e f new))),
+  λ ss new. (subst (λ A. A) (kept_countermodel ws t u h ss new), subst (λ A. A) (sym (kept_countermodel ws t u h ss new))),
+)
