@@ -40,6 +40,11 @@ with_row (r ∷ rs) (suc s) l = r ∷ with_row rs s l
 abbrev pub with_values : Finite → ℕ → List ℕ → Finite
 with_values t s values = record { top = t.top; rows = with_row t.rows s (listing Function values) }
 
+-- how many values are put in for all of them
+abbrev pub witness_cells : ℕ → List Witness → ℕ
+witness_cells n [] = 0
+witness_cells n (w ∷ ws) = n ^ length w.variables + witness_cells n ws
+
 -- the second tables are the first ones with the least witnesses for each symbol, one symbol after the other
 abbrev pub IsExpansion : Finite → List Witness → Finite → Type 0
 IsExpansion t [] u = u ≡ t

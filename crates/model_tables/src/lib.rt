@@ -19,7 +19,7 @@ pub use laws::{
 };
 pub use order::bound;
 pub use room::reserve_closure;
-pub use sizes::{cell_count, size_needed};
+pub use sizes::{cell_count, size_needed, skolem_cell_count};
 pub use skolem::expand;
 pub use tables::{Row, Tables};
 pub use text::interpretation_text;

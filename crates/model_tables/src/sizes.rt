@@ -1,13 +1,15 @@
 // The cells of a problem's symbols at a size, and the first tables.
 ghost use Rattle.std.specs.Prelude.{◌≡◌, ◌≤◌, ◌^◌, ◌-◌, ◌<◌, min, replicate, length, map, IfOk};
+ghost use Rattle.fol_core.specs.EntryView.{witness_of};
 ghost use Rattle.fol_core.specs.Occurs.{occurs_in, AreMarked, size_needed};
 ghost use Rattle.fol_core.specs.Stated.{all_said, stated_of};
+ghost use Rattle.model_tables.specs.Expansion.{witness_cells};
 ghost use Rattle.model_tables.specs.Order.{IsFilled, first_of, zeros_for};
 ghost use Rattle.model_tables.specs.Size.{cells_for, cell_count, formulas_of, used_from};
 ghost use Rattle.model_tables.specs.Tables.{listing};
 
 use crate::tables::{Row, Tables};
-use fol_core::{Input, Problem, Sym, above_numerals, mark_symbols};
+use fol_core::{Clauses, Input, Problem, Sym, above_numerals, mark_symbols};
 use std::alloc::{AllocError, Global};
 
 impl Tables {
@@ -58,6 +60,20 @@ fn sum_of_cells(problem: &Problem, used: &[bool], size: u32) -> u64
         number -= 1;
         let arity = problem.symbols.arity(Sym(number as u64));
         all = cells(size, arity, used[number]).saturating_add(all);
+    }
+    all
+}
+
+/// How many cells the Skolem symbols have at a size, or the greatest u64 if there are more.
+pub fn skolem_cell_count(clauses: &Clauses, size: u32) -> u64
+    ensures { result ≡ min (witness_cells size (map witness_of clauses.now.skolem.items)) (2 ^ 64 - 1) }
+{
+    let mut all: u64 = 0;
+    let mut at = clauses.skolem.len();
+    while at > 0 {
+        at -= 1;
+        let arity = clauses.skolem[at].variables.len() as u64;
+        all = power(size, arity).saturating_add(all);
     }
     all
 }
