@@ -14,6 +14,5 @@ mod NameLemmas
 mod Numbering
 mod Rows
 mod Scopes
-mod Seeing
 mod Sets
 mod SkolemLemmas

@@ -1,11 +1,10 @@
 -- The clauses of what a file states.
-use Rattle.std.specs.Prelude.{ℕ, zero, suc, ◌+◌, Bool, true, false, nat_lt, max, if◌then◌else◌, length, List, [], ◌∷◌, ◌++◌, map, Option, Some, None}
-use Rattle.std.specs.List.{list_any}
-use Rattle.fol_core.specs.Tree.{Tree, var, elem, app, Trees, none, more}
-use Rattle.fol_core.specs.Fol.{Fol, verum, falsum, equal, atom, denied, both, either, implies, iff, every, some}
-use Rattle.fol_core.specs.Bound.{uses_symbol}
+use Rattle.std.specs.Prelude.{ℕ, zero, suc, ◌+◌, Bool, true, false, nat_lt, if◌then◌else◌, length, List, [], ◌∷◌, ◌++◌, map, Option, Some, None}
+use Rattle.fol_core.specs.Tree.{var}
+use Rattle.fol_core.specs.Fol.{Fol}
 use Rattle.fol_core.specs.Free.{closure_of}
 use Rattle.fol_core.specs.Literals.{ClauseTree}
+use Rattle.fol_core.specs.Occurs.{occurs_in, size_needed}
 use Rattle.fol_core.specs.Stated.{Said, Stated}
 use Rattle.fol_core.specs.SymbolTable.{Symbol}
 use Rattle.fol_core.specs.Witnesses.{Witness}
@@ -60,9 +59,13 @@ abbrev pub first_over : ℕ → List Said → Option ℕ
 first_over n [] = None
 first_over n (s ∷ ss) = if nat_lt 20000 (clause_count (form s)) then Some n else first_over (n + 1) ss
 
+-- the formulas, whatever their roles
+abbrev pub formulas : List Said → List Fol
+formulas ss = map (λ s. s.formula) ss
+
 -- whether one of the formulas has the symbol
 abbrev pub is_used : List Said → ℕ → Bool
-is_used ss n = list_any (λ s. uses_symbol n s.formula) ss
+is_used ss n = occurs_in n (formulas ss)
 
 -- the numbers from n on that pass a test, so many of them being tried
 abbrev pub passing : (ℕ → Bool) → ℕ → ℕ → List ℕ
@@ -73,39 +76,14 @@ passing test n (suc left) = if test n then n ∷ passing test (n + 1) left else 
 abbrev pub used_symbols : List Symbol → List Said → List ℕ
 used_symbols table ss = passing (is_used ss) 0 (length table)
 
--- the greater of an element and what may be one
-abbrev pub raised : Option ℕ → ℕ → Option ℕ
-raised None k = Some k
-raised (Some n) k = Some (max n k)
-
-abbrev mutual
-  -- the greatest of the elements that a term names, and of one before
-  pub greatest_in : Option ℕ → Tree → Option ℕ
-  greatest_in before (var x) = before
-  greatest_in before (elem k) = raised before k
-  greatest_in before (app f ts) = greatest_in_all before ts
-
-  pub greatest_in_all : Option ℕ → Trees → Option ℕ
-  greatest_in_all before none = before
-  greatest_in_all before (more t ts) = greatest_in_all (greatest_in before t) ts
-
-abbrev pub greatest_of : Option ℕ → Fol → Option ℕ
-greatest_of before verum = before
-greatest_of before falsum = before
-greatest_of before (equal s t) = greatest_in (greatest_in before s) t
-greatest_of before (atom r ts) = greatest_in_all before ts
-greatest_of before (denied f) = greatest_of before f
-greatest_of before (both f g) = greatest_of (greatest_of before f) g
-greatest_of before (either f g) = greatest_of (greatest_of before f) g
-greatest_of before (implies f g) = greatest_of (greatest_of before f) g
-greatest_of before (iff f g) = greatest_of (greatest_of before f) g
-greatest_of before (every x f) = greatest_of before f
-greatest_of before (some x f) = greatest_of before f
+-- the number before, if there is one
+abbrev pub before : ℕ → Option ℕ
+before zero = None
+before (suc n) = Some n
 
 -- the greatest element that the formulas name
-abbrev pub numeral_of : Option ℕ → List Said → Option ℕ
-numeral_of before [] = before
-numeral_of before (s ∷ ss) = numeral_of (greatest_of before s.formula) ss
+abbrev pub numeral_of : List Said → Option ℕ
+numeral_of ss = before (size_needed (formulas ss))
 
 -- the numbers of the Skolem symbols as they are entered into a table, and the table then
 abbrev pub skolem_numbers : List Symbol → Stated → List ℕ

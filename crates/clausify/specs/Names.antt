@@ -3,6 +3,7 @@ use Rattle.std.specs.Prelude.{ℕ, zero, suc, ◌≡◌, ◌⊎◌, ◌+◌, ◌
 use Rattle.std.specs.List.{list_any}
 use Rattle.std.specs.Str.{bytes_eq}
 use Rattle.std.specs.Fmt.{decimal}
+use Rattle.std.specs.Global.{Vec}
 use Rattle.fol_core.specs.SymbolTable.{Symbol, symbol, number_of, entered, kind_at, name_at}
 use Rattle.fol_core.specs.declared.symbols.Kind.TheVariants.{Function, Relation}
 
@@ -13,6 +14,10 @@ numbered letter n = letter ∷ decimal n
 -- whether a symbol of the table has this name, whatever its arity
 abbrev pub is_named : List Symbol → List ℕ → Bool
 is_named table name = list_any (λ s. bytes_eq name s.name) table
+
+-- the names are those of the table's symbols
+abbrev pub HasNames : List Symbol → List (Vec ℕ) → Type 0
+HasNames table names = (name : List ℕ) → list_any (λ v. bytes_eq name v.items) names ≡ is_named table name
 
 -- the first number from n on whose name isn't taken, where at most so many are passed
 abbrev pub free_from : List Symbol → ℕ → ℕ → ℕ → ℕ

@@ -106,4 +106,4 @@ WorkedSymbols =
     let ss = said Assumption (both (equal (app 3 (more (elem 0) none)) (elem 2)) (p (elem 0))) ∷ [] in
     let s = symbol [] 0 Function in
     (used_symbols (s ∷ s ∷ s ∷ s ∷ s ∷ []) ss ≡ 0 ∷ 3 ∷ [])
-    × (numeral_of None ss ≡ Some 2)
+    × (numeral_of ss ≡ Some 2)

@@ -1,5 +1,8 @@
 // Laws of clauses, of every interpretation: the functions do nothing, and their contracts are the laws.
+ghost use Rattle.std.specs.Prelude.{List};
+ghost use Rattle.fol_core.specs.SymbolTable.{Symbol};
 ghost use Rattle.clausify.specs.Laws.{ClausesSuffice, ClausesFollow};
+ghost use Rattle.clausify.specs.Names.{HasNoSkolemRelation};
 ghost use Rattle.clausify.specs.Worked.{WorkedIff, WorkedSingle, WorkedGoal, WorkedNames, WorkedNested, WorkedConstants, WorkedLimit, WorkedSymbols};
 
 use fol_core::Interpretation;
@@ -12,6 +15,11 @@ pub fn clauses_suffice<I: Interpretation>(any: &I)
 /// In an interpretation that picks witnesses the converse holds.
 pub fn clauses_follow<I: Interpretation>(any: &I)
     ensures { ClausesFollow (I.meaning any.now) }
+{}
+
+/// A table that has the problem's symbols alone is one that the Skolem symbols can be entered into.
+pub fn own_table()
+    ensures { (table : List Symbol) → HasNoSkolemRelation table table }
 {}
 
 /// Some formulas worked out.

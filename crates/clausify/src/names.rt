@@ -1,21 +1,24 @@
 // The names of Skolem symbols.
 ghost use Rattle.std.specs.Prelude.{◌≡◌, ◌+◌, IfOk, false, not};
-ghost use Rattle.clausify.specs.Names.{numbered, is_named, next_free};
+ghost use Rattle.std.specs.List.{list_any};
+ghost use Rattle.std.specs.Str.{bytes_eq};
+ghost use Rattle.clausify.specs.Names.{numbered, is_named, next_free, HasNames};
 
 use fol_core::{Sym, Symbols};
+use indexmap::IndexSet;
 use std::alloc::{AllocError, Global};
 
-// Whether a symbol has this name.
-#[tactic(auto, using(crate::proofs::NameLemmas::named_next, crate::proofs::NameLemmas::named_at, crate::proofs::NameLemmas::named_none))]
-fn is_taken(symbols: &Symbols, name: &[u8]) -> bool
-    ensures { result ≡ is_named symbols.now name.now }
+/// The names of a table's symbols, each once.
+#[tactic(auto, using(crate::proofs::NameLemmas::names_whole))]
+pub fn names_of(alloc: Global, symbols: &Symbols) -> Result<IndexSet<Vec<u8>>, AllocError>
+    ensures { IfOk result (λ names. HasNames symbols.now names.keys) }
 {
+    let mut names = IndexSet::new(alloc);
     for number in 0..symbols.len() {
-        if name == symbols.name(Sym(number as u64)) {
-            return true;
-        }
+        let name = symbols.name(Sym(number as u64));
+        names.insert(Vec::from_slice(alloc, name)?)?;
     }
-    false
+    Ok(names)
 }
 
 // The next number; there is no memory for as many names as there are numbers.
@@ -38,28 +41,40 @@ pub fn numbered(alloc: Global, letter: u8, number: u64) -> Result<Vec<u8>, Alloc
 
 /// The first number behind `last` whose name isn't taken. Among one more than there are symbols one is free.
 #[tactic(auto, using(crate::proofs::NameLemmas::passes, crate::proofs::NameLemmas::stops, crate::proofs::NameLemmas::ends))]
-pub fn next_free(alloc: Global, symbols: &Symbols, letter: u8, last: u64) -> Result<u64, AllocError>
+pub fn next_free(
+    alloc: Global,
+    symbols: &Symbols,
+    names: &IndexSet<Vec<u8>>,
+    letter: u8,
+    last: u64,
+) -> Result<u64, AllocError>
+    requires { HasNames symbols.now names.now.keys }
     ensures number { IfOk result (λ n. n ≡ next_free symbols.now letter last) }
     ensures free { IfOk result (λ n. is_named symbols.now (numbered letter n) ≡ false) }
 {
     let mut number = after(last)?;
     for passed in 0..symbols.len() {
-        if is_free(alloc, symbols, letter, number)? {
+        if is_free(alloc, names, letter, number)? {
             return Ok(number);
         }
         number = after(number)?;
     }
-    if is_free(alloc, symbols, letter, number)? {
+    if is_free(alloc, names, letter, number)? {
         Ok(number)
     } else {
         Err(AllocError)
     }
 }
 
-// Whether a letter with a number is no symbol's name.
-fn is_free(alloc: Global, symbols: &Symbols, letter: u8, number: u64) -> Result<bool, AllocError>
-    ensures { IfOk result (λ free. not free ≡ is_named symbols.now (numbered letter number)) }
+// Whether a letter with a number is none of the names.
+fn is_free(
+    alloc: Global,
+    names: &IndexSet<Vec<u8>>,
+    letter: u8,
+    number: u64,
+) -> Result<bool, AllocError>
+    ensures { IfOk result (λ free. not free ≡ list_any (λ v. bytes_eq (numbered letter number) v.items) names.now.keys) }
 {
     let name = numbered(alloc, letter, number)?;
-    Ok(!is_taken(symbols, &name))
+    Ok(!names.contains(name.as_slice()))
 }

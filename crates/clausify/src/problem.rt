@@ -35,7 +35,7 @@ fn made(alloc: Global, problem: &Problem, symbols: &mut Symbols) -> Result<Claus
     ensures clauses { IfOk result (λ c. c.clauses.items ≡ clauses_in_table symbols.old (stated_of problem.now)) }
     ensures skolem { IfOk result (λ c. map witness_of c.skolem.items ≡ witnesses_in_table symbols.old (stated_of problem.now)) }
     ensures symbols { IfOk result (λ c. map (λ s. s.0) c.symbols.items ≡ used_symbols problem.now.symbols (stated_of problem.now).formulas) }
-    ensures numeral { IfOk result (λ c. c.numeral ≡ numeral_of None (stated_of problem.now).formulas) }
+    ensures numeral { IfOk result (λ c. c.numeral ≡ numeral_of (stated_of problem.now).formulas) }
     ensures order { IfOk result (λ c. AreInOrder (map witness_of c.skolem.items)) }
     ensures new { IfOk result (λ c. AreNewTo (stated_of problem.now).formulas (map witness_of c.skolem.items)) }
     ensures table { OnOk result (symbols.new ≡ with_skolems symbols.old (stated_of problem.now)) }
@@ -68,7 +68,7 @@ pub fn clauses_of<I: Interpretation>(
     ensures clauses { IfOk result (λ c. c.clauses.items ≡ clauses_in_table symbols.old (stated_of problem.now)) }
     ensures skolem { IfOk result (λ c. map witness_of c.skolem.items ≡ witnesses_in_table symbols.old (stated_of problem.now)) }
     ensures symbols { IfOk result (λ c. map (λ s. s.0) c.symbols.items ≡ used_symbols problem.now.symbols (stated_of problem.now).formulas) }
-    ensures numeral { IfOk result (λ c. c.numeral ≡ numeral_of None (stated_of problem.now).formulas) }
+    ensures numeral { IfOk result (λ c. c.numeral ≡ numeral_of (stated_of problem.now).formulas) }
     // Each Skolem symbol's body has those before it alone, and no formula has one.
     ensures order { IfOk result (λ c. AreInOrder (map witness_of c.skolem.items)) }
     ensures new { IfOk result (λ c. AreNewTo (stated_of problem.now).formulas (map witness_of c.skolem.items)) }

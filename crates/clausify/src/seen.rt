@@ -1,126 +1,44 @@
 // The symbols and numerals of formulas.
-ghost use Rattle.std.specs.Prelude.{◌≡◌, [], ◌∷◌, ◌++◌, if◌then◌else◌, IfOk, OnOk, None, true, false, length, map, slice_set, replicate};
+ghost use Rattle.std.specs.Prelude.{◌≡◌, [], ◌∷◌, ◌++◌, if◌then◌else◌, IfOk, OnOk, length, map};
+ghost use Rattle.fol_core.specs.Occurs.{AreMarked, size_needed};
 ghost use Rattle.fol_core.specs.Stated.{all_said};
-ghost use Rattle.fol_core.specs.FormulaView.{fol_of};
-ghost use Rattle.fol_core.specs.TermView.{tree_of};
-ghost use Rattle.fol_core.specs.Tree.{trees_of};
-ghost use Rattle.clausify.specs.Input.{raised, greatest_in, greatest_in_all, greatest_of, numeral_of, passing, used_symbols};
-ghost use Rattle.clausify.specs.Seen.{marked, marked_all, marked_by, marked_by_all, is_marked};
+ghost use Rattle.clausify.specs.Input.{formulas, is_used, before, numeral_of, passing, used_symbols};
+ghost use Rattle.clausify.specs.Seen.{is_marked};
 
-use fol_core::{Input, Problem, Shape, Sub, Sym, Term, Terms};
+use fol_core::{Input, Problem, Sym, above_numerals, mark_symbols};
 use std::alloc::{AllocError, Global};
 
-/// What was met: a mark for each symbol by number, and the greatest numeral.
-#[derive(Drop)]
-pub struct Seen {
-    pub marks: Vec<bool>,
-    pub numeral: Option<u32>,
-}
-
-impl Seen {
-    fn mark(&mut self, s: Sym)
-        ensures marks { self.new.marks.items ≡ slice_set self.old.marks.items s.0 true }
-        ensures numeral { self.new.numeral ≡ self.old.numeral }
-    {
-        if let Some(mark) = self.marks.get_mut(s.0 as usize) {
-            *mark = true;
-        }
-    }
-
-    fn raise(&mut self, k: u32)
-        ensures marks { self.new.marks.items ≡ self.old.marks.items }
-        ensures numeral { self.new.numeral ≡ raised self.old.numeral k }
-    {
-        self.numeral = match self.numeral {
-            None => Some(k),
-            Some(n) => Some(n.max(k)),
-        };
-    }
-
-    // What a term has.
-    #[tactic(auto, using(crate::proofs::Seeing::marked_next, crate::proofs::Seeing::marked_end, crate::proofs::Seeing::greatest_next, crate::proofs::Seeing::greatest_end))]
-    fn see_term(&mut self, term: &Term)
-        ensures marks { self.new.marks.items ≡ marked self.old.marks.items (tree_of term.now) }
-        ensures numeral { self.new.numeral ≡ greatest_in self.old.numeral (tree_of term.now) }
-    {
-        match term {
-            Term::Var(_) => {}
-            Term::Elem(k) => self.raise(*k),
-            Term::App(s, terms) => {
-                self.mark(*s);
-                for term in &terms.items {
-                    self.see_term(term);
-                }
-            }
-        }
-    }
-
-    // What some terms have.
-    #[tactic(auto, using(crate::proofs::Seeing::marked_next, crate::proofs::Seeing::marked_end, crate::proofs::Seeing::greatest_next, crate::proofs::Seeing::greatest_end))]
-    fn see_terms(&mut self, terms: &Terms)
-        ensures marks { self.new.marks.items ≡ marked_all self.old.marks.items (trees_of terms.now) }
-        ensures numeral { self.new.numeral ≡ greatest_in_all self.old.numeral (trees_of terms.now) }
-    {
-        for term in &terms.items {
-            self.see_term(term);
-        }
-    }
-
-    // What a part of a formula has.
-    #[cycle(see)]
-    fn see_part(&mut self, sub: &Sub)
-        ensures marks { self.new.marks.items ≡ marked_by self.old.marks.items sub.now }
-        ensures numeral { self.new.numeral ≡ greatest_of self.old.numeral sub.now }
-    {
-        self.see(&sub.shape);
-    }
-
-    /// What a formula has.
-    #[cycle(see)]
-    pub fn see(&mut self, shape: &Shape)
-        ensures marks { self.new.marks.items ≡ marked_by self.old.marks.items (fol_of shape.now) }
-        ensures numeral { self.new.numeral ≡ greatest_of self.old.numeral (fol_of shape.now) }
-    {
-        match shape {
-            Shape::True | Shape::False => {}
-            Shape::Eq(s, t) => {
-                self.see_term(s);
-                self.see_term(t);
-            }
-            Shape::Atom(r, terms) => {
-                self.mark(*r);
-                self.see_terms(terms);
-            }
-            Shape::Not(f) => self.see_part(f),
-            Shape::And(f, g) | Shape::Or(f, g) | Shape::If(f, g) | Shape::Iff(f, g) => {
-                self.see_part(f);
-                self.see_part(g);
-            }
-            Shape::All(_, f) | Shape::Exists(_, f) => self.see_part(f),
-        }
-    }
-}
-
-// Nothing met yet, of so many symbols.
-fn nothing(alloc: Global, size: usize) -> Result<Seen, AllocError>
-    ensures marks { IfOk result (λ seen. seen.marks.items ≡ replicate size false) }
-    ensures numeral { IfOk result (λ seen. seen.numeral ≡ None) }
-{
-    let marks = Vec::from_elem(alloc, false, size)?;
-    Ok(Seen {
-        marks,
-        numeral: None,
-    })
-}
-
-// What all formulas have.
-#[tactic(auto, using(crate::proofs::Seeing::all_next, crate::proofs::Seeing::all_end, crate::proofs::Seeing::numeral_next, crate::proofs::Seeing::numeral_end))]
-fn see_all(seen: &mut Seen, inputs: &[Input])
-    ensures marks { seen.new.marks.items ≡ marked_by_all seen.old.marks.items (all_said inputs.now) }
-    ensures numeral { seen.new.numeral ≡ numeral_of seen.old.numeral (all_said inputs.now) }
+// Marks the symbols of formulas, by their numbers.
+fn mark_all(inputs: &[Input], marks: &mut [bool])
+    ensures { AreMarked (is_used (all_said inputs.now)) marks.old marks.new }
 {
     for input in inputs {
-        seen.see(&input.formula.shape);
+        mark_symbols(&input.formula, marks);
+    }
+}
+
+// The least number above each element that formulas name.
+#[tactic(auto, using(crate::proofs::Marks::needed_next, crate::proofs::Marks::needed_end))]
+fn above_all(inputs: &[Input]) -> u64
+    ensures { result ≡ size_needed (formulas (all_said inputs.now)) }
+{
+    let mut above = 0;
+    for input in inputs {
+        above = above_numerals(&input.formula).max(above);
+    }
+    above
+}
+
+// The number before, if there is one. Elements are small, so none before what lies above them is too great.
+fn before(above: u64) -> Result<Option<u32>, AllocError>
+    ensures { IfOk result (λ n. n ≡ before above) }
+{
+    match above.checked_sub(1) {
+        None => Ok(None),
+        Some(number) => match u32::try_from(number) {
+            Ok(element) => Ok(Some(element)),
+            Err(_) => Err(AllocError),
+        },
     }
 }
 
@@ -147,16 +65,16 @@ fn marked_symbols(alloc: Global, marks: &[bool]) -> Result<Vec<Sym>, AllocError>
 }
 
 /// The symbols of a problem's formulas by number, and the greatest numeral in them.
-#[tactic(auto, using(crate::proofs::Marks::marks_are_uses))]
 pub fn symbols_and_numeral(
     alloc: Global,
     problem: &Problem,
 ) -> Result<(Vec<Sym>, Option<u32>), AllocError>
     ensures symbols { IfOk result (λ seen. map (λ s. s.0) seen.0.items ≡ used_symbols problem.now.symbols (all_said problem.now.inputs.items)) }
-    ensures numeral { IfOk result (λ seen. seen.1 ≡ numeral_of None (all_said problem.now.inputs.items)) }
+    ensures numeral { IfOk result (λ seen. seen.1 ≡ numeral_of (all_said problem.now.inputs.items)) }
 {
-    let mut seen = nothing(alloc, problem.symbols.len())?;
-    see_all(&mut seen, &problem.inputs);
-    let symbols = marked_symbols(alloc, &seen.marks)?;
-    Ok((symbols, seen.numeral))
+    let mut marks = vec![in alloc; false; problem.symbols.len()]?;
+    mark_all(&problem.inputs, &mut marks);
+    let symbols = marked_symbols(alloc, &marks)?;
+    let numeral = before(above_all(&problem.inputs))?;
+    Ok((symbols, numeral))
 }

@@ -2,10 +2,11 @@
 ghost use Rattle.std.specs.Prelude.{◌≡◌, ◌<◌, ◌^◌, IfOk, OnOk, OnErr, Some, false};
 ghost use Rattle.fol_core.specs.SymbolTable.{symbol, number_of, entered, is_clash, KeepsNumbers};
 ghost use Rattle.fol_core.specs.declared.symbols.Kind.TheVariants.{Function};
-ghost use Rattle.clausify.specs.Names.{next_name, next_constant, next_function, skolem_symbols, all_entered, entered_numbers, HasNoSkolemRelation, IsNew, AreNames};
+ghost use Rattle.clausify.specs.Names.{next_name, next_constant, next_function, skolem_symbols, all_entered, entered_numbers, HasNoSkolemRelation, HasNames, IsNew, AreNames};
 
-use crate::names::{next_free, numbered};
+use crate::names::{names_of, next_free, numbered};
 use fol_core::{Clash, Kind, Symbols};
+use indexmap::IndexSet;
 use std::alloc::{AllocError, Global};
 
 // The last numbers in the names of constants and of functions.
@@ -17,7 +18,14 @@ struct Last {
 
 impl Last {
     // The name of the next symbol with so many arguments.
-    fn next(&mut self, alloc: Global, input: &Symbols, arity: u64) -> Result<Vec<u8>, AllocError>
+    fn next(
+        &mut self,
+        alloc: Global,
+        input: &Symbols,
+        names: &IndexSet<Vec<u8>>,
+        arity: u64,
+    ) -> Result<Vec<u8>, AllocError>
+        requires taken { HasNames input.now names.now.keys }
         requires small { self.old.constants < 2 ^ 64 }
         requires few { self.old.functions < 2 ^ 64 }
         ensures name { IfOk result (λ name. name.items ≡ next_name input.now self.old.constants self.old.functions arity) }
@@ -28,10 +36,10 @@ impl Last {
         ensures few { OnOk result (self.new.functions < 2 ^ 64) }
     {
         if arity == 0 {
-            self.constants = next_free(alloc, input, b'c', self.constants)?;
+            self.constants = next_free(alloc, input, names, b'c', self.constants)?;
             numbered(alloc, b'c', self.constants)
         } else {
-            self.functions = next_free(alloc, input, b'f', self.functions)?;
+            self.functions = next_free(alloc, input, names, b'f', self.functions)?;
             numbered(alloc, b'f', self.functions)
         }
     }
@@ -56,10 +64,12 @@ fn enter(name: &[u8], arity: u64, symbols: &mut Symbols) -> Result<u64, AllocErr
 fn enter_next(
     alloc: Global,
     input: &Symbols,
+    names: &IndexSet<Vec<u8>>,
     arity: u64,
     last: &mut Last,
     symbols: &mut Symbols,
 ) -> Result<u64, AllocError>
+    requires taken { HasNames input.now names.now.keys }
     requires none { HasNoSkolemRelation input.now symbols.old }
     requires small { last.old.constants < 2 ^ 64 }
     requires few { last.old.functions < 2 ^ 64 }
@@ -73,7 +83,7 @@ fn enter_next(
     ensures few { OnOk result (last.new.functions < 2 ^ 64) }
     ensures kept { KeepsNumbers symbols.old symbols.new }
 {
-    let name = last.next(alloc, input, arity)?;
+    let name = last.next(alloc, input, names, arity)?;
     enter(&name, arity, symbols)
 }
 
@@ -91,13 +101,14 @@ pub fn enter_all(
     ensures names { OnOk result (AreNames input.now 0 0 arities.now) }
     ensures kept { KeepsNumbers symbols.old symbols.new }
 {
+    let names = names_of(alloc, input)?;
     let mut last = Last {
         constants: 0,
         functions: 0,
     };
     let mut made = Vec::new(alloc);
     for arity in arities {
-        made.push(enter_next(alloc, input, *arity, &mut last, symbols)?)?;
+        made.push(enter_next(alloc, input, &names, *arity, &mut last, symbols)?)?;
     }
     Ok(made)
 }
