@@ -4,7 +4,7 @@ ghost use Rattle.fol_core.specs.FormulaView.{fol_of};
 ghost use Rattle.fol_core.specs.Stated.{stated_of, IsSound};
 ghost use Rattle.clausify.specs.OneElement.{one_element, one_is_lawful, total};
 
-use crate::clauses_of;
+use crate::{clauses_of, own_table};
 use fol_core::{
     Formula, Input, Interpretation, Names, Problem, Role, Shape, Sub, Sym, Symbols, Term,
 };
@@ -43,7 +43,6 @@ fn input(alloc: Global, role: Role, shape: Shape) -> Input
 // That as an assumption, and x = x as a goal.
 fn problem(alloc: Global) -> Result<Problem, AllocError>
     ensures sound { IfOk result (λ problem. IsSound (stated_of problem)) }
-    ensures symbols { IfOk result (λ problem. problem.symbols ≡ []) }
 {
     let mut inputs = Vec::new(alloc);
     inputs.push(input(alloc, Role::Assumption, total(alloc)?))?;
@@ -57,7 +56,8 @@ fn problem(alloc: Global) -> Result<Problem, AllocError>
 fn makes_clauses(rt: HostRuntime) -> Result<(), Fail> {
     let alloc = rt.alloc();
     let problem = problem(alloc)?;
-    let mut table = Symbols::new(alloc);
+    let mut table = problem.symbols.copy(alloc)?;
+    own_table();
     let made = clauses_of(alloc, &OneElement, &problem, &mut table).expect(&rt, "clauses");
     assert_eq!(rt; made.clauses.len(), 2);
     assert_eq!(rt; made.skolem.len(), 2);
