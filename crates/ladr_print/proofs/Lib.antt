@@ -1,6 +1,15 @@
 pub mod Arguments
+pub mod Clausal
+pub mod Disjunctions
 pub mod Ends
+pub mod Letters
 pub mod Longest
+pub mod Naming
+pub mod Numerals
 pub mod Operands
 pub mod Printing
+pub mod Renaming
+pub mod Rereading
+pub mod Stating
+pub mod Upto
 pub mod Writes

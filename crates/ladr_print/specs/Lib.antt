@@ -1,4 +1,10 @@
+pub mod ClauseText
+pub mod FormulaText
 pub mod Precedences
 pub mod RawText
 pub mod ReadsAs
 pub mod Spacing
+pub mod StatesAs
+pub mod StatesClause
+pub mod TermText
+pub mod Worked

@@ -1,7 +1,18 @@
 // Laws of the definitions, and texts worked out.
-ghost use Rattle.std.specs.Prelude.{◌≡◌, ℕ, List, [], ◌∷◌, IsTrue, ◌++◌, codes};
+ghost use Rattle.std.specs.Prelude.{◌≡◌, ◌≤◌, ◌^◌, length, Option, false, ℕ, List, [], ◌∷◌, IsTrue, ◌++◌, codes};
 ghost use Rattle.fol_core.specs.RawTree.{RawTree};
-ghost use Rattle.ladr_lex.specs.Operators.{OperatorRow, are_lawful};
+ghost use Rattle.fol_core.specs.Fol.{Fol};
+ghost use Rattle.fol_core.specs.SymbolTable.{Symbol};
+ghost use Rattle.ladr_lex.specs.Operators.{OperatorRow, are_lawful, standard_rows, breaks_row_6, declared};
+ghost use Rattle.ladr_print.specs.FormulaText.{attributed, formula_raw};
+ghost use Rattle.fol_core.specs.Literals.{ClauseTree};
+ghost use Rattle.fol_core.specs.Renumbered.{renumbered};
+ghost use Rattle.ladr_print.specs.ClauseText.{clause_bytes};
+ghost use Rattle.ladr_print.specs.StatesAs.{KeepsFixed, StatesAs};
+ghost use Rattle.ladr_print.specs.StatesClause.{StatesClause, FreesVariables};
+ghost use Rattle.ladr_print.specs.TermText.{name_in, clause_variable};
+ghost use Rattle.ladr_print.specs.Worked.{reprinted};
+ghost use Rattle.ladr_reader.specs.declared.styles.Style.{Style};
 ghost use Rattle.ladr_print.specs.Precedences.{precedence};
 ghost use Rattle.ladr_print.specs.RawText.{text_of};
 ghost use Rattle.ladr_print.specs.ReadsAs.{ReadsAs, ItemAs};
@@ -42,4 +53,30 @@ pub fn worked_declared()
     ensures signs { text_of with_declared (unary "!" (unary "'" (constant "+"))) ≡ codes "+'!" }
     ensures below { text_of with_declared (unary "~" (unary "~" (constant "a"))) ≡ codes "~(~a)" }
     ensures beside { text_of with_declared (unary "~" (unary "-" (constant "a"))) ≡ codes "~ -a" }
+{}
+
+/// Where any text states a formula, the printed one does too; tables keep the fixed symbols.
+pub fn printed_states_again()
+    ensures formula { (rows : List OperatorRow) (st : Style) (before : List Symbol) (other : List ℕ) (label : Option RawTree) (f : Fol) (names : List (List ℕ)) (after : List Symbol) →
+        IsTrue (are_lawful rows) → KeepsFixed rows → StatesAs (table_of rows) st before other label f names after →
+        StatesAs (table_of rows) st before (text_of (table_of rows) (attributed label (formula_raw after (name_in names) f))) label f names after }
+    ensures start { KeepsFixed standard_rows }
+    ensures declared { (rows : List OperatorRow) (p : ℕ) (type symbol : List ℕ) → breaks_row_6 symbol ≡ false → KeepsFixed rows → KeepsFixed (declared p type symbol rows) }
+{}
+
+/// Where any text states a clause, the printed one does too.
+pub fn printed_clause_states_again()
+    ensures { (rows : List OperatorRow) (st : Style) (before : List Symbol) (other : List ℕ) (c : ClauseTree) (after : List Symbol) →
+        IsTrue (are_lawful rows) → KeepsFixed rows → FreesVariables st.prolog rows → (s : StatesClause (table_of rows) st before other c after) → length s.names ≤ 2 ^ 64 →
+        StatesClause (table_of rows) st before (clause_bytes (table_of rows) after (clause_variable st.prolog) (renumbered c)) c after }
+{}
+
+/// Formulas with their texts: what is printed for the formula of a term.
+pub fn worked_formulas()
+    ensures denied { reprinted (unary "-" (binary "=" (constant "a") (constant "b"))) ≡ codes "a != b" }
+    ensures different { reprinted (binary "!=" (constant "a") (constant "b")) ≡ codes "a != b" }
+    ensures denied_twice { reprinted (unary "-" (unary "-" (constant "p"))) ≡ codes "- -p" }
+    ensures turned { reprinted (binary "<-" (constant "p") (binary "|" (constant "q") (constant "r"))) ≡ codes "q | r -> p" }
+    ensures quantified { reprinted (binder All "x" (binary "&" (unary "p" (constant "x")) (unary "q" (constant "y")))) ≡ codes "all x (p(x) & q(y))" }
+    ensures hidden { reprinted (binder All "x" (binary "&" (unary "p" (constant "x")) (binder Exists "x" (unary "p" (constant "x"))))) ≡ codes "all x (p(x) & exists x p(x))" }
 {}

@@ -1,13 +1,24 @@
 // Texts of terms, formulas and clauses, which read back as the same trees.
 #![tactic(auto)]
 
+mod clauses;
+mod formulas;
 mod laws;
 mod precedences;
 mod raw;
 mod spacing;
+mod terms;
 
-pub use laws::{printed_reads_back, worked, worked_declared};
+pub use clauses::clause_text;
+pub use formulas::formula_text;
+pub use laws::{
+    printed_clause_states_again, printed_reads_back, printed_states_again, worked, worked_declared,
+    worked_formulas,
+};
 pub use raw::raw_text;
+pub use terms::term_text;
 
+#[cfg(test)]
+mod formula_tests;
 #[cfg(test)]
 mod tests;

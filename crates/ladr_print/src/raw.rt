@@ -1,10 +1,11 @@
 // The text of a term as read.
-ghost use Rattle.std.specs.Prelude.{◌≡◌, ◌++◌, ℕ, List, false, true, Some, IfOk, OnOk};
+ghost use Rattle.std.specs.Prelude.{◌≡◌, [], ◌∷◌, ◌++◌, ℕ, List, false, true, Some, IfOk, OnOk};
 ghost use Rattle.fol_core.specs.RawTree.{raws_of};
 ghost use Rattle.fol_core.specs.RawView.{raw_of, raw_list};
 ghost use Rattle.ladr_lex.specs.Operators.{operator_of, is_prefix};
 ghost use Rattle.ladr_print.specs.Precedences.{is_infix, arity, precedence};
 ghost use Rattle.ladr_print.specs.RawText.{word, wrapped, left_argument, right_argument, further, application, with_one, with_two, arranged, text_of, printed, printed_all};
+ghost use Rattle.ladr_print.specs.FormulaText.{two};
 ghost use Rattle.ladr_print.specs.ReadsAs.{ReadsAs};
 ghost use Rattle.ladr_print.specs.Spacing.{beside};
 ghost use Rattle.ladr_reader.specs.Table.{table_of};
@@ -27,9 +28,9 @@ pub fn raw_text(alloc: Global, ops: &Ops, raw: &Raw) -> Result<Vec<u8>, AllocErr
     Ok(out)
 }
 
-// Adds the text of a term.
+/// Adds the text of a term.
 #[cycle(text)]
-fn write(alloc: Global, ops: &Ops, raw: &Raw, out: &mut Vec<u8>) -> Result<(), AllocError>
+pub fn write(alloc: Global, ops: &Ops, raw: &Raw, out: &mut Vec<u8>) -> Result<(), AllocError>
     ensures { OnOk result (out.new.items ≡ out.old.items ++ text_of (table_of ops.now) (raw_of raw.now)) }
 {
     match raw {
@@ -56,9 +57,9 @@ fn word(quantifier: Quantifier) -> &'static [u8]
     }
 }
 
-// Adds the text of an argument or a body, in parentheses unless it fits without.
+/// Adds the text of an argument or a body, in parentheses unless it fits without.
 #[cycle(text)]
-fn argument(
+pub fn argument(
     alloc: Global,
     ops: &Ops,
     fits: bool,
@@ -178,5 +179,46 @@ fn further(alloc: Global, ops: &Ops, raws: &[Raw], out: &mut Vec<u8>) -> Result<
         out.push(b',')?;
         write(alloc, ops, raw, out)?;
     }
+    Ok(())
+}
+
+/// Adds the text of a name with two arguments.
+pub fn write_two(
+    alloc: Global,
+    ops: &Ops,
+    name: &[u8],
+    left: &Raw,
+    right: &Raw,
+    out: &mut Vec<u8>,
+) -> Result<(), AllocError>
+    ensures { OnOk result (out.new.items ≡ out.old.items ++ text_of (table_of ops.now) (two name.now (raw_of left.now) (raw_of right.now))) }
+{
+    let Some(operator) = operator_of(ops, name) else {
+        return pair(alloc, ops, name, left, right, out);
+    };
+    if is_infix(operator.kind) {
+        binary(alloc, ops, operator, name, left, right, out)
+    } else {
+        pair(alloc, ops, name, left, right, out)
+    }
+}
+
+// Adds the text of a name in front of two arguments.
+fn pair(
+    alloc: Global,
+    ops: &Ops,
+    name: &[u8],
+    left: &Raw,
+    right: &Raw,
+    out: &mut Vec<u8>,
+) -> Result<(), AllocError>
+    ensures { OnOk result (out.new.items ≡ out.old.items ++ application name.now (printed (table_of ops.now) (raw_of left.now) ∷ printed (table_of ops.now) (raw_of right.now) ∷ [])) }
+{
+    out.extend_from_slice(name)?;
+    out.push(b'(')?;
+    write(alloc, ops, left, out)?;
+    out.push(b',')?;
+    write(alloc, ops, right, out)?;
+    out.push(b')')?;
     Ok(())
 }

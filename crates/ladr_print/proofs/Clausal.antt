@@ -1,0 +1,343 @@
+-- A printed clause states the clause that it stated before.
+use Rattle.std.proofs.Common.{◌≡◌, ℕ, zero, suc, ◌<◌, ◌≤◌, ◌^◌, Bool, true, false, List, [], ◌∷◌, length, map, Option, Some, None, inl, inr, refl, sym, ap, ap₂, ◌∙◌, subst, arith}
+use Rattle.std.specs.Prelude.{codes}
+use Rattle.std.specs.List.{list_all}
+use Rattle.std.specs.Str.{bytes_eq}
+use Rattle.std.specs.Char.{is_ascii_digit}
+use Rattle.std.specs.Fmt.{decimal}
+use Rattle.std.proofs.lemmas.Bool.{cases_lt, and_parts, and_from, cond_both, or_left, or_right, both_ways}
+use Rattle.std.proofs.lemmas.Bool.Decides.{nat_tests}
+use Rattle.std.proofs.lemmas.Fmt.{digits_decimal}
+use Rattle.std.proofs.lemmas.Slice.Eq.{bytes_eq-Decides}
+use Rattle.fol_core.specs.Fol.{Fol, verum, falsum, equal, atom, denied, both, either, implies, iff, every, some}
+use Rattle.fol_core.specs.Free.{is_in, joined, variables_of, variables_of_all}
+use Rattle.fol_core.specs.Literals.{Lit, ClauseTree, literal, equality}
+use Rattle.fol_core.specs.Put.{put, put_all}
+use Rattle.fol_core.specs.RawTree.{RawTree, named, quantified, no_raws, more_raws}
+use Rattle.fol_core.specs.Renumbered.{clause_variables, place_in, by_place, renumbered}
+use Rattle.fol_core.specs.SymbolTable.{Symbol}
+use Rattle.fol_core.specs.Tree.{Tree, var, elem, app, Trees, none, more}
+use Rattle.fol_core.proofs.Variables.{is_in_joined, once, once_joined}
+use Rattle.ladr_lex.specs.Bytes.{is_ordinary, is_special}
+use Rattle.ladr_lex.specs.Lexeme.{ordinary}
+use Rattle.ladr_lex.specs.Operators.{OperatorRow, operator_of, are_lawful, if_prefix}
+use Rattle.ladr_lex.specs.declared.operators.OperatorKind.TheVariants.{Infix}
+use Rattle.fol_core.specs.declared.raw.Quantifier.TheVariants.{All, Exists}
+use Rattle.ladr_reader.specs.Formulas.{Variable, Reading, Made, named_variable, sentence_as, is_denial, connective_of, by_connective, comparison, formula_in, formula_reading, unread, names_of, IsReadAs}
+use Rattle.ladr_reader.specs.declared.connectives.Connective.{Connective}
+use Rattle.ladr_reader.specs.declared.connectives.Connective.TheVariants.{And, Or, IfThen, ThenIf, IfAndOnlyIf}
+use Rattle.ladr_reader.specs.Table.{Table, table_of}
+use Rattle.ladr_reader.specs.declared.styles.Style.{Style}
+use Rattle.ladr_print.specs.ClauseText.{literal_raw, clause_raw, clause_bytes}
+use Rattle.ladr_print.specs.FormulaText.{two, denial, formula_raw}
+use Rattle.ladr_print.specs.Precedences.{count}
+use Rattle.ladr_print.specs.StatesAs.{KeepsFixed, StatesAs}
+use Rattle.ladr_print.specs.StatesClause.{literals_in, clause_in, StatesClause, FreesVariables}
+use Rattle.ladr_print.specs.TermText.{name_in, Naming, clause_variable, symbol_name, term_raw, terms_raw}
+use Rattle.ladr_print.specs.Precedences.{precedence}
+use Rattle.ladr_print.specs.RawText.{text_of}
+use Rattle.ladr_print.proofs.Disjunctions.{clause_is}
+use Rattle.ladr_print.proofs.Letters.{first_variables}
+use Rattle.ladr_print.proofs.Naming.{Reaches, formula_back}
+use Rattle.ladr_print.proofs.Rereading.{turned}
+use Rattle.fol_core.specs.SymbolTable.{KeepsNumbers}
+use Rattle.ladr_print.proofs.Numerals.{own}
+use Rattle.ladr_print.proofs.Printing.{Named, plain, Printable, PrintableAll, printed_reads, text_printable}
+use Rattle.ladr_print.proofs.Renaming.{or_parts, formula_ren}
+use Rattle.ladr_print.proofs.Stating.{turned_printable, sound_parts, names_found, brings, named_between, denial_printable}
+use Rattle.ladr_print.proofs.Upto.{upto, not_in, own_place}
+
+-- each variable of a clause is listed once
+clause_once : (c : ClauseTree) → joined [] (clause_variables c) ≡ clause_variables c
+clause_once [] = refl
+clause_once (l ∷ c) = once_joined (variables_of l.atom) (clause_variables c) (once l.atom)
+
+-- variables that stand at their places stay
+mutual
+  put_id : (xs : List ℕ) (t : Tree) → ((x : ℕ) → is_in x (variables_of t) ≡ true → place_in xs x ≡ x) → put (by_place xs) t ≡ t
+  put_id xs (var x) h = ap var (h x (at_first x))
+    where
+      at_first : (x : ℕ) → is_in x (x ∷ []) ≡ true
+      at_first x = grind (arith, nat_tests)
+  put_id xs (elem k) h = refl
+  put_id xs (app s ts) h = ap (app s) (put_all_id xs ts h)
+
+  put_all_id : (xs : List ℕ) (ts : Trees) → ((x : ℕ) → is_in x (variables_of_all ts) ≡ true → place_in xs x ≡ x) → put_all (by_place xs) ts ≡ ts
+  put_all_id xs none h = refl
+  put_all_id xs (more t ts) h =
+      ap₂ more (put_id xs t (λ x e. h x (is_in_joined x (variables_of t) (variables_of_all ts) ∙ or_left _ _ e)))
+      (put_all_id xs ts (λ x e. h x (is_in_joined x (variables_of t) (variables_of_all ts) ∙ or_right _ _ e)))
+
+clause_id : (xs : List ℕ) (c : ClauseTree) → ((x : ℕ) → is_in x (clause_variables c) ≡ true → place_in xs x ≡ x) → map (λ l. literal l.positive (put (by_place xs) l.atom)) c ≡ c
+clause_id xs [] h = refl
+clause_id xs (l ∷ c) h =
+    ap₂ (λ (m : Lit) (d : ClauseTree). m ∷ d) (ap (literal l.positive) (put_id xs l.atom (λ x e. h x (is_in_joined x (variables_of l.atom) (clause_variables c) ∙ or_left _ _ e))))
+    (clause_id xs c (λ x e. h x (is_in_joined x (variables_of l.atom) (clause_variables c) ∙ or_right _ _ e)))
+
+pub below : (n x : ℕ) → is_in x (upto n) ≡ true → x < n
+below n x h =
+    elim (cases_lt x n) [
+      | inl y ↦ y
+      | inr k ↦ absurd (both_ways (is_in x (upto n)) (not_in n x k) h)
+    ]
+
+pub numbered_already : (c : ClauseTree) (n : ℕ) → clause_variables c ≡ upto n → renumbered c ≡ c
+numbered_already c n e = clause_id (clause_variables c) c (λ x h. ap (λ (xs : List ℕ). place_in xs x) e ∙ own_place n x (below n x (ap (is_in x) (sym e) ∙ h)))
+
+-- names of variables may be printed
+digit_ordinary : (b : ℕ) → is_ascii_digit b ≡ true → is_ordinary b ≡ true
+unfolding is_ordinary
+digit_ordinary b h = grind (arith, nat_tests)
+
+all_ordinary : (ds : List ℕ) → list_all is_ascii_digit ds ≡ true → list_all is_ordinary ds ≡ true
+all_ordinary [] h = refl
+all_ordinary (d ∷ ds) h = let parts = and_parts (is_ascii_digit d) (list_all is_ascii_digit ds) h in and_from _ _ (digit_ordinary d parts.0) (all_ordinary ds parts.1)
+
+module _ (rows : List OperatorRow) (k : KeepsFixed rows) (prolog : Bool) (frees : FreesVariables prolog rows) where
+  abbrev g : Table
+  g = table_of rows
+
+  variable_named : (n : ℕ) → n < 2 ^ 64 → Named g (clause_variable prolog n) 0
+  unfolding is_ordinary
+  variable_named n h = by prolog n h (frees n)
+    where
+      by : (q : Bool) (n : ℕ) → n < 2 ^ 64 → if_prefix (operator_of rows (clause_variable q n)) ≡ None → Named g (clause_variable q n) 0
+      by true zero h f = record { sort = ordinary; written = refl; allowed = plain refl f }
+      by false zero h f = record { sort = ordinary; written = refl; allowed = plain refl f }
+      by true (suc zero) h f = record { sort = ordinary; written = refl; allowed = plain refl f }
+      by false (suc zero) h f = record { sort = ordinary; written = refl; allowed = plain refl f }
+      by true (suc (suc zero)) h f = record { sort = ordinary; written = refl; allowed = plain refl f }
+      by false (suc (suc zero)) h f = record { sort = ordinary; written = refl; allowed = plain refl f }
+      by true (suc (suc (suc zero))) h f = record { sort = ordinary; written = refl; allowed = plain refl f }
+      by false (suc (suc (suc zero))) h f = record { sort = ordinary; written = refl; allowed = plain refl f }
+      by true (suc (suc (suc (suc zero)))) h f = record { sort = ordinary; written = refl; allowed = plain refl f }
+      by false (suc (suc (suc (suc zero)))) h f = record { sort = ordinary; written = refl; allowed = plain refl f }
+      by true (suc (suc (suc (suc (suc n))))) h f = record { sort = ordinary; written = all_ordinary (decimal (suc (suc (suc (suc (suc n)))))) (digits_decimal own (suc (suc (suc (suc (suc n))))) h); allowed = plain refl f }
+      by false (suc (suc (suc (suc (suc n))))) h f = record { sort = ordinary; written = all_ordinary (decimal (suc (suc (suc (suc (suc n)))))) (digits_decimal own (suc (suc (suc (suc (suc n))))) h); allowed = plain refl f }
+
+  module _ (T : List Symbol) (v : Naming) where
+    abbrev canon : Naming
+    canon = clause_variable prolog
+
+    Few : List ℕ → Type 0
+    Few xs = (x : ℕ) → is_in x xs ≡ true → x < 2 ^ 64
+
+    count_same : (ts : Trees) → count (terms_raw T v ts) ≡ count (terms_raw T canon ts)
+    count_same none = refl
+    count_same (more t ts) = ap suc (count_same ts)
+
+    mutual
+      term_printable : (t : Tree) → ((x : ℕ) → is_in x (variables_of t) ≡ true → x < 2 ^ 64) → Printable g (term_raw T v t) → Printable g (term_raw T canon t)
+      term_printable (var x) few p = (variable_named x (few x (at_first x)), tt)
+        where
+          at_first : (x : ℕ) → is_in x (x ∷ []) ≡ true
+          at_first x = grind (arith, nat_tests)
+      term_printable (elem j) few p = p
+      term_printable (app s ts) few p = (subst (Named g (symbol_name T s)) (count_same ts) p.0, terms_printable ts few p.1)
+
+      terms_printable : (ts : Trees) → ((x : ℕ) → is_in x (variables_of_all ts) ≡ true → x < 2 ^ 64) → PrintableAll g (terms_raw T v ts) → PrintableAll g (terms_raw T canon ts)
+      terms_printable none few p = tt
+      terms_printable (more t ts) few p = (
+        term_printable t (λ x e. few x (is_in_joined x (variables_of t) (variables_of_all ts) ∙ or_left _ _ e)) p.0,
+        terms_printable ts (λ x e. few x (is_in_joined x (variables_of t) (variables_of_all ts) ∙ or_right _ _ e)) p.1,
+      )
+
+    equals_named : Named g (codes "=") 2
+    unfolding is_special is_ordinary
+    equals_named = named_between rows k (codes "=") (record { precedence = 700; kind = Infix }) refl refl refl refl
+
+    undenied : (t : RawTree) → Printable g (denial t) → Printable g t
+    undenied (quantified q x t) p = p.1.0
+    undenied (named n no_raws) p = p.1.0
+    undenied (named n (more_raws t no_raws)) p = p.1.0
+    undenied (named n (more_raws t (more_raws u no_raws))) p = by (bytes_eq n (codes "=")) refl p
+      where
+        by : (b : Bool) → bytes_eq n (codes "=") ≡ b → Printable g (denial (two n t u)) → Printable g (two n t u)
+        by true e q =
+            let r : Printable g (two (codes "!=") t u) = rw e at q in
+            subst (λ (m : List ℕ). Printable g (two m t u)) (sym ((bytes_eq-Decides n (codes "=")).0 e)) (equals_named, r.1)
+        by false e q = let r : Printable g (named (codes "-") (more_raws (two n t u) no_raws)) = rw e at q in r.1.0
+    undenied (named n (more_raws t (more_raws u (more_raws w ts)))) p = p.1.0
+
+    literal_printable : (l : Lit) → ((x : ℕ) → is_in x (variables_of l.atom) ≡ true → x < 2 ^ 64) → Printable g (literal_raw T v l) → Printable g (literal_raw T canon l)
+    literal_printable l few p = by l.positive refl p
+      where
+        by : (b : Bool) → l.positive ≡ b → Printable g (literal_raw T v l) → Printable g (literal_raw T canon l)
+        by true e q = rw e (term_printable l.atom few (rw e at q))
+        by false e q = rw e (denial_printable rows (brings rows k) (term_raw T canon l.atom) (term_printable l.atom few (undenied (term_raw T v l.atom) (rw e at q))))
+
+    pub clause_printable : (c : ClauseTree) → ((x : ℕ) → is_in x (clause_variables c) ≡ true → x < 2 ^ 64) → Printable g (clause_raw T v c) → Printable g (clause_raw T canon c)
+    clause_printable [] few p = p
+    clause_printable (l ∷ []) few p = literal_printable l (λ x e. few x (is_in_joined x (variables_of l.atom) [] ∙ or_left _ _ e)) p
+    clause_printable (l ∷ m ∷ ls) few p = (
+      p.0,
+      (
+        literal_printable l (λ x e. few x (is_in_joined x (variables_of l.atom) (clause_variables (m ∷ ls)) ∙ or_left _ _ e)) p.1.0,
+        (clause_printable (m ∷ ls) (λ x e. few x (is_in_joined x (variables_of l.atom) (clause_variables (m ∷ ls)) ∙ or_right _ _ e)) p.1.1.0, tt),
+      ),
+    )
+
+-- the literals of a formula are printed as it is
+module _ (st : Style) (T : List Symbol) (v : Naming) (fewer : length T ≤ 65535) where
+  denied_raw : (f : Fol) (c : ClauseTree) → literals_in (denied f) ≡ Some c → (literals_in f ≡ literals_in f) → clause_raw T v c ≡ denial (formula_raw T v f)
+  denied_raw verum c h e = absurd (cc)
+  denied_raw falsum c h e = absurd (cc)
+  denied_raw (equal a b) c h e = let d : literal false (app equality (more a (more b none))) ∷ [] ≡ c = cc in ap (clause_raw T v) (sym d)
+  denied_raw (atom r ts) c h e = let d : literal false (app r ts) ∷ [] ≡ c = cc in ap (clause_raw T v) (sym d)
+  denied_raw (denied f) c h e = absurd (cc)
+  denied_raw (both f g) c h e = absurd (cc)
+  denied_raw (either f g) c h e = absurd (cc)
+  denied_raw (implies f g) c h e = absurd (cc)
+  denied_raw (iff f g) c h e = absurd (cc)
+  denied_raw (every x f) c h e = absurd (cc)
+  denied_raw (some x f) c h e = absurd (cc)
+
+  literals_raw : (f : Fol) (c : ClauseTree) → literals_in f ≡ Some c → clause_raw T v c ≡ formula_raw T v f
+  literals_raw verum c h = absurd (cc)
+  literals_raw falsum c h = absurd (cc)
+  literals_raw (equal a b) c h = let d : literal true (app equality (more a (more b none))) ∷ [] ≡ c = cc in ap (clause_raw T v) (sym d)
+  literals_raw (atom r ts) c h = let d : literal true (app r ts) ∷ [] ≡ c = cc in ap (clause_raw T v) (sym d)
+  literals_raw (denied f) c h = denied_raw f c h refl
+  literals_raw (both f g) c h = absurd (cc)
+  literals_raw (either f g) c h =
+      let p = or_parts st T v fewer f g c h in
+      ap (clause_raw T v) (sym p.whole) ∙ ap₂ (two (codes "|")) (literals_raw f (p.first ∷ []) p.front) (literals_raw g (p.second ∷ p.others) p.back)
+  literals_raw (implies f g) c h = absurd (cc)
+  literals_raw (iff f g) c h = absurd (cc)
+  literals_raw (every x f) c h = absurd (cc)
+  literals_raw (some x f) c h = absurd (cc)
+
+  -- only `$F` is read as falsum
+  abbrev OnlyF : RawTree → Made Fol → Type 0
+  OnlyF t m = m.tree ≡ falsum → t ≡ named (codes "$F") no_raws
+
+  falsum_comparison : (name : List ℕ) (t u : RawTree) (s : Reading) → OnlyF (two name t u) (comparison st [] name t u s)
+  falsum_comparison name t u s =
+      cond_both (bytes_eq name (codes "=")) _ _ (OnlyF (two name t u)) (λ e h. absurd (cc))
+      (λ k. cond_both (bytes_eq name (codes "!=")) _ _ (OnlyF (two name t u)) (λ e h. absurd (cc)) (λ j h. absurd (cc)))
+
+  falsum_two : (o : Option Connective) (name : List ℕ) (t u : RawTree) (s : Reading) → OnlyF (two name t u) (by_connective o (λ r. formula_in st [] r t) (λ r. formula_in st [] r u) (comparison st [] name t u) s)
+  falsum_two None name t u s h = falsum_comparison name t u s h
+  falsum_two (Some And) name t u s h = absurd (cc)
+  falsum_two (Some Or) name t u s h = absurd (cc)
+  falsum_two (Some IfThen) name t u s h = absurd (cc)
+  falsum_two (Some ThenIf) name t u s h = absurd (cc)
+  falsum_two (Some IfAndOnlyIf) name t u s h = absurd (cc)
+
+  falsum_sentence : (name : List ℕ) (o : Option ℕ) (s : Reading) → OnlyF (named name no_raws) (sentence_as st [] name o s)
+  falsum_sentence name (Some n) s = λ h. absurd (cc)
+  falsum_sentence name None s =
+      cond_both (bytes_eq name (codes "$T")) _ _ (OnlyF (named name no_raws)) (λ e h. absurd (cc))
+      (λ k. cond_both (bytes_eq name (codes "$F")) _ _ (OnlyF (named name no_raws)) (λ e h. ap (λ (l : List ℕ). named l no_raws) ((bytes_eq-Decides name (codes "$F")).0 e)) (λ j h. absurd (cc)))
+
+  falsum_is : (t : RawTree) (s : Reading) → OnlyF t (formula_in st [] s t)
+  falsum_is (quantified All x t) s h = absurd (cc)
+  falsum_is (quantified Exists x t) s h = absurd (cc)
+  falsum_is (named name no_raws) s h = falsum_sentence name (named_variable st [] name s).tree (named_variable st [] name s).reading h
+  falsum_is (named name (more_raws t no_raws)) s h =
+      cond_both (is_denial name) _ _ (OnlyF (named name (more_raws t no_raws))) (λ e h. absurd (cc)) (λ k h. absurd (cc)) h
+  falsum_is (named name (more_raws t (more_raws u no_raws))) s h = falsum_two (connective_of name) name t u s h
+  falsum_is (named name (more_raws t (more_raws u (more_raws w ts)))) s h = absurd (cc)
+
+data Cases (f : Fol) (c : ClauseTree) : Type 0 where
+  empty : f ≡ falsum → c ≡ [] → Cases f c
+  others : literals_in f ≡ Some c → Cases f c
+
+clause_cases : (f : Fol) (c : ClauseTree) → clause_in f ≡ Some c → Cases f c
+clause_cases verum c h = others h
+clause_cases falsum c h = empty refl (let d : [] ≡ c = cc in sym d)
+clause_cases (equal a b) c h = others h
+clause_cases (atom r ts) c h = others h
+clause_cases (denied f) c h = others h
+clause_cases (both f g) c h = others h
+clause_cases (either f g) c h = others h
+clause_cases (implies f g) c h = others h
+clause_cases (iff f g) c h = others h
+clause_cases (every x f) c h = others h
+clause_cases (some x f) c h = others h
+
+names_length : (vs : List Variable) → length (names_of vs) ≡ length vs
+names_length [] = refl
+names_length (x ∷ vs) = ap suc (names_length vs)
+
+-- what is printed for literals that a text states
+module _ (rows : List OperatorRow) (st : Style) (table : List Symbol) (other : List ℕ) (c : ClauseTree) (after : List Symbol) (l : are_lawful rows ≡ true) (k : KeepsFixed rows) where
+  empty_back : (s : StatesClause (table_of rows) st table other c after) → s.formula ≡ falsum → c ≡ [] → StatesClause (table_of rows) st table (clause_bytes (table_of rows) after (clause_variable st.prolog) (renumbered c)) c after
+  empty_back s f e =
+      let x = s.states in
+      let g = table_of rows in
+      let canon = clause_variable st.prolog in
+      let is : x.tree ≡ named (codes "$F") no_raws = falsum_is st after canon (sound_parts_fewer x) x.tree (unread table) (sym x.states.formula ∙ f) in
+      let may : Printable g (named (codes "$F") no_raws) = subst (Printable g) is (text_printable rows x.reads) in
+      let text : clause_bytes g after canon (renumbered c) ≡ text_of g (named (codes "$F") no_raws) = ap (λ (d : ClauseTree). clause_bytes g after canon (renumbered d)) e ∙ clause_is rows k after canon [] in
+      subst (λ (b : List ℕ). StatesClause g st table b c after) (sym text)
+      (record {
+        formula = s.formula;
+        names = s.names;
+        states = record {
+          tree = named (codes "$F") no_raws;
+          precedence = precedence g (named (codes "$F") no_raws);
+          reads = printed_reads rows (named (codes "$F") no_raws) l may;
+          states = subst (λ (t : RawTree). IsReadAs (formula_reading st table t) s.formula s.names after) is x.states;
+        };
+        clause = s.clause;
+      })
+    where
+      sound_parts_fewer : {names : List (List ℕ)} {f : Fol} → (x : StatesAs (table_of rows) st table other None f names after) → length after ≤ 65535
+      sound_parts_fewer x = omega (arith, (sound_parts (formula_reading st table x.tree).reading x.states.sound).fewer, ap length x.states.symbols)
+
+  literals_back : FreesVariables st.prolog rows → (s : StatesClause (table_of rows) st table other c after) → length s.names ≤ 2 ^ 64 → literals_in s.formula ≡ Some c →
+      StatesClause (table_of rows) st table (clause_bytes (table_of rows) after (clause_variable st.prolog) (renumbered c)) c after
+  literals_back frees s few h =
+      let x = s.states in
+      let g = table_of rows in
+      let v = name_in s.names in
+      let canon = clause_variable st.prolog in
+      let m = formula_reading st table x.tree in
+      let parts = sound_parts m.reading x.states.sound in
+      let reaches : Reaches after v m.reading = record {
+        sound = parts.least;
+        symbols = subst (KeepsNumbers m.reading.symbols) (sym x.states.symbols) (λ n y e. e);
+        names = λ n y e. ap (λ (ns : List (List ℕ)). name_in ns n) x.states.named ∙ names_found m.reading.variables n y e;
+      } in
+      let fewer : length after ≤ 65535 = omega (arith, parts.fewer, ap length x.states.symbols) in
+      let n = length m.reading.variables in
+      let size : n ≤ 2 ^ 64 = omega (arith, few, ap length x.states.named, names_length m.reading.variables) in
+      let both = formula_ren st after v fewer x.tree (unread table) c (ap literals_in (sym x.states.formula) ∙ h) (reaches, size) in
+      let listed : clause_variables c ≡ upto n = sym (clause_once c) ∙ both.1 in
+      let same : renumbered c ≡ c = numbered_already c n listed in
+      let printed : formula_raw after v s.formula ≡ turned x.tree =
+      ap (formula_raw after v) x.states.formula ∙ formula_back after v fewer st x.tree [] (unread table) (λ name i e. absurd (cc)) reaches
+      in
+      let first : Printable g (clause_raw after v c) =
+      subst (Printable g) (sym (literals_raw st after v fewer s.formula c h ∙ printed)) (turned_printable rows (brings rows k) x.tree (text_printable rows x.reads))
+      in
+      let may : Printable g (clause_raw after canon c) =
+      clause_printable rows k st.prolog frees after v c (λ y e. omega (arith, size, below n y (ap (is_in y) (sym listed) ∙ e))) first
+      in
+      let text : clause_bytes g after canon (renumbered c) ≡ text_of g (clause_raw after canon c) = ap (clause_bytes g after canon) same ∙ clause_is rows k after canon c in
+      let read : IsReadAs (record { tree = m.tree; reading = record m.reading { variables = first_variables st.prolog n } }) s.formula (names_of (first_variables st.prolog n)) after =
+      record { sound = x.states.sound; formula = x.states.formula; named = refl; symbols = x.states.symbols }
+      in
+      subst (λ (b : List ℕ). StatesClause g st table b c after) (sym text)
+      (record {
+        formula = s.formula;
+        names = names_of (first_variables st.prolog n);
+        states = record {
+          tree = clause_raw after canon c;
+          precedence = precedence g (clause_raw after canon c);
+          reads = printed_reads rows (clause_raw after canon c) l may;
+          states = subst (λ (r : Made Fol). IsReadAs r s.formula (names_of (first_variables st.prolog n)) after) (sym both.0) read;
+        };
+        clause = s.clause;
+      })
+
+pub clause_back :
+    (rows : List OperatorRow) (st : Style) (table : List Symbol) (other : List ℕ) (c : ClauseTree) (after : List Symbol) →
+    are_lawful rows ≡ true → KeepsFixed rows → FreesVariables st.prolog rows → (s : StatesClause (table_of rows) st table other c after) → length s.names ≤ 2 ^ 64 →
+    StatesClause (table_of rows) st table (clause_bytes (table_of rows) after (clause_variable st.prolog) (renumbered c)) c after
+clause_back rows st table other c after l k frees s few =
+    elim (clause_cases s.formula c s.clause) [
+      | empty f e ↦ empty_back rows st table other c after l k s f e
+      | others h ↦ literals_back rows st table other c after l k frees s few h
+    ]

@@ -1,0 +1,150 @@
+-- A printed formula states what it stated before.
+use Rattle.std.proofs.Common.{◌≡◌, ℕ, zero, suc, ◌≤◌, Bool, true, false, List, [], ◌∷◌, length, Option, Some, None, inl, inr, refl, sym, ap, ◌∙◌, subst, arith}
+use Rattle.std.specs.Prelude.{is_none, nat_lt, slice_get, unwrap_or, codes}
+use Rattle.std.specs.Option.{option_map}
+use Rattle.std.specs.Str.{bytes_eq}
+use Rattle.std.proofs.lemmas.Bool.{cases_Bool}
+use Rattle.std.proofs.lemmas.Bool.Decides.{nat_tests}
+use Rattle.fol_core.specs.Fol.{Fol}
+use Rattle.fol_core.specs.RawTree.{RawTree, named, quantified, no_raws, more_raws}
+use Rattle.fol_core.specs.SymbolTable.{Symbol, KeepsNumbers}
+use Rattle.ladr_lex.specs.Bytes.{is_ordinary, is_special}
+use Rattle.ladr_lex.specs.Lexeme.{special}
+use Rattle.ladr_lex.specs.Operators.{OperatorRow, operator_of, are_lawful, is_fixed, standard_rows}
+use Rattle.ladr_lex.specs.declared.operators.Operator.{Operator}
+use Rattle.ladr_lex.specs.declared.operators.OperatorKind.TheVariants.{Infix, InfixRight, Prefix}
+use Rattle.ladr_reader.specs.Formulas.{Variable, Reading, Made, unread, names_of, is_sound, is_denial, connective_of, formula_reading, IsReadAs}
+use Rattle.ladr_reader.specs.Table.{table_of}
+use Rattle.ladr_reader.specs.declared.connectives.Connective.{Connective}
+use Rattle.ladr_reader.specs.declared.connectives.Connective.TheVariants.{And, Or, IfThen, ThenIf, IfAndOnlyIf}
+use Rattle.ladr_reader.specs.declared.styles.FormulaError.TheVariants.{Row}
+use Rattle.ladr_reader.specs.declared.styles.Style.{Style}
+use Rattle.ladr_print.specs.FormulaText.{two, denial, formula_raw, attributed}
+use Rattle.ladr_print.specs.Precedences.{is_infix, precedence}
+use Rattle.ladr_lex.specs.Cuts.{can_be}
+use Rattle.ladr_lex.specs.declared.token.TokenKind.TheVariants.{Special}
+use Rattle.ladr_print.specs.RawText.{text_of}
+use Rattle.ladr_print.specs.StatesAs.{KeepsFixed, StatesAs}
+use Rattle.ladr_print.specs.TermText.{name_in}
+use Rattle.ladr_print.proofs.Naming.{Reaches, formula_back}
+use Rattle.ladr_print.proofs.Printing.{Named, before, between, Printable, printed_reads, text_printable}
+use Rattle.ladr_print.proofs.Rereading.{turned, by_one, by_two, reread}
+
+-- the fixed symbols may be printed where the printer brings them
+pub named_between : (rows : List OperatorRow) → KeepsFixed rows → (s : List ℕ) (o : Operator) → is_fixed s ≡ true → operator_of standard_rows s ≡ Some o →
+    is_infix o.kind ≡ true → can_be (Some Special) s ≡ true → Named (table_of rows) s 2
+named_between rows k s o f e two w = record { sort = special; written = w; allowed = between o (k s f ∙ e) two refl }
+
+pub record Brings (rows : List OperatorRow) : Type 0 where
+  pub conjunction : Named (table_of rows) (codes "&") 2
+  pub disjunction : Named (table_of rows) (codes "|") 2
+  pub implication : Named (table_of rows) (codes "->") 2
+  pub equivalence : Named (table_of rows) (codes "<->") 2
+  pub difference : Named (table_of rows) (codes "!=") 2
+  pub minus : Named (table_of rows) (codes "-") 1
+
+pub brings : (rows : List OperatorRow) → KeepsFixed rows → Brings rows
+unfolding is_special is_ordinary
+brings rows k =
+    record {
+      conjunction = named_between rows k (codes "&") (record { precedence = 780; kind = InfixRight }) refl refl refl refl;
+      disjunction = named_between rows k (codes "|") (record { precedence = 790; kind = InfixRight }) refl refl refl refl;
+      implication = named_between rows k (codes "->") (record { precedence = 800; kind = Infix }) refl refl refl refl;
+      equivalence = named_between rows k (codes "<->") (record { precedence = 800; kind = Infix }) refl refl refl refl;
+      difference = named_between rows k (codes "!=") (record { precedence = 700; kind = Infix }) refl refl refl refl;
+      minus = record { sort = special; written = refl; allowed = before (record { precedence = 350; kind = Prefix }) refl (k (codes "-") refl ∙ refl) refl refl };
+    }
+
+module _ (rows : List OperatorRow) (b : Brings rows) where
+  abbrev P : RawTree → Type 0
+  P t = Printable (table_of rows) t
+
+  pub two_printable : (s : List ℕ) (t u : RawTree) → Named (table_of rows) s 2 → P t → P u → P (two s t u)
+  two_printable s t u n p q = (n, (p, (q, tt)))
+
+  pub denial_printable : (t : RawTree) → P t → P (denial t)
+  denial_printable (quantified q x t) p = (b.minus, (p, tt))
+  denial_printable (named n no_raws) p = (b.minus, (p, tt))
+  denial_printable (named n (more_raws t no_raws)) p = (b.minus, (p, tt))
+  denial_printable (named n (more_raws t (more_raws u no_raws))) p =
+      elim (cases_Bool (bytes_eq n (codes "="))) [
+        | inl y ↦ rw y (two_printable (codes "!=") t u b.difference p.1.0 p.1.1.0)
+        | inr k ↦ rw k (b.minus, (p, tt))
+      ]
+  denial_printable (named n (more_raws t (more_raws u (more_raws w ts)))) p = (b.minus, (p, tt))
+
+  by_two_printable : (o : Option Connective) (t u other : RawTree) → P t → P u → P other → P (by_two o t u other)
+  by_two_printable None t u other p q r = r
+  by_two_printable (Some And) t u other p q r = two_printable (codes "&") t u b.conjunction p q
+  by_two_printable (Some Or) t u other p q r = two_printable (codes "|") t u b.disjunction p q
+  by_two_printable (Some IfThen) t u other p q r = two_printable (codes "->") t u b.implication p q
+  by_two_printable (Some ThenIf) t u other p q r = two_printable (codes "->") u t b.implication q p
+  by_two_printable (Some IfAndOnlyIf) t u other p q r = two_printable (codes "<->") t u b.equivalence p q
+
+  by_one_printable : (c : Bool) (s : List ℕ) (t u : RawTree) → P (named s (more_raws t no_raws)) → P u → P (by_one c s t u)
+  by_one_printable true s t u p q = denial_printable u q
+  by_one_printable false s t u p q = p
+
+  pub turned_printable : (t : RawTree) → P t → P (turned t)
+  turned_printable (quantified q x t) p = (p.0, turned_printable t p.1)
+  turned_printable (named n no_raws) p = p
+  turned_printable (named n (more_raws t no_raws)) p = by_one_printable (is_denial n) n t (turned t) p (turned_printable t p.1.0)
+  turned_printable (named n (more_raws t (more_raws u no_raws))) p =
+      by_two_printable (connective_of n) (turned t) (turned u) (two n t u) (turned_printable t p.1.0) (turned_printable u p.1.1.0) p
+  turned_printable (named n (more_raws t (more_raws u (more_raws w ts)))) p = p
+
+  attributed_printable : (label : Option RawTree) (t u : RawTree) → (P t → P u) → P (attributed label t) → P (attributed label u)
+  attributed_printable None t u f p = f p
+  attributed_printable (Some l) t u f p = (p.0, (f p.1.0, p.1.1))
+
+-- a sound reading
+no_row : (o : Option ℕ) → is_none (option_map Row o) ≡ true → o ≡ None
+no_row None h = refl
+no_row (Some n) h = cc
+
+pub record Sound (s : Reading) : Type 0 where
+  pub least : s.least ≡ None
+  pub fewer : length s.symbols ≤ 65535
+
+pub sound_parts : (s : Reading) → is_sound s ≡ true → Sound s
+sound_parts s h =
+    elim (cases_Bool (nat_lt 65535 (length s.symbols))) [
+      | inl y ↦ absurd (let f : false ≡ true = rw y at h in cc)
+      | inr k ↦ elim (cases_Bool s.large) [
+        | inl y ↦ absurd (let f : false ≡ true = rw (k, y) at h in cc)
+        | inr j ↦ record { least = no_row s.least (rw (k, j) at h); fewer = grind (arith, nat_tests) }
+      ]
+    ]
+
+pub names_found : (vs : List Variable) (n : ℕ) (x : Variable) → slice_get vs n ≡ Some x → name_in (names_of vs) n ≡ x.name
+names_found [] n x e = absurd (cc)
+names_found (y ∷ vs) zero x e = ap (λ (o : Option Variable). unwrap_or (option_map (λ (z : Variable). z.name) o) []) e
+names_found (y ∷ vs) (suc n) x e = names_found vs n x e
+
+pub states_back :
+    (rows : List OperatorRow) (st : Style) (table : List Symbol) (other : List ℕ) (label : Option RawTree) (f : Fol) (names : List (List ℕ)) (after : List Symbol) →
+    are_lawful rows ≡ true → KeepsFixed rows → StatesAs (table_of rows) st table other label f names after →
+    StatesAs (table_of rows) st table (text_of (table_of rows) (attributed label (formula_raw after (name_in names) f))) label f names after
+states_back rows st table other label f names after l k s =
+    let m = formula_reading st table s.tree in
+    let parts = sound_parts m.reading s.states.sound in
+    let reaches : Reaches after (name_in names) m.reading = record {
+      sound = parts.least;
+      symbols = subst (KeepsNumbers m.reading.symbols) (sym s.states.symbols) (λ n x e. e);
+      names = λ n x e. ap (λ (ns : List (List ℕ)). name_in ns n) s.states.named ∙ names_found m.reading.variables n x e;
+    } in
+    let fewer : length after ≤ 65535 = omega (arith, parts.fewer, ap length s.states.symbols) in
+    let printed : formula_raw after (name_in names) f ≡ turned s.tree =
+    ap (formula_raw after (name_in names)) s.states.formula ∙ formula_back after (name_in names) fewer st s.tree [] (unread table) (λ name n e. absurd (cc)) reaches
+    in
+    let again : formula_reading st table (turned s.tree) ≡ m = reread st s.tree [] (unread table) in
+    let may : Printable (table_of rows) (attributed label (turned s.tree)) =
+    attributed_printable rows (brings rows k) label s.tree (turned s.tree) (turned_printable rows (brings rows k) s.tree) (text_printable rows s.reads)
+    in
+    subst (λ (t : RawTree). StatesAs (table_of rows) st table (text_of (table_of rows) (attributed label t)) label f names after) (sym printed)
+    (record {
+      tree = turned s.tree;
+      precedence = precedence (table_of rows) (attributed label (turned s.tree));
+      reads = printed_reads rows (attributed label (turned s.tree)) l may;
+      states = subst (λ (r : Made Fol). IsReadAs r f names after) (sym again) s.states;
+    })

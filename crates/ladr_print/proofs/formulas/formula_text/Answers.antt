@@ -1,0 +1,19 @@
+use Rattle.std.proofs.Common.{List, ℕ, sym, subst}
+use Rattle.std.specs.Option.{option_map}
+use Rattle.fol_core.specs.FormulaView.{fol_of}
+use Rattle.fol_core.specs.RawView.{raw_of}
+use Rattle.ladr_reader.specs.Table.{table_of}
+use Rattle.ladr_print.specs.StatesAs.{StatesAs}
+use Rattle.ladr_print.proofs.Stating.{states_back}
+use Rattle.ladr_print.proofs.formulas.formula_text.Goals as goal
+
+pub returns-clause-back : goal.returns-clause-back
+returns-clause-back c =
+    λ st before other k s.
+    let rows = c.args.ops.now in
+    let label = option_map (λ l. raw_of l.now) c.args.label in
+    let f = fol_of c.args.formula.now.shape in
+    let names = c.args.formula.now.names in
+    let after = c.args.symbols.now in
+    subst (λ (l : List ℕ). StatesAs (table_of rows) st before l label f names after) (sym c.in_ok-text.ensures)
+    (states_back rows st before other label f names after c.rows_are_lawful.ensures k s)

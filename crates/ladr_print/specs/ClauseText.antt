@@ -1,0 +1,36 @@
+-- The text of a clause.
+use Rattle.std.specs.Prelude.{ℕ, List, [], ◌∷◌, ◌++◌, if◌then◌else◌, codes}
+use Rattle.fol_core.specs.Literals.{Lit, ClauseTree}
+use Rattle.fol_core.specs.RawTree.{RawTree, named, no_raws}
+use Rattle.fol_core.specs.SymbolTable.{Symbol}
+use Rattle.ladr_lex.specs.declared.operators.Operator.{Operator}
+use Rattle.ladr_lex.specs.declared.operators.OperatorKind.TheVariants.{InfixRight}
+use Rattle.ladr_print.specs.FormulaText.{two, denial}
+use Rattle.ladr_print.specs.RawText.{left_argument, right_argument, text_of, printed}
+use Rattle.ladr_print.specs.TermText.{Naming, term_raw}
+use Rattle.ladr_reader.specs.Table.{Table}
+
+-- a literal as a term as read: its atom, or the denial of it
+abbrev pub literal_raw : List Symbol → Naming → Lit → RawTree
+literal_raw table v l = if l.positive then term_raw table v l.atom else denial (term_raw table v l.atom)
+
+-- a clause as a term as read: its literals nest to the right; the empty clause is `$F`
+abbrev pub clause_raw : List Symbol → Naming → ClauseTree → RawTree
+clause_raw table v [] = named (codes "$F") no_raws
+clause_raw table v (l ∷ []) = literal_raw table v l
+clause_raw table v (l ∷ m ∷ ls) = two (codes "|") (literal_raw table v l) (clause_raw table v (m ∷ ls))
+
+-- the operator `|`, which can't be changed
+abbrev pub bar : Operator
+bar = record { precedence = 790; kind = InfixRight }
+
+-- two literals or more, each an argument of `|`
+abbrev pub disjunction : Table → List Symbol → Naming → Lit → List Lit → List ℕ
+disjunction g table v l [] = right_argument bar (printed g (literal_raw table v l))
+disjunction g table v l (m ∷ ls) = left_argument bar (printed g (literal_raw table v l)) ++ codes " | " ++ disjunction g table v m ls
+
+-- the literals between ` | `
+abbrev pub clause_bytes : Table → List Symbol → Naming → ClauseTree → List ℕ
+clause_bytes g table v [] = codes "$F"
+clause_bytes g table v (l ∷ []) = text_of g (literal_raw table v l)
+clause_bytes g table v (l ∷ m ∷ ls) = disjunction g table v l (m ∷ ls)
