@@ -1,0 +1,133 @@
+-- Rules of the lists of weights: `weight(pattern) = value` and, for KBO, `name = number`.
+use Rattle.std.specs.Prelude.{ℕ, Bool, true, false, not, ◌&&◌, ◌||◌, ◌==◌, if◌then◌else◌, List, [], ◌∷◌, ◌++◌, Option, Some, None, is_some, unwrap_or, codes}
+use Rattle.std.specs.List.{list_any}
+use Rattle.std.specs.Str.{bytes_eq}
+use Rattle.fol_core.specs.RawTree.{RawTree, RawTrees, named, quantified, no_raws, more_raws}
+use Rattle.fol_core.specs.Tree.{Trees}
+use Rattle.fol_core.specs.SymbolTable.{Symbol}
+use Rattle.ladr_reader.specs.Formulas.{Made, Variable, is_free_name, is_too_great, terms_of, unread, free_number}
+use Rattle.ladr_reader.specs.declared.styles.Style.{Style}
+use Rattle.ladr_problem.specs.Attributes.{whole_number}
+
+-- what a pattern weighs: a number, what a variable of it weighs, a sum or a product
+pub data Weight : Type 0 where
+  number : ℕ → Weight
+  of_variable : ℕ → Weight
+  plus : Weight → Weight → Weight
+  times : Weight → Weight → Weight
+
+-- the head of a pattern, its arguments, whose variables are numbered by first occurrence, and what it weighs
+pub record WeightRule : Type 0 where
+  pub head : List ℕ
+  pub arguments : Trees
+  pub weight : Weight
+
+abbrev mutual
+  -- whether a quantifier stands in a term
+  pub quantifies : RawTree → Bool
+  quantifies (quantified q x t) = true
+  quantifies (named s ts) = some_quantifies ts
+
+  pub some_quantifies : RawTrees → Bool
+  some_quantifies no_raws = false
+  some_quantifies (more_raws t ts) = quantifies t || some_quantifies ts
+
+abbrev mutual
+  -- the names of the variables of a term without quantifiers
+  pub variable_names : Style → RawTree → List (List ℕ)
+  variable_names st (quantified q x t) = variable_names st t
+  variable_names st (named s no_raws) = if is_free_name st s then s ∷ [] else []
+  variable_names st (named s (more_raws t ts)) = variable_names st t ++ all_names st ts
+
+  pub all_names : Style → RawTrees → List (List ℕ)
+  all_names st no_raws = []
+  all_names st (more_raws t ts) = variable_names st t ++ all_names st ts
+
+abbrev pub is_in : List ℕ → List (List ℕ) → Bool
+is_in name names = list_any (λ n. bytes_eq name n) names
+
+-- `weight(x)` for one of these variables, or a whole number up to 2,147,483,647
+abbrev single_value : List (List ℕ) → List ℕ → RawTree → Bool
+single_value names s (named x no_raws) = bytes_eq s (codes "weight") && is_in x names
+single_value names s t = false
+
+-- whether a term is a value: whole numbers, `+`, `*`, and `weight(x)` for one of these variables
+abbrev pub is_value : List (List ℕ) → RawTree → Bool
+is_value names (quantified q x t) = false
+is_value names (named s no_raws) = is_some (whole_number 2147483647 (named s no_raws))
+is_value names (named s (more_raws t no_raws)) = single_value names s t
+is_value names (named s (more_raws t (more_raws u no_raws))) = (bytes_eq s (codes "+") || bytes_eq s (codes "*")) && is_value names t && is_value names u
+is_value names (named s (more_raws t (more_raws u (more_raws v ts)))) = false
+
+-- the weight that a value is, with the numbers of the variables
+abbrev pub value_of : List Variable → RawTree → Weight
+value_of vs (quantified q x t) = number 0
+value_of vs (named s no_raws) = number (unwrap_or (whole_number 2147483647 (named s no_raws)) 0)
+value_of vs (named s (more_raws (named x ts) no_raws)) = of_variable (unwrap_or (free_number 0 vs x) 0)
+value_of vs (named s (more_raws (quantified q x t) no_raws)) = number 0
+value_of vs (named s (more_raws t (more_raws u no_raws))) = if bytes_eq s (codes "+") then plus (value_of vs t) (value_of vs u) else times (value_of vs t) (value_of vs u)
+value_of vs (named s (more_raws t (more_raws u (more_raws v ts)))) = number 0
+
+-- a pattern and the term behind `=`
+pub record Sides : Type 0 where
+  pub head : List ℕ
+  pub parts : RawTrees
+  pub value : RawTree
+
+-- the sides of `weight(pattern) = value`, the pattern being no variable
+abbrev pattern_sides : Style → List ℕ → RawTree → RawTree → Option Sides
+pattern_sides st s (named h ts) value = if bytes_eq s (codes "weight") then Some (record { head = h; parts = ts; value = value }) else None
+pattern_sides st s (quantified q x t) value = None
+
+abbrev equation_sides : Style → List ℕ → RawTree → RawTree → Option Sides
+equation_sides st s (named w (more_raws pattern no_raws)) value = if bytes_eq s (codes "=") then pattern_sides st w pattern value else None
+equation_sides st s t value = None
+
+abbrev pub sides_of : Style → RawTree → Option Sides
+sides_of st (named s (more_raws t (more_raws u no_raws))) = equation_sides st s t u
+sides_of st t = None
+
+abbrev is_bare : RawTrees → Bool
+is_bare no_raws = true
+is_bare (more_raws t ts) = false
+
+-- the shape of a rule: another one is row 15, and no symbol of it is entered
+abbrev pub is_shaped : Style → Sides → Bool
+is_shaped st r =
+    not (some_quantifies r.parts || quantifies r.value || (is_bare r.parts && is_free_name st r.head)) && is_value (all_names st r.parts) r.value
+
+abbrev mutual
+  -- whether a numeral of a term is too great for an element
+  pub too_great : Style → RawTree → Bool
+  too_great st (quantified q x t) = too_great st t
+  too_great st (named s ts) = is_too_great st s || some_too_great st ts
+
+  pub some_too_great : Style → RawTrees → Bool
+  some_too_great st no_raws = false
+  some_too_great st (more_raws t ts) = too_great st t || some_too_great st ts
+
+abbrev is_clash_row : Option ℕ → Bool
+is_clash_row None = false
+is_clash_row (Some k) = k == 9
+
+-- the rows that are looked for in a pattern: 9, then 16; `#` is a symbol of patterns like others
+abbrev pub pattern_row : Style → Sides → Option ℕ → Option ℕ
+pattern_row st r met = if is_clash_row met then met else (if is_too_great st r.head || some_too_great st r.parts then Some 16 else None)
+
+-- a rule behind these symbols; the head of its pattern is a name alone
+abbrev pub rule_made : Style → List Symbol → Sides → Made WeightRule
+rule_made st table r =
+    let arguments = terms_of st [] (unread table) r.parts in
+    record {
+      tree = record { head = r.head; arguments = arguments.tree; weight = value_of arguments.reading.variables r.value };
+      reading = record arguments.reading { least = pattern_row st r arguments.reading.least };
+    }
+
+-- `name = number` with a number from 1 to 65,535
+abbrev kbo_sides : List ℕ → RawTree → RawTree → Option (List ℕ × ℕ)
+kbo_sides s (named f no_raws) value = if bytes_eq s (codes "=") && not (unwrap_or (whole_number 65535 value) 0 == 0) then Some (f, unwrap_or (whole_number 65535 value) 0) else None
+kbo_sides s t value = None
+
+abbrev pub kbo_rule : RawTree → Option (List ℕ × ℕ)
+kbo_rule (named s (more_raws t (more_raws u no_raws))) = kbo_sides s t u
+kbo_rule t = None
