@@ -46,11 +46,15 @@ single = record { symbol = 0; variables = []; variable = 0; body = every 1 (equa
 abbrev pub one : List Listing → Finite
 one rows = record { top = 0; rows = rows }
 
--- "p holds of some y", "for each x some y is another element", and "some y isn't itself"
+-- "for each x some y is another element"
+abbrev pub other : ℕ → Witness
+other s = record { symbol = s; variables = 0 ∷ []; variable = 1; body = denied (equal (var 1) (var 0)) }
+
+-- "p holds of some y", that, and "some y isn't itself"
 abbrev pub seekers : List Witness
 seekers =
     record { symbol = 4; variables = []; variable = 1; body = atom 3 (more (var 1) none) }
-    ∷ record { symbol = 5; variables = 0 ∷ []; variable = 1; body = denied (equal (var 1) (var 0)) }
+    ∷ other 5
     ∷ record { symbol = 6; variables = []; variable = 1; body = denied (equal (var 1) (var 1)) } ∷ []
 
 abbrev pub found : List Listing

@@ -1,10 +1,16 @@
-// A function that exchanges two elements, and the tables of a problem in order.
+// A function that exchanges two elements, the tables of a problem in order, and the values of a Skolem symbol.
+ghost use Rattle.std.specs.Prelude.{◌≡◌, IfOk, map};
+ghost use Rattle.fol_core.specs.EntryView.{witness_of};
+ghost use Rattle.fol_core.specs.Witnesses.{AreInOrder};
+ghost use Rattle.model_tables.specs.Worked.{other};
+
 use crate::{
-    Env, Row, Tables, cell_count, closure_truth, interpretation_text, reserve_closure, size_needed,
-    truth, value,
+    Env, Row, Tables, cell_count, closure_truth, expand, interpretation_text, reserve_closure,
+    size_needed, skolem_cell_count, truth, value,
 };
 use fol_core::{
-    Formula, Input, Kind, Names, Problem, Role, Shape, Sub, Sym, Symbols, Term, Terms, free_vars,
+    Clauses, Entry, Formula, Input, Kind, Names, Problem, Role, Shape, Sub, Sym, Symbols, Term,
+    Terms, free_vars,
 };
 use std::alloc::{AllocError, Global};
 use std::test::Fail;
@@ -107,5 +113,44 @@ fn tables_come_in_order(rt: HostRuntime) -> Result<(), Fail> {
     assert_eq!(rt; text.as_slice(), LAST.as_bytes());
     let next = tables.advance();
     assert!(rt; !next);
+    Ok(())
+}
+
+// That for each x some y is another element, by symbol 1.
+fn another(alloc: Global) -> Result<Entry, AllocError>
+    ensures { IfOk result (λ e. witness_of e ≡ other 1) }
+{
+    let same = Sub::new(alloc, Shape::Eq(Term::Var(1), Term::Var(0)))?;
+    let mut variables = Vec::new(alloc);
+    variables.push(0)?;
+    Ok(Entry {
+        symbol: Sym(1),
+        variables,
+        variable: 1,
+        body: Shape::Not(same),
+    })
+}
+
+fn sought(alloc: Global) -> Result<Clauses, AllocError>
+    ensures { IfOk result (λ c. AreInOrder (map witness_of c.skolem.items)) }
+{
+    let mut skolem = Vec::new(alloc);
+    skolem.push(another(alloc)?)?;
+    Ok(Clauses {
+        clauses: Vec::new(alloc),
+        skolem,
+        symbols: Vec::new(alloc),
+        numeral: None,
+    })
+}
+
+#[test]
+fn witnesses_are_found(rt: HostRuntime) -> Result<(), Fail> {
+    let alloc = rt.alloc();
+    let sought = sought(alloc)?;
+    let expanded = expand(alloc, &exchange(alloc)?, &sought)?;
+    assert_eq!(rt; skolem_cell_count(&sought, 2), 2);
+    assert_eq!(rt; expanded.row(Sym(0)), [1, 0].as_slice());
+    assert_eq!(rt; expanded.row(Sym(1)), [1, 0].as_slice());
     Ok(())
 }

@@ -9,7 +9,7 @@ use Rattle.fol_core.specs.Witnesses.{Witness}
 use Rattle.model_tables.specs.Expansion.{assigned, IsWitness, IsLeastWitness, AreLeastWitnesses, with_values}
 use Rattle.model_tables.specs.Size.{AllBelow}
 use Rattle.model_tables.specs.Tables.{Finite, place_from}
-use Rattle.model_tables.specs.Worked.{tables, one, single}
+use Rattle.model_tables.specs.Worked.{tables, one, single, other}
 use Rattle.model_tables.proofs.laws.worked_expansions.Goals as goal
 
 abbrev constant : ℕ → ℕ → Fol → Witness
@@ -38,14 +38,11 @@ not_before (suc (suc n)) l = absurd (omega arith)
 second : Finite
 second = with_values (tables 0 1) 4 (2 ∷ [])
 
-abbrev other : Witness
-other = record { symbol = 5; variables = 0 ∷ []; variable = 1; body = denied (equal (var 1) (var 0)) }
-
-others : AreLeastWitnesses second other (1 ∷ 0 ∷ 0 ∷ [])
+others : AreLeastWitnesses second (other 5) (1 ∷ 0 ∷ 0 ∷ [])
 unfolding second
 others = (refl, each)
   where
-    each : (ns : List ℕ) → length ns ≡ 1 → AllBelow 3 ns → IsLeastWitness second (assigned (0 ∷ []) ns) other (slice_index (1 ∷ 0 ∷ 0 ∷ []) (place_from 3 0 ns))
+    each : (ns : List ℕ) → length ns ≡ 1 → AllBelow 3 ns → IsLeastWitness second (assigned (0 ∷ []) ns) (other 5) (slice_index (1 ∷ 0 ∷ 0 ∷ []) (place_from 3 0 ns))
     each [] h below = absurd (omega arith)
     each (m ∷ n ∷ ns) h below = absurd (omega arith)
     each (zero ∷ []) h below = inl (omega arith, λ (e : 1 ≡ 0). absurd (omega (arith, e)), first)
