@@ -1,0 +1,6 @@
+pub mod Decimals
+pub mod Entries
+pub mod Parsing
+pub mod Reading
+pub mod Tabling
+pub mod Writing
