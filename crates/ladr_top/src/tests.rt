@@ -70,25 +70,36 @@ fn runs_end_as_told(rt: HostRuntime) -> Result<(), Fail> {
 
 #[test]
 fn each_failed_read_is_told(rt: HostRuntime) -> Result<(), Fail> {
-    for taken in 0..=INVOLUTION.len() as u64 {
-        let (status, held) = outcome(rt.alloc(), "clausetester", INVOLUTION, taken + 1, 0, &[])?;
-        assert_eq!(rt; status, 10, "after {taken} bytes");
-        assert_eq!(rt;
-            held.as_slice(),
-            b"ladr: read fault\n".as_slice(),
-            "after {taken} bytes"
-        );
+    for command in ["clausetester", "mace4"] {
+        for taken in 0..=INVOLUTION.len() as u64 {
+            let (status, held) = outcome(rt.alloc(), command, INVOLUTION, taken + 1, 0, &[])?;
+            assert_eq!(rt; status, 10, "{command} after {taken} bytes");
+            assert_eq!(rt;
+                held.as_slice(),
+                b"ladr: read fault\n".as_slice(),
+                "{command} after {taken} bytes"
+            );
+        }
     }
     Ok(())
 }
 
 #[test]
 fn each_failed_write_leaves_a_front(rt: HostRuntime) -> Result<(), Fail> {
-    for (taken, _) in REPORT.iter().enumerate() {
-        let write = taken as u64 + 1;
-        let (status, held) = outcome(rt.alloc(), "clausetester", INVOLUTION, 0, write, &[])?;
-        assert_eq!(rt; status, 11, "after {taken} bytes");
-        assert_eq!(rt; held.as_slice(), &REPORT[..taken], "after {taken} bytes");
+    for (command, input, output) in [
+        ("clausetester", INVOLUTION, REPORT),
+        ("mace4 -n 3 -N 3 -m 10", INVOLUTIONS, ALL_OF_THREE),
+    ] {
+        for (taken, _) in output.iter().enumerate() {
+            let write = taken as u64 + 1;
+            let (status, held) = outcome(rt.alloc(), command, input, 0, write, &[])?;
+            assert_eq!(rt; status, 11, "{command} after {taken} bytes");
+            assert_eq!(rt;
+                held.as_slice(),
+                &output[..taken],
+                "{command} after {taken} bytes"
+            );
+        }
     }
     Ok(())
 }
@@ -106,56 +117,93 @@ const ALL_OF_THREE: &[u8] =
 const ONE_OF_TWO: &[u8] =
     b"% Domain size 2.\ninterpretation(2, [number = 1,seconds = 0], [\n    function(f(_), [1,0])\n]).\n% Models=1.\n% Exit max_models.\n";
 
-// In the row with a clock the first reading is the one as the size begins, and each of the two others is before a table.
 #[test]
 fn searches_end_as_told(rt: HostRuntime) -> Result<(), Fail> {
-    for (command, input, readings, status, output) in [
-        (
-            "mace4 -n 3 -N 3 -m 10",
-            INVOLUTIONS,
-            &[] as &[u64],
-            8,
-            ALL_OF_THREE,
-        ),
+    for (command, input, status, output) in [
+        ("mace4 -n 3 -N 3 -m 10", INVOLUTIONS, 8, ALL_OF_THREE),
         (
             "mace4 -n 3 -N 3",
             MOVED,
-            &[],
             2,
             b"% Domain size 3.\n% Domain size 3 exhausted.\n% Models=0.\n% Exit exhausted.\n",
         ),
-        ("mace4", MOVED, &[], 0, ONE_OF_TWO),
+        ("mace4", MOVED, 0, ONE_OF_TWO),
         (
             "mace4 -n 5 -N 3",
             MOVED,
-            &[],
             2,
             b"% Models=0.\n% Exit exhausted.\n",
         ),
         (
-            "mace4 -t 1",
-            INVOLUTIONS,
-            &[5, 6, 1005],
-            4,
-            b"% Domain size 2.\n% Models=0.\n% Exit max_seconds 5 1005.\n",
-        ),
-        (
             "mace4 -n 76 -N 90",
             MANY,
-            &[],
             3,
             b"% Domain size 76.\n% Models=0.\n% Exit max_megs.\n",
         ),
         (
             "mace4 -n 90 -N 90",
             MANY,
-            &[],
             13,
             b"% Domain size 90.\nladr: ground limit at size 90\n",
         ),
     ] {
-        let (ended, held) = outcome(rt.alloc(), command, input, 0, 0, readings)?;
+        let (ended, held) = outcome(rt.alloc(), command, input, 0, 0, &[])?;
         assert_eq!(rt; held.as_slice(), output, "{command}");
+        assert_eq!(rt; ended, status, "{command}");
+    }
+    Ok(())
+}
+
+const BOTH_OF_TWO: &[u8] =
+    b"% Domain size 2.\ninterpretation(2, [number = 1,seconds = 0], [\n    function(f(_), [0,1])\n]).\ninterpretation(2, [number = 2,seconds = 0], [\n    function(f(_), [1,0])\n]).\n";
+
+const BEGUN: &[u8] = b"% Domain size 2.\n";
+
+// The clock is read as a size begins, and before each of the tables, four of size 2; a reading of 1,000 is late behind a first
+// one of 0. The last clock goes back.
+#[test]
+fn clocks_are_heeded(rt: HostRuntime) -> Result<(), Fail> {
+    for (command, readings, status, front, rest) in [
+        (
+            "mace4 -t 0",
+            &[7u64, 7] as &[u64],
+            4,
+            BEGUN,
+            b"% Models=0.\n% Exit max_seconds 7 7.\n".as_slice(),
+        ),
+        (
+            "mace4 -t 1",
+            &[5, 6, 1005],
+            4,
+            BEGUN,
+            b"% Models=0.\n% Exit max_seconds 5 1005.\n",
+        ),
+        (
+            "mace4 -t 1 -m 9",
+            &[0, 1, 2, 999, 1000],
+            4,
+            BOTH_OF_TWO,
+            b"% Models=2.\n% Exit max_seconds 0 1000.\n",
+        ),
+        (
+            "mace4 -t 1 -m 9",
+            &[0, 1, 2, 3, 4, 1001],
+            4,
+            BOTH_OF_TWO,
+            b"% Domain size 2 exhausted.\n% Domain size 3.\n% Models=2.\n% Exit max_seconds 0 1001.\n",
+        ),
+        (
+            "mace4 -t 1 -m 9 -N 2",
+            &[1000, 5, 6, 7, 8],
+            8,
+            BOTH_OF_TWO,
+            b"% Domain size 2 exhausted.\n% Models=2.\n% Exit all_models.\n",
+        ),
+    ] {
+        let (ended, held) = outcome(rt.alloc(), command, INVOLUTIONS, 0, 0, readings)?;
+        let mut output = front.to_vec(rt.alloc())?;
+        output.extend_from_slice(rest)?;
+        assert_eq!(rt; held.as_slice(), output.as_slice(), "{command}");
         assert_eq!(rt; ended, status, "{command}");
     }
     Ok(())
