@@ -17,8 +17,3 @@ pub use laws::{
 };
 pub use raw::raw_text;
 pub use terms::term_text;
-
-#[cfg(test)]
-mod formula_tests;
-#[cfg(test)]
-mod tests;
