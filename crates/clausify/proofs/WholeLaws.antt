@@ -12,7 +12,7 @@ use Rattle.fol_core.specs.Truth.{Assignment, IsWithin, Holds}
 use Rattle.fol_core.specs.Witnesses.{PicksWitnesses}
 use Rattle.fol_core.proofs.Soundness.{uses_closed}
 use Rattle.fol_core.specs.declared.problem.Role.{Role}
-use Rattle.fol_core.specs.declared.problem.Role.TheVariants.{Assumption, Goal}
+use Rattle.fol_core.specs.declared.problem.Role.TheVariants.{Assumption, Usable, Demodulator, Goal}
 use Rattle.fol_core.proofs.TruthLemmas.{stable, free_decide}
 use Rattle.fol_core.proofs.Variables.{is_in_without}
 use Rattle.fol_core.specs.Renumbered.{renumbered}
@@ -93,9 +93,14 @@ module _ (m : Meaning) where
     form_true sign k f once below all wrong = suffice m symbols lawful empty k [] var some_element (form_of sign (closure_of f)) (apart_of sign f once below) (free_of sign f) known_none (λ y i. absurd (false≢true i))
         (λ x. lawful.element.1) wrong (λ d w a h. true≢false (sym (all d w) ∙ h))
 
-    role_suffices : (k : ℕ) (role : Role) (f : Fol) → BindsOnce f → HasSymbolsBelow equality f → AllTrue (clauses_in symbols k [] var (form_of (is_taken role) (closure_of f))) → IsAsRoled m role f
-    role_suffices k Assumption f once below all = stable m zeros (closure_of f) (λ no_closure.
+    taken_suffices : (k : ℕ) (f : Fol) → BindsOnce f → HasSymbolsBelow equality f → AllTrue (clauses_in symbols k [] var (form_of true (closure_of f))) → Holds m zeros (closure_of f)
+    taken_suffices k f once below all = stable m zeros (closure_of f) (λ no_closure.
         form_true true k f once below all (λ h. no_closure (closure_same some_element zeros f (true_from m some_element (closure_of f) h))))
+
+    role_suffices : (k : ℕ) (role : Role) (f : Fol) → BindsOnce f → HasSymbolsBelow equality f → AllTrue (clauses_in symbols k [] var (form_of (is_taken role) (closure_of f))) → IsAsRoled m role f
+    role_suffices k Assumption f once below all = taken_suffices k f once below all
+    role_suffices k Usable f once below all = taken_suffices k f once below all
+    role_suffices k Demodulator f once below all = taken_suffices k f once below all
     role_suffices k Goal f once below all = λ h. form_true false k f once below all (λ x. false_from m some_element (closure_of f) x (closure_same zeros some_element f h))
 
     pub all_suffice : (n k : ℕ) (ss : List Said) → AreSound equality ss → AreTrueRows m (rows_from symbols n k ss) → IsCountermodel m ss
@@ -108,9 +113,15 @@ module _ (m : Meaning) where
         → ((e : Assignment) → Holds m e (form_of sign (closure_of f))) → AllTrue (clauses_in symbols k [] var (form_of sign (closure_of f)))
     form_follows sign k f once below picks h e w = follow m symbols empty k [] var e (form_of sign (closure_of f)) (apart_of sign f once below) known_none (λ y i. absurd (false≢true i)) w picks (h e)
 
+    taken_follows : (k : ℕ) (f : Fol) → BindsOnce f → HasSymbolsBelow equality f → PicksWitnesses m (witnesses symbols k [] var (form_of true (closure_of f))) → Holds m zeros (closure_of f)
+        → AllTrue (clauses_in symbols k [] var (form_of true (closure_of f)))
+    taken_follows k f once below picks h = form_follows true k f once below picks (λ e. true_to m e (closure_of f) (closure_same zeros e f h))
+
     role_follows : (k : ℕ) (role : Role) (f : Fol) → BindsOnce f → HasSymbolsBelow equality f → PicksWitnesses m (witnesses symbols k [] var (form_of (is_taken role) (closure_of f))) → IsAsRoled m role f
         → AllTrue (clauses_in symbols k [] var (form_of (is_taken role) (closure_of f)))
-    role_follows k Assumption f once below picks h = form_follows true k f once below picks (λ e. true_to m e (closure_of f) (closure_same zeros e f h))
+    role_follows k Assumption f once below picks h = taken_follows k f once below picks h
+    role_follows k Usable f once below picks h = taken_follows k f once below picks h
+    role_follows k Demodulator f once below picks h = taken_follows k f once below picks h
     role_follows k Goal f once below picks h = form_follows false k f once below picks (λ e. false_to m e (closure_of f) (λ x. h (closure_same e zeros f x)))
 
     pub all_follow : (n k : ℕ) (ss : List Said) → AreSound equality ss → PicksWitnesses m (witnesses_from symbols k ss) → IsCountermodel m ss → AreTrueRows m (rows_from symbols n k ss)

@@ -9,7 +9,7 @@ use Rattle.fol_core.specs.Stated.{Said, Stated}
 use Rattle.fol_core.specs.SymbolTable.{Symbol}
 use Rattle.fol_core.specs.Witnesses.{Witness}
 use Rattle.fol_core.specs.declared.problem.Role.{Role}
-use Rattle.fol_core.specs.declared.problem.Role.TheVariants.{Assumption, Goal}
+use Rattle.fol_core.specs.declared.problem.Role.TheVariants.{Assumption, Usable, Demodulator, Goal}
 use Rattle.fol_core.specs.Renumbered.{renumbered}
 use Rattle.clausify.specs.Clausal.{clauses_in}
 use Rattle.clausify.specs.Forms.{form_of, clause_count}
@@ -19,6 +19,8 @@ use Rattle.clausify.specs.Skolem.{somes, arities, witnesses}
 -- whether a formula is taken as it stands; a goal's denial is taken
 abbrev pub is_taken : Role → Bool
 is_taken Assumption = true
+is_taken Usable = true
+is_taken Demodulator = true
 is_taken Goal = false
 
 -- the negation form of the closure, or of its denial

@@ -162,7 +162,9 @@ fn add_of_input(alloc: Global, input: &Input, found: &mut Vec<u64>) -> Result<()
 {
     let mut variables = free_vars(alloc, &input.formula)?;
     match input.role {
-        Role::Assumption => add_arities(&input.formula.shape, true, &mut variables, found),
+        Role::Assumption | Role::Usable | Role::Demodulator => {
+            add_arities(&input.formula.shape, true, &mut variables, found)
+        }
         Role::Goal => add_of_denial(alloc, &input.formula.shape, &variables, found),
     }
 }

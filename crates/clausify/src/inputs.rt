@@ -101,7 +101,7 @@ fn input_clauses(
 {
     let variables = free_vars(alloc, &input.formula)?;
     match input.role {
-        Role::Assumption => {
+        Role::Assumption | Role::Usable | Role::Demodulator => {
             closed_clauses(alloc, symbols, &input.formula.shape, variables, work)
         }
         Role::Goal => denied_clauses(alloc, symbols, &input.formula.shape, &variables, work),

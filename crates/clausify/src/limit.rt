@@ -18,7 +18,7 @@ fn count(input: &Input) -> u64
 {
     let counts = counts_of(&input.formula.shape);
     match input.role {
-        Role::Assumption => counts.plain,
+        Role::Assumption | Role::Usable | Role::Demodulator => counts.plain,
         Role::Goal => counts.denied,
     }
 }

@@ -36,6 +36,7 @@ fn input(alloc: Global, role: Role, shape: Shape) -> Input
     Input {
         role,
         formula: Formula { shape, names },
+        label: None,
         byte: 0,
     }
 }
@@ -49,7 +50,7 @@ fn problem(alloc: Global) -> Result<Problem, AllocError>
     let same = Shape::Eq(Term::Var(0), Term::Var(0));
     inputs.push(input(alloc, Role::Goal, same))?;
     let symbols = Symbols::new(alloc);
-    Ok(Problem { symbols, inputs })
+    Ok(Problem::new(alloc, symbols, inputs))
 }
 
 #[test]

@@ -1,6 +1,7 @@
+mod Cut
 mod Examples
-pub mod Marks
 mod Numberings
+pub mod Marks
 pub mod Places
 pub mod Putting
 pub mod Soundness

@@ -11,7 +11,7 @@ use Rattle.fol_core.specs.Witnesses.{Witness, AreNotIn}
 use Rattle.fol_core.specs.declared.problem.Input.{Input}
 use Rattle.fol_core.specs.declared.problem.Problem.{Problem}
 use Rattle.fol_core.specs.declared.problem.Role.{Role}
-use Rattle.fol_core.specs.declared.problem.Role.TheVariants.{Assumption, Goal}
+use Rattle.fol_core.specs.declared.problem.Role.TheVariants.{Assumption, Usable, Demodulator, Goal}
 
 -- a formula and its role
 pub record Said : Type 0 where
@@ -61,12 +61,14 @@ zero x = 0
 abbrev pub IsTrueIn : Meaning → Fol → Type 0
 IsTrueIn m f = Holds m zero (closure_of f)
 
--- an assumption is true, a goal is false
+-- an assumption, a usable formula and a demodulator are true, a goal is false
 abbrev pub IsAsRoled : Meaning → Role → Fol → Type 0
 IsAsRoled m Assumption f = IsTrueIn m f
+IsAsRoled m Usable f = IsTrueIn m f
+IsAsRoled m Demodulator f = IsTrueIn m f
 IsAsRoled m Goal f = ¬ IsTrueIn m f
 
--- each assumption is true, and each goal is false
+-- each formula that isn't a goal is true, and each goal is false
 abbrev pub IsCountermodel : Meaning → List Said → Type 0
 IsCountermodel m [] = Unit {0}
 IsCountermodel m (s ∷ ss) = IsAsRoled m s.role s.formula × IsCountermodel m ss

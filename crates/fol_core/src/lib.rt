@@ -24,7 +24,7 @@ pub use laws::{closure_is_general, free_variables_decide, truth_is_stable, value
 pub use name::{Name, Names};
 pub use numbering::renumber;
 pub use occurs::{above_numerals, mark_symbols};
-pub use problem::{Input, Problem, Role};
+pub use problem::{Hint, Input, Problem, Role};
 pub use raw::{Quantifier, Raw, RawSub, Raws};
 pub use symbols::{Clash, Kind, Sym, Symbols};
 pub use term::{Term, Terms};

@@ -1,11 +1,19 @@
 // The problem that a file states.
-use crate::formula::Formula;
-use crate::symbols::Symbols;
+ghost use Rattle.std.specs.Prelude.{◌≡◌, []};
 
-/// What a formula of a problem is.
+use crate::formula::Formula;
+use crate::name::Names;
+use crate::raw::Raw;
+use crate::symbols::Symbols;
+use ladr_options::Options;
+use std::alloc::Global;
+
+/// What a formula of a problem is: all but goals are taken to be true.
 #[derive(Clone, Copy, Debug, PartialEq, Eq)]
 pub enum Role {
     Assumption,
+    Usable,
+    Demodulator,
     Goal,
 }
 
@@ -14,12 +22,42 @@ pub enum Role {
 pub struct Input {
     pub role: Role,
     pub formula: Formula,
+    pub label: Option<Raw>,
     pub byte: u64,
 }
 
-/// The symbols of a file and its formulas, in their order.
+/// A formula that clauses are compared with, and the weight that it gives them. It is not part of what the problem states.
+#[derive(Drop)]
+pub struct Hint {
+    pub formula: Formula,
+    pub label: Option<Raw>,
+    pub weight: Option<u32>,
+    pub byte: u64,
+}
+
+/// The symbols of a file and its formulas, in their order; then what guides a search: hints, the names of `function_order`, and
+/// the options.
 #[derive(Drop)]
 pub struct Problem {
     pub symbols: Symbols,
     pub inputs: Vec<Input>,
+    pub hints: Vec<Hint>,
+    pub function_order: Names,
+    pub options: Options,
+}
+
+impl Problem {
+    /// A problem of these formulas alone, with the options as they are at the start.
+    pub fn new(alloc: Global, symbols: Symbols, inputs: Vec<Input>) -> Problem
+        ensures symbols { result.symbols ≡ symbols }
+        ensures inputs { result.inputs.items ≡ inputs.items }
+    {
+        Problem {
+            symbols,
+            inputs,
+            hints: Vec::new(alloc),
+            function_order: Names::new(alloc),
+            options: Options::start(),
+        }
+    }
 }

@@ -1,5 +1,5 @@
 // The table of symbols: each name and arity is a function or a relation, under a number.
-ghost use Rattle.std.specs.Prelude.{◌≡◌, ◌<◌, ◌↔◌, [], ◌∷◌, ◌++◌, IfOk, OnOk, OnErr, IfSome, IsTrue, length, slice_get};
+ghost use Rattle.std.specs.Prelude.{◌≡◌, ◌<◌, ◌↔◌, [], ◌∷◌, ◌++◌, IfOk, OnOk, OnErr, IfSome, IsTrue, length, slice_get, take};
 ghost use Rattle.std.specs.Option.{option_map};
 ghost use Rattle.fol_core.specs.SymbolTable.{symbol, number_of, entered, is_clash, name_at, arity_at, kind_at, KeepsNumbers, FindsEach};
 ghost use Rattle.fol_core.specs.SymbolRows.{place_of, KeepsPlaces};
@@ -173,6 +173,14 @@ impl Symbols {
             copy.append(self.name(s), self.arity(s), self.kind(s))?;
         }
         Ok(copy)
+    }
+
+    /// Takes the symbols from a number on out again.
+    #[tactic(auto, using(crate::proofs::Cut::table_cut, crate::proofs::Cut::symbols_cut))]
+    pub fn truncate(&mut self, len: usize)
+        ensures { self.new ≡ take len self.old }
+    {
+        self.rows.truncate(len);
     }
 
     // A new last symbol, whose name and arity aren't there.

@@ -94,6 +94,7 @@ fn list(
         inputs.push(Input {
             role,
             formula,
+            label: None,
             byte: 0,
         })?;
     }
@@ -157,7 +158,7 @@ fn lists<'a>(alloc: Global, ops: &Ops, tokens: &'a [Token<'a>]) -> Result<(Probl
     };
     let others = behind(first, at);
     match further(alloc, ops, others, &mut symbols, &mut inputs) {
-        Ok(more) => Ok((Problem { symbols, inputs }, end + at + more)),
+        Ok(more) => Ok((Problem::new(alloc, symbols, inputs), end + at + more)),
         Err(fault) => Err(fault),
     }
 }

@@ -57,7 +57,7 @@ impl<'a> Sentence<'a> {
     {
         let holds = closure_truth(tables, &self.input.formula, &self.variables, env);
         match self.input.role {
-            Role::Assumption => holds,
+            Role::Assumption | Role::Usable | Role::Demodulator => holds,
             Role::Goal => !holds,
         }
     }

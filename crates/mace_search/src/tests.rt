@@ -19,11 +19,12 @@ fn problem(alloc: Global) -> Result<Problem, AllocError> {
     inputs.push(Input {
         role,
         formula,
+        label: None,
         byte: 0,
     })?;
     let mut symbols = Symbols::new(alloc);
     match symbols.enter(b"p", 1, Kind::Relation) {
-        Ok(_) => Ok(Problem { symbols, inputs }),
+        Ok(_) => Ok(Problem::new(alloc, symbols, inputs)),
         Err(_) => Err(AllocError),
     }
 }

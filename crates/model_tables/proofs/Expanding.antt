@@ -13,7 +13,7 @@ use Rattle.fol_core.specs.Tree.{Tree, var, elem, app, Trees, none, more}
 use Rattle.fol_core.specs.Truth.{Assignment, with_var, value_of, values_of, Holds}
 use Rattle.fol_core.specs.Witnesses.{Witness, PicksWitness, PicksWitnesses, AreNotIn, IsApart, IsClosedBody, AreInOrder}
 use Rattle.fol_core.specs.declared.problem.Role.{Role}
-use Rattle.fol_core.specs.declared.problem.Role.TheVariants.{Assumption, Goal}
+use Rattle.fol_core.specs.declared.problem.Role.TheVariants.{Assumption, Usable, Demodulator, Goal}
 use Rattle.fol_core.specs.declared.symbols.Kind.TheVariants.{Function}
 use Rattle.fol_core.proofs.TruthLemmas.{free_decide}
 use Rattle.model_tables.specs.Expansion.{assigned, IsWitness, IsLeastWitness, with_row, with_values, IsExpansion}
@@ -130,6 +130,8 @@ closure_new (w ∷ ws) f h = (uses_closed w.symbol (free_vars_of f) f ∙ h.0, c
 
 kept_role : (ws : List Witness) (t u : Finite) → IsExpansion t ws u → (role : Role) (f : Fol) → AreNotIn ws f → IsAsRoled (meaning_of u) role f ≡ IsAsRoled (meaning_of t) role f
 kept_role ws t u h Assumption f new = kept_truth ws t u h (λ x. 0) (closure_of f) (closure_new ws f new)
+kept_role ws t u h Usable f new = kept_truth ws t u h (λ x. 0) (closure_of f) (closure_new ws f new)
+kept_role ws t u h Demodulator f new = kept_truth ws t u h (λ x. 0) (closure_of f) (closure_new ws f new)
 kept_role ws t u h Goal f new = let same = kept_truth ws t u h (λ x. 0) (closure_of f) (closure_new ws f new) in λ i. ¬ same i
 
 pub kept_countermodel : (ws : List Witness) (t u : Finite) → IsExpansion t ws u → (ss : List Said) → AreNewTo ss ws → IsCountermodel (meaning_of u) ss ≡ IsCountermodel (meaning_of t) ss

@@ -85,10 +85,11 @@ fn problem(alloc: Global) -> Result<Problem, AllocError> {
     let input = Input {
         role: Role::Assumption,
         formula,
+        label: None,
         byte: 0,
     };
     let inputs = vec![in alloc; input]?;
-    Ok(Problem { symbols, inputs })
+    Ok(Problem::new(alloc, symbols, inputs))
 }
 
 const LAST: &str =
