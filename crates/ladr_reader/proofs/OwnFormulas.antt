@@ -16,6 +16,8 @@ use Rattle.fol_core.specs.declared.raw.Quantifier.{Quantifier}
 use Rattle.fol_core.specs.declared.raw.Quantifier.TheVariants.{All, Exists}
 use Rattle.fol_core.specs.declared.symbols.Kind.TheVariants.{Relation}
 use Rattle.fol_core.proofs.Variables.{is_in_joined, is_in_without, free_vars_once}
+use Rattle.ladr_reader.specs.Whole.{IsWhole}
+use Rattle.ladr_reader.specs.declared.formulas.FormulaRead.{FormulaRead}
 use Rattle.ladr_reader.specs.Formulas.{Variable, Reading, Bound, Style, Made, meets, with_variable, with_symbol, is_element, named_variable, arity_of, term_of, terms_of, relation_of, sentence_as, sentence, equation, under, bound_by, is_denial, connective_of, joined_by, by_connective, comparison, formula_in, unread, formula_reading, is_sound, IsReadAs}
 use Rattle.ladr_reader.specs.declared.styles.What.TheVariants as what
 use Rattle.ladr_reader.specs.declared.connectives.Connective.{Connective}
@@ -260,21 +262,32 @@ once_on (x ∷ xs) ys h k apart = (
 )
 
 -- a formula without misuse binds each variable once
-pub binds_once : (st : Style) (table : List Symbol) (t : RawTree) → IsTrue (is_sound (formula_reading st table t).reading) → BindsOnce (formula_reading st table t).tree
-binds_once st table t sound =
+pub binds_once : (st : Style) (table : List Symbol) (t : RawTree) → (formula_reading st table t).reading.least ≡ None → BindsOnce (formula_reading st table t).tree
+binds_once st table t unmet =
     let m = formula_reading st table t in
     let g = formula_good st [] (unread table) t in
     let apart : (x : ℕ) → IsTrue (is_in x (free_vars_of m.tree)) → is_in x (binders_of m.tree) ≡ false = λ x i. false_from_ne_true (is_in x (binders_of m.tree))
-    (λ j. true≢false (sym (free x (g.known (nothing_met m.reading sound) x i)) ∙ g.brought x j)) in
+    (λ j. true≢false (sym (free x (g.known unmet x i)) ∙ g.brought x j)) in
     subst IsOnce (sym (binders_closed (free_vars_of m.tree) m.tree)) (once_on (free_vars_of m.tree) (binders_of m.tree) (free_vars_once m.tree) (rise_once 0 (length m.reading.variables) (binders_of m.tree) g.rise) apart)
   where
     free : (x : ℕ) → IsTrue (is_free (formula_reading st table t).reading.variables x || false) → IsTrue (is_free (formula_reading st table t).reading.variables x)
     free x i = elim (or_cases (is_free (formula_reading st table t).reading.variables x) false i) [ inl j ↦ j | inr j ↦ absurd (false≢true j) ]
 
--- so does each that is read
+-- so does each that is read whole
+pub whole_once : {E : Type 0} (r : Result FormulaRead E) (st : Style) (table : List Symbol) (t : RawTree) (u : List Symbol) → IfOk r (λ f. IsWhole (formula_reading st table t) f u)
+    → IfOk r (λ f. f.least ≡ None → BindsOnce (fol_of f.formula.shape))
+whole_once (Ok f) st table t u h = λ unmet. subst BindsOnce (sym h.formula) (binds_once st table t (sym h.least ∙ unmet))
+whole_once (Err e) st table t u h = tt
+
+pub whole_below : {E : Type 0} (r : Result FormulaRead E) (st : Style) (table : List Symbol) (t : RawTree) (u : List Symbol) → IfOk r (λ f. IsWhole (formula_reading st table t) f u)
+    → IfOk r (λ f. HasSymbolsBelow (length u) (fol_of f.formula.shape))
+whole_below (Ok f) st table t u h = λ n i. rw h.symbols (symbols_below st table t n (sym (ap (uses_symbol n) h.formula) ∙ i))
+whole_below (Err e) st table t u h = tt
+
+-- and each that is sound
 pub read_once : {E : Type 0} (r : Result Formula E) (st : Style) (table : List Symbol) (t : RawTree) (u : List Symbol) → IfOk r (λ f. IsReadAs (formula_reading st table t) (fol_of f.shape) f.names u)
     → IfOk r (λ f. BindsOnce (fol_of f.shape))
-read_once (Ok f) st table t u h = subst BindsOnce (sym h.formula) (binds_once st table t h.sound)
+read_once (Ok f) st table t u h = subst BindsOnce (sym h.formula) (binds_once st table t (nothing_met (formula_reading st table t).reading h.sound))
 read_once (Err e) st table t u h = tt
 
 pub read_below : {E : Type 0} (r : Result Formula E) (st : Style) (table : List Symbol) (t : RawTree) (u : List Symbol) → IfOk r (λ f. IsReadAs (formula_reading st table t) (fol_of f.shape) f.names u)

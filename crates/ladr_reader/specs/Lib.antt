@@ -10,3 +10,4 @@ pub mod ScopeView
 pub mod Table
 pub mod Worked
 pub mod WorkedFormulas
+pub mod Whole

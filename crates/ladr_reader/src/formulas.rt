@@ -1,5 +1,5 @@
 // From terms as they are read to formulas.
-ghost use Rattle.std.specs.Prelude.{◌≡◌, [], ◌∷◌, length, IfOk, IfErr, OnOk};
+ghost use Rattle.std.specs.Prelude.{◌≡◌, [], ◌∷◌, length, None, IfOk, IfErr, OnOk};
 ghost use Rattle.fol_core.specs.declared.symbols.Kind.TheVariants.{Function};
 ghost use Rattle.fol_core.specs.Bound.{BindsOnce, HasSymbolsBelow};
 ghost use Rattle.fol_core.specs.FormulaView.{fol_of};
@@ -9,6 +9,7 @@ ghost use Rattle.fol_core.specs.SymbolTable.{KeepsNumbers};
 ghost use Rattle.fol_core.specs.Tree.{trees_of};
 ghost use Rattle.fol_core.specs.TermView.{tree_of};
 ghost use Rattle.ladr_reader.specs.Formulas.{is_element, is_too_great, arity_of, meets, with_symbol, symbol_number, constant, term_of, terms_of, relation_of, equation, sentence, bound_by, joined_by, comparison, formula_in, formula_reading, style_of, IsFault, IsReadAs};
+ghost use Rattle.ladr_reader.specs.Whole.{IsWhole};
 
 use crate::connectives::{Connective, connective_of, is_denial};
 use crate::reader::Reader;
@@ -272,6 +273,56 @@ fn joined(
         Connective::IfThen | Connective::ThenIf => Shape::If(first, second),
         Connective::IfAndOnlyIf => Shape::Iff(first, second),
     })
+}
+
+/// A formula as it is read, whatever it breaks: the least row of misuse that was met, and whether an arity is too large.
+#[derive(Drop)]
+pub struct FormulaRead {
+    pub formula: Formula,
+    pub least: Option<u8>,
+    pub large: bool,
+}
+
+// The formula of a term with what it breaks.
+fn whole_formula(
+    alloc: Global,
+    raw: &Raw,
+    style: Style,
+    reader: &mut Reader,
+) -> Result<FormulaRead, AllocError>
+    ensures read { IfOk result (λ r. IsWhole (formula_in style reader.old.scope reader.old.reading (raw_of raw.now)) r reader.new.reading.symbols) }
+    ensures kept { KeepsNumbers reader.old.reading.symbols reader.new.reading.symbols }
+{
+    let shape = formula(alloc, raw, style, reader)?;
+    let names = reader.names(alloc)?;
+    Ok(FormulaRead {
+        formula: Formula { shape, names },
+        least: reader.least(),
+        large: reader.is_large(),
+    })
+}
+
+/// The formula that a term is read as, behind formulas with these symbols, with what it breaks; its symbols are entered, also
+/// those of a formula that is to be refused.
+pub fn read_formula(
+    alloc: Global,
+    raw: &Raw,
+    symbols: &mut Symbols,
+    mode: Mode,
+    prolog: bool,
+) -> Result<FormulaRead, AllocError>
+    ensures read { IfOk result (λ r. IsWhole (formula_reading (style_of mode prolog) symbols.old (raw_of raw.now)) r symbols.new) }
+    // Where no row was met no variable is bound twice, and none is both bound and free; the symbols are of the table.
+    ensures once { IfOk result (λ r. r.least ≡ None → BindsOnce (fol_of r.formula.shape)) }
+    ensures symbols { IfOk result (λ r. HasSymbolsBelow (length symbols.new) (fol_of r.formula.shape)) }
+    // Whatever the answer, the old symbols keep their numbers.
+    ensures kept { KeepsNumbers symbols.old symbols.new }
+{
+    let table = mem::replace(symbols, Symbols::new(alloc));
+    let mut reader = Reader::new(alloc, table);
+    let answer = whole_formula(alloc, raw, style_of(mode, prolog), &mut reader);
+    *symbols = reader.into_symbols();
+    answer
 }
 
 // The formula of a term, or why it is refused.

@@ -21,7 +21,7 @@ mod styles;
 
 pub use examples::{worked_formulas, worked_refusals};
 pub use fault::TermFault;
-pub use formulas::formula_of;
+pub use formulas::{FormulaRead, formula_of, read_formula};
 pub use laws::{one_reading, quoted_symbols, worked_declared, worked_faults, worked_terms};
 pub use read::read_term;
 pub use styles::{FormulaError, Mode, Style, What};

@@ -167,6 +167,20 @@ impl Reader {
         self.least.map(FormulaError::Row)
     }
 
+    /// The least row of misuse that was met.
+    pub fn least(&self) -> Option<u8>
+        ensures { result ≡ self.now.reading.least }
+    {
+        self.least
+    }
+
+    /// Whether an arity was too large.
+    pub fn is_large(&self) -> bool
+        ensures { result ≡ self.now.reading.large }
+    {
+        self.large
+    }
+
     /// The names of the variables.
     pub fn names(&self, alloc: Global) -> Result<Names, AllocError>
         ensures { IfOk result (λ names. names ≡ names_of self.now.reading.variables) }
