@@ -1,0 +1,4 @@
+pub mod ItemView
+pub mod Items
+pub mod ListItem
+pub mod Worked
