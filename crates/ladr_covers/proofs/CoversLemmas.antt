@@ -1,0 +1,132 @@
+-- The test tells what covering says.
+use Rattle.std.proofs.Common.{◌≡◌, ℕ, suc, not, length, map, List, [], ◌∷◌, ap, ◌+◌, ◌<◌, ◌≤◌, ◌==◌, Some, get_or, nat_lt, ◌⊎◌, inl, inr, Bool, true, false, ◌||◌, ◌&&◌, IsTrue, MatchBool, refl, arith}
+use Rattle.std.proofs.lemmas.Bool.{and_parts, or_left, or_right}
+use Rattle.std.proofs.lemmas.Bool.Decides.{nat_tests}
+use Rattle.std.proofs.lemmas.List.Sums.{fails_before_first, passes_at_first}
+use Rattle.std.proofs.Math.Nat.{eq-or-lt_of_le}
+use Rattle.std.specs.List.{position, position_or_len}
+use Rattle.fol_core.specs.Bound.{has_symbol, have_symbol, uses_symbol}
+use Rattle.fol_core.specs.Fol.{Fol, verum, falsum, equal, atom, denied, both, either, implies, iff, every, some}
+use Rattle.fol_core.specs.FormulaView.{fol_of}
+use Rattle.fol_core.specs.Occurs.{names_in, names_in_any, names}
+use Rattle.fol_core.specs.Stated.{all_said}
+use Rattle.fol_core.specs.Tree.{Tree, var, elem, app, Trees, none, more}
+use Rattle.fol_core.specs.declared.problem.Input.{Input}
+use Rattle.model_tables.specs.Tables.{Finite, has}
+use Rattle.ladr_covers.specs.Covers.{Covers, covers_term, covers_terms, covers, first_uncovered}
+
+module _ (t : Finite) where
+  -- the symbols that pass a test have entries, and the numbers that pass another name elements
+  abbrev AreThere : (ℕ → Bool) → (ℕ → Bool) → Type 0
+  AreThere p q = ((s : ℕ) → IsTrue (p s) → IsTrue (has t s)) × ((k : ℕ) → IsTrue (q k) → k < t.top + 1)
+
+  -- and an answer tells whether it is so
+  record Tells (b : Bool) (p q : ℕ → Bool) : Type 0 where
+    pub there : b ≡ true → AreThere p q
+    pub told : AreThere p q → b ≡ true
+
+  tells_nothing : Tells true (λ s. false) (λ k. false)
+  tells_nothing = record { there = λ e. (λ s i. absurd cc, λ k i. absurd cc); told = λ h. refl }
+
+  same_entry : (f s : ℕ) → has t f ≡ true → (s == f) ≡ true → has t s ≡ true
+  same_entry f s e i = let same : s ≡ f = grind (arith, nat_tests) in rw same e
+
+  tells_symbol : (f : ℕ) → Tells (has t f) (λ s. s == f) (λ k. false)
+  tells_symbol f = record {
+    there = λ e. (λ s i. same_entry f s e i, λ k i. absurd cc);
+    told = λ h. h.0 f (grind (arith, nat_tests));
+  }
+
+  tells_number : (k : ℕ) → Tells (nat_lt k (t.top + 1)) (λ s. false) (λ n. n == k)
+  tells_number k = record {
+    there = λ e. (λ s i. absurd cc, λ n i. grind (arith, nat_tests));
+    told = λ h. let l : k < t.top + 1 = h.1 k (grind (arith, nat_tests)) in grind (arith, nat_tests);
+  }
+
+  and_is : (a b : Bool) → a ≡ true → b ≡ true → (a && b) ≡ true
+  and_is true true e h = refl
+  and_is true false e h = h
+  and_is false b e h = e
+
+  of_either : (a b : Bool) {C : Type 0} → (a ≡ true → C) → (b ≡ true → C) → (a || b) ≡ true → C
+  of_either true b f g i = f refl
+  of_either false b f g i = g i
+
+  tells_both : (a b : Bool) (p q r s : ℕ → Bool) → Tells a p q → Tells b r s → Tells (a && b) (λ n. p n || r n) (λ n. q n || s n)
+  tells_both a b p q r s h k = record {
+    there = λ e.
+        let parts = and_parts a b e in
+        let left = h.there parts.0 in
+        let right = k.there parts.1 in
+        (λ n i. of_either (p n) (r n) (left.0 n) (right.0 n) i, λ n i. of_either (q n) (s n) (left.1 n) (right.1 n) i);
+    told = λ all.
+        and_is a b
+        (h.told (λ n i. all.0 n (or_left (p n) (r n) i), λ n i. all.1 n (or_left (q n) (s n) i)))
+        (k.told (λ n i. all.0 n (or_right (p n) (r n) i), λ n i. all.1 n (or_right (q n) (s n) i)));
+  }
+
+  mutual
+    tells_term : (u : Tree) → Tells (covers_term t u) (λ s. has_symbol s u) (λ k. names_in k u)
+    tells_term (var x) = tells_nothing
+    tells_term (elem k) = tells_number k
+    tells_term (app f us) = tells_both (has t f) (covers_terms t us) (λ s. s == f) (λ k. false) (λ s. have_symbol s us) (λ k. names_in_any k us) (tells_symbol f) (tells_terms us)
+
+    tells_terms : (us : Trees) → Tells (covers_terms t us) (λ s. have_symbol s us) (λ k. names_in_any k us)
+    tells_terms none = tells_nothing
+    tells_terms (more u us) = tells_both (covers_term t u) (covers_terms t us) (λ s. has_symbol s u) (λ k. names_in k u) (λ s. have_symbol s us) (λ k. names_in_any k us) (tells_term u) (tells_terms us)
+
+  tells_two : (f g : Fol) → Tells (covers t f) (λ s. uses_symbol s f) (λ k. names k f) → Tells (covers t g) (λ s. uses_symbol s g) (λ k. names k g)
+      → Tells (covers t f && covers t g) (λ s. uses_symbol s f || uses_symbol s g) (λ k. names k f || names k g)
+  tells_two f g h k = tells_both (covers t f) (covers t g) (λ s. uses_symbol s f) (λ k. names k f) (λ s. uses_symbol s g) (λ k. names k g) h k
+
+  tells : (f : Fol) → Tells (covers t f) (λ s. uses_symbol s f) (λ k. names k f)
+  tells verum = tells_nothing
+  tells falsum = tells_nothing
+  tells (equal u v) = tells_both (covers_term t u) (covers_term t v) (λ s. has_symbol s u) (λ k. names_in k u) (λ s. has_symbol s v) (λ k. names_in k v) (tells_term u) (tells_term v)
+  tells (atom r us) = tells_both (has t r) (covers_terms t us) (λ s. s == r) (λ k. false) (λ s. have_symbol s us) (λ k. names_in_any k us) (tells_symbol r) (tells_terms us)
+  tells (denied f) = tells f
+  tells (both f g) = tells_two f g (tells f) (tells g)
+  tells (either f g) = tells_two f g (tells f) (tells g)
+  tells (implies f g) = tells_two f g (tells f) (tells g)
+  tells (iff f g) = tells_two f g (tells f) (tells g)
+  tells (every x f) = tells f
+  tells (some x f) = tells f
+
+  decided : (b : Bool) (p q : ℕ → Bool) → Tells b p q → MatchBool b (AreThere p q) (¬ AreThere p q)
+  decided true p q h = h.there refl
+  decided false p q h = λ all. let e = h.told all in cc
+
+  pub test_tells : (f : Fol) → MatchBool (covers t f) (Covers t f) (¬ Covers t f)
+  test_tells f = decided (covers t f) (λ s. uses_symbol s f) (λ k. names k f) (tells f)
+
+first_of_some : (t : Finite) (inputs : List Input) → position_or_len (λ f. not (covers t f)) (map (λ s. s.formula) (all_said inputs)) ≡ position_or_len (λ (i : Input). not (covers t (fol_of i.formula.shape))) inputs
+first_of_some t [] = refl
+first_of_some t (i ∷ is) = rw (first_of_some t is) refl
+
+as_many : (inputs : List Input) → length (map (λ s. s.formula) (all_said inputs)) ≡ length inputs
+as_many [] = refl
+as_many (i ∷ is) = ap suc (as_many is)
+
+-- the first of the formulas is that of the first input with such a formula
+pub first_of_inputs : (t : Finite) (inputs : List Input) → first_uncovered t (map (λ s. s.formula) (all_said inputs)) ≡ position (λ (i : Input). not (covers t (fol_of i.formula.shape))) inputs
+first_of_inputs t inputs = rw (first_of_some t inputs, as_many inputs) refl
+
+module _ {X : Type 0} (p : X → Bool) (xs : List X) (i : ℕ) (x : X) (is : x ≡ get_or xs i x) where
+  -- the first that passes is here where all before this one fail
+  pub first_here : i ≤ position_or_len p xs → i < length xs → p x ≡ true → position p xs ≡ Some i
+  first_here h l e = by (eq-or-lt_of_le h)
+    where
+      by : ((i ≡ position_or_len p xs) ⊎ (i < position_or_len p xs)) → position p xs ≡ Some i
+      by (inl same) = rw (← same) (grind (arith, nat_tests))
+      by (inr less) = let f : p (get_or xs i x) ≡ false = fails_before_first p xs i x less in cc
+
+  -- it is further on where this one fails as well
+  pub first_behind : i ≤ position_or_len p xs → i < length xs → p x ≡ false → i + 1 ≤ position_or_len p xs
+  first_behind h l e = by (eq-or-lt_of_le h)
+    where
+      by : ((i ≡ position_or_len p xs) ⊎ (i < position_or_len p xs)) → i + 1 ≤ position_or_len p xs
+      by (inl same) =
+          let there : position_or_len p xs < length xs = omega arith in
+          let passes : p (get_or xs (position_or_len p xs) x) ≡ true = passes_at_first p xs x there in
+          absurd cc
+      by (inr less) = omega arith

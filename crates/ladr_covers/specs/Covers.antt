@@ -1,0 +1,41 @@
+-- Which formulas a finite interpretation covers.
+use Rattle.std.specs.Prelude.{ℕ, ◌+◌, ◌<◌, nat_lt, Bool, true, not, ◌&&◌, IsTrue, List, Option}
+use Rattle.std.specs.List.{position}
+use Rattle.fol_core.specs.Bound.{uses_symbol}
+use Rattle.fol_core.specs.Fol.{Fol, verum, falsum, equal, atom, denied, both, either, implies, iff, every, some}
+use Rattle.fol_core.specs.Occurs.{names}
+use Rattle.fol_core.specs.Tree.{Tree, var, elem, app, Trees, none, more}
+use Rattle.model_tables.specs.Tables.{Finite, has}
+
+-- Each symbol of the formula has an entry, and each number in it names an element.
+abbrev pub Covers : Finite → Fol → Type 0
+Covers t f = ((s : ℕ) → IsTrue (uses_symbol s f) → IsTrue (has t s)) × ((k : ℕ) → IsTrue (names k f) → k < t.top + 1)
+
+abbrev mutual
+  -- the same as a test, of a term
+  pub covers_term : Finite → Tree → Bool
+  covers_term t (var x) = true
+  covers_term t (elem k) = nat_lt k (t.top + 1)
+  covers_term t (app f us) = has t f && covers_terms t us
+
+  pub covers_terms : Finite → Trees → Bool
+  covers_terms t none = true
+  covers_terms t (more u us) = covers_term t u && covers_terms t us
+
+-- and of a formula
+abbrev pub covers : Finite → Fol → Bool
+covers t verum = true
+covers t falsum = true
+covers t (equal u v) = covers_term t u && covers_term t v
+covers t (atom r us) = has t r && covers_terms t us
+covers t (denied f) = covers t f
+covers t (both f g) = covers t f && covers t g
+covers t (either f g) = covers t f && covers t g
+covers t (implies f g) = covers t f && covers t g
+covers t (iff f g) = covers t f && covers t g
+covers t (every x f) = covers t f
+covers t (some x f) = covers t f
+
+-- the place of the first formula that isn't covered
+abbrev pub first_uncovered : Finite → List Fol → Option ℕ
+first_uncovered t fs = position (λ f. not (covers t f)) fs
