@@ -1,6 +1,8 @@
 // Options worked out.
-ghost use Rattle.std.specs.Prelude.{◌≡◌, true, false, Ok, Err, codes};
+ghost use Rattle.std.specs.Prelude.{◌≡◌, ℕ, Bool, List, true, false, Ok, Err, codes};
 ghost use Rattle.ladr_options.specs.Options.{start, flagged, numbered, symbolized};
+ghost use Rattle.ladr_options.specs.Ranges.{AreInRange};
+ghost use Rattle.ladr_options.specs.declared.options.Options.{Options};
 ghost use Rattle.ladr_options.specs.declared.options.OptionError.TheVariants.{Unknown, NotAValue};
 ghost use Rattle.ladr_options.specs.declared.options.Order.TheVariants.{Kbo};
 
@@ -19,4 +21,12 @@ pub fn worked()
     ensures pass { symbolized (codes "eq_defs") (codes "pass") start ≡ Ok start }
     ensures fold { symbolized (codes "eq_defs") (codes "fold") start ≡ Err NotAValue }
     ensures zeros { symbolized (codes "max_weight") (codes "07") start ≡ Err NotAValue }
+{}
+
+/// Sizes and numbers of models are in range at the start, and whatever changes the options keeps them so.
+pub fn options_stay_in_range()
+    ensures start { AreInRange start }
+    ensures flags { (name : List ℕ) (on : Bool) (s t : Options) → flagged name on s ≡ Ok t → AreInRange s → AreInRange t }
+    ensures numbers { (name : List ℕ) (negative : Bool) (n : ℕ) (s t : Options) → numbered name negative n s ≡ Ok t → AreInRange s → AreInRange t }
+    ensures symbols { (name text : List ℕ) (s t : Options) → symbolized name text s ≡ Ok t → AreInRange s → AreInRange t }
 {}

@@ -7,5 +7,5 @@ mod options;
 #[cfg(test)]
 mod tests;
 
-pub use laws::worked;
+pub use laws::{options_stay_in_range, worked};
 pub use options::{NO_LIMIT, OptionError, Options, Order};

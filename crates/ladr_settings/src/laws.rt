@@ -1,12 +1,16 @@
 // Commands and what they make of settings, worked out.
 ghost use Rattle.std.specs.Prelude.{◌≡◌, true, [], ◌∷◌, Ok, Err, Some, codes};
 ghost use Rattle.ladr_commands.specs.ByName.{by_name};
+ghost use Rattle.ladr_commands.specs.declared.command.Command.{Command};
 ghost use Rattle.ladr_commands.specs.declared.command.Command.TheVariants as command;
 ghost use Rattle.ladr_commands.specs.declared.command.Value.TheVariants as value;
+ghost use Rattle.ladr_options.specs.Ranges.{AreInRange};
+ghost use Rattle.ladr_reader.specs.declared.styles.Mode.{Mode};
 ghost use Rattle.ladr_reader.specs.declared.styles.Mode.TheVariants.{Prover, Mace, Tester};
 ghost use Rattle.ladr_settings.specs.Settings.{after, at_start};
 ghost use Rattle.ladr_settings.specs.declared.lists.FormulaList.TheVariants.{Assumptions};
 ghost use Rattle.ladr_settings.specs.declared.lists.OpenList.TheVariants as list;
+ghost use Rattle.ladr_settings.specs.declared.settings.Settings.{Settings};
 
 /// Each row of misuse, and what is none.
 pub fn worked()
@@ -29,4 +33,10 @@ pub fn worked()
     ensures other_list { after Prover (command.Formulas (codes "theorems")) (record at_start { block = Some (codes "Mace4") })
         ≡ Ok (record at_start { block = Some (codes "Mace4"); list = Some list.OtherFormulas }) }
     ensures other_flag { after Tester (command.Flag true (codes "nosuchflag")) (record at_start { block = Some (codes "Prover9") }) ≡ Ok (record at_start { block = Some (codes "Prover9") }) }
+{}
+
+/// The options are in range at the start, and a command keeps them so.
+pub fn options_stay_in_range()
+    ensures start { AreInRange at_start.options }
+    ensures after { (p : Mode) (c : Command) (s t : Settings) → after p c s ≡ Ok t → AreInRange s.options → AreInRange t.options }
 {}

@@ -8,6 +8,6 @@ mod symbols;
 #[cfg(test)]
 mod tests;
 
-pub use laws::worked;
+pub use laws::{options_stay_in_range, worked};
 pub use lists::{FormulaList, OpenList};
 pub use settings::{Misuse, Settings};
