@@ -1,7 +1,7 @@
 -- The denial of a closure: a Skolem constant for each free variable.
 use Rattle.std.proofs.Common.{◌≡◌, ◌<◌, ◌≤◌, ℕ, ◌+◌, false, List, [], ◌∷◌, ◌++◌, length, drop, get_or, map, refl, sym, ap, ◌∙◌, arith, add-one, drop-cons, append_assoc, slice_index, subst}
 use Rattle.std.proofs.lemmas.List.{drop_all}
-use Rattle.fol_core.specs.EntryView.{witness_of}
+use Rattle.fol_core.specs.EntryView.{witness_of, some_over}
 use Rattle.fol_core.specs.Fol.{Fol, some}
 use Rattle.fol_core.specs.Free.{closed_over}
 use Rattle.fol_core.specs.Put.{Substitution, with_term}
@@ -15,17 +15,10 @@ use Rattle.clausify.specs.declared.clausal.Work.{Work}
 front : (xs : List ℕ) (i : ℕ) → i < length xs → drop i xs ≡ get_or xs i 0 ∷ drop (i + 1) xs
 front xs i lt = rw (add-one, drop-cons xs i 0) refl
 
--- one more variable is bound around
-pub bound_next : (values : Substitution) (xs : List ℕ) (f : Fol) (i j : ℕ) → i < length xs → j ≡ i + 1
-    → some (get_or xs i 0) (put_in values (form_of false (closed_over (drop j xs) f))) ≡ put_in values (form_of false (closed_over (drop i xs) f))
-bound_next values xs f i j lt is =
-    ap (λ k. some (get_or xs i 0) (put_in values (form_of false (closed_over (drop k xs) f)))) is ∙ sym (ap (λ ys. put_in values (form_of false (closed_over ys f))) (front xs i lt))
-
-pub bound_none : (values : Substitution) (xs : List ℕ) (f : Fol) → put_in values (form_of false f) ≡ put_in values (form_of false (closed_over (drop (length xs) xs) f))
-bound_none values xs f = sym (ap (λ ys. put_in values (form_of false (closed_over ys f))) (drop_all (length xs) xs (omega arith)))
-
-pub bound_all : (values : Substitution) (xs : List ℕ) (f : Fol) (i : ℕ) → i ≤ 0 → put_in values (form_of false (closed_over (drop i xs) f)) ≡ put_in values (form_of false (closed_over xs f))
-bound_all values xs f i none_left = let first : i ≡ 0 = omega arith in ap (λ k. put_in values (form_of false (closed_over (drop k xs) f))) first
+-- the denial of a formula under universal quantifiers is its denial under existential ones
+pub denied_closed : (values : Substitution) (xs : List ℕ) (f : Fol) → some_over xs (put_in values (form_of false f)) ≡ put_in values (form_of false (closed_over xs f))
+denied_closed values [] f = refl
+denied_closed values (x ∷ xs) f = ap (some x) (denied_closed values xs f)
 
 abbrev put_at : List ℕ → Work → ℕ → Substitution
 put_at symbols a x = with_term (terms_of a.terms.items) x (skolem_term (slice_index symbols (length a.entries.items)) a.scope.items)

@@ -1,5 +1,6 @@
 // The clauses of formulas.
 ghost use Rattle.std.specs.Prelude.{◌≡◌, ◌++◌, [], ◌∷◌, IfOk, OnOk, if◌then◌else◌, true, false, slice_index};
+ghost use Rattle.fol_core.specs.EntryView.{some_over};
 ghost use Rattle.fol_core.specs.Fol.{every, some};
 ghost use Rattle.fol_core.specs.FormulaView.{fol_of};
 ghost use Rattle.fol_core.specs.Literals.{literal};
@@ -133,15 +134,17 @@ fn symbol_at(symbols: &[u64], place: usize) -> Sym
     }
 }
 
-// Notes the Skolem symbol of an existential variable, and puts its term in for it from now on.
+// Notes the Skolem symbol of an existential variable, in whose body further ones are bound around a formula, and puts its term
+// in for it from now on.
 pub fn begin(
     alloc: Global,
     symbols: &[u64],
     variable: u64,
+    bound: Vec<u64>,
     body: Shape,
     work: &mut Work,
 ) -> Result<(), AllocError>
-    ensures { OnOk result (Begins symbols.now work.old work.new variable (fol_of body)) }
+    ensures { OnOk result (Begins symbols.now work.old work.new variable (some_over bound.items (fol_of body))) }
 {
     let symbol = symbol_at(symbols, work.entries.len());
     let term = skolem_term(alloc, symbol, &work.scope)?;
@@ -150,6 +153,7 @@ pub fn begin(
         symbol,
         variables,
         variable,
+        bound,
         body,
     };
     work.entries.push(entry)?;
@@ -224,7 +228,7 @@ fn under_some(
     ensures works { OnOk result (Works symbols.now work.old work.new (some x (form_of sign sub.now))) }
 {
     let body = form(alloc, &sub.shape, sign, &work.terms)?;
-    begin(alloc, symbols, x, body, work)?;
+    begin(alloc, symbols, x, Vec::new(alloc), body, work)?;
     let found = part(alloc, symbols, sub, sign, work)?;
     work.terms.pop();
     Ok(found)

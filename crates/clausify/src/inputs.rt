@@ -10,34 +10,14 @@ ghost use Rattle.clausify.specs.Clausal.{clauses_in};
 ghost use Rattle.clausify.specs.Forms.{form_of};
 ghost use Rattle.clausify.specs.Input.{form, all_rows, all_witnesses};
 ghost use Rattle.clausify.specs.Made.{clauses_at, Leads, Notes};
-ghost use Rattle.clausify.specs.Skolem.{put_in, somes, witnesses};
-ghost use Rattle.clausify.specs.View.{terms_of};
+ghost use Rattle.clausify.specs.Skolem.{somes, witnesses};
 
 use crate::clausal::{Work, begin, clauses};
 use crate::form::form;
-use fol_core::{Clause, Entry, Input, Role, Shape, Sub, Term, free_vars, renumber};
+use fol_core::{Clause, Entry, Input, Role, Shape, free_vars, renumber};
 use std::alloc::{AllocError, Global};
 
-// The negation form of the denial of a formula around which variables are bound, with terms put in.
-#[tactic(auto, using(crate::proofs::Denials::bound_next, crate::proofs::Denials::bound_none, crate::proofs::Denials::bound_all))]
-fn denied_over(
-    alloc: Global,
-    shape: &Shape,
-    variables: &[u64],
-    values: &[(u64, Term)],
-) -> Result<Shape, AllocError>
-    ensures { IfOk result (λ f. fol_of f ≡ put_in (terms_of values.now) (form_of false (closed_over variables.now (fol_of shape.now)))) }
-{
-    let mut body = form(alloc, shape, false, values)?;
-    let mut place = variables.len();
-    while place > 0 {
-        place -= 1;
-        body = Shape::Exists(variables[place], Sub::new(alloc, body)?);
-    }
-    Ok(body)
-}
-
-// Notes a Skolem constant for each variable that is bound around the denial of a formula.
+// Notes a Skolem constant for each variable that is bound around the denial of a formula; those behind it are bound in its body.
 fn deny(
     alloc: Global,
     symbols: &[u64],
@@ -48,8 +28,9 @@ fn deny(
     ensures { OnOk result (Leads symbols.now work.old work.new (form_of false (closed_over variables.now (fol_of shape.now))) (form_of false (fol_of shape.now))) }
 {
     for place in 0..variables.len() {
-        let body = denied_over(alloc, shape, &variables[place + 1..], &work.terms)?;
-        begin(alloc, symbols, variables[place], body, work)?;
+        let bound = Vec::from_slice(alloc, &variables[place + 1..])?;
+        let body = form(alloc, shape, false, &work.terms)?;
+        begin(alloc, symbols, variables[place], bound, body, work)?;
     }
     Ok(())
 }

@@ -38,12 +38,14 @@ impl Model for Clause {
     ghost view = { λ a. map literal_of a.literals.items };
 }
 
-/// A Skolem symbol: applied to `variables` it stands for `variable` in `body`.
+/// A Skolem symbol: applied to `variables` it stands for `variable` in the body, which is `body` under an existential quantifier
+/// for each of the variables of `bound`, the first outermost.
 #[derive(Drop)]
 pub struct Entry {
     pub symbol: Sym,
     pub variables: Vec<u64>,
     pub variable: u64,
+    pub bound: Vec<u64>,
     pub body: Shape,
 }
 

@@ -1,19 +1,24 @@
 -- Lists of least witnesses, one value after the other.
-use Rattle.std.proofs.Common.{◌≡◌, inl, inr, ℕ, zero, suc, ◌+◌, ◌*◌, ◌^◌, ◌<◌, ◌≤◌, List, [], ◌∷◌, ◌++◌, length, map, drop, get_or, set, slice_index, refl, sym, ap, ◌∙◌, subst, arith}
+use Rattle.std.proofs.Common.{◌≡◌, inl, inr, Bool, true, false, MatchBool, Option, ℕ, zero, suc, ◌+◌, ◌*◌, ◌^◌, ◌<◌, ◌≤◌, List, [], ◌∷◌, ◌++◌, length, map, drop, get_or, replicate, set, slice_index, refl, sym, ap, ◌∙◌, subst, arith}
 use Rattle.std.proofs.lemmas.Bool.{cases_lt}
 use Rattle.std.proofs.lemmas.List.{drop_more, drop_all}
 use Rattle.std.proofs.Math.Nat.{pow-zero, pow-suc}
 use Rattle.fol_core.specs.EntryView.{witness_of}
-use Rattle.fol_core.specs.Truth.{Assignment}
+use Rattle.fol_core.specs.Fol.{every}
+use Rattle.fol_core.specs.FormulaView.{fol_of}
+use Rattle.fol_core.specs.Free.{closed_over}
 use Rattle.fol_core.specs.Witnesses.{Witness, IsClosedBody, AreInOrder}
 use Rattle.fol_core.specs.declared.clause.Entry.{Entry}
 use Rattle.fol_core.specs.declared.symbols.Kind.TheVariants.{Function}
 use Rattle.model_tables.specs.Digits.{AreDigits, count, number}
-use Rattle.model_tables.specs.Expansion.{assigned, IsWitness, IsLeastWitness, AreLeastWitnesses, with_row, with_values, IsExpansion}
+use Rattle.model_tables.specs.Expansion.{assigned, IsLeastWitness, AreLeastWitnesses, with_row, with_values, IsExpansion}
 use Rattle.model_tables.specs.Size.{AllBelow}
 use Rattle.model_tables.specs.Tables.{Listing, Finite, listing, place_from}
-use Rattle.model_tables.proofs.Expanding.{assigned_own, same_witness}
+use Rattle.model_tables.specs.Variables.{room_of, HasRoomFor}
+use Rattle.model_tables.proofs.Elements.{same_room}
 use Rattle.model_tables.proofs.Numbers.{number_below, number_same}
+use Rattle.model_tables.proofs.Setting.{bounds}
+use Rattle.model_tables.proofs.Stepped.{closed_room, inner_room}
 
 -- room for a further row
 pub with_row_more : (rs : List Listing) (s : ℕ) (l : Listing) → length rs ≤ s → with_row (rs ++ listing Function [] ∷ []) s l ≡ with_row rs s l
@@ -27,22 +32,23 @@ with_row_there [] s l h = absurd (omega arith)
 with_row_there (r ∷ rs) zero l h = refl
 with_row_there (r ∷ rs) (suc s) l h = ap (λ (ls : List Listing). r ∷ ls) (with_row_there rs s l (omega arith))
 
--- the least witness for an assignment is that for its elements of the variables
-least_same : (t : Finite) (w : Witness) → IsClosedBody w → (e : Assignment) (v : ℕ) → IsLeastWitness t e w v → IsLeastWitness t (assigned w.variables (map e w.variables)) w v
-least_same t w closed e v h = by h
-  where
-    d : Assignment
-    d = assigned w.variables (map e w.variables)
+-- what has room for a Skolem symbol
+pub room_for : (e : Entry) (a b : List (Option ℕ)) → length a ≡ length b → HasRoomFor e b → HasRoomFor e a
+room_for e a b same h = (same_room e.variables.items a b same h.0, omega (arith, h.1), same_room e.bound.items a b same h.2, omega (arith, h.3))
 
-    there : (n : ℕ) → IsWitness t e w n → IsWitness t d w n
-    there = same_witness t w closed e d (λ x i. sym (assigned_own e w.variables x i))
+pub entry_room : (e : Entry) (slots : List (Option ℕ)) → room_of (closed_over e.variables.items (every e.variable (closed_over e.bound.items (fol_of e.body)))) ≤ length slots → HasRoomFor e slots
+entry_room e slots h =
+    let inner = closed_over e.bound.items (fol_of e.body) in
+    let variable : room_of (every e.variable inner) ≤ length slots = omega (arith, inner_room e.variables.items (every e.variable inner)) in (
+      closed_room e.variables.items (every e.variable inner) slots h,
+      omega arith,
+      closed_room e.bound.items (fol_of e.body) slots (omega arith),
+      omega (arith, inner_room e.bound.items (fol_of e.body)),
+    )
 
-    back : (n : ℕ) → IsWitness t d w n → IsWitness t e w n
-    back = same_witness t w closed d e (assigned_own e w.variables)
-
-    by : IsLeastWitness t e w v → IsLeastWitness t d w v
-    by (inl h) = inl (h.0, there v h.1, λ n l is. h.2 n l (back n is))
-    by (inr h) = inr (h.0, λ n l is. h.1 n l (back n is))
+pub either_way : (b : Bool) (P Q : Type 0) → (P → Q) → (Q → P) → MatchBool b P (¬ P) → MatchBool b Q (¬ Q)
+either_way true P Q f g h = f h
+either_way false P Q f g h = λ q. h (g q)
 
 get_or_before : (xs : List ℕ) (x i : ℕ) → i < length xs → get_or (xs ++ x ∷ []) i 0 ≡ get_or xs i 0
 get_or_before [] x i h = absurd (omega arith)
@@ -57,10 +63,6 @@ length_more : (xs : List ℕ) (x : ℕ) → length (xs ++ x ∷ []) ≡ length x
 length_more [] x = refl
 length_more (y ∷ ys) x = omega (arith, length_more ys x)
 
--- the bounds of the elements of variables
-abbrev pub bounds : Finite → List ℕ → List ℕ
-bounds t xs = map (λ x. t.top + 1) xs
-
 -- the first k values are least witnesses
 abbrev pub AreFilledTo : Finite → Witness → ℕ → List ℕ → Type 0
 AreFilledTo t w k values = (length values ≡ k)
@@ -69,9 +71,9 @@ AreFilledTo t w k values = (length values ≡ k)
 pub filled_none : (t : Finite) (w : Witness) → AreFilledTo t w 0 []
 filled_none t w = (refl, λ ns d l. absurd (omega arith))
 
-pub filled_more : (t : Finite) (w : Witness) → IsClosedBody w → (k : ℕ) (values : List ℕ) (e : Assignment) (v : ℕ) → AreFilledTo t w k values → AreDigits (bounds t w.variables) (map e w.variables)
-    → number (bounds t w.variables) (map e w.variables) ≡ k → IsLeastWitness t e w v → AreFilledTo t w (k + 1) (values ++ v ∷ [])
-filled_more t w closed k values e v h digits here least = (length_more values v ∙ ap (λ (n : ℕ). n + 1) h.0, each)
+pub filled_more : (t : Finite) (w : Witness) (k : ℕ) (values ms : List ℕ) (v : ℕ) → AreFilledTo t w k values → AreDigits (bounds t w.variables) ms
+    → number (bounds t w.variables) ms ≡ k → IsLeastWitness t (assigned w.variables ms) w v → AreFilledTo t w (k + 1) (values ++ v ∷ [])
+filled_more t w k values ms v h digits here least = (length_more values v ∙ ap (λ (n : ℕ). n + 1) h.0, each)
   where
     bs : List ℕ
     bs = bounds t w.variables
@@ -80,23 +82,23 @@ filled_more t w closed k values e v h digits here least = (length_more values v 
     each ns d l = elim (cases_lt (number bs ns) k) [
       | inl before ↦ subst (IsLeastWitness t (assigned w.variables ns) w) (sym (get_or_before values v (number bs ns) (omega (arith, h.0)))) (h.1 ns d before)
       | inr now ↦ (
-          let same : map e w.variables ≡ ns = number_same bs (map e w.variables) ns digits d (omega (arith, here)) in
+          let same : ms ≡ ns = number_same bs ms ns digits d (omega (arith, here)) in
           let last : number bs ns ≡ length values = omega (arith, h.0) in
-          subst (λ (ms : List ℕ). IsLeastWitness t (assigned w.variables ms) w (get_or (values ++ v ∷ []) (number bs ns) 0)) same
-          (subst (IsLeastWitness t (assigned w.variables (map e w.variables)) w) (sym (ap (λ (n : ℕ). get_or (values ++ v ∷ []) n 0) last ∙ get_or_last values v)) (least_same t w closed e v least)))
+          subst (λ (ds : List ℕ). IsLeastWitness t (assigned w.variables ds) w (get_or (values ++ v ∷ []) (number bs ns) 0)) same
+          (subst (IsLeastWitness t (assigned w.variables ms) w) (sym (ap (λ (n : ℕ). get_or (values ++ v ∷ []) n 0) last ∙ get_or_last values v)) least))
     ]
 
-count_power : (n : ℕ) (xs : List ℕ) → count (map (λ x. n) xs) ≡ n ^ length xs
+count_power : (n : ℕ) (xs : List ℕ) → count (replicate (length xs) n) ≡ n ^ length xs
 count_power n [] = sym (pow-zero n)
 count_power n (x ∷ xs) = ap (λ (k : ℕ). n * k) (count_power n xs) ∙ omega (arith, pow-suc n (length xs))
 
-digits_of : (n : ℕ) (xs ns : List ℕ) → length ns ≡ length xs → AllBelow n ns → AreDigits (map (λ x. n) xs) ns
+digits_of : (n : ℕ) (xs ns : List ℕ) → length ns ≡ length xs → AllBelow n ns → AreDigits (replicate (length xs) n) ns
 digits_of n [] [] h below = tt
 digits_of n [] (m ∷ ns) h below = absurd (omega arith)
 digits_of n (x ∷ xs) [] h below = absurd (omega arith)
 digits_of n (x ∷ xs) (m ∷ ns) h below = (below.0, digits_of n xs ns (omega arith) below.1)
 
-place_number : (n : ℕ) (xs ns : List ℕ) (p : ℕ) → length ns ≡ length xs → place_from n p ns ≡ p * count (map (λ x. n) xs) + number (map (λ x. n) xs) ns
+place_number : (n : ℕ) (xs ns : List ℕ) (p : ℕ) → length ns ≡ length xs → place_from n p ns ≡ p * count (replicate (length xs) n) + number (replicate (length xs) n) ns
 place_number n [] [] p h = omega arith
 place_number n [] (m ∷ ns) p h = absurd (omega arith)
 place_number n (x ∷ xs) [] p h = absurd (omega arith)

@@ -7,6 +7,7 @@ pub mod Orders
 pub mod Places
 pub mod ReadsBack
 pub mod Rows
+pub mod Setting
 pub mod Sizing
 pub mod Slots
 pub mod Stepped

@@ -1,5 +1,5 @@
 -- Numbers of lists of digits.
-use Rattle.std.proofs.Common.{◌≡◌, ℕ, zero, suc, ◌+◌, ◌*◌, ◌-◌, ◌<◌, ◌≤◌, List, [], ◌∷◌, length, set, get_or, drop, inl, inr, refl, sym, ap, ap₂, replicate, ◌∙◌, arith}
+use Rattle.std.proofs.Common.{◌≡◌, ℕ, zero, suc, ◌+◌, ◌*◌, ◌-◌, ◌<◌, ◌≤◌, List, [], ◌∷◌, length, set, get_or, drop, inl, inr, refl, sym, ap, ap₂, replicate, ◌∙◌, arith, subst}
 use Rattle.std.proofs.lemmas.Bool.{cases_lt}
 use Rattle.std.proofs.lemmas.List.{length-set, drop_all}
 use Rattle.std.proofs.Math.Nat.{mul-le-mul_right}
@@ -33,6 +33,19 @@ number_same (b ∷ bs) (d ∷ ds) [] h k e = absurd k
 number_same (b ∷ bs) (d ∷ ds) (x ∷ es) h k e =
     let parts = first_same (count bs) d x (number bs ds) (number bs es) (number_below bs ds h.1) (number_below bs es k.1) e in
     ap₂ (λ y ys. y ∷ ys) parts.0 (number_same bs ds es h.1 k.1 parts.1)
+
+-- P holds of all digits whose number is below k
+abbrev pub HoldsBefore : (List ℕ → Type 0) → List ℕ → ℕ → Type 0
+HoldsBefore P bs k = (ds : List ℕ) → AreDigits bs ds → number bs ds < k → P ds
+
+pub before_more : (P : List ℕ → Type 0) (bs ds : List ℕ) (k : ℕ) → AreDigits bs ds → HoldsBefore P bs (number bs ds) → P ds → k ≡ number bs ds + 1 → HoldsBefore P bs k
+before_more P bs ds k d before here next es e less = elim (cases_lt (number bs es) (number bs ds)) [
+  | inl lt ↦ before es e lt
+  | inr ge ↦ subst P (number_same bs ds es d e (omega arith)) here
+]
+
+pub before_all : (P : List ℕ → Type 0) (bs ds : List ℕ) → AreDigits bs ds → HoldsBefore P bs (number bs ds) → P ds → count bs ≡ number bs ds + 1 → (es : List ℕ) → AreDigits bs es → P es
+before_all P bs ds d before here last es e = before_more P bs ds (count bs) d before here last es e (number_below bs es e)
 
 -- what a changed digit changes
 pub number_set : (bs ds : List ℕ) (i v : ℕ) → AreDigits bs ds → i < length ds

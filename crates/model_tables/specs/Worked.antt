@@ -1,9 +1,9 @@
 -- Tables worked out.
 use Rattle.std.specs.Prelude.{ℕ, ◌==◌, if◌then◌else◌, List, [], ◌∷◌, ◌++◌, codes}
-use Rattle.fol_core.specs.Fol.{equal, denied, atom, every}
+use Rattle.fol_core.specs.Fol.{equal, atom, denied, both, every, some}
 use Rattle.fol_core.specs.Stated.{Stated, said, stated}
 use Rattle.fol_core.specs.SymbolTable.{Symbol, symbol}
-use Rattle.fol_core.specs.Tree.{Tree, var, app, none, more}
+use Rattle.fol_core.specs.Tree.{Tree, var, elem, app, none, more}
 use Rattle.fol_core.specs.Witnesses.{Witness}
 use Rattle.fol_core.specs.declared.problem.Role.TheVariants.{Assumption, Goal}
 use Rattle.fol_core.specs.declared.symbols.Kind.TheVariants.{Function, Relation}
@@ -49,6 +49,15 @@ one rows = record { top = 0; rows = rows }
 -- "for each x some y is another element"
 abbrev pub other : ℕ → Witness
 other s = record { symbol = s; variables = 0 ∷ []; variable = 1; body = denied (equal (var 1) (var 0)) }
+
+-- "for some y and z, the symbol 0 at x is y, y isn't z, and z is element 1"
+abbrev pub chain : ℕ → Witness
+chain s = record {
+  symbol = s;
+  variables = [];
+  variable = 0;
+  body = some 1 (some 2 (both (equal (app 0 (more (var 0) none)) (var 1)) (both (denied (equal (var 1) (var 2))) (equal (var 2) (elem 1)))));
+}
 
 -- "p holds of some y", that, and "some y isn't itself"
 abbrev pub seekers : List Witness

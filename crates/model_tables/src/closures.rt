@@ -31,7 +31,7 @@ pub fn closure_truth(tables: &Tables, formula: &Formula, variables: &[u64], env:
 }
 
 // Element 0 for each of the variables.
-pub(crate) fn clear(variables: &[u64], env: &mut Env)
+fn clear(variables: &[u64], env: &mut Env)
     requires { HasRoom variables.now env.old }
     ensures room { length env.new ≡ length env.old }
     ensures zero { map (assignment env.new) variables.now ≡ map (λ x. 0) variables.now }
@@ -42,7 +42,7 @@ pub(crate) fn clear(variables: &[u64], env: &mut Env)
 }
 
 // The next elements for the variables, the last variable running fastest; false after the last ones.
-pub(crate) fn advance(tables: &Tables, variables: &[u64], env: &mut Env) -> bool
+fn advance(tables: &Tables, variables: &[u64], env: &mut Env) -> bool
     requires room { HasRoom variables.now env.old }
     requires apart { IsOnce variables.now }
     requires digits { AreDigits (map (λ x. tables.now.top + 1) variables.now) (map (assignment env.old) variables.now) }

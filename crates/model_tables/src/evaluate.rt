@@ -77,7 +77,7 @@ pub fn truth(tables: &Tables, formula: &Formula, env: &mut Env) -> bool
 
 // Whether a formula's tree is true.
 #[cycle(is_true)]
-fn is_true(tables: &Tables, shape: &Shape, env: &mut Env) -> bool
+pub(crate) fn is_true(tables: &Tables, shape: &Shape, env: &mut Env) -> bool
     requires { room_of (fol_of shape.now) ≤ length env.old }
     ensures same { env.new ≡ env.old }
     ensures truth { MatchBool result (Holds (meaning_of tables.now) (assignment env.old) (fol_of shape.now)) (¬ Holds (meaning_of tables.now) (assignment env.old) (fol_of shape.now)) }
@@ -103,13 +103,7 @@ fn is_true(tables: &Tables, shape: &Shape, env: &mut Env) -> bool
 
 // Whether a formula is true with this element for the variable.
 #[cycle(is_true)]
-pub(crate) fn true_at(
-    tables: &Tables,
-    variable: u64,
-    element: u32,
-    shape: &Shape,
-    env: &mut Env,
-) -> bool
+fn true_at(tables: &Tables, variable: u64, element: u32, shape: &Shape, env: &mut Env) -> bool
     requires room { room_of (fol_of shape.now) ≤ length env.old }
     requires slot { variable < length env.old }
     ensures same { env.new ≡ env.old }

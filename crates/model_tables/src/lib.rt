@@ -4,6 +4,7 @@
 mod closures;
 mod env;
 mod evaluate;
+mod existence;
 mod laws;
 mod order;
 mod room;

@@ -67,7 +67,7 @@ pub fn bound(size: u32, kind: Kind) -> u32
 }
 
 // Steps to the next values, the last running fastest; after the last ones they are all 0 again.
-fn advance_values(bound: u32, values: &mut [u32]) -> bool
+pub(crate) fn advance_values(bound: u32, values: &mut [u32]) -> bool
     requires { AreDigits (replicate (length values.old) bound) values.old }
     ensures digits { AreDigits (replicate (length values.old) bound) values.new }
     ensures next { MatchBool result

@@ -1,8 +1,9 @@
 // How much room the variables of a formula need.
 ghost use Rattle.std.specs.Prelude.{◌≡◌, ◌<◌, ◌≤◌, suc, max, length, Some, OnOk, OnErr, MatchOption, ⊤};
+ghost use Rattle.fol_core.specs.Fol.{Fol, every};
 ghost use Rattle.fol_core.specs.FormulaView.{fol_of};
 ghost use Rattle.fol_core.specs.Free.{closed_over};
-ghost use Rattle.model_tables.specs.Variables.{room_of};
+ghost use Rattle.model_tables.specs.Variables.{room_of, HasRoomFor};
 
 use crate::env::Env;
 use fol_core::{Entry, Formula, Shape};
@@ -24,21 +25,37 @@ pub fn reserve_closure(
     }
 }
 
-/// Makes room for what a Skolem symbol is to pick: its variables, the replaced one and the quantifiers of the body.
+/// Makes room for what a Skolem symbol is to pick.
 pub(crate) fn reserve_entry(env: &mut Env, entry: &Entry) -> Result<(), AllocError>
-    ensures closed { OnOk result (room_of (closed_over entry.now.variables.items (fol_of entry.now.body)) ≤ length env.new) }
-    ensures variable { OnOk result (entry.now.variable < length env.new) }
+    ensures { OnOk result (HasRoomFor entry.now env.new) }
 {
-    let closed = closed_room(&entry.body, &entry.variables).ok_or(AllocError)?;
-    let variable = behind(entry.variable).ok_or(AllocError)?;
-    env.reserve(closed.max(variable))
+    match entry_room(entry) {
+        None => Err(AllocError),
+        Some(room) => env.reserve(room),
+    }
+}
+
+// How many slots a Skolem symbol needs, if so many can be had.
+fn entry_room(entry: &Entry) -> Option<u64>
+    ensures { MatchOption result ⊤ (λ n. n ≡ room_of (closed_over entry.now.variables.items (every entry.now.variable (closed_over entry.now.bound.items (fol_of entry.now.body))))) }
+{
+    let bound = closed_room(&entry.body, &entry.bound)?;
+    let body = greater(behind(entry.variable)?, bound)?;
+    behind_all(&entry.variables, body)
 }
 
 // How many slots a formula and these variables need, if so many can be had.
 fn closed_room(shape: &Shape, variables: &[u64]) -> Option<u64>
     ensures { MatchOption result ⊤ (λ n. n ≡ room_of (closed_over variables.now (fol_of shape.now))) }
 {
-    let mut all = room(shape)?;
+    behind_all(variables, room(shape)?)
+}
+
+// How many slots these variables and a formula that needs so many slots need, if so many can be had.
+fn behind_all(variables: &[u64], room: u64) -> Option<u64>
+    ensures { (f : Fol) → room ≡ room_of f → MatchOption result ⊤ (λ n. n ≡ room_of (closed_over variables.now f)) }
+{
+    let mut all = room;
     let mut at = variables.len();
     while at > 0 {
         at -= 1;

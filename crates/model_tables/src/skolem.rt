@@ -1,15 +1,13 @@
 // The values of Skolem symbols in tables.
-ghost use Rattle.std.specs.Prelude.{◌≡◌, ◌+◌, ◌<◌, ◌≤◌, ℕ, List, length, map, IfOk, OnOk, OnErr};
+ghost use Rattle.std.specs.Prelude.{◌≡◌, ℕ, List, length, map, IfOk, OnOk, MatchBool};
 ghost use Rattle.fol_core.specs.EntryView.{witness_of};
-ghost use Rattle.fol_core.specs.FormulaView.{fol_of};
-ghost use Rattle.fol_core.specs.Free.{closed_over};
 ghost use Rattle.fol_core.specs.Witnesses.{IsClosedBody, AreInOrder};
-ghost use Rattle.model_tables.specs.Expansion.{IsLeastWitness, AreLeastWitnesses, with_row, with_values, IsExpansion};
-ghost use Rattle.model_tables.specs.Variables.{assignment, room_of};
+ghost use Rattle.model_tables.specs.Expansion.{assigned, IsWitness, IsLeastWitness, AreLeastWitnesses, with_values, IsExpansion};
+ghost use Rattle.model_tables.specs.Variables.{HasRoomFor};
 
-use crate::closures::{advance, clear};
 use crate::env::Env;
-use crate::evaluate::true_at;
+use crate::existence::some_truth;
+use crate::order::advance_values;
 use crate::room::reserve_entry;
 use crate::tables::{Row, Tables};
 use fol_core::{Clauses, Entry, Kind};
@@ -46,30 +44,60 @@ fn witnesses(
     env: &mut Env,
 ) -> Result<Vec<u32>, AllocError>
     requires closed { IsClosedBody (witness_of entry.now) }
-    requires room { room_of (closed_over entry.now.variables.items (fol_of entry.now.body)) ≤ length env.old }
-    requires slot { entry.now.variable < length env.old }
+    requires room { HasRoomFor entry.now env.old }
     ensures { IfOk result (λ values. AreLeastWitnesses tables.now (witness_of entry.now) values.items) }
 {
-    clear(&entry.variables, env);
+    let mut arguments = vec![in alloc; 0; entry.variables.len()]?;
+    let mut elements = vec![in alloc; 0; entry.bound.len()]?;
     let mut values = Vec::new(alloc);
-    values.push(least(tables, entry, env))?;
-    while advance(tables, &entry.variables, env) {
-        values.push(least(tables, entry, env))?;
+    values.push(least(tables, entry, &arguments, &mut elements, env))?;
+    while advance_values(tables.size(), &mut arguments) {
+        values.push(least(tables, entry, &arguments, &mut elements, env))?;
     }
     Ok(values)
 }
 
-// The least witness for the arguments that the variables have, or 0.
-fn least(tables: &Tables, entry: &Entry, env: &mut Env) -> u32
-    requires room { room_of (fol_of entry.now.body) ≤ length env.old }
-    requires slot { entry.now.variable < length env.old }
-    ensures same { env.new ≡ env.old }
-    ensures least { IsLeastWitness tables.now (assignment env.old) (witness_of entry.now) result }
+// The least witness for these arguments, or 0; `elements` are for the variables that are bound around the body.
+fn least(
+    tables: &Tables,
+    entry: &Entry,
+    arguments: &[u32],
+    elements: &mut [u32],
+    env: &mut Env,
+) -> u32
+    requires closed { IsClosedBody (witness_of entry.now) }
+    requires room { HasRoomFor entry.now env.old }
+    requires arguments { length arguments.now ≡ length entry.now.variables.items }
+    requires elements { length elements.old ≡ length entry.now.bound.items }
+    ensures room { length env.new ≡ length env.old }
+    ensures least { IsLeastWitness tables.now (assigned entry.now.variables.items arguments.now) (witness_of entry.now) result }
 {
     for element in 0..tables.size() {
-        if true_at(tables, entry.variable, element, &entry.body, env) {
+        if is_witness(tables, entry, arguments, element, elements, env) {
             return element;
         }
     }
     0
+}
+
+// Whether an element is a witness for these arguments.
+fn is_witness(
+    tables: &Tables,
+    entry: &Entry,
+    arguments: &[u32],
+    element: u32,
+    elements: &mut [u32],
+    env: &mut Env,
+) -> bool
+    requires closed { IsClosedBody (witness_of entry.now) }
+    requires room { HasRoomFor entry.now env.old }
+    requires arguments { length arguments.now ≡ length entry.now.variables.items }
+    requires elements { length elements.old ≡ length entry.now.bound.items }
+    ensures room { length env.new ≡ length env.old }
+    ensures truth { MatchBool result (IsWitness tables.now (assigned entry.now.variables.items arguments.now) (witness_of entry.now) element)
+        (¬ IsWitness tables.now (assigned entry.now.variables.items arguments.now) (witness_of entry.now) element) }
+{
+    env.set_each(&entry.variables, arguments);
+    env.set(entry.variable, element);
+    some_truth(tables, &entry.bound, &entry.body, elements, env)
 }

@@ -1,8 +1,10 @@
 // A function that exchanges two elements, the tables of a problem in order, and the values of a Skolem symbol.
 ghost use Rattle.std.specs.Prelude.{◌≡◌, IfOk, map};
 ghost use Rattle.fol_core.specs.EntryView.{witness_of};
+ghost use Rattle.fol_core.specs.TermView.{tree_of};
+ghost use Rattle.fol_core.specs.Tree.{app, more, none};
 ghost use Rattle.fol_core.specs.Witnesses.{AreInOrder};
-ghost use Rattle.model_tables.specs.Worked.{other};
+ghost use Rattle.model_tables.specs.Worked.{other, chain};
 
 use crate::{
     Env, Row, Tables, cell_count, closure_truth, expand, interpretation_text, reserve_closure,
@@ -16,7 +18,9 @@ use std::alloc::{AllocError, Global};
 use std::test::Fail;
 
 // f of a term.
-fn f(alloc: Global, term: Term) -> Result<Term, AllocError> {
+fn f(alloc: Global, term: Term) -> Result<Term, AllocError>
+    ensures { IfOk result (λ t. tree_of t ≡ app 0 (more (tree_of term) none)) }
+{
     let mut terms = Terms::new(alloc);
     terms.push(term)?;
     Ok(Term::App(Sym(0), terms))
@@ -128,7 +132,28 @@ fn another(alloc: Global) -> Result<Entry, AllocError>
         symbol: Sym(1),
         variables,
         variable: 1,
+        bound: Vec::new(alloc),
         body: Shape::Not(same),
+    })
+}
+
+// The first constant for the denial of the goal that f(x) isn't y, or y is z, or z isn't 1: symbol 2.
+fn first_of_three(alloc: Global) -> Result<Entry, AllocError>
+    ensures { IfOk result (λ e. witness_of e ≡ chain 2) }
+{
+    let image = Sub::new(alloc, Shape::Eq(f(alloc, Term::Var(0))?, Term::Var(1)))?;
+    let same = Sub::new(alloc, Shape::Eq(Term::Var(1), Term::Var(2)))?;
+    let apart = Sub::new(alloc, Shape::Not(same))?;
+    let one = Sub::new(alloc, Shape::Eq(Term::Var(2), Term::Elem(1)))?;
+    let mut bound = Vec::new(alloc);
+    bound.push(1)?;
+    bound.push(2)?;
+    Ok(Entry {
+        symbol: Sym(2),
+        variables: Vec::new(alloc),
+        variable: 0,
+        bound,
+        body: Shape::And(image, Sub::new(alloc, Shape::And(apart, one))?),
     })
 }
 
@@ -137,6 +162,7 @@ fn sought(alloc: Global) -> Result<Clauses, AllocError>
 {
     let mut skolem = Vec::new(alloc);
     skolem.push(another(alloc)?)?;
+    skolem.push(first_of_three(alloc)?)?;
     Ok(Clauses {
         clauses: Vec::new(alloc),
         skolem,
@@ -150,8 +176,9 @@ fn witnesses_are_found(rt: HostRuntime) -> Result<(), Fail> {
     let alloc = rt.alloc();
     let sought = sought(alloc)?;
     let expanded = expand(alloc, &exchange(alloc)?, &sought)?;
-    assert_eq!(rt; skolem_cell_count(&sought, 2), 2);
+    assert_eq!(rt; skolem_cell_count(&sought, 2), 3);
     assert_eq!(rt; expanded.row(Sym(0)), [1, 0].as_slice());
     assert_eq!(rt; expanded.row(Sym(1)), [1, 0].as_slice());
+    assert_eq!(rt; expanded.row(Sym(2)), [1].as_slice());
     Ok(())
 }

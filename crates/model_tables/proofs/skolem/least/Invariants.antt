@@ -1,9 +1,8 @@
--- the elements are as at the start, and none so far is a witness
-use Rattle.std.proofs.Common.{◌≡◌, ◌<◌, ℕ}
+-- the room stays, and no element so far is a witness
+use Rattle.std.proofs.Common.{◌≡◌, ◌<◌, ℕ, length}
 use Rattle.fol_core.specs.EntryView.{witness_of}
-use Rattle.model_tables.specs.Expansion.{IsWitness}
-use Rattle.model_tables.specs.Variables.{assignment}
+use Rattle.model_tables.specs.Expansion.{assigned, IsWitness}
 use Rattle.model_tables.proofs.skolem.least.Given as goal
 
 abbrev pub invariant-loop-element : goal.invariant-loop-element
-invariant-loop-element l = (l.env ≡ l.fn.env) × ((n : ℕ) → n < l.element → ¬ IsWitness l.tables (assignment l.fn.env) (witness_of l.entry) n)
+invariant-loop-element l = (length l.env ≡ length l.fn.env) × ((n : ℕ) → n < l.element → ¬ IsWitness l.tables (assigned l.entry.variables.items l.arguments) (witness_of l.entry) n)

@@ -1,17 +1,18 @@
--- the elements are digits, and the values up to theirs are least witnesses
-use Rattle.std.proofs.Common.{◌≡◌, ◌+◌, ◌-◌, length, map}
+-- the arguments are digits, and the values up to theirs are least witnesses
+use Rattle.std.proofs.Common.{◌≡◌, ◌+◌, ◌-◌, length}
 use Rattle.fol_core.specs.EntryView.{witness_of}
 use Rattle.model_tables.specs.Digits.{AreDigits, count, number}
-use Rattle.model_tables.specs.Variables.{assignment}
-use Rattle.model_tables.proofs.Filling.{bounds, AreFilledTo}
+use Rattle.model_tables.proofs.Filling.{AreFilledTo}
+use Rattle.model_tables.proofs.Setting.{bounds}
 use Rattle.model_tables.proofs.skolem.witnesses.Given as goal
 
 abbrev pub invariant-loop-values : goal.invariant-loop-values
 invariant-loop-values l = record {
   room : length l.env ≡ length l.fn.env;
-  digits : AreDigits (bounds l.tables l.entry.variables.items) (map (assignment l.env) l.entry.variables.items);
-  filled : AreFilledTo l.tables (witness_of l.entry) (number (bounds l.tables l.entry.variables.items) (map (assignment l.env) l.entry.variables.items) + 1) l.values.items;
+  elements : length l.elements.items ≡ length l.entry.bound.items;
+  digits : AreDigits (bounds l.tables l.entry.variables.items) l.arguments.items;
+  filled : AreFilledTo l.tables (witness_of l.entry) (number (bounds l.tables l.entry.variables.items) l.arguments.items + 1) l.values.items;
 }
 
 abbrev pub decreases-loop-values : goal.decreases-loop-values
-decreases-loop-values l = count (bounds l.tables l.entry.variables.items) - number (bounds l.tables l.entry.variables.items) (map (assignment l.env) l.entry.variables.items)
+decreases-loop-values l = count (bounds l.tables l.entry.variables.items) - number (bounds l.tables l.entry.variables.items) l.arguments.items

@@ -1,15 +1,18 @@
-use Rattle.std.proofs.Common.{◌≡◌, ◌∙◌, List, [], ◌∷◌, ◌++◌, map, refl, sym, ap, subst}
+use Rattle.std.proofs.Common.{◌≡◌, ◌∙◌, List, [], ◌∷◌, ◌++◌, map, refl, sym, ap, ap₂, subst}
 use Rattle.fol_core.specs.EntryView.{witness_of}
 use Rattle.fol_core.specs.Witnesses.{Witness, AreInOrder}
 use Rattle.fol_core.specs.declared.clause.Entry.{Entry}
-use Rattle.model_tables.specs.Worked.{other}
+use Rattle.model_tables.specs.Worked.{other, chain}
 use Rattle.model_tables.proofs.tests.sought.Goals as goal
 
-alone : AreInOrder (other 1 ∷ [])
-alone = (((refl, tt), λ x h. h), (refl, tt), tt, tt)
+in_order : AreInOrder (other 1 ∷ chain 2 ∷ [])
+in_order = (((refl, tt), λ x h. h), (refl, (refl, tt)), (refl, tt), ((tt, λ x h. h), (refl, tt), tt, tt))
 
 pub returns : goal.returns
 returns c =
-    let e : Entry = c.in_ok-another.field-0 in
-    let items : c.push.new.self.items ≡ e ∷ [] = c.in_ok-push.ensures.items ∙ ap (λ (es : List Entry). es ++ e ∷ []) c.new-skolem.ensures.items in
-    subst (λ (es : List Entry). AreInOrder (map witness_of es)) (sym items) (subst (λ (w : Witness). AreInOrder (w ∷ [])) (sym c.in_ok-another.ensures) alone)
+    let d : Entry = c.in_ok-another.field-0 in
+    let e : Entry = c.in_ok-first_of_three.field-0 in
+    let items : c.push-2.new.self.items ≡ d ∷ e ∷ [] =
+    c.in_ok-push-2.ensures.items ∙ ap (λ (es : List Entry). es ++ e ∷ []) (c.in_ok-push.ensures.items ∙ ap (λ (es : List Entry). es ++ d ∷ []) c.new-skolem.ensures.items) in
+    let witnesses : map witness_of c.push-2.new.self.items ≡ other 1 ∷ chain 2 ∷ [] = ap (λ (es : List Entry). map witness_of es) items ∙ ap₂ (λ (v w : Witness). v ∷ w ∷ []) c.in_ok-another.ensures c.in_ok-first_of_three.ensures in
+    subst AreInOrder (sym witnesses) in_order
