@@ -1,12 +1,14 @@
 -- Lists of least witnesses, one value after the other.
 use Rattle.std.proofs.Common.{◌≡◌, inl, inr, Bool, true, false, MatchBool, Option, ℕ, zero, suc, ◌+◌, ◌*◌, ◌^◌, ◌<◌, ◌≤◌, List, [], ◌∷◌, ◌++◌, length, map, drop, get_or, replicate, set, slice_index, refl, sym, ap, ◌∙◌, subst, arith}
 use Rattle.std.proofs.lemmas.Bool.{cases_lt}
-use Rattle.std.proofs.lemmas.List.{drop_more, drop_all}
+use Rattle.std.proofs.lemmas.Grind.{same_number_lists}
+use Rattle.std.proofs.lemmas.List.{drop_more, drop_all, length-replicate}
 use Rattle.std.proofs.Math.Nat.{pow-zero, pow-suc}
 use Rattle.fol_core.specs.EntryView.{witness_of}
 use Rattle.fol_core.specs.Fol.{every}
 use Rattle.fol_core.specs.FormulaView.{fol_of}
 use Rattle.fol_core.specs.Free.{closed_over}
+use Rattle.fol_core.specs.Truth.{Assignment}
 use Rattle.fol_core.specs.Witnesses.{Witness, IsClosedBody, AreInOrder}
 use Rattle.fol_core.specs.declared.clause.Entry.{Entry}
 use Rattle.fol_core.specs.declared.symbols.Kind.TheVariants.{Function}
@@ -16,7 +18,7 @@ use Rattle.model_tables.specs.Size.{AllBelow}
 use Rattle.model_tables.specs.Tables.{Listing, Finite, listing, place_from}
 use Rattle.model_tables.specs.Variables.{room_of, HasRoomFor}
 use Rattle.model_tables.proofs.Elements.{same_room}
-use Rattle.model_tables.proofs.Numbers.{number_below, number_same}
+use Rattle.model_tables.proofs.Numbers.{number_below, number_same, digits_many, digits_at}
 use Rattle.model_tables.proofs.Setting.{bounds}
 use Rattle.model_tables.proofs.Stepped.{closed_room, inner_room}
 
@@ -112,6 +114,39 @@ filled_all t w k values h all = (h.0 ∙ sym all ∙ count_power (t.top + 1) w.v
         let d = digits_of (t.top + 1) w.variables ns many below in
         let place : place_from (t.top + 1) 0 ns ≡ number (bounds t w.variables) ns = omega (arith, place_number (t.top + 1) w.variables ns 0 many) in
         subst (λ (p : ℕ). IsLeastWitness t (assigned w.variables ns) w (get_or values p 0)) (sym place) (h.1 ns d (omega (arith, number_below (bounds t w.variables) ns d, all)))
+
+-- there is one list of least witnesses
+least_once : (t : Finite) (e : Assignment) (w : Witness) (a b : ℕ) → IsLeastWitness t e w a → IsLeastWitness t e w b → a ≡ b
+least_once t e w a b (inl h) (inl k) = elim (cases_lt a b) [
+  | inl lt ↦ absurd (k.2 a lt h.1)
+  | inr ge ↦ elim (cases_lt b a) [ inl lt ↦ absurd (h.2 b lt k.1) | inr le ↦ omega arith ]
+]
+least_once t e w a b (inl h) (inr k) = absurd (k.1 a h.0 h.1)
+least_once t e w a b (inr h) (inl k) = absurd (h.1 b k.0 k.1)
+least_once t e w a b (inr h) (inr k) = h.0 ∙ sym k.0
+
+below_of : (n : ℕ) (xs ns : List ℕ) → AreDigits (replicate (length xs) n) ns → AllBelow n ns
+below_of n xs [] d = tt
+below_of n [] (m ∷ ns) d = absurd d
+below_of n (x ∷ xs) (m ∷ ns) d = (d.0, below_of n xs ns d.1)
+
+values_once : (t : Finite) (w : Witness) (vs us : List ℕ) → AreLeastWitnesses t w vs → AreLeastWitnesses t w us → vs ≡ us
+values_once t w vs us h k = same_number_lists vs us (h.0 ∙ sym k.0) each
+  where
+    each : (p : ℕ) → p < length vs → get_or vs p 0 ≡ get_or us p 0
+    each p less =
+        let ds = digits_at (bounds t w.variables) p (omega (arith, h.0, count_power (t.top + 1) w.variables)) in
+        let ns = ds.0 in
+        let many : length ns ≡ length w.variables = digits_many _ _ ds.1.0 ∙ length-replicate (length w.variables) (t.top + 1) in
+        let below = below_of (t.top + 1) w.variables ns ds.1.0 in
+        let place : place_from (t.top + 1) 0 ns ≡ p = omega (arith, place_number (t.top + 1) w.variables ns 0 many, ds.1.1) in
+        subst (λ (q : ℕ). get_or vs q 0 ≡ get_or us q 0) place (least_once t (assigned w.variables ns) w _ _ (h.1 ns many below) (k.1 ns many below))
+
+pub one_expansion : (ws : List Witness) (t u v : Finite) → IsExpansion t ws u → IsExpansion t ws v → u ≡ v
+one_expansion [] t u v h k = h ∙ sym k
+one_expansion (w ∷ ws) t u v h k =
+    let same = values_once t w h.0 k.0 h.1.0 k.1.0 in
+    one_expansion ws (with_values t w.symbol h.0) u v h.1.1 (subst (λ (ns : List ℕ). IsExpansion (with_values t w.symbol ns) ws v) (sym same) k.1.1)
 
 -- one entry after the other
 pub entry_closed : (es : List Entry) (i : ℕ) (e : Entry) → AreInOrder (map witness_of es) → i < length es → e ≡ get_or es i e → IsClosedBody (witness_of e)

@@ -1,8 +1,8 @@
 -- Numbers of lists of digits.
-use Rattle.std.proofs.Common.{◌≡◌, ℕ, zero, suc, ◌+◌, ◌*◌, ◌-◌, ◌<◌, ◌≤◌, List, [], ◌∷◌, length, set, get_or, drop, inl, inr, refl, sym, ap, ap₂, replicate, ◌∙◌, arith, subst}
+use Rattle.std.proofs.Common.{◌≡◌, ℕ, zero, suc, ◌+◌, ◌*◌, ◌-◌, ◌/◌, ◌%◌, ◌<◌, ◌≤◌, List, [], ◌∷◌, length, set, get_or, drop, inl, inr, refl, sym, ap, ap₂, replicate, ◌∙◌, arith, subst}
 use Rattle.std.proofs.lemmas.Bool.{cases_lt}
 use Rattle.std.proofs.lemmas.List.{length-set, drop_all}
-use Rattle.std.proofs.Math.Nat.{mul-le-mul_right}
+use Rattle.std.proofs.Math.Nat.{mul-le-mul_right, div-add-mod, mod-lt}
 use Rattle.model_tables.specs.Digits.{AreDigits, count, number}
 
 -- a number of digits is below the count
@@ -33,6 +33,25 @@ number_same (b ∷ bs) (d ∷ ds) [] h k e = absurd k
 number_same (b ∷ bs) (d ∷ ds) (x ∷ es) h k e =
     let parts = first_same (count bs) d x (number bs ds) (number bs es) (number_below bs ds h.1) (number_below bs es k.1) e in
     ap₂ (λ y ys. y ∷ ys) parts.0 (number_same bs ds es h.1 k.1 parts.1)
+
+-- each number below the count is that of some digits
+pub digits_at : (bs : List ℕ) (k : ℕ) → k < count bs → (ds : List ℕ) × (AreDigits bs ds × (number bs ds ≡ k))
+digits_at [] k h = ([], (tt, omega arith))
+digits_at (b ∷ bs) k h =
+    let some : 0 < count bs = positive (count bs) h in
+    let back : count bs * (k / count bs) + k % count bs ≡ k = div-add-mod k (count bs) in
+    let rest = digits_at bs (k % count bs) (mod-lt k some) in
+    (k / count bs ∷ rest.0, ((lower (k / count bs) (k % count bs) (count bs) back h, rest.1.0), omega (arith, rest.1.1, back)))
+  where
+    positive : (c : ℕ) → k < b * c → 0 < c
+    positive zero l = absurd (omega arith)
+    positive (suc c) l = omega arith
+
+    lower : (d r c : ℕ) → c * d + r ≡ k → k < b * c → d < b
+    lower d r c e l = elim (cases_lt d b) [
+      | inl lt ↦ lt
+      | inr ge ↦ let more : b * c ≤ d * c = mul-le-mul_right c ge in absurd (omega arith)
+    ]
 
 -- P holds of all digits whose number is below k
 abbrev pub HoldsBefore : (List ℕ → Type 0) → List ℕ → ℕ → Type 0

@@ -50,6 +50,10 @@ abbrev pub IsExpansion : Finite → List Witness → Finite → Type 0
 IsExpansion t [] u = u ≡ t
 IsExpansion t (w ∷ ws) u = (values : List ℕ) × (AreLeastWitnesses t w values × IsExpansion (with_values t w.symbol values) ws u)
 
+-- there is one expansion at most
+abbrev pub OneExpansion : Type 0
+OneExpansion = (t u v : Finite) (ws : List Witness) → IsExpansion t ws u → IsExpansion t ws v → u ≡ v
+
 -- where each body has symbols of those before alone, the expansion picks witnesses
 abbrev pub ExpansionPicks : Type 0
 ExpansionPicks = (t u : Finite) (ws : List Witness) → AreInOrder ws → IsExpansion t ws u → PicksWitnesses (meaning_of u) ws

@@ -2,7 +2,7 @@
 ghost use Rattle.std.specs.Prelude.{ℕ, ◌≡◌, [], ◌∷◌, ◌≤◌, List};
 ghost use Rattle.fol_core.specs.Stated.{Stated, IsCountermodel};
 ghost use Rattle.fol_core.specs.declared.symbols.Kind.TheVariants.{Function};
-ghost use Rattle.model_tables.specs.Expansion.{IsExpansion, ExpansionPicks, ExpansionKeeps, ExpansionSays};
+ghost use Rattle.model_tables.specs.Expansion.{IsExpansion, OneExpansion, ExpansionPicks, ExpansionKeeps, ExpansionSays};
 ghost use Rattle.model_tables.specs.ModelText.{model_text};
 ghost use Rattle.model_tables.specs.Order.{first_of, GoesOn, EachComesOnce, table_count, table_number};
 ghost use Rattle.model_tables.specs.Reads.{TextTells};
@@ -37,8 +37,10 @@ pub fn worked()
     ensures renaming { IsRenaming 3 apart exchange (tables 0 1) (tables 1 0) }
 {}
 
-/// The tables with the values of Skolem symbols pick witnesses, and keep the tables of all other symbols and what is said in these.
+/// The tables with the values of Skolem symbols are the only ones that have them, pick witnesses, and keep the tables of all other
+/// symbols and what is said in these.
 pub fn expansions()
+    ensures one { OneExpansion }
     ensures picks { ExpansionPicks }
     ensures keeps { ExpansionKeeps }
     ensures says { ExpansionSays }

@@ -1,6 +1,10 @@
 use Rattle.std.proofs.Common.{subst, sym}
 use Rattle.model_tables.proofs.Expanding.{same_top, kept_row, kept_truth, kept_countermodel, expansion_picks}
+use Rattle.model_tables.proofs.Filling.{one_expansion}
 use Rattle.model_tables.proofs.laws.expansions.Goals as goal
+
+pub returns-clause-one : goal.returns-clause-one
+returns-clause-one c = λ t u v ws h k. one_expansion ws t u v h k
 
 pub returns-clause-picks : goal.returns-clause-picks
 returns-clause-picks c = λ t u ws order h. expansion_picks ws t u order h
