@@ -16,9 +16,9 @@ use Rattle.ladr_reader.specs.Reads as terms
 use Rattle.ladr_reader.specs.Table.{table_of}
 use Rattle.ladr_reader.specs.declared.styles.Mode.{Mode}
 use Rattle.ladr_reader.specs.declared.styles.Mode.TheVariants.{Prover, Mace, Tester}
-use Rattle.ladr_problem.specs.Attributes.{attributed, breaks_row_12, label_of, hint_weight_of}
-use Rattle.ladr_problem.specs.Rules.{WeightRule, Sides, sides_of, is_shaped, rule_made, kbo_rule, is_in}
-use Rattle.ladr_problem.specs.Shapes.{is_hint, is_demodulator}
+use Rattle.ladr_rules.specs.Attributes.{attributed, breaks_row_12, label_of, hint_weight_of}
+use Rattle.ladr_rules.specs.Rules.{WeightRule, Sides, sides_of, is_shaped, rule_made, kbo_rule, is_in}
+use Rattle.ladr_rules.specs.Shapes.{is_hint, is_demodulator}
 use Rattle.ladr_reader.specs.declared.styles.Style.{Style}
 use Rattle.ladr_settings.specs.Settings.{after, at_start, is_meant}
 use Rattle.ladr_settings.specs.declared.lists.FormulaList.{FormulaList}

@@ -1,5 +1,2 @@
-pub mod Attributes
 pub mod File
-pub mod Rules
-pub mod Shapes
 pub mod Worked

@@ -16,7 +16,7 @@ is_hint (either f g) = is_hint f && is_hint g
 is_hint (denied f) = is_atom f
 is_hint f = is_atom f
 
-abbrev is_variable : Tree → Bool
+abbrev pub is_variable : Tree → Bool
 is_variable (var x) = true
 is_variable (elem k) = false
 is_variable (app f ts) = false

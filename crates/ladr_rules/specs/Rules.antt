@@ -7,7 +7,7 @@ use Rattle.fol_core.specs.Tree.{Trees}
 use Rattle.fol_core.specs.SymbolTable.{Symbol}
 use Rattle.ladr_reader.specs.Formulas.{Made, Variable, is_free_name, is_too_great, terms_of, unread, free_number}
 use Rattle.ladr_reader.specs.declared.styles.Style.{Style}
-use Rattle.ladr_problem.specs.Attributes.{whole_number}
+use Rattle.ladr_rules.specs.Attributes.{whole_number}
 
 -- what a pattern weighs: a number, what a variable of it weighs, a sum or a product
 pub data Weight : Type 0 where

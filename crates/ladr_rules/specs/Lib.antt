@@ -1,0 +1,4 @@
+pub mod Attributes
+pub mod Rules
+pub mod Seen
+pub mod Shapes

@@ -1,0 +1,18 @@
+-- What a term was seen to be, beside the definitions.
+use Rattle.std.specs.Prelude.{◌≡◌, Bool, false, ◌&&◌, ◌==◌, List, ℕ, codes}
+use Rattle.std.specs.Str.{bytes_eq}
+use Rattle.fol_core.specs.RawTree.{RawTree, named, quantified, RawTrees, no_raws, more_raws}
+use Rattle.fol_core.specs.RawView.{raw_of}
+use Rattle.ladr_reader.specs.Formulas.{arity_of}
+use Rattle.ladr_rules.specs.declared.attributes.Split.{Split}
+use Rattle.ladr_rules.specs.declared.attributes.Split.TheVariants.{Joined, Alone}
+
+-- whether `#` joins two parts
+abbrev pub is_joined : RawTree → Bool
+is_joined (named s ts) = arity_of ts == 2 && bytes_eq s (codes "#")
+is_joined (quantified q x t) = false
+
+-- the term is the two parts with `#` between them, or the other one
+abbrev pub IsSplit : RawTree → Split → Type 0
+IsSplit t (Joined a b) = t ≡ named (codes "#") (more_raws (raw_of a) (more_raws (raw_of b) no_raws))
+IsSplit t (Alone a) = (raw_of a ≡ t) × (is_joined t ≡ false)
