@@ -55,3 +55,7 @@ uses_symbol n (some x f) = uses_symbol n f
 -- each symbol of the formula has a number below this one
 abbrev pub HasSymbolsBelow : ℕ → Fol → Type 0
 HasSymbolsBelow size f = (n : ℕ) → IsTrue (uses_symbol n f) → n < size
+
+-- and each of terms
+abbrev pub HaveSymbolsBelow : ℕ → Trees → Type 0
+HaveSymbolsBelow size ts = (n : ℕ) → IsTrue (have_symbol n ts) → n < size

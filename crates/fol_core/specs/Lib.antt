@@ -18,6 +18,7 @@ pub mod RawFalls
 pub mod RawTree
 pub mod RawView
 pub mod Renumbered
+pub mod RuleView
 pub mod Stated
 pub mod StatedCodes
 pub mod SymbolRows
@@ -27,4 +28,8 @@ pub mod TermView
 pub mod Tree
 pub mod TreeCodes
 pub mod Truth
+pub mod WeightCodes
+pub mod WeightFalls
+pub mod WeightView
+pub mod Weights
 pub mod Witnesses

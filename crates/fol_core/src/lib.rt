@@ -15,6 +15,7 @@ mod symbols;
 mod term;
 #[cfg(test)]
 mod tests;
+mod weights;
 
 pub use clause::{Clause, Clauses, EQ, Entry, Literal};
 pub use formula::{Formula, Shape, Sub};
@@ -28,3 +29,4 @@ pub use problem::{Hint, Input, Problem, Role};
 pub use raw::{Quantifier, Raw, RawSub, Raws};
 pub use symbols::{Clash, Kind, Sym, Symbols};
 pub use term::{Term, Terms};
+pub use weights::{KboWeight, Weight, WeightRule, WeightSub};

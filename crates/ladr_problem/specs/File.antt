@@ -6,6 +6,7 @@ use Rattle.std.specs.declared.result.Result.TheVariants.{Ok, Err}
 use Rattle.fol_core.specs.Fol.{Fol}
 use Rattle.fol_core.specs.RawTree.{RawTree}
 use Rattle.fol_core.specs.SymbolTable.{Symbol}
+use Rattle.fol_core.specs.Weights.{Rule}
 use Rattle.ladr_commands.specs.Commands.{commands_of}
 use Rattle.ladr_commands.specs.Form.{Says}
 use Rattle.ladr_commands.specs.declared.command.Command.{Command}
@@ -17,7 +18,7 @@ use Rattle.ladr_reader.specs.Table.{table_of}
 use Rattle.ladr_reader.specs.declared.styles.Mode.{Mode}
 use Rattle.ladr_reader.specs.declared.styles.Mode.TheVariants.{Prover, Mace, Tester}
 use Rattle.ladr_rules.specs.Attributes.{attributed, breaks_row_12, label_of, hint_weight_of}
-use Rattle.ladr_rules.specs.Rules.{WeightRule, Sides, sides_of, is_shaped, rule_made, kbo_rule, is_in}
+use Rattle.ladr_rules.specs.Rules.{rule_in, kbo_rule, is_in}
 use Rattle.ladr_rules.specs.Shapes.{is_hint, is_demodulator}
 use Rattle.ladr_reader.specs.declared.styles.Style.{Style}
 use Rattle.ladr_settings.specs.Settings.{after, at_start, is_meant}
@@ -41,7 +42,7 @@ pub record Sofar : Type 0 where
   pub settings : Settings
   pub symbols : List Symbol
   pub formulas : List Stated
-  pub weights : List WeightRule
+  pub weights : List Rule
   pub kbo_weights : List (List ℕ × ℕ)
   pub items : ℕ
 
@@ -129,7 +130,7 @@ abbrev unshaped : Mode → Sofar → Result Sofar Fault
 unshaped m s = if is_meant m s.settings then Err (row 15) else Ok s
 
 -- a rule of weights, of the right shape: its symbols count, as those of formulas do
-abbrev after_rule : Mode → Sofar → Made WeightRule → Result Sofar Fault
+abbrev after_rule : Mode → Sofar → Made Rule → Result Sofar Fault
 after_rule m s made =
     if nat_lt 65535 (length made.reading.symbols) then Err symbols_fault
     else (if made.reading.large then Err arity_fault
@@ -139,11 +140,8 @@ after_rule m s made =
 abbrev style_in : Mode → Sofar → Style
 style_in m s = style_of m s.settings.options.prolog_style_variables
 
-abbrev shaped_rule : Mode → Sofar → Sides → Result Sofar Fault
-shaped_rule m s r = if is_shaped (style_in m s) r then after_rule m s (rule_made (style_in m s) s.symbols r) else unshaped m s
-
 abbrev pub after_weight : Mode → Sofar → RawTree → Result Sofar Fault
-after_weight m s t = option_map_or (shaped_rule m s) (sides_of (style_in m s) t) (unshaped m s)
+after_weight m s t = option_map_or (after_rule m s) (rule_in (style_in m s) s.symbols t) (unshaped m s)
 
 abbrev added_kbo : Sofar → List ℕ × ℕ → Result Sofar Fault
 added_kbo s r = if is_in r.0 (map (λ k. k.0) s.kbo_weights) then Err (row 15) else Ok (record s { kbo_weights = s.kbo_weights ++ r ∷ [] })

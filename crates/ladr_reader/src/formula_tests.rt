@@ -1,5 +1,5 @@
-use crate::{FormulaError, Mode, formula_of, read_term};
-use fol_core::Symbols;
+use crate::{FormulaError, Mode, formula_of, read_term, style_of, terms_of};
+use fol_core::{Raw, Raws, Symbols};
 use ladr_lex::{Ops, tokens};
 use std::alloc::Global;
 use std::test::Fail;
@@ -32,4 +32,21 @@ fn variables(
     let tokens = tokens(alloc, text).map_err(|_| "memory")?;
     let raw = read_term(alloc, ops, &tokens).map_err(|_| "term")?;
     Ok(formula_of(alloc, &raw, symbols, mode, false).map(|formula| formula.names.len()))
+}
+
+// Arguments alone; what terms they are is proved.
+#[test]
+fn arguments_are_read(rt: HostRuntime) -> Result<(), Fail> {
+    let ops = Ops::first_form(rt.alloc())?;
+    let tokens = tokens(rt.alloc(), b"f(x,g(a,y),x).").map_err(|_| "memory")?;
+    let args = match read_term(rt.alloc(), &ops, &tokens) {
+        Ok(Raw::App(_, args)) => args,
+        _ => Raws::new(rt.alloc()),
+    };
+    let mut symbols = Symbols::new(rt.alloc());
+    let read = terms_of(rt.alloc(), &args, &mut symbols, style_of(Mode::Mace, false))?;
+    assert_eq!(rt; read.terms.len(), 3);
+    assert_eq!(rt; read.variables.len(), 2);
+    assert_eq!(rt; symbols.len(), 2);
+    Ok(())
 }

@@ -27,7 +27,8 @@ fn is_element(style: Style, name: &[u8]) -> bool
     style.elements && is_numeral(name)
 }
 
-fn is_too_great(style: Style, name: &[u8]) -> bool
+/// Whether a name is a numeral that is too great for an element.
+pub fn is_too_great(style: Style, name: &[u8]) -> bool
     ensures { result ≡ is_too_great style name.now }
 {
     style.elements && is_numeral(name) && number(name) > MOST_ELEMENT
@@ -97,8 +98,13 @@ fn term(alloc: Global, raw: &Raw, style: Style, reader: &mut Reader) -> Result<T
 }
 
 #[tactic(auto, using(crate::proofs::TermLemmas::kept_both))]
-// The terms that are read from arguments.
-fn terms(alloc: Global, raws: &Raws, style: Style, reader: &mut Reader) -> Result<Terms, AllocError>
+/// The terms that are read from arguments.
+pub fn terms(
+    alloc: Global,
+    raws: &Raws,
+    style: Style,
+    reader: &mut Reader,
+) -> Result<Terms, AllocError>
     ensures read { IfOk result (λ terms. terms_of style reader.old.scope reader.old.reading (raws_of raws.now) ≡ record { tree = trees_of terms; reading = reader.new.reading }) }
     ensures scope { OnOk result (reader.new.scope ≡ reader.old.scope) }
     ensures kept { KeepsNumbers reader.old.reading.symbols reader.new.reading.symbols }

@@ -1,6 +1,7 @@
 // From tokens to terms, and from terms to formulas.
 #![tactic(auto)]
 
+mod arguments;
 mod capped;
 mod connectives;
 mod examples;
@@ -19,12 +20,15 @@ mod stack;
 mod step;
 mod styles;
 
+pub use arguments::{TermsRead, terms_of};
 pub use examples::{worked_formulas, worked_refusals};
 pub use fault::TermFault;
-pub use formulas::{FormulaRead, formula_of, read_formula};
+pub use formulas::{FormulaRead, formula_of, is_too_great, read_formula};
 pub use laws::{one_reading, quoted_symbols, worked_declared, worked_faults, worked_terms};
+pub use numbering::Variables;
 pub use read::read_term;
-pub use styles::{FormulaError, Mode, Style, What};
+pub use reader::is_free_name;
+pub use styles::{FormulaError, Mode, Style, What, style_of};
 
 #[cfg(test)]
 mod formula_tests;

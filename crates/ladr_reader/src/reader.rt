@@ -53,7 +53,8 @@ fn enter(
     }
 }
 
-fn is_free_name(style: Style, name: &[u8]) -> bool
+/// Whether a name that isn't bound is a variable, by its first byte.
+pub fn is_free_name(style: Style, name: &[u8]) -> bool
     ensures { result ≡ is_free_name style name.now }
 {
     match name {
@@ -186,6 +187,20 @@ impl Reader {
         ensures { IfOk result (λ names. names ≡ names_of self.now.reading.variables) }
     {
         self.variables.names(alloc)
+    }
+
+    /// The symbols, the variables, the least row that was met, and whether an arity was too large.
+    pub fn into_read(self) -> (Symbols, Variables, Option<u8>, bool)
+        ensures { self.reading ≡ record { symbols = result.0; variables = result.1; least = result.2; large = result.3 } }
+    {
+        let Reader {
+            symbols,
+            variables,
+            least,
+            large,
+            ..
+        } = self;
+        (symbols, variables, least, large)
     }
 
     /// The symbols.

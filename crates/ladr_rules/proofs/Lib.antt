@@ -1,2 +1,3 @@
 pub mod Arities
+pub mod Parts
 pub mod Variables

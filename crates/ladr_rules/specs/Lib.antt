@@ -1,4 +1,6 @@
 pub mod Attributes
+pub mod RuleSeen
 pub mod Rules
 pub mod Seen
 pub mod Shapes
+pub mod SidesView

@@ -1,26 +1,14 @@
 -- Rules of the lists of weights: `weight(pattern) = value` and, for KBO, `name = number`.
 use Rattle.std.specs.Prelude.{ℕ, Bool, true, false, not, ◌&&◌, ◌||◌, ◌==◌, if◌then◌else◌, List, [], ◌∷◌, ◌++◌, Option, Some, None, is_some, unwrap_or, codes}
 use Rattle.std.specs.List.{list_any}
+use Rattle.std.specs.Option.{option_map, option_map_or}
 use Rattle.std.specs.Str.{bytes_eq}
 use Rattle.fol_core.specs.RawTree.{RawTree, RawTrees, named, quantified, no_raws, more_raws}
-use Rattle.fol_core.specs.Tree.{Trees}
+use Rattle.fol_core.specs.Weights.{WeightTree, Rule, number, of_variable, plus, times}
 use Rattle.fol_core.specs.SymbolTable.{Symbol}
 use Rattle.ladr_reader.specs.Formulas.{Made, Variable, is_free_name, is_too_great, terms_of, unread, free_number}
 use Rattle.ladr_reader.specs.declared.styles.Style.{Style}
 use Rattle.ladr_rules.specs.Attributes.{whole_number}
-
--- what a pattern weighs: a number, what a variable of it weighs, a sum or a product
-pub data Weight : Type 0 where
-  number : ℕ → Weight
-  of_variable : ℕ → Weight
-  plus : Weight → Weight → Weight
-  times : Weight → Weight → Weight
-
--- the head of a pattern, its arguments, whose variables are numbered by first occurrence, and what it weighs
-pub record WeightRule : Type 0 where
-  pub head : List ℕ
-  pub arguments : Trees
-  pub weight : Weight
 
 abbrev mutual
   -- whether a quantifier stands in a term
@@ -47,7 +35,7 @@ abbrev pub is_in : List ℕ → List (List ℕ) → Bool
 is_in name names = list_any (λ n. bytes_eq name n) names
 
 -- `weight(x)` for one of these variables, or a whole number up to 2,147,483,647
-abbrev single_value : List (List ℕ) → List ℕ → RawTree → Bool
+abbrev pub single_value : List (List ℕ) → List ℕ → RawTree → Bool
 single_value names s (named x no_raws) = bytes_eq s (codes "weight") && is_in x names
 single_value names s t = false
 
@@ -59,13 +47,21 @@ is_value names (named s (more_raws t no_raws)) = single_value names s t
 is_value names (named s (more_raws t (more_raws u no_raws))) = (bytes_eq s (codes "+") || bytes_eq s (codes "*")) && is_value names t && is_value names u
 is_value names (named s (more_raws t (more_raws u (more_raws v ts)))) = false
 
+-- the weight of a variable
+abbrev pub single_weight : List Variable → RawTree → WeightTree
+single_weight vs (named x ts) = of_variable (unwrap_or (free_number 0 vs x) 0)
+single_weight vs (quantified q x t) = number 0
+
+-- a sum or a product
+abbrev pub combined : List ℕ → WeightTree → WeightTree → WeightTree
+combined s v w = if bytes_eq s (codes "+") then plus v w else times v w
+
 -- the weight that a value is, with the numbers of the variables
-abbrev pub value_of : List Variable → RawTree → Weight
+abbrev pub value_of : List Variable → RawTree → WeightTree
 value_of vs (quantified q x t) = number 0
 value_of vs (named s no_raws) = number (unwrap_or (whole_number 2147483647 (named s no_raws)) 0)
-value_of vs (named s (more_raws (named x ts) no_raws)) = of_variable (unwrap_or (free_number 0 vs x) 0)
-value_of vs (named s (more_raws (quantified q x t) no_raws)) = number 0
-value_of vs (named s (more_raws t (more_raws u no_raws))) = if bytes_eq s (codes "+") then plus (value_of vs t) (value_of vs u) else times (value_of vs t) (value_of vs u)
+value_of vs (named s (more_raws t no_raws)) = single_weight vs t
+value_of vs (named s (more_raws t (more_raws u no_raws))) = combined s (value_of vs t) (value_of vs u)
 value_of vs (named s (more_raws t (more_raws u (more_raws v ts)))) = number 0
 
 -- a pattern and the term behind `=`
@@ -75,19 +71,19 @@ pub record Sides : Type 0 where
   pub value : RawTree
 
 -- the sides of `weight(pattern) = value`, the pattern being no variable
-abbrev pattern_sides : Style → List ℕ → RawTree → RawTree → Option Sides
-pattern_sides st s (named h ts) value = if bytes_eq s (codes "weight") then Some (record { head = h; parts = ts; value = value }) else None
-pattern_sides st s (quantified q x t) value = None
+abbrev pub pattern_sides : List ℕ → RawTree → RawTree → Option Sides
+pattern_sides s (named h ts) value = if bytes_eq s (codes "weight") then Some (record { head = h; parts = ts; value = value }) else None
+pattern_sides s (quantified q x t) value = None
 
-abbrev equation_sides : Style → List ℕ → RawTree → RawTree → Option Sides
-equation_sides st s (named w (more_raws pattern no_raws)) value = if bytes_eq s (codes "=") then pattern_sides st w pattern value else None
-equation_sides st s t value = None
+abbrev pub equation_sides : List ℕ → RawTree → RawTree → Option Sides
+equation_sides s (named w (more_raws pattern no_raws)) value = if bytes_eq s (codes "=") then pattern_sides w pattern value else None
+equation_sides s t value = None
 
-abbrev pub sides_of : Style → RawTree → Option Sides
-sides_of st (named s (more_raws t (more_raws u no_raws))) = equation_sides st s t u
-sides_of st t = None
+abbrev pub sides_of : RawTree → Option Sides
+sides_of (named s (more_raws t (more_raws u no_raws))) = equation_sides s t u
+sides_of t = None
 
-abbrev is_bare : RawTrees → Bool
+abbrev pub is_bare : RawTrees → Bool
 is_bare no_raws = true
 is_bare (more_raws t ts) = false
 
@@ -106,7 +102,7 @@ abbrev mutual
   some_too_great st no_raws = false
   some_too_great st (more_raws t ts) = too_great st t || some_too_great st ts
 
-abbrev is_clash_row : Option ℕ → Bool
+abbrev pub is_clash_row : Option ℕ → Bool
 is_clash_row None = false
 is_clash_row (Some k) = k == 9
 
@@ -115,7 +111,7 @@ abbrev pub pattern_row : Style → Sides → Option ℕ → Option ℕ
 pattern_row st r met = if is_clash_row met then met else (if is_too_great st r.head || some_too_great st r.parts then Some 16 else None)
 
 -- a rule behind these symbols; the head of its pattern is a name alone
-abbrev pub rule_made : Style → List Symbol → Sides → Made WeightRule
+abbrev pub rule_made : Style → List Symbol → Sides → Made Rule
 rule_made st table r =
     let arguments = terms_of st [] (unread table) r.parts in
     record {
@@ -123,8 +119,16 @@ rule_made st table r =
       reading = record arguments.reading { least = pattern_row st r arguments.reading.least };
     }
 
+-- the sides of a term that is a rule
+abbrev pub shaped_sides : Style → RawTree → Option Sides
+shaped_sides st t = option_map_or (λ r. if is_shaped st r then Some r else None) (sides_of t) None
+
+-- the rule that a term is behind these symbols, if it has the shape of one
+abbrev pub rule_in : Style → List Symbol → RawTree → Option (Made Rule)
+rule_in st table t = option_map (rule_made st table) (shaped_sides st t)
+
 -- `name = number` with a number from 1 to 65,535
-abbrev kbo_sides : List ℕ → RawTree → RawTree → Option (List ℕ × ℕ)
+abbrev pub kbo_sides : List ℕ → RawTree → RawTree → Option (List ℕ × ℕ)
 kbo_sides s (named f no_raws) value = if bytes_eq s (codes "=") && not (unwrap_or (whole_number 65535 value) 0 == 0) then Some (f, unwrap_or (whole_number 65535 value) 0) else None
 kbo_sides s t value = None
 

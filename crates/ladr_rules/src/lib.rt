@@ -2,7 +2,17 @@
 #![tactic(auto)]
 
 mod attributes;
+mod kbo;
+mod patterns;
+mod rules;
 mod shapes;
+mod sides;
+mod values;
 
 pub use attributes::Stated;
+pub use kbo::kbo_rule;
+pub use rules::{RuleRead, weight_rule};
 pub use shapes::{is_demodulator, is_hint};
+
+#[cfg(test)]
+mod tests;

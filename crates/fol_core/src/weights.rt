@@ -1,0 +1,79 @@
+// Rules of weights: what a pattern weighs, and the weights of symbols for an order of terms.
+ghost use Rattle.std.specs.Prelude.{◌≡◌, IfOk};
+ghost use Rattle.fol_core.specs.WeightView.{weight_of};
+
+use crate::name::Name;
+use crate::term::Terms;
+use std::alloc::{AllocError, Global};
+use std::marker::Model;
+
+/// What a pattern weighs: a number, what a variable of it weighs, by the variable's number, a sum or a product.
+#[cycle(weight)]
+#[derive(Drop)]
+pub enum Weight {
+    Number(u32),
+    Variable(u64),
+    Sum(WeightSub, WeightSub),
+    Product(WeightSub, WeightSub),
+}
+
+/// A part of a weight; contracts see its tree.
+#[cycle(weight)]
+#[derive(Drop)]
+pub struct WeightSub {
+    pub weight: Box<Weight>,
+}
+
+impl Model for WeightSub {
+    ghost use Rattle.fol_core.specs.Weights.{WeightTree};
+    ghost use Rattle.fol_core.specs.WeightCodes.{coded_weight};
+
+    ghost Value = { WeightTree };
+
+    ghost coded = { coded_weight };
+
+    ghost use Rattle.fol_core.specs.WeightView.{weight_of};
+
+    ghost view = { λ a. weight_of a.weight.value };
+
+    ghost use Rattle.fol_core.specs.Weights.{weight_nodes};
+
+    ghost size = { weight_nodes };
+
+    ghost use Rattle.fol_core.specs.WeightFalls.{weight_falls};
+
+    ghost size_decreases = { λ a h. weight_falls a.weight.value };
+}
+
+impl WeightSub {
+    /// The weight as a part of another.
+    pub fn new(alloc: Global, weight: Weight) -> Result<WeightSub, AllocError>
+        ensures { IfOk result (λ sub. sub ≡ weight_of weight) }
+    {
+        let weight = Box::new(alloc, weight)?;
+        Ok(WeightSub { weight })
+    }
+
+    /// The weight.
+    pub fn weight(&self) -> &Weight
+        ensures { weight_of result.now ≡ self.now }
+    {
+        &self.weight
+    }
+}
+
+/// `weight(pattern) = value`: the head of the pattern, its arguments, whose variables are numbered by first occurrence, and
+/// what it weighs.
+#[derive(Drop)]
+pub struct WeightRule {
+    pub head: Name,
+    pub arguments: Terms,
+    pub weight: Weight,
+}
+
+/// `name = number`: what symbols of this name weigh in the order of Knuth and Bendix.
+#[derive(Drop)]
+pub struct KboWeight {
+    pub name: Name,
+    pub weight: u32,
+}

@@ -1,0 +1,103 @@
+// What patterns weigh: whole numbers, `+`, `*`, and `weight(x)` for a variable of the pattern.
+ghost use Rattle.std.specs.Prelude.{◌≡◌, ◌||◌, ◌&&◌, codes, IfOk};
+ghost use Rattle.std.specs.Str.{bytes_eq};
+ghost use Rattle.fol_core.specs.RawTree.{raws_of};
+ghost use Rattle.fol_core.specs.RawView.{raw_of};
+ghost use Rattle.fol_core.specs.WeightView.{weight_of};
+ghost use Rattle.ladr_rules.specs.Rules.{all_names, is_in, single_value, is_value, single_weight, combined, value_of};
+
+use crate::attributes::whole_number;
+use crate::patterns::have_variable;
+use fol_core::{Raw, Raws, Weight, WeightSub};
+use ladr_reader::{Style, Variables};
+use std::alloc::{AllocError, Global};
+
+const MOST: u32 = 2_147_483_647;
+
+#[tactic(auto, using(crate::proofs::Arities::no_value))]
+/// Whether a term is a value, with the variables of these parts of a pattern.
+pub fn is_value(style: Style, parts: &Raws, raw: &Raw) -> bool
+    ensures { result ≡ is_value (all_names style (raws_of parts.now)) (raw_of raw.now) }
+{
+    match raw {
+        Raw::App(name, args) => match args.as_slice() {
+            [] => whole_number(MOST, raw).is_some(),
+            [part] => is_single(style, parts, name.bytes(), part),
+            [left, right] => {
+                is_operation(name.bytes())
+                    && is_value(style, parts, left)
+                    && is_value(style, parts, right)
+            }
+            _ => false,
+        },
+        Raw::Quant(_, _, _) => false,
+    }
+}
+
+fn is_operation(name: &[u8]) -> bool
+    ensures { result ≡ (bytes_eq name.now (codes "+") || bytes_eq name.now (codes "*")) }
+{
+    name == b"+".as_slice() || name == b"*".as_slice()
+}
+
+#[tactic(auto, using(crate::proofs::Arities::single_by_length))]
+// Whether it is `weight(x)` for a variable of the pattern.
+fn is_single(style: Style, parts: &Raws, name: &[u8], part: &Raw) -> bool
+    ensures { result ≡ single_value (all_names style (raws_of parts.now)) name.now (raw_of part.now) }
+{
+    match part {
+        Raw::App(variable, args) => {
+            args.len() == 0 && is_weight_of(style, parts, name, variable.bytes())
+        }
+        Raw::Quant(_, _, _) => false,
+    }
+}
+
+fn is_weight_of(style: Style, parts: &Raws, name: &[u8], variable: &[u8]) -> bool
+    ensures { result ≡ (bytes_eq name.now (codes "weight") && is_in variable.now (all_names style (raws_of parts.now))) }
+{
+    name == b"weight".as_slice() && have_variable(style, parts, variable)
+}
+
+#[tactic(auto, using(crate::proofs::Arities::no_worth))]
+/// The weight that a value is, with these variables.
+pub fn value_of(alloc: Global, variables: &Variables, raw: &Raw) -> Result<Weight, AllocError>
+    ensures { IfOk result (λ w. weight_of w ≡ value_of variables.now (raw_of raw.now)) }
+{
+    match raw {
+        Raw::App(name, args) => match args.as_slice() {
+            [] => Ok(Weight::Number(whole_number(MOST, raw).unwrap_or(0))),
+            [part] => Ok(single(variables, part)),
+            [left, right] => {
+                let left = value_of(alloc, variables, left)?;
+                let right = value_of(alloc, variables, right)?;
+                combined(alloc, name.bytes(), left, right)
+            }
+            _ => Ok(Weight::Number(0)),
+        },
+        Raw::Quant(_, _, _) => Ok(Weight::Number(0)),
+    }
+}
+
+// The weight of the variable that `part` is.
+fn single(variables: &Variables, part: &Raw) -> Weight
+    ensures { weight_of result ≡ single_weight variables.now (raw_of part.now) }
+{
+    match part {
+        Raw::App(name, _) => Weight::Variable(variables.free_number(name.bytes()).unwrap_or(0)),
+        Raw::Quant(_, _, _) => Weight::Number(0),
+    }
+}
+
+// A sum or a product.
+fn combined(alloc: Global, name: &[u8], left: Weight, right: Weight) -> Result<Weight, AllocError>
+    ensures { IfOk result (λ w. weight_of w ≡ combined name.now (weight_of left) (weight_of right)) }
+{
+    let left = WeightSub::new(alloc, left)?;
+    let right = WeightSub::new(alloc, right)?;
+    if name == b"+".as_slice() {
+        Ok(Weight::Sum(left, right))
+    } else {
+        Ok(Weight::Product(left, right))
+    }
+}
