@@ -5,6 +5,7 @@ use crate::formula::Formula;
 use crate::name::Names;
 use crate::raw::Raw;
 use crate::symbols::Symbols;
+use crate::weights::{KboWeight, WeightRule};
 use ladr_options::Options;
 use std::alloc::Global;
 
@@ -35,13 +36,15 @@ pub struct Hint {
     pub byte: u64,
 }
 
-/// The symbols of a file and its formulas, in their order; then what guides a search: hints, the names of `function_order`, and
-/// the options.
+/// The symbols of a file and its formulas, in their order; then what guides a search: hints, rules of weights, the names of
+/// `function_order`, and the options.
 #[derive(Drop)]
 pub struct Problem {
     pub symbols: Symbols,
     pub inputs: Vec<Input>,
     pub hints: Vec<Hint>,
+    pub weights: Vec<WeightRule>,
+    pub kbo_weights: Vec<KboWeight>,
     pub function_order: Names,
     pub options: Options,
 }
@@ -56,6 +59,8 @@ impl Problem {
             symbols,
             inputs,
             hints: Vec::new(alloc),
+            weights: Vec::new(alloc),
+            kbo_weights: Vec::new(alloc),
             function_order: Names::new(alloc),
             options: Options::start(),
         }

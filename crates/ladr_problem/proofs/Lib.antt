@@ -1,1 +1,6 @@
-mod Once
+pub mod Files
+pub mod Good
+pub mod Once
+pub mod Readings
+pub mod Starts
+pub mod Takings

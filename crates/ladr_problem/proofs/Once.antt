@@ -1,93 +1,144 @@
 -- A file says one thing at most.
-use Rattle.std.proofs.Common.{◌≡◌, ℕ, zero, suc, ◌+◌, ◌≤◌, ◌<◌, Bool, List, [], ◌∷◌, ◌++◌, Option, None, IsTrue, take, drop, refl, ap, ◌∙◌, sym, subst, append_assoc, arith}
+use Rattle.std.proofs.Common.{◌≡◌, ℕ, zero, suc, ◌+◌, ◌≤◌, ◌<◌, List, [], ◌∷◌, ◌++◌, length, Option, Some, None, IsTrue, take, drop, refl, ap, ◌∙◌, sym, subst, append_assoc, arith}
 use Rattle.std.proofs.lemmas.Bool.{false≢true}
 use Rattle.std.proofs.lemmas.List.{take-append-drop}
-use Rattle.std.specs.Prelude.{is_some}
+use Rattle.std.specs.Prelude.{is_some, MatchOption}
 use Rattle.std.specs.declared.result.Result.{Result}
 use Rattle.std.specs.declared.result.Result.TheVariants.{Ok, Err}
 use Rattle.ladr_commands.proofs.Forms.{read_of}
+use Rattle.ladr_commands.specs.Commands.{commands_of}
+use Rattle.ladr_commands.specs.Faults as commands
+use Rattle.ladr_commands.specs.Faults.{IsCommandFault}
+use Rattle.ladr_commands.specs.Form.{Form}
+use Rattle.ladr_commands.specs.declared.fault.CommandFault.TheVariants as command_fault
+use Rattle.ladr_items.proofs.EndLemmas as listed
+use Rattle.ladr_items.specs.Items.{items_of, lexemes}
+use Rattle.ladr_items.specs.ListItem as lists
+use Rattle.ladr_items.specs.ListItem.{ListItem, IsListItem, IsItemFault}
+use Rattle.ladr_lex.proofs.Unique.{cut_once}
+use Rattle.ladr_lex.specs.Cuts.{Piece}
 use Rattle.ladr_lex.specs.Lexeme.{Lexeme}
-use Rattle.ladr_reader.proofs.Complete.{item_one}
-use Rattle.ladr_reader.specs.Table.{table_of}
+use Rattle.ladr_problem.specs.Adding.{Item, command, within, IsRead, IsUnreadable, after_item, is_tester}
+use Rattle.ladr_problem.specs.File as file
+use Rattle.ladr_problem.specs.File.{Outcome, unreadable, File, ends, open_list, open_block, bad, breaks, goes_on, start_at, refused_at, finished, most_bytes}
+use Rattle.ladr_problem.specs.Sofar.{Sofar, nothing_read}
+use Rattle.ladr_problem.specs.declared.refusal.Refusal.{Refusal}
+use Rattle.ladr_problem.specs.declared.refusal.Refusal.TheVariants.{Memory}
+use Rattle.ladr_reader.specs.Table.{Table, table_of}
+use Rattle.ladr_reader.specs.declared.fault.TermFault.TheVariants as term_fault
 use Rattle.ladr_reader.specs.declared.styles.Mode.{Mode}
-use Rattle.ladr_problem.specs.File.{Sofar, Item, command, closing, term, IsRead, Begins, IsBadToken, Fault, row, Outcome, unreadable, refused, File, ends, open_list, open_block, bad, breaks, goes_on, after_item, counted, is_tester}
+use Rattle.ladr_settings.specs.declared.lists.OpenList.{OpenList}
 
 none_is_some : {A : Type 0} (o : Option A) → o ≡ None → IsTrue (is_some o) → ⊥
 none_is_some o e h = false≢true (rw e at h)
 
 -- an item is read as one thing
-pub read_once : (b : Bool) (s : Sofar) (ts : List Lexeme) (i j : Item) → IsRead b s ts i → IsRead b s ts j → i ≡ j
-read_once b s ts (command c) (command d) h k = ap (λ x. command (read_of c x)) (sym h.1 ∙ k.1)
-read_once b s ts (command c) closing h k = absurd (none_is_some s.settings.list h.0 k.0)
-read_once b s ts (command c) (term u) h k = absurd (none_is_some s.settings.list h.0 k.0)
-read_once b s ts closing (command d) h k = absurd (none_is_some s.settings.list k.0 h.0)
-read_once b s ts closing closing h k = refl
-read_once b s ts closing (term u) h k = absurd (k.1 h.1)
-read_once b s ts (term t) (command d) h k = absurd (none_is_some s.settings.list k.0 h.0)
-read_once b s ts (term t) closing h k = absurd (h.1 k.1)
-read_once b s ts (term t) (term u) h k = ap term (item_one (table_of s.settings.operators) ts t u h.2 k.2)
-
-abbrev fault_of : Fault → Result Sofar Fault → Fault
-fault_of f (Ok s) = f
-fault_of f (Err g) = g
-
-abbrev sofar_of : Sofar → Result Sofar Fault → Sofar
-sofar_of s (Ok t) = t
-sofar_of s (Err f) = s
-
-abbrev IsOk : Result Sofar Fault → Type 0
-IsOk (Ok s) = Unit {0}
-IsOk (Err f) = ⊥
-
--- fewer tokens of an item
-begins_less : (b : Bool) (s : Sofar) (xs ys : List Lexeme) → Begins b s (xs ++ ys) → Begins b s xs
-begins_less b s xs ys h = record { more = ys ++ h.more; item = h.item; read = rw (← append_assoc xs ys h.more) h.read }
+read_once : (m : Mode) (s : Sofar) (ts : List Lexeme) (i j : Item) → IsRead m s ts i → IsRead m s ts j → i ≡ j
+read_once m s ts (command c) (command d) h k = ap (λ x. command (read_of c x)) (sym h.1 ∙ k.1)
+read_once m s ts (command c) (within j) h k = absurd (none_is_some s.settings.list h.0 k.0)
+read_once m s ts (within i) (command d) h k = absurd (none_is_some s.settings.list k.0 h.0)
+read_once m s ts (within i) (within j) h k = ap within (listed.one (table_of s.settings.operators) ts i j h.1 k.1)
 
 take_within : (n m : ℕ) (xs : List Lexeme) → n ≤ m → take n (take m xs) ≡ take n xs
 take_within zero m xs h = refl
-take_within (suc n) zero xs h = absurd (omega arith)
+take_within (suc n) zero xs h = absurd (omega (arith, h))
 take_within (suc n) (suc m) [] h = refl
-take_within (suc n) (suc m) (x ∷ xs) h = ap (λ ys. x ∷ ys) (take_within n m xs (omega arith))
-
-no_earlier : (b : Bool) (s : Sofar) (ts : List Lexeme) (k l : ℕ) → IsBadToken b s ts k → IsBadToken b s ts l → k < l → ⊥
-no_earlier b s ts k l x y h =
-    let e : take (k + 1) ts ++ drop (k + 1) (take l ts) ≡ take l ts =
-    ap (λ zs. zs ++ drop (k + 1) (take l ts)) (sym (take_within (k + 1) l ts (omega arith))) ∙ take-append-drop (k + 1) (take l ts) in
-    x.here (omega (arith, y.within)) (begins_less b s (take (k + 1) ts) (drop (k + 1) (take l ts)) (rw e y.before))
+take_within (suc n) (suc m) (x ∷ xs) h = ap (λ ys. x ∷ ys) (take_within n m xs (omega (arith, h)))
 
 same_number : (k l : ℕ) → (k < l → ⊥) → (l < k → ⊥) → k ≡ l
 same_number zero zero h i = refl
 same_number zero (suc l) h i = absurd (h (omega arith))
 same_number (suc k) zero h i = absurd (i (omega arith))
-same_number (suc k) (suc l) h i = ap suc (same_number k l (λ j. h (omega arith)) (λ j. i (omega arith)))
+same_number (suc k) (suc l) h i = ap suc (same_number k l (λ j. h (omega (arith, j))) (λ j. i (omega (arith, j))))
 
-bad_once : (b : Bool) (s : Sofar) (ts : List Lexeme) (k l : ℕ) → IsBadToken b s ts k → IsBadToken b s ts l → k ≡ l
-bad_once b s ts k l x y = same_number k l (no_earlier b s ts k l x y) (no_earlier b s ts l k y x)
+-- what begins with more tokens begins with fewer
+module _ (Begins : List Lexeme → Type 0) (fewer : (xs ys : List Lexeme) → Begins (xs ++ ys) → Begins xs) (ts : List Lexeme) where
+  no_earlier : (k l : ℕ) → (k < length ts → ¬ Begins (take (k + 1) ts)) → l ≤ length ts → Begins (take l ts) → k < l → ⊥
+  no_earlier k l here inside before h =
+      let e : take (k + 1) ts ++ drop (k + 1) (take l ts) ≡ take l ts =
+      ap (λ zs. zs ++ drop (k + 1) (take l ts)) (sym (take_within (k + 1) l ts (omega (arith, h)))) ∙ take-append-drop (k + 1) (take l ts) in
+      here (omega (arith, h, inside)) (fewer (take (k + 1) ts) (drop (k + 1) (take l ts)) (subst Begins (sym e) before))
 
-same_after : (m : Mode) (s : Sofar) (ts : List Lexeme) (i j : Item) → IsRead (is_tester m) s ts i → IsRead (is_tester m) s ts j → after_item m s ts i ≡ after_item m s ts j
-same_after m s ts i j h k = ap (after_item m s ts) (read_once (is_tester m) s ts i j h k)
+command_once : (f : Form) (ts : List Lexeme) (k l : ℕ) → commands.IsBadToken f ts k → commands.IsBadToken f ts l → k ≡ l
+command_once f ts k l x y = same_number k l (no_earlier (commands.Begins f) fewer ts k l x.here y.within y.before) (no_earlier (commands.Begins f) fewer ts l k y.here x.within x.before)
+  where
+    fewer : (xs ys : List Lexeme) → commands.Begins f (xs ++ ys) → commands.Begins f xs
+    fewer xs ys h = record { more = ys ++ h.more; command = h.command; says = rw (← append_assoc xs ys h.more) h.says }
 
-no_err : (s : Sofar) (f : Fault) → Ok s ≡ Err f → ⊥
-no_err s f e = subst IsOk e tt
+item_once : (g : Table) (ts : List Lexeme) (k l : ℕ) → lists.IsBadToken g ts k → lists.IsBadToken g ts l → k ≡ l
+item_once g ts k l x y = same_number k l (no_earlier (lists.Begins g) fewer ts k l x.here y.within y.before) (no_earlier (lists.Begins g) fewer ts l k y.here x.within x.before)
+  where
+    fewer : (xs ys : List Lexeme) → lists.Begins g (xs ++ ys) → lists.Begins g xs
+    fewer xs ys h = record { more = ys ++ h.more; item = h.item; read = rw (← append_assoc xs ys h.more) h.read }
 
-pub file_once : (m : Mode) (s : Sofar) (items : List (List Lexeme)) (o p : Outcome) → File m s items o → File m s items p → o ≡ p
-file_once m s [] _ _ (ends a b) (ends c d) = refl
-file_once m s [] _ _ (ends a b) (open_list h) = absurd (none_is_some s.settings.list a h)
-file_once m s [] _ _ (ends a b) (open_block h) = absurd (none_is_some s.settings.block b h)
-file_once m s [] _ _ (open_list h) (ends a b) = absurd (none_is_some s.settings.list a h)
-file_once m s [] _ _ (open_list h) (open_list k) = refl
-file_once m s [] _ _ (open_list h) (open_block k) = refl
-file_once m s [] _ _ (open_block h) (ends a b) = absurd (none_is_some s.settings.block b h)
-file_once m s [] _ _ (open_block h) (open_list k) = refl
-file_once m s [] _ _ (open_block h) (open_block k) = refl
-file_once m s (ts ∷ items) _ _ (bad x n) (bad y k) = ap (unreadable s.items) (bad_once (is_tester m) s ts _ _ x y)
-file_once m s (ts ∷ items) _ _ (bad x n) (breaks i r e) = absurd (n i r)
-file_once m s (ts ∷ items) _ _ (bad x n) (goes_on i t r e f) = absurd (n i r)
-file_once m s (ts ∷ items) _ _ (breaks i r e) (bad x n) = absurd (n i r)
-file_once m s (ts ∷ items) _ _ (breaks i r e) (breaks j q d) = ap (λ x. refused s.items (fault_of (row 0) x)) (sym e ∙ same_after m s ts i j r q ∙ d)
-file_once m s (ts ∷ items) _ _ (breaks i r e) (goes_on j t q d f) = absurd (no_err _ _ (sym (sym e ∙ same_after m s ts i j r q ∙ d)))
-file_once m s (ts ∷ items) _ _ (goes_on i t r e f) (bad x n) = absurd (n i r)
-file_once m s (ts ∷ items) _ _ (goes_on i t r e f) (breaks j q d) = absurd (no_err _ _ (sym e ∙ same_after m s ts i j r q ∙ d))
-file_once m s (ts ∷ items) o p (goes_on i t r e f) (goes_on j u q d g) =
-    let k : t ≡ u = ap (sofar_of s) (sym e ∙ same_after m s ts i j r q ∙ d) in
-    file_once m (counted t) items o p f (rw k g)
+module _ (m : Mode) (s : Sofar) (ts : List Lexeme) where
+  bad_once : (o : Option OpenList) → s.settings.list ≡ o → (k l : ℕ) → IsUnreadable m s ts k → IsUnreadable m s ts l → k ≡ l
+  bad_once None e k l x y =
+      let a : IsCommandFault (commands_of (is_tester m)) ts (command_fault.Bad k) = subst (λ (o : Option OpenList). MatchOption o (IsCommandFault (commands_of (is_tester m)) ts (command_fault.Bad k)) (λ _. IsItemFault (table_of s.settings.operators) ts (term_fault.Bad k))) e x in
+      let b : IsCommandFault (commands_of (is_tester m)) ts (command_fault.Bad l) = subst (λ (o : Option OpenList). MatchOption o (IsCommandFault (commands_of (is_tester m)) ts (command_fault.Bad l)) (λ _. IsItemFault (table_of s.settings.operators) ts (term_fault.Bad l))) e y in
+      command_once (commands_of (is_tester m)) ts k l a.0 b.0
+  bad_once (Some list) e k l x y =
+      let a : IsItemFault (table_of s.settings.operators) ts (term_fault.Bad k) = subst (λ (o : Option OpenList). MatchOption o (IsCommandFault (commands_of (is_tester m)) ts (command_fault.Bad k)) (λ _. IsItemFault (table_of s.settings.operators) ts (term_fault.Bad k))) e x in
+      let b : IsItemFault (table_of s.settings.operators) ts (term_fault.Bad l) = subst (λ (o : Option OpenList). MatchOption o (IsCommandFault (commands_of (is_tester m)) ts (command_fault.Bad l)) (λ _. IsItemFault (table_of s.settings.operators) ts (term_fault.Bad l))) e y in
+      item_once (table_of s.settings.operators) ts k l a.0 b.0
+
+  -- what can't be read isn't read
+  not_read : (o : Option OpenList) → s.settings.list ≡ o → (k : ℕ) (i : Item) → IsUnreadable m s ts k → IsRead m s ts i → ⊥
+  not_read None e k (command c) x r =
+      let a : IsCommandFault (commands_of (is_tester m)) ts (command_fault.Bad k) = subst (λ (o : Option OpenList). MatchOption o (IsCommandFault (commands_of (is_tester m)) ts (command_fault.Bad k)) (λ _. IsItemFault (table_of s.settings.operators) ts (term_fault.Bad k))) e x in
+      a.1 c r.1
+  not_read None e k (within j) x r = none_is_some s.settings.list e r.0
+  not_read (Some list) e k (command c) x r = none_is_some s.settings.list r.0 (ap is_some e)
+  not_read (Some list) e k (within j) x r =
+      let a : IsItemFault (table_of s.settings.operators) ts (term_fault.Bad k) = subst (λ (o : Option OpenList). MatchOption o (IsCommandFault (commands_of (is_tester m)) ts (command_fault.Bad k)) (λ _. IsItemFault (table_of s.settings.operators) ts (term_fault.Bad k))) e x in
+      a.1 j r.1
+
+abbrev why_of : Result Sofar Refusal → Refusal
+why_of (Ok s) = Memory
+why_of (Err why) = why
+
+abbrev sofar_in : Sofar → Result Sofar Refusal → Sofar
+sofar_in s (Ok t) = t
+sofar_in s (Err why) = s
+
+abbrev IsOk : Result Sofar Refusal → Type 0
+IsOk (Ok s) = Unit {0}
+IsOk (Err why) = ⊥
+
+no_err : (s : Sofar) (why : Refusal) → Ok s ≡ Err why → ⊥
+no_err s why e = subst IsOk e tt
+
+module _ (m : Mode) (end : ℕ) where
+  same_after : (s : Sofar) (ts : List Piece) (i j : Item) → IsRead m s (lexemes ts) i → IsRead m s (lexemes ts) j
+      → after_item m (start_at end ts 0) s (lexemes ts) i ≡ after_item m (start_at end ts 0) s (lexemes ts) j
+  same_after s ts i j h k = ap (after_item m (start_at end ts 0) s (lexemes ts)) (read_once m s (lexemes ts) i j h k)
+
+  pub file_once : (s : Sofar) (items : List (List Piece)) (o p : Outcome) → File m end s items o → File m end s items p → o ≡ p
+  file_once s [] _ _ (ends a b) (ends c d) = refl
+  file_once s [] _ _ (ends a b) (open_list h) = absurd (none_is_some s.settings.list a h)
+  file_once s [] _ _ (ends a b) (open_block h) = absurd (none_is_some s.settings.block b h)
+  file_once s [] _ _ (open_list h) (ends a b) = absurd (none_is_some s.settings.list a h)
+  file_once s [] _ _ (open_list h) (open_list k) = refl
+  file_once s [] _ _ (open_list h) (open_block k) = refl
+  file_once s [] _ _ (open_block h) (ends a b) = absurd (none_is_some s.settings.block b h)
+  file_once s [] _ _ (open_block h) (open_list k) = refl
+  file_once s [] _ _ (open_block h) (open_block k) = refl
+  file_once s (ts ∷ items) _ _ (bad k x) (bad l y) = ap (λ n. unreadable (start_at end ts n)) (bad_once m s (lexemes ts) s.settings.list refl k l x y)
+  file_once s (ts ∷ items) _ _ (bad k x) (breaks i why r e) = absurd (not_read m s (lexemes ts) s.settings.list refl k i x r)
+  file_once s (ts ∷ items) _ _ (bad k x) (goes_on i t r e f) = absurd (not_read m s (lexemes ts) s.settings.list refl k i x r)
+  file_once s (ts ∷ items) _ _ (breaks i why r e) (bad k x) = absurd (not_read m s (lexemes ts) s.settings.list refl k i x r)
+  file_once s (ts ∷ items) _ _ (breaks i why r e) (breaks j w q d) = ap (λ x. refused_at (start_at end ts 0) (why_of x)) (sym e ∙ same_after s ts i j r q ∙ d)
+  file_once s (ts ∷ items) _ _ (breaks i why r e) (goes_on j t q d f) = absurd (no_err t why (sym (sym e ∙ same_after s ts i j r q ∙ d)))
+  file_once s (ts ∷ items) _ _ (goes_on i t r e f) (bad k x) = absurd (not_read m s (lexemes ts) s.settings.list refl k i x r)
+  file_once s (ts ∷ items) _ _ (goes_on i t r e f) (breaks j why q d) = absurd (no_err t why (sym e ∙ same_after s ts i j r q ∙ d))
+  file_once s (ts ∷ items) o p (goes_on i t r e f) (goes_on j u q d g) =
+      let k : t ≡ u = ap (sofar_in s) (sym e ∙ same_after s ts i j r q ∙ d) in
+      file_once t items o p f (subst (λ (x : Sofar). File m end x items p) (sym k) g)
+
+pub says_once : (m : Mode) (bytes : List ℕ) (o p : Outcome) → file.Says m bytes o → file.Says m bytes p → o ≡ p
+says_once m bytes _ _ (file.too_long h) (file.too_long k) = refl
+says_once m bytes _ _ (file.too_long h) (file.items us inside cut f) = absurd (omega (arith, h, inside))
+says_once m bytes _ _ (file.items ts inside cut f) (file.too_long h) = absurd (omega (arith, h, inside))
+says_once m bytes _ _ (file.items {o} ts inside cut f) (file.items {o = p} us i c g) =
+    let same : ts ≡ us = cut_once 0 bytes ts us cut c in
+    ap (finished m (length bytes)) (file_once m (length bytes) nothing_read (items_of ts) o p f (subst (λ (xs : List Piece). File m (length bytes) nothing_read (items_of xs) p) (sym same) g))

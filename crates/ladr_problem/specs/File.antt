@@ -1,199 +1,91 @@
--- What the items of a file say to a program: they are taken one behind the other. Places are those of items and tokens here, not of bytes.
-use Rattle.std.specs.Prelude.{◌≡◌, ℕ, ◌+◌, ◌<◌, ◌≤◌, nat_lt, Bool, true, false, not, ◌&&◌, if◌then◌else◌, List, [], ◌∷◌, ◌++◌, map, length, take, Option, Some, None, is_some, IsTrue, codes}
+-- What a file says to a program: its items are taken one behind the other.
+use Rattle.std.specs.Prelude.{◌≡◌, ℕ, ◌<◌, ◌≤◌, List, [], ◌∷◌, length, Option, Some, None, is_some, IsTrue, if◌then◌else◌}
 use Rattle.std.specs.Option.{option_map_or}
-use Rattle.std.specs.declared.result.Result.{Result}
+use Rattle.std.specs.List.{slice_get}
 use Rattle.std.specs.declared.result.Result.TheVariants.{Ok, Err}
-use Rattle.fol_core.specs.Fol.{Fol}
-use Rattle.fol_core.specs.RawTree.{RawTree}
-use Rattle.fol_core.specs.SymbolTable.{Symbol}
-use Rattle.fol_core.specs.Weights.{Rule}
-use Rattle.ladr_commands.specs.Commands.{commands_of}
-use Rattle.ladr_commands.specs.Form.{Says}
-use Rattle.ladr_commands.specs.declared.command.Command.{Command}
-use Rattle.ladr_lex.specs.Lexeme.{Lexeme, ordinary, symbol, full_stop}
-use Rattle.ladr_reader.specs.Formulas.{Made, Reading, formula_reading, style_of, meets, names_of}
-use Rattle.ladr_reader.specs.Nesting.{nesting}
-use Rattle.ladr_reader.specs.Reads as terms
-use Rattle.ladr_reader.specs.Table.{table_of}
+use Rattle.fol_core.specs.declared.problem.Role.{Role}
+use Rattle.ladr_commands.specs.ByName.{ByName}
+use Rattle.ladr_covers.specs.Covers.{covers}
+use Rattle.ladr_items.specs.Items.{items_of, lexemes}
+use Rattle.ladr_lex.specs.Cuts.{Piece, Cuts}
+use Rattle.ladr_named.specs.Good.{tables_for}
+use Rattle.ladr_problem.specs.Adding.{Item, IsRead, IsUnreadable, after_item}
+use Rattle.ladr_problem.specs.Sofar.{Sofar, Listed, nothing_read}
+use Rattle.ladr_problem.specs.declared.refusal.Limit.{Limit}
+use Rattle.ladr_problem.specs.declared.refusal.Limit.TheVariants as limit
+use Rattle.ladr_problem.specs.declared.refusal.Refusal.{Refusal}
+use Rattle.ladr_problem.specs.declared.refusal.Refusal.TheVariants.{Bad, Nesting, Symbols, Arity, Row, Memory}
 use Rattle.ladr_reader.specs.declared.styles.Mode.{Mode}
+use Rattle.model_tables.specs.Tables.{Finite}
 use Rattle.ladr_reader.specs.declared.styles.Mode.TheVariants.{Prover, Mace, Tester}
-use Rattle.ladr_rules.specs.Attributes.{attributed, breaks_row_12, label_of, hint_weight_of}
-use Rattle.ladr_rules.specs.Rules.{rule_in, kbo_rule, is_in}
-use Rattle.ladr_rules.specs.Shapes.{is_hint, is_demodulator}
-use Rattle.ladr_reader.specs.declared.styles.Style.{Style}
-use Rattle.ladr_settings.specs.Settings.{after, at_start, is_meant}
-use Rattle.ladr_settings.specs.declared.lists.FormulaList.{FormulaList}
-use Rattle.ladr_settings.specs.declared.lists.FormulaList.TheVariants.{Demodulators, Hints}
-use Rattle.ladr_settings.specs.declared.lists.OpenList.{OpenList}
-use Rattle.ladr_settings.specs.declared.lists.OpenList.TheVariants.{Formulas, Weights, KboWeights, OtherFormulas, OtherRules}
-use Rattle.ladr_settings.specs.declared.settings.Settings.{Settings}
 
--- a formula of a problem: its list, label, hint's weight, and the number of its item
-pub record Stated : Type 0 where
-  pub list : FormulaList
-  pub formula : Fol
-  pub names : List (List ℕ)
-  pub label : Option RawTree
-  pub hint_weight : Option ℕ
-  pub item : ℕ
-
--- what was read so far: the settings, the symbols, the formulas, and how many items
-pub record Sofar : Type 0 where
-  pub settings : Settings
-  pub symbols : List Symbol
-  pub formulas : List Stated
-  pub weights : List Rule
-  pub kbo_weights : List (List ℕ × ℕ)
-  pub items : ℕ
-
--- what an item is: a command, the end of a list, or a term
-pub data Item : Type 0 where
-  command : Command → Item
-  closing : Item
-  term : RawTree → Item
-
--- `end_of_list.`
-abbrev pub closing_tokens : List Lexeme
-closing_tokens = symbol ordinary (codes "end_of_list") ∷ full_stop ∷ []
-
--- the item can be read as this, where it stands
-abbrev pub IsRead : Bool → Sofar → List Lexeme → Item → Type 0
-IsRead tester s ts (command c) = (s.settings.list ≡ None) × Says (commands_of tester) ts c
-IsRead tester s ts closing = IsTrue (is_some s.settings.list) × (ts ≡ closing_tokens)
-IsRead tester s ts (term t) = IsTrue (is_some s.settings.list) × (¬ ts ≡ closing_tokens) × terms.Item (table_of s.settings.operators) ts t
-
--- some item that can be read here begins with these tokens
-pub record Begins (tester : Bool) (s : Sofar) (ts : List Lexeme) : Type 0 where
-  pub more : List Lexeme
-  pub item : Item
-  pub read : IsRead tester s (ts ++ more) item
-
--- token k of an item is the first bad one, as for terms and commands
-pub record IsBadToken (tester : Bool) (s : Sofar) (ts : List Lexeme) (k : ℕ) : Type 0 where
-  pub within : k ≤ length ts
-  pub before : Begins tester s (take k ts)
-  pub here : k < length ts → ¬ Begins tester s (take (k + 1) ts)
-
--- what an item passes, in the order in which it is named, or the least row that it breaks
-pub data Fault : Type 0 where
-  nesting_fault : Fault
-  symbols_fault : Fault
-  arity_fault : Fault
-  row : ℕ → Fault
-
--- a formula as read, where its item stands
-abbrev pub formula_made : Mode → Sofar → RawTree → Made Fol
-formula_made m s t = formula_reading (style_of m s.settings.options.prolog_style_variables) s.symbols (attributed t).formula
-
-abbrev pub is_list : FormulaList → Option OpenList → Bool
-is_list Hints (Some (Formulas Hints)) = true
-is_list Demodulators (Some (Formulas Demodulators)) = true
-is_list wanted list = false
-
--- the rows of a formula's attributes and shape, with those that were met
-abbrev pub judged : Option OpenList → List RawTree → Made Fol → Reading
-judged list attributes made =
-    meets (is_list Hints list && not (is_hint made.tree)) 13 (meets (is_list Demodulators list && not (is_demodulator made.tree)) 14 (meets (breaks_row_12 attributes) 12 made.reading))
-
--- the formula is added, with its symbols
-abbrev pub with_formula : FormulaList → RawTree → Made Fol → Sofar → Sofar
-with_formula list t made s = record s {
-  symbols = made.reading.symbols;
-  formulas =
-      s.formulas
-      ++ record {
-        list = list;
-        formula = made.tree;
-        names = names_of made.reading.variables;
-        label = label_of (attributed t).attributes;
-        hint_weight = if is_list Hints (Some (Formulas list)) then hint_weight_of (attributed t).attributes else None;
-        item = s.items;
-      }
-      ∷ [];
-}
-
--- too many symbols, then too large an arity; rows are looked for in items that are meant alone, and these alone add anything
-abbrev pub after_formula : Mode → Option FormulaList → Sofar → RawTree → Result Sofar Fault
-after_formula m list s t =
-    let made = formula_made m s t in
-    if nat_lt 65535 (length made.reading.symbols) then Err symbols_fault
-    else (if made.reading.large then Err arity_fault
-    else (if not (is_meant m s.settings) then Ok s
-    else option_map_or (λ k. Err (row k)) (judged s.settings.list (attributed t).attributes made).least (Ok (option_map_or (λ l. with_formula l t made s) list s))))
-
-abbrev with_settings : Sofar → Result Settings ℕ → Result Sofar Fault
-with_settings s (Ok settings) = Ok (record s { settings = settings })
-with_settings s (Err k) = Err (row k)
-
--- another shape is row 15
-abbrev unshaped : Mode → Sofar → Result Sofar Fault
-unshaped m s = if is_meant m s.settings then Err (row 15) else Ok s
-
--- a rule of weights, of the right shape: its symbols count, as those of formulas do
-abbrev after_rule : Mode → Sofar → Made Rule → Result Sofar Fault
-after_rule m s made =
-    if nat_lt 65535 (length made.reading.symbols) then Err symbols_fault
-    else (if made.reading.large then Err arity_fault
-    else (if not (is_meant m s.settings) then Ok s
-    else option_map_or (λ k. Err (row k)) made.reading.least (Ok (record s { symbols = made.reading.symbols; weights = s.weights ++ made.tree ∷ [] }))))
-
-abbrev style_in : Mode → Sofar → Style
-style_in m s = style_of m s.settings.options.prolog_style_variables
-
-abbrev pub after_weight : Mode → Sofar → RawTree → Result Sofar Fault
-after_weight m s t = option_map_or (after_rule m s) (rule_in (style_in m s) s.symbols t) (unshaped m s)
-
-abbrev added_kbo : Sofar → List ℕ × ℕ → Result Sofar Fault
-added_kbo s r = if is_in r.0 (map (λ k. k.0) s.kbo_weights) then Err (row 15) else Ok (record s { kbo_weights = s.kbo_weights ++ r ∷ [] })
-
--- a KBO weight enters no symbol, and each name has one
-abbrev pub after_kbo : Mode → Sofar → RawTree → Result Sofar Fault
-after_kbo m s t = if is_meant m s.settings then option_map_or (added_kbo s) (kbo_rule t) (Err (row 15)) else Ok s
-
--- a term in the list that is open
-abbrev pub after_term : Mode → Sofar → Option OpenList → RawTree → Result Sofar Fault
-after_term m s (Some Weights) t = after_weight m s t
-after_term m s (Some KboWeights) t = after_kbo m s t
-after_term m s (Some OtherRules) t = Ok s
-after_term m s (Some OtherFormulas) t = after_formula m None s t
-after_term m s (Some (Formulas list)) t = after_formula m (Some list) s t
-after_term m s None t = Ok s
-
--- what an item makes of what was read so far
-abbrev pub after_item : Mode → Sofar → List Lexeme → Item → Result Sofar Fault
-after_item m s ts (command c) = with_settings s (after m c s.settings)
-after_item m s ts closing = Ok (record s { settings = record s.settings { list = None } })
-after_item m s ts (term t) = if nat_lt 500 (nesting ts t) then Err nesting_fault else after_term m s s.settings.list t
-
--- what a file says: its problem, or the first refusal, with the number of the item (and of its token)
+-- A file says this: a problem with its settings; or it is refused at a byte, where something can't be read, a row of misuse is
+-- broken, or a limit is passed.
 pub data Outcome : Type 0 where
   problem : Sofar → Outcome
-  unreadable : ℕ → ℕ → Outcome
-  refused : ℕ → Fault → Outcome
+  unreadable : ℕ → Outcome
+  misused : ℕ → ℕ → Outcome
+  too_large : ℕ → Limit → Outcome
 
-abbrev pub is_tester : Mode → Bool
-is_tester Prover = false
-is_tester Mace = false
-is_tester Tester = true
+-- where token k of an item begins; behind the last one the input ends
+abbrev pub start_at : ℕ → List Piece → ℕ → ℕ
+start_at end ts k = option_map_or (λ t. t.start) (slice_get ts k) end
 
-abbrev pub counted : Sofar → Sofar
-counted s = record s { items = s.items + 1 }
+-- the refusal of an item that begins at a byte
+abbrev pub refused_at : ℕ → Refusal → Outcome
+refused_at byte (Bad k) = unreadable byte
+refused_at byte Nesting = too_large byte limit.Nesting
+refused_at byte Symbols = too_large byte limit.Symbols
+refused_at byte Arity = too_large byte limit.Arity
+refused_at byte (Row k) = misused byte k
+refused_at byte Memory = unreadable byte
 
--- The fold: items are taken one behind the other up to the first that is refused; an open list or block at the end is unreadable
--- there.
-pub data File (m : Mode) : Sofar → List (List Lexeme) → Outcome → Type 0 where
-  ends : {s : Sofar} → s.settings.list ≡ None → s.settings.block ≡ None → File m s [] (problem s)
-  open_list : {s : Sofar} → IsTrue (is_some s.settings.list) → File m s [] (unreadable s.items 0)
-  open_block : {s : Sofar} → IsTrue (is_some s.settings.block) → File m s [] (unreadable s.items 0)
+-- The fold of the items of an input that ends at a byte: they are taken up to the first that is refused. A list or a block that is
+-- open at the end is unreadable there.
+pub data File (m : Mode) (end : ℕ) : Sofar → List (List Piece) → Outcome → Type 0 where
+  ends : {s : Sofar} → s.settings.list ≡ None → s.settings.block ≡ None → File m end s [] (problem s)
+  open_list : {s : Sofar} → IsTrue (is_some s.settings.list) → File m end s [] (unreadable end)
+  open_block : {s : Sofar} → IsTrue (is_some s.settings.block) → File m end s [] (unreadable end)
   bad :
-      {s : Sofar} {ts : List Lexeme} {items : List (List Lexeme)} {k : ℕ} →
-      IsBadToken (is_tester m) s ts k → ((i : Item) → ¬ IsRead (is_tester m) s ts i) → File m s (ts ∷ items) (unreadable s.items k)
+      {s : Sofar} {ts : List Piece} {items : List (List Piece)} (k : ℕ) →
+      IsUnreadable m s (lexemes ts) k → File m end s (ts ∷ items) (unreadable (start_at end ts k))
   breaks :
-      {s : Sofar} {ts : List Lexeme} {items : List (List Lexeme)} {f : Fault} (i : Item) →
-      IsRead (is_tester m) s ts i → after_item m s ts i ≡ Err f → File m s (ts ∷ items) (refused s.items f)
+      {s : Sofar} {ts : List Piece} {items : List (List Piece)} (i : Item) (why : Refusal) →
+      IsRead m s (lexemes ts) i → after_item m (start_at end ts 0) s (lexemes ts) i ≡ Err why →
+      File m end s (ts ∷ items) (refused_at (start_at end ts 0) why)
   goes_on :
-      {s : Sofar} {ts : List Lexeme} {items : List (List Lexeme)} {o : Outcome} (i : Item) (t : Sofar) →
-      IsRead (is_tester m) s ts i → after_item m s ts i ≡ Ok t → File m (counted t) items o → File m s (ts ∷ items) o
+      {s : Sofar} {ts : List Piece} {items : List (List Piece)} {o : Outcome} (i : Item) (t : Sofar) →
+      IsRead m s (lexemes ts) i → after_item m (start_at end ts 0) s (lexemes ts) i ≡ Ok t →
+      File m end t items o → File m end s (ts ∷ items) o
 
-abbrev pub nothing_read : Sofar
-nothing_read = record { settings = at_start; symbols = []; formulas = []; weights = []; kbo_weights = []; items = 0 }
+-- where the first formula begins that has a symbol or an element which the tables lack
+abbrev pub first_lacking : Finite → List (Role × Listed) → Option ℕ
+first_lacking t [] = None
+first_lacking t (f ∷ fs) = if covers t f.1.formula then first_lacking t fs else Some f.1.byte
+
+-- a formula that isn't covered is row 18
+abbrev pub covered : Sofar → ByName → Outcome
+covered s it = option_map_or (λ byte. misused byte 18) (first_lacking (tables_for it s.symbols) s.formulas) (problem s)
+
+-- for a program that tests interpretations: no interpretation is row 18 at the end
+abbrev pub tested : ℕ → Outcome → Outcome
+tested end (problem s) = option_map_or (covered s) s.settings.interpretation (misused end 18)
+tested end (unreadable byte) = unreadable byte
+tested end (misused byte row) = misused byte row
+tested end (too_large byte what) = too_large byte what
+
+abbrev pub finished : Mode → ℕ → Outcome → Outcome
+finished Prover end o = o
+finished Mace end o = o
+finished Tester end o = tested end o
+
+-- the most bytes that an input may have
+abbrev pub most_bytes : ℕ
+most_bytes = 16777216
+
+-- the bytes say this to the program
+pub data Says (m : Mode) (bytes : List ℕ) : Outcome → Type 0 where
+  too_long : most_bytes < length bytes → Says m bytes (too_large most_bytes limit.Input)
+  items :
+      {o : Outcome} (tokens : List Piece) → length bytes ≤ most_bytes → Cuts 0 bytes tokens →
+      File m (length bytes) nothing_read (items_of tokens) o → Says m bytes (finished m (length bytes) o)

@@ -1,2 +1,9 @@
+pub mod Adding
+pub mod Draft
 pub mod File
-pub mod Worked
+pub mod Places
+pub mod Reading
+pub mod Refusals
+pub mod Sofar
+pub mod Stops
+pub mod Whole

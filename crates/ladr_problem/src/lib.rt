@@ -1,21 +1,16 @@
-// What the items of a file say to a program: the definition, its examples and that it is one. Nothing reads by it yet.
+// What a file says to a program: its problem, or the first refusal.
 #![tactic(auto)]
 
-ghost use Rattle.std.specs.Prelude.{◌≡◌, List, [], ◌∷◌};
-ghost use Rattle.ladr_problem.specs.File.{File, Outcome, problem, refused, unreadable, row, nothing_read};
-ghost use Rattle.ladr_lex.specs.Lexeme.{Lexeme};
-ghost use Rattle.ladr_reader.specs.declared.styles.Mode.{Mode};
-ghost use Rattle.ladr_problem.specs.Worked.{unknown_flag, goals_opened};
-ghost use Rattle.ladr_reader.specs.declared.styles.Mode.TheVariants.{Prover};
+mod draft;
+mod file;
+mod formulas;
+mod laws;
+mod read;
+mod refusal;
+mod rules;
+mod stop;
+mod take;
 
-/// Files worked out.
-pub fn worked()
-    ensures empty { File Prover nothing_read [] (problem nothing_read) }
-    ensures unknown_flag { File Prover nothing_read (unknown_flag ∷ []) (refused 0 (row 1)) }
-    ensures open_list { File Prover nothing_read (goals_opened ∷ []) (unreadable 1 0) }
-{}
-
-/// A file says one thing at most.
-pub fn one_outcome()
-    ensures { (m : Mode) (items : List (List Lexeme)) (o p : Outcome) → File m nothing_read items o → File m nothing_read items p → o ≡ p }
-{}
+pub use laws::{one_outcome, worked};
+pub use read::{FileRead, MOST_BYTES, read_problem};
+pub use refusal::{Limit, Place, ReadError};

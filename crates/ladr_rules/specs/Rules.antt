@@ -34,12 +34,12 @@ abbrev mutual
 abbrev pub is_in : List ℕ → List (List ℕ) → Bool
 is_in name names = list_any (λ n. bytes_eq name n) names
 
--- `weight(x)` for one of these variables, or a whole number up to 2,147,483,647
+-- `weight(x)` for one of these variables
 abbrev pub single_value : List (List ℕ) → List ℕ → RawTree → Bool
 single_value names s (named x no_raws) = bytes_eq s (codes "weight") && is_in x names
 single_value names s t = false
 
--- whether a term is a value: whole numbers, `+`, `*`, and `weight(x)` for one of these variables
+-- whether a term is a value: whole numbers up to 2,147,483,647, `+`, `*`, and `weight(x)` for one of these variables
 abbrev pub is_value : List (List ℕ) → RawTree → Bool
 is_value names (quantified q x t) = false
 is_value names (named s no_raws) = is_some (whole_number 2147483647 (named s no_raws))

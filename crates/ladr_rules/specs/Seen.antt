@@ -1,7 +1,7 @@
 -- What a term was seen to be, beside the definitions.
-use Rattle.std.specs.Prelude.{◌≡◌, Bool, false, ◌&&◌, ◌==◌, List, ℕ, codes}
+use Rattle.std.specs.Prelude.{◌≡◌, Bool, false, ◌&&◌, ◌==◌, codes}
 use Rattle.std.specs.Str.{bytes_eq}
-use Rattle.fol_core.specs.RawTree.{RawTree, named, quantified, RawTrees, no_raws, more_raws}
+use Rattle.fol_core.specs.RawTree.{RawTree, named, quantified, no_raws, more_raws}
 use Rattle.fol_core.specs.RawView.{raw_of}
 use Rattle.ladr_reader.specs.Formulas.{arity_of}
 use Rattle.ladr_rules.specs.declared.attributes.Split.{Split}

@@ -1,4 +1,4 @@
-use Rattle.std.proofs.Common.{◌∙◌, ◌+◌, ◌||◌, Bool, true, sym, ap}
+use Rattle.std.proofs.Common.{◌∙◌, ◌+◌, ◌||◌, Bool, sym, ap}
 use Rattle.ladr_rules.proofs.Variables.{variables_from, in_next}
 use Rattle.fol_core.specs.Free.{is_in}
 use Rattle.ladr_rules.proofs.shapes.+has_variable.Goals as goal

@@ -1,4 +1,4 @@
-use Rattle.std.proofs.Common.{◌∙◌, ◌+◌, ◌&&◌, ℕ, Bool, true, false, sym, ap}
+use Rattle.std.proofs.Common.{◌∙◌, ◌+◌, ◌&&◌, ℕ, Bool, sym, ap}
 use Rattle.std.specs.List.{list_all}
 use Rattle.fol_core.specs.Free.{is_in, variables_of}
 use Rattle.fol_core.specs.TermView.{tree_of}

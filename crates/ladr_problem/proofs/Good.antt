@@ -1,0 +1,214 @@
+-- What is read binds variables once, has symbols of its table, and has options in their ranges.
+use Rattle.std.proofs.Common.{◌≡◌, ℕ, ◌≤◌, Bool, true, false, not, ◌&&◌, if◌then◌else◌, List, [], ◌∷◌, ◌++◌, map, length, Option, Some, None, refl, sym, ap, subst, ◌∙◌, arith}
+use Rattle.std.specs.Prelude.{nat_lt, IfOk, is_some, IsTrue}
+use Rattle.std.specs.Option.{option_map, option_map_or}
+use Rattle.std.specs.declared.result.Result.{Result}
+use Rattle.std.specs.declared.result.Result.TheVariants.{Ok, Err}
+use Rattle.std.proofs.lemmas.List.{map-append}
+use Rattle.fol_core.proofs.Soundness.{sound_below, sound_push}
+use Rattle.fol_core.specs.Bound.{BindsOnce, HasSymbolsBelow}
+use Rattle.fol_core.specs.FormulaView.{fol_of}
+use Rattle.fol_core.specs.RawTree.{RawTree}
+use Rattle.fol_core.specs.Stated.{said, AreSound, all_said}
+use Rattle.fol_core.specs.SymbolTable.{Symbol}
+use Rattle.fol_core.specs.declared.problem.Input.{Input}
+use Rattle.fol_core.specs.declared.problem.Role.{Role}
+use Rattle.fol_core.specs.declared.problem.Role.TheVariants.{Assumption, Usable, Demodulator, Goal}
+use Rattle.ladr_commands.specs.ByName.{ByName}
+use Rattle.ladr_commands.specs.declared.command.Command.{Command}
+use Rattle.ladr_items.specs.Items.{lexemes}
+use Rattle.ladr_items.specs.ListItem.{closing, term}
+use Rattle.ladr_lex.specs.Cuts.{Piece}
+use Rattle.ladr_lex.specs.Lexeme.{Lexeme}
+use Rattle.ladr_named.specs.Good as named
+use Rattle.ladr_options.specs.Ranges.{AreInRange}
+use Rattle.ladr_problem.specs.Adding.{Item, command, within, after_item, after_term, after_formula, after_list, after_rule, after_kbo, added_kbo, unshaped, formula_made, style_in, with_settings, with_listed, with_formula, least_row, met, is_hints, is_demodulators}
+use Rattle.ladr_problem.specs.File.{Outcome, problem, unreadable, misused, too_large, File, ends, open_list, open_block, bad, breaks, goes_on, covered, finished, first_lacking, start_at, refused_at}
+use Rattle.ladr_problem.specs.Sofar.{Sofar, Listed, said_in, input_of, nothing_read}
+use Rattle.ladr_problem.specs.declared.refusal.Refusal.{Refusal}
+use Rattle.ladr_problem.specs.declared.refusal.Refusal.TheVariants.{Bad, Nesting, Symbols, Arity, Row, Memory}
+use Rattle.ladr_reader.proofs.OwnFormulas.{binds_once, symbols_below, table_grows}
+use Rattle.ladr_reader.proofs.OwnTerms.{terms_good}
+use Rattle.ladr_reader.specs.Formulas.{unread}
+use Rattle.ladr_reader.specs.Nesting.{nesting}
+use Rattle.ladr_reader.specs.declared.styles.Mode.{Mode}
+use Rattle.ladr_reader.specs.declared.styles.Mode.TheVariants.{Prover, Mace, Tester}
+use Rattle.ladr_rules.specs.Attributes.{attributed, breaks_row_12, hint_weight_of}
+use Rattle.ladr_rules.specs.Rules.{Sides, rule_made, shaped_sides, kbo_rule, is_in}
+use Rattle.ladr_rules.specs.Shapes.{is_hint, is_demodulator}
+use Rattle.ladr_settings.proofs.Ranges.{after_in_range}
+use Rattle.ladr_settings.specs.Settings.{after, is_meant}
+use Rattle.ladr_settings.specs.declared.lists.FormulaList.{FormulaList}
+use Rattle.ladr_settings.specs.declared.lists.FormulaList.TheVariants.{Assumptions, Demodulators, Goals, Hints}
+use Rattle.ladr_settings.specs.declared.lists.FormulaList.TheVariants as lists
+use Rattle.ladr_settings.specs.declared.lists.OpenList.{OpenList}
+use Rattle.ladr_settings.specs.declared.lists.OpenList.TheVariants.{Formulas, Weights, KboWeights, OtherFormulas, OtherRules}
+use Rattle.ladr_settings.specs.declared.settings.Settings.{Settings}
+
+pub record IsGood (s : Sofar) : Type 0 where
+  pub sound : AreSound (length s.symbols) (said_in s)
+  pub ranged : AreInRange s.settings.options
+
+-- what is good on both ways is good
+by_test : (b : Bool) (x y : Result Sofar Refusal) → IfOk x IsGood → IfOk y IsGood → IfOk (if b then x else y) IsGood
+by_test true x y h k = h
+by_test false x y h k = k
+
+by_option : {A : Type 0} (f : A → Result Sofar Refusal) (o : Option A) (x : Result Sofar Refusal) → ((a : A) → o ≡ Some a → IfOk (f a) IsGood) → (o ≡ None → IfOk x IsGood) → IfOk (option_map_or f o x) IsGood
+by_option f (Some a) x h k = h a refl
+by_option f None x h k = k refl
+
+-- where a row was met there is a least one
+unmet : (test : Bool) (row : ℕ) (least : Option ℕ) → met test row least ≡ None → least ≡ None
+unmet true row least h = cc
+unmet false row least h = h
+
+module _ (m : Mode) (byte : ℕ) (s : Sofar) (good : IsGood s) where
+  grown : (table : List Symbol) → length s.symbols ≤ length table → AreSound (length table) (said_in s)
+  grown table h = sound_below (length s.symbols) (length table) (said_in s) h good.sound
+
+  pushed : (table : List Symbol) (role : Role) (l : Listed) → length s.symbols ≤ length table → BindsOnce l.formula → HasSymbolsBelow (length table) l.formula
+      → IsGood (record s { symbols = table; formulas = s.formulas ++ (role, l) ∷ [] })
+  pushed table role l h once below = record {
+    sound = subst (AreSound (length table)) (sym (map-append (λ f. said f.0 f.1.formula) s.formulas ((role, l) ∷ []))) (sound_push (length table) (said_in s) role l.formula (grown table h) once below);
+    ranged = good.ranged;
+  }
+
+  listed_good : (list : FormulaList) (table : List Symbol) (l : Listed) (w : Option ℕ) → length s.symbols ≤ length table → BindsOnce l.formula → HasSymbolsBelow (length table) l.formula
+      → IsGood (with_listed list l w (record s { symbols = table }))
+  listed_good Assumptions table l w h once below = pushed table Assumption l h once below
+  listed_good lists.Usable table l w h once below = pushed table Usable l h once below
+  listed_good Demodulators table l w h once below = pushed table Demodulator l h once below
+  listed_good Goals table l w h once below = pushed table Goal l h once below
+  listed_good Hints table l w h once below = record { sound = grown table h; ranged = good.ranged }
+
+  formula_good : (list : Option FormulaList) (t : RawTree) → IfOk (after_formula m list byte s t) IsGood
+  formula_good list t =
+      let made = formula_made m s t in
+      let a = attributed t in
+      by_test (nat_lt 65535 (length made.reading.symbols)) _ _ tt
+      (by_test made.reading.large _ _ tt
+      (by_test (not (is_meant m s.settings)) _ _ good
+      (by_option (λ l. after_list l byte s t made) list (Ok s)
+      (λ l e. by_option (λ k. Err (Row k)) (least_row l (breaks_row_12 a.attributes) made.tree made.reading.least) (Ok (with_formula l byte t made s)) (λ k d. tt)
+      (λ none. listed_good l made.reading.symbols _ (hint_weight_of a.attributes) (table_grows (style_in m s) s.symbols a.formula)
+      (binds_once (style_in m s) s.symbols a.formula (unmet (breaks_row_12 a.attributes) 12 _ (unmet (is_demodulators l && not (is_demodulator made.tree)) 14 _ (unmet (is_hints l && not (is_hint made.tree)) 13 _ none)))) (symbols_below (style_in m s) s.symbols a.formula)))
+      (λ e. good))))
+
+  unshaped_good : IfOk (unshaped m s) IsGood
+  unshaped_good = by_test (is_meant m s.settings) _ _ tt good
+
+  rule_good : (o : Option Sides) → IfOk (option_map_or (after_rule m s) (option_map (rule_made (style_in m s) s.symbols) o) (unshaped m s)) IsGood
+  rule_good None = unshaped_good
+  rule_good (Some r) =
+      let made = rule_made (style_in m s) s.symbols r in
+      by_test (nat_lt 65535 (length made.reading.symbols)) _ _ tt
+      (by_test made.reading.large _ _ tt
+      (by_test (not (is_meant m s.settings)) _ _ good
+      (by_option (λ k. Err (Row k)) made.reading.least _ (λ k e. tt)
+      (λ e. record { sound = grown made.reading.symbols (terms_good (style_in m s) [] (unread s.symbols) r.parts).grows.table; ranged = good.ranged }))))
+
+  kbo_good : (t : RawTree) → IfOk (after_kbo m s t) IsGood
+  kbo_good t =
+      by_test (is_meant m s.settings) _ _
+      (by_option (added_kbo s) (kbo_rule t) (Err (Row 15))
+      (λ r e. by_test (is_in r.0 (map (λ k. k.0) s.kbo_weights)) _ _ tt (record { sound = good.sound; ranged = good.ranged })) (λ e. tt))
+      good
+
+  term_is_good : (list : OpenList) (t : RawTree) → IfOk (after_term m list byte s t) IsGood
+  term_is_good Weights t = rule_good (shaped_sides (style_in m s) t)
+  term_is_good KboWeights t = kbo_good t
+  term_is_good OtherRules t = good
+  term_is_good OtherFormulas t = formula_good None t
+  term_is_good (Formulas list) t = formula_good (Some list) t
+
+  settings_good : (c : Command) (r : Result Settings ℕ) → after m c s.settings ≡ r → IfOk (with_settings s r) IsGood
+  settings_good c (Ok t) e = record { sound = good.sound; ranged = after_in_range m c s.settings t e good.ranged }
+  settings_good c (Err k) e = tt
+
+  item_good : (ts : List Lexeme) (i : Item) → IfOk (after_item m byte s ts i) IsGood
+  item_good ts (command c) = settings_good c (after m c s.settings) refl
+  item_good ts (within closing) = record { sound = good.sound; ranged = good.ranged }
+  item_good ts (within (term t)) = by_test (nat_lt 500 (nesting ts t)) _ _ tt (by_option (λ l. after_term m l byte s t) s.settings.list (Ok s) (λ l e. term_is_good l t) (λ e. good))
+
+abbrev IfProblem : Outcome → Type 0
+IfProblem (problem s) = IsGood s
+IfProblem (unreadable byte) = Unit {0}
+IfProblem (misused byte row) = Unit {0}
+IfProblem (too_large byte what) = Unit {0}
+
+refused_good : (byte : ℕ) (why : Refusal) → IfProblem (refused_at byte why)
+refused_good byte (Bad k) = tt
+refused_good byte Nesting = tt
+refused_good byte Symbols = tt
+refused_good byte Arity = tt
+refused_good byte (Row k) = tt
+refused_good byte Memory = tt
+
+file_is_good : (m : Mode) (end : ℕ) (s : Sofar) (items : List (List Piece)) (o : Outcome) → IsGood s → File m end s items o → IfProblem o
+file_is_good m end s [] _ good (ends a b) = good
+file_is_good m end s [] _ good (open_list h) = tt
+file_is_good m end s [] _ good (open_block h) = tt
+file_is_good m end s (ts ∷ items) _ good (bad k h) = tt
+file_is_good m end s (ts ∷ items) _ good (breaks i why r e) = refused_good _ why
+file_is_good m end s (ts ∷ items) o good (goes_on i t r e f) =
+    file_is_good m end t items o (subst (λ (x : Result Sofar Refusal). IfOk x IsGood) e (item_good m (start_at end ts 0) s good (lexemes ts) i)) f
+
+start_good : IsGood nothing_read
+start_good = record { sound = tt; ranged = record { start_size = (omega arith, omega arith); end_size = (omega arith, omega arith); increment = (omega arith, omega arith); domain_size = omega arith; max_models = omega arith } }
+
+pub problem_good : (m : Mode) (end : ℕ) (s : Sofar) (items : List (List Piece)) → File m end nothing_read items (problem s) → IsGood s
+problem_good m end s items f = file_is_good m end nothing_read items (problem s) start_good f
+
+abbrev is_problem : Outcome → Bool
+is_problem (problem s) = true
+is_problem (unreadable byte) = false
+is_problem (misused byte row) = false
+is_problem (too_large byte what) = false
+
+-- what is a problem in the end was one at the end of the items
+pub problem_before : (m : Mode) (end : ℕ) (o : Outcome) (s : Sofar) → finished m end o ≡ problem s → o ≡ problem s
+problem_before Prover end o s h = h
+problem_before Mace end o s h = h
+problem_before Tester end (unreadable byte) s h = h
+problem_before Tester end (misused byte row) s h = h
+problem_before Tester end (too_large byte what) s h = h
+problem_before Tester end (problem t) s h = by_interpretation t.settings.interpretation h
+  where
+    refuses : (byte row : ℕ) → misused byte row ≡ problem s → problem t ≡ problem s
+    refuses byte row e = let d : false ≡ true = ap is_problem e in cc
+
+    by_formula : (o : Option ℕ) → option_map_or (λ byte. misused byte 18) o (problem t) ≡ problem s → problem t ≡ problem s
+    by_formula None e = e
+    by_formula (Some byte) e = refuses byte 18 e
+
+    by_interpretation : (i : Option ByName) → option_map_or (covered t) i (misused end 18) ≡ problem s → problem t ≡ problem s
+    by_interpretation None e = refuses end 18 e
+    by_interpretation (Some it) e = by_formula (first_lacking (named.tables_for it t.symbols) t.formulas) e
+
+-- the formulas of the code are those that were read
+pub said_same : (is : List Input) → map (λ f. said f.0 f.1.formula) (map input_of is) ≡ all_said is
+said_same [] = refl
+said_same (i ∷ is) = ap (λ ss. said i.role (fol_of i.formula.shape) ∷ ss) (said_same is)
+
+-- what is a problem in the end has an interpretation, where it is tested
+pub has_interpretation : (end : ℕ) (o : Outcome) (s : Sofar) → finished Tester end o ≡ problem s → IsTrue (is_some s.settings.interpretation)
+has_interpretation end (unreadable byte) s h = cc
+has_interpretation end (misused byte row) s h = cc
+has_interpretation end (too_large byte what) s h = cc
+has_interpretation end (problem t) s h = by_interpretation t.settings.interpretation refl
+  where
+    same : problem t ≡ problem s
+    same = problem_before Tester end (problem t) s h
+
+    of : Outcome → Option ByName
+    of (problem u) = u.settings.interpretation
+    of (unreadable byte) = None
+    of (misused byte row) = None
+    of (too_large byte what) = None
+
+    by_interpretation : (i : Option ByName) → t.settings.interpretation ≡ i → IsTrue (is_some s.settings.interpretation)
+    by_interpretation (Some it) e = ap is_some (sym (ap of same) ∙ e)
+    by_interpretation None e =
+        let refused : misused end 18 ≡ problem s = subst (λ (i : Option ByName). option_map_or (covered t) i (misused end 18) ≡ problem s) e h in
+        let d : false ≡ true = ap is_problem refused in cc

@@ -1,0 +1,111 @@
+-- What an item makes of what was read so far, by what its parts answer.
+use Rattle.std.proofs.Common.{◌≡◌, ℕ, suc, ◌≤◌, ◌<◌, not, if◌then◌else◌, List, [], ◌∷◌, ◌++◌, length, take, Option, Some, None, is_some, refl, sym, ap, ap₂, ◌∙◌, subst, unwrap_or}
+use Rattle.std.specs.Prelude.{nat_lt}
+use Rattle.std.specs.Option.{option_map, option_map_or}
+use Rattle.std.specs.declared.result.Result.TheVariants.{Ok, Err}
+use Rattle.std.proofs.lemmas.Bool.{le-ltb, lt-ltb}
+use Rattle.fol_core.specs.RawTree.{RawTree}
+use Rattle.fol_core.specs.RawView.{raw_of}
+use Rattle.fol_core.specs.SymbolTable.{Symbol, KeepsNumbers}
+use Rattle.fol_core.specs.Weights.{Rule}
+use Rattle.ladr_commands.specs.declared.command.Command.{Command}
+use Rattle.ladr_items.specs.ListItem.{term, IsListItem, IsItemFault}
+use Rattle.ladr_lex.specs.Lexeme.{Lexeme}
+use Rattle.ladr_problem.specs.Adding.{command, within, IsRead, IsRefused, after_item, after_term, after_formula, after_rule, after_weight, unshaped, formula_made, style_in, with_settings, with_listed, least_row}
+use Rattle.ladr_problem.specs.Reading.{IsNo, IsTaken, after_read, after_rule_read}
+use Rattle.ladr_problem.specs.Refusals.{by_misuse, by_term}
+use Rattle.ladr_problem.specs.Sofar.{Sofar}
+use Rattle.ladr_problem.specs.declared.refusal.Refusal.{Refusal}
+use Rattle.ladr_problem.specs.declared.refusal.Refusal.TheVariants.{Bad, Nesting, Symbols, Arity, Row, Memory}
+use Rattle.ladr_reader.specs.Formulas.{Made, formula_reading}
+use Rattle.ladr_reader.specs.Nesting.{nesting}
+use Rattle.ladr_reader.specs.Table.{table_of}
+use Rattle.ladr_reader.specs.Whole.{IsWhole}
+use Rattle.ladr_reader.specs.declared.fault.TermFault.{TermFault}
+use Rattle.ladr_reader.specs.declared.fault.TermFault.TheVariants as term_fault
+use Rattle.ladr_reader.specs.declared.formulas.FormulaRead.{FormulaRead}
+use Rattle.ladr_reader.specs.declared.styles.Mode.{Mode}
+use Rattle.ladr_rules.specs.Attributes.{attributed, breaks_row_12, label_of, hint_weight_of}
+use Rattle.ladr_rules.specs.RuleSeen.{IsRuleIn}
+use Rattle.ladr_rules.specs.Rules.{rule_in}
+use Rattle.ladr_rules.specs.declared.attributes.Stated.{Stated}
+use Rattle.ladr_rules.specs.declared.rules.RuleRead.{RuleRead}
+use Rattle.ladr_settings.specs.Settings.{after, is_meant}
+use Rattle.ladr_settings.specs.declared.lists.FormulaList.{FormulaList}
+use Rattle.ladr_settings.specs.declared.lists.OpenList.{OpenList}
+use Rattle.ladr_settings.specs.declared.settings.Misuse.{Misuse}
+use Rattle.ladr_settings.specs.declared.settings.Misuse.TheVariants as misuse
+
+-- a table that kept its numbers begins with the old one
+pub take_kept : (old new : List Symbol) → KeepsNumbers old new → take (length old) new ≡ old
+take_kept [] new h = refl
+take_kept (x ∷ xs) [] h = cc_none (h 0 x refl)
+  where
+    cc_none : None ≡ Some x → [] ≡ x ∷ xs
+    cc_none e = cc
+take_kept (x ∷ xs) (y ∷ ys) h = ap₂ (λ z zs. z ∷ zs) (ap (λ o. unwrap_or o x) (h 0 x refl)) (take_kept xs ys (λ n s e. h (suc n) s e))
+
+module _ (m : Mode) (byte : ℕ) (s : Sofar) where
+  -- a command that is misused
+  pub misused : (ts : List Lexeme) (c : Command) → IsRead m s ts (command c) → (why : Misuse) → ((k : ℕ) → why ≡ misuse.Row k → after m c s.settings ≡ Err k) → IsRefused m byte s ts (by_misuse why)
+  misused ts c read (misuse.Row k) h = (command c, read, ap (with_settings s) (h k refl))
+  misused ts c read misuse.Memory h = tt
+
+  module _ (l : OpenList) (opened : s.settings.list ≡ Some l) where
+    -- a term that is nested too deep, and one that isn't
+    deep_term : (ts : List Lexeme) (t : RawTree) → 500 < nesting ts t → after_item m byte s ts (within (term t)) ≡ Err Nesting
+    deep_term ts t h = ap (λ b. if b then Err Nesting else option_map_or (λ o. after_term m o byte s t) s.settings.list (Ok s)) (lt-ltb 500 (nesting ts t) h)
+
+    shallow_term : (ts : List Lexeme) (t : RawTree) → nesting ts t ≤ 500 → after_item m byte s ts (within (term t)) ≡ after_term m l byte s t
+    shallow_term ts t h = ap₂ (λ b o. if b then Err Nesting else option_map_or (λ p. after_term m p byte s t) o (Ok s)) (le-ltb 500 (nesting ts t) h) opened
+
+    pub term_taken : (ts : List Lexeme) (t : RawTree) (u : Sofar) → IsListItem (table_of s.settings.operators) ts (term t) → nesting ts t ≤ 500 → after_term m l byte s t ≡ Ok u → IsTaken m byte s ts u
+    term_taken ts t u read shallow e = (within (term t), (ap is_some opened, read), shallow_term ts t shallow ∙ e)
+
+    pub term_refused : (ts : List Lexeme) (t : RawTree) → IsListItem (table_of s.settings.operators) ts (term t) → nesting ts t ≤ 500
+        → (why : Refusal) → IsNo (after_term m l byte s t) why → IsRefused m byte s ts why
+    term_refused ts t read shallow (Bad k) refuses = absurd refuses
+    term_refused ts t read shallow Nesting refuses = absurd refuses
+    term_refused ts t read shallow Symbols refuses = (within (term t), (ap is_some opened, read), shallow_term ts t shallow ∙ refuses)
+    term_refused ts t read shallow Arity refuses = (within (term t), (ap is_some opened, read), shallow_term ts t shallow ∙ refuses)
+    term_refused ts t read shallow (Row k) refuses = (within (term t), (ap is_some opened, read), shallow_term ts t shallow ∙ refuses)
+    term_refused ts t read shallow Memory refuses = tt
+
+    pub item_refused : (ts : List Lexeme) (fault : TermFault) → IsItemFault (table_of s.settings.operators) ts fault → IsRefused m byte s ts (by_term fault)
+    item_refused ts (term_fault.Bad k) h = rw opened h
+    item_refused ts term_fault.Deep h = (within (term h.0), (ap is_some opened, h.1), deep_term ts h.0 h.2)
+    item_refused ts term_fault.Memory h = tt
+
+  -- a formula as the code has read it is the one of the item
+  pub same_formula : (list : Option FormulaList) (t : RawTree) (a : Stated) (r : FormulaRead) (table : List Symbol)
+      → raw_of a.formula ≡ (attributed t).formula → option_map raw_of a.label ≡ label_of (attributed t).attributes
+      → a.misused ≡ breaks_row_12 (attributed t).attributes → a.hint_weight ≡ hint_weight_of (attributed t).attributes
+      → IsWhole (formula_reading (style_in m s) s.symbols (raw_of a.formula)) r table → KeepsNumbers s.symbols table
+      → after_read m list byte (length s.symbols) (record s { symbols = table }) a r ≡ after_formula m list byte s t
+  same_formula list t a r table formula label misused weight whole kept =
+      let w : IsWhole (formula_made m s t) r table = subst (λ (u : RawTree). IsWhole (formula_reading (style_in m s) s.symbols u) r table) formula whole in
+      let old = take_kept s.symbols table kept in
+      λ i.
+      if nat_lt 65535 (length (w.symbols i)) then Err Symbols
+      else (if w.large i then Err Arity
+      else (if not (is_meant m s.settings) then Ok (record s { symbols = old i })
+      else option_map_or (λ l. option_map_or (λ k. Err (Row k)) (least_row l (misused i) (w.formula i) (w.least i))
+      (Ok (with_listed l (record { formula = w.formula i; names = w.named i; label = label i; byte = byte }) (weight i) (record s { symbols = w.symbols i }))))
+      list (Ok (record s { symbols = old i }))))
+
+  -- a rule of weights as the code has read it is the one of the item
+  rule_there : (t : RawTree) (r : RuleRead) (table : List Symbol) (o : Option (Made Rule)) → rule_in (style_in m s) s.symbols t ≡ o → IsRuleIn o (Some r) s.symbols table → KeepsNumbers s.symbols table
+      → after_rule_read m (length s.symbols) (record s { symbols = table }) r ≡ after_weight m s t
+  rule_there t r table None e is kept = absurd is
+  rule_there t r table (Some made) e is kept =
+      let old = take_kept s.symbols table kept in
+      let same : after_rule_read m (length s.symbols) (record s { symbols = table }) r ≡ after_rule m s made = λ i.
+      if nat_lt 65535 (length (is.symbols i)) then Err Symbols
+      else (if is.large i then Err Arity
+      else (if not (is_meant m s.settings) then Ok (record s { symbols = old i })
+      else option_map_or (λ k. Err (Row k)) (is.least i) (Ok (record s { symbols = is.symbols i; weights = s.weights ++ is.rule i ∷ [] })))) in
+      same ∙ ap (λ o. option_map_or (after_rule m s) o (unshaped m s)) (sym e)
+
+  pub same_rule : (t : RawTree) (r : RuleRead) (table : List Symbol) → IsRuleIn (rule_in (style_in m s) s.symbols t) (Some r) s.symbols table → KeepsNumbers s.symbols table
+      → after_rule_read m (length s.symbols) (record s { symbols = table }) r ≡ after_weight m s t
+  same_rule t r table is kept = rule_there t r table (rule_in (style_in m s) s.symbols t) refl is kept

@@ -1,0 +1,63 @@
+use Rattle.std.proofs.Common.{◌≡◌, ◌∙◌, List, length, is_some, ap, sym, subst}
+use Rattle.ladr_reader.specs.declared.styles.Mode.{Mode}
+use Rattle.fol_core.specs.Stated.{AreSound, all_said}
+use Rattle.fol_core.specs.SymbolTable.{Symbol}
+use Rattle.fol_core.specs.declared.problem.Input.{Input}
+use Rattle.ladr_items.specs.Items.{items_of}
+use Rattle.ladr_lex.specs.Cuts.{pieces_of}
+use Rattle.ladr_lex.specs.declared.token.Token.{Token}
+use Rattle.ladr_problem.specs.Draft.{sofar_of}
+use Rattle.ladr_options.specs.Ranges.{AreInRange}
+use Rattle.ladr_problem.specs.File as file
+use Rattle.ladr_problem.specs.File.{Outcome, File, Says, problem}
+use Rattle.ladr_problem.specs.Sofar.{Sofar, nothing_read}
+use Rattle.ladr_problem.specs.Stops.{IsStop}
+use Rattle.ladr_problem.specs.Whole.{IsFinished}
+use Rattle.ladr_problem.proofs.Files.{stop_along}
+use Rattle.ladr_problem.proofs.Good.{IsGood, problem_good, problem_before, has_interpretation, said_same}
+use Rattle.ladr_problem.proofs.Readings.{says_of, placed_error}
+use Rattle.ladr_problem.proofs.read.read_problem.Goals as goal
+
+finished : (c : goal.After-drop-tokens-in-Ok-take_file)
+    → IsFinished c.args.program (length c.args.bytes.now) nothing_read (items_of (pieces_of c.in-Ok.tokens.items)) (problem (sofar_of c.take_file.new.draft))
+finished c =
+    subst (λ (s : Sofar). IsFinished c.args.program (length c.args.bytes.now) s (items_of (pieces_of c.in-Ok.tokens.items)) (problem (sofar_of c.take_file.new.draft))) c.in-Ok-new.ensures
+    (subst (λ (ts : List Token). IsFinished c.args.program (length c.args.bytes.now) (sofar_of c.in-Ok-new.draft) (items_of (pieces_of ts)) (problem (sofar_of c.take_file.new.draft))) c.deref.ensures.value c.in-Ok-take_file.ensures.ok)
+
+pub returns-in-Ok-take_file-clause-read : goal.returns-in-Ok-take_file-clause-read
+returns-in-Ok-take_file-clause-read c =
+    (sofar_of c.take_file.new.draft, says_of c.args.program c.args.bytes.now (pieces_of c.in-Ok.tokens.items) c.in-Ok.ensures.within c.in-Ok.ensures.cut _ (finished c), c.finish.ensures.of)
+
+good : (c : goal.After-drop-tokens-in-Ok-take_file) → IsGood (sofar_of c.take_file.new.draft)
+good c =
+    let f = finished c in
+    problem_good c.args.program (length c.args.bytes.now) (sofar_of c.take_file.new.draft) (items_of (pieces_of c.in-Ok.tokens.items))
+    (subst (File c.args.program (length c.args.bytes.now) nothing_read (items_of (pieces_of c.in-Ok.tokens.items))) (problem_before c.args.program (length c.args.bytes.now) f.0 (sofar_of c.take_file.new.draft) f.2) f.1)
+
+pub returns-in-Ok-take_file-clause-ranged : goal.returns-in-Ok-take_file-clause-ranged
+returns-in-Ok-take_file-clause-ranged c = subst AreInRange (sym c.finish.ensures.of.options) (good c).ranged
+
+pub returns-in-Ok-take_file-clause-interpreted : goal.returns-in-Ok-take_file-clause-interpreted
+returns-in-Ok-take_file-clause-interpreted c = λ tests.
+    let f = finished c in
+    let there = has_interpretation (length c.args.bytes.now) f.0 (sofar_of c.take_file.new.draft) (subst (λ (m : Mode). file.finished m (length c.args.bytes.now) f.0 ≡ problem (sofar_of c.take_file.new.draft)) tests f.2) in
+    ap is_some c.finish.ensures.of.interpretation ∙ there
+
+pub returns-in-Ok-take_file-clause-sound : goal.returns-in-Ok-take_file-clause-sound
+returns-in-Ok-take_file-clause-sound c =
+    let draft = c.take_file.new.draft in
+    let sound = subst (AreSound (length draft.symbols)) (said_same draft.inputs.items) (good c).sound in
+    subst (λ (is : List Input). AreSound (length c.finish.result.problem.symbols) (all_said is)) (sym c.finish.ensures.inputs)
+    (subst (λ (t : List Symbol). AreSound (length t) (all_said draft.inputs.items)) (sym c.finish.ensures.of.symbols) sound)
+
+pub returns-in-Err-clause-refused : goal.returns-in-Err-clause-refused
+returns-in-Err-clause-refused c = c.in-Err.ensures.refused c.args.program
+
+pub returns-clause-refused : goal.returns-clause-refused
+returns-clause-refused c =
+    let stop = subst (λ (s : Sofar). IsStop (IsFinished c.args.program (length c.args.bytes.now) s (items_of (pieces_of c.in-Ok.tokens.items))) c.in-Err-take_file.stop) c.in-Ok-new.ensures
+    (subst (λ (ts : List Token). IsStop (IsFinished c.args.program (length c.args.bytes.now) (sofar_of c.in-Ok-new.draft) (items_of (pieces_of ts))) c.in-Err-take_file.stop) c.deref.ensures.value c.in-Err-take_file.ensures.stop) in
+    placed_error c.args.program c.args.bytes.now c.in-Err-take_file.stop c.placed.result
+    (stop_along (IsFinished c.args.program (length c.args.bytes.now) nothing_read (items_of (pieces_of c.in-Ok.tokens.items))) (Says c.args.program c.args.bytes.now)
+    (λ o h. says_of c.args.program c.args.bytes.now (pieces_of c.in-Ok.tokens.items) c.in-Ok.ensures.within c.in-Ok.ensures.cut o h) c.in-Err-take_file.stop stop)
+    c.placed.ensures

@@ -1,0 +1,162 @@
+-- What an item makes of what was read so far.
+use Rattle.std.specs.Prelude.{◌≡◌, ℕ, nat_lt, Bool, true, false, not, ◌&&◌, if◌then◌else◌, List, [], ◌∷◌, ◌++◌, map, length, min, Option, Some, None, is_some, unwrap_or, IsTrue, MatchOption}
+use Rattle.std.specs.Option.{option_map_or}
+use Rattle.std.specs.declared.result.Result.{Result}
+use Rattle.std.specs.declared.result.Result.TheVariants.{Ok, Err}
+use Rattle.fol_core.specs.Fol.{Fol}
+use Rattle.fol_core.specs.RawTree.{RawTree}
+use Rattle.fol_core.specs.declared.problem.Role.TheVariants.{Assumption, Usable, Demodulator, Goal}
+use Rattle.ladr_commands.specs.Commands.{commands_of}
+use Rattle.ladr_commands.specs.Faults.{IsCommandFault}
+use Rattle.ladr_commands.specs.Form.{Says}
+use Rattle.ladr_commands.specs.declared.command.Command.{Command}
+use Rattle.ladr_commands.specs.declared.fault.CommandFault.TheVariants as command_fault
+use Rattle.ladr_items.specs.ListItem.{ListItem, closing, term, IsListItem, IsItemFault}
+use Rattle.ladr_lex.specs.Lexeme.{Lexeme}
+use Rattle.ladr_rules.specs.Attributes.{attributed, breaks_row_12, label_of, hint_weight_of}
+use Rattle.fol_core.specs.Weights.{Rule}
+use Rattle.ladr_rules.specs.Rules.{rule_in, kbo_rule, is_in}
+use Rattle.ladr_rules.specs.Shapes.{is_hint, is_demodulator}
+use Rattle.ladr_problem.specs.Sofar.{Sofar, Listed}
+use Rattle.ladr_problem.specs.declared.refusal.Refusal.{Refusal}
+use Rattle.ladr_problem.specs.declared.refusal.Refusal.TheVariants.{Bad, Nesting, Symbols, Arity, Row, Memory}
+use Rattle.ladr_reader.specs.Formulas.{Made, formula_reading, style_of, names_of}
+use Rattle.ladr_reader.specs.Nesting.{nesting}
+use Rattle.ladr_reader.specs.Table.{table_of}
+use Rattle.ladr_reader.specs.declared.fault.TermFault.TheVariants as term_fault
+use Rattle.ladr_reader.specs.declared.styles.Mode.{Mode}
+use Rattle.ladr_reader.specs.declared.styles.Mode.TheVariants.{Prover, Mace, Tester}
+use Rattle.ladr_reader.specs.declared.styles.Style.{Style}
+use Rattle.ladr_settings.specs.Settings.{after, is_meant}
+use Rattle.ladr_settings.specs.declared.lists.FormulaList.{FormulaList}
+use Rattle.ladr_settings.specs.declared.lists.FormulaList.TheVariants.{Assumptions, Demodulators, Goals, Hints}
+use Rattle.ladr_settings.specs.declared.lists.FormulaList.TheVariants as lists
+use Rattle.ladr_settings.specs.declared.lists.OpenList.{OpenList}
+use Rattle.ladr_settings.specs.declared.lists.OpenList.TheVariants.{Formulas, Weights, KboWeights, OtherFormulas, OtherRules}
+use Rattle.ladr_settings.specs.declared.settings.Settings.{Settings}
+
+-- what an item is: a command outside lists, a term or the end of the list inside
+pub data Item : Type 0 where
+  command : Command → Item
+  within : ListItem → Item
+
+abbrev pub is_tester : Mode → Bool
+is_tester Prover = false
+is_tester Mace = false
+is_tester Tester = true
+
+-- the item can be read as this, where it stands
+abbrev pub IsRead : Mode → Sofar → List Lexeme → Item → Type 0
+IsRead m s ts (command c) = (s.settings.list ≡ None) × Says (commands_of (is_tester m)) ts c
+IsRead m s ts (within i) = IsTrue (is_some s.settings.list) × IsListItem (table_of s.settings.operators) ts i
+
+-- the item can't be read, and token k of it is the first bad one
+abbrev pub IsUnreadable : Mode → Sofar → List Lexeme → ℕ → Type 0
+IsUnreadable m s ts k =
+    MatchOption s.settings.list (IsCommandFault (commands_of (is_tester m)) ts (command_fault.Bad k)) (λ _. IsItemFault (table_of s.settings.operators) ts (term_fault.Bad k))
+
+abbrev pub style_in : Mode → Sofar → Style
+style_in m s = style_of m s.settings.options.prolog_style_variables
+
+-- a formula without its attributes, as it is read behind what was read so far
+abbrev pub formula_made : Mode → Sofar → RawTree → Made Fol
+formula_made m s t = formula_reading (style_in m s) s.symbols (attributed t).formula
+
+abbrev pub is_hints : FormulaList → Bool
+is_hints Assumptions = false
+is_hints lists.Usable = false
+is_hints Demodulators = false
+is_hints Goals = false
+is_hints Hints = true
+
+abbrev pub is_demodulators : FormulaList → Bool
+is_demodulators Assumptions = false
+is_demodulators lists.Usable = false
+is_demodulators Demodulators = true
+is_demodulators Goals = false
+is_demodulators Hints = false
+
+-- the least row, where one more is met
+abbrev pub met : Bool → ℕ → Option ℕ → Option ℕ
+met test row least = if test then Some (min row (unwrap_or least row)) else least
+
+-- The rows of a formula's attributes and shape are met besides those of the formula: 12, 14 and 13.
+abbrev pub least_row : FormulaList → Bool → Fol → Option ℕ → Option ℕ
+least_row list misused f least = met (is_hints list && not (is_hint f)) 13 (met (is_demodulators list && not (is_demodulator f)) 14 (met misused 12 least))
+
+-- the formula is added to those of its list
+abbrev pub with_listed : FormulaList → Listed → Option ℕ → Sofar → Sofar
+with_listed Assumptions l w s = record s { formulas = s.formulas ++ (Assumption, l) ∷ [] }
+with_listed lists.Usable l w s = record s { formulas = s.formulas ++ (Usable, l) ∷ [] }
+with_listed Demodulators l w s = record s { formulas = s.formulas ++ (Demodulator, l) ∷ [] }
+with_listed Goals l w s = record s { formulas = s.formulas ++ (Goal, l) ∷ [] }
+with_listed Hints l w s = record s { hints = s.hints ++ (l, w) ∷ [] }
+
+-- with its symbols
+abbrev pub with_formula : FormulaList → ℕ → RawTree → Made Fol → Sofar → Sofar
+with_formula list byte t made s =
+    let l : Listed = record { formula = made.tree; names = names_of made.reading.variables; label = label_of (attributed t).attributes; byte = byte } in
+    with_listed list l (hint_weight_of (attributed t).attributes) (record s { symbols = made.reading.symbols })
+
+-- the formula breaks a row, or is added
+abbrev pub after_list : FormulaList → ℕ → Sofar → RawTree → Made Fol → Result Sofar Refusal
+after_list list byte s t made = option_map_or (λ k. Err (Row k)) (least_row list (breaks_row_12 (attributed t).attributes) made.tree made.reading.least) (Ok (with_formula list byte t made s))
+
+-- Too many symbols, then too large an arity; rows are looked for in items that are meant alone, and these alone add anything.
+abbrev pub after_formula : Mode → Option FormulaList → ℕ → Sofar → RawTree → Result Sofar Refusal
+after_formula m list byte s t =
+    let made = formula_made m s t in
+    if nat_lt 65535 (length made.reading.symbols) then Err Symbols
+    else (if made.reading.large then Err Arity
+    else (if not (is_meant m s.settings) then Ok s
+    else option_map_or (λ l. after_list l byte s t made) list (Ok s)))
+
+abbrev pub with_settings : Sofar → Result Settings ℕ → Result Sofar Refusal
+with_settings s (Ok settings) = Ok (record s { settings = settings })
+with_settings s (Err k) = Err (Row k)
+
+-- another shape is row 15
+abbrev pub unshaped : Mode → Sofar → Result Sofar Refusal
+unshaped m s = if is_meant m s.settings then Err (Row 15) else Ok s
+
+-- a rule of weights, of the right shape: its symbols count, as those of formulas do
+abbrev pub after_rule : Mode → Sofar → Made Rule → Result Sofar Refusal
+after_rule m s made =
+    if nat_lt 65535 (length made.reading.symbols) then Err Symbols
+    else (if made.reading.large then Err Arity
+    else (if not (is_meant m s.settings) then Ok s
+    else option_map_or (λ k. Err (Row k)) made.reading.least (Ok (record s { symbols = made.reading.symbols; weights = s.weights ++ made.tree ∷ [] }))))
+
+abbrev pub after_weight : Mode → Sofar → RawTree → Result Sofar Refusal
+after_weight m s t = option_map_or (after_rule m s) (rule_in (style_in m s) s.symbols t) (unshaped m s)
+
+abbrev pub added_kbo : Sofar → List ℕ × ℕ → Result Sofar Refusal
+added_kbo s r = if is_in r.0 (map (λ k. k.0) s.kbo_weights) then Err (Row 15) else Ok (record s { kbo_weights = s.kbo_weights ++ r ∷ [] })
+
+-- a KBO weight enters no symbol, and each name has one
+abbrev pub after_kbo : Mode → Sofar → RawTree → Result Sofar Refusal
+after_kbo m s t = if is_meant m s.settings then option_map_or (added_kbo s) (kbo_rule t) (Err (Row 15)) else Ok s
+
+-- a term in the list that is open
+abbrev pub after_term : Mode → OpenList → ℕ → Sofar → RawTree → Result Sofar Refusal
+after_term m Weights byte s t = after_weight m s t
+after_term m KboWeights byte s t = after_kbo m s t
+after_term m OtherRules byte s t = Ok s
+after_term m OtherFormulas byte s t = after_formula m None byte s t
+after_term m (Formulas list) byte s t = after_formula m (Some list) byte s t
+
+-- an item whose first byte stands here
+abbrev pub after_item : Mode → ℕ → Sofar → List Lexeme → Item → Result Sofar Refusal
+after_item m byte s ts (command c) = with_settings s (after m c s.settings)
+after_item m byte s ts (within closing) = Ok (record s { settings = record s.settings { list = None } })
+after_item m byte s ts (within (term t)) =
+    if nat_lt 500 (nesting ts t) then Err Nesting else option_map_or (λ l. after_term m l byte s t) s.settings.list (Ok s)
+
+-- The item is refused so: it can't be read, or is read and passes a limit or breaks a row. Nothing is said of memory.
+abbrev pub IsRefused : Mode → ℕ → Sofar → List Lexeme → Refusal → Type 0
+IsRefused m byte s ts (Bad k) = IsUnreadable m s ts k
+IsRefused m byte s ts Nesting = (i : Item) × IsRead m s ts i × (after_item m byte s ts i ≡ Err Nesting)
+IsRefused m byte s ts Symbols = (i : Item) × IsRead m s ts i × (after_item m byte s ts i ≡ Err Symbols)
+IsRefused m byte s ts Arity = (i : Item) × IsRead m s ts i × (after_item m byte s ts i ≡ Err Arity)
+IsRefused m byte s ts (Row k) = (i : Item) × IsRead m s ts i × (after_item m byte s ts i ≡ Err (Row k))
+IsRefused m byte s ts Memory = Unit {0}

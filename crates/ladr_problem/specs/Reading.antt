@@ -1,0 +1,52 @@
+-- The formula of an item as the code has read it.
+use Rattle.std.specs.Prelude.{◌≡◌, ℕ, nat_lt, not, if◌then◌else◌, List, [], ◌∷◌, ◌++◌, length, take, Option}
+use Rattle.std.specs.Option.{option_map_or}
+use Rattle.std.specs.declared.result.Result.{Result}
+use Rattle.std.specs.declared.result.Result.TheVariants.{Ok, Err}
+use Rattle.fol_core.specs.FormulaView.{fol_of}
+use Rattle.fol_core.specs.RuleView.{rule_of}
+use Rattle.ladr_lex.specs.Lexeme.{Lexeme}
+use Rattle.ladr_problem.specs.Adding.{Item, IsRead, after_item, least_row, with_listed}
+use Rattle.ladr_problem.specs.Sofar.{Sofar, listed_of}
+use Rattle.ladr_problem.specs.declared.refusal.Refusal.{Refusal}
+use Rattle.ladr_problem.specs.declared.refusal.Refusal.TheVariants.{Bad, Nesting, Symbols, Arity, Row, Memory}
+use Rattle.ladr_reader.specs.declared.formulas.FormulaRead.{FormulaRead}
+use Rattle.ladr_reader.specs.declared.styles.Mode.{Mode}
+use Rattle.ladr_rules.specs.declared.attributes.Stated.{Stated}
+use Rattle.ladr_rules.specs.declared.rules.RuleRead.{RuleRead}
+use Rattle.ladr_settings.specs.Settings.{is_meant}
+use Rattle.ladr_settings.specs.declared.lists.FormulaList.{FormulaList}
+
+-- a term of a list is refused for this; nothing is said of memory
+abbrev pub IsNo : Result Sofar Refusal → Refusal → Type 0
+IsNo r (Bad k) = ⊥
+IsNo r Nesting = ⊥
+IsNo r Symbols = r ≡ Err Symbols
+IsNo r Arity = r ≡ Err Arity
+IsNo r (Row k) = r ≡ Err (Row k)
+IsNo r Memory = Unit {0}
+
+-- what was read with the formula's symbols, and then the formula
+abbrev pub with_read : FormulaList → ℕ → Sofar → Stated → FormulaRead → Result Sofar Refusal
+with_read list byte s a r =
+    option_map_or (λ k. Err (Row k)) (least_row list a.misused (fol_of r.formula.shape) r.least) (Ok (with_listed list (listed_of r.formula a.label byte) a.hint_weight s))
+
+-- the table has the formula's symbols behind so many
+abbrev pub after_read : Mode → Option FormulaList → ℕ → ℕ → Sofar → Stated → FormulaRead → Result Sofar Refusal
+after_read m list byte before s a r =
+    if nat_lt 65535 (length s.symbols) then Err Symbols
+    else (if r.large then Err Arity
+    else (if not (is_meant m s.settings) then Ok (record s { symbols = take before s.symbols })
+    else option_map_or (λ l. with_read l byte s a r) list (Ok (record s { symbols = take before s.symbols }))))
+
+-- an item is read, and makes this of what was read so far
+abbrev pub IsTaken : Mode → ℕ → Sofar → List Lexeme → Sofar → Type 0
+IsTaken m byte s ts t = (i : Item) × IsRead m s ts i × (after_item m byte s ts i ≡ Ok t)
+
+-- what was read with the symbols of a rule of weights, and then the rule; the table has its symbols behind so many
+abbrev pub after_rule_read : Mode → ℕ → Sofar → RuleRead → Result Sofar Refusal
+after_rule_read m before s r =
+    if nat_lt 65535 (length s.symbols) then Err Symbols
+    else (if r.large then Err Arity
+    else (if not (is_meant m s.settings) then Ok (record s { symbols = take before s.symbols })
+    else option_map_or (λ k. Err (Row k)) r.least (Ok (record s { weights = s.weights ++ rule_of r.rule ∷ [] }))))

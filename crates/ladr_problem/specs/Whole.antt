@@ -1,0 +1,25 @@
+-- The parts of what was read that are handed on.
+use Rattle.std.specs.Prelude.{◌≡◌, ℕ, List, map}
+use Rattle.fol_core.specs.RuleView.{rule_of}
+use Rattle.ladr_lex.specs.Cuts.{Piece}
+use Rattle.ladr_problem.specs.File.{Outcome, File, finished}
+use Rattle.ladr_problem.specs.Sofar.{Sofar, input_of, hint_of}
+use Rattle.ladr_problem.specs.declared.read.FileRead.{FileRead}
+use Rattle.ladr_reader.specs.declared.styles.Mode.{Mode}
+use Rattle.ladr_rules.specs.RuleSeen.{kbo_of}
+
+-- the code has what a file says
+pub record IsOf (s : Sofar) (r : FileRead) : Type 0 where
+  pub symbols : r.problem.symbols ≡ s.symbols
+  pub formulas : map input_of r.problem.inputs.items ≡ s.formulas
+  pub hints : map hint_of r.problem.hints.items ≡ s.hints
+  pub weights : map rule_of r.problem.weights.items ≡ s.weights
+  pub kbo_weights : map kbo_of r.problem.kbo_weights.items ≡ s.kbo_weights
+  pub function_order : r.problem.function_order ≡ s.settings.function_order
+  pub options : r.problem.options ≡ s.settings.options
+  pub operators : r.operators ≡ s.settings.operators
+  pub interpretation : r.interpretation ≡ s.settings.interpretation
+
+-- the items say this to the program, row 18 included
+abbrev pub IsFinished : Mode → ℕ → Sofar → List (List Piece) → Outcome → Type 0
+IsFinished m end s items o = (p : Outcome) × File m end s items p × (finished m end p ≡ o)

@@ -1,0 +1,130 @@
+// Formulas of lists.
+ghost use Rattle.std.specs.Prelude.{◌≡◌, ◌&&◌, not, OnOk, IfErr, IfOk, Option, None, Some, List, nat_lt, length};
+ghost use Rattle.fol_core.specs.FormulaView.{fol_of};
+ghost use Rattle.fol_core.specs.RawView.{raw_of};
+ghost use Rattle.ladr_problem.specs.Adding.{after_formula, is_hints, is_demodulators, met, least_row};
+ghost use Rattle.ladr_problem.specs.Draft.{sofar_of};
+ghost use Rattle.ladr_problem.specs.Reading.{after_read, with_read, IsNo};
+
+use crate::draft::Draft;
+use crate::refusal::Refusal;
+use fol_core::Raw;
+use ladr_reader::{FormulaRead, Mode, read_formula};
+use ladr_rules::{Stated, is_demodulator, is_hint};
+use ladr_settings::FormulaList;
+use std::alloc::Global;
+
+/// The most symbols of a file.
+pub const MOST_SYMBOLS: usize = 65_535;
+
+fn is_hints(list: FormulaList) -> bool
+    ensures { result ≡ is_hints list }
+{
+    match list {
+        FormulaList::Hints => true,
+        FormulaList::Assumptions
+        | FormulaList::Usable
+        | FormulaList::Demodulators
+        | FormulaList::Goals => false,
+    }
+}
+
+fn is_demodulators(list: FormulaList) -> bool
+    ensures { result ≡ is_demodulators list }
+{
+    match list {
+        FormulaList::Demodulators => true,
+        FormulaList::Assumptions | FormulaList::Usable | FormulaList::Hints | FormulaList::Goals =>
+            false,
+    }
+}
+
+// The least row, where one more is met.
+fn meet(test: bool, row: u8, least: Option<u8>) -> Option<u8>
+    ensures { result ≡ met test row least }
+{
+    if test {
+        Some(row.min(least.unwrap_or(row)))
+    } else {
+        least
+    }
+}
+
+// The least row that a formula breaks in its list.
+fn least_row(list: FormulaList, misused: bool, read: &FormulaRead) -> Option<u8>
+    ensures { result ≡ least_row list misused (fol_of read.now.formula.shape) read.now.least }
+{
+    let least = meet(misused, 12, read.least);
+    let is_lost = is_demodulators(list) && !is_demodulator(&read.formula);
+    let least = meet(is_lost, 14, least);
+    meet(is_hints(list) && !is_hint(&read.formula), 13, least)
+}
+
+impl Draft {
+    /// Takes a formula of a list; where its list has no known name it is read alone.
+    pub fn take_formula(
+        &mut self,
+        alloc: Global,
+        program: Mode,
+        list: Option<FormulaList>,
+        byte: u64,
+        raw: Raw,
+    ) -> Result<(), Refusal>
+        ensures ok { OnOk result (after_formula program list byte (sofar_of self.old) (raw_of raw) ≡ Ok (sofar_of self.new)) }
+        ensures refused { IfErr result (IsNo (after_formula program list byte (sofar_of self.old) (raw_of raw))) }
+    {
+        let stated = Stated::of(raw);
+        let before = self.symbols.len();
+        let prolog = self.settings.options.prolog_style_variables;
+        let read = read_formula(alloc, &stated.formula, &mut self.symbols, program, prolog)?;
+        self.settle(program, list, byte, before, stated, read)
+    }
+
+    // Takes a formula that was read behind so many symbols.
+    fn settle(
+        &mut self,
+        program: Mode,
+        list: Option<FormulaList>,
+        byte: u64,
+        before: usize,
+        stated: Stated,
+        read: FormulaRead,
+    ) -> Result<(), Refusal>
+        ensures ok { OnOk result (after_read program list byte before (sofar_of self.old) stated read ≡ Ok (sofar_of self.new)) }
+        ensures refused { IfErr result (IsNo (after_read program list byte before (sofar_of self.old) stated read)) }
+    {
+        if self.symbols.len() > MOST_SYMBOLS {
+            return Err(Refusal::Symbols);
+        }
+        if read.large {
+            return Err(Refusal::Arity);
+        }
+        match list {
+            Some(list) if self.settings.is_meant(program) => self.judge(list, byte, stated, read),
+            _ => {
+                self.symbols.truncate(before);
+                Ok(())
+            }
+        }
+    }
+
+    // Adds a formula, unless it breaks a row.
+    fn judge(
+        &mut self,
+        list: FormulaList,
+        byte: u64,
+        stated: Stated,
+        read: FormulaRead,
+    ) -> Result<(), Refusal>
+        ensures ok { OnOk result (with_read list byte (sofar_of self.old) stated read ≡ Ok (sofar_of self.new)) }
+        ensures refused { IfErr result (IsNo (with_read list byte (sofar_of self.old) stated read)) }
+    {
+        match least_row(list, stated.misused, &read) {
+            Some(row) => Err(Refusal::Row(row)),
+            None => {
+                self.add(list, read.formula, stated.label, stated.hint_weight, byte)?;
+                Ok(())
+            }
+        }
+    }
+}

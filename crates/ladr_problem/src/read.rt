@@ -1,0 +1,254 @@
+// The problem of a file.
+ghost use Rattle.std.specs.Prelude.{◌≡◌, ◌≤◌, OnOk, IfOk, IfErr, IsTrue, is_some, length, map, take};
+ghost use Rattle.fol_core.specs.Stated.{stated_of, IsSound};
+ghost use Rattle.ladr_items.specs.Items.{items_of};
+ghost use Rattle.ladr_lex.specs.Cuts.{Cuts, piece_of, pieces_of};
+ghost use Rattle.ladr_lex.specs.Places.{line_of, column_of};
+ghost use Rattle.ladr_problem.specs.Draft.{sofar_of};
+ghost use Rattle.ladr_problem.specs.File.{Says, problem, first_lacking, tested, most_bytes};
+ghost use Rattle.ladr_options.specs.Ranges.{AreInRange};
+ghost use Rattle.ladr_reader.specs.declared.styles.Mode.{Mode};
+ghost use Rattle.ladr_reader.specs.declared.styles.Mode.TheVariants.{Tester};
+ghost use Rattle.ladr_problem.specs.Places.{shown_byte, shown_len, shown, shown_at, IsPlaced, IsReadError};
+ghost use Rattle.ladr_problem.specs.Sofar.{Sofar, input_of, nothing_read};
+ghost use Rattle.ladr_problem.specs.Stops.{IsStop};
+ghost use Rattle.ladr_problem.specs.Whole.{IsOf, IsFinished};
+
+use crate::draft::Draft;
+use crate::file::take_all;
+use crate::refusal::{Limit, Place, ReadError};
+use crate::stop::Stop;
+use fol_core::{Input, Name, Problem};
+use ladr_covers::covers;
+use ladr_lex::{Lex, Ops, Token, TokenKind, place_of, tokens};
+use ladr_named::{Named, bind};
+use ladr_reader::Mode;
+use ladr_settings::Settings;
+use model_tables::Tables;
+use std::alloc::{AllocError, Global};
+
+/// The most bytes that an input may have.
+pub const MOST_BYTES: u64 = 16_777_216;
+
+/// What a file says: its problem, the operators as they are at its end, and the interpretation, if there is one.
+#[derive(Drop)]
+pub struct FileRead {
+    pub problem: Problem,
+    pub operators: Ops,
+    pub interpretation: Option<Named>,
+}
+
+// Where the first formula begins that isn't covered.
+fn first_lacking(tables: &Tables, inputs: &[Input]) -> Option<u64>
+    ensures { result ≡ first_lacking tables.now (map input_of inputs.now) }
+{
+    for input in inputs {
+        if !covers(tables, &input.formula) {
+            return Some(input.byte);
+        }
+    }
+    None
+}
+
+// Looks for a formula that the interpretation doesn't cover.
+fn test(alloc: Global, end: usize, draft: &Draft) -> Result<(), Stop>
+    ensures ok { OnOk result (tested end (problem (sofar_of draft.now)) ≡ problem (sofar_of draft.now)) }
+    ensures stop { IfErr result (IsStop (λ o. tested end (problem (sofar_of draft.now)) ≡ o)) }
+{
+    let Some(named) = &draft.settings.interpretation else {
+        return Err(Stop::Misuse(end as u64, 18));
+    };
+    let tables = match bind(alloc, named, &draft.symbols) {
+        Ok(tables) => tables,
+        Err(_) => return Err(Stop::Memory),
+    };
+    match first_lacking(&tables, &draft.inputs) {
+        Some(byte) => Err(Stop::Misuse(byte, 18)),
+        None => Ok(()),
+    }
+}
+
+// Takes a whole file.
+fn take_file(
+    alloc: Global,
+    program: Mode,
+    end: usize,
+    tokens: &[Token],
+    draft: &mut Draft,
+) -> Result<(), Stop>
+    ensures ok { OnOk result (IsFinished program end (sofar_of draft.old) (items_of (pieces_of tokens.now)) (problem (sofar_of draft.new))) }
+    ensures stop { IfErr result (IsStop (IsFinished program end (sofar_of draft.old) (items_of (pieces_of tokens.now)))) }
+{
+    match take_all(alloc, program, end, tokens, draft) {
+        Ok(()) => {}
+        Err(stop) => return Err(stop),
+    }
+    match program {
+        Mode::Prover | Mode::Mace => Ok(()),
+        Mode::Tester => test(alloc, end, draft),
+    }
+}
+
+// A byte as it is shown.
+fn shown_byte(byte: u8) -> u8
+    ensures { result ≡ shown_byte byte }
+{
+    if (33..=126).contains(&byte) {
+        byte
+    } else {
+        b'?'
+    }
+}
+
+fn shown_len(kind: TokenKind) -> usize
+    ensures { result ≡ shown_len kind }
+{
+    match kind {
+        TokenKind::Unreadable => 1,
+        _ => 20,
+    }
+}
+
+// At most so many bytes of a text.
+fn front<'a>(text: &'a [u8], most: usize) -> &'a [u8]
+    ensures { result.now ≡ take most text.now }
+{
+    if most < text.len() {
+        &text[..most]
+    } else {
+        text
+    }
+}
+
+// What is shown of a token.
+fn shown(alloc: Global, token: &Token) -> Result<Name, AllocError>
+    ensures { IfOk result (λ name. name ≡ shown (piece_of token.now)) }
+{
+    let mut bytes = Vec::new(alloc);
+    for byte in front(token.text, shown_len(token.kind)) {
+        bytes.push(shown_byte(*byte))?;
+    }
+    Ok(Name::new(bytes))
+}
+
+// What is shown of the token that begins at a byte.
+fn shown_at(alloc: Global, tokens: &[Token], byte: u64) -> Result<Name, AllocError>
+    ensures { IfOk result (λ name. name ≡ shown_at (pieces_of tokens.now) byte) }
+{
+    for token in tokens {
+        if token.start as u64 == byte {
+            return shown(alloc, token);
+        }
+    }
+    Name::from_slice(alloc, b"end of input")
+}
+
+// A byte with its line and column, and what is shown of its token.
+fn place(alloc: Global, bytes: &[u8], tokens: &[Token], byte: u64) -> Result<Place, AllocError>
+    ensures byte { IfOk result (λ p. p.byte ≡ byte) }
+    ensures line { IfOk result (λ p. p.line ≡ line_of bytes.now byte) }
+    ensures column { IfOk result (λ p. p.column ≡ column_of bytes.now byte) }
+    ensures token { IfOk result (λ p. p.token ≡ shown_at (pieces_of tokens.now) byte) }
+{
+    let token = shown_at(alloc, tokens, byte)?;
+    let spot = place_of(bytes, (byte as usize).min(bytes.len()));
+    Ok(Place {
+        byte,
+        line: spot.line,
+        column: spot.column,
+        token,
+    })
+}
+
+// The refusal of a file with its place.
+fn placed(alloc: Global, bytes: &[u8], tokens: &[Token], stop: Stop) -> ReadError
+    requires { Cuts 0 bytes.now (pieces_of tokens.now) }
+    ensures { IsPlaced bytes.now stop result }
+{
+    match stop {
+        Stop::Unreadable(byte) => match place(alloc, bytes, tokens, byte) {
+            Ok(place) => ReadError::Unreadable(place),
+            Err(_) => ReadError::Memory,
+        },
+        Stop::Misuse(byte, row) => match place(alloc, bytes, tokens, byte) {
+            Ok(place) => ReadError::Misuse(place, row),
+            Err(_) => ReadError::Memory,
+        },
+        Stop::TooLarge(byte, what) => ReadError::TooLarge { byte, what },
+        Stop::Memory => ReadError::Memory,
+    }
+}
+
+// The parts of a draft that are handed on.
+fn finish(draft: Draft) -> FileRead
+    ensures of { IsOf (sofar_of draft) result }
+    ensures inputs { result.problem.inputs.items ≡ draft.inputs.items }
+{
+    let Draft {
+        settings,
+        symbols,
+        inputs,
+        hints,
+        weights,
+        kbo_weights,
+    } = draft;
+    let Settings {
+        operators,
+        options,
+        function_order,
+        interpretation,
+        ..
+    } = settings;
+    FileRead {
+        problem: Problem {
+            symbols,
+            inputs,
+            hints,
+            weights,
+            kbo_weights,
+            function_order,
+            options,
+        },
+        operators,
+        interpretation,
+    }
+}
+
+// The tokens of a file, unless it has too many bytes.
+fn cut<'a>(alloc: Global, bytes: &'a [u8]) -> Result<Vec<Token<'a>>, ReadError>
+    ensures cut { IfOk result (λ tokens. Cuts 0 bytes.now (pieces_of tokens.items)) }
+    ensures within { OnOk result (length bytes.now ≤ most_bytes) }
+    ensures refused { (m : Mode) → IfErr result (IsReadError m bytes.now) }
+{
+    match tokens(alloc, bytes) {
+        Ok(tokens) => Ok(tokens),
+        Err(Lex::Input) => Err(ReadError::TooLarge {
+            byte: MOST_BYTES,
+            what: Limit::Input,
+        }),
+        Err(Lex::Memory) => Err(ReadError::Memory),
+    }
+}
+
+/// What a file says to a program: its problem, or the first refusal.
+pub fn read_problem(alloc: Global, program: Mode, bytes: &[u8]) -> Result<FileRead, ReadError>
+    ensures read { IfOk result (λ r. (s : Sofar) × Says program bytes.now (problem s) × IsOf s r) }
+    ensures sound { IfOk result (λ r. IsSound (stated_of r.problem)) }
+    // Its options have values of theirs, and a program that tests interpretations has one.
+    ensures ranged { IfOk result (λ r. AreInRange r.problem.options) }
+    ensures interpreted { program ≡ Tester → IfOk result (λ r. IsTrue (is_some r.interpretation)) }
+    ensures refused { IfErr result (IsReadError program bytes.now) }
+{
+    let tokens = match cut(alloc, bytes) {
+        Ok(tokens) => tokens,
+        Err(error) => return Err(error),
+    };
+    let mut draft = match Draft::new(alloc) {
+        Ok(draft) => draft,
+        Err(_) => return Err(ReadError::Memory),
+    };
+    match take_file(alloc, program, bytes.len(), &tokens, &mut draft) {
+        Ok(()) => Ok(finish(draft)),
+        Err(stop) => Err(placed(alloc, bytes, &tokens, stop)),
+    }
+}

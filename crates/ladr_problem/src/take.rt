@@ -1,0 +1,110 @@
+// One item.
+ghost use Rattle.std.specs.Prelude.{◌≡◌, OnOk, IfErr, None, Some, Ok};
+ghost use Rattle.fol_core.specs.RawView.{raw_of};
+ghost use Rattle.ladr_lex.specs.Lexeme.{lexemes_of};
+ghost use Rattle.ladr_problem.specs.Adding.{is_tester, after_term, IsRefused};
+ghost use Rattle.ladr_problem.specs.Draft.{sofar_of};
+ghost use Rattle.ladr_problem.specs.Reading.{IsNo, IsTaken};
+
+use crate::draft::Draft;
+use crate::refusal::{Refusal, by_command, by_misuse, by_term};
+use fol_core::Raw;
+use ladr_commands::read_command;
+use ladr_items::{ListItem, read_list_item};
+use ladr_lex::Token;
+use ladr_reader::Mode;
+use ladr_settings::OpenList;
+use std::alloc::Global;
+
+fn is_tester(program: Mode) -> bool
+    ensures { result ≡ is_tester program }
+{
+    match program {
+        Mode::Prover | Mode::Mace => false,
+        Mode::Tester => true,
+    }
+}
+
+impl Draft {
+    /// Takes an item that begins at a byte.
+    pub fn take(
+        &mut self,
+        alloc: Global,
+        program: Mode,
+        byte: u64,
+        tokens: &[Token],
+    ) -> Result<(), Refusal>
+        ensures ok { OnOk result (IsTaken program byte (sofar_of self.old) (lexemes_of tokens.now) (sofar_of self.new)) }
+        ensures refused { IfErr result (IsRefused program byte (sofar_of self.old) (lexemes_of tokens.now)) }
+    {
+        match self.settings.list {
+            None => self.take_command(alloc, program, byte, tokens),
+            Some(list) => self.take_listed(alloc, program, list, byte, tokens),
+        }
+    }
+
+    // Takes an item that stands outside lists.
+    fn take_command(
+        &mut self,
+        alloc: Global,
+        program: Mode,
+        byte: u64,
+        tokens: &[Token],
+    ) -> Result<(), Refusal>
+        requires { self.old.settings.list ≡ None }
+        ensures ok { OnOk result (IsTaken program byte (sofar_of self.old) (lexemes_of tokens.now) (sofar_of self.new)) }
+        ensures refused { IfErr result (IsRefused program byte (sofar_of self.old) (lexemes_of tokens.now)) }
+    {
+        match read_command(alloc, is_tester(program), tokens) {
+            Ok(command) => match self.settings.take(alloc, program, command) {
+                Ok(()) => Ok(()),
+                Err(misuse) => Err(by_misuse(misuse)),
+            },
+            Err(fault) => Err(by_command(fault)),
+        }
+    }
+
+    // Takes an item that stands in a list.
+    fn take_listed(
+        &mut self,
+        alloc: Global,
+        program: Mode,
+        list: OpenList,
+        byte: u64,
+        tokens: &[Token],
+    ) -> Result<(), Refusal>
+        requires { self.old.settings.list ≡ Some list }
+        ensures ok { OnOk result (IsTaken program byte (sofar_of self.old) (lexemes_of tokens.now) (sofar_of self.new)) }
+        ensures refused { IfErr result (IsRefused program byte (sofar_of self.old) (lexemes_of tokens.now)) }
+    {
+        match read_list_item(alloc, &self.settings.operators, tokens) {
+            Ok(ListItem::End) => {
+                self.settings.list = None;
+                Ok(())
+            }
+            Ok(ListItem::Term(raw)) => self.take_term(alloc, program, list, byte, raw),
+            Err(fault) => Err(by_term(fault)),
+        }
+    }
+
+    // Takes a term that stands in a list.
+    fn take_term(
+        &mut self,
+        alloc: Global,
+        program: Mode,
+        list: OpenList,
+        byte: u64,
+        raw: Raw,
+    ) -> Result<(), Refusal>
+        ensures ok { OnOk result (after_term program list byte (sofar_of self.old) (raw_of raw) ≡ Ok (sofar_of self.new)) }
+        ensures refused { IfErr result (IsNo (after_term program list byte (sofar_of self.old) (raw_of raw))) }
+    {
+        match list {
+            OpenList::Formulas(list) => self.take_formula(alloc, program, Some(list), byte, raw),
+            OpenList::OtherFormulas => self.take_formula(alloc, program, None, byte, raw),
+            OpenList::Weights => self.take_weight(alloc, program, &raw),
+            OpenList::KboWeights => self.take_kbo_weight(alloc, program, &raw),
+            OpenList::OtherRules => Ok(()),
+        }
+    }
+}
