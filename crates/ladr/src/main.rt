@@ -18,18 +18,15 @@ use std::process::ExitCode;
 use stopwatch::Stopwatch;
 use words::words;
 
-// Where memory is lacking for the words.
-const NO_MEMORY: Exit = Exit {
-    status: 12,
-    cause: Cause::Memory,
-};
-
 // Runs on what the process has.
 fn exit(rt: HostRuntime) -> Exit
     ensures { result.status ≡ status_of result.cause }
 {
     let Ok(words) = words(&rt) else {
-        return NO_MEMORY;
+        return Exit {
+            status: 12,
+            cause: Cause::Memory,
+        };
     };
     let mut source = Input::new(rt.stdin());
     let mut sink = Output::new(rt.stdout());

@@ -1,8 +1,9 @@
 pub mod Begun
+pub mod Commands
 pub mod Ended
 pub mod Found
 pub mod OneEnd
 pub mod Printed
-pub mod Sought
+pub mod Readings
 pub mod Stories
 pub mod Told

@@ -3,19 +3,22 @@ use Rattle.std.proofs.Common.{◌≡◌, ℕ, suc, ◌+◌, ◌*◌, ◌<◌, Li
 use Rattle.std.specs.Global.{Vec}
 use Rattle.std.specs.declared.alloc.AllocError.{AllocError}
 use Rattle.fol_core.specs.Stated.{Stated}
+use Rattle.fol_core.specs.Witnesses.{Witness}
 use Rattle.ladr_io.proofs.StreamLaws.{Takes-append, TakesFront-append}
 use Rattle.ladr_io.specs.Streams.{Takes}
 use Rattle.ladr_top.specs.Outcome.{Told, Printed}
 use Rattle.ladr_top.specs.Pieces.{IsNothingOr}
 use Rattle.ladr_io.specs.Times.{Times}
 use Rattle.ladr_top.specs.Search.{models_text, stop_of, IsInTime}
+use Rattle.ladr_top.specs.Skolems.{all_symbols, all_witnesses, AreExpansions}
 use Rattle.ladr_top.specs.Watching.{IsWatchedBy, IsWatched, HasBegunBy, HasBegun}
 use Rattle.ladr_top.specs.declared.watch.Watch.{Watch}
 use Rattle.ladr_top.specs.declared.cause.Cause.{Cause}
-use Rattle.ladr_top.specs.declared.cause.Cause.TheVariants.{Done, Words, Unreadable, TooLarge, ReadFault, WriteFault, Memory, Exhausted, MaxMegs, MaxSeconds, AllModels, GroundLimit}
+use Rattle.ladr_top.specs.declared.cause.Cause.TheVariants.{Done, Words, Unreadable, TooLarge, Misuse, ReadFault, WriteFault, Memory, Exhausted, MaxMegs, MaxSeconds, AllModels, GroundLimit, ClauseLimit}
 use Rattle.mace_search.specs.Models.{IsNextModel, AreFirst, behind}
 use Rattle.mace_search.specs.Plain.{Search}
 use Rattle.mace_search.specs.Watch.{IsEarly, IsLate, GoesOn}
+use Rattle.model_tables.specs.Expansion.{IsExpansion}
 use Rattle.model_tables.specs.ModelText.{model_text}
 use Rattle.model_tables.specs.Order.{table_number}
 use Rattle.model_tables.specs.Tables.{Finite}
@@ -28,12 +31,14 @@ told_behind goes ends a b c front Done took h = (front ++ h.0, h.1, Takes-append
 told_behind goes ends a b c front Words took h = (front ++ h.0, h.1, Takes-append a b c front h.0 took h.2)
 told_behind goes ends a b c front (Unreadable place) took h = (front ++ h.0, h.1, Takes-append a b c front h.0 took h.2)
 told_behind goes ends a b c front (TooLarge byte what) took h = (front ++ h.0, h.1, Takes-append a b c front h.0 took h.2)
+told_behind goes ends a b c front (Misuse place row) took h = (front ++ h.0, h.1, Takes-append a b c front h.0 took h.2)
 told_behind goes ends a b c front ReadFault took h = (front ++ h.0, h.1, Takes-append a b c front h.0 took h.2)
 told_behind goes ends a b c front Exhausted took h = (front ++ h.0, h.1, Takes-append a b c front h.0 took h.2)
 told_behind goes ends a b c front MaxMegs took h = (front ++ h.0, h.1, Takes-append a b c front h.0 took h.2)
 told_behind goes ends a b c front (MaxSeconds first last) took h = (front ++ h.0, h.1, Takes-append a b c front h.0 took h.2)
 told_behind goes ends a b c front AllModels took h = (front ++ h.0, h.1, Takes-append a b c front h.0 took h.2)
 told_behind goes ends a b c front (GroundLimit size) took h = (front ++ h.0, h.1, Takes-append a b c front h.0 took h.2)
+told_behind goes ends a b c front (ClauseLimit formula) took h = (front ++ h.0, h.1, Takes-append a b c front h.0 took h.2)
 
 -- the same cause
 pub told_as : (goes : List ℕ → Type 0) (ends : Cause → List ℕ → Type 0) (a b : Option (List ℕ)) (c d : Cause) → c ≡ d → Told goes ends a b c → Told goes ends a b d
@@ -48,12 +53,14 @@ told_weaker goes goes' ends ends' a b Done g e h = (h.0, e Done h.0 h.1, h.2)
 told_weaker goes goes' ends ends' a b Words g e h = (h.0, e Words h.0 h.1, h.2)
 told_weaker goes goes' ends ends' a b (Unreadable place) g e h = (h.0, e (Unreadable place) h.0 h.1, h.2)
 told_weaker goes goes' ends ends' a b (TooLarge byte what) g e h = (h.0, e (TooLarge byte what) h.0 h.1, h.2)
+told_weaker goes goes' ends ends' a b (Misuse place row) g e h = (h.0, e (Misuse place row) h.0 h.1, h.2)
 told_weaker goes goes' ends ends' a b ReadFault g e h = (h.0, e ReadFault h.0 h.1, h.2)
 told_weaker goes goes' ends ends' a b Exhausted g e h = (h.0, e Exhausted h.0 h.1, h.2)
 told_weaker goes goes' ends ends' a b MaxMegs g e h = (h.0, e MaxMegs h.0 h.1, h.2)
 told_weaker goes goes' ends ends' a b (MaxSeconds first last) g e h = (h.0, e (MaxSeconds first last) h.0 h.1, h.2)
 told_weaker goes goes' ends ends' a b AllModels g e h = (h.0, e AllModels h.0 h.1, h.2)
 told_weaker goes goes' ends ends' a b (GroundLimit size) g e h = (h.0, e (GroundLimit size) h.0 h.1, h.2)
+told_weaker goes goes' ends ends' a b (ClauseLimit formula) g e h = (h.0, e (ClauseLimit formula) h.0 h.1, h.2)
 
 -- the last lines alone
 pub printed_told : (goes : List ℕ → Type 0) (ends : Cause → List ℕ → Type 0) (a b : Option (List ℕ)) (cause : Cause) → goes [] → Printed ends a b cause → Told goes ends a b cause
@@ -63,12 +70,14 @@ printed_told goes ends a b Done g h = h
 printed_told goes ends a b Words g h = h
 printed_told goes ends a b (Unreadable place) g h = h
 printed_told goes ends a b (TooLarge byte what) g h = h
+printed_told goes ends a b (Misuse place row) g h = h
 printed_told goes ends a b ReadFault g h = h
 printed_told goes ends a b Exhausted g h = h
 printed_told goes ends a b MaxMegs g h = h
 printed_told goes ends a b (MaxSeconds first last) g h = h
 printed_told goes ends a b AllModels g h = h
 printed_told goes ends a b (GroundLimit size) g h = h
+printed_told goes ends a b (ClauseLimit formula) g h = h
 
 nothing_or : (goes : List ℕ → Type 0) (made : Result (Vec ℕ) AllocError) (text t : List ℕ) → IfOk made (λ v. v.items ≡ text) → goes [] → goes text → IsNothingOr made t → goes t
 nothing_or goes made text t i none some (inl e) = subst goes (sym e) none
@@ -101,20 +110,29 @@ pub many_more : (ts : List Finite) (t : Finite) → length (ts ++ t ∷ []) ≡ 
 many_more [] t = refl
 many_more (u ∷ ts) t = omega (arith, many_more ts t)
 
-pub text_more : (p : Stated) (k : ℕ) (ts : List Finite) (t : Finite) → models_text p k (ts ++ t ∷ []) ≡ models_text p k ts ++ model_text p.symbols (suc (k + length ts)) t
+pub text_more : (p : Stated) (k : ℕ) (ts : List Finite) (t : Finite) → models_text p k (ts ++ t ∷ []) ≡ models_text p k ts ++ model_text (all_symbols p) (suc (k + length ts)) t
 text_more p k [] t = let e : suc (k + 0) ≡ suc k = omega arith in rw e (append-nil _)
 text_more p k (u ∷ ts) t =
     let e : suc (k + suc (length ts)) ≡ suc (suc k + length ts) = omega arith in
-    rw e (ap (λ (l : List ℕ). model_text p.symbols (suc k) u ++ l) (text_more p (suc k) ts t) ∙ sym (append_assoc (model_text p.symbols (suc k) u) (models_text p (suc k) ts) _))
+    rw e (ap (λ (l : List ℕ). model_text (all_symbols p) (suc k) u ++ l) (text_more p (suc k) ts t) ∙ sym (append_assoc (model_text (all_symbols p) (suc k) u) (models_text p (suc k) ts) _))
+
+-- one more expansion
+pub expanded_more : (ws : List Witness) (ts us : List Finite) (t u : Finite) → AreExpansions ws ts us → IsExpansion t ws u → AreExpansions ws (ts ++ t ∷ []) (us ++ u ∷ [])
+expanded_more ws [] [] t u h x = (x, tt)
+expanded_more ws [] (v ∷ us) t u h x = absurd h
+expanded_more ws (s ∷ ts) [] t u h x = absurd h
+expanded_more ws (s ∷ ts) (v ∷ us) t u h x = (h.0, expanded_more ws ts us t u h.1 x)
 
 -- what a search for the models of a size found so far, and what was printed of it
-pub record SoFar (p : Stated) (n k : ℕ) (ts : List Finite) (search : Search) (printed : ℕ) (a b : Option (List ℕ)) : Type 0 where
-  pub first : AreFirst p n 0 ts
-  pub count : printed ≡ k + length ts
-  pub took : Takes a b (models_text p k ts)
+pub record SoFar (p : Stated) (n k : ℕ) (us : List Finite) (search : Search) (printed : ℕ) (a b : Option (List ℕ)) : Type 0 where
+  pub found : List Finite
+  pub first : AreFirst p n 0 found
+  pub shown : AreExpansions (all_witnesses p) found us
+  pub count : printed ≡ k + length us
+  pub took : Takes a b (models_text p k us)
   pub problem : search.problem ≡ p
   pub size : search.size ≡ n
-  pub ahead : search.ahead ≡ behind 0 ts
+  pub ahead : search.ahead ≡ behind 0 found
   pub late : search.late ≡ None
 
 watched_by : (seconds first stop : Option ℕ) (t t' : Times) → HasBegunBy seconds first t → stop ≡ stop_of seconds t → IsWatchedBy seconds first t → IsEarly stop t' → GoesOn stop t t' → IsWatchedBy seconds first t' × HasBegunBy seconds first t'
@@ -171,3 +189,20 @@ goes_joined (Some x) t t' t'' h k = k ∙ h
 pub handed_on : {T : Type 0} (r : Result T Cause) (x : Cause) (Q : Cause → Type 0) → IsErrAnd r (λ y. y ≡ x) → Q x → IfErr r Q
 handed_on (Ok v) x Q h q = elim h [ ]
 handed_on (Err y) x Q h q = subst Q (sym h) q
+
+early_by : (seconds first stop : Option ℕ) (t : Times) → HasBegunBy seconds first t → IsWatchedBy seconds first t → stop ≡ stop_of seconds t → IsEarly stop t
+early_by None first None t begun was e = tt
+early_by None first (Some x) t begun was e = absurd cc
+early_by (Some s) None stop t begun was e = absurd begun
+early_by (Some s) (Some f) None t begun was e = absurd cc
+early_by (Some s) (Some f) (Some x) t begun was e =
+    let x_is : x ≡ t.first + 1000 * s = cc in
+    (begun.0, λ more. (omega (arith, x_is, (was.2 more).0), omega (arith, x_is, (was.2 more).1)))
+
+-- early, by the watch
+pub early_at : (w : Watch) (stop : Option ℕ) (t : Times) → HasBegun w t → IsWatched w t → stop ≡ stop_of w.seconds t → IsEarly stop t
+early_at w stop t begun was e = early_by w.seconds w.first stop t begun was e
+
+pub goes_nowhere : (stop : Option ℕ) (t : Times) → GoesOn stop t t
+goes_nowhere None t = refl
+goes_nowhere (Some x) t = refl

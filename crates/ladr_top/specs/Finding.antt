@@ -1,35 +1,55 @@
 -- How a run of `mace4` ends, and what it prints.
-use Rattle.std.specs.Prelude.{◌≡◌, ℕ, List, [], Option, None, ◌⊎◌}
+use Rattle.std.specs.Prelude.{◌≡◌, ℕ, List, [], Option, None, Some, ◌⊎◌}
+use Rattle.clausify.specs.Input.{first_over}
 use Rattle.fol_core.specs.Stated.{Stated}
-use Rattle.ladr_input.specs.Problem.{IsProblem}
 use Rattle.ladr_io.specs.Streams.{Gives}
 use Rattle.ladr_io.specs.Times.{Times}
-use Rattle.ladr_top.specs.Outcome.{Given, IsRead, IsUnread, IsRefused, Told}
-use Rattle.ladr_top.specs.Search.{SearchEnds, SearchGoes}
+use Rattle.ladr_problem.specs.File.{Says, problem}
+use Rattle.ladr_problem.specs.Sofar.{Sofar, stated_in}
+use Rattle.ladr_reader.specs.declared.styles.Mode.TheVariants.{Mace}
+use Rattle.ladr_top.specs.Outcome.{Given, IsRead, IsRefused, Told}
+use Rattle.ladr_top.specs.Output.{clause_limit_line}
+use Rattle.ladr_top.specs.Search.{SearchEnds, SearchGoes, settings_of}
 use Rattle.ladr_top.specs.declared.cause.Cause.{Cause}
-use Rattle.ladr_top.specs.declared.cause.Cause.TheVariants.{Unreadable, TooLarge, ReadFault}
+use Rattle.ladr_top.specs.declared.cause.Cause.TheVariants.{Unreadable, Misuse, TooLarge, ReadFault, ClauseLimit}
 use Rattle.ladr_top.specs.declared.settings.Settings.{Settings}
+use Rattle.ladr_words.specs.declared.task.ModelOptions.{ModelOptions}
 
--- the input states a problem
-abbrev pub IsOfLists : List ℕ → Type 0
-IsOfLists bytes = (p : Stated) × IsProblem bytes p None
+-- The search for models of a problem ends so: the first formula that has too many clauses is named, and nothing is searched;
+-- or the sizes are.
+abbrev pub Sought : Stated → Settings → Times → Cause → List ℕ → Type 0
+Sought p s t (ClauseLimit formula) text = (first_over 1 p.formulas ≡ Some formula) × (text ≡ clause_limit_line formula)
+Sought p s t cause text = (first_over 1 p.formulas ≡ None) × SearchEnds p s t cause text
 
--- What the source gave, and what the clock gave, lead to this cause with this text as the whole output: the search for
--- models of what the input states; else the refusal.
-abbrev pub Finds : Given → Settings → Times → Cause → List ℕ → Type 0
-Finds g s t (Unreadable place) text = IsRefused g (IsOfLists g.bytes) place text
-Finds g s t (TooLarge byte what) text = IsUnread g (TooLarge byte what) text
-Finds g s t ReadFault text = IsUnread g ReadFault text
-Finds g s t cause text = IsRead g × ((p : Stated) × IsProblem g.bytes p None × SearchEnds p s t cause text)
+-- it goes on, with this text so far
+abbrev pub Seeks : Stated → Settings → List ℕ → Type 0
+Seeks p s text = (text ≡ []) ⊎ ((first_over 1 p.formulas ≡ None) × SearchGoes p s text)
+
+-- What the source gave, and what the clock gave, lead to this cause with this text as the whole output: the search for models of
+-- what is read, by the words and its options; else the refusal.
+abbrev pub IsFound : Given → ModelOptions → Times → Cause → List ℕ → Type 0
+IsFound g o t cause text = IsRead g × ((s : Sofar) × Says Mace g.bytes (problem s) × Sought (stated_in s) (settings_of o s.settings.options) t cause text)
+
+abbrev pub Finds : Given → ModelOptions → Times → Cause → List ℕ → Type 0
+Finds g o t (Unreadable place) text = IsRefused Mace g (Unreadable place) text
+Finds g o t (Misuse place row) text = IsRefused Mace g (Misuse place row) text
+Finds g o t (TooLarge byte what) text = IsRefused Mace g (TooLarge byte what) text
+Finds g o t ReadFault text = IsRefused Mace g ReadFault text
+Finds g o t cause text = IsFound g o t cause text
 
 -- What the source gave leads to this text so far.
-abbrev pub GoesOn : Given → Settings → List ℕ → Type 0
-GoesOn g s text = (text ≡ []) ⊎ (IsRead g × ((p : Stated) × IsProblem g.bytes p None × SearchGoes p s text))
+abbrev pub GoesOn : Given → ModelOptions → List ℕ → Type 0
+GoesOn g o text = (text ≡ []) ⊎ (IsRead g × ((s : Sofar) × Says Mace g.bytes (problem s) × Seeks (stated_in s) (settings_of o s.settings.options) text))
 
--- a run of `mace4`: what the source gave, and what came of it
-pub record Searches (s : Settings) (left left' : Option (List ℕ)) (faults faults' : ℕ) (held held' : Option (List ℕ)) (t : Times) (cause : Cause) : Type 0 where
+-- what is read sets no time, if it states a problem
+abbrev pub IsUntimed : List ℕ → ModelOptions → Type 0
+IsUntimed bytes o = (s : Sofar) → Says Mace bytes (problem s) → (settings_of o s.settings.options).seconds ≡ None
+
+-- a run of `mace4` with these words: what the source gave, and what came of it; the clock is asked only where a time is set
+pub record Searches (o : ModelOptions) (left left' : Option (List ℕ)) (faults faults' : ℕ) (held held' : Option (List ℕ)) (t t' : Times) (cause : Cause) : Type 0 where
   pub bytes : List ℕ
   pub gave : Gives left left' bytes
   pub told :
       let g : Given = record { bytes = bytes; left = left'; faults_before = faults; faults_after = faults' } in
-      Told (GoesOn g s) (Finds g s t) held held' cause
+      Told (GoesOn g o) (Finds g o t') held held' cause
+  pub unasked : IsUntimed bytes o → t' ≡ t

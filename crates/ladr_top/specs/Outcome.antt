@@ -1,25 +1,25 @@
 -- How a run of `clausetester` ends, and what it prints.
-use Rattle.std.specs.Prelude.{◌≡◌, ℕ, ◌+◌, ◌≤◌, Bool, true, false, Result, IsOkAnd, List, [], length, Option, Some, codes, ◌⊎◌}
+use Rattle.std.specs.Prelude.{◌≡◌, ℕ, ◌+◌, ◌≤◌, Bool, true, false, Result, IsOkAnd, List, [], length, Option, codes, ◌⊎◌}
 use Rattle.std.specs.Global.{Vec}
 use Rattle.std.specs.declared.alloc.AllocError.{AllocError}
-use Rattle.fol_core.specs.Stated.{Stated}
 use Rattle.ladr_io.specs.Streams.{Gives, Takes, TakesFront, IsDrained, Rose}
-use Rattle.ladr_top.specs.Output.{report, read_fault_line, unreadable_line, too_large_line, no_command_line}
-use Rattle.ladr_input.specs.Grammar.{ByName}
-use Rattle.ladr_input.specs.Problem.{IsProblem, meaning_in}
-use Rattle.ladr_top.specs.Verdicts.{AreTrueAsTold}
+use Rattle.ladr_problem.specs.File.{Says, problem, unreadable, misused, too_large, most_bytes}
+use Rattle.ladr_problem.specs.Places.{IsPlace}
+use Rattle.ladr_problem.specs.Sofar.{Sofar}
+use Rattle.ladr_problem.specs.declared.refusal.Limit.{Limit}
+use Rattle.ladr_problem.specs.declared.refusal.Limit.TheVariants as limits
+use Rattle.ladr_reader.specs.declared.styles.Mode.{Mode}
+use Rattle.ladr_reader.specs.declared.styles.Mode.TheVariants.{Tester}
+use Rattle.ladr_top.specs.Output.{report, read_fault_line, unreadable_line, misuse_line, too_large_line, no_command_line}
+use Rattle.ladr_top.specs.Verdicts.{AreToldOf}
 use Rattle.ladr_top.specs.declared.cause.Cause.{Cause}
-use Rattle.ladr_top.specs.declared.cause.Cause.TheVariants.{Done, Words, Unreadable, TooLarge, ReadFault, WriteFault, Memory, Exhausted, MaxMegs, MaxSeconds, AllModels, GroundLimit}
-use Rattle.ladr_top.specs.declared.cause.Place.{Place}
-use Rattle.ladr_top.specs.declared.cause.Shown.{Shown}
-use Rattle.ladr_top.specs.declared.cause.Shown.TheVariants as shown
-use Rattle.ladr_top.specs.declared.cause.Limit.{Limit}
-use Rattle.ladr_top.specs.declared.cause.Limit.TheVariants as limits
+use Rattle.ladr_top.specs.declared.cause.Cause.TheVariants.{Done, Words, Unreadable, Misuse, TooLarge, ReadFault, WriteFault, Memory, Exhausted, MaxMegs, MaxSeconds, AllModels, GroundLimit, ClauseLimit}
 
 -- the exit status of each cause
 abbrev pub status_of : Cause → ℕ
 status_of Done = 0
 status_of (Unreadable place) = 1
+status_of (Misuse place row) = 1
 status_of (TooLarge byte what) = 1
 status_of Exhausted = 2
 status_of MaxMegs = 3
@@ -30,20 +30,13 @@ status_of ReadFault = 10
 status_of WriteFault = 11
 status_of Memory = 12
 status_of (GroundLimit size) = 13
-
--- the most bytes that an input may have
-abbrev pub most_bytes : ℕ
-most_bytes = 16777216
-
-abbrev pub shown_text : Shown → List ℕ
-shown_text shown.Input = codes "input"
+status_of (ClauseLimit formula) = 13
 
 abbrev pub limit_text : Limit → List ℕ
 limit_text limits.Input = codes "input"
-
--- the place that every input of another form is refused at: its beginning
-abbrev pub beginning : Place
-beginning = record { byte = 0; line = 1; column = 1; token = shown.Input }
+limit_text limits.Nesting = codes "nesting"
+limit_text limits.Symbols = codes "symbols"
+limit_text limits.Arity = codes "arity"
 
 -- what a source gave in a run, what is left of it, and its count of faults before and after
 pub record Given : Type 0 where
@@ -80,25 +73,44 @@ IsUnread g AllModels text = ⊥
 IsUnread g (GroundLimit size) text = ⊥
 IsUnread g Words text = ⊥
 IsUnread g (Unreadable place) text = ⊥
+IsUnread g (Misuse place row) text = ⊥
 IsUnread g WriteFault text = ⊥
 IsUnread g Memory text = ⊥
+IsUnread g (ClauseLimit formula) text = ⊥
 
--- An input isn't of the form that is read, with the refusal as the whole output.
-abbrev pub IsRefused : Given → Type 0 → Place → List ℕ → Type 0
-IsRefused g form place text = IsRead g × (¬ form) × (place ≡ beginning) × (text ≡ unreadable_line 0 1 1 (codes "input"))
+-- What the source gave is refused, with the refusal as the whole output: for what it says to the program, at a place or at the
+-- first byte of an item; or it is no input at all.
+abbrev pub IsRefused : Mode → Given → Cause → List ℕ → Type 0
+IsRefused m g (Unreadable place) text =
+    IsRead g × Says m g.bytes (unreadable place.byte) × IsPlace g.bytes place × (text ≡ unreadable_line place.byte place.line place.column place.token)
+IsRefused m g (Misuse place row) text =
+    IsRead g × Says m g.bytes (misused place.byte row) × IsPlace g.bytes place × (text ≡ misuse_line row place.byte place.line place.column)
+IsRefused m g (TooLarge byte what) text =
+    IsUnread g (TooLarge byte what) text ⊎ (IsRead g × Says m g.bytes (too_large byte what) × (text ≡ too_large_line byte (limit_text what)))
+IsRefused m g ReadFault text = IsUnread g ReadFault text
+IsRefused m g Done text = ⊥
+IsRefused m g Exhausted text = ⊥
+IsRefused m g MaxMegs text = ⊥
+IsRefused m g (MaxSeconds first last) text = ⊥
+IsRefused m g AllModels text = ⊥
+IsRefused m g (GroundLimit size) text = ⊥
+IsRefused m g (ClauseLimit formula) text = ⊥
+IsRefused m g Words text = ⊥
+IsRefused m g WriteFault text = ⊥
+IsRefused m g Memory text = ⊥
 
--- the input states a problem and gives an interpretation of it
-abbrev pub IsWithTables : List ℕ → Type 0
-IsWithTables bytes = (p : Stated) × ((it : ByName) × IsProblem bytes p (Some it))
+-- The formulas of what is read are true in its interpretation as told, with the report on them as the whole output.
+abbrev pub IsTested : Sofar → List ℕ → Type 0
+IsTested s text = (all : List Bool) × AreToldOf s all × (text ≡ report all)
 
--- What the source gave leads to this cause with this text as the whole output: of an input of today's form the truth of
--- each formula; else the refusal.
+-- What the source gave leads to this cause with this text as the whole output: the truth of each formula of what it says; else
+-- the refusal.
 abbrev pub Ends : Given → Cause → List ℕ → Type 0
-Ends g Done text =
-    IsRead g × ((p : Stated) × ((it : ByName) × IsProblem g.bytes p (Some it) × ((all : List Bool) × AreTrueAsTold (meaning_in p.symbols it) p.formulas all × (text ≡ report all))))
-Ends g (Unreadable place) text = IsRefused g (IsWithTables g.bytes) place text
-Ends g (TooLarge byte what) text = IsUnread g (TooLarge byte what) text
-Ends g ReadFault text = IsUnread g ReadFault text
+Ends g Done text = IsRead g × ((s : Sofar) × Says Tester g.bytes (problem s) × IsTested s text)
+Ends g (Unreadable place) text = IsRefused Tester g (Unreadable place) text
+Ends g (Misuse place row) text = IsRefused Tester g (Misuse place row) text
+Ends g (TooLarge byte what) text = IsRefused Tester g (TooLarge byte what) text
+Ends g ReadFault text = IsRefused Tester g ReadFault text
 Ends g Words text = ⊥
 Ends g Exhausted text = ⊥
 Ends g MaxMegs text = ⊥
@@ -107,6 +119,7 @@ Ends g AllModels text = ⊥
 Ends g (GroundLimit size) text = ⊥
 Ends g WriteFault text = ⊥
 Ends g Memory text = ⊥
+Ends g (ClauseLimit formula) text = ⊥
 
 -- The sink took all of the output that the run ends with; a front of it, where a write failed; nothing, where memory was
 -- lacking.

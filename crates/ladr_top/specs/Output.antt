@@ -34,6 +34,10 @@ abbrev pub unreadable_line : ℕ → ℕ → ℕ → List ℕ → List ℕ
 unreadable_line byte row column token =
     line (codes "ladr: unreadable at byte " ++ decimal byte ++ codes ", line " ++ decimal row ++ codes ", column " ++ decimal column ++ codes ": " ++ token)
 
+-- the row of misuse that is broken, and where
+abbrev pub misuse_line : ℕ → ℕ → ℕ → ℕ → List ℕ
+misuse_line broken byte row column = line (codes "ladr: misuse " ++ decimal broken ++ codes " at byte " ++ decimal byte ++ codes ", line " ++ decimal row ++ codes ", column " ++ decimal column)
+
 -- what was too large, and where
 abbrev pub too_large_line : ℕ → List ℕ → List ℕ
 too_large_line byte what = line (codes "ladr: too large at byte " ++ decimal byte ++ codes ": " ++ what)
@@ -62,3 +66,7 @@ seconds_line first last = line (codes "% Exit max_seconds " ++ decimal first ++ 
 -- a size has too many cells by far
 abbrev pub ground_limit_line : ℕ → List ℕ
 ground_limit_line n = line (codes "ladr: ground limit at size " ++ decimal n)
+
+-- a formula has too many clauses
+abbrev pub clause_limit_line : ℕ → List ℕ
+clause_limit_line formula = line (codes "ladr: clause limit at formula " ++ decimal formula)

@@ -1,36 +1,8 @@
 // Why a run ended.
-
-/// What stands at a place that is told: today an input is refused as a whole.
-#[derive(Clone, Copy, Debug, PartialEq, Eq)]
-pub enum Shown {
-    Input,
-}
-
-/// A place of the input: its byte, counted from 0, its line and column, counted from 1, and what stands there.
-#[derive(Clone, Copy, Debug, PartialEq, Eq)]
-pub struct Place {
-    pub byte: u64,
-    pub line: u64,
-    pub column: u64,
-    pub token: Shown,
-}
-
-/// The place at which an input of another form is refused.
-pub const BEGINNING: Place = Place {
-    byte: 0,
-    line: 1,
-    column: 1,
-    token: Shown::Input,
-};
-
-/// What an input may be too large in.
-#[derive(Clone, Copy, Debug, PartialEq, Eq)]
-pub enum Limit {
-    Input,
-}
+pub use ladr_problem::{Limit, Place};
 
 /// Why a run ended.
-#[derive(Clone, Copy, Debug, PartialEq, Eq)]
+#[derive(Drop)]
 pub enum Cause {
     /// What was asked is done.
     Done,
@@ -44,11 +16,15 @@ pub enum Cause {
     AllModels,
     /// The cells of a size are too many by far.
     GroundLimit { size: u64 },
+    /// A formula has too many clauses; formulas are counted from 1.
+    ClauseLimit { formula: u64 },
     /// The words are no command.
     Words,
-    /// The input isn't of the form that is read.
+    /// Something of the input can't be read.
     Unreadable(Place),
-    /// A limit is passed.
+    /// An item of the input breaks a row of misuse; the place is its beginning, or the end of the input.
+    Misuse(Place, u8),
+    /// A limit is passed, by the item that begins at the byte, or by the input.
     TooLarge { byte: u64, what: Limit },
     /// A read of the source failed.
     ReadFault,
@@ -59,7 +35,7 @@ pub enum Cause {
 }
 
 /// The exit status of a run, and why it ended.
-#[derive(Clone, Copy, Debug, PartialEq, Eq)]
+#[derive(Drop)]
 pub struct Exit {
     pub status: u8,
     pub cause: Cause,

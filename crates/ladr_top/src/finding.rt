@@ -1,68 +1,104 @@
 // The models of what an input states.
 ghost use Rattle.std.specs.Prelude.{◌≡◌, ◌≢◌, ◌≤◌, None};
 ghost use Rattle.ladr_io.specs.Streams.{Rose};
-ghost use Rattle.ladr_top.specs.Finding.{Finds, GoesOn, Searches};
+ghost use Rattle.fol_core.specs.Stated.{stated_of, IsSound};
+ghost use Rattle.ladr_options.specs.Ranges.{IsSize};
+ghost use Rattle.ladr_top.specs.Finding.{Sought, Seeks, Finds, GoesOn, Searches, IsUntimed};
 ghost use Rattle.ladr_top.specs.Outcome.{Given, IsRead, Told};
+ghost use Rattle.ladr_words.specs.Tasks.{HasRanges};
 
-use crate::cause::{BEGINNING, Cause};
+use crate::asked::Asked;
+use crate::cause::Cause;
+use crate::lines;
 use crate::pieces::conclude;
 use crate::reading::read_input;
-use crate::settings::Settings;
+use crate::refusing::refuse_input;
+use crate::settings::{Settings, search_settings};
 use crate::sizes::search_sizes;
-use crate::text;
-use ladr_input::{Fault, read_lists};
+use clausify::ClauseError;
+use fol_core::{Interpretation, Problem};
 use ladr_io::{Clock, Sink, Source};
+use ladr_problem::read_problem;
+use ladr_reader::Mode;
+use ladr_words::{ModelOptions, Task};
 use std::alloc::Global;
 
-// Searches for models of what an input states, or prints that it isn't of the form that is read.
-fn find<K: Sink, C: Clock>(
+// Searches for models of a problem, or prints which formula has too many clauses.
+fn seek<I: Interpretation, K: Sink, C: Clock>(
     alloc: Global,
-    bytes: &[u8],
+    any: &I,
+    problem: &Problem,
     settings: Settings,
     sink: &mut K,
     clock: &mut C,
 ) -> Cause
+    requires sound { IsSound (stated_of problem.now) }
     requires start { 1 ≤ settings.start }
     requires end { settings.end ≤ 200 }
+    requires step { IsSize settings.step }
     requires wanted { 1 ≤ settings.wanted }
     requires unread { (C.times clock.old).count ≡ 0 }
-    ensures told { (g : Given) → g.bytes ≡ bytes.now → IsRead g → Told (GoesOn g settings) (Finds g settings (C.times clock.new)) (K.held sink.old) (K.held sink.new) result }
+    ensures told { Told (Seeks (stated_of problem.now) settings) (Sought (stated_of problem.now) settings (C.times clock.new)) (K.held sink.old) (K.held sink.new) result }
     ensures untimed { settings.seconds ≡ None → C.times clock.new ≡ C.times clock.old }
+    ensures write_fault { result ≡ Cause.WriteFault → Rose (K.faults sink.old) (K.faults sink.new) }
+    ensures no_write_fault { result ≢ Cause.WriteFault → K.faults sink.new ≡ K.faults sink.old }
+{
+    match Asked::new(alloc, any, problem) {
+        Ok(asked) => search_sizes(alloc, &asked, settings, sink, clock),
+        Err(ClauseError::ClauseLimit { formula }) => conclude(
+            lines::clause_limit(alloc, formula),
+            Cause::ClauseLimit { formula },
+            sink,
+        ),
+        Err(ClauseError::Memory) => Cause::Memory,
+    }
+}
+
+// Searches for models of what an input states, or prints why it states no problem.
+fn find<I: Interpretation, K: Sink, C: Clock>(
+    alloc: Global,
+    any: &I,
+    bytes: &[u8],
+    words: ModelOptions,
+    sink: &mut K,
+    clock: &mut C,
+) -> Cause
+    requires words { HasRanges (Task.Mace4 words) }
+    requires unread { (C.times clock.old).count ≡ 0 }
+    ensures told { (g : Given) → g.bytes ≡ bytes.now → IsRead g → Told (GoesOn g words) (Finds g words (C.times clock.new)) (K.held sink.old) (K.held sink.new) result }
+    ensures unasked { IsUntimed bytes.now words → C.times clock.new ≡ C.times clock.old }
     ensures never { result ≢ Cause.ReadFault }
     ensures write_fault { result ≡ Cause.WriteFault → Rose (K.faults sink.old) (K.faults sink.new) }
     ensures no_write_fault { result ≢ Cause.WriteFault → K.faults sink.new ≡ K.faults sink.old }
 {
-    match read_lists(alloc, bytes) {
-        Ok(problem) => search_sizes(alloc, &problem, settings, sink, clock),
-        Err(Fault::Bad) => {
-            let text = text::unreadable(alloc, 0, 1, 1, b"input");
-            conclude(text, Cause::Unreadable(BEGINNING), sink)
+    match read_problem(alloc, Mode::Mace, bytes) {
+        Ok(read) => {
+            let settings = search_settings(words, &read.problem.options);
+            seek(alloc, any, &read.problem, settings, sink, clock)
         }
-        Err(Fault::Memory) => Cause::Memory,
+        Err(error) => refuse_input(alloc, error, sink),
     }
 }
 
-/// Reads the input and searches for its models.
-pub fn mace4<S: Source, K: Sink, C: Clock>(
+/// Reads the input and searches for its models, as the words and its options ask.
+pub fn mace4<I: Interpretation, S: Source, K: Sink, C: Clock>(
     alloc: Global,
-    settings: Settings,
+    any: &I,
+    words: ModelOptions,
     source: &mut S,
     sink: &mut K,
     clock: &mut C,
 ) -> Cause
-    requires start { 1 ≤ settings.start }
-    requires end { settings.end ≤ 200 }
-    requires wanted { 1 ≤ settings.wanted }
+    requires words { HasRanges (Task.Mace4 words) }
     requires unread { (C.times clock.old).count ≡ 0 }
-    ensures searches { Searches settings (S.left source.old) (S.left source.new) (S.faults source.old) (S.faults source.new) (K.held sink.old) (K.held sink.new) (C.times clock.new) result }
-    ensures untimed { settings.seconds ≡ None → C.times clock.new ≡ C.times clock.old }
+    ensures searches { Searches words (S.left source.old) (S.left source.new) (S.faults source.old) (S.faults source.new) (K.held sink.old) (K.held sink.new) (C.times clock.old) (C.times clock.new) result }
     ensures read_fault { result ≡ Cause.ReadFault → Rose (S.faults source.old) (S.faults source.new) }
     ensures never_falls { S.faults source.old ≤ S.faults source.new }
     ensures write_fault { result ≡ Cause.WriteFault → Rose (K.faults sink.old) (K.faults sink.new) }
     ensures no_write_fault { result ≢ Cause.WriteFault → K.faults sink.new ≡ K.faults sink.old }
 {
     match read_input(alloc, source, sink) {
-        Ok(bytes) => find(alloc, &bytes, settings, sink, clock),
+        Ok(bytes) => find(alloc, any, &bytes, words, sink, clock),
         Err(cause) => cause,
     }
 }

@@ -1,6 +1,7 @@
 // The one public call of the program, and what it stands on.
 #![tactic(auto)]
 
+mod asked;
 mod begin;
 mod cause;
 mod finding;
@@ -10,6 +11,7 @@ mod models;
 mod one_size;
 mod pieces;
 mod reading;
+mod refusing;
 mod running;
 mod settings;
 mod sizes;
@@ -18,10 +20,7 @@ mod text;
 mod verdicts;
 mod watch;
 
-pub use cause::{Cause, Exit, Limit, Place, Shown};
+pub use cause::{Cause, Exit, Limit, Place};
 pub use laws::{one_outcome, worked};
 pub use running::run;
 pub use settings::Settings;
-
-#[cfg(test)]
-mod tests;

@@ -1,7 +1,7 @@
 // The lines of a search for models.
 ghost use Rattle.std.specs.Prelude.{◌≡◌, ◌++◌, OnOk, IfOk, codes};
 ghost use Rattle.std.specs.Fmt.{decimal};
-ghost use Rattle.ladr_top.specs.Output.{size_line, skipped_line, exhausted_line, models_line, exit_line, seconds_line, ground_limit_line};
+ghost use Rattle.ladr_top.specs.Output.{size_line, skipped_line, exhausted_line, models_line, exit_line, seconds_line, ground_limit_line, clause_limit_line};
 ghost use Rattle.ladr_top.specs.Search.{last_lines};
 
 use crate::text::{number, text};
@@ -54,6 +54,17 @@ pub fn ground_limit(alloc: Global, n: u64) -> Result<Vec<u8>, AllocError>
     let mut out = Vec::new(alloc);
     text(&mut out, b"ladr: ground limit at size ")?;
     number(&mut out, n)?;
+    text(&mut out, b"\n")?;
+    Ok(out)
+}
+
+/// A formula has too many clauses.
+pub fn clause_limit(alloc: Global, formula: u64) -> Result<Vec<u8>, AllocError>
+    ensures { IfOk result (λ v. v.items ≡ clause_limit_line formula) }
+{
+    let mut out = Vec::new(alloc);
+    text(&mut out, b"ladr: clause limit at formula ")?;
+    number(&mut out, formula)?;
     text(&mut out, b"\n")?;
     Ok(out)
 }

@@ -8,10 +8,8 @@ use crate::cause::{Cause, Limit};
 use crate::pieces::conclude;
 use crate::text;
 use ladr_io::{ReadAll, Sink, Source, read_all};
+use ladr_problem::MOST_BYTES;
 use std::alloc::Global;
-
-// The most bytes that an input may have.
-const MOST_BYTES: u64 = 16_777_216;
 
 /// Reads the input, or prints why there is none.
 pub fn read_input<S: Source, K: Sink>(

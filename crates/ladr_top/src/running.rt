@@ -4,7 +4,6 @@ ghost use Rattle.std.specs.String.{string_bytes};
 ghost use Rattle.ladr_io.specs.Streams.{Rose};
 ghost use Rattle.ladr_top.specs.Finding.{Searches};
 ghost use Rattle.ladr_top.specs.Outcome.{status_of, Tests, Printed, Refuses};
-ghost use Rattle.ladr_top.specs.Search.{settings_of};
 ghost use Rattle.ladr_words.specs.Tasks.{task_of};
 ghost use Rattle.ladr_words.specs.declared.task.ModelOptions.{ModelOptions};
 ghost use Rattle.ladr_words.specs.declared.task.Task.TheVariants.{Clausetester, Mace4};
@@ -12,7 +11,6 @@ ghost use Rattle.ladr_words.specs.declared.task.Task.TheVariants.{Clausetester, 
 use crate::cause::{Cause, Exit};
 use crate::finding::mace4;
 use crate::pieces::conclude;
-use crate::settings::search_settings;
 use crate::testing::clausetester;
 use crate::text;
 use fol_core::Interpretation;
@@ -30,12 +28,13 @@ fn refuse<K: Sink>(alloc: Global, sink: &mut K) -> Cause
     conclude(text::no_command(alloc), Cause::Words, sink)
 }
 
-fn status(cause: Cause) -> u8
-    ensures { result ≡ status_of cause }
+fn status(cause: &Cause) -> u8
+    ensures { result ≡ status_of cause.now }
 {
     match cause {
         Cause::Done => 0,
         Cause::Unreadable(_) => 1,
+        Cause::Misuse(_, _) => 1,
         Cause::TooLarge { .. } => 1,
         Cause::Exhausted => 2,
         Cause::MaxMegs => 3,
@@ -46,6 +45,7 @@ fn status(cause: Cause) -> u8
         Cause::WriteFault => 11,
         Cause::Memory => 12,
         Cause::GroundLimit { .. } => 13,
+        Cause::ClauseLimit { .. } => 13,
     }
 }
 
@@ -54,7 +54,7 @@ fn exit_by(cause: Cause) -> Exit
     ensures cause { result.cause ≡ cause }
 {
     Exit {
-        status: status(cause),
+        status: status(&cause),
         cause,
     }
 }
@@ -82,7 +82,7 @@ pub fn run<I: Interpretation, S: Source, K: Sink, C: Clock>(
 
     // Models of what the input states are searched for.
     ensures searches { (o : ModelOptions) → task_of (map string_bytes words.now) ≡ Some (Mace4 o)
-        → Searches (settings_of o) (S.left source.old) (S.left source.new) (S.faults source.old) (S.faults source.new) (K.held sink.old) (K.held sink.new) (C.times clock.new) result.cause }
+        → Searches o (S.left source.old) (S.left source.new) (S.faults source.old) (S.faults source.new) (K.held sink.old) (K.held sink.new) (C.times clock.old) (C.times clock.new) result.cause }
 
     // A fault is told only where the stream counted one, and a failed write is told wherever one was counted.
     ensures read_fault { result.cause ≡ Cause.ReadFault → Rose (S.faults source.old) (S.faults source.new) }
@@ -90,19 +90,12 @@ pub fn run<I: Interpretation, S: Source, K: Sink, C: Clock>(
     ensures no_write_fault { result.cause ≢ Cause.WriteFault → K.faults sink.new ≡ K.faults sink.old }
     ensures never_falls { S.faults source.old ≤ S.faults source.new }
 
-    // The clock isn't asked but for a search with a time set.
+    // The clock isn't asked but for a search.
     ensures clock { ((o : ModelOptions) → task_of (map string_bytes words.now) ≢ Some (Mace4 o)) → C.times clock.new ≡ C.times clock.old }
-    ensures untimed { (o : ModelOptions) → task_of (map string_bytes words.now) ≡ Some (Mace4 o) → o.max_seconds ≡ None → C.times clock.new ≡ C.times clock.old }
 {
     match task_of(alloc, words) {
         Ok(Task::Clausetester) => exit_by(clausetester(alloc, source, sink)),
-        Ok(Task::Mace4 { options }) => exit_by(mace4(
-            alloc,
-            search_settings(options),
-            source,
-            sink,
-            clock,
-        )),
+        Ok(Task::Mace4 { options }) => exit_by(mace4(alloc, any, options, source, sink, clock)),
         Err(WordsError::NoCommand) => exit_by(refuse(alloc, sink)),
         Err(WordsError::Memory) => exit_by(Cause::Memory),
     }

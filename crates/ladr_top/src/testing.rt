@@ -3,16 +3,16 @@ ghost use Rattle.std.specs.Prelude.{◌≡◌, ◌≢◌, ◌≤◌};
 ghost use Rattle.ladr_io.specs.Streams.{Rose};
 ghost use Rattle.ladr_top.specs.Outcome.{Given, Ends, IsRead, Tests, Printed};
 
-use crate::cause::{BEGINNING, Cause};
+use crate::cause::Cause;
 use crate::pieces::conclude;
 use crate::reading::read_input;
+use crate::refusing::refuse_input;
 use crate::text;
 use crate::verdicts::verdicts;
-use ladr_input::Fault;
 use ladr_io::{Sink, Source};
 use std::alloc::Global;
 
-// Prints the truth of each formula of an input, or that it isn't of the form that is read.
+// Prints the truth of each formula of an input, or why it states none.
 fn test<K: Sink>(alloc: Global, bytes: &[u8], sink: &mut K) -> Cause
     ensures printed { (g : Given) → g.bytes ≡ bytes.now → IsRead g → Printed (Ends g) (K.held sink.old) (K.held sink.new) result }
     ensures never { result ≢ Cause.ReadFault }
@@ -21,11 +21,7 @@ fn test<K: Sink>(alloc: Global, bytes: &[u8], sink: &mut K) -> Cause
 {
     match verdicts(alloc, bytes) {
         Ok(all) => conclude(text::report(alloc, &all), Cause::Done, sink),
-        Err(Fault::Bad) => {
-            let text = text::unreadable(alloc, 0, 1, 1, b"input");
-            conclude(text, Cause::Unreadable(BEGINNING), sink)
-        }
-        Err(Fault::Memory) => Cause::Memory,
+        Err(error) => refuse_input(alloc, error, sink),
     }
 }
 

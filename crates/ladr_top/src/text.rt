@@ -1,8 +1,9 @@
 // The output texts.
 ghost use Rattle.std.specs.Prelude.{◌≡◌, ◌++◌, ◌+◌, ◌∷◌, [], List, ℕ, OnOk, IfOk, codes, count_by, not};
 ghost use Rattle.std.specs.Fmt.{decimal};
-ghost use Rattle.ladr_top.specs.Output.{line, formula_line, formula_lines, report, no_command_line, read_fault_line, unreadable_line, too_large_line};
+ghost use Rattle.ladr_top.specs.Output.{line, formula_line, formula_lines, report, no_command_line, read_fault_line, unreadable_line, misuse_line, too_large_line};
 
+use crate::cause::Place;
 use std::alloc::{AllocError, Global};
 
 /// Puts bytes behind the text.
@@ -77,24 +78,35 @@ pub fn report(alloc: Global, all: &[bool]) -> Result<Vec<u8>, AllocError>
 }
 
 /// The line for an input that can't be read, with the place and what stands there.
-pub fn unreadable(
-    alloc: Global,
-    byte: u64,
-    row: u64,
-    column: u64,
-    token: &[u8],
-) -> Result<Vec<u8>, AllocError>
-    ensures { IfOk result (λ v. v.items ≡ unreadable_line byte row column token.now) }
+pub fn unreadable(alloc: Global, place: &Place) -> Result<Vec<u8>, AllocError>
+    ensures { IfOk result (λ v. v.items ≡ unreadable_line place.now.byte place.now.line place.now.column place.now.token) }
 {
     let mut out = Vec::new(alloc);
     text(&mut out, b"ladr: unreadable at byte ")?;
-    number(&mut out, byte)?;
+    number(&mut out, place.byte)?;
     text(&mut out, b", line ")?;
-    number(&mut out, row)?;
+    number(&mut out, place.line)?;
     text(&mut out, b", column ")?;
-    number(&mut out, column)?;
+    number(&mut out, place.column)?;
     text(&mut out, b": ")?;
-    text(&mut out, token)?;
+    text(&mut out, place.token.bytes())?;
+    text(&mut out, b"\n")?;
+    Ok(out)
+}
+
+/// The line for an input that is misused, with the row that it breaks and the place.
+pub fn misuse(alloc: Global, row: u8, place: &Place) -> Result<Vec<u8>, AllocError>
+    ensures { IfOk result (λ v. v.items ≡ misuse_line row place.now.byte place.now.line place.now.column) }
+{
+    let mut out = Vec::new(alloc);
+    text(&mut out, b"ladr: misuse ")?;
+    number(&mut out, u64::from(row))?;
+    text(&mut out, b" at byte ")?;
+    number(&mut out, place.byte)?;
+    text(&mut out, b", line ")?;
+    number(&mut out, place.line)?;
+    text(&mut out, b", column ")?;
+    number(&mut out, place.column)?;
     text(&mut out, b"\n")?;
     Ok(out)
 }

@@ -1,9 +1,10 @@
 use Rattle.std.proofs.Common.{refl}
 use Rattle.std.specs.Prelude.{codes}
-use Rattle.ladr_top.specs.Outcome.{Given, IsUnread, most_bytes}
+use Rattle.ladr_problem.specs.File.{most_bytes}
+use Rattle.ladr_problem.specs.declared.refusal.Limit.TheVariants as limits
+use Rattle.ladr_top.specs.Outcome.{Given, IsUnread}
 use Rattle.ladr_top.specs.Output.{too_large_line}
 use Rattle.ladr_top.specs.declared.cause.Cause.TheVariants.{TooLarge}
-use Rattle.ladr_top.specs.declared.cause.Limit.TheVariants as limits
 use Rattle.ladr_top.proofs.Printed.{Printed-weaker, made_text, large_is_read}
 use Rattle.ladr_top.proofs.reading.read_input.Goals as goal
 

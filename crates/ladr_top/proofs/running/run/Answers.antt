@@ -10,4 +10,5 @@ returns-in-Err-Memory-clause-searches g c = λ o e.
       bytes = [];
       gave = Gives-none _;
       told = rw lacking ([], inl refl, Takes-none _);
+      unasked = λ untimed. refl;
     }

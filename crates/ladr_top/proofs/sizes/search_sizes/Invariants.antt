@@ -1,6 +1,5 @@
 -- the sizes so far are printed, and the clock was early
 use Rattle.std.proofs.Common.{◌≡◌, ◌-◌, ◌+◌, ◌<◌, ◌≤◌, None, List}
-use Rattle.fol_core.specs.Stated.{stated_of}
 use Rattle.ladr_top.specs.Search.{Size}
 use Rattle.ladr_top.specs.Watching.{IsWatched}
 use Rattle.ladr_top.proofs.Ended.{Ended}
@@ -8,7 +7,7 @@ use Rattle.ladr_top.proofs.sizes.search_sizes.Given as goal
 
 abbrev pub invariant-loop-n : goal.invariant-loop-n
 invariant-loop-n g l = record {
-  so_far : (sizes : List Size) × Ended (stated_of l.problem) l.settings l.n sizes l.printed (g.K.Sink.held l.fn.sink) (g.K.Sink.held l.sink);
+  so_far : (sizes : List Size) × Ended l.asked l.settings l.n sizes l.printed (g.K.Sink.held l.fn.sink) (g.K.Sink.held l.sink);
   fewer : l.printed < l.settings.wanted;
   from : 1 ≤ l.n;
   seconds : l.watch.seconds ≡ l.settings.seconds;

@@ -1,9 +1,0 @@
-pub mod ByName
-pub mod Entries
-pub mod Grammar
-pub mod Items
-pub mod LexemeCodes
-pub mod Problem
-pub mod Reading
-pub mod Tests
-pub mod Worked

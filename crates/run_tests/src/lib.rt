@@ -1,0 +1,5 @@
+// Runs over streams in memory.
+#![tactic(auto)]
+
+#[cfg(test)]
+mod tests;

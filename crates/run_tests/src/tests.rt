@@ -1,0 +1,210 @@
+use ladr_io::{MemClock, MemSink, MemSource};
+use ladr_top::run;
+use model_tables::Tables;
+use std::alloc::{AllocError, Global};
+use std::test::Fail;
+
+const INVOLUTION: &[u8] =
+    b"formulas(assumptions).\nf(f(x)) = x.\nexists x f(x) = x.\nend_of_list.\ninterpretation(2, [number = 1,seconds = 0], [function(f(_), [1,0])]).\n";
+
+const REPORT: &[u8] = b"formula 1 true\nformula 2 false\n% True=1. False=1.\n% Exit tested.\n";
+
+// A run with one byte a call, in which the read and the write of these numbers fail (none has number 0), and the clock gives
+// these readings: the status, and what the sink then holds.
+fn outcome(
+    alloc: Global,
+    command: &str,
+    input: &[u8],
+    read: u64,
+    write: u64,
+    readings: &[u64],
+) -> Result<(u8, Vec<u8>), AllocError> {
+    let mut words = Vec::new(alloc);
+    for word in command.split(' ') {
+        words.push(String::from_str(alloc, word)?)?;
+    }
+    let any = Tables::new(1, Vec::new(alloc));
+    let mut source = MemSource::with_piece(input.to_vec(alloc)?, 1, vec![in alloc; read]?);
+    let mut sink = MemSink::with_piece(alloc, 1, vec![in alloc; write]?);
+    let mut clock = MemClock::new(readings.to_vec(alloc)?);
+    let exit = run(alloc, &words, &any, &mut source, &mut sink, &mut clock);
+    Ok((exit.status, sink.bytes().to_vec(alloc)?))
+}
+
+// The reads of the third row are one for each byte and one for the end, and each byte is written by one call.
+#[test]
+fn runs_end_as_told(rt: HostRuntime) -> Result<(), Fail> {
+    for (command, input, read, write, status, output) in [
+        (
+            "mace4 -n 0",
+            INVOLUTION,
+            1,
+            0,
+            9,
+            b"ladr: no such command\n".as_slice(),
+        ),
+        (
+            "clausetester",
+            b"",
+            0,
+            0,
+            1,
+            b"ladr: misuse 18 at byte 0, line 1, column 1\n",
+        ),
+        (
+            "clausetester",
+            INVOLUTION,
+            INVOLUTION.len() as u64 + 2,
+            REPORT.len() as u64 + 1,
+            0,
+            REPORT,
+        ),
+        ("clausetester", INVOLUTION, 1, 2, 11, b"l"),
+    ] {
+        let (ended, held) = outcome(rt.alloc(), command, input, read, write, &[])?;
+        assert_eq!(rt; ended, status, "{command}");
+        assert_eq!(rt; held.as_slice(), output, "{command}");
+    }
+    Ok(())
+}
+
+#[test]
+fn each_failed_read_is_told(rt: HostRuntime) -> Result<(), Fail> {
+    for command in ["clausetester", "mace4"] {
+        for taken in 0..=INVOLUTION.len() as u64 {
+            let (status, held) = outcome(rt.alloc(), command, INVOLUTION, taken + 1, 0, &[])?;
+            assert_eq!(rt; status, 10, "{command} after {taken} bytes");
+            assert_eq!(rt;
+                held.as_slice(),
+                b"ladr: read fault\n".as_slice(),
+                "{command} after {taken} bytes"
+            );
+        }
+    }
+    Ok(())
+}
+
+#[test]
+fn each_failed_write_leaves_a_front(rt: HostRuntime) -> Result<(), Fail> {
+    for (command, input, output) in [
+        ("clausetester", INVOLUTION, REPORT),
+        ("mace4 -n 3 -N 3 -m 10", INVOLUTIONS, ALL_OF_THREE),
+    ] {
+        for (taken, _) in output.iter().enumerate() {
+            let write = taken as u64 + 1;
+            let (status, held) = outcome(rt.alloc(), command, input, 0, write, &[])?;
+            assert_eq!(rt; status, 11, "{command} after {taken} bytes");
+            assert_eq!(rt;
+                held.as_slice(),
+                &output[..taken],
+                "{command} after {taken} bytes"
+            );
+        }
+    }
+    Ok(())
+}
+
+const INVOLUTIONS: &[u8] = b"formulas(assumptions).\nf(f(x)) = x.\nend_of_list.\n";
+
+const MOVED: &[u8] =
+    b"formulas(assumptions).\nf(f(x)) = x.\nend_of_list.\nformulas(goals).\nexists x f(x) = x.\nend_of_list.\n";
+
+const MANY: &[u8] = b"formulas(assumptions).\nf(x,y,z,u) = x.\nend_of_list.\n";
+
+const ALL_OF_THREE: &[u8] =
+    b"% Domain size 3.\ninterpretation(3, [number = 1,seconds = 0], [\n    function(f(_), [0,1,2])\n]).\ninterpretation(3, [number = 2,seconds = 0], [\n    function(f(_), [0,2,1])\n]).\ninterpretation(3, [number = 3,seconds = 0], [\n    function(f(_), [1,0,2])\n]).\ninterpretation(3, [number = 4,seconds = 0], [\n    function(f(_), [2,1,0])\n]).\n% Domain size 3 exhausted.\n% Models=4.\n% Exit all_models.\n";
+
+const ONE_OF_TWO: &[u8] =
+    b"% Domain size 2.\ninterpretation(2, [number = 1,seconds = 0], [\n    function(f(_), [1,0])\n]).\n% Models=1.\n% Exit max_models.\n";
+
+#[test]
+fn searches_end_as_told(rt: HostRuntime) -> Result<(), Fail> {
+    for (command, input, status, output) in [
+        ("mace4 -n 3 -N 3 -m 10", INVOLUTIONS, 8, ALL_OF_THREE),
+        (
+            "mace4 -n 3 -N 3",
+            MOVED,
+            2,
+            b"% Domain size 3.\n% Domain size 3 exhausted.\n% Models=0.\n% Exit exhausted.\n",
+        ),
+        ("mace4", MOVED, 0, ONE_OF_TWO),
+        (
+            "mace4 -n 5 -N 3",
+            MOVED,
+            2,
+            b"% Models=0.\n% Exit exhausted.\n",
+        ),
+        (
+            "mace4 -n 76 -N 90",
+            MANY,
+            3,
+            b"% Domain size 76.\n% Models=0.\n% Exit max_megs.\n",
+        ),
+        (
+            "mace4 -n 90 -N 90",
+            MANY,
+            13,
+            b"% Domain size 90.\nladr: ground limit at size 90\n",
+        ),
+    ] {
+        let (ended, held) = outcome(rt.alloc(), command, input, 0, 0, &[])?;
+        assert_eq!(rt; held.as_slice(), output, "{command}");
+        assert_eq!(rt; ended, status, "{command}");
+    }
+    Ok(())
+}
+
+const BOTH_OF_TWO: &[u8] =
+    b"% Domain size 2.\ninterpretation(2, [number = 1,seconds = 0], [\n    function(f(_), [0,1])\n]).\ninterpretation(2, [number = 2,seconds = 0], [\n    function(f(_), [1,0])\n]).\n";
+
+const BEGUN: &[u8] = b"% Domain size 2.\n";
+
+// The clock is read as a size begins, and before each of the tables, four of size 2; a reading of 1,000 is late behind a first
+// one of 0. The last clock goes back.
+#[test]
+fn clocks_are_heeded(rt: HostRuntime) -> Result<(), Fail> {
+    for (command, readings, status, front, rest) in [
+        (
+            "mace4 -t 0",
+            &[7u64, 7] as &[u64],
+            4,
+            BEGUN,
+            b"% Models=0.\n% Exit max_seconds 7 7.\n".as_slice(),
+        ),
+        (
+            "mace4 -t 1",
+            &[5, 6, 1005],
+            4,
+            BEGUN,
+            b"% Models=0.\n% Exit max_seconds 5 1005.\n",
+        ),
+        (
+            "mace4 -t 1 -m 9",
+            &[0, 1, 2, 999, 1000],
+            4,
+            BOTH_OF_TWO,
+            b"% Models=2.\n% Exit max_seconds 0 1000.\n",
+        ),
+        (
+            "mace4 -t 1 -m 9",
+            &[0, 1, 2, 3, 4, 1001],
+            4,
+            BOTH_OF_TWO,
+            b"% Domain size 2 exhausted.\n% Domain size 3.\n% Models=2.\n% Exit max_seconds 0 1001.\n",
+        ),
+        (
+            "mace4 -t 1 -m 9 -N 2",
+            &[1000, 5, 6, 7, 8],
+            8,
+            BOTH_OF_TWO,
+            b"% Domain size 2 exhausted.\n% Models=2.\n% Exit all_models.\n",
+        ),
+    ] {
+        let (ended, held) = outcome(rt.alloc(), command, INVOLUTIONS, 0, 0, readings)?;
+        let mut output = front.to_vec(rt.alloc())?;
+        output.extend_from_slice(rest)?;
+        assert_eq!(rt; held.as_slice(), output.as_slice(), "{command}");
+        assert_eq!(rt; ended, status, "{command}");
+    }
+    Ok(())
+}
