@@ -1,5 +1,5 @@
 use crate::{FormulaError, Mode, formula_of, read_term, style_of, terms_of};
-use fol_core::{Raw, Raws, Symbols};
+use fol_core::{Raws, Symbols};
 use ladr_lex::{Ops, tokens};
 use std::alloc::Global;
 use std::test::Fail;
@@ -34,19 +34,19 @@ fn variables(
     Ok(formula_of(alloc, &raw, symbols, mode, false).map(|formula| formula.names.len()))
 }
 
-// Arguments alone; what terms they are is proved.
+// An argument alone; what term it is is proved.
 #[test]
 fn arguments_are_read(rt: HostRuntime) -> Result<(), Fail> {
     let ops = Ops::first_form(rt.alloc())?;
     let tokens = tokens(rt.alloc(), b"f(x,g(a,y),x).").map_err(|_| "memory")?;
-    let args = match read_term(rt.alloc(), &ops, &tokens) {
-        Ok(Raw::App(_, args)) => args,
-        _ => Raws::new(rt.alloc()),
-    };
+    let raw = read_term(rt.alloc(), &ops, &tokens).map_err(|_| "term")?;
+    let mut args = Raws::new(rt.alloc());
+    args.push(raw)?;
     let mut symbols = Symbols::new(rt.alloc());
-    let read = terms_of(rt.alloc(), &args, &mut symbols, style_of(Mode::Mace, false))?;
-    assert_eq!(rt; read.terms.len(), 3);
+    let style = style_of(Mode::Mace, false);
+    let read = terms_of(rt.alloc(), &args, &mut symbols, style)?;
+    assert_eq!(rt; read.terms.len(), 1);
     assert_eq!(rt; read.variables.len(), 2);
-    assert_eq!(rt; symbols.len(), 2);
+    assert_eq!(rt; symbols.len(), 3);
     Ok(())
 }
