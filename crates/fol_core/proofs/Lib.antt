@@ -1,7 +1,9 @@
 mod Cut
 mod Examples
 mod Numberings
+pub mod KboLemmas
 pub mod Marks
+pub mod NamesOnceLemmas
 pub mod Places
 pub mod Putting
 pub mod Soundness

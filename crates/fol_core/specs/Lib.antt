@@ -6,10 +6,12 @@ pub mod FolCodes
 pub mod FormulaFalls
 pub mod FormulaView
 pub mod Free
+pub mod KboRows
 pub mod Laws
 pub mod LitCodes
 pub mod Literals
 pub mod Meaning
+pub mod NamesOnce
 pub mod Occurs
 pub mod Outside
 pub mod Put

@@ -1,11 +1,12 @@
 // The problem that a file states.
 ghost use Rattle.std.specs.Prelude.{◌≡◌, []};
+ghost use Rattle.ladr_options.specs.Options.{start};
 
 use crate::formula::Formula;
-use crate::name::Names;
+use crate::name_order::NameOrder;
 use crate::raw::Raw;
 use crate::symbols::Symbols;
-use crate::weights::{KboWeight, WeightRule};
+use crate::weights::{KboWeights, WeightRule};
 use ladr_options::Options;
 use std::alloc::Global;
 
@@ -44,8 +45,8 @@ pub struct Problem {
     pub inputs: Vec<Input>,
     pub hints: Vec<Hint>,
     pub weights: Vec<WeightRule>,
-    pub kbo_weights: Vec<KboWeight>,
-    pub function_order: Names,
+    pub kbo_weights: KboWeights,
+    pub function_order: NameOrder,
     pub options: Options,
 }
 
@@ -54,14 +55,19 @@ impl Problem {
     pub fn new(alloc: Global, symbols: Symbols, inputs: Vec<Input>) -> Problem
         ensures symbols { result.symbols ≡ symbols }
         ensures inputs { result.inputs.items ≡ inputs.items }
+        ensures hints { result.hints.items ≡ [] }
+        ensures weights { result.weights.items ≡ [] }
+        ensures kbo_weights { result.kbo_weights ≡ [] }
+        ensures function_order { result.function_order ≡ [] }
+        ensures options { result.options ≡ start }
     {
         Problem {
             symbols,
             inputs,
             hints: Vec::new(alloc),
             weights: Vec::new(alloc),
-            kbo_weights: Vec::new(alloc),
-            function_order: Names::new(alloc),
+            kbo_weights: KboWeights::new(alloc),
+            function_order: NameOrder::new(alloc),
             options: Options::start(),
         }
     }

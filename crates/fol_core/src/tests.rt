@@ -1,7 +1,7 @@
 // Symbols entered in turn, and a formula with its free variables and its closure.
 use crate::{
-    Clash, Formula, Kind, Name, Names, Raw, RawSub, Raws, Shape, Sub, Sym, Symbols, Term, Terms,
-    closure, free_vars,
+    Clash, Formula, KboWeights, Kind, Name, NameOrder, Names, Raw, RawSub, Raws, Shape, Sub, Sym,
+    Symbols, Term, Terms, closure, free_vars,
 };
 use std::alloc::{AllocError, Global};
 use std::test::Fail;
@@ -65,5 +65,17 @@ fn closes_formulas(rt: HostRuntime) -> Result<(), Fail> {
 fn holds_arguments(rt: HostRuntime) -> Result<(), Fail> {
     let body = body(rt.alloc())?;
     assert!(rt; matches!(body.raw(), Raw::App(_, arguments) if arguments.len() == 1));
+    Ok(())
+}
+
+#[test]
+fn names_stand_once(rt: HostRuntime) -> Result<(), Fail> {
+    let mut order = NameOrder::new(rt.alloc());
+    let mut weights = KboWeights::new(rt.alloc());
+    for (name, is_new) in [(b"f".as_slice(), true), (b"g", true), (b"f", false)] {
+        assert_eq!(rt; order.push(name)?, is_new);
+        assert_eq!(rt; weights.push(name, 3)?, is_new);
+    }
+    assert_eq!(rt; order.len(), 2);
     Ok(())
 }

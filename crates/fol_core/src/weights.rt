@@ -1,9 +1,11 @@
 // Rules of weights: what a pattern weighs, and the weights of symbols for an order of terms.
-ghost use Rattle.std.specs.Prelude.{◌≡◌, IfOk};
+ghost use Rattle.std.specs.Prelude.{◌≡◌, [], not, map, IfOk, OnOk, OnErr};
+ghost use Rattle.fol_core.specs.KboRows.{is_weighed, with_weight, kbo_rows_of};
 ghost use Rattle.fol_core.specs.WeightView.{weight_of};
 
 use crate::name::Name;
 use crate::term::Terms;
+use indexmap::IndexMap;
 use std::alloc::{AllocError, Global};
 use std::marker::Model;
 
@@ -76,4 +78,44 @@ pub struct WeightRule {
 pub struct KboWeight {
     pub name: Name,
     pub weight: u32,
+}
+
+/// The weights of names, each name once, in their order; contracts see the list of the names with their weights.
+#[derive(Drop)]
+pub struct KboWeights {
+    weights: IndexMap<Vec<u8>, u32>,
+}
+
+impl Model for KboWeights {
+    ghost use Rattle.std.specs.Prelude.{ℕ, List};
+    ghost use Rattle.fol_core.specs.KboRows.{kbo_rows_of};
+
+    ghost Value = { List (List ℕ × ℕ) };
+
+    ghost view = { λ a. kbo_rows_of a.weights.entries };
+}
+
+impl KboWeights {
+    /// No weights.
+    pub fn new(alloc: Global) -> KboWeights
+        ensures { result ≡ [] }
+    {
+        KboWeights {
+            weights: IndexMap::new(alloc),
+        }
+    }
+
+    /// Puts the weight of a name behind the others, unless the name has one; whether it had none.
+    pub fn push(&mut self, name: &[u8], weight: u32) -> Result<bool, AllocError>
+        ensures is_new { IfOk result (λ is_new. is_new ≡ not (is_weighed name.now self.old)) }
+        ensures ok { OnOk result (self.new ≡ with_weight name.now weight self.old) }
+        ensures err { OnErr result (self.new ≡ self.old) }
+    {
+        if self.weights.contains_key(name) {
+            return Ok(false);
+        }
+        let copy = Vec::from_slice(*self.weights.allocator(), name)?;
+        self.weights.insert(copy, weight)?;
+        Ok(true)
+    }
 }

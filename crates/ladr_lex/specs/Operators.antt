@@ -69,10 +69,6 @@ with_row name o (r ∷ rs) = if bytes_eq name r.name then record { name = r.name
 abbrev pub row : String → ℕ → OperatorKind → OperatorRow
 row name p kind = record { name = codes name; operator = Some (record { precedence = p; kind = kind }) }
 
--- equality and its denial
-abbrev pub first_rows : List OperatorRow
-first_rows = row "=" 700 Infix ∷ row "!=" 700 Infix ∷ []
-
 -- the operators at the start
 abbrev pub standard_rows : List OperatorRow
 standard_rows =

@@ -2,7 +2,7 @@
 ghost use Rattle.std.specs.Prelude.{◌≡◌, ◌↔◌, ◌&&◌, not, IfOk, OnOk, OnErr, Err, IsTrue, [], Some, false};
 ghost use Rattle.ladr_lex.specs.Cuts.{is_symbol};
 ghost use Rattle.ladr_lex.specs.OperatorView.{row_list, with_rows, may_be_put};
-ghost use Rattle.ladr_lex.specs.Operators.{OperatorRow, operator_of, if_prefix, if_after, is_prefix, is_word, has_precedence, are_lawful, first_rows, standard_rows, with_row, is_precedence, is_fixed, type_named, operator_with, unquoted, breaks_row_5, breaks_row_6, declared};
+ghost use Rattle.ladr_lex.specs.Operators.{OperatorRow, operator_of, if_prefix, if_after, is_prefix, is_word, has_precedence, are_lawful, standard_rows, with_row, is_precedence, is_fixed, type_named, operator_with, unquoted, breaks_row_5, breaks_row_6, declared};
 
 use crate::scan::{is_quoted, is_symbol};
 use indexmap::IndexMap;
@@ -99,19 +99,6 @@ impl Ops {
             (b"v", 500, OperatorKind::Infix),
             (b"-", 350, OperatorKind::Prefix),
             (b"'", 300, OperatorKind::Postfix),
-        ])?;
-        Ok(ops)
-    }
-
-    #[tactic(auto, unfolding(crate::specs::Bytes::is_ordinary, crate::specs::Bytes::is_special))]
-    /// Equality and its denial alone.
-    pub fn first_form(alloc: Global) -> Result<Ops, AllocError>
-        ensures { IfOk result (λ ops. ops ≡ first_rows) }
-    {
-        let mut ops = Ops::none(alloc);
-        ops.put_all(&[
-            (b"=".as_slice(), 700, OperatorKind::Infix),
-            (b"!=", 700, OperatorKind::Infix),
         ])?;
         Ok(ops)
     }

@@ -7,7 +7,7 @@ use Rattle.ladr_lex.specs.Bytes.{is_ordinary, is_special}
 use Rattle.std.specs.Str.{bytes_eq}
 use Rattle.fol_core.specs.RawTree.{RawTree}
 use Rattle.ladr_lex.specs.Lexeme.{Lexeme}
-use Rattle.ladr_lex.specs.Operators.{OperatorRow, operator_of, has_precedence, are_lawful, first_rows, standard_rows, is_prefix, if_prefix, if_after}
+use Rattle.ladr_lex.specs.Operators.{OperatorRow, operator_of, has_precedence, are_lawful, standard_rows, is_prefix, if_prefix, if_after}
 use Rattle.ladr_lex.specs.declared.operators.Operator.{Operator}
 use Rattle.ladr_lex.specs.declared.operators.OperatorKind.{OperatorKind}
 use Rattle.ladr_lex.specs.declared.operators.OperatorKind.TheVariants as kind
@@ -92,10 +92,6 @@ row_lawful (r ∷ rs) h s o e =
 -- the rows of a table of operators are lawful
 pub table_lawful : (rows : List OperatorRow) → are_lawful rows ≡ true → Lawful (table_of rows)
 table_lawful rows h = record { own = row_lawful rows h }
-
-pub first_lawful : Lawful (table_of first_rows)
-unfolding is_ordinary is_special
-first_lawful = table_lawful first_rows refl
 
 pub standard_lawful : Lawful (table_of standard_rows)
 unfolding is_ordinary is_special

@@ -7,7 +7,7 @@ use std::test::Fail;
 // Items behind one another, with one table of symbols; what formulas they are is proved.
 #[test]
 fn terms_are_read_as_formulas(rt: HostRuntime) -> Result<(), Fail> {
-    let ops = Ops::first_form(rt.alloc())?;
+    let ops = Ops::standard(rt.alloc())?;
     let mut symbols = Symbols::new(rt.alloc());
     for (text, mode, wanted) in [
         (b"all x p(x,f(y)).".as_slice(), Mode::Tester, Ok(2)),
@@ -37,7 +37,7 @@ fn variables(
 // An argument alone; what term it is is proved.
 #[test]
 fn arguments_are_read(rt: HostRuntime) -> Result<(), Fail> {
-    let ops = Ops::first_form(rt.alloc())?;
+    let ops = Ops::standard(rt.alloc())?;
     let tokens = tokens(rt.alloc(), b"f(x,g(a,y),x).").map_err(|_| "memory")?;
     let raw = read_term(rt.alloc(), &ops, &tokens).map_err(|_| "term")?;
     let mut args = Raws::new(rt.alloc());

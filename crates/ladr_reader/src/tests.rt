@@ -72,7 +72,7 @@ fn nesting_is_limited(rt: HostRuntime) -> Result<(), Fail> {
             text.extend_from_slice(closing)?;
         }
         text.push(b'.')?;
-        let ops = Ops::first_form(rt.alloc())?;
+        let ops = Ops::standard(rt.alloc())?;
         let tokens = tokens(rt.alloc(), &text).map_err(|_| "memory")?;
         let fault = read_term(rt.alloc(), &ops, &tokens).err();
         assert_eq!(rt; fault, wanted, "{count} {opening:?}");

@@ -1,8 +1,7 @@
 // Finite interpretations given by tables.
-ghost use Rattle.std.specs.Prelude.{◌≡◌, ◌+◌, ◌-◌, ◌<◌, ◌==◌, [], max, not, length, slice_index, IfOk, OnOk};
+ghost use Rattle.std.specs.Prelude.{◌≡◌, ◌+◌, ◌-◌, ◌<◌, ◌==◌, [], max, length, slice_index, IfOk, OnOk};
 ghost use Rattle.fol_core.specs.declared.symbols.Kind.TheVariants.{Function};
 ghost use Rattle.model_tables.specs.Expansion.{with_row};
-ghost use Rattle.std.specs.List.{list_all};
 ghost use Rattle.model_tables.specs.Tables.{listing, row_of, has, element, meaning_of};
 
 use fol_core::{Interpretation, Kind, Sym};
@@ -135,13 +134,6 @@ impl Tables {
             None => &[],
             Some(row) => row.values(),
         }
-    }
-
-    /// Whether each symbol that there is a row for has an entry.
-    pub fn is_whole(&self) -> bool
-        ensures { result ≡ list_all (λ row. not (length row.values == 0)) self.now.rows }
-    {
-        self.rows.iter().all(|row| !row.is_empty())
     }
 
     /// Whether a symbol has an entry.

@@ -1,0 +1,16 @@
+-- The weights of symbols by their names, each name once.
+use Rattle.std.specs.Prelude.{ℕ, Bool, if◌then◌else◌, List, [], ◌∷◌, ◌++◌, map}
+use Rattle.std.specs.Global.{Vec}
+use Rattle.fol_core.specs.NamesOnce.{is_in}
+
+-- the names with their weights that a program keeps
+abbrev pub kbo_rows_of : List (Vec ℕ × ℕ) → List (List ℕ × ℕ)
+kbo_rows_of rows = map (λ r. (r.0.items, r.1)) rows
+
+-- whether a name has a weight
+abbrev pub is_weighed : List ℕ → List (List ℕ × ℕ) → Bool
+is_weighed name rows = is_in name (map (λ r. r.0) rows)
+
+-- the rows with a name's weight at their end, unless it has one
+abbrev pub with_weight : List ℕ → ℕ → List (List ℕ × ℕ) → List (List ℕ × ℕ)
+with_weight name weight rows = if is_weighed name rows then rows else rows ++ (name, weight) ∷ []
