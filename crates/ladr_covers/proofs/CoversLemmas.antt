@@ -1,19 +1,13 @@
 -- The test tells what covering says.
-use Rattle.std.proofs.Common.{◌≡◌, ℕ, suc, not, length, map, List, [], ◌∷◌, ap, ◌+◌, ◌<◌, ◌≤◌, ◌==◌, Some, get_or, nat_lt, ◌⊎◌, inl, inr, Bool, true, false, ◌||◌, ◌&&◌, IsTrue, MatchBool, refl, arith}
+use Rattle.std.proofs.Common.{◌≡◌, ℕ, ◌+◌, ◌<◌, ◌==◌, nat_lt, Bool, true, false, ◌||◌, ◌&&◌, IsTrue, MatchBool, refl, arith}
 use Rattle.std.proofs.lemmas.Bool.{and_parts, or_left, or_right}
 use Rattle.std.proofs.lemmas.Bool.Decides.{nat_tests}
-use Rattle.std.proofs.lemmas.List.Sums.{fails_before_first, passes_at_first}
-use Rattle.std.proofs.Math.Nat.{eq-or-lt_of_le}
-use Rattle.std.specs.List.{position, position_or_len}
 use Rattle.fol_core.specs.Bound.{has_symbol, have_symbol, uses_symbol}
 use Rattle.fol_core.specs.Fol.{Fol, verum, falsum, equal, atom, denied, both, either, implies, iff, every, some}
-use Rattle.fol_core.specs.FormulaView.{fol_of}
 use Rattle.fol_core.specs.Occurs.{names_in, names_in_any, names}
-use Rattle.fol_core.specs.Stated.{all_said}
 use Rattle.fol_core.specs.Tree.{Tree, var, elem, app, Trees, none, more}
-use Rattle.fol_core.specs.declared.problem.Input.{Input}
 use Rattle.model_tables.specs.Tables.{Finite, has}
-use Rattle.ladr_covers.specs.Covers.{Covers, covers_term, covers_terms, covers, first_uncovered}
+use Rattle.ladr_covers.specs.Covers.{Covers, covers_term, covers_terms, covers}
 
 module _ (t : Finite) where
   -- the symbols that pass a test have entries, and the numbers that pass another name elements
@@ -98,35 +92,3 @@ module _ (t : Finite) where
 
   pub test_tells : (f : Fol) → MatchBool (covers t f) (Covers t f) (¬ Covers t f)
   test_tells f = decided (covers t f) (λ s. uses_symbol s f) (λ k. names k f) (tells f)
-
-first_of_some : (t : Finite) (inputs : List Input) → position_or_len (λ f. not (covers t f)) (map (λ s. s.formula) (all_said inputs)) ≡ position_or_len (λ (i : Input). not (covers t (fol_of i.formula.shape))) inputs
-first_of_some t [] = refl
-first_of_some t (i ∷ is) = rw (first_of_some t is) refl
-
-as_many : (inputs : List Input) → length (map (λ s. s.formula) (all_said inputs)) ≡ length inputs
-as_many [] = refl
-as_many (i ∷ is) = ap suc (as_many is)
-
--- the first of the formulas is that of the first input with such a formula
-pub first_of_inputs : (t : Finite) (inputs : List Input) → first_uncovered t (map (λ s. s.formula) (all_said inputs)) ≡ position (λ (i : Input). not (covers t (fol_of i.formula.shape))) inputs
-first_of_inputs t inputs = rw (first_of_some t inputs, as_many inputs) refl
-
-module _ {X : Type 0} (p : X → Bool) (xs : List X) (i : ℕ) (x : X) (is : x ≡ get_or xs i x) where
-  -- the first that passes is here where all before this one fail
-  pub first_here : i ≤ position_or_len p xs → i < length xs → p x ≡ true → position p xs ≡ Some i
-  first_here h l e = by (eq-or-lt_of_le h)
-    where
-      by : ((i ≡ position_or_len p xs) ⊎ (i < position_or_len p xs)) → position p xs ≡ Some i
-      by (inl same) = rw (← same) (grind (arith, nat_tests))
-      by (inr less) = let f : p (get_or xs i x) ≡ false = fails_before_first p xs i x less in cc
-
-  -- it is further on where this one fails as well
-  pub first_behind : i ≤ position_or_len p xs → i < length xs → p x ≡ false → i + 1 ≤ position_or_len p xs
-  first_behind h l e = by (eq-or-lt_of_le h)
-    where
-      by : ((i ≡ position_or_len p xs) ⊎ (i < position_or_len p xs)) → i + 1 ≤ position_or_len p xs
-      by (inl same) =
-          let there : position_or_len p xs < length xs = omega arith in
-          let passes : p (get_or xs (position_or_len p xs) x) ≡ true = passes_at_first p xs x there in
-          absurd cc
-      by (inr less) = omega arith

@@ -1,6 +1,5 @@
 -- Which formulas a finite interpretation covers.
-use Rattle.std.specs.Prelude.{ℕ, ◌+◌, ◌<◌, nat_lt, Bool, true, not, ◌&&◌, IsTrue, List, Option}
-use Rattle.std.specs.List.{position}
+use Rattle.std.specs.Prelude.{ℕ, ◌+◌, ◌<◌, nat_lt, Bool, true, ◌&&◌, IsTrue}
 use Rattle.fol_core.specs.Bound.{uses_symbol}
 use Rattle.fol_core.specs.Fol.{Fol, verum, falsum, equal, atom, denied, both, either, implies, iff, every, some}
 use Rattle.fol_core.specs.Occurs.{names}
@@ -35,7 +34,3 @@ covers t (implies f g) = covers t f && covers t g
 covers t (iff f g) = covers t f && covers t g
 covers t (every x f) = covers t f
 covers t (some x f) = covers t f
-
--- the place of the first formula that isn't covered
-abbrev pub first_uncovered : Finite → List Fol → Option ℕ
-first_uncovered t fs = position (λ f. not (covers t f)) fs

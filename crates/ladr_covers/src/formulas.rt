@@ -1,26 +1,12 @@
 // Which formulas a finite interpretation covers.
-ghost use Rattle.std.specs.Prelude.{◌≡◌, map};
+ghost use Rattle.std.specs.Prelude.{◌≡◌};
 ghost use Rattle.fol_core.specs.FormulaView.{fol_of};
-ghost use Rattle.fol_core.specs.Stated.{all_said};
 ghost use Rattle.fol_core.specs.TermView.{tree_of};
 ghost use Rattle.fol_core.specs.Tree.{trees_of};
-ghost use Rattle.ladr_covers.specs.Covers.{covers, covers_term, covers_terms, first_uncovered};
+ghost use Rattle.ladr_covers.specs.Covers.{covers, covers_term, covers_terms};
 
-use fol_core::{Formula, Input, Shape, Term, Terms};
+use fol_core::{Formula, Shape, Term, Terms};
 use model_tables::Tables;
-
-/// The place of the first formula that isn't covered.
-#[tactic(auto, using(crate::proofs::CoversLemmas::first_of_inputs))]
-pub fn first_uncovered(tables: &Tables, inputs: &[Input]) -> Option<usize>
-    ensures { result ≡ first_uncovered tables.now (map (λ s. s.formula) (all_said inputs.now)) }
-{
-    for (place, input) in inputs.iter().enumerate() {
-        if !covers(tables, &input.formula) {
-            return Some(place);
-        }
-    }
-    None
-}
 
 /// Whether an interpretation has an entry for each symbol of a formula, and an element for each number in it.
 pub fn covers(tables: &Tables, formula: &Formula) -> bool

@@ -4,5 +4,5 @@
 mod formulas;
 mod laws;
 
-pub use formulas::{covers, first_uncovered};
+pub use formulas::covers;
 pub use laws::{covers_all, worked};

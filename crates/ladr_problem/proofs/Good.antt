@@ -34,7 +34,8 @@ use Rattle.ladr_reader.specs.Nesting.{nesting}
 use Rattle.ladr_reader.specs.declared.styles.Mode.{Mode}
 use Rattle.ladr_reader.specs.declared.styles.Mode.TheVariants.{Prover, Mace, Tester}
 use Rattle.ladr_rules.specs.Attributes.{attributed, breaks_row_12, hint_weight_of}
-use Rattle.ladr_rules.specs.Rules.{Sides, rule_made, shaped_sides, kbo_rule, is_in}
+use Rattle.fol_core.specs.KboRows.{is_weighed}
+use Rattle.ladr_rules.specs.Rules.{Sides, rule_made, shaped_sides, kbo_rule}
 use Rattle.ladr_rules.specs.Shapes.{is_hint, is_demodulator}
 use Rattle.ladr_settings.proofs.Ranges.{after_in_range}
 use Rattle.ladr_settings.specs.Settings.{after, is_meant}
@@ -112,7 +113,7 @@ module _ (m : Mode) (byte : ℕ) (s : Sofar) (good : IsGood s) where
   kbo_good t =
       by_test (is_meant m s.settings) _ _
       (by_option (added_kbo s) (kbo_rule t) (Err (Row 15))
-      (λ r e. by_test (is_in r.0 (map (λ k. k.0) s.kbo_weights)) _ _ tt (record { sound = good.sound; ranged = good.ranged })) (λ e. tt))
+      (λ r e. by_test (is_weighed r.0 s.kbo_weights) _ _ tt (record { sound = good.sound; ranged = good.ranged })) (λ e. tt))
       good
 
   term_is_good : (list : OpenList) (t : RawTree) → IfOk (after_term m list byte s t) IsGood

@@ -4,6 +4,7 @@ use Rattle.std.specs.Option.{option_map_or}
 use Rattle.std.specs.declared.result.Result.{Result}
 use Rattle.std.specs.declared.result.Result.TheVariants.{Ok, Err}
 use Rattle.fol_core.specs.Fol.{Fol}
+use Rattle.fol_core.specs.KboRows.{is_weighed}
 use Rattle.fol_core.specs.RawTree.{RawTree}
 use Rattle.fol_core.specs.declared.problem.Role.TheVariants.{Assumption, Usable, Demodulator, Goal}
 use Rattle.ladr_commands.specs.Commands.{commands_of}
@@ -15,7 +16,7 @@ use Rattle.ladr_items.specs.ListItem.{ListItem, closing, term, IsListItem, IsIte
 use Rattle.ladr_lex.specs.Lexeme.{Lexeme}
 use Rattle.ladr_rules.specs.Attributes.{attributed, breaks_row_12, label_of, hint_weight_of}
 use Rattle.fol_core.specs.Weights.{Rule}
-use Rattle.ladr_rules.specs.Rules.{rule_in, kbo_rule, is_in}
+use Rattle.ladr_rules.specs.Rules.{rule_in, kbo_rule}
 use Rattle.ladr_rules.specs.Shapes.{is_hint, is_demodulator}
 use Rattle.ladr_problem.specs.Sofar.{Sofar, Listed}
 use Rattle.ladr_problem.specs.declared.refusal.Refusal.{Refusal}
@@ -131,7 +132,7 @@ abbrev pub after_weight : Mode → Sofar → RawTree → Result Sofar Refusal
 after_weight m s t = option_map_or (after_rule m s) (rule_in (style_in m s) s.symbols t) (unshaped m s)
 
 abbrev pub added_kbo : Sofar → List ℕ × ℕ → Result Sofar Refusal
-added_kbo s r = if is_in r.0 (map (λ k. k.0) s.kbo_weights) then Err (Row 15) else Ok (record s { kbo_weights = s.kbo_weights ++ r ∷ [] })
+added_kbo s r = if is_weighed r.0 s.kbo_weights then Err (Row 15) else Ok (record s { kbo_weights = s.kbo_weights ++ r ∷ [] })
 
 -- a KBO weight enters no symbol, and each name has one
 abbrev pub after_kbo : Mode → Sofar → RawTree → Result Sofar Refusal

@@ -3,7 +3,6 @@ use Rattle.std.specs.Prelude.{map}
 use Rattle.fol_core.specs.RuleView.{rule_of}
 use Rattle.ladr_problem.specs.Sofar.{Sofar, input_of, hint_of}
 use Rattle.ladr_problem.specs.declared.draft.Draft.{Draft}
-use Rattle.ladr_rules.specs.RuleSeen.{kbo_of}
 
 abbrev pub sofar_of : Draft → Sofar
 sofar_of d = record {
@@ -12,5 +11,5 @@ sofar_of d = record {
   formulas = map input_of d.inputs.items;
   hints = map hint_of d.hints.items;
   weights = map rule_of d.weights.items;
-  kbo_weights = map kbo_of d.kbo_weights.items;
+  kbo_weights = d.kbo_weights;
 }

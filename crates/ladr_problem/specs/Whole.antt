@@ -6,7 +6,6 @@ use Rattle.ladr_problem.specs.File.{Outcome, File, finished}
 use Rattle.ladr_problem.specs.Sofar.{Sofar, input_of, hint_of}
 use Rattle.ladr_problem.specs.declared.read.FileRead.{FileRead}
 use Rattle.ladr_reader.specs.declared.styles.Mode.{Mode}
-use Rattle.ladr_rules.specs.RuleSeen.{kbo_of}
 
 -- the code has what a file says
 pub record IsOf (s : Sofar) (r : FileRead) : Type 0 where
@@ -14,7 +13,7 @@ pub record IsOf (s : Sofar) (r : FileRead) : Type 0 where
   pub formulas : map input_of r.problem.inputs.items ≡ s.formulas
   pub hints : map hint_of r.problem.hints.items ≡ s.hints
   pub weights : map rule_of r.problem.weights.items ≡ s.weights
-  pub kbo_weights : map kbo_of r.problem.kbo_weights.items ≡ s.kbo_weights
+  pub kbo_weights : r.problem.kbo_weights ≡ s.kbo_weights
   pub function_order : r.problem.function_order ≡ s.settings.function_order
   pub options : r.problem.options ≡ s.settings.options
   pub operators : r.operators ≡ s.settings.operators

@@ -5,7 +5,7 @@ ghost use Rattle.ladr_problem.specs.Adding.{with_listed};
 ghost use Rattle.ladr_problem.specs.Draft.{sofar_of};
 ghost use Rattle.ladr_problem.specs.Sofar.{listed_of, nothing_read};
 
-use fol_core::{Formula, Hint, Input, KboWeight, Raw, Role, Symbols, WeightRule};
+use fol_core::{Formula, Hint, Input, KboWeights, Raw, Role, Symbols, WeightRule};
 use ladr_settings::{FormulaList, Settings};
 use std::alloc::{AllocError, Global};
 
@@ -17,7 +17,7 @@ pub struct Draft {
     pub inputs: Vec<Input>,
     pub hints: Vec<Hint>,
     pub weights: Vec<WeightRule>,
-    pub kbo_weights: Vec<KboWeight>,
+    pub kbo_weights: KboWeights,
 }
 
 impl Draft {
@@ -31,7 +31,7 @@ impl Draft {
             inputs: Vec::new(alloc),
             hints: Vec::new(alloc),
             weights: Vec::new(alloc),
-            kbo_weights: Vec::new(alloc),
+            kbo_weights: KboWeights::new(alloc),
         })
     }
 

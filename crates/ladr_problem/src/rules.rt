@@ -1,32 +1,17 @@
 // Rules of the lists of weights.
-ghost use Rattle.std.specs.Prelude.{◌≡◌, OnOk, IfErr, Ok, map};
-ghost use Rattle.std.specs.Option.{option_map};
+ghost use Rattle.std.specs.Prelude.{◌≡◌, OnOk, IfErr, Ok};
 ghost use Rattle.fol_core.specs.RawView.{raw_of};
 ghost use Rattle.ladr_problem.specs.Adding.{after_weight, after_kbo};
 ghost use Rattle.ladr_problem.specs.Draft.{sofar_of};
 ghost use Rattle.ladr_problem.specs.Reading.{IsNo, after_rule_read};
-ghost use Rattle.ladr_rules.specs.RuleSeen.{kbo_of};
-ghost use Rattle.ladr_rules.specs.Rules.{is_in};
 
 use crate::draft::Draft;
 use crate::formulas::MOST_SYMBOLS;
 use crate::refusal::Refusal;
-use fol_core::{KboWeight, Raw};
+use fol_core::Raw;
 use ladr_reader::Mode;
 use ladr_rules::{RuleRead, kbo_rule, weight_rule};
 use std::alloc::Global;
-
-// Whether a name has a weight.
-fn is_weighed(name: &[u8], weights: &[KboWeight]) -> bool
-    ensures { result ≡ is_in name.now (map (λ k. k.0) (map kbo_of weights.now)) }
-{
-    for other in weights {
-        if name == other.name.bytes() {
-            return true;
-        }
-    }
-    false
-}
 
 impl Draft {
     /// Takes a rule of the list of weights.
@@ -87,10 +72,9 @@ impl Draft {
         }
         match kbo_rule(alloc, raw) {
             Ok(Some(rule)) => {
-                if is_weighed(rule.name.bytes(), &self.kbo_weights) {
+                if !self.kbo_weights.push(rule.name.bytes(), rule.weight)? {
                     return Err(Refusal::Row(15));
                 }
-                self.kbo_weights.push(rule)?;
                 Ok(())
             }
             Ok(None) => Err(Refusal::Row(15)),

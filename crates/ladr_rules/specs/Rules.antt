@@ -3,6 +3,7 @@ use Rattle.std.specs.Prelude.{ℕ, Bool, true, false, not, ◌&&◌, ◌||◌, �
 use Rattle.std.specs.List.{list_any}
 use Rattle.std.specs.Option.{option_map, option_map_or}
 use Rattle.std.specs.Str.{bytes_eq}
+use Rattle.fol_core.specs.NamesOnce.{is_in}
 use Rattle.fol_core.specs.RawTree.{RawTree, RawTrees, named, quantified, no_raws, more_raws}
 use Rattle.fol_core.specs.Weights.{WeightTree, Rule, number, of_variable, plus, times}
 use Rattle.fol_core.specs.SymbolTable.{Symbol}
@@ -30,9 +31,6 @@ abbrev mutual
   pub all_names : Style → RawTrees → List (List ℕ)
   all_names st no_raws = []
   all_names st (more_raws t ts) = variable_names st t ++ all_names st ts
-
-abbrev pub is_in : List ℕ → List (List ℕ) → Bool
-is_in name names = list_any (λ n. bytes_eq name n) names
 
 -- `weight(x)` for one of these variables
 abbrev pub single_value : List (List ℕ) → List ℕ → RawTree → Bool

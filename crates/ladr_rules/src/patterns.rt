@@ -2,7 +2,8 @@
 ghost use Rattle.std.specs.Prelude.{◌≡◌};
 ghost use Rattle.fol_core.specs.RawTree.{named, no_raws, raws_of};
 ghost use Rattle.fol_core.specs.RawView.{raw_of};
-ghost use Rattle.ladr_rules.specs.Rules.{quantifies, some_quantifies, variable_names, all_names, is_in, too_great, some_too_great, pattern_row, is_shaped};
+ghost use Rattle.fol_core.specs.NamesOnce.{is_in};
+ghost use Rattle.ladr_rules.specs.Rules.{quantifies, some_quantifies, variable_names, all_names, too_great, some_too_great, pattern_row, is_shaped};
 ghost use Rattle.ladr_rules.specs.SidesView.{sides_view};
 
 use crate::sides::Sides;

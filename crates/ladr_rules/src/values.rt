@@ -4,7 +4,8 @@ ghost use Rattle.std.specs.Str.{bytes_eq};
 ghost use Rattle.fol_core.specs.RawTree.{raws_of};
 ghost use Rattle.fol_core.specs.RawView.{raw_of};
 ghost use Rattle.fol_core.specs.WeightView.{weight_of};
-ghost use Rattle.ladr_rules.specs.Rules.{all_names, is_in, single_value, is_value, single_weight, combined, value_of};
+ghost use Rattle.fol_core.specs.NamesOnce.{is_in};
+ghost use Rattle.ladr_rules.specs.Rules.{all_names, single_value, is_value, single_weight, combined, value_of};
 
 use crate::attributes::whole_number;
 use crate::patterns::have_variable;

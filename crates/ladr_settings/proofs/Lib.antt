@@ -1,2 +1,3 @@
+mod OrderLemmas
 mod Rows
 pub mod Ranges

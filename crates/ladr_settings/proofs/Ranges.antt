@@ -14,7 +14,8 @@ use Rattle.ladr_options.specs.Ranges.{AreInRange}
 use Rattle.ladr_options.specs.declared.options.Options.{Options}
 use Rattle.ladr_options.specs.declared.options.OptionError.{OptionError}
 use Rattle.ladr_reader.specs.declared.styles.Mode.{Mode}
-use Rattle.ladr_settings.specs.Settings.{after, after_meant, after_other, after_value, after_opening, all_declared, are_apart, is_other, flag_row, parameter_row, with_options, is_late_style, is_meant, formulas_opened, rules_opened}
+use Rattle.fol_core.specs.NamesOnce.{are_apart}
+use Rattle.ladr_settings.specs.Settings.{after, after_meant, after_other, after_value, after_opening, all_declared, is_other, flag_row, parameter_row, with_options, is_late_style, is_meant, formulas_opened, rules_opened}
 use Rattle.ladr_settings.specs.declared.lists.OpenList.{OpenList}
 use Rattle.ladr_settings.specs.declared.settings.Settings.{Settings}
 

@@ -5,6 +5,7 @@ use Rattle.std.specs.Option.{option_map_or}
 use Rattle.std.specs.Str.{bytes_eq}
 use Rattle.std.specs.declared.result.Result.{Result}
 use Rattle.std.specs.declared.result.Result.TheVariants.{Ok, Err}
+use Rattle.fol_core.specs.NamesOnce.{are_apart}
 use Rattle.ladr_commands.specs.ByName.{ByName}
 use Rattle.ladr_commands.specs.declared.command.Command.{Command}
 use Rattle.ladr_commands.specs.declared.command.Command.TheVariants as command
@@ -97,14 +98,6 @@ after_operators p type names s =
     else (if list_any breaks_row_6 names then Err 6
     else (if s.listed then Err 7
     else Ok (record s { operators = all_declared p type names s.operators })))
-
--- no name stands twice
-abbrev pub is_in : List ℕ → List (List ℕ) → Bool
-is_in name names = list_any (λ n. bytes_eq name n) names
-
-abbrev pub are_apart : List (List ℕ) → Bool
-are_apart [] = true
-are_apart (n ∷ ns) = not (is_in n ns) && are_apart ns
 
 -- a name that stands twice in an order is row 15
 abbrev pub after_order : List (List ℕ) → Settings → Result Settings ℕ

@@ -5,8 +5,8 @@ ghost use Rattle.ladr_settings.specs.Settings.{is_for, is_meant, after, after_me
 ghost use Rattle.ladr_settings.specs.declared.settings.Misuse.TheVariants.{Row, Memory};
 
 use crate::lists::OpenList;
-use crate::symbols::{are_apart, declare_all};
-use fol_core::{Name, Names};
+use crate::symbols::{declare_all, order_of};
+use fol_core::{Name, NameOrder, Names};
 use ladr_commands::{ByName, Command, Value};
 use ladr_lex::{DeclareError, Ops};
 use ladr_named::{Named, NamedError};
@@ -34,7 +34,7 @@ impl From<AllocError> for Misuse {
 pub struct Settings {
     pub operators: Ops,
     pub options: Options,
-    pub function_order: Names,
+    pub function_order: NameOrder,
     /// The name of the program that the items are for, inside `if`.
     pub block: Option<Name>,
     /// The list that is open.
@@ -52,7 +52,7 @@ impl Settings {
         Ok(Settings {
             operators: Ops::standard(alloc)?,
             options: Options::start(),
-            function_order: Names::new(alloc),
+            function_order: NameOrder::new(alloc),
             block: None,
             list: None,
             listed: false,
@@ -94,7 +94,7 @@ impl Settings {
             Command::Op(precedence, type_name, names) => {
                 self.declare(precedence, type_name.bytes(), &names)
             }
-            Command::FunctionOrder(names) => self.order(names),
+            Command::FunctionOrder(names) => self.order(alloc, &names),
             Command::PredicateOrder(_) => Ok(()),
             Command::Formulas(name) => self.open(OpenList::formulas(name.bytes())),
             Command::List(name) => self.open(OpenList::rules(name.bytes())),
@@ -159,15 +159,17 @@ impl Settings {
         Ok(())
     }
 
-    fn order(&mut self, names: Names) -> Result<(), Misuse>
-        ensures ok { OnOk result (after_order names self.old ≡ Ok self.new) }
-        ensures row { (k : ℕ) → result ≡ Err (Row k) → after_order names self.old ≡ Err k }
+    fn order(&mut self, alloc: Global, names: &Names) -> Result<(), Misuse>
+        ensures ok { OnOk result (after_order names.now self.old ≡ Ok self.new) }
+        ensures row { (k : ℕ) → result ≡ Err (Row k) → after_order names.now self.old ≡ Err k }
     {
-        if !are_apart(names.as_slice()) {
-            return Err(Misuse::Row(15));
+        match order_of(alloc, names.as_slice())? {
+            Some(order) => {
+                self.function_order = order;
+                Ok(())
+            }
+            None => Err(Misuse::Row(15)),
         }
-        self.function_order = names;
-        Ok(())
     }
 
     fn open(&mut self, list: OpenList) -> Result<(), Misuse>

@@ -1,34 +1,26 @@
 // Lists of names, and operators that are declared together.
-ghost use Rattle.std.specs.Prelude.{◌≡◌, nat_lt, length, ◌∷◌, ◌++◌, ◌&&◌, not, true, false, OnOk, OnErr, Err, List, [], ℕ, IsTrue};
+ghost use Rattle.std.specs.Prelude.{◌≡◌, nat_lt, length, ◌&&◌, true, false, if◌then◌else◌, OnOk, IfOk, Err, Some, None};
 ghost use Rattle.std.specs.List.{list_any};
+ghost use Rattle.fol_core.specs.NamesOnce.{are_apart};
 ghost use Rattle.ladr_lex.specs.Operators.{breaks_row_5, breaks_row_6, declared};
-ghost use Rattle.ladr_settings.specs.Settings.{are_apart, is_in, all_declared};
+ghost use Rattle.ladr_settings.specs.Settings.{all_declared};
 ghost use Rattle.ladr_lex.specs.declared.operators.DeclareError.TheVariants.{Row5, Row6};
 
-use fol_core::Name;
+use fol_core::{Name, NameOrder};
 use ladr_lex::{DeclareError, Ops};
+use std::alloc::{AllocError, Global};
 
-/// Whether no name stands twice.
-pub fn are_apart(names: &[Name]) -> bool
-    ensures { result ≡ are_apart names.now }
+/// The names as an order, unless one stands twice.
+pub fn order_of(alloc: Global, names: &[Name]) -> Result<Option<NameOrder>, AllocError>
+    ensures { IfOk result (λ order. order ≡ (if are_apart names.now then Some names.now else None)) }
 {
-    for place in 0..names.len() {
-        if is_in(names[place].bytes(), &names[place + 1..]) {
-            return false;
+    let mut order = NameOrder::new(alloc);
+    for name in names {
+        if !order.push(name.bytes())? {
+            return Ok(None);
         }
     }
-    true
-}
-
-fn is_in(name: &[u8], names: &[Name]) -> bool
-    ensures { result ≡ is_in name.now names.now }
-{
-    for other in names {
-        if name == other.bytes() {
-            return true;
-        }
-    }
-    false
+    Ok(Some(order))
 }
 
 /// Declares each of the symbols.

@@ -1,7 +1,8 @@
 use Rattle.std.proofs.Common.{◌∙◌, ◌+◌, ◌||◌, Bool, sym, ap}
 use Rattle.fol_core.specs.RawTree.{RawTrees}
 use Rattle.fol_core.specs.RawView.{raw_of}
-use Rattle.ladr_rules.specs.Rules.{is_in, variable_names, all_names}
+use Rattle.fol_core.specs.NamesOnce.{is_in}
+use Rattle.ladr_rules.specs.Rules.{variable_names, all_names}
 use Rattle.ladr_rules.proofs.Parts.{raws_from, raws_next, in_both}
 use Rattle.ladr_rules.proofs.patterns.+names.Goals as goal
 

@@ -1,7 +1,8 @@
 -- the terms so far don't have the variable: the rest decides
 use Rattle.std.proofs.Common.{◌≡◌}
 use Rattle.fol_core.specs.RawTree.{raws_of}
-use Rattle.ladr_rules.specs.Rules.{is_in, all_names}
+use Rattle.fol_core.specs.NamesOnce.{is_in}
+use Rattle.ladr_rules.specs.Rules.{all_names}
 use Rattle.ladr_rules.proofs.Parts.{raws_from}
 use Rattle.ladr_rules.proofs.patterns.+names.Given as goal
 
