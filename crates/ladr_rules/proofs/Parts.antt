@@ -4,12 +4,13 @@ use Rattle.std.proofs.Math.Bool.{or-false}
 use Rattle.std.proofs.lemmas.List.{drop_more, drop_all}
 use Rattle.std.proofs.lemmas.List.Folds.{list_any-append}
 use Rattle.std.specs.Str.{bytes_eq}
+use Rattle.fol_core.specs.NamesOnce.{is_in}
 use Rattle.fol_core.specs.RawTree.{RawTree, RawTrees, named, no_raws, more_raws, raws_of}
 use Rattle.fol_core.specs.RawView.{raw_of, raw_list}
 use Rattle.fol_core.specs.declared.raw.Raw.{Raw}
 use Rattle.ladr_reader.specs.Formulas.{is_free_name}
 use Rattle.ladr_reader.specs.declared.styles.Style.{Style}
-use Rattle.ladr_rules.specs.Rules.{is_in, variable_names, all_names, is_bare}
+use Rattle.ladr_rules.specs.Rules.{variable_names, all_names, is_bare}
 use Rattle.ladr_rules.proofs.Arities.{no_none}
 
 -- the terms from a place on

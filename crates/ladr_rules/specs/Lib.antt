@@ -4,3 +4,4 @@ pub mod Rules
 pub mod Seen
 pub mod Shapes
 pub mod SidesView
+pub mod Worked

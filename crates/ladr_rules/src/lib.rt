@@ -3,6 +3,7 @@
 
 mod attributes;
 mod kbo;
+mod laws;
 mod patterns;
 mod rules;
 mod shapes;
@@ -11,6 +12,7 @@ mod values;
 
 pub use attributes::Stated;
 pub use kbo::kbo_rule;
+pub use laws::{worked, worked_rules};
 pub use rules::{RuleRead, weight_rule};
 pub use shapes::{is_demodulator, is_hint};
 
