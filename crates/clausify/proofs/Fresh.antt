@@ -1,10 +1,10 @@
 -- Skolem symbols are different from each other and from those of the problem.
-use Rattle.std.proofs.Common.{◌≡◌, ◌⊎◌, inl, inr, ℕ, zero, suc, ◌+◌, ◌^◌, ◌<◌, ◌≤◌, ◌==◌, Bool, true, false, if◌then◌else◌, IsTrue, List, [], ◌∷◌, ◌++◌, length, slice_index, Option, Some, None, is_some, unwrap_or, refl, sym, ap, ◌∙◌, subst, arith}
+use Rattle.std.proofs.Common.{◌≡◌, ◌⊎◌, inl, inr, ℕ, zero, suc, ◌+◌, ◌*◌, ◌^◌, ◌<◌, ◌≤◌, ◌==◌, Bool, true, false, if◌then◌else◌, IsTrue, List, [], ◌∷◌, ◌++◌, length, slice_index, Option, Some, None, is_some, unwrap_or, refl, sym, ap, ◌∙◌, subst, arith}
 use Rattle.std.specs.Prelude.{slice_get}
 use Rattle.std.specs.Fmt.{decimal}
 use Rattle.std.specs.Str.{bytes_eq}
 use Rattle.std.proofs.lemmas.Bool.{or_left, or_right, false≢true, true≢false, false_from_ne_true, ne_eqb, cases_lt}
-use Rattle.std.proofs.lemmas.Fmt.{decimal_injective}
+use Rattle.std.proofs.lemmas.Nat.{mul-le}
 use Rattle.std.proofs.lemmas.Slice.Eq.{bytes_eq-Decides}
 use Rattle.fol_core.specs.Bound.{uses_symbol}
 use Rattle.fol_core.specs.Fol.{Fol, verum, falsum, equal, atom, denied, both, either, implies, iff, every, some}
@@ -17,8 +17,9 @@ use Rattle.fol_core.specs.Witnesses.{Witness, AreNotIn, IsApart, AreInOrder}
 use Rattle.fol_core.proofs.Soundness.{uses_closed}
 use Rattle.fol_core.proofs.SymbolLemmas.{symbol_there, number_of_push}
 use Rattle.clausify.specs.Input.{form, is_taken, all_arities, witnesses_from}
-use Rattle.clausify.specs.Names.{numbered, is_named, free_from, next_free, next_name, next_constant, next_function, skolem_symbols, all_entered, entered_numbers, AreNames}
+use Rattle.clausify.specs.Names.{numbered, is_named, free_from, next_free, next_name, next_constant, next_function, skolem_symbols, all_entered, entered_numbers, IsNew}
 use Rattle.clausify.specs.Skolem.{somes, arities, witnesses}
+use Rattle.clausify.proofs.FreeNames.{number_told, next_is_free, next_upto}
 use Rattle.clausify.proofs.Bodies.{form_uses, witnesses_many, many_in_two, around_none, IsAllowed, IsOrdered, ordered_two, ordered}
 use Rattle.clausify.proofs.SkolemLemmas.{kept_through}
 use Rattle.clausify.proofs.WholeLaws.{apart_of, free_of}
@@ -81,7 +82,7 @@ all_stand table (s ∷ ss) =
 
 -- names behind the last numbers
 abbrev IsAfter : ℕ → ℕ → List ℕ → Type 0
-IsAfter c f name = ((n : ℕ) × ((name ≡ numbered 99 n) × ((c < n) × (n < 2 ^ 64)))) ⊎ ((n : ℕ) × ((name ≡ numbered 102 n) × ((f < n) × (n < 2 ^ 64))))
+IsAfter c f name = ((n : ℕ) × ((name ≡ numbered 99 n) × ((c < n) × (n < 10 ^ 64)))) ⊎ ((n : ℕ) × ((name ≡ numbered 102 n) × ((f < n) × (n < 10 ^ 64))))
 
 abbrev AllAfter : ℕ → ℕ → List Symbol → Type 0
 AllAfter c f [] = Unit {0}
@@ -117,13 +118,52 @@ function_after input f a = by (a == 0)
     by false = omega (arith, free_after input 102 f)
 
 -- the name of the next symbol is behind the last numbers, and those behind the next ones are others
-name_after : (input : List Symbol) (c f a : ℕ) → next_constant input c a < 2 ^ 64 → next_function input f a < 2 ^ 64 → IsAfter c f (next_name input c f a)
+name_after : (input : List Symbol) (c f a : ℕ) → next_constant input c a < 10 ^ 64 → next_function input f a < 10 ^ 64 → IsAfter c f (next_name input c f a)
 name_after input c f a = by (a == 0)
   where
-    by : (b : Bool) → (if b then next_free input 99 c else c) < 2 ^ 64 → (if b then f else next_free input 102 f) < 2 ^ 64
+    by : (b : Bool) → (if b then next_free input 99 c else c) < 10 ^ 64 → (if b then f else next_free input 102 f) < 10 ^ 64
         → IsAfter c f (if b then numbered 99 (next_free input 99 c) else numbered 102 (next_free input 102 f))
     by true h k = inl (next_free input 99 c, (refl, (free_after input 99 c, h)))
     by false h k = inr (next_free input 102 f, (refl, (free_after input 102 f, k)))
+
+-- the names of symbols with these arities are new, and their numbers have as many digits as are written
+abbrev AreNames : List Symbol → ℕ → ℕ → List ℕ → Type 0
+AreNames input c f [] = Unit {0}
+AreNames input c f (a ∷ later) =
+    IsNew input (next_name input c f a) × (next_constant input c a < 10 ^ 64) × (next_function input f a < 10 ^ 64) × AreNames input (next_constant input c a) (next_function input f a) later
+
+name_new : (input : List Symbol) (c f a : ℕ) → c + (length input + 1) < 10 ^ 64 → f + (length input + 1) < 10 ^ 64 → IsNew input (next_name input c f a)
+name_new input c f a h k = by (a == 0)
+  where
+    by : (b : Bool) → IsNew input (if b then numbered 99 (next_free input 99 c) else numbered 102 (next_free input 102 f))
+    by true = record { letter = 99; number = next_free input 99 c; skolem = inl refl; is = refl; free = next_is_free input 99 c (omega (arith, h)) }
+    by false = record { letter = 102; number = next_free input 102 f; skolem = inr refl; is = refl; free = next_is_free input 102 f (omega (arith, k)) }
+
+-- a symbol more takes no more numbers than the table is long, and one
+constant_upto : (input : List Symbol) (c a : ℕ) → next_constant input c a ≤ c + (length input + 1)
+constant_upto input c a = by (a == 0)
+  where
+    by : (b : Bool) → (if b then next_free input 99 c else c) ≤ c + (length input + 1)
+    by true = next_upto input 99 c
+    by false = omega arith
+
+function_upto : (input : List Symbol) (f a : ℕ) → next_function input f a ≤ f + (length input + 1)
+function_upto input f a = by (a == 0)
+  where
+    by : (b : Bool) → (if b then f else next_free input 102 f) ≤ f + (length input + 1)
+    by true = omega arith
+    by false = next_upto input 102 f
+
+are_names : (input : List Symbol) (c f : ℕ) (later : List ℕ) → c + length later * (length input + 1) < 10 ^ 64 → f + length later * (length input + 1) < 10 ^ 64 → AreNames input c f later
+are_names input c f [] h k = tt
+are_names input c f (a ∷ later) h k =
+    let d = constant_upto input c a in
+    let g = function_upto input f a in (
+      name_new input c f a (omega (arith, h)) (omega (arith, k)),
+      omega (arith, h, d),
+      omega (arith, k, g),
+      are_names input (next_constant input c a) (next_function input f a) later (omega (arith, h, d)) (omega (arith, k, g)),
+    )
 
 names_after : (input : List Symbol) (c f : ℕ) (later : List ℕ) → AreNames input c f later → AllAfter c f (skolem_symbols input c f later)
 names_after input c f [] h = tt
@@ -136,17 +176,11 @@ names_after input c f (a ∷ later) h = (
 first_of : (x y : ℕ) (xs ys : List ℕ) → x ∷ xs ≡ y ∷ ys → x ≡ y
 first_of x y xs ys e = cc
 
-rest_of : (x y : ℕ) (xs ys : List ℕ) → x ∷ xs ≡ y ∷ ys → xs ≡ ys
-rest_of x y xs ys e = cc
-
-number_told : (letter m n : ℕ) → m < 2 ^ 64 → n < 2 ^ 64 → numbered letter m ≡ numbered letter n → m ≡ n
-number_told letter m n h k e = decimal_injective m n h k (rest_of letter letter (decimal m) (decimal n) e)
-
-other_name : (input : List Symbol) (c f a : ℕ) (name : List ℕ) → next_constant input c a < 2 ^ 64 → next_function input f a < 2 ^ 64
+other_name : (input : List Symbol) (c f a : ℕ) (name : List ℕ) → next_constant input c a < 10 ^ 64 → next_function input f a < 10 ^ 64
     → IsAfter (next_constant input c a) (next_function input f a) name → next_name input c f a ≡ name → ⊥
 other_name input c f a name = by (a == 0)
   where
-    by : (b : Bool) → (if b then next_free input 99 c else c) < 2 ^ 64 → (if b then f else next_free input 102 f) < 2 ^ 64
+    by : (b : Bool) → (if b then next_free input 99 c else c) < 10 ^ 64 → (if b then f else next_free input 102 f) < 10 ^ 64
         → IsAfter (if b then next_free input 99 c else c) (if b then f else next_free input 102 f) name → (if b then numbered 99 (next_free input 99 c) else numbered 102 (next_free input 102 f)) ≡ name → ⊥
     by true h k (inl i) e = absurd (omega (arith, i.1.1.0, number_told 99 (next_free input 99 c) i.0 h i.1.1.1 (e ∙ i.1.0)))
     by true h k (inr i) e = absurd (omega (arith, first_of 99 102 (decimal (next_free input 99 c)) (decimal i.0) (e ∙ i.1.0)))
@@ -287,12 +321,16 @@ numbers_many table [] = refl
 numbers_many table (s ∷ ss) = omega (arith, numbers_many (entered table s) ss)
 
 -- what is to be shown of all: they stand in an order to be filled in, and none is a symbol of the formulas
-pub all_in_order : (input table : List Symbol) (ss : List Said) → length input ≤ equality → AreSound (length input) ss → KeepsNumbers input table → AreNames input 0 0 (all_arities ss)
+pub all_in_order : (input table : List Symbol) (ss : List Said) → length input ≤ equality → AreSound (length input) ss → KeepsNumbers input table
+    → length (witnesses_from (entered_numbers table (skolem_symbols input 0 0 (all_arities ss))) 0 ss) ≤ equality
     → AreInOrder (witnesses_from (entered_numbers table (skolem_symbols input 0 0 (all_arities ss))) 0 ss) × AreNewTo ss (witnesses_from (entered_numbers table (skolem_symbols input 0 0 (all_arities ss))) 0 ss)
-all_in_order input table ss le sound keeps names =
-    let S = entered_numbers table (skolem_symbols input 0 0 (all_arities ss)) in
+all_in_order input table ss le sound keeps few =
+    let later = all_arities ss in
+    let S = entered_numbers table (skolem_symbols input 0 0 later) in
     let ws = witnesses_from S 0 ss in
-    let is_fresh = numbers_fresh input table (all_arities ss) keeps names in
+    let as_many = from_many S 0 ss in
+    let below = mul-le (length later) (length input + 1) equality (equality + 1) (omega (arith, few, as_many)) (omega (arith, le)) in
+    let is_fresh = numbers_fresh input table later keeps (are_names input 0 0 later (omega (arith, below)) (omega (arith, below))) in
     let h = from_ordered (length input) S 0 ss le sound in
-    let many : length ws ≤ length S = omega (arith, from_many S 0 ss, numbers_many table (skolem_symbols input 0 0 (all_arities ss)), symbols_many input 0 0 (all_arities ss)) in
+    let many : length ws ≤ length S = omega (arith, as_many, numbers_many table (skolem_symbols input 0 0 later), symbols_many input 0 0 later) in
     (in_order (length input) S is_fresh 0 ws (omega (arith, many)) h, new_to (length input) S is_fresh ss ws sound many h)

@@ -5,6 +5,7 @@ mod Closures
 mod Crossing
 mod Denials
 mod FormSets
+mod FreeNames
 mod Fresh
 mod FormTruth
 mod WholeLaws

@@ -1,6 +1,5 @@
 -- Skolem symbols in a table.
-use Rattle.std.proofs.Common.{◌≡◌, ◌<◌, ◌≤◌, ◌^◌, ℕ, zero, suc, ◌+◌, Bool, true, false, not, ◌==◌, if◌then◌else◌, length, drop, get_or, List, [], ◌∷◌, ◌++◌, Option, Some, None, is_some, unwrap_or, refl, sym, ap, ap₂, ◌∙◌, subst, add-one, drop-cons, append_assoc}
-use Rattle.std.proofs.lemmas.List.{drop_all}
+use Rattle.std.proofs.Common.{◌≡◌, ◌<◌, ℕ, zero, suc, ◌+◌, Bool, true, false, not, ◌==◌, if◌then◌else◌, length, drop, get_or, List, [], ◌∷◌, ◌++◌, Option, Some, None, is_some, unwrap_or, refl, sym, ap, ap₂, ◌∙◌, add-one, drop-cons, append_assoc}
 use Rattle.std.specs.Option.{option_map_or}
 use Rattle.std.specs.Str.{bytes_eq}
 use Rattle.std.proofs.lemmas.Bool.{and_parts, true≢false}
@@ -9,7 +8,7 @@ use Rattle.fol_core.specs.SymbolTable.{Symbol, symbol, is_called, number_of, nam
 use Rattle.fol_core.specs.declared.symbols.Kind.{Kind}
 use Rattle.fol_core.specs.declared.symbols.Kind.TheVariants.{Function, Relation}
 use Rattle.fol_core.proofs.Places.{first_place-found}
-use Rattle.clausify.specs.Names.{is_named, HasNoSkolemRelation, IsNew, skolem_symbols, next_name, next_constant, next_function, all_entered, entered_numbers, AreNames}
+use Rattle.clausify.specs.Names.{is_named, HasNoSkolemRelation, IsNew, skolem_symbols, next_name, next_constant, next_function, all_entered, entered_numbers}
 
 -- a new name clashes with no symbol
 pub no_clash : (input table : List Symbol) (name : List ℕ) (arity : ℕ) → HasNoSkolemRelation input table → IsNew input name → is_clash table (symbol name arity Function) ≡ false
@@ -70,13 +69,3 @@ numbers_next input table after arities made i c f d g a n lt is entering number 
     (rw (entering, d_is, g_is) refl)
     ∙ ap (entered_numbers table) (sym (rest_next input arities i c f a lt is))
     )
-
--- one more name is new
-pub names_next : (input : List Symbol) (arities : List ℕ) (i c f d g a : ℕ) → i < length arities → a ≡ get_or arities i 0 → d ≡ next_constant input c a → g ≡ next_function input f a
-    → IsNew input (next_name input c f a) → d < 2 ^ 64 → g < 2 ^ 64 → (AreNames input c f (drop i arities) → AreNames input 0 0 arities) → AreNames input d g (drop (i + 1) arities) → AreNames input 0 0 arities
-names_next input arities i c f d g a lt is d_is g_is new small few all rest =
-    let parts : drop i arities ≡ a ∷ drop (i + 1) arities = rw (add-one, drop-cons arities i 0) (ap (λ b. b ∷ drop (suc i) arities) (sym is)) in
-    all (subst (AreNames input c f) (sym parts) (new, rw (← d_is) small, rw (← g_is) few, rw (← d_is, ← g_is) rest))
-
-pub names_end : (input : List Symbol) (arities : List ℕ) (i c f : ℕ) → length arities ≤ i → AreNames input c f (drop i arities)
-names_end input arities i c f past = subst (AreNames input c f) (sym (drop_all i arities past)) tt

@@ -1,5 +1,5 @@
 -- The names of Skolem symbols, and their numbers in a table.
-use Rattle.std.specs.Prelude.{ℕ, zero, suc, ◌≡◌, ◌⊎◌, ◌+◌, ◌^◌, ◌<◌, ◌==◌, Bool, true, false, if◌then◌else◌, length, List, [], ◌∷◌, unwrap_or}
+use Rattle.std.specs.Prelude.{ℕ, zero, suc, ◌≡◌, ◌⊎◌, ◌+◌, ◌==◌, Bool, true, false, if◌then◌else◌, length, List, [], ◌∷◌, unwrap_or}
 use Rattle.std.specs.List.{list_any}
 use Rattle.std.specs.Str.{bytes_eq}
 use Rattle.std.specs.Fmt.{decimal}
@@ -67,9 +67,3 @@ pub record IsNew (input : List Symbol) (name : List ℕ) : Type 0 where
   pub skolem : (letter ≡ 99) ⊎ (letter ≡ 102)
   pub is : name ≡ numbered letter number
   pub free : is_named input name ≡ false
-
--- the names of symbols with these arities are new, and their numbers those of the code
-abbrev pub AreNames : List Symbol → ℕ → ℕ → List ℕ → Type 0
-AreNames input c f [] = Unit {0}
-AreNames input c f (a ∷ later) =
-    IsNew input (next_name input c f a) × (next_constant input c a < 2 ^ 64) × (next_function input f a < 2 ^ 64) × AreNames input (next_constant input c a) (next_function input f a) later

@@ -1,6 +1,10 @@
 // Laws of clauses, of every interpretation: the functions do nothing, and their contracts are the laws.
-ghost use Rattle.std.specs.Prelude.{List};
-ghost use Rattle.fol_core.specs.SymbolTable.{Symbol};
+ghost use Rattle.std.specs.Prelude.{List, length, ◌≤◌};
+ghost use Rattle.fol_core.specs.Literals.{equality};
+ghost use Rattle.fol_core.specs.Stated.{Stated, IsSound, AreNewTo};
+ghost use Rattle.fol_core.specs.SymbolTable.{Symbol, KeepsNumbers};
+ghost use Rattle.fol_core.specs.Witnesses.{AreInOrder};
+ghost use Rattle.clausify.specs.Input.{witnesses_in_table};
 ghost use Rattle.clausify.specs.Laws.{ClausesSuffice, ClausesFollow};
 ghost use Rattle.clausify.specs.Names.{HasNoSkolemRelation};
 ghost use Rattle.clausify.specs.Worked.{WorkedIff, WorkedSingle, WorkedGoal, WorkedNames, WorkedNested, WorkedConstants, WorkedLimit, WorkedSymbols};
@@ -20,6 +24,13 @@ pub fn clauses_follow<I: Interpretation>(any: &I)
 /// A table that has the problem's symbols alone is one that the Skolem symbols can be entered into.
 pub fn own_table()
     ensures { (table : List Symbol) → HasNoSkolemRelation table table }
+{}
+
+/// Each Skolem symbol's body has those before it alone, and no formula has one, where there are no more of them than numbers
+/// of symbols.
+pub fn witnesses_are_in_order()
+    ensures order { (table : List Symbol) (p : Stated) → IsSound p → length p.symbols ≤ equality → KeepsNumbers p.symbols table → length (witnesses_in_table table p) ≤ equality → AreInOrder (witnesses_in_table table p) }
+    ensures new { (table : List Symbol) (p : Stated) → IsSound p → length p.symbols ≤ equality → KeepsNumbers p.symbols table → length (witnesses_in_table table p) ≤ equality → AreNewTo p.formulas (witnesses_in_table table p) }
 {}
 
 /// Some formulas worked out.

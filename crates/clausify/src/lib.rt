@@ -16,7 +16,7 @@ mod seen;
 mod skolem;
 
 pub use error::ClauseError;
-pub use laws::{clauses_follow, clauses_suffice, own_table, worked};
+pub use laws::{clauses_follow, clauses_suffice, own_table, witnesses_are_in_order, worked};
 pub use problem::clauses_of;
 
 #[cfg(test)]

@@ -59,11 +59,7 @@ pub fn next_free(
         }
         number = after(number)?;
     }
-    if is_free(alloc, names, letter, number)? {
-        Ok(number)
-    } else {
-        Err(AllocError)
-    }
+    Ok(number)
 }
 
 // Whether a letter with a number is none of the names.

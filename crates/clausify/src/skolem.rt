@@ -1,8 +1,8 @@
 // The Skolem symbols of a problem.
-ghost use Rattle.std.specs.Prelude.{◌≡◌, ◌<◌, ◌^◌, IfOk, OnOk, OnErr, Some, false};
+ghost use Rattle.std.specs.Prelude.{◌≡◌, IfOk, OnOk, OnErr, Some, false};
 ghost use Rattle.fol_core.specs.SymbolTable.{symbol, number_of, entered, is_clash, KeepsNumbers};
 ghost use Rattle.fol_core.specs.declared.symbols.Kind.TheVariants.{Function};
-ghost use Rattle.clausify.specs.Names.{next_name, next_constant, next_function, skolem_symbols, all_entered, entered_numbers, HasNoSkolemRelation, HasNames, IsNew, AreNames};
+ghost use Rattle.clausify.specs.Names.{next_name, next_constant, next_function, skolem_symbols, all_entered, entered_numbers, HasNoSkolemRelation, HasNames, IsNew};
 
 use crate::names::{names_of, next_free, numbered};
 use fol_core::{Clash, Kind, Symbols};
@@ -26,14 +26,10 @@ impl Last {
         arity: u64,
     ) -> Result<Vec<u8>, AllocError>
         requires taken { HasNames input.now names.now.keys }
-        requires small { self.old.constants < 2 ^ 64 }
-        requires few { self.old.functions < 2 ^ 64 }
         ensures name { IfOk result (λ name. name.items ≡ next_name input.now self.old.constants self.old.functions arity) }
         ensures constants { OnOk result (self.new.constants ≡ next_constant input.now self.old.constants arity) }
         ensures functions { OnOk result (self.new.functions ≡ next_function input.now self.old.functions arity) }
         ensures new { OnOk result (IsNew input.now (next_name input.now self.old.constants self.old.functions arity)) }
-        ensures small { OnOk result (self.new.constants < 2 ^ 64) }
-        ensures few { OnOk result (self.new.functions < 2 ^ 64) }
     {
         if arity == 0 {
             self.constants = next_free(alloc, input, names, b'c', self.constants)?;
@@ -71,16 +67,11 @@ fn enter_next(
 ) -> Result<u64, AllocError>
     requires taken { HasNames input.now names.now.keys }
     requires none { HasNoSkolemRelation input.now symbols.old }
-    requires small { last.old.constants < 2 ^ 64 }
-    requires few { last.old.functions < 2 ^ 64 }
     ensures table { OnOk result (symbols.new ≡ entered symbols.old (symbol (next_name input.now last.old.constants last.old.functions arity) arity Function)) }
     ensures number { IfOk result (λ n. number_of symbols.new (next_name input.now last.old.constants last.old.functions arity) arity ≡ Some n) }
     ensures constants { OnOk result (last.new.constants ≡ next_constant input.now last.old.constants arity) }
     ensures functions { OnOk result (last.new.functions ≡ next_function input.now last.old.functions arity) }
     ensures none { OnOk result (HasNoSkolemRelation input.now symbols.new) }
-    ensures new { OnOk result (IsNew input.now (next_name input.now last.old.constants last.old.functions arity)) }
-    ensures small { OnOk result (last.new.constants < 2 ^ 64) }
-    ensures few { OnOk result (last.new.functions < 2 ^ 64) }
     ensures kept { KeepsNumbers symbols.old symbols.new }
 {
     let name = last.next(alloc, input, names, arity)?;
@@ -88,7 +79,7 @@ fn enter_next(
 }
 
 /// Enters the Skolem symbols with these numbers of arguments, and tells their numbers.
-#[tactic(auto, using(crate::proofs::SkolemLemmas::table_next, crate::proofs::SkolemLemmas::numbers_next, crate::proofs::SkolemLemmas::names_next, crate::proofs::SkolemLemmas::names_end, crate::proofs::SkolemLemmas::kept_through))]
+#[tactic(auto, using(crate::proofs::SkolemLemmas::table_next, crate::proofs::SkolemLemmas::numbers_next, crate::proofs::SkolemLemmas::kept_through))]
 pub fn enter_all(
     alloc: Global,
     input: &Symbols,
@@ -98,7 +89,6 @@ pub fn enter_all(
     requires { HasNoSkolemRelation input.now symbols.old }
     ensures table { OnOk result (symbols.new ≡ all_entered symbols.old (skolem_symbols input.now 0 0 arities.now)) }
     ensures numbers { IfOk result (λ made. made.items ≡ entered_numbers symbols.old (skolem_symbols input.now 0 0 arities.now)) }
-    ensures names { OnOk result (AreNames input.now 0 0 arities.now) }
     ensures kept { KeepsNumbers symbols.old symbols.new }
 {
     let names = names_of(alloc, input)?;

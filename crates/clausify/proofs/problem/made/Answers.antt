@@ -1,19 +1,32 @@
-use Rattle.fol_core.specs.Stated.{all_said}
-use Rattle.clausify.specs.Input.{all_arities}
-use Rattle.clausify.specs.Names.{AreNames}
+use Rattle.std.proofs.Common.{◌≡◌, ◌≤◌, List, length, map, refl, sym, ap, subst, arith}
+use Rattle.std.proofs.lemmas.List.{length-map}
+use Rattle.fol_core.specs.EntryView.{witness_of}
+use Rattle.fol_core.specs.Literals.{equality}
+use Rattle.fol_core.specs.Stated.{Stated, stated_of, IsSound, AreNewTo}
+use Rattle.fol_core.specs.SymbolTable.{Symbol, KeepsNumbers}
+use Rattle.fol_core.specs.Witnesses.{AreInOrder}
+use Rattle.fol_core.specs.declared.clause.Entry.{Entry}
+use Rattle.clausify.specs.Input.{witnesses_in_table}
 use Rattle.clausify.proofs.Fresh.{all_in_order}
 use Rattle.clausify.proofs.problem.made.Goals as goal
 
+-- what is noted is in order, and new to the formulas
+noted : (table : List Symbol) (p : Stated) (es : List Entry) → length es ≤ equality → map witness_of es ≡ witnesses_in_table table p → length p.symbols ≤ equality → IsSound p → KeepsNumbers p.symbols table
+    → AreInOrder (map witness_of es) × AreNewTo p.formulas (map witness_of es)
+noted table p es few told small sound keeps =
+    let all = all_in_order p.symbols table p.formulas small sound keeps (omega (arith, few, length-map es witness_of, ap length told)) in
+    (subst AreInOrder (sym told) all.0, subst (AreNewTo p.formulas) (sym told) all.1)
+
 pub returns-clause-order : goal.returns-clause-order
 returns-clause-order c =
-    let p = c.args.problem.now in
-    let names : AreNames p.symbols 0 0 (all_arities (all_said p.inputs.items)) = rw (c.deref-2.ensures.value, c.in_ok-arities.ensures, c.deref.ensures.value) at c.in_ok-numbers.ensures.names in
-    rw (c.in_ok-clauses.ensures.witnesses, c.deref-3.ensures.value, c.in_ok-numbers.ensures.numbers, c.deref-2.ensures.value, c.in_ok-arities.ensures, c.deref.ensures.value, c.deref-4.ensures.value)
-    (all_in_order p.symbols c.args.symbols.now (all_said p.inputs.items) c.requires.small c.requires.sound c.requires.table names).0
+    let entries = c.in_ok-clauses.skolem in
+    (noted c.args.symbols.now (stated_of c.args.problem.now) entries.items (omega (arith, entries.ok.0, entries.ok.1, entries.small))
+    (rw (c.in_ok-clauses.ensures.witnesses, c.deref-3.ensures.value, c.in_ok-numbers.ensures.numbers, c.deref-2.ensures.value, c.in_ok-arities.ensures, c.deref.ensures.value, c.deref-4.ensures.value) refl)
+    c.requires.small c.requires.sound c.requires.table).0
 
 pub returns-clause-new : goal.returns-clause-new
 returns-clause-new c =
-    let p = c.args.problem.now in
-    let names : AreNames p.symbols 0 0 (all_arities (all_said p.inputs.items)) = rw (c.deref-2.ensures.value, c.in_ok-arities.ensures, c.deref.ensures.value) at c.in_ok-numbers.ensures.names in
-    rw (c.in_ok-clauses.ensures.witnesses, c.deref-3.ensures.value, c.in_ok-numbers.ensures.numbers, c.deref-2.ensures.value, c.in_ok-arities.ensures, c.deref.ensures.value, c.deref-4.ensures.value)
-    (all_in_order p.symbols c.args.symbols.now (all_said p.inputs.items) c.requires.small c.requires.sound c.requires.table names).1
+    let entries = c.in_ok-clauses.skolem in
+    (noted c.args.symbols.now (stated_of c.args.problem.now) entries.items (omega (arith, entries.ok.0, entries.ok.1, entries.small))
+    (rw (c.in_ok-clauses.ensures.witnesses, c.deref-3.ensures.value, c.in_ok-numbers.ensures.numbers, c.deref-2.ensures.value, c.in_ok-arities.ensures, c.deref.ensures.value, c.deref-4.ensures.value) refl)
+    c.requires.small c.requires.sound c.requires.table).1
