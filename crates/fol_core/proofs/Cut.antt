@@ -4,8 +4,8 @@ use Rattle.std.specs.Global.{Vec}
 use Rattle.std.specs.List.{AllByRecursion}
 use Rattle.std.specs.Option.{option_map}
 use Rattle.std.proofs.lemmas.List.{take-map}
-use Rattle.fol_core.specs.SymbolTable.{Symbol, is_called, first_place, number_of, FindsEach}
-use Rattle.fol_core.specs.SymbolRows.{Row, bytes_at, place_of, symbol_of, symbols_of, IsTable}
+use Rattle.fol_core.specs.SymbolTable.{Symbol, is_called, first_place, FindsEach}
+use Rattle.fol_core.specs.SymbolRows.{Row, symbol_of, symbols_of, IsTable}
 
 -- what stands in a front stands in the whole, before the front's end
 slice_get_front : {X : Type 0} (n : ℕ) (xs : List X) (k : ℕ) (x : X) → slice_get (take n xs) k ≡ Some x → (slice_get xs k ≡ Some x) × (k < n)

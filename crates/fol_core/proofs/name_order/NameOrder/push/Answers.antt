@@ -1,5 +1,5 @@
 -- The copy of a new name goes last.
-use Rattle.std.proofs.Common.{◌≡◌, true, false, not, sym, ap, ◌∙◌}
+use Rattle.std.proofs.Common.{◌≡◌, false, not, sym, ap, ◌∙◌}
 use Rattle.fol_core.specs.NamesOnce.{is_in, with_name, names_of}
 use Rattle.fol_core.proofs.NamesOnceLemmas.{is_among, name_put, there_stays}
 use Rattle.fol_core.proofs.name_order.NameOrder.push.Goals as goal

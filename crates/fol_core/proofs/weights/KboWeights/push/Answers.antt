@@ -1,5 +1,5 @@
 -- The row of a new name goes last.
-use Rattle.std.proofs.Common.{◌≡◌, true, false, not, sym, ap, ◌∙◌}
+use Rattle.std.proofs.Common.{◌≡◌, false, not, sym, ap, ◌∙◌}
 use Rattle.fol_core.specs.KboRows.{is_weighed, with_weight, kbo_rows_of}
 use Rattle.fol_core.proofs.KboLemmas.{has_weight, row_put, there_stays}
 use Rattle.fol_core.proofs.weights.KboWeights.push.Goals as goal
