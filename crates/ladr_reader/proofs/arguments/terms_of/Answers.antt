@@ -1,5 +1,5 @@
-use Rattle.std.proofs.Common.{◌≡◌, ◌<◌, ◌∙◌, List, [], IsTrue, length, ap, subst}
-use Rattle.fol_core.specs.Bound.{have_symbol, HaveSymbolsBelow}
+use Rattle.std.proofs.Common.{◌≡◌, ◌∙◌, List, [], length, ap, subst}
+use Rattle.fol_core.specs.Bound.{HaveSymbolsBelow}
 use Rattle.fol_core.specs.RawTree.{RawTrees, raws_of}
 use Rattle.fol_core.specs.SymbolTable.{Symbol, KeepsNumbers}
 use Rattle.fol_core.specs.Tree.{Trees, trees_of}
