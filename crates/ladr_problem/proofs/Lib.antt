@@ -4,3 +4,4 @@ pub mod Once
 pub mod Readings
 pub mod Starts
 pub mod Takings
+pub mod WorkedFiles

@@ -7,3 +7,4 @@ pub mod Refusals
 pub mod Sofar
 pub mod Stops
 pub mod Whole
+pub mod Worked

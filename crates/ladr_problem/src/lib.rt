@@ -11,6 +11,6 @@ mod rules;
 mod stop;
 mod take;
 
-pub use laws::{one_outcome, worked};
+pub use laws::{one_outcome, worked, worked_formulas};
 pub use read::{FileRead, MOST_BYTES, read_problem};
 pub use refusal::{Limit, Place, ReadError};

@@ -1,20 +1,12 @@
-use Rattle.std.proofs.Common.{◌≡◌, ℕ, List, [], length, codes, refl, true, leb}
-use Rattle.std.proofs.lemmas.Bool.{leb-true}
+use Rattle.std.proofs.Common.{[], codes, refl, true}
 use Rattle.ladr_commands.specs.declared.command.Command.TheVariants.{Flag, If, EndIf, Formulas}
-use Rattle.ladr_items.specs.Items.{items_of}
-use Rattle.ladr_lex.proofs.Lexing.{cuts_text}
 use Rattle.ladr_lex.specs.Bytes.{is_blank, is_ordinary, is_special}
-use Rattle.ladr_lex.specs.Lexed.{lexed, start_of}
+use Rattle.ladr_lex.specs.Lexed.{start_of}
 use Rattle.ladr_problem.specs.Adding.{command}
-use Rattle.ladr_problem.specs.File.{Outcome, File, Says, items, ends, open_list, breaks, goes_on, finished, most_bytes}
-use Rattle.ladr_problem.specs.Sofar.{nothing_read}
+use Rattle.ladr_problem.specs.File.{ends, open_list, breaks, goes_on}
+use Rattle.ladr_problem.proofs.WorkedFiles.{says}
 use Rattle.ladr_problem.specs.declared.refusal.Refusal.TheVariants.{Row}
 use Rattle.ladr_problem.proofs.laws.worked.Goals as goal
-use Rattle.ladr_reader.specs.declared.styles.Mode.{Mode}
-
--- what the items say is what the bytes say
-says : (m : Mode) (bytes : List ℕ) (o : Outcome) → leb (length bytes) most_bytes ≡ true → File m (length bytes) nothing_read (items_of (lexed bytes)) o → Says m bytes (finished m (length bytes) o)
-says m bytes o few file = items (lexed bytes) (leb-true _ _ few) (cuts_text bytes) file
 
 pub returns-clause-nothing : goal.returns-clause-nothing
 returns-clause-nothing _ = says _ [] _ refl (ends refl refl)

@@ -1,0 +1,26 @@
+-- What files say, worked out item by item.
+use Rattle.std.proofs.Common.{◌≡◌, ℕ, List, [], length, Some, true, leb}
+use Rattle.std.proofs.lemmas.Bool.{leb-true}
+use Rattle.fol_core.specs.RawTree.{RawTree}
+use Rattle.ladr_items.specs.Items.{items_of}
+use Rattle.ladr_items.specs.ListItem.{term, closing_tokens, IsListItem}
+use Rattle.ladr_lex.proofs.Lexing.{cuts_text}
+use Rattle.ladr_lex.specs.Lexed.{lexed}
+use Rattle.ladr_lex.specs.Lexeme.{Lexeme}
+use Rattle.ladr_problem.specs.File.{Outcome, File, Says, items, finished, most_bytes}
+use Rattle.ladr_problem.specs.Sofar.{nothing_read}
+use Rattle.ladr_reader.proofs.Lawful.{standard_lawful}
+use Rattle.ladr_reader.proofs.Moves.{operand}
+use Rattle.ladr_reader.proofs.Runs.{run_item}
+use Rattle.ladr_reader.specs.Machine.{go, standing}
+use Rattle.ladr_reader.specs.Worked.{standard}
+use Rattle.ladr_reader.specs.declared.place.Place.TheVariants.{Done}
+use Rattle.ladr_reader.specs.declared.styles.Mode.{Mode}
+
+-- what the items say is what the bytes say
+pub says : (m : Mode) (bytes : List ℕ) (o : Outcome) → leb (length bytes) most_bytes ≡ true → File m (length bytes) nothing_read (items_of (lexed bytes)) o → Says m bytes (finished m (length bytes) o)
+says m bytes o few file = items (lexed bytes) (leb-true _ _ few) (cuts_text bytes) file
+
+-- a run of the machine of terms reads a term of a list
+pub read : {ts : List Lexeme} {t : RawTree} (q : ℕ) → (¬ ts ≡ closing_tokens) → go 500 standard (operand []) ts ≡ standing (Some (Done (Some t) q)) [] → IsListItem standard ts (term t)
+read q other run = (other, run_item standard standard_lawful _ _ q run)
