@@ -19,9 +19,9 @@ use Rattle.ladr_top.proofs.Stories.{told_behind, told_weaker, printed_told, piec
 use Rattle.model_tables.specs.Size.{formulas_of}
 
 -- the line of a size that is skipped is cut
-pub cut_at_skipped : (p : Stated) (s : Settings) (t : Times) (n k : ℕ) (a b : Option (List ℕ)) (made : Result (Vec ℕ) AllocError) (why : Cause) → n ≤ s.end → n < size_needed (formulas_of p) → IfOk made (λ v. v.items ≡ skipped_line n) → Told (IsNothingOr made) (λ d u. ⊥) a b why
+pub cut_at_skipped : (p : Stated) (s : Settings) (t : Times) (n k : ℕ) (a b : Option (List ℕ)) (made : Result (Vec ℕ) AllocError) (why : Cause) → n ≤ s.end → n < size_needed (formulas_of p) → k < s.wanted → IfOk made (λ v. v.items ≡ skipped_line n) → Told (IsNothingOr made) (λ d u. ⊥) a b why
     → Told (Proceeds p s n k) (Stops p s t n k) a b why
-cut_at_skipped p s t n k a b made why within small is told = piece_told (Proceeds p s n k) (Stops p s t n k) made (skipped_line n) a b why is (inl refl) (inr (inr (skipped, within, small, refl))) told
+cut_at_skipped p s t n k a b made why within small fewer is told = piece_told (Proceeds p s n k) (Stops p s t n k) made (skipped_line n) a b why is (inl refl) (inr (inr (skipped, within, small, omega (arith, fewer), refl))) told
 
 -- the sizes before n ended so, and so many models were printed
 pub record Ended (p : Stated) (s : Settings) (n : ℕ) (sizes : List Size) (k : ℕ) (a b : Option (List ℕ)) : Type 0 where
@@ -96,6 +96,7 @@ ends_in p s t n sizes k a b c why so_far fewer told =
     let goes : (u : List ℕ) → Proceeds p s n k u → SearchGoes p s (front ++ u) = λ u h. record {
       sizes = sizes;
       ended = so_far.ended;
+      fewer = omega (arith, so_far.count, fewer);
       rest = u;
       proceeds = subst (λ (m : ℕ). Proceeds p s (size_behind s (length sizes)) m u) so_far.count (subst (λ (m : ℕ). Proceeds p s m k u) so_far.next h);
       text_is = refl;

@@ -1,9 +1,11 @@
 pub mod Begun
 pub mod Commands
 pub mod Ended
+pub mod FewSymbols
 pub mod Found
 pub mod OneEnd
 pub mod Printed
 pub mod Readings
+pub mod Shown
 pub mod Stories
 pub mod Told

@@ -3,6 +3,7 @@ pub mod Outcome
 pub mod Output
 pub mod Pieces
 pub mod Search
+pub mod Shown
 pub mod Skolems
 pub mod Verdicts
 pub mod Watching

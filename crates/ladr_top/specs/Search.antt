@@ -46,6 +46,11 @@ most_cells s = s.megs * 65536
 abbrev pub HasRoom : Settings → ℕ → Type 0
 HasRoom s cells = (cells < refused_cells) × (cells < most_cells s)
 
+-- where there are models of a size, there is room for its cells
+abbrev pub HasRoomFor : Stated → Settings → ℕ → List Finite → Type 0
+HasRoomFor p s n [] = Unit {0}
+HasRoomFor p s n (t ∷ ts) = HasRoom s (all_cells n p)
+
 -- How a size ended: it was skipped, or searched to its end, with all its models as they are printed.
 pub data Size : Type 0 where
   skipped : Size
@@ -156,7 +161,7 @@ Stops p s t n k (GroundLimit size) text =
     IsInTime s.seconds t × IsBegun p s n × ((rest : List ℕ) × StopsForRoom s n k (all_cells n p) (GroundLimit size) rest × (text ≡ size_line n ++ rest))
 Stops p s t n k (MaxSeconds first last) text =
     IsLate (stop_of s.seconds t) t last × (first ≡ t.first) × IsBegun p s n
-    × ((ts : List Finite) × AreFirstExpanded p n ts × (k + length ts < s.wanted) × (text ≡ size_line n ++ (models_text p k ts ++ (models_line (k + length ts) ++ seconds_line first last))))
+    × ((ts : List Finite) × AreFirstExpanded p n ts × HasRoomFor p s n ts × (k + length ts < s.wanted) × (text ≡ size_line n ++ (models_text p k ts ++ (models_line (k + length ts) ++ seconds_line first last))))
 Stops p s t n k Words text = ⊥
 Stops p s t n k (Unreadable place) text = ⊥
 Stops p s t n k (TooLarge byte what) text = ⊥
@@ -167,12 +172,12 @@ Stops p s t n k Memory text = ⊥
 Stops p s t n k (ClauseLimit formula) text = ⊥
 
 -- What is printed of size n, before which k models were printed, while it isn't over: nothing, or its line and its first
--- models; or it has ended.
+-- models, no more than are wanted; or it has ended, and more are wanted.
 abbrev pub Proceeds : Stated → Settings → ℕ → ℕ → List ℕ → Type 0
 Proceeds p s n k text =
     (text ≡ [])
-    ⊎ ((IsBegun p s n × ((ts : List Finite) × AreFirstExpanded p n ts × (text ≡ size_line n ++ models_text p k ts)))
-    ⊎ ((size : Size) × (n ≤ s.end) × HasEnded p s n size × (text ≡ size_text p n k size)))
+    ⊎ ((IsBegun p s n × ((ts : List Finite) × AreFirstExpanded p n ts × HasRoomFor p s n ts × (k + length ts ≤ s.wanted) × (text ≡ size_line n ++ models_text p k ts)))
+    ⊎ ((size : Size) × (n ≤ s.end) × HasEnded p s n size × (k + models_in size < s.wanted) × (text ≡ size_text p n k size)))
 
 -- The search for models of what is stated ends for this cause, with this text as the whole output.
 pub record SearchEnds (p : Stated) (s : Settings) (t : Times) (cause : Cause) (text : List ℕ) : Type 0 where
@@ -187,6 +192,7 @@ pub record SearchEnds (p : Stated) (s : Settings) (t : Times) (cause : Cause) (t
 pub record SearchGoes (p : Stated) (s : Settings) (text : List ℕ) : Type 0 where
   pub sizes : List Size
   pub ended : HaveEnded p s s.start sizes
+  pub fewer : models_in_all sizes < s.wanted
   pub rest : List ℕ
   pub proceeds : Proceeds p s (size_behind s (length sizes)) (models_in_all sizes) rest
   pub text_is : text ≡ sizes_text p s.step s.start 0 sizes ++ rest

@@ -1,15 +1,24 @@
 // What the definitions of a run amount to.
-ghost use Rattle.std.specs.Prelude.{◌≡◌, ◌≢◌, ◌<◌, ℕ, List, [], ◌∷◌, None, Some, true, false, codes};
+ghost use Rattle.std.specs.Prelude.{◌≡◌, ◌≢◌, ◌<◌, ℕ, List, [], ◌∷◌, All, None, Some, true, false, codes};
 ghost use Rattle.ladr_io.specs.Streams.{greatest};
+ghost use Rattle.ladr_io.specs.Times.{Times};
 ghost use Rattle.ladr_options.specs.Options.{start};
+ghost use Rattle.ladr_problem.specs.File.{Says, problem};
+ghost use Rattle.ladr_problem.specs.Sofar.{Sofar, stated_in};
+ghost use Rattle.ladr_reader.specs.declared.styles.Mode.TheVariants.{Mace};
 ghost use Rattle.ladr_top.specs.Outcome.{Given, Ends};
 ghost use Rattle.ladr_top.specs.Output.{report};
-ghost use Rattle.ladr_top.specs.Search.{settings_of, sizes_text};
-ghost use Rattle.ladr_top.specs.Skolems.{all_cells};
+ghost use Rattle.ladr_top.specs.Search.{SearchEnds, SearchGoes, refused_cells, settings_of, sizes_text};
+ghost use Rattle.ladr_top.specs.Shown.{IsShown, AreAllShown, EndShows, FrontShows};
+ghost use Rattle.ladr_top.specs.Skolems.{all_cells, AreFirstExpanded, AreAllExpanded};
 ghost use Rattle.ladr_top.specs.Verdicts.{AreTrueAsTold};
 ghost use Rattle.ladr_top.specs.Worked.{meaning_in, involution, exchange, constant, zeros, bare, lonely, lonely_sizes, lonely_text};
 ghost use Rattle.ladr_top.specs.declared.cause.Cause.{Cause};
 ghost use Rattle.ladr_top.specs.declared.cause.Cause.TheVariants.{ReadFault};
+ghost use Rattle.ladr_top.specs.declared.settings.Settings.{Settings};
+ghost use Rattle.model_tables.specs.Tables.{Finite};
+
+use clausify::witnesses_are_in_order;
 
 /// What the source gave, and whether its count of faults rose, determine cause and output.
 pub fn one_outcome()
@@ -17,6 +26,18 @@ pub fn one_outcome()
     // Where the count can rise no further, cause and output are determined but for a fault of the source.
     ensures otherwise { (g : Given) (c d : Cause) (t u : List ℕ) → c ≢ ReadFault → d ≢ ReadFault → Ends g c t → Ends g d u → (c ≡ d) × (t ≡ u) }
 {}
+
+/// Where an input says a problem, and there is room for the cells of a size, the models that are printed of it make each assumption
+/// true and each goal false, and their Skolem symbols pick witnesses. Where it is exhausted, each model of it is one of them.
+pub fn printed_models()
+    ensures first { (bytes : List ℕ) (s : Sofar) (n : ℕ) (us : List Finite) → Says Mace bytes (problem s) → all_cells n (stated_in s) < refused_cells → AreFirstExpanded (stated_in s) n us → All (IsShown (stated_in s) n) us }
+    ensures all { (bytes : List ℕ) (s : Sofar) (n : ℕ) (us : List Finite) → Says Mace bytes (problem s) → all_cells n (stated_in s) < refused_cells → AreAllExpanded (stated_in s) n us → AreAllShown (stated_in s) n us }
+    // So it is of all models that a search prints, to its end or so far.
+    ensures end { (bytes : List ℕ) (s : Sofar) (asked : Settings) (t : Times) (cause : Cause) (text : List ℕ) → Says Mace bytes (problem s) → (h : SearchEnds (stated_in s) asked t cause text) → EndShows (stated_in s) asked t cause text h }
+    ensures so_far { (bytes : List ℕ) (s : Sofar) (asked : Settings) (text : List ℕ) → Says Mace bytes (problem s) → (h : SearchGoes (stated_in s) asked text) → FrontShows (stated_in s) asked text h }
+{
+    witnesses_are_in_order();
+}
 
 /// A function that is its own inverse, and whether it leaves an element where it is. Where a variable is free the formula is
 /// asked for each of its elements, so the second of the other formulas is false.

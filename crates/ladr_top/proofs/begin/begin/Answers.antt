@@ -17,4 +17,4 @@ returns-clause-told g c =
     let is : IfOk c.size.result (λ v. v.items ≡ size_line c.args.n) = subst (λ (m : ℕ). IfOk c.size.result (λ v. v.items ≡ size_line m)) c.from.ensures c.size.ensures in
     let took = printed_text c.size.result (size_line c.args.n) _ _ is c.in_ok-piece.ensures.done in
     let early = in_time c.look.new.self c.args.settings.seconds (g.C.Clock.times c.look.new.clock) (c.in_default.ensures.same ∙ c.requires.seconds) c.in_default.ensures.late in
-    IfErr-weaker c.room.result _ _ (λ why told. no_room c.args.asked.now c.args.settings (g.C.Clock.times c.look.new.clock) c.args.n c.args.k c.in-Ok.cells _ _ _ why c.requires.begun early c.in-Ok.ensures took told) c.room.ensures.told
+    IfErr-weaker c.room.result _ _ (λ why told. no_room c.args.asked.now c.args.settings (g.C.Clock.times c.look.new.clock) c.args.n c.args.k c.in-Ok.cells _ _ _ why c.requires.begun c.requires.fewer early c.in-Ok.ensures took told) c.room.ensures.told

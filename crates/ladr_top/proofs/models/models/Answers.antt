@@ -1,12 +1,15 @@
 use Rattle.std.proofs.Common.{◌≡◌, ◌+◌, ℕ, [], ◌∷◌, ◌++◌, Option, IfOk, sym, subst, refl, ap, ◌∙◌, arith}
-use Rattle.ladr_io.proofs.StreamLaws.{Takes-append}
+use Rattle.ladr_io.proofs.StreamLaws.{Takes-none, Takes-append}
 use Rattle.ladr_top.specs.Output.{exhausted_line}
 use Rattle.ladr_top.specs.Search.{models_text, stop_of}
-use Rattle.ladr_top.proofs.Found.{first_of, nothing_yet, all_found, cut_at_end, cut_model, printed_model, further, all_wanted, too_late}
+use Rattle.ladr_top.proofs.Found.{first_of, room_for, line_alone, nothing_yet, all_found, cut_at_end, cut_model, printed_model, further, all_wanted, too_late}
 use Rattle.ladr_top.proofs.Stories.{printed_text, watched_on, late_on, in_time, early_at, goes_nowhere, goes_joined, handed_on}
 use Rattle.mace_search.specs.Plain.{Search}
 use Rattle.mace_search.specs.Watch.{IsEarly, GoesOn}
 use Rattle.ladr_top.proofs.models.models.Goals as goal
+
+pub returns-in-Err-clause-told : goal.returns-in-Err-clause-told
+returns-in-Err-clause-told g c = ([], line_alone c.args.asked.now c.args.settings c.args.n c.args.k c.requires.begun c.requires.fewer, Takes-none _)
 
 pub returns-in_err-piece-in-Exhausted-clause-told : goal.returns-in_err-piece-in-Exhausted-clause-told
 returns-in_err-piece-in-Exhausted-clause-told g c =
@@ -14,7 +17,7 @@ returns-in_err-piece-in-Exhausted-clause-told g c =
     let is : IfOk c.exhausted.result (λ v. v.items ≡ exhausted_line c.args.n) = subst (λ (m : ℕ). IfOk c.exhausted.result (λ v. v.items ≡ exhausted_line m)) c.from.ensures c.exhausted.ensures in
     let none = (c.in-Exhausted.ensures.tells so_far.1.late).0 in
     handed_on c.from_residual.result c.in_err-piece-in-Exhausted.field-0.0 _ c.from_residual.ensures.1
-    (cut_at_end c.args.asked.now c.args.settings _ c.args.n c.args.k so_far.0 c.loop-printed.search c.loop-printed.printed _ _ _ c.exhausted.result c.in_err-piece-in-Exhausted.field-0.0 c.requires.begun c.requires.room so_far.1 none is c.in_err-piece-in-Exhausted.ensures.told)
+    (cut_at_end c.args.asked.now c.args.settings _ c.args.n c.args.k so_far.0 c.loop-printed.search c.loop-printed.printed _ _ _ c.exhausted.result c.in_err-piece-in-Exhausted.field-0.0 c.requires.begun c.requires.room c.loop-printed-test.true so_far.1 none is c.in_err-piece-in-Exhausted.ensures.told)
 
 pub returns-in-Exhausted-clause-all : goal.returns-in-Exhausted-clause-all
 returns-in-Exhausted-clause-all g c =
@@ -33,7 +36,7 @@ returns-in-MaxSeconds-clause-told g c =
     let t = g.C.Clock.times c.next_model.new.clock in
     let goes = goes_joined c.loop-printed.search.stop _ _ t c.loop-printed.invariant.goes (c.in-MaxSeconds.ensures.clock so_far.1.late) in
     let late = late_on c.args.watch c.args.settings.seconds c.loop-printed.search.stop _ t c.in-MaxSeconds.last c.requires.seconds c.requires.looked c.loop-printed.invariant.stop goes (c.in-MaxSeconds.ensures.tells so_far.1.late).2 in
-    too_late c.args.asked.now c.args.settings t c.args.n c.args.k so_far.0 c.loop-printed.printed c.unwrap_or-first.result c.in-MaxSeconds.last _ _ _ c.time_is_over-text.result c.conclude.result c.requires.begun (first_of so_far.1) so_far.1.count so_far.1.took c.loop-printed-test.true late.0 (c.unwrap_or-first.ensures ∙ late.1) c.time_is_over-text.ensures c.conclude.ensures.printed
+    too_late c.args.asked.now c.args.settings t c.args.n c.args.k so_far.0 c.loop-printed.printed c.unwrap_or-first.result c.in-MaxSeconds.last _ _ _ c.time_is_over-text.result c.conclude.result c.requires.begun (first_of so_far.1) (room_for c.args.asked.now c.args.settings c.args.n so_far.0 c.requires.room) so_far.1.count so_far.1.took c.loop-printed-test.true late.0 (c.unwrap_or-first.ensures ∙ late.1) c.time_is_over-text.ensures c.conclude.ensures.printed
 
 pub loop-printed-init : goal.loop-printed-init
 loop-printed-init g c =
@@ -72,7 +75,7 @@ returns-in_err-piece-clause-told g c =
     let so_far = c.loop-printed.invariant.so_far in
     let tells = c.in-Model.ensures.tells so_far.1.late in
     handed_on c.from_residual-in_err-piece.result c.in_err-piece.field-0.0 _ c.from_residual-in_err-piece.ensures.1
-    (cut_model c.args.asked.now c.args.settings _ c.args.n c.args.k so_far.0 c.loop-printed.search c.loop-printed.printed c.tables.result.now c.next_model.new.self.tables _ _ _ c.text-text.result c.in_err-piece.field-0.0 c.requires.begun so_far.1 tells.0 c.tables.ensures c.text-text.ensures c.in_err-piece.ensures.told)
+    (cut_model c.args.asked.now c.args.settings _ c.args.n c.args.k so_far.0 c.loop-printed.search c.loop-printed.printed c.tables.result.now c.next_model.new.self.tables _ _ _ c.text-text.result c.in_err-piece.field-0.0 c.requires.begun c.requires.room c.loop-printed-test.true so_far.1 tells.0 c.tables.ensures c.text-text.ensures c.in_err-piece.ensures.told)
 
 pub returns-clause-told : goal.returns-clause-told
 returns-clause-told g c =
