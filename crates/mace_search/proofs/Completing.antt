@@ -6,6 +6,7 @@ use Rattle.mace_search.specs.Complete.{AreModels, IsNew, AreDifferent, HasRenami
 use Rattle.mace_search.specs.Models.{IsModel, AreFirst, AreAll, behind}
 use Rattle.model_tables.specs.Order.{first_of, table_number}
 use Rattle.model_tables.specs.Renaming.{IsRenaming}
+use Rattle.model_tables.specs.Size.{IsInterpretation}
 use Rattle.model_tables.specs.Tables.{Finite}
 use Rattle.model_tables.proofs.Exchange.{in_place}
 use Rattle.model_tables.proofs.Orders.{interpretation_shape, shape_turned, shape_joined, number_decides}
@@ -28,14 +29,14 @@ are_different p n k (t ∷ ts) h = (is_new p n (suc (table_number t)) t ts (omeg
 pub first_models : (p : Stated) (n k : ℕ) (ts : List Finite) → AreFirst p n k ts → AreModels p n ts × AreDifferent ts
 first_models p n k ts h = (are_models p n k ts h, are_different p n k ts h)
 
--- a number tells the model
-by_number : (p : Stated) (n : ℕ) (t u : Finite) → IsModel p n t → IsModel p n u → table_number t ≡ table_number u → t ≡ u
+-- a number tells the interpretation
+pub by_number : (p : Stated) (n : ℕ) (t u : Finite) → IsInterpretation n p t → IsInterpretation n p u → table_number t ≡ table_number u → t ≡ u
 by_number p n t u h k e =
-    let a = interpretation_shape n p t h.0 in
-    let b = interpretation_shape n p u k.0 in
+    let a = interpretation_shape n p t h in
+    let b = interpretation_shape n p u k in
     number_decides t u (shape_joined t (first_of n p) u (shape_turned (first_of n p) t a.0) b.0) a.1 b.1 e
 
-itself : (p : Stated) (n : ℕ) (t u : Finite) → t ≡ u → (r : ℕ → ℕ) × IsRenaming n p r t u
+pub itself : (p : Stated) (n : ℕ) (t u : Finite) → t ≡ u → (r : ℕ → ℕ) × IsRenaming n p r t u
 itself p n t u e = ((λ x. x), subst (λ (v : Finite). IsRenaming n p (λ x. x) t v) e (in_place n p t))
 
 among : (p : Stated) (n k : ℕ) (ts : List Finite) (u : Finite) → AreFirst p n k ts → IsModel p n u → k ≤ table_number u → table_number u < behind k ts → HasRenaming p n u ts
@@ -45,7 +46,7 @@ among p n k (t ∷ ts) u h is from before =
       | inl lt ↦ absurd (h.0.2 u is from lt)
       | inr le ↦ elim (cases_lt (table_number t) (table_number u)) [
         | inl more ↦ inr (among p n (suc (table_number t)) ts u h.1 is more before)
-        | inr same ↦ inl (itself p n t u (by_number p n t u h.0.0 is (omega (arith, le, same))))
+        | inr same ↦ inl (itself p n t u (by_number p n t u h.0.0.0 is.0 (omega (arith, le, same))))
       ]
     ]
 

@@ -4,3 +4,4 @@ pub mod Plain
 pub mod PlainView
 pub mod Room
 pub mod Watch
+pub mod Worked

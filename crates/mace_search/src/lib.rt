@@ -9,7 +9,7 @@ mod plain;
 mod sentence;
 
 pub use answer::Answer;
-pub use laws::{all_models, first_models};
+pub use laws::{all_models, first_models, worked, worked_readings};
 pub use plain::PlainSearch;
 
 #[cfg(test)]

@@ -1,0 +1,29 @@
+-- A search worked out.
+use Rattle.std.specs.Prelude.{ℕ, [], ◌∷◌, None, codes}
+use Rattle.fol_core.specs.Fol.{atom, some}
+use Rattle.fol_core.specs.Stated.{Stated, said, stated}
+use Rattle.fol_core.specs.SymbolTable.{symbol}
+use Rattle.fol_core.specs.Tree.{var, app, none, more}
+use Rattle.fol_core.specs.declared.problem.Role.TheVariants.{Assumption, Goal}
+use Rattle.fol_core.specs.declared.symbols.Kind.TheVariants.{Function, Relation}
+use Rattle.ladr_io.specs.Times.{Times}
+use Rattle.mace_search.specs.Plain.{Search}
+use Rattle.model_tables.specs.Tables.{Finite, listing}
+
+-- `exists x p(x)` and the goal `p(a)`
+abbrev pub spared : Stated
+spared =
+    stated (symbol (codes "a") 0 Function ∷ symbol (codes "p") 1 Relation ∷ [])
+    (said Assumption (some 0 (atom 1 (more (var 0) none))) ∷ said Goal (atom 1 (more (app 0 none) none)) ∷ [])
+
+-- two elements: `a` is x, and `p` has these values at 0 and at 1
+abbrev pub tables : ℕ → ℕ → ℕ → Finite
+tables x y z = record { top = 1; rows = listing Function (x ∷ []) ∷ listing Relation (y ∷ z ∷ []) ∷ [] }
+
+-- the search among two elements, with no stop, when the tables with number k are the first still to come
+abbrev pub seeking : ℕ → Finite → Search
+seeking k t = record { problem = spared; size = 2; tables = t; ahead = k; stop = None; late = None }
+
+-- so many readings of a clock, of which the first was 9, and the last two were these
+abbrev pub readings : ℕ → ℕ → ℕ → Times
+readings n between last = record { count = n; first = 9; last = last; between = between }
