@@ -1,8 +1,8 @@
 -- A clock that is watched.
-use Rattle.std.proofs.Common.{◌≡◌, ℕ, ◌<◌, Option, None, Some, refl, ap, ◌∙◌, arith}
+use Rattle.std.proofs.Common.{◌≡◌, ℕ, ◌+◌, ◌<◌, Option, None, Some, refl, ap, ◌∙◌, arith}
 use Rattle.std.proofs.lemmas.Bool.Decides.{nat_tests}
 use Rattle.ladr_io.specs.Times.{Times, later}
-use Rattle.mace_search.specs.Watch.{IsEarly, GoesOn}
+use Rattle.mace_search.specs.Watch.{IsEarly, GoesOn, Reads}
 
 -- the first reading stands
 pub first_stays : (t : Times) (now : ℕ) → 0 < t.count → (later t now).first ≡ t.first
@@ -19,3 +19,15 @@ goes_both (Some s) t u v h k = k ∙ h
 pub goes_none : (stop : Option ℕ) (t : Times) → GoesOn stop t t
 goes_none None t = refl
 goes_none (Some s) t = refl
+
+pub reads_none : (stop : Option ℕ) (n : ℕ) (t : Times) → n ≡ 0 → Reads stop n t t
+reads_none None n t e = tt
+reads_none (Some s) n t e = omega (arith, e)
+
+pub reads_once : (stop : Option ℕ) (t t' : Times) (now : ℕ) → t' ≡ later t now → Reads stop 1 t t'
+reads_once None t t' now e = tt
+reads_once (Some s) t t' now e = let count : t'.count ≡ (later t now).count = ap (λ (x : Times). x.count) e in omega (arith, count)
+
+pub reads_more : (stop : Option ℕ) (m n k : ℕ) (t u v : Times) → Reads stop m t u → Reads stop n u v → k ≡ m + n → Reads stop k t v
+reads_more None m n k t u v h l e = tt
+reads_more (Some s) m n k t u v h l e = omega (arith, h, l, e)

@@ -39,3 +39,9 @@ abbrev pub Finds : List Said → Option ℕ → Finite → Finite → Answer →
 Finds ss stop t t' Model times = IsCountermodel (meaning_of t') ss × (table_number t ≤ table_number t') × NoneAmong ss t (table_number t) (table_number t') × IsEarly stop times
 Finds ss stop t t' Exhausted times = NoneAmong ss t (table_number t) (table_count t) × IsEarly stop times
 Finds ss stop t t' (MaxSeconds last) times = (table_number t ≤ table_number t') × NoneAmong ss t (table_number t) (table_number t') × IsLate stop times last
+
+-- how often the clock is read until an answer: before each of the tables that were tried, and once more where the time is over
+abbrev pub readings_until : Answer → ℕ → ℕ
+readings_until Model tried = tried
+readings_until Exhausted tried = tried
+readings_until (MaxSeconds last) tried = suc tried

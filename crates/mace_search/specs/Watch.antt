@@ -1,5 +1,6 @@
 -- Whether a clock's readings are early enough.
-use Rattle.std.specs.Prelude.{◌≡◌, ℕ, ◌<◌, ◌≤◌, Option, None, Some}
+use Rattle.std.specs.Prelude.{◌≡◌, ℕ, ◌+◌, ◌<◌, ◌≤◌, min, Option, None, Some}
+use Rattle.ladr_io.specs.Streams.{greatest}
 use Rattle.ladr_io.specs.Times.{Times}
 
 -- Where there is a stop the clock gave its first reading, and each later one was before the stop.
@@ -16,3 +17,8 @@ IsLate (Some stop) t last = (1 < t.count) × (2 < t.count → t.between < stop) 
 abbrev pub GoesOn : Option ℕ → Times → Times → Type 0
 GoesOn None t t' = t' ≡ t
 GoesOn (Some stop) t t' = t'.first ≡ t.first
+
+-- where there is a stop the clock gave so many readings more, as far as its count can tell
+abbrev pub Reads : Option ℕ → ℕ → Times → Times → Type 0
+Reads None n t t' = Unit {0}
+Reads (Some stop) n t t' = min t'.count greatest ≡ min (t.count + n) greatest

@@ -1,8 +1,9 @@
 // Trying one table after the other.
-ghost use Rattle.std.specs.Prelude.{◌≡◌, MatchOption};
-ghost use Rattle.mace_search.specs.Plain.{Finds};
-ghost use Rattle.mace_search.specs.Watch.{IsEarly, IsLate, GoesOn};
-ghost use Rattle.model_tables.specs.Order.{IsSameShape, IsFilled};
+ghost use Rattle.std.specs.Prelude.{◌≡◌, ◌-◌, MatchOption};
+ghost use Rattle.mace_search.specs.Plain.{Finds, readings_until};
+ghost use Rattle.mace_search.specs.PlainView.{ahead_of, state_after};
+ghost use Rattle.mace_search.specs.Watch.{IsEarly, IsLate, GoesOn, Reads};
+ghost use Rattle.model_tables.specs.Order.{table_number, IsSameShape, IsFilled};
 
 use crate::answer::Answer;
 use crate::check::Check;
@@ -13,6 +14,7 @@ use model_tables::Tables;
 fn late<C: Clock>(stop: Option<u128>, clock: &mut C) -> Option<u64>
     requires { IsEarly stop (C.times clock.old) }
     ensures goes { GoesOn stop (C.times clock.old) (C.times clock.new) }
+    ensures reads { Reads stop 1 (C.times clock.old) (C.times clock.new) }
     ensures late { MatchOption result (IsEarly stop (C.times clock.new)) (λ last. IsLate stop (C.times clock.new) last) }
 {
     let Some(stop) = stop else {
@@ -39,6 +41,7 @@ pub fn find<C: Clock>(
     ensures shape { IsSameShape tables.old tables.new }
     ensures filled { IsFilled tables.new }
     ensures clock { GoesOn stop (C.times clock.old) (C.times clock.new) }
+    ensures reads { Reads stop (readings_until result (ahead_of (state_after result) tables.new - table_number tables.old)) (C.times clock.old) (C.times clock.new) }
     ensures finds { Finds check.old stop tables.old tables.new result (C.times clock.new) }
 {
     loop {

@@ -6,7 +6,7 @@ ghost use Rattle.mace_search.specs.Complete.{AreModels, AreDifferent, AreComplet
 ghost use Rattle.mace_search.specs.Models.{AreFirst, AreAll};
 ghost use Rattle.mace_search.specs.Plain.{Tells};
 ghost use Rattle.mace_search.specs.Room.{HaveRoom};
-ghost use Rattle.mace_search.specs.Watch.{IsEarly, IsLate};
+ghost use Rattle.mace_search.specs.Watch.{IsEarly, IsLate, Reads};
 ghost use Rattle.mace_search.specs.Worked.{spared, tables, seeking, readings};
 ghost use Rattle.mace_search.specs.declared.answer.Answer.TheVariants.{Model, Exhausted};
 ghost use Rattle.model_tables.specs.Order.{table_number};
@@ -38,10 +38,12 @@ pub fn worked()
 
 /// Of a stop at 10 and the readings behind the first: 9 is before it, and 10 reaches it. The first itself, even at the stop, is not
 /// asked. Once a reading reached the stop, a further one is neither early nor late; with no stop none is late.
+/// From one reading to four it is three more, from one to three it is not.
 pub fn worked_readings()
     ensures before { IsEarly (Some 10) (readings 2 0 9) × ¬ IsLate (Some 10) (readings 2 0 9) 9 }
     ensures reached { IsLate (Some 10) (readings 3 9 10) 10 × ¬ IsEarly (Some 10) (readings 3 9 10) }
     ensures first { IsEarly (Some 9) (readings 1 0 9) × IsLate (Some 9) (readings 2 0 9) 9 }
     ensures earlier { ¬ IsLate (Some 10) (readings 4 11 12) 12 × ¬ IsEarly (Some 10) (readings 4 11 9) }
     ensures no_stop { (last : ℕ) → IsEarly None (readings 2 0 last) × ¬ IsLate None (readings 2 0 last) last }
+    ensures reads { Reads (Some 10) 3 (readings 1 0 9) (readings 4 9 9) × ¬ Reads (Some 10) 3 (readings 1 0 9) (readings 3 9 9) }
 {}

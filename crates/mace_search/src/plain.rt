@@ -1,9 +1,9 @@
 // The search that tries all tables of a size.
-ghost use Rattle.std.specs.Prelude.{◌≡◌, ℕ, ◌+◌, ◌≤◌, None, Some, IfOk};
+ghost use Rattle.std.specs.Prelude.{◌≡◌, ℕ, ◌+◌, ◌-◌, ◌≤◌, None, Some, IfOk};
 ghost use Rattle.fol_core.specs.Stated.{stated_of};
-ghost use Rattle.mace_search.specs.Plain.{IsSame, Tells};
+ghost use Rattle.mace_search.specs.Plain.{IsSame, Tells, readings_until};
 ghost use Rattle.mace_search.specs.PlainView.{state_after};
-ghost use Rattle.mace_search.specs.Watch.{IsEarly, GoesOn};
+ghost use Rattle.mace_search.specs.Watch.{IsEarly, GoesOn, Reads};
 ghost use Rattle.mace_search.specs.declared.answer.Answer.TheVariants.{Exhausted, MaxSeconds};
 ghost use Rattle.model_tables.specs.Order.{first_of, table_number, table_count};
 ghost use Rattle.model_tables.specs.Size.{cell_count};
@@ -98,6 +98,7 @@ impl<'a> PlainSearch<'a> {
         requires { self.old.late ≡ None → IsEarly self.old.stop (C.times clock.old) }
         ensures same { IsSame self.old self.new }
         ensures clock { self.old.late ≡ None → GoesOn self.old.stop (C.times clock.old) (C.times clock.new) }
+        ensures reads { self.old.late ≡ None → Reads self.old.stop (readings_until result (self.new.ahead - self.old.ahead)) (C.times clock.old) (C.times clock.new) }
         ensures tells { self.old.late ≡ None → Tells self.old self.new result (C.times clock.new) }
         // An answer that ends the search comes again, with no reading.
         ensures over { self.old.late ≡ None → table_count self.old.tables ≤ self.old.ahead → (result ≡ Exhausted) × (C.times clock.new ≡ C.times clock.old) }
@@ -118,6 +119,7 @@ impl<'a> PlainSearch<'a> {
         requires early { IsEarly self.old.stop (C.times clock.old) }
         ensures same { IsSame self.old self.new }
         ensures clock { GoesOn self.old.stop (C.times clock.old) (C.times clock.new) }
+        ensures reads { Reads self.old.stop (readings_until result (self.new.ahead - self.old.ahead)) (C.times clock.old) (C.times clock.new) }
         ensures tells { Tells self.old self.new result (C.times clock.new) }
         ensures over { table_count self.old.tables ≤ self.old.ahead → (result ≡ Exhausted) × (C.times clock.new ≡ C.times clock.old) }
     {
@@ -137,6 +139,7 @@ impl<'a> PlainSearch<'a> {
         requires early { IsEarly self.old.stop (C.times clock.old) }
         ensures same { IsSame self.old self.new }
         ensures clock { GoesOn self.old.stop (C.times clock.old) (C.times clock.new) }
+        ensures reads { Reads self.old.stop (readings_until result (self.new.ahead - self.old.ahead)) (C.times clock.old) (C.times clock.new) }
         ensures tells { Tells self.old self.new result (C.times clock.new) }
     {
         let answer = find(&mut self.check, &mut self.tables, self.stop, clock);

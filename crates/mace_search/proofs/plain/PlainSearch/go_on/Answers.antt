@@ -1,9 +1,10 @@
-use Rattle.std.proofs.Common.{◌+◌, ◌≤◌, refl, sym, arith}
+use Rattle.std.proofs.Common.{◌≡◌, ◌+◌, ◌-◌, ◌≤◌, refl, sym, arith}
 use Rattle.fol_core.specs.Stated.{stated_of}
 use Rattle.mace_search.specs.PlainView.{ahead_of}
 use Rattle.model_tables.specs.Order.{table_count}
 use Rattle.model_tables.proofs.Orders.{shape_count, number_in_count}
 use Rattle.mace_search.proofs.Passing.{filled_of, stays, none_past}
+use Rattle.mace_search.proofs.Watching.{reads_none}
 use Rattle.mace_search.proofs.plain.PlainSearch.go_on.Goals as goal
 
 pub advance-requires : goal.advance-requires
@@ -24,6 +25,12 @@ returns-then-advance-clause-over g c = λ past.
     let tried = rw (sym c.self.view_is) at c.requires.tried in
     let over = rw (sym c.self.view_is) at past in
     absurd (omega (arith, tried, over, c.if-advance.ensures.next, number_in_count c.advance.new.self c.advance.ensures.filled, shape_count _ _ c.advance.ensures.shape))
+
+pub returns-else-advance-clause-reads : goal.returns-else-advance-clause-reads
+returns-else-advance-clause-reads g c =
+    let tried = rw (sym c.self.view_is) at c.requires.tried in
+    let none : table_count c.advance.new.self - ahead_of c.self.inside.state c.self.inside.tables ≡ 0 = omega (arith, tried, c.if-advance.ensures.next.0, shape_count _ _ c.advance.ensures.shape) in
+    rw (sym c.self.view_is) (reads_none c.self.inside.stop _ _ none)
 
 pub returns-else-advance-clause-tells : goal.returns-else-advance-clause-tells
 returns-else-advance-clause-tells g c =
