@@ -1,5 +1,6 @@
 -- A run has one outcome.
-use Rattle.std.proofs.Common.{◌≡◌, ◌≢◌, ◌<◌, ℕ, Bool, true, false, List, [], ◌∷◌, Some, refl, ap, ap₂, sym, subst, ◌∙◌, MatchBool, inl, inr, arith}
+use Rattle.std.proofs.Common.{◌≡◌, ◌≢◌, ◌<◌, ℕ, Bool, true, false, List, [], ◌∷◌, refl, ap, ap₂, sym, subst, ◌∙◌, MatchBool, ◌⊎◌, inl, inr, arith}
+use Rattle.std.proofs.lemmas.Option.{same_Some}
 use Rattle.fol_core.specs.Meaning.{Meaning}
 use Rattle.fol_core.specs.Stated.{Said, IsTrueIn}
 use Rattle.ladr_commands.specs.ByName.{ByName}
@@ -12,15 +13,15 @@ use Rattle.ladr_problem.specs.File as file
 use Rattle.ladr_problem.specs.File.{Outcome, Says, most_bytes}
 use Rattle.ladr_problem.specs.Places.{IsPlace, shown_at}
 use Rattle.ladr_problem.specs.Sofar.{Sofar, said_in}
-use Rattle.ladr_problem.specs.declared.refusal.Limit.{Limit}
 use Rattle.ladr_problem.specs.declared.refusal.Limit.TheVariants as limits
 use Rattle.ladr_problem.specs.declared.refusal.Place.{Place}
+use Rattle.ladr_reader.specs.declared.styles.Mode.{Mode}
 use Rattle.ladr_reader.specs.declared.styles.Mode.TheVariants.{Tester}
-use Rattle.ladr_top.specs.Outcome.{Given, Ends, IsRefused, IsTested, limit_text}
-use Rattle.ladr_top.specs.Output.{report, unreadable_line, misuse_line, too_large_line}
+use Rattle.ladr_top.specs.Outcome.{Given, Ends, IsRefused, IsFailed, IsTested, limit_text}
+use Rattle.ladr_top.specs.Output.{report, read_fault_line, unreadable_line, misuse_line, too_large_line}
 use Rattle.ladr_top.specs.Verdicts.{AreTrueAsTold}
 use Rattle.ladr_top.specs.declared.cause.Cause.{Cause}
-use Rattle.ladr_top.specs.declared.cause.Cause.TheVariants.{Done, Words, Unreadable, Misuse, TooLarge, ReadFault, WriteFault, Memory, Exhausted, MaxMegs, MaxSeconds, AllModels, GroundLimit, ClauseLimit}
+use Rattle.ladr_top.specs.declared.cause.Cause.TheVariants.{Done, Unreadable, Misuse, TooLarge, ReadFault}
 use Rattle.model_tables.specs.Tables.{meaning_of}
 
 one_truth : (P : Type 0) (b c : Bool) → MatchBool b P (¬ P) → MatchBool c P (¬ P) → b ≡ c
@@ -40,43 +41,6 @@ told_once m (f ∷ fs) (b ∷ bs) (c ∷ cs) h k =
     let others = told_once m fs bs cs h.1 k.1 in
     ap (λ (x : Bool). x ∷ bs) first ∙ ap (λ (xs : List Bool). c ∷ xs) others
 
-some_once : (a b : ByName) → Some a ≡ Some b → a ≡ b
-some_once a b e = cc
-
-abbrev sofar_of : Outcome → Sofar → Sofar
-sofar_of (file.problem s) t = s
-sofar_of (file.unreadable byte) t = t
-sofar_of (file.misused byte row) t = t
-sofar_of (file.too_large byte what) t = t
-
-abbrev byte_of : Outcome → ℕ
-byte_of (file.problem s) = 0
-byte_of (file.unreadable byte) = byte
-byte_of (file.misused byte row) = byte
-byte_of (file.too_large byte what) = byte
-
-abbrev row_of : Outcome → ℕ
-row_of (file.problem s) = 0
-row_of (file.unreadable byte) = 0
-row_of (file.misused byte row) = row
-row_of (file.too_large byte what) = 0
-
-abbrev limit_of : Outcome → Limit → Limit
-limit_of (file.problem s) l = l
-limit_of (file.unreadable byte) l = l
-limit_of (file.misused byte row) l = l
-limit_of (file.too_large byte what) l = what
-
--- which of its four kinds an outcome is
-abbrev kind_of : Outcome → ℕ
-kind_of (file.problem s) = 0
-kind_of (file.unreadable byte) = 1
-kind_of (file.misused byte row) = 2
-kind_of (file.too_large byte what) = 3
-
-other_kind : (g : Given) (o p : Outcome) → Says Tester g.bytes o → Says Tester g.bytes p → kind_of o ≡ kind_of p
-other_kind g o p h k = ap kind_of (says_once Tester g.bytes o p h k)
-
 place_once : (bytes : List ℕ) (p q : Place) → p.byte ≡ q.byte → IsPlace bytes p → IsPlace bytes q → p ≡ q
 place_once bytes p q e h k =
     let same : h.tokens ≡ k.tokens = cut_once 0 bytes h.tokens k.tokens h.cut k.cut in
@@ -85,85 +49,80 @@ place_once bytes p q e h k =
     let token : p.token ≡ q.token = h.token ∙ (λ i. shown_at (same i) (e i)) ∙ sym k.token in
     λ i. record { byte = e i; line = line i; column = column i; token = token i }
 
-tested_once : (s t : Sofar) (u v : List ℕ) → s ≡ t → IsTested s u → IsTested t v → u ≡ v
-tested_once s t u v e h k =
-    let moved : IsTested t u = subst (λ (x : Sofar). IsTested x u) e h in
-    let same : moved.1.0 ≡ k.1.0 = some_once moved.1.0 k.1.0 (sym moved.1.1 ∙ k.1.1) in
-    let told : AreTrueAsTold (meaning_of (tables_for k.1.0 t.symbols)) (said_in t) moved.0 = subst (λ (it : ByName). AreTrueAsTold (meaning_of (tables_for it t.symbols)) (said_in t) moved.0) same moved.1.2 in
-    moved.2 ∙ ap report (told_once (meaning_of (tables_for k.1.0 t.symbols)) (said_in t) moved.0 k.0 told k.1.2) ∙ sym k.2
+tested_once : (s : Sofar) (u v : List ℕ) → IsTested s u → IsTested s v → u ≡ v
+tested_once s u v h k =
+    let same : h.1.0 ≡ k.1.0 = same_Some h.1.0 k.1.0 (sym h.1.1 ∙ k.1.1) in
+    let told : AreTrueAsTold (meaning_of (tables_for k.1.0 s.symbols)) (said_in s) h.0 = subst (λ (it : ByName). AreTrueAsTold (meaning_of (tables_for it s.symbols)) (said_in s) h.0) same h.1.2 in
+    h.2 ∙ ap report (told_once (meaning_of (tables_for k.1.0 s.symbols)) (said_in s) h.0 k.0 told k.1.2) ∙ sym k.2
 
--- an input that is too large as a whole says so
-says_too_large : (g : Given) (byte : ℕ) (what : Limit) (t : List ℕ) → IsRefused Tester g (TooLarge byte what) t → Says Tester g.bytes (file.too_large byte what) × (t ≡ too_large_line byte (limit_text what))
-says_too_large g byte what t (inl h) =
-    let says : Says Tester g.bytes (file.too_large most_bytes limits.Input) = file.too_long (omega (arith, h.0.beyond)) in
-    (rw (h.1, h.2) says, h.3 ∙ (λ i. too_large_line (sym h.1 i) (limit_text (sym h.2 i))))
-says_too_large g byte what t (inr h) = (h.1, h.2)
+-- What the bytes say leads to this cause and text: by what is done with a problem; else it is the refusal.
+abbrev pub Comes : (Sofar → Type 0) → List ℕ → Outcome → Cause → List ℕ → Type 0
+Comes F bytes (file.problem s) c t = F s
+Comes F bytes (file.unreadable byte) c t =
+    (place : Place) × (place.byte ≡ byte) × IsPlace bytes place × (c ≡ Unreadable place) × (t ≡ unreadable_line place.byte place.line place.column place.token)
+Comes F bytes (file.misused byte row) c t =
+    (place : Place) × (place.byte ≡ byte) × IsPlace bytes place × (c ≡ Misuse place row) × (t ≡ misuse_line row place.byte place.line place.column)
+Comes F bytes (file.too_large byte what) c t = (c ≡ TooLarge byte what) × (t ≡ too_large_line byte (limit_text what))
 
--- no read failed where something else is told
-unfailing : (g : Given) (byte : ℕ) (what : Limit) (t : List ℕ) → IsRefused Tester g (TooLarge byte what) t → g.faults_after ≡ g.faults_before
-unfailing g byte what t (inl h) = h.0.unfailing
-unfailing g byte what t (inr h) = h.0.unfailing
+-- and so does what the source gave, where no read failed
+abbrev pub Ended : Mode → (Sofar → Type 0) → Given → Cause → List ℕ → Type 0
+Ended m F g c t =
+    (IsFailed g × (c ≡ ReadFault) × (t ≡ read_fault_line)) ⊎ ((g.faults_after ≡ g.faults_before) × ((o : Outcome) × Says m g.bytes o × Comes F g.bytes o c t))
 
--- a run whose read failed is told from one that no read failed in
-one_end : (g : Given) (c d : Cause) (t u : List ℕ) → Ends g c t → Ends g d u → (c ≡ ReadFault → g.faults_after ≢ g.faults_before) → (d ≡ ReadFault → g.faults_after ≢ g.faults_before) → (c ≡ d) × (t ≡ u)
-one_end g Done Done t u h k r s = let e = says_once Tester g.bytes _ _ h.1.1 k.1.1 in (refl, tested_once h.1.0 k.1.0 t u (ap (λ o. sofar_of o h.1.0) e) h.1.2 k.1.2)
-one_end g (Unreadable place) (Unreadable other) t u h k r s =
-    let e = place_once g.bytes place other (ap byte_of (says_once Tester g.bytes _ _ h.1 k.1)) h.2 k.2 in
-    (ap Unreadable e, h.3 ∙ ap (λ (p : Place). unreadable_line p.byte p.line p.column p.token) e ∙ sym k.3)
-one_end g (Misuse place row) (Misuse other r) t u h k a s =
-    let o = says_once Tester g.bytes _ _ h.1 k.1 in
-    let e = place_once g.bytes place other (ap byte_of o) h.2 k.2 in
-    (ap₂ Misuse e (ap row_of o), h.3 ∙ ap₂ (λ (p : Place) (n : ℕ). misuse_line n p.byte p.line p.column) e (ap row_of o) ∙ sym k.3)
-one_end g (TooLarge byte what) (TooLarge b w) t u h k r s =
-    let x = says_too_large g byte what t h in
-    let y = says_too_large g b w u k in
-    let o = says_once Tester g.bytes _ _ x.0 y.0 in
-    (ap₂ TooLarge (ap byte_of o) (ap (λ z. limit_of z what) o), x.1 ∙ (λ i. too_large_line (byte_of (o i)) (limit_text (limit_of (o i) what))) ∙ sym y.1)
-one_end g Done (Unreadable other) t u h k f s = let e = other_kind g _ _ h.1.1 k.1 in absurd (omega (arith, e))
-one_end g Done (Misuse other r) t u h k f s = let e = other_kind g _ _ h.1.1 k.1 in absurd (omega (arith, e))
-one_end g Done (TooLarge b w) t u h k f s = let e = other_kind g _ _ h.1.1 (says_too_large g _ _ _ k).0 in absurd (omega (arith, e))
-one_end g (Unreadable place) Done t u h k f s = let e = other_kind g _ _ h.1 k.1.1 in absurd (omega (arith, e))
-one_end g (Unreadable place) (Misuse other r) t u h k f s = let e = other_kind g _ _ h.1 k.1 in absurd (omega (arith, e))
-one_end g (Unreadable place) (TooLarge b w) t u h k f s = let e = other_kind g _ _ h.1 (says_too_large g _ _ _ k).0 in absurd (omega (arith, e))
-one_end g (Misuse place row) Done t u h k f s = let e = other_kind g _ _ h.1 k.1.1 in absurd (omega (arith, e))
-one_end g (Misuse place row) (Unreadable other) t u h k f s = let e = other_kind g _ _ h.1 k.1 in absurd (omega (arith, e))
-one_end g (Misuse place row) (TooLarge b w) t u h k f s = let e = other_kind g _ _ h.1 (says_too_large g _ _ _ k).0 in absurd (omega (arith, e))
-one_end g (TooLarge byte what) Done t u h k f s = let e = other_kind g _ _ (says_too_large g _ _ _ h).0 k.1.1 in absurd (omega (arith, e))
-one_end g (TooLarge byte what) (Unreadable other) t u h k f s = let e = other_kind g _ _ (says_too_large g _ _ _ h).0 k.1 in absurd (omega (arith, e))
-one_end g (TooLarge byte what) (Misuse other r) t u h k f s = let e = other_kind g _ _ (says_too_large g _ _ _ h).0 k.1 in absurd (omega (arith, e))
-one_end g ReadFault ReadFault t u h k r s = (refl, h.1 ∙ sym k.1)
-one_end g ReadFault Done t u h k f s = absurd (f refl k.0.unfailing)
-one_end g Done ReadFault t u h k f s = absurd (s refl h.0.unfailing)
-one_end g ReadFault (Unreadable other) t u h k f s = absurd (f refl k.0.unfailing)
-one_end g (Unreadable place) ReadFault t u h k f s = absurd (s refl h.0.unfailing)
-one_end g ReadFault (Misuse other r) t u h k f s = absurd (f refl k.0.unfailing)
-one_end g (Misuse place row) ReadFault t u h k f s = absurd (s refl h.0.unfailing)
-one_end g ReadFault (TooLarge b w) t u h k f s = absurd (f refl (unfailing g _ _ _ k))
-one_end g (TooLarge byte what) ReadFault t u h k f s = absurd (s refl (unfailing g _ _ _ h))
-one_end g Words d t u h k r s = elim h [ ]
-one_end g Exhausted d t u h k r s = elim h [ ]
-one_end g MaxMegs d t u h k r s = elim h [ ]
-one_end g (MaxSeconds first last) d t u h k r s = elim h [ ]
-one_end g AllModels d t u h k r s = elim h [ ]
-one_end g (GroundLimit size) d t u h k r s = elim h [ ]
-one_end g (ClauseLimit formula) d t u h k r s = elim h [ ]
-one_end g WriteFault d t u h k r s = elim h [ ]
-one_end g Memory d t u h k r s = elim h [ ]
-one_end g c Words t u h k r s = elim k [ ]
-one_end g c Exhausted t u h k r s = elim k [ ]
-one_end g c MaxMegs t u h k r s = elim k [ ]
-one_end g c (MaxSeconds first last) t u h k r s = elim k [ ]
-one_end g c AllModels t u h k r s = elim k [ ]
-one_end g c (GroundLimit size) t u h k r s = elim k [ ]
-one_end g c (ClauseLimit formula) t u h k r s = elim k [ ]
-one_end g c WriteFault t u h k r s = elim k [ ]
-one_end g c Memory t u h k r s = elim k [ ]
+pub refusal : (m : Mode) (F : Sofar → Type 0) (g : Given) (c : Cause) (t : List ℕ) → IsRefused m g c t → Ended m F g c t
+refusal m F g (Unreadable place) t h = inr (h.0.unfailing, (file.unreadable place.byte, h.1, (place, refl, h.2, refl, h.3)))
+refusal m F g (Misuse place row) t h = inr (h.0.unfailing, (file.misused place.byte row, h.1, (place, refl, h.2, refl, h.3)))
+refusal m F g (TooLarge byte what) t (inl h) =
+    inr (h.0.unfailing, (file.too_large most_bytes limits.Input, file.too_long (omega (arith, h.0.beyond)), (ap₂ TooLarge h.1 h.2, h.3)))
+refusal m F g (TooLarge byte what) t (inr h) = inr (h.0.unfailing, (file.too_large byte what, h.1, (refl, h.2)))
+refusal m F g ReadFault t h = inl (h.0, refl, h.1)
+refusal m F g c t h = elim h [ ]
 
-failed : (g : Given) (c : Cause) (t : List ℕ) → g.faults_before < greatest → Ends g c t → c ≡ ReadFault → g.faults_after ≢ g.faults_before
-failed g c t less h e same = let there : Ends g ReadFault t = subst (λ (d : Cause). Ends g d t) e h in omega (arith, there.0.rose)
+comes_once : (F G : Sofar → Type 0) (bytes : List ℕ) (o : Outcome) (c d : Cause) (t u : List ℕ) → ((s : Sofar) → F s → G s → (c ≡ d) × (t ≡ u)) → Comes F bytes o c t → Comes G bytes o d u → (c ≡ d) × (t ≡ u)
+comes_once F G bytes (file.problem s) c d t u once h k = once s h k
+comes_once F G bytes (file.unreadable byte) c d t u once h k =
+    let e = place_once bytes h.0 k.0 (h.1 ∙ sym k.1) h.2 k.2 in
+    (h.3 ∙ ap Unreadable e ∙ sym k.3, h.4 ∙ ap (λ (p : Place). unreadable_line p.byte p.line p.column p.token) e ∙ sym k.4)
+comes_once F G bytes (file.misused byte row) c d t u once h k =
+    let e = place_once bytes h.0 k.0 (h.1 ∙ sym k.1) h.2 k.2 in
+    (h.3 ∙ ap (λ (p : Place). Misuse p row) e ∙ sym k.3, h.4 ∙ ap (λ (p : Place). misuse_line row p.byte p.line p.column) e ∙ sym k.4)
+comes_once F G bytes (file.too_large byte what) c d t u once h k = (h.0 ∙ sym k.0, h.1 ∙ sym k.1)
+
+-- where a failed read is told from one that didn't, and problems have one end, so has what the source gave
+pub ended_once :
+    (m : Mode) (F G : Sofar → Type 0) (g : Given) (c d : Cause) (t u : List ℕ) → ((s : Sofar) → F s → G s → (c ≡ d) × (t ≡ u)) → ((c ≡ ReadFault) ⊎ (d ≡ ReadFault) → IsFailed g → g.faults_after ≢ g.faults_before)
+    → Ended m F g c t → Ended m G g d u → (c ≡ d) × (t ≡ u)
+ended_once m F G g c d t u once failed (inl h) (inl k) = (h.1 ∙ sym k.1, h.2 ∙ sym k.2)
+ended_once m F G g c d t u once failed (inl h) (inr k) = absurd (failed (inl h.1) h.0 k.0)
+ended_once m F G g c d t u once failed (inr h) (inl k) = absurd (failed (inr k.1) k.0 h.0)
+ended_once m F G g c d t u once failed (inr h) (inr k) =
+    let same = says_once m g.bytes h.1.0 k.1.0 h.1.1 k.1.1 in
+    comes_once F G g.bytes k.1.0 c d t u once (subst (λ (o : Outcome). Comes F g.bytes o c t) same h.1.2) k.1.2
+
+-- a failed read is told from one that didn't where the count can rise
+pub counted : (g : Given) (c d : Cause) → g.faults_before < greatest → (c ≡ ReadFault) ⊎ (d ≡ ReadFault) → IsFailed g → g.faults_after ≢ g.faults_before
+counted g c d less e failed same = omega (arith, less, failed.rose, same)
+
+-- and where neither cause is one
+pub unfailed : (g : Given) (c d : Cause) → c ≢ ReadFault → d ≢ ReadFault → (c ≡ ReadFault) ⊎ (d ≡ ReadFault) → IsFailed g → g.faults_after ≢ g.faults_before
+unfailed g c d r s (inl e) failed = absurd (r e)
+unfailed g c d r s (inr e) failed = absurd (s e)
+
+-- a run of `clausetester`
+tested : (g : Given) (c : Cause) (t : List ℕ) → Ends g c t → Ended Tester (λ s. (c ≡ Done) × IsTested s t) g c t
+tested g Done t h = inr (h.0.unfailing, (file.problem h.1.0, h.1.1, (refl, h.1.2)))
+tested g (Unreadable place) t h = refusal Tester _ g (Unreadable place) t h
+tested g (Misuse place row) t h = refusal Tester _ g (Misuse place row) t h
+tested g (TooLarge byte what) t h = refusal Tester _ g (TooLarge byte what) t h
+tested g ReadFault t h = refusal Tester _ g ReadFault t h
+tested g c t h = elim h [ ]
+
+one_end : (g : Given) (c d : Cause) (t u : List ℕ) → ((c ≡ ReadFault) ⊎ (d ≡ ReadFault) → IsFailed g → g.faults_after ≢ g.faults_before) → Ends g c t → Ends g d u → (c ≡ d) × (t ≡ u)
+one_end g c d t u failed h k =
+    ended_once Tester _ _ g c d t u (λ s a b. (a.0 ∙ sym b.0, tested_once s t u a.1 b.1)) failed (tested g c t h) (tested g d u k)
 
 pub one_end_counted : (g : Given) (c d : Cause) (t u : List ℕ) → g.faults_before < greatest → Ends g c t → Ends g d u → (c ≡ d) × (t ≡ u)
-one_end_counted g c d t u less h k = one_end g c d t u h k (failed g c t less h) (failed g d u less k)
+one_end_counted g c d t u less h k = one_end g c d t u (counted g c d less) h k
 
 pub one_end_otherwise : (g : Given) (c d : Cause) (t u : List ℕ) → c ≢ ReadFault → d ≢ ReadFault → Ends g c t → Ends g d u → (c ≡ d) × (t ≡ u)
-one_end_otherwise g c d t u r s h k = one_end g c d t u h k (λ e. absurd (r e)) (λ e. absurd (s e))
+one_end_otherwise g c d t u r s h k = one_end g c d t u (unfailed g c d r s) h k

@@ -1,5 +1,5 @@
 -- How a run of `mace4` ends, and what it prints.
-use Rattle.std.specs.Prelude.{◌≡◌, ℕ, List, [], Option, None, Some, ◌⊎◌}
+use Rattle.std.specs.Prelude.{◌≡◌, ℕ, Bool, true, false, List, [], ◌++◌, Option, None, Some, ◌⊎◌}
 use Rattle.clausify.specs.Input.{first_over}
 use Rattle.fol_core.specs.Stated.{Stated}
 use Rattle.ladr_io.specs.Streams.{Gives}
@@ -8,10 +8,10 @@ use Rattle.ladr_problem.specs.File.{Says, problem}
 use Rattle.ladr_problem.specs.Sofar.{Sofar, stated_in}
 use Rattle.ladr_reader.specs.declared.styles.Mode.TheVariants.{Mace}
 use Rattle.ladr_top.specs.Outcome.{Given, IsRead, IsRefused, Told}
-use Rattle.ladr_top.specs.Output.{clause_limit_line}
+use Rattle.ladr_top.specs.Output.{clause_limit_line, models_line, seconds_line}
 use Rattle.ladr_top.specs.Search.{SearchEnds, SearchGoes, settings_of}
 use Rattle.ladr_top.specs.declared.cause.Cause.{Cause}
-use Rattle.ladr_top.specs.declared.cause.Cause.TheVariants.{Unreadable, Misuse, TooLarge, ReadFault, ClauseLimit}
+use Rattle.ladr_top.specs.declared.cause.Cause.TheVariants.{Unreadable, Misuse, TooLarge, ReadFault, MaxSeconds, ClauseLimit}
 use Rattle.ladr_top.specs.declared.settings.Settings.{Settings}
 use Rattle.ladr_words.specs.declared.task.ModelOptions.{ModelOptions}
 
@@ -40,6 +40,16 @@ Finds g o t cause text = IsFound g o t cause text
 -- What the source gave leads to this text so far.
 abbrev pub GoesOn : Given → ModelOptions → List ℕ → Type 0
 GoesOn g o text = (text ≡ []) ⊎ (IsRead g × ((s : Sofar) × Says Mace g.bytes (problem s) × Seeks (stated_in s) (settings_of o s.settings.options) text))
+
+-- a search ended because the time was over
+abbrev pub is_late : Cause → Bool
+is_late (MaxSeconds first last) = true
+is_late cause = false
+
+-- The first text ends with the lines of a search whose time was over, and all before them is a front of the other text.
+abbrev pub IsCutShort : ℕ → ℕ → List ℕ → List ℕ → Type 0
+IsCutShort first last text other =
+    (k : ℕ) × ((front : List ℕ) × ((rest : List ℕ) × (text ≡ front ++ (models_line k ++ seconds_line first last)) × (other ≡ front ++ rest)))
 
 -- what is read sets no time, if it states a problem
 abbrev pub IsUntimed : List ℕ → ModelOptions → Type 0

@@ -6,6 +6,7 @@ ghost use Rattle.ladr_options.specs.Options.{start};
 ghost use Rattle.ladr_problem.specs.File.{Says, problem};
 ghost use Rattle.ladr_problem.specs.Sofar.{Sofar, stated_in};
 ghost use Rattle.ladr_reader.specs.declared.styles.Mode.TheVariants.{Mace};
+ghost use Rattle.ladr_top.specs.Finding.{Finds, IsUntimed, IsCutShort, is_late};
 ghost use Rattle.ladr_top.specs.Outcome.{Given, Ends};
 ghost use Rattle.ladr_top.specs.Output.{report};
 ghost use Rattle.ladr_top.specs.Search.{SearchEnds, SearchGoes, refused_cells, settings_of, sizes_text};
@@ -14,8 +15,9 @@ ghost use Rattle.ladr_top.specs.Skolems.{all_cells, AreFirstExpanded, AreAllExpa
 ghost use Rattle.ladr_top.specs.Verdicts.{AreTrueAsTold};
 ghost use Rattle.ladr_top.specs.Worked.{meaning_in, involution, exchange, constant, zeros, bare, lonely, lonely_sizes, lonely_text};
 ghost use Rattle.ladr_top.specs.declared.cause.Cause.{Cause};
-ghost use Rattle.ladr_top.specs.declared.cause.Cause.TheVariants.{ReadFault};
+ghost use Rattle.ladr_top.specs.declared.cause.Cause.TheVariants.{ReadFault, MaxSeconds};
 ghost use Rattle.ladr_top.specs.declared.settings.Settings.{Settings};
+ghost use Rattle.ladr_words.specs.declared.task.ModelOptions.{ModelOptions};
 ghost use Rattle.model_tables.specs.Tables.{Finite};
 
 use clausify::witnesses_are_in_order;
@@ -38,6 +40,17 @@ pub fn printed_models()
 {
     witnesses_are_in_order();
 }
+
+/// What the source gave, and whether its count of faults rose, determine cause and output of `mace4`, unless the time was over.
+pub fn one_search()
+    ensures counted { (g : Given) (o : ModelOptions) (t u : Times) (c d : Cause) (text other : List ℕ) → g.faults_before < greatest → is_late c ≡ false → is_late d ≡ false → Finds g o t c text → Finds g o u d other → (c ≡ d) × (text ≡ other) }
+    // Where the count can rise no further, they are determined but for a fault of the source.
+    ensures otherwise { (g : Given) (o : ModelOptions) (t u : Times) (c d : Cause) (text other : List ℕ) → c ≢ ReadFault → d ≢ ReadFault → is_late c ≡ false → is_late d ≡ false → Finds g o t c text → Finds g o u d other → (c ≡ d) × (text ≡ other) }
+    // Where no time is set, it is never over.
+    ensures untimed { (g : Given) (o : ModelOptions) (t : Times) (c : Cause) (text : List ℕ) → IsUntimed g.bytes o → Finds g o t c text → is_late c ≡ false }
+    // Where it was over in one of two searches, that one's output but for the last two lines is a front of the other's.
+    ensures cut_short { (g : Given) (o : ModelOptions) (t u : Times) (first last : ℕ) (d : Cause) (text other : List ℕ) → d ≢ ReadFault → is_late d ≡ false → Finds g o t (MaxSeconds first last) text → Finds g o u d other → IsCutShort first last text other }
+{}
 
 /// A function that is its own inverse, and whether it leaves an element where it is. Where a variable is free the formula is
 /// asked for each of its elements, so the second of the other formulas is false.
