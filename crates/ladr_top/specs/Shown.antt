@@ -4,6 +4,9 @@ use Rattle.std.proofs.Common.{inl, inr}
 use Rattle.fol_core.specs.Stated.{Stated, IsCountermodel}
 use Rattle.fol_core.specs.Witnesses.{PicksWitnesses}
 use Rattle.ladr_io.specs.Times.{Times}
+use Rattle.ladr_problem.specs.File.{Says, problem}
+use Rattle.ladr_problem.specs.Sofar.{Sofar, stated_in}
+use Rattle.ladr_reader.specs.declared.styles.Mode.TheVariants.{Mace}
 use Rattle.ladr_top.specs.Search.{Size, skipped, searched, models_in_all, size_behind, Stops, Proceeds, SearchEnds, SearchGoes}
 use Rattle.ladr_top.specs.Skolems.{all_witnesses}
 use Rattle.ladr_top.specs.declared.cause.Cause.{Cause}
@@ -57,3 +60,10 @@ EndShows p s t cause text h = ShowsModels p s h.sizes (last_models p s t (size_b
 
 abbrev pub FrontShows : (p : Stated) (s : Settings) (text : List ℕ) → SearchGoes p s text → Type 0
 FrontShows p s text h = ShowsModels p s h.sizes (models_so_far p s (size_behind s (length h.sizes)) (models_in_all h.sizes) h.rest h.proceeds)
+
+-- Whatever an input says, the models that a search for its models prints are shown, to its end and so far.
+abbrev pub SearchesShow : Type 0
+SearchesShow =
+    (bytes : List ℕ) (s : Sofar) (asked : Settings) → Says Mace bytes (problem s)
+    → ((t : Times) (cause : Cause) (text : List ℕ) (h : SearchEnds (stated_in s) asked t cause text) → EndShows (stated_in s) asked t cause text h)
+    × ((text : List ℕ) (h : SearchGoes (stated_in s) asked text) → FrontShows (stated_in s) asked text h)

@@ -9,14 +9,13 @@ ghost use Rattle.ladr_reader.specs.declared.styles.Mode.TheVariants.{Mace};
 ghost use Rattle.ladr_top.specs.Finding.{Finds, IsUntimed, IsCutShort, is_late};
 ghost use Rattle.ladr_top.specs.Outcome.{Given, Ends};
 ghost use Rattle.ladr_top.specs.Output.{report};
-ghost use Rattle.ladr_top.specs.Search.{SearchEnds, SearchGoes, refused_cells, settings_of, sizes_text};
-ghost use Rattle.ladr_top.specs.Shown.{IsShown, AreAllShown, EndShows, FrontShows};
+ghost use Rattle.ladr_top.specs.Search.{refused_cells, settings_of, sizes_text};
+ghost use Rattle.ladr_top.specs.Shown.{IsShown, AreAllShown, SearchesShow};
 ghost use Rattle.ladr_top.specs.Skolems.{all_cells, AreFirstExpanded, AreAllExpanded};
 ghost use Rattle.ladr_top.specs.Verdicts.{AreTrueAsTold};
 ghost use Rattle.ladr_top.specs.Worked.{meaning_in, involution, exchange, constant, zeros, bare, lonely, lonely_sizes, lonely_text};
 ghost use Rattle.ladr_top.specs.declared.cause.Cause.{Cause};
 ghost use Rattle.ladr_top.specs.declared.cause.Cause.TheVariants.{ReadFault, MaxSeconds};
-ghost use Rattle.ladr_top.specs.declared.settings.Settings.{Settings};
 ghost use Rattle.ladr_words.specs.declared.task.ModelOptions.{ModelOptions};
 ghost use Rattle.model_tables.specs.Tables.{Finite};
 
@@ -35,8 +34,7 @@ pub fn printed_models()
     ensures first { (bytes : List ℕ) (s : Sofar) (n : ℕ) (us : List Finite) → Says Mace bytes (problem s) → all_cells n (stated_in s) < refused_cells → AreFirstExpanded (stated_in s) n us → All (IsShown (stated_in s) n) us }
     ensures all { (bytes : List ℕ) (s : Sofar) (n : ℕ) (us : List Finite) → Says Mace bytes (problem s) → all_cells n (stated_in s) < refused_cells → AreAllExpanded (stated_in s) n us → AreAllShown (stated_in s) n us }
     // So it is of all models that a search prints, to its end or so far.
-    ensures end { (bytes : List ℕ) (s : Sofar) (asked : Settings) (t : Times) (cause : Cause) (text : List ℕ) → Says Mace bytes (problem s) → (h : SearchEnds (stated_in s) asked t cause text) → EndShows (stated_in s) asked t cause text h }
-    ensures so_far { (bytes : List ℕ) (s : Sofar) (asked : Settings) (text : List ℕ) → Says Mace bytes (problem s) → (h : SearchGoes (stated_in s) asked text) → FrontShows (stated_in s) asked text h }
+    ensures searches { SearchesShow }
 {
     witnesses_are_in_order();
 }

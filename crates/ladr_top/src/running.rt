@@ -3,6 +3,7 @@ ghost use Rattle.std.specs.Prelude.{◌≡◌, ◌≢◌, ◌≤◌, None, Some,
 ghost use Rattle.std.specs.String.{string_bytes};
 ghost use Rattle.ladr_io.specs.Streams.{Rose};
 ghost use Rattle.ladr_top.specs.Finding.{Searches};
+ghost use Rattle.ladr_top.specs.Shown.{SearchesShow};
 ghost use Rattle.ladr_top.specs.Outcome.{status_of, Tests, Printed, Refuses};
 ghost use Rattle.ladr_words.specs.Tasks.{task_of};
 ghost use Rattle.ladr_words.specs.declared.task.ModelOptions.{ModelOptions};
@@ -10,6 +11,7 @@ ghost use Rattle.ladr_words.specs.declared.task.Task.TheVariants.{Clausetester, 
 
 use crate::cause::{Cause, Exit};
 use crate::finding::mace4;
+use crate::laws::printed_models;
 use crate::pieces::conclude;
 use crate::testing::clausetester;
 use crate::text;
@@ -84,6 +86,10 @@ pub fn run<I: Interpretation, S: Source, K: Sink, C: Clock>(
     ensures searches { (o : ModelOptions) → task_of (map string_bytes words.now) ≡ Some (Mace4 o)
         → Searches o (S.left source.old) (S.left source.new) (S.faults source.old) (S.faults source.new) (K.held sink.old) (K.held sink.new) (C.times clock.old) (C.times clock.new) result.cause }
 
+    // What it prints as models of the input makes each assumption true and each goal false, and its Skolem symbols pick witnesses; where
+    // a size is exhausted, each model of it is printed.
+    ensures models { SearchesShow }
+
     // A fault is told only where the stream counted one, and a failed write is told wherever one was counted.
     ensures read_fault { result.cause ≡ Cause.ReadFault → Rose (S.faults source.old) (S.faults source.new) }
     ensures write_fault { result.cause ≡ Cause.WriteFault → Rose (K.faults sink.old) (K.faults sink.new) }
@@ -93,6 +99,7 @@ pub fn run<I: Interpretation, S: Source, K: Sink, C: Clock>(
     // The clock isn't asked but for a search.
     ensures clock { ((o : ModelOptions) → task_of (map string_bytes words.now) ≢ Some (Mace4 o)) → C.times clock.new ≡ C.times clock.old }
 {
+    printed_models();
     match task_of(alloc, words) {
         Ok(Task::Clausetester) => exit_by(clausetester(alloc, source, sink)),
         Ok(Task::Mace4 { options }) => exit_by(mace4(alloc, any, options, source, sink, clock)),

@@ -7,8 +7,8 @@ returns-clause-first c = λ bytes s n us says room first. first_shown c.witnesse
 pub returns-clause-all : goal.returns-clause-all
 returns-clause-all c = λ bytes s n us says room all. all_shown c.witnesses_are_in_order.ensures.order c.witnesses_are_in_order.ensures.new bytes s says n us room all
 
-pub returns-clause-end : goal.returns-clause-end
-returns-clause-end c = λ bytes s asked t cause text says h. end_shows c.witnesses_are_in_order.ensures.order c.witnesses_are_in_order.ensures.new bytes s says asked t cause text h
-
-pub returns-clause-so_far : goal.returns-clause-so_far
-returns-clause-so_far c = λ bytes s asked text says h. front_shows c.witnesses_are_in_order.ensures.order c.witnesses_are_in_order.ensures.new bytes s says asked text h
+pub returns-clause-searches : goal.returns-clause-searches
+returns-clause-searches c = λ bytes s asked says. (
+  λ t cause text h. end_shows c.witnesses_are_in_order.ensures.order c.witnesses_are_in_order.ensures.new bytes s says asked t cause text h,
+  λ text h. front_shows c.witnesses_are_in_order.ensures.order c.witnesses_are_in_order.ensures.new bytes s says asked text h,
+)
