@@ -12,7 +12,7 @@ use fol_core::Raw;
 use ladr_reader::{FormulaRead, Mode, read_formula};
 use ladr_rules::{Stated, is_demodulator, is_hint};
 use ladr_settings::FormulaList;
-use std::alloc::Global;
+use std::alloc::{AllocError, Global};
 
 /// The most symbols of a file.
 pub const MOST_SYMBOLS: usize = 65_535;
@@ -51,13 +51,18 @@ fn meet(test: bool, row: u8, least: Option<u8>) -> Option<u8>
 }
 
 // The least row that a formula breaks in its list.
-fn least_row(list: FormulaList, misused: bool, read: &FormulaRead) -> Option<u8>
-    ensures { result ≡ least_row list misused (fol_of read.now.formula.shape) read.now.least }
+fn least_row(
+    alloc: Global,
+    list: FormulaList,
+    misused: bool,
+    read: &FormulaRead,
+) -> Result<Option<u8>, AllocError>
+    ensures { IfOk result (λ row. row ≡ least_row list misused (fol_of read.now.formula.shape) read.now.least) }
 {
     let least = meet(misused, 12, read.least);
-    let is_lost = is_demodulators(list) && !is_demodulator(&read.formula);
+    let is_lost = is_demodulators(list) && !is_demodulator(alloc, &read.formula)?;
     let least = meet(is_lost, 14, least);
-    meet(is_hints(list) && !is_hint(&read.formula), 13, least)
+    Ok(meet(is_hints(list) && !is_hint(&read.formula), 13, least))
 }
 
 impl Draft {
@@ -77,12 +82,13 @@ impl Draft {
         let before = self.symbols.len();
         let prolog = self.settings.options.prolog_style_variables;
         let read = read_formula(alloc, &stated.formula, &mut self.symbols, program, prolog)?;
-        self.settle(program, list, byte, before, stated, read)
+        self.settle(alloc, program, list, byte, before, stated, read)
     }
 
     // Takes a formula that was read behind so many symbols.
     fn settle(
         &mut self,
+        alloc: Global,
         program: Mode,
         list: Option<FormulaList>,
         byte: u64,
@@ -100,7 +106,9 @@ impl Draft {
             return Err(Refusal::Arity);
         }
         match list {
-            Some(list) if self.settings.is_meant(program) => self.judge(list, byte, stated, read),
+            Some(list) if self.settings.is_meant(program) => {
+                self.judge(alloc, list, byte, stated, read)
+            }
             _ => {
                 self.symbols.truncate(before);
                 Ok(())
@@ -111,6 +119,7 @@ impl Draft {
     // Adds a formula, unless it breaks a row.
     fn judge(
         &mut self,
+        alloc: Global,
         list: FormulaList,
         byte: u64,
         stated: Stated,
@@ -119,7 +128,7 @@ impl Draft {
         ensures ok { OnOk result (with_read list byte (sofar_of self.old) stated read ≡ Ok (sofar_of self.new)) }
         ensures refused { IfErr result (IsNo (with_read list byte (sofar_of self.old) stated read)) }
     {
-        match least_row(list, stated.misused, &read) {
+        match least_row(alloc, list, stated.misused, &read)? {
             Some(row) => Err(Refusal::Row(row)),
             None => {
                 self.add(list, read.formula, stated.label, stated.hint_weight, byte)?;

@@ -1,3 +1,4 @@
 pub mod Arities
+pub mod Names
 pub mod Parts
 pub mod Variables

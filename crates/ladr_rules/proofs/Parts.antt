@@ -1,14 +1,9 @@
 -- Terms as they are read, behind one another.
-use Rattle.std.proofs.Common.{◌≡◌, ℕ, ◌+◌, ◌<◌, ◌≤◌, ◌==◌, Bool, true, false, ◌&&◌, ◌||◌, if◌then◌else◌, List, [], ◌∷◌, ◌++◌, length, drop, get_or, refl, sym, ap, ◌∙◌}
-use Rattle.std.proofs.Math.Bool.{or-false}
+use Rattle.std.proofs.Common.{◌≡◌, ℕ, ◌+◌, ◌<◌, ◌≤◌, ◌==◌, Bool, if◌then◌else◌, List, [], ◌∷◌, length, drop, get_or, refl, sym, ap, ◌∙◌}
 use Rattle.std.proofs.lemmas.List.{drop_more, drop_all}
-use Rattle.std.proofs.lemmas.List.Folds.{list_any-append}
-use Rattle.std.specs.Str.{bytes_eq}
-use Rattle.fol_core.specs.NamesOnce.{is_in}
 use Rattle.fol_core.specs.RawTree.{RawTree, RawTrees, named, no_raws, more_raws, raws_of}
 use Rattle.fol_core.specs.RawView.{raw_of, raw_list}
 use Rattle.fol_core.specs.declared.raw.Raw.{Raw}
-use Rattle.ladr_reader.specs.Formulas.{is_free_name}
 use Rattle.ladr_reader.specs.declared.styles.Style.{Style}
 use Rattle.ladr_rules.specs.Rules.{variable_names, all_names, is_bare}
 use Rattle.ladr_rules.proofs.Arities.{no_none}
@@ -25,20 +20,9 @@ raws_next raws i raw l e = ap (λ (rs : List Raw). raws_of (raw_list rs)) (drop_
 pub raws_end : (raws : List Raw) (i : ℕ) → length raws ≤ i → raws_from raws i ≡ no_raws
 raws_end raws i past = ap (λ (rs : List Raw). raws_of (raw_list rs)) (drop_all i raws past)
 
--- a name is among those of two lists where it is in one of them
-pub in_both : (x : List ℕ) (xs ys : List (List ℕ)) → is_in x (xs ++ ys) ≡ (is_in x xs || is_in x ys)
-in_both x xs ys = list_any-append (λ n. bytes_eq x n) xs ys
-
 pub names_by_length : (st : Style) (s : List ℕ) (ts : List RawTree) → variable_names st (named s (raws_of ts)) ≡ (if length ts == 0 then variable_names st (named s no_raws) else all_names st (raws_of ts))
 names_by_length st s [] = refl
 names_by_length st s (t ∷ ts) = ap (λ (b : Bool). if b then variable_names st (named s no_raws) else all_names st (raws_of (t ∷ ts))) (sym (no_none (length ts)))
-
-pub one_name : (st : Style) (s x : List ℕ) → is_in x (variable_names st (named s no_raws)) ≡ (is_free_name st s && bytes_eq x s)
-one_name st s x = by (is_free_name st s)
-  where
-    by : (b : Bool) → is_in x (if b then s ∷ [] else []) ≡ (b && bytes_eq x s)
-    by true = or-false (bytes_eq x s)
-    by false = refl
 
 pub bare_by_length : (ts : List RawTree) → is_bare (raws_of ts) ≡ (length ts == 0)
 bare_by_length [] = refl

@@ -5,11 +5,11 @@ use Rattle.std.proofs.lemmas.Bool.{eqb-true, false≢true}
 use Rattle.std.proofs.lemmas.List.{drop_all}
 use Rattle.std.proofs.lemmas.List.Folds.{list_all-append}
 use Rattle.std.specs.List.{list_all}
-use Rattle.fol_core.specs.Tree.{trees_of}
+use Rattle.fol_core.specs.Tree.{Tree, trees_of}
 use Rattle.fol_core.specs.TermView.{tree_of, tree_list}
 use Rattle.fol_core.specs.declared.term.Term.{Term}
 use Rattle.fol_core.specs.Free.{is_in, noted, joined, variables_of, variables_of_all}
-use Rattle.fol_core.proofs.Variables.{is_in_joined}
+use Rattle.fol_core.proofs.Variables.{joined_joined, once}
 
 all_at : (p : ℕ → Bool) (xs : List ℕ) (y : ℕ) → is_in y xs ≡ true → list_all p xs ≡ true → p y ≡ true
 all_at p [] y i h = absurd (false≢true i)
@@ -49,11 +49,18 @@ pub all_next : (p : ℕ → Bool) (terms : List Term) (i : ℕ) (term : Term) �
     → list_all p (variables_from terms i) ≡ (list_all p (variables_of (tree_of term)) && list_all p (variables_from terms (i + 1)))
 all_next p terms i term l e = ap (list_all p) (from_next terms i term l e) ∙ all_joined p (variables_of (tree_of term)) (variables_from terms (i + 1))
 
--- and one is among them where it is among those of the first or of the others
-pub in_next : (x : ℕ) (terms : List Term) (i : ℕ) (term : Term) → i < length terms → term ≡ get_or terms i term
-    → is_in x (variables_from terms i) ≡ (is_in x (variables_of (tree_of term)) || is_in x (variables_from terms (i + 1)))
-in_next x terms i term l e = ap (is_in x) (from_next terms i term l e) ∙ is_in_joined x (variables_of (tree_of term)) (variables_from terms (i + 1))
+-- to join them to others is to join those of the first, then the others
+pub joined_next : (found : List ℕ) (terms : List Term) (i : ℕ) (term : Term) → i < length terms → term ≡ get_or terms i term
+    → joined (joined found (variables_of (tree_of term))) (variables_from terms (i + 1)) ≡ joined found (variables_from terms i)
+joined_next found terms i term l e = sym (ap (joined found) (from_next terms i term l e) ∙ joined_joined found (variables_of (tree_of term)) (variables_from terms (i + 1)))
 
 -- past the end there is none
 pub none_left : (terms : List Term) (i : ℕ) → length terms ≤ i → variables_from terms i ≡ []
 none_left terms i past = ap (λ (ts : List Term). variables_of_all (trees_of (tree_list ts))) (drop_all i terms past)
+
+pub joined_end : (found : List ℕ) (terms : List Term) (i : ℕ) → length terms ≤ i → joined found (variables_from terms i) ≡ found
+joined_end found terms i past = ap (joined found) (none_left terms i past)
+
+-- the set that begins with none has those of a term
+pub set_of : (empty keys : List ℕ) (t : Tree) → empty ≡ [] → keys ≡ joined empty (variables_of t) → keys ≡ variables_of t
+set_of empty keys t none is = is ∙ ap (λ (xs : List ℕ). joined xs (variables_of t)) none ∙ once t

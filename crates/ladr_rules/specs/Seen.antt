@@ -1,6 +1,7 @@
--- What a term was seen to be, beside the definitions.
-use Rattle.std.specs.Prelude.{◌≡◌, Bool, false, ◌&&◌, ◌==◌, codes}
+-- What was seen of terms, beside the definitions.
+use Rattle.std.specs.Prelude.{◌≡◌, ℕ, Bool, false, ◌&&◌, ◌==◌, List, [], ◌∷◌, codes}
 use Rattle.std.specs.Str.{bytes_eq}
+use Rattle.fol_core.specs.NamesOnce.{with_name}
 use Rattle.fol_core.specs.RawTree.{RawTree, named, quantified, no_raws, more_raws}
 use Rattle.fol_core.specs.RawView.{raw_of}
 use Rattle.ladr_reader.specs.Formulas.{arity_of}
@@ -16,3 +17,8 @@ is_joined (quantified q x t) = false
 abbrev pub IsSplit : RawTree → Split → Type 0
 IsSplit t (Joined a b) = t ≡ named (codes "#") (more_raws (raw_of a) (more_raws (raw_of b) no_raws))
 IsSplit t (Alone a) = (raw_of a ≡ t) × (is_joined t ≡ false)
+
+-- the names with those of a second list behind them, each once
+abbrev pub with_names : List (List ℕ) → List (List ℕ) → List (List ℕ)
+with_names names [] = names
+with_names names (n ∷ ns) = with_names (with_name n names) ns

@@ -1,25 +1,41 @@
 // What patterns of weights are to be.
-ghost use Rattle.std.specs.Prelude.{◌≡◌};
+ghost use Rattle.std.specs.Prelude.{◌≡◌, IfOk, OnOk};
 ghost use Rattle.fol_core.specs.RawTree.{named, no_raws, raws_of};
 ghost use Rattle.fol_core.specs.RawView.{raw_of};
-ghost use Rattle.fol_core.specs.NamesOnce.{is_in};
-ghost use Rattle.ladr_rules.specs.Rules.{quantifies, some_quantifies, variable_names, all_names, too_great, some_too_great, pattern_row, is_shaped};
+ghost use Rattle.fol_core.specs.NamesOnce.{names_of, with_name};
+ghost use Rattle.ladr_rules.specs.Rules.{quantifies, some_quantifies, variable_names, all_names, too_great, some_too_great, pattern_row, is_shaped, is_value};
+ghost use Rattle.ladr_rules.specs.Seen.{with_names};
 ghost use Rattle.ladr_rules.specs.SidesView.{sides_view};
 
 use crate::sides::Sides;
 use crate::values::is_value;
 use fol_core::{Raw, Raws};
+use indexmap::IndexSet;
 use ladr_reader::{Style, is_free_name, is_too_great};
+use std::alloc::{AllocError, Global};
 
 #[tactic(auto, using(crate::proofs::Parts::bare_by_length))]
 /// Whether a rule has the right shape.
-pub fn is_shaped(style: Style, sides: &Sides<'_>) -> bool
-    ensures { result ≡ is_shaped style (sides_view sides.now) }
+pub fn is_shaped(alloc: Global, style: Style, sides: &Sides<'_>) -> Result<bool, AllocError>
+    ensures { IfOk result (λ b. b ≡ is_shaped style (sides_view sides.now)) }
 {
     let excluded = some_quantifies(sides.parts)
         || quantifies(sides.value)
         || sides.parts.len() == 0 && is_free_name(style, sides.head.bytes());
-    !excluded && is_value(style, sides.parts, sides.value)
+    if excluded {
+        Ok(false)
+    } else {
+        has_value(alloc, style, sides.parts, sides.value)
+    }
+}
+
+// Whether a term is a value, with the variables of these parts of a pattern.
+fn has_value(alloc: Global, style: Style, parts: &Raws, value: &Raw) -> Result<bool, AllocError>
+    ensures { IfOk result (λ b. b ≡ is_value (all_names style (raws_of parts.now)) (raw_of value.now)) }
+{
+    let mut names = IndexSet::new(alloc);
+    add_names(alloc, style, parts, &mut names)?;
+    Ok(is_value(&names, value))
 }
 
 /// The row that a pattern breaks, given the least one that was met as it was read.
@@ -63,44 +79,70 @@ fn some_quantifies(raws: &Raws) -> bool
     false
 }
 
-#[tactic(auto, using(crate::proofs::Parts::raws_next, crate::proofs::Parts::raws_end, crate::proofs::Parts::in_both))]
-/// Whether a name is that of a variable in these terms.
+#[tactic(auto, using(crate::proofs::Names::names_next, crate::proofs::Names::names_end))]
+// Adds the names of the variables of terms to a set.
 #[cycle(names)]
-pub fn have_variable(style: Style, raws: &Raws, name: &[u8]) -> bool
-    ensures { result ≡ is_in name.now (all_names style (raws_of raws.now)) }
+fn add_names(
+    alloc: Global,
+    style: Style,
+    raws: &Raws,
+    found: &mut IndexSet<Vec<u8>>,
+) -> Result<(), AllocError>
+    ensures { OnOk result (names_of found.new.keys ≡ with_names (names_of found.old.keys) (all_names style (raws_of raws.now))) }
 {
     for raw in &raws.items {
-        if has_variable(style, raw, name) {
-            return true;
-        }
+        add_names_of(alloc, style, raw, found)?;
     }
-    false
+    Ok(())
 }
 
 #[tactic(auto, using(crate::proofs::Parts::names_by_length))]
-// Whether a name is that of a variable in a term.
+// Adds those of a term.
 #[cycle(names)]
-fn has_variable(style: Style, raw: &Raw, name: &[u8]) -> bool
-    ensures { result ≡ is_in name.now (variable_names style (raw_of raw.now)) }
+fn add_names_of(
+    alloc: Global,
+    style: Style,
+    raw: &Raw,
+    found: &mut IndexSet<Vec<u8>>,
+) -> Result<(), AllocError>
+    ensures { OnOk result (names_of found.new.keys ≡ with_names (names_of found.old.keys) (variable_names style (raw_of raw.now))) }
 {
     match raw {
         Raw::App(symbol, args) => {
             if args.len() == 0 {
-                is_variable(style, symbol.bytes(), name)
+                add_variable(alloc, style, symbol.bytes(), found)
             } else {
-                have_variable(style, args, name)
+                add_names(alloc, style, args, found)
             }
         }
-        Raw::Quant(_, _, body) => has_variable(style, body.raw(), name),
+        Raw::Quant(_, _, body) => add_names_of(alloc, style, body.raw(), found),
     }
 }
 
-#[tactic(auto, using(crate::proofs::Parts::one_name))]
-// Whether a symbol without arguments is the variable of a name.
-fn is_variable(style: Style, symbol: &[u8], name: &[u8]) -> bool
-    ensures { result ≡ is_in name.now (variable_names style (named symbol.now no_raws)) }
+// Adds the name of a symbol without arguments, where it is a variable.
+fn add_variable(
+    alloc: Global,
+    style: Style,
+    symbol: &[u8],
+    found: &mut IndexSet<Vec<u8>>,
+) -> Result<(), AllocError>
+    ensures { OnOk result (names_of found.new.keys ≡ with_names (names_of found.old.keys) (variable_names style (named symbol.now no_raws))) }
 {
-    is_free_name(style, symbol) && name == symbol
+    if is_free_name(style, symbol) {
+        add_name(alloc, symbol, found)
+    } else {
+        Ok(())
+    }
+}
+
+// Adds a name, unless it is there.
+fn add_name(alloc: Global, name: &[u8], found: &mut IndexSet<Vec<u8>>) -> Result<(), AllocError>
+    ensures { OnOk result (names_of found.new.keys ≡ with_name name.now (names_of found.old.keys)) }
+{
+    if !found.contains(name) {
+        found.insert(Vec::from_slice(alloc, name)?)?;
+    }
+    Ok(())
 }
 
 // Whether a numeral of a term is too great for an element.

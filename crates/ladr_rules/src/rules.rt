@@ -41,25 +41,25 @@ pub fn weight_rule(
     ensures kept { KeepsNumbers symbols.old symbols.new }
 {
     let style = style_of(mode, prolog);
-    match shaped_sides(style, raw) {
+    match shaped_sides(alloc, style, raw)? {
         Some(sides) => Ok(Some(shaped_rule(alloc, &sides, symbols, style)?)),
         None => Ok(None),
     }
 }
 
 // The sides of a term that is a rule.
-fn shaped_sides(style: Style, raw: &Raw) -> Option<Sides<'_>>
-    ensures { option_map sides_view result ≡ shaped_sides style (raw_of raw.now) }
+fn shaped_sides(alloc: Global, style: Style, raw: &Raw) -> Result<Option<Sides<'_>>, AllocError>
+    ensures { IfOk result (λ sides. option_map sides_view sides ≡ shaped_sides style (raw_of raw.now)) }
 {
     match sides_of(raw) {
         Some(sides) => {
-            if is_shaped(style, &sides) {
-                Some(sides)
+            if is_shaped(alloc, style, &sides)? {
+                Ok(Some(sides))
             } else {
-                None
+                Ok(None)
             }
         }
-        None => None,
+        None => Ok(None),
     }
 }
 

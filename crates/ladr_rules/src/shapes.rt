@@ -1,13 +1,15 @@
 // What hints and demodulators are to be.
-ghost use Rattle.std.specs.Prelude.{◌≡◌};
+ghost use Rattle.std.specs.Prelude.{◌≡◌, IfOk, OnOk};
 ghost use Rattle.std.specs.List.{list_all};
 ghost use Rattle.fol_core.specs.FormulaView.{fol_of};
-ghost use Rattle.fol_core.specs.Free.{is_in, variables_of, variables_of_all};
+ghost use Rattle.fol_core.specs.Free.{is_in, joined, variables_of, variables_of_all};
 ghost use Rattle.fol_core.specs.TermView.{tree_of};
 ghost use Rattle.fol_core.specs.Tree.{trees_of};
 ghost use Rattle.ladr_rules.specs.Shapes.{is_atom, is_hint, is_demodulator, is_variable};
 
 use fol_core::{Formula, Shape, Term, Terms};
+use indexmap::IndexSet;
+use std::alloc::{AllocError, Global};
 
 /// Whether a formula is literals joined by `|`.
 pub fn is_hint(formula: &Formula) -> bool
@@ -36,12 +38,12 @@ fn is_atom(shape: &Shape) -> bool
 }
 
 /// Whether a formula is an equation whose left side is no variable and has each variable of the right.
-pub fn is_demodulator(formula: &Formula) -> bool
-    ensures { result ≡ is_demodulator (fol_of formula.now.shape) }
+pub fn is_demodulator(alloc: Global, formula: &Formula) -> Result<bool, AllocError>
+    ensures { IfOk result (λ b. b ≡ is_demodulator (fol_of formula.now.shape)) }
 {
     match &formula.shape {
-        Shape::Eq(left, right) => !is_variable(left) && has_variables(left, right),
-        _ => false,
+        Shape::Eq(left, right) if !is_variable(left) => has_variables(alloc, left, right),
+        _ => Ok(false),
     }
 }
 
@@ -54,40 +56,50 @@ fn is_variable(term: &Term) -> bool
     }
 }
 
-#[tactic(auto, using(crate::proofs::Variables::all_next, crate::proofs::Variables::none_left))]
 // Whether a term has each variable of another.
-fn has_variables(term: &Term, other: &Term) -> bool
-    ensures { result ≡ list_all (λ x. is_in x (variables_of (tree_of term.now))) (variables_of (tree_of other.now)) }
+fn has_variables(alloc: Global, term: &Term, other: &Term) -> Result<bool, AllocError>
+    ensures { IfOk result (λ b. b ≡ list_all (λ x. is_in x (variables_of (tree_of term.now))) (variables_of (tree_of other.now))) }
 {
-    match other {
-        Term::Var(x) => has_variable(term, *x),
-        Term::Elem(_) => true,
+    let mut found = IndexSet::new(alloc);
+    add_variables(term, &mut found)?;
+    Ok(are_found(&found, other))
+}
+
+#[tactic(auto, using(crate::proofs::Variables::joined_next, crate::proofs::Variables::joined_end))]
+// Adds the variables of a term to a set.
+fn add_variables(term: &Term, found: &mut IndexSet<u64>) -> Result<(), AllocError>
+    ensures { OnOk result (found.new.keys ≡ joined found.old.keys (variables_of (tree_of term.now))) }
+{
+    match term {
+        Term::Var(x) => {
+            found.insert(*x)?;
+            Ok(())
+        }
+        Term::Elem(_) => Ok(()),
         Term::App(_, terms) => {
             for part in &terms.items {
-                if !has_variables(term, part) {
-                    return false;
-                }
+                add_variables(part, found)?;
             }
-            true
+            Ok(())
         }
     }
 }
 
-#[tactic(auto, using(crate::proofs::Variables::in_next, crate::proofs::Variables::none_left))]
-// Whether a term has a variable.
-fn has_variable(term: &Term, x: u64) -> bool
-    ensures { result ≡ is_in x (variables_of (tree_of term.now)) }
+#[tactic(auto, using(crate::proofs::Variables::all_next, crate::proofs::Variables::none_left))]
+// Whether each variable of a term is in a set.
+fn are_found(found: &IndexSet<u64>, term: &Term) -> bool
+    ensures { result ≡ list_all (λ x. is_in x found.now.keys) (variables_of (tree_of term.now)) }
 {
     match term {
-        Term::Var(y) => *y == x,
-        Term::Elem(_) => false,
+        Term::Var(x) => found.contains(x),
+        Term::Elem(_) => true,
         Term::App(_, terms) => {
             for part in &terms.items {
-                if has_variable(part, x) {
-                    return true;
+                if !are_found(found, part) {
+                    return false;
                 }
             }
-            false
+            true
         }
     }
 }

@@ -1,33 +1,30 @@
 // What patterns weigh: whole numbers, `+`, `*`, and `weight(x)` for a variable of the pattern.
 ghost use Rattle.std.specs.Prelude.{◌≡◌, ◌||◌, ◌&&◌, codes, IfOk};
 ghost use Rattle.std.specs.Str.{bytes_eq};
-ghost use Rattle.fol_core.specs.RawTree.{raws_of};
 ghost use Rattle.fol_core.specs.RawView.{raw_of};
 ghost use Rattle.fol_core.specs.WeightView.{weight_of};
-ghost use Rattle.fol_core.specs.NamesOnce.{is_in};
-ghost use Rattle.ladr_rules.specs.Rules.{all_names, single_value, is_value, single_weight, combined, value_of};
+ghost use Rattle.fol_core.specs.NamesOnce.{is_in, names_of};
+ghost use Rattle.ladr_rules.specs.Rules.{single_value, is_value, single_weight, combined, value_of};
 
 use crate::attributes::whole_number;
-use crate::patterns::have_variable;
-use fol_core::{Raw, Raws, Weight, WeightSub};
-use ladr_reader::{Style, Variables};
+use fol_core::{Raw, Weight, WeightSub};
+use indexmap::IndexSet;
+use ladr_reader::Variables;
 use std::alloc::{AllocError, Global};
 
 const MOST: u32 = 2_147_483_647;
 
 #[tactic(auto, using(crate::proofs::Arities::no_value))]
-/// Whether a term is a value, with the variables of these parts of a pattern.
-pub fn is_value(style: Style, parts: &Raws, raw: &Raw) -> bool
-    ensures { result ≡ is_value (all_names style (raws_of parts.now)) (raw_of raw.now) }
+/// Whether a term is a value, with the names of a pattern's variables.
+pub fn is_value(names: &IndexSet<Vec<u8>>, raw: &Raw) -> bool
+    ensures { result ≡ is_value (names_of names.now.keys) (raw_of raw.now) }
 {
     match raw {
         Raw::App(name, args) => match args.as_slice() {
             [] => whole_number(MOST, raw).is_some(),
-            [part] => is_single(style, parts, name.bytes(), part),
+            [part] => is_single(names, name.bytes(), part),
             [left, right] => {
-                is_operation(name.bytes())
-                    && is_value(style, parts, left)
-                    && is_value(style, parts, right)
+                is_operation(name.bytes()) && is_value(names, left) && is_value(names, right)
             }
             _ => false,
         },
@@ -43,21 +40,27 @@ fn is_operation(name: &[u8]) -> bool
 
 #[tactic(auto, using(crate::proofs::Arities::single_by_length))]
 // Whether it is `weight(x)` for a variable of the pattern.
-fn is_single(style: Style, parts: &Raws, name: &[u8], part: &Raw) -> bool
-    ensures { result ≡ single_value (all_names style (raws_of parts.now)) name.now (raw_of part.now) }
+fn is_single(names: &IndexSet<Vec<u8>>, name: &[u8], part: &Raw) -> bool
+    ensures { result ≡ single_value (names_of names.now.keys) name.now (raw_of part.now) }
 {
     match part {
         Raw::App(variable, args) => {
-            args.len() == 0 && is_weight_of(style, parts, name, variable.bytes())
+            args.len() == 0 && is_weight_of(names, name, variable.bytes())
         }
         Raw::Quant(_, _, _) => false,
     }
 }
 
-fn is_weight_of(style: Style, parts: &Raws, name: &[u8], variable: &[u8]) -> bool
-    ensures { result ≡ (bytes_eq name.now (codes "weight") && is_in variable.now (all_names style (raws_of parts.now))) }
+fn is_weight_of(names: &IndexSet<Vec<u8>>, name: &[u8], variable: &[u8]) -> bool
+    ensures { result ≡ (bytes_eq name.now (codes "weight") && is_in variable.now (names_of names.now.keys)) }
 {
-    name == b"weight".as_slice() && have_variable(style, parts, variable)
+    name == b"weight".as_slice() && has_name(names, variable)
+}
+
+fn has_name(names: &IndexSet<Vec<u8>>, name: &[u8]) -> bool
+    ensures { result ≡ is_in name.now (names_of names.now.keys) }
+{
+    names.contains(name)
 }
 
 #[tactic(auto, using(crate::proofs::Arities::no_worth))]

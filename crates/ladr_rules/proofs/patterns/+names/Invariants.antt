@@ -1,10 +1,12 @@
--- the terms so far don't have the variable: the rest decides
+-- what the rest adds makes up what all add
 use Rattle.std.proofs.Common.{◌≡◌}
+use Rattle.fol_core.specs.NamesOnce.{names_of}
 use Rattle.fol_core.specs.RawTree.{raws_of}
-use Rattle.fol_core.specs.NamesOnce.{is_in}
 use Rattle.ladr_rules.specs.Rules.{all_names}
+use Rattle.ladr_rules.specs.Seen.{with_names}
 use Rattle.ladr_rules.proofs.Parts.{raws_from}
 use Rattle.ladr_rules.proofs.patterns.+names.Given as goal
 
-abbrev pub invariant-have_variable-loop-raw : goal.invariant-have_variable-loop-raw
-invariant-have_variable-loop-raw l = is_in l.name (all_names l.style (raws_from l.raw-items l.raw-index)) ≡ is_in l.name (all_names l.style (raws_of l.raws))
+abbrev pub invariant-add_names-loop-raw : goal.invariant-add_names-loop-raw
+invariant-add_names-loop-raw l =
+    with_names (names_of l.found.keys) (all_names l.style (raws_from l.raw-items l.raw-index)) ≡ with_names (names_of l.initial.found.keys) (all_names l.style (raws_of l.raws))

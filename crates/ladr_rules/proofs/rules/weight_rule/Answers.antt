@@ -20,4 +20,4 @@ rule_there style st old new t s r same e h =
 pub returns-in_ok-shaped_rule-in-Some-clause-read : goal.returns-in_ok-shaped_rule-in-Some-clause-read
 returns-in_ok-shaped_rule-in-Some-clause-read c =
     rule_there c.style_of-style.result (style_of c.args.mode c.args.prolog) c.args.symbols.now c.shaped_rule.new.symbols (raw_of c.args.raw.now) (sides_view c.in-Some.sides) _
-    c.style_of-style.ensures (sym (ap (option_map sides_view) c.in-Some.is) ∙ c.shaped_sides.ensures) c.in_ok-shaped_rule-in-Some.ensures.read
+    c.style_of-style.ensures (sym (ap (option_map sides_view) c.in-Some.is) ∙ c.in_ok-sides.ensures) c.in_ok-shaped_rule-in-Some.ensures.read
