@@ -21,6 +21,6 @@ mod verdicts;
 mod watch;
 
 pub use cause::{Cause, Exit, Limit, Place};
-pub use laws::{one_outcome, printed_models, worked};
+pub use laws::{one_outcome, one_search, printed_models, worked};
 pub use running::run;
 pub use settings::Settings;
