@@ -21,12 +21,12 @@ use Rattle.ladr_top.specs.declared.cause.Cause.{Cause}
 use Rattle.ladr_top.specs.declared.cause.Cause.TheVariants.{Done, Words, Unreadable, TooLarge, Misuse, ReadFault, WriteFault, Memory, Exhausted, MaxMegs, MaxSeconds, AllModels, GroundLimit, ClauseLimit}
 use Rattle.ladr_top.specs.declared.settings.Settings.{Settings}
 use Rattle.ladr_top.proofs.FewSymbols.{read_sound}
+use Rattle.mace_search.proofs.Completing.{by_number}
 use Rattle.mace_search.specs.Models.{IsModel, AreFirst, behind}
 use Rattle.model_tables.specs.Expansion.{witness_cells, IsExpansion}
-use Rattle.model_tables.specs.Order.{first_of, table_number}
+use Rattle.model_tables.specs.Order.{table_number}
 use Rattle.model_tables.specs.Tables.{Finite}
 use Rattle.model_tables.proofs.Expanding.{same_top, kept_countermodel, expansion_picks}
-use Rattle.model_tables.proofs.Orders.{interpretation_shape, shape_turned, shape_joined, number_decides}
 
 some_cells : (n k : ℕ) → 1 ≤ n → 1 ≤ n ^ k
 some_cells n zero h = let e = pow-zero n in omega (arith, e)
@@ -43,13 +43,6 @@ few_witnesses n (w ∷ ws) h = omega (arith, some_cells n (length w.variables) h
 room_for : (n : ℕ) (p : Stated) → 1 ≤ n → all_cells n p < refused_cells → length (all_witnesses p) ≤ equality
 room_for n p h room = omega (arith, few_witnesses n (all_witnesses p) h, room)
 
--- a number tells the model
-by_number : (p : Stated) (n : ℕ) (t u : Finite) → IsModel p n t → IsModel p n u → table_number t ≡ table_number u → t ≡ u
-by_number p n t u h k e =
-    let a = interpretation_shape n p t h.0 in
-    let b = interpretation_shape n p u k.0 in
-    number_decides t u (shape_joined t (first_of n p) u (shape_turned (first_of n p) t a.0) b.0) a.1 b.1 e
-
 among : (p : Stated) (n k : ℕ) (ts us : List Finite) (t : Finite) → AreFirst p n k ts → AreExpansions (all_witnesses p) ts us → IsModel p n t → k ≤ table_number t → table_number t < behind k ts → HasExpansionOf p t us
 among p n k [] us t h x is from before = absurd (omega (arith, from, before))
 among p n k (v ∷ ts) [] t h x is from before = absurd x
@@ -58,7 +51,7 @@ among p n k (v ∷ ts) (u ∷ us) t h x is from before =
       | inl lt ↦ absurd (h.0.2 t is from lt)
       | inr le ↦ elim (cases_lt (table_number v) (table_number t)) [
         | inl more ↦ let later = among p n (suc (table_number v)) ts us t h.1 x.1 is more before in (later.0, Contains-append_right (u ∷ []) us later.0 later.1, later.2)
-        | inr same ↦ (u, (0, omega arith, refl), subst (λ (y : Finite). IsExpansion y (all_witnesses p) u) (by_number p n v t h.0.0 is (omega (arith, le, same))) x.0)
+        | inr same ↦ (u, (0, omega arith, refl), subst (λ (y : Finite). IsExpansion y (all_witnesses p) u) (by_number p n v t h.0.0.0 is.0 (omega (arith, le, same))) x.0)
       ]
     ]
 
