@@ -29,4 +29,3 @@ pub use numbering::Variables;
 pub use read::read_term;
 pub use reader::is_free_name;
 pub use styles::{FormulaError, Mode, Style, What, style_of};
-
