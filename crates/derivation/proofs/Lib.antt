@@ -1,0 +1,7 @@
+pub mod Induction
+pub mod LaterSound
+pub mod Lawful
+pub mod Naturality
+pub mod PlaceLemmas
+pub mod RuleSound
+pub mod Values

@@ -1,0 +1,7 @@
+pub mod Equations
+pub mod Later
+pub mod Laws
+pub mod Lines
+pub mod Places
+pub mod Rule
+pub mod Words
