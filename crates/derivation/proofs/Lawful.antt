@@ -35,18 +35,18 @@ two_kept own (c ∷ []) = refl
 two_kept own (c ∷ d ∷ []) = refl
 two_kept own (c ∷ d ∷ e ∷ cs) = refl
 
-only_kept : (own : Own) (cs : List ClauseTree) → only_of (instances own cs) ≡ substitute_clause (own 0) (only_of cs)
+pub only_kept : (own : Own) (cs : List ClauseTree) → only_of (instances own cs) ≡ substitute_clause (own 0) (only_of cs)
 only_kept own [] = refl
 only_kept own (c ∷ []) = refl
 only_kept own (c ∷ d ∷ cs) = refl
 
-first_kept : (own : Own) (cs : List ClauseTree) → first_of_two (instances own cs) ≡ substitute_clause (own 0) (first_of_two cs)
+pub first_kept : (own : Own) (cs : List ClauseTree) → first_of_two (instances own cs) ≡ substitute_clause (own 0) (first_of_two cs)
 first_kept own [] = refl
 first_kept own (c ∷ []) = refl
 first_kept own (c ∷ d ∷ []) = refl
 first_kept own (c ∷ d ∷ e ∷ cs) = refl
 
-second_kept : (own : Own) (cs : List ClauseTree) → second_of_two (instances own cs) ≡ substitute_clause (own 1) (second_of_two cs)
+pub second_kept : (own : Own) (cs : List ClauseTree) → second_of_two (instances own cs) ≡ substitute_clause (own 1) (second_of_two cs)
 second_kept own [] = refl
 second_kept own (c ∷ []) = refl
 second_kept own (c ∷ d ∷ []) = refl

@@ -1,3 +1,4 @@
+pub mod Conclusions
 pub mod Induction
 pub mod LaterSound
 pub mod Lawful

@@ -1,11 +1,13 @@
 -- What refutations show, in every interpretation.
-use Rattle.std.specs.Prelude.{ℕ, List, [], ◌∷◌, map}
+use Rattle.std.specs.Prelude.{ℕ, ◌≡◌, IsTrue, List, [], ◌∷◌, map, Option, Some, None}
 use Rattle.fol_core.specs.Laws.{NamesElements}
 use Rattle.fol_core.specs.Literals.{ClauseTree, AreTrueClauses}
 use Rattle.fol_core.specs.Meaning.{Meaning}
 use Rattle.fol_core.specs.Stated.{Said}
 use Rattle.substitutions.specs.Atoms.{AreAtoms}
-use Rattle.derivation.specs.Lines.{Content, formula, clause, Line, Row, IsRefutation}
+use Rattle.derivation.specs.Lines.{FirstWord, Inference, Content, formula, clause, Line, Row, IsRefutation, inference_of}
+use Rattle.derivation.specs.Refused.{IsFault}
+use Rattle.derivation.specs.Rule.{Concludes}
 
 -- each element that a clause names is within
 abbrev pub NamesWithin : Meaning → ClauseTree → Type 0
@@ -29,3 +31,16 @@ RowsAreAtoms (r ∷ rows) = AreAtoms r.1 × RowsAreAtoms rows
 abbrev pub RefutationIsSound : Meaning → Type 0
 RefutationIsSound m = (ss : List Said) (rows : List Row) (ls : List Line) → RowsAreAtoms rows → LinesNameWithin m ls
     → IsRefutation ss rows ls → ¬ AreTrueClauses m (map (λ r. r.1) rows)
+
+-- a rule has one conclusion
+abbrev pub OneConclusion : Type 0
+OneConclusion = (w : FirstWord) (i : Inference) (ps : List ClauseTree) (c d : ClauseTree) → inference_of w ≡ Some i
+    → IsTrue (i.rule.fits ps) → Concludes i.rule ps c → Concludes i.rule ps d → c ≡ d
+
+-- lines that have a fault are no refutation, and the fault is one
+abbrev pub FaultIsNone : Type 0
+FaultIsNone = (ss : List Said) (rows : List Row) (ls : List Line) (number row : ℕ) → IsFault ss rows ls number row → ¬ IsRefutation ss rows ls
+
+abbrev pub FaultIsOne : Type 0
+FaultIsOne = (ss : List Said) (rows : List Row) (ls : List Line) (number row other_number other_row : ℕ)
+    → IsFault ss rows ls number row → IsFault ss rows ls other_number other_row → (number ≡ other_number) × (row ≡ other_row)

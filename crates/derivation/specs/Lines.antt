@@ -1,6 +1,6 @@
 -- Derivations and refutations.
 use Rattle.std.specs.Prelude.{ℕ, ◌≡◌, ◌<◌, Bool, true, false, ◌==◌, ◌-◌, if◌then◌else◌, IsTrue, ◌⊎◌, List, [], ◌∷◌, ◌++◌, map, Option, Some, None}
-use Rattle.std.specs.Option.{option_and_then}
+use Rattle.std.specs.Option.{option_and_then, option_map_or}
 use Rattle.fol_core.specs.Fol.{Fol}
 use Rattle.fol_core.specs.Literals.{ClauseTree}
 use Rattle.fol_core.specs.Renumbered.{renumbered}
@@ -51,6 +51,18 @@ para_inference n a side m b path = inference (n ∷ m ∷ []) (para_rule a side 
 
 abbrev pub xx_inference : ℕ → ℕ → Inference
 xx_inference n a = inference (n ∷ []) (xx_rule a)
+
+-- the rule of a first word; the four that name formulas and input clauses have none
+abbrev pub inference_of : FirstWord → Option Inference
+inference_of assumed = None
+inference_of wanted = None
+inference_of (clausified n) = None
+inference_of (denied n) = None
+inference_of (copied n) = Some (copy_inference n)
+inference_of (resolved n ss) = Some (clash_inference n ss)
+inference_of (factored n a b) = Some (factor_inference n a b)
+inference_of (paramodulated n a side m b path) = Some (para_inference n a side m b path)
+inference_of (xx_resolved n a) = Some (xx_inference n a)
 
 -- a line's formula or clause
 pub data Content : Type 0 where
@@ -144,6 +156,14 @@ IsFormulaAt ls n goal f = (l : Line) × (line_at ls n ≡ Some l) × (l.content 
 
 abbrev pub IsInputOf : List Said → List Row → List Line → Bool → ℕ → Content → Type 0
 IsInputOf ss rows ls goal n content = (f : Fol) × IsFormulaAt ls n goal f × IsInput goal f ss content rows
+
+-- whether it has one
+abbrev pub is_formula : Content → Bool
+is_formula (formula f) = true
+is_formula (clause c) = false
+
+abbrev pub is_formula_at : List Line → ℕ → Bool
+is_formula_at ls n = option_map_or (λ l. is_formula l.content) (line_at ls n) false
 
 -- A line behind earlier ones: a formula of the problem, a clause of one that is such a line, or what its words make of earlier
 -- clauses. The words that name formulas and their clauses have no others behind them.
