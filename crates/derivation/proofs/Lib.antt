@@ -4,5 +4,7 @@ pub mod LaterSound
 pub mod Lawful
 pub mod Naturality
 pub mod PlaceLemmas
+pub mod Rows
 pub mod RuleSound
 pub mod Values
+mod WorkedLemmas

@@ -6,3 +6,4 @@ pub mod Places
 pub mod Refused
 pub mod Rule
 pub mod Words
+pub mod Worked

@@ -3,4 +3,4 @@
 
 mod laws;
 
-pub use laws::refutation_is_sound;
+pub use laws::{conclusion_is_one, fault_is_one, refutation_is_sound, worked};
