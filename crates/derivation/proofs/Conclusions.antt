@@ -1,26 +1,25 @@
 -- A rule has one conclusion, and a word makes one clause.
-use Rattle.std.proofs.Common.{◌≡◌, ◌⊎◌, inl, inr, ℕ, zero, suc, Bool, true, false, not, ◌==◌, ◌&&◌, ◌||◌, if◌then◌else◌, IsTrue, List, [], ◌∷◌, ◌++◌, map, Option, Some, None, unwrap_or, refl, sym, ap, ap₂, ◌∙◌, subst}
-use Rattle.std.proofs.lemmas.Bool.{or_left, or_right, or_cases, and_parts, and_from, eqb-true, false≢true}
+use Rattle.std.proofs.Common.{◌≡◌, inl, inr, ℕ, Bool, true, false, not, ◌==◌, ◌&&◌, if◌then◌else◌, IsTrue, List, [], ◌∷◌, ◌++◌, map, Some, unwrap_or, refl, sym, ap, ap₂, ◌∙◌, subst}
+use Rattle.std.proofs.lemmas.Bool.{or_cases, and_parts, eqb-true, false≢true}
 use Rattle.std.specs.List.{list_all}
 use Rattle.fol_core.specs.Free.{is_in, variables_of}
 use Rattle.fol_core.specs.Literals.{ClauseTree}
-use Rattle.fol_core.specs.Renumbered.{renumbered}
 use Rattle.fol_core.specs.Substitutions.{Substitution, substitute}
-use Rattle.fol_core.specs.Tree.{Tree, var, elem, app}
-use Rattle.substitutions.specs.Instances.{substitute_literal, substitute_clause}
+use Rattle.fol_core.specs.Tree.{Tree, var}
+use Rattle.substitutions.specs.Instances.{substitute_clause}
 use Rattle.substitutions.specs.Occurring.{has_variable}
 use Rattle.substitutions.specs.Paths.{replaced}
 use Rattle.substitutions.proofs.Composing.{agrees, substitute_alike, has_listed}
 use Rattle.substitutions.proofs.Replacing.{replaced_substituted}
 use Rattle.substitutions.proofs.Variants.{instances_same}
-use Rattle.derivation.specs.Equations.{is_equation, left_of, right_of, below, is_there, is_no_variable, term_below}
+use Rattle.derivation.specs.Equations.{is_equation, left_of, right_of, below, is_there, term_below}
 use Rattle.derivation.specs.Later.{LaterWord, flipped, merged, reflexive, unit_deleted, rewritten, later_fits, Leads, is_unit, is_rule_equation}
 use Rattle.derivation.specs.Places.{has_literal, has_place, atom_at, others, with_atom, are_alike, are_opposite}
-use Rattle.derivation.specs.Rule.{Rule, Own, instances, AreSame, Unifies, IsMostGeneral, Concludes}
+use Rattle.derivation.specs.Rule.{Rule, instances, Concludes}
 use Rattle.derivation.specs.Words.{only_of, is_one, first_of_two, second_of_two, are_two, copy_rule, Clash, clashes_fit, clash_fits, clash_pairs, all_clash_pairs, clash_rest, satellite_rests, clash_rule, factor_rule, xx_rule, side_of, other_side_of, para_fits, para_rest, para_rule}
-use Rattle.derivation.proofs.LaterSound.{equation_put, left_put, right_put}
-use Rattle.derivation.proofs.Lawful.{IsLawfulRule, copy_lawful, clash_lawful, factor_lawful, xx_lawful, para_lawful, ParaFits, para_parts, only_kept, first_kept, second_kept}
-use Rattle.derivation.proofs.Naturality.{has_put, place_put, atom_of_put, atom_at_put, others_put, with_atom_put, append_put, below_put, there_below, alike_places, opposite_places}
+use Rattle.derivation.proofs.LaterSound.{left_put, right_put}
+use Rattle.derivation.proofs.Lawful.{IsLawfulRule, ParaFits, para_parts, only_kept, first_kept, second_kept}
+use Rattle.derivation.proofs.Naturality.{atom_of_put, atom_at_put, others_put, with_atom_put, append_put, below_put, there_below, alike_places, opposite_places}
 
 -- a pair of terms with others put in
 abbrev pub pair_put : Substitution → Tree × Tree → Tree × Tree
@@ -181,5 +180,5 @@ one_lead (rewritten n a path) c ps d e fits l k =
     let p4 = and_parts (is_equation (atom_at (only_of ps) 0)) (list_all (λ x. has_variable x left) (variables_of right)) p3.0 in
     let same : substitute l.0 left ≡ substitute k.0 left = ap (λ o. unwrap_or o (var 0)) (sym l.1 ∙ k.1) in
     let rights : substitute l.0 right ≡ substitute k.0 right = substitute_alike l.0 k.0 right
-        (λ x i. agrees l.0 k.0 left same x (in_all (λ y. has_variable y left) (variables_of right) x p4.1 (sym (has_listed x right) ∙ i))) in
+    (λ x i. agrees l.0 k.0 left same x (in_all (λ y. has_variable y left) (variables_of right) x p4.1 (sym (has_listed x right) ∙ i))) in
     l.2 ∙ ap (λ t. with_atom c a (replaced (atom_at c a) path t)) rights ∙ sym k.2

@@ -1,25 +1,24 @@
 -- Each later word makes what is true of what is true, and atoms stay atoms.
-use Rattle.std.proofs.Common.{◌≡◌, ◌⊎◌, inl, inr, ℕ, zero, suc, ◌<◌, Bool, true, false, not, ◌==◌, ◌&&◌, ◌||◌, IsTrue, List, [], ◌∷◌, ◌++◌, Option, Some, None, refl, sym, ap, ap₂, ◌∙◌, subst, arith}
-use Rattle.std.proofs.lemmas.Bool.{or_left, or_right, or_cases, and_parts, eq-eqb, eqb-true, ne_eqb, false≢true, cases_eq}
+use Rattle.std.proofs.Common.{◌≡◌, inl, inr, ℕ, ◌<◌, Bool, true, false, not, ◌==◌, ◌&&◌, ◌||◌, IsTrue, List, [], ◌∷◌, Option, Some, None, refl, sym, ap, ◌∙◌, subst, arith}
+use Rattle.std.proofs.lemmas.Bool.{or_cases, and_parts, eq-eqb, eqb-true, ne_eqb, false≢true, cases_eq}
 use Rattle.std.specs.List.{list_all}
 use Rattle.fol_core.specs.Free.{variables_of}
-use Rattle.fol_core.specs.Literals.{Lit, ClauseTree}
+use Rattle.fol_core.specs.Literals.{ClauseTree}
 use Rattle.fol_core.specs.Meaning.{Meaning}
-use Rattle.fol_core.specs.Substitutions.{Substitution, substitute, substitute_all}
+use Rattle.fol_core.specs.Substitutions.{Substitution, substitute}
 use Rattle.fol_core.specs.Truth.{Assignment}
-use Rattle.fol_core.specs.Tree.{Tree, var, elem, app, Trees, none, more}
+use Rattle.fol_core.specs.Tree.{Tree, var, elem, app, none, more}
 use Rattle.substitutions.specs.Atoms.{IsAtom, AreAtoms}
 use Rattle.substitutions.specs.Instances.{substitute_clause}
 use Rattle.substitutions.specs.Occurring.{has_variable}
 use Rattle.substitutions.specs.Paths.{replaced}
 use Rattle.derivation.specs.Equations.{equation, is_equation, left_of, right_of, below, is_there}
 use Rattle.derivation.specs.Later.{LaterWord, flipped, merged, reflexive, unit_deleted, rewritten, later_fits, Leads, is_unit, is_rule_equation}
-use Rattle.derivation.specs.Places.{same_sign, has_literal, has_place, atom_at, others, with_atom, are_opposite}
-use Rattle.derivation.specs.Rule.{Rule, AreSame}
-use Rattle.derivation.specs.Words.{only_of, is_one, first_of_two, second_of_two, are_two, copy_rule, Clash, clash_pairs, satellite_rests, clashes_fit, clash_rule, factor_rule, xx_rule, side_of, other_side_of, para_fits, para_rest, para_rule}
-use Rattle.derivation.proofs.PlaceLemmas.{true_at, among_others, stays, at_sign, with_atom_true, opposite_false, others_atoms, with_atom_atoms, append_atoms, atom_placed, at_place, holds_option}
-use Rattle.derivation.proofs.RuleSound.{AllTrue, AllAtoms, equation_true, replaced_atom, one_parent, two_parents}
-use Rattle.derivation.proofs.Values.{true_in, val, vals, atom_true}
+use Rattle.derivation.specs.Places.{has_literal, has_place, atom_at, are_opposite}
+use Rattle.derivation.specs.Words.{only_of, is_one}
+use Rattle.derivation.proofs.PlaceLemmas.{true_at, among_others, stays, at_sign, with_atom_true, opposite_false, others_atoms, with_atom_atoms, atom_placed, at_place, holds_option}
+use Rattle.derivation.proofs.RuleSound.{equation_true, replaced_atom, one_parent}
+use Rattle.derivation.proofs.Values.{true_in, val, atom_true}
 
 -- an equation with terms put in
 pub equation_put : (s : Substitution) (t : Tree) → IsTrue (is_equation t) → IsTrue (is_equation (substitute s t))
@@ -87,17 +86,17 @@ module _ (m : Meaning) (g : ℕ → ℕ) (e : Assignment) where
       let p = and_parts (has_place c a) (is_equation (atom_at c a)) fits in
       subst (λ d. IsTrue (true_in (atom_true m g e) d)) (sym leads)
       (with_atom_true (atom_true m g e) c a (equation (right_of (atom_at c a)) (left_of (atom_at c a)))
-          (eqb_turned (val m g e (right_of (atom_at c a))) (val m g e (left_of (atom_at c a))) ∙ sym (equation_true m g e (atom_at c a) p.1))
+      (eqb_turned (val m g e (right_of (atom_at c a))) (val m g e (left_of (atom_at c a))) ∙ sym (equation_true m g e (atom_at c a) p.1))
       ∙ h)
   word_sound (merged a) c d ps fits leads h all =
       subst (λ d. IsTrue (true_in (atom_true m g e) d)) (sym leads.1)
       (elim (among_others (atom_true m g e) (λ k. k == a) c h) [
         | inl j ↦ j
         | inr p ↦
-          let here : IsTrue (true_at (atom_true m g e) c a) = subst (λ k. IsTrue (true_at (atom_true m g e) c k)) (eqb-true p.0 a p.1) p.2 in
-          let lt : leads.0.0 < a = leads.0.1 in
-          stays (atom_true m g e) (λ k. k == a) c leads.0.0 (ne_eqb leads.0.0 a (λ same. let e : leads.0.0 ≡ a = same in absurd (omega (arith, e, lt))))
-              (at_place (atom_true m g e) c leads.0.0 ∙ ap (holds_option (atom_true m g e)) leads.0.2 ∙ sym (at_place (atom_true m g e) c a) ∙ here)
+            let here : IsTrue (true_at (atom_true m g e) c a) = subst (λ k. IsTrue (true_at (atom_true m g e) c k)) (eqb-true p.0 a p.1) p.2 in
+            let lt : leads.0.0 < a = leads.0.1 in
+            stays (atom_true m g e) (λ k. k == a) c leads.0.0 (ne_eqb leads.0.0 a (λ same. let e : leads.0.0 ≡ a = same in absurd (omega (arith, e, lt))))
+            (at_place (atom_true m g e) c leads.0.0 ∙ ap (holds_option (atom_true m g e)) leads.0.2 ∙ sym (at_place (atom_true m g e) c a) ∙ here)
       ])
   word_sound (reflexive a) c d ps fits leads h all =
       let p = and_parts (has_literal false c a) (is_equation (atom_at c a)) fits in
@@ -130,15 +129,15 @@ module _ (m : Meaning) (g : ℕ → ℕ) (e : Assignment) where
       let rule = atom_at (only_of ps) 0 in
       let here : IsTrue (true_at (atom_true m g e) (substitute_clause s (only_of ps)) 0) = unit_true (atom_true m g e) s (only_of ps) p1.0 (only_true ps p0.0 all s) in
       let holding : IsTrue (atom_true m g e (substitute s rule)) =
-          ap (atom_true m g e) (sym (first_atom_put s (only_of ps) p1.0))
-          ∙ sym (at_sign (atom_true m g e) true (substitute_clause s (only_of ps)) 0 (first_put s (only_of ps) true ∙ p2.0)) ∙ here in
+      ap (atom_true m g e) (sym (first_atom_put s (only_of ps) p1.0))
+      ∙ sym (at_sign (atom_true m g e) true (substitute_clause s (only_of ps)) 0 (first_put s (only_of ps) true ∙ p2.0)) ∙ here in
       let equal : val m g e (substitute s (left_of rule)) ≡ val m g e (substitute s (right_of rule)) =
-          ap (val m g e) (sym (left_put s rule p4.0))
-          ∙ eqb-true (val m g e (left_of (substitute s rule))) (val m g e (right_of (substitute s rule))) (sym (equation_true m g e (substitute s rule) (equation_put s rule p4.0)) ∙ holding)
-          ∙ ap (val m g e) (right_put s rule p4.0) in
+      ap (val m g e) (sym (left_put s rule p4.0))
+      ∙ eqb-true (val m g e (left_of (substitute s rule))) (val m g e (right_of (substitute s rule))) (sym (equation_true m g e (substitute s rule) (equation_put s rule p4.0)) ∙ holding)
+      ∙ ap (val m g e) (right_put s rule p4.0) in
       subst (λ d. IsTrue (true_in (atom_true m g e) d)) (sym leads.2)
       (with_atom_true (atom_true m g e) c a (replaced (atom_at c a) path (substitute s (right_of rule)))
-          (replaced_atom m g e (atom_at c a) path (substitute s (left_of rule)) (substitute s (right_of rule)) leads.1 (sym equal))
+      (replaced_atom m g e (atom_at c a) path (substitute s (left_of rule)) (substitute s (right_of rule)) leads.1 (sym equal))
       ∙ h)
 
 -- a replacement in an atom is an atom

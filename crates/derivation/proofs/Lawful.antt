@@ -1,23 +1,22 @@
 -- What each rule keeps: its fitting in instances, atoms, truth.
-use Rattle.std.proofs.Common.{◌≡◌, ℕ, zero, suc, Bool, true, false, not, ◌==◌, ◌&&◌, ◌||◌, if◌then◌else◌, IsTrue, List, [], ◌∷◌, ◌++◌, map, refl, sym, ap, ap₂, ◌∙◌, subst}
-use Rattle.std.proofs.lemmas.Bool.{or_left, or_right, and_parts, and_from, false≢true}
+use Rattle.std.proofs.Common.{◌≡◌, ℕ, suc, true, false, not, ◌==◌, ◌&&◌, ◌||◌, IsTrue, List, [], ◌∷◌, map, refl, sym, ap, ap₂, ◌∙◌, subst}
+use Rattle.std.proofs.lemmas.Bool.{and_parts, and_from}
 use Rattle.fol_core.specs.Free.{is_in}
 use Rattle.fol_core.specs.Literals.{ClauseTree}
 use Rattle.fol_core.specs.Meaning.{Meaning}
-use Rattle.fol_core.specs.Substitutions.{Substitution, substitute}
+use Rattle.fol_core.specs.Substitutions.{Substitution}
 use Rattle.fol_core.specs.Truth.{Assignment}
-use Rattle.fol_core.specs.Tree.{Tree}
-use Rattle.substitutions.specs.Atoms.{IsAtom, AreAtoms}
+use Rattle.substitutions.specs.Atoms.{AreAtoms}
 use Rattle.substitutions.specs.Instances.{substitute_clause}
 use Rattle.substitutions.specs.Paths.{replaced}
 use Rattle.derivation.specs.Equations.{is_equation, below, is_no_variable, term_below}
-use Rattle.derivation.specs.Places.{has_literal, has_place, atom_at, others, with_atom, are_alike, are_opposite}
+use Rattle.derivation.specs.Places.{has_literal, has_place, atom_at, others, with_atom, are_alike}
 use Rattle.derivation.specs.Rule.{Rule, Own, instances}
-use Rattle.derivation.specs.Words.{only_of, is_one, first_of_two, second_of_two, are_two, copy_rule, Clash, clashes_fit, clash_fits, clash_rest, satellite_rests, clash_rule, factor_rule, xx_rule, other_side_of, para_fits, para_rest, para_rule}
+use Rattle.derivation.specs.Words.{only_of, is_one, first_of_two, second_of_two, are_two, copy_rule, Clash, clashes_fit, clash_fits, clash_rest, satellite_rests, clash_rule, factor_rule, xx_rule, other_side_of, para_fits, para_rule}
 use Rattle.derivation.proofs.LaterSound.{equation_put, replaced_is_atom}
 use Rattle.derivation.proofs.Naturality.{has_put, place_put, atom_of_put, atom_at_put, no_variable_put, there_below, alike_put, opposites_put}
 use Rattle.derivation.proofs.PlaceLemmas.{others_atoms, with_atom_atoms, append_atoms, atom_placed}
-use Rattle.derivation.proofs.RuleSound.{AllAtoms, IsSound, one_parent, two_parents, copy_sound, clash_sound, factor_sound, xx_sound, para_sound}
+use Rattle.derivation.proofs.RuleSound.{AllAtoms, IsSound, copy_sound, clash_sound, factor_sound, xx_sound, para_sound}
 
 pub record IsLawfulRule (r : Rule) : Type 0 where
   pub kept : (own : Own) (cs : List ClauseTree) → IsTrue (r.fits cs) → IsTrue (r.fits (instances own cs))
@@ -92,8 +91,8 @@ xx_lawful a = record {
       let q = and_parts (has_literal false (only_of cs) a) (is_equation (atom_at (only_of cs) a)) p.1 in
       and_from (is_one (instances own cs)) (has_literal false (only_of (instances own cs)) a && is_equation (atom_at (only_of (instances own cs)) a)) (one_kept own cs ∙ p.0)
       (subst (λ c. IsTrue (has_literal false c a && is_equation (atom_at c a))) (sym (only_kept own cs))
-          (and_from (has_literal false (substitute_clause (own 0) (only_of cs)) a) (is_equation (atom_at (substitute_clause (own 0) (only_of cs)) a)) (has_put (own 0) false (only_of cs) a ∙ q.0)
-              (ap is_equation (atom_of_put (own 0) false (only_of cs) a q.0) ∙ equation_put (own 0) (atom_at (only_of cs) a) q.1)));
+      (and_from (has_literal false (substitute_clause (own 0) (only_of cs)) a) (is_equation (atom_at (substitute_clause (own 0) (only_of cs)) a)) (has_put (own 0) false (only_of cs) a ∙ q.0)
+      (ap is_equation (atom_of_put (own 0) false (only_of cs) a q.0) ∙ equation_put (own 0) (atom_at (only_of cs) a) q.1)));
   atoms = λ cs fits atoms. others_atoms (λ k. k == a) (only_of cs) (only_atoms cs atoms);
   sound = λ m g e. xx_sound m g e a;
 }
@@ -146,8 +145,8 @@ para_whole : (a n b : ℕ) (path : List ℕ) (c d : ClauseTree) → ParaFits a n
 para_whole a n b path c d p =
     and_from (has_literal true c a) (is_equation (atom_at c a) && ((n == 1 || n == 2) && (has_place d b && is_no_variable (below (atom_at d b) path)))) p.positive
     (and_from (is_equation (atom_at c a)) ((n == 1 || n == 2) && (has_place d b && is_no_variable (below (atom_at d b) path))) p.equal
-        (and_from (n == 1 || n == 2) (has_place d b && is_no_variable (below (atom_at d b) path)) p.side
-            (and_from (has_place d b) (is_no_variable (below (atom_at d b) path)) p.place p.there)))
+    (and_from (n == 1 || n == 2) (has_place d b && is_no_variable (below (atom_at d b) path)) p.side
+    (and_from (has_place d b) (is_no_variable (below (atom_at d b) path)) p.place p.there)))
 
 para_put : (a n b : ℕ) (path : List ℕ) (s u : Substitution) (c d : ClauseTree) → ParaFits a n b path c d → ParaFits a n b path (substitute_clause s c) (substitute_clause u d)
 para_put a n b path s u c d p = record {
@@ -163,8 +162,8 @@ para_kept a n b path own cs fits =
     let p = and_parts (are_two cs) (para_fits a n b path (first_of_two cs) (second_of_two cs)) fits in
     and_from (are_two (instances own cs)) (para_fits a n b path (first_of_two (instances own cs)) (second_of_two (instances own cs))) (two_kept own cs ∙ p.0)
     (ap₂ (para_fits a n b path) (first_kept own cs) (second_kept own cs)
-        ∙ para_whole a n b path (substitute_clause (own 0) (first_of_two cs)) (substitute_clause (own 1) (second_of_two cs))
-            (para_put a n b path (own 0) (own 1) (first_of_two cs) (second_of_two cs) (para_parts a n b path (first_of_two cs) (second_of_two cs) p.1)))
+    ∙ para_whole a n b path (substitute_clause (own 0) (first_of_two cs)) (substitute_clause (own 1) (second_of_two cs))
+    (para_put a n b path (own 0) (own 1) (first_of_two cs) (second_of_two cs) (para_parts a n b path (first_of_two cs) (second_of_two cs) p.1)))
 
 para_atoms : (a n b : ℕ) (path : List ℕ) (cs : List ClauseTree) → IsTrue ((para_rule a n b path).fits cs) → AllAtoms cs → AreAtoms ((para_rule a n b path).rest cs)
 para_atoms a n b path cs fits atoms =
@@ -174,8 +173,8 @@ para_atoms a n b path cs fits atoms =
     let d = second_of_two cs in
     append_atoms (with_atom d b (replaced (atom_at d b) path (other_side_of n (atom_at c a)))) (others (λ k. k == a) c)
     (with_atom_atoms d b (replaced (atom_at d b) path (other_side_of n (atom_at c a)))
-        (replaced_is_atom (atom_at d b) path (term_below (atom_at d b) path) (other_side_of n (atom_at c a)) (there_below (atom_at d b) path q.there) (atom_placed d b q.place (second_atoms cs atoms)))
-        (second_atoms cs atoms))
+    (replaced_is_atom (atom_at d b) path (term_below (atom_at d b) path) (other_side_of n (atom_at c a)) (there_below (atom_at d b) path q.there) (atom_placed d b q.place (second_atoms cs atoms)))
+    (second_atoms cs atoms))
     (others_atoms (λ k. k == a) c (first_atoms cs atoms))
 
 pub para_lawful : (a side b : ℕ) (path : List ℕ) → IsLawfulRule (para_rule a side b path)

@@ -1,19 +1,13 @@
 -- Places of instances, and what rules make of them.
-use Rattle.std.proofs.Common.{◌≡◌, ◌⊎◌, inl, inr, ℕ, zero, suc, Bool, true, false, not, ◌==◌, ◌&&◌, ◌||◌, if◌then◌else◌, IsTrue, List, [], ◌∷◌, ◌++◌, map, Option, Some, None, unwrap_or, option_map, refl, sym, ap, ap₂, ◌∙◌, subst}
-use Rattle.std.proofs.lemmas.Bool.{or_left, or_right, or_cases, and_parts, and_from, false≢true}
-use Rattle.fol_core.specs.Free.{is_in}
-use Rattle.fol_core.specs.Literals.{Lit, literal, ClauseTree}
-use Rattle.fol_core.specs.Substitutions.{Substitution, substitute, substitute_all}
-use Rattle.fol_core.specs.Tree.{Tree, var, elem, app, Trees, none, more}
-use Rattle.substitutions.specs.Atoms.{IsAtom, AreAtoms}
+use Rattle.std.proofs.Common.{◌≡◌, inl, inr, ℕ, zero, suc, Bool, true, false, ◌&&◌, ◌||◌, if◌then◌else◌, IsTrue, List, [], ◌∷◌, ◌++◌, Option, Some, None, unwrap_or, refl, sym, ap, ap₂, ◌∙◌}
+use Rattle.std.proofs.lemmas.Bool.{or_left, or_right, or_cases, and_parts, false≢true}
+use Rattle.fol_core.specs.Literals.{ClauseTree}
+use Rattle.fol_core.specs.Substitutions.{Substitution, substitute}
+use Rattle.fol_core.specs.Tree.{Tree, var, elem, app}
 use Rattle.substitutions.specs.Instances.{substitute_literal, substitute_clause}
-use Rattle.substitutions.specs.Paths.{subterm_at, replaced}
-use Rattle.substitutions.proofs.Replacing.{subterm_substituted, replaced_substituted}
-use Rattle.derivation.specs.Equations.{equation, is_equation, left_of, right_of, below, is_there, is_no_variable, term_below}
+use Rattle.substitutions.proofs.Replacing.{subterm_substituted}
+use Rattle.derivation.specs.Equations.{below, is_no_variable, term_below}
 use Rattle.derivation.specs.Places.{has_literal, has_place, atom_at, others, with_atom, are_alike, are_opposite}
-use Rattle.derivation.specs.Rule.{Rule, Own, instances, AreSame}
-use Rattle.derivation.specs.Words.{only_of, is_one, first_of_two, second_of_two, are_two, copy_rule, Clash, clashes_fit, clash_pairs, satellite_rests, clash_rule, factor_rule, xx_rule, side_of, other_side_of, para_fits, para_rest, para_rule}
-use Rattle.derivation.proofs.LaterSound.{equation_put, left_put, right_put}
 
 pub has_put : (s : Substitution) (sign : Bool) (c : ClauseTree) (a : ℕ) → has_literal sign (substitute_clause s c) a ≡ has_literal sign c a
 has_put s sign [] a = refl

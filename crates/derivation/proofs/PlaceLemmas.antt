@@ -1,10 +1,9 @@
 -- Truth and atoms of clauses by the places of their literals.
-use Rattle.std.proofs.Common.{◌≡◌, ◌⊎◌, inl, inr, ℕ, zero, suc, ◌<◌, Bool, true, false, not, ◌==◌, ◌&&◌, ◌||◌, if◌then◌else◌, IsTrue, List, [], ◌∷◌, ◌++◌, Option, Some, None, slice_get, refl, sym, ap, ap₂, ◌∙◌, subst, arith}
-use Rattle.std.specs.List.{list_any}
-use Rattle.std.proofs.lemmas.Bool.{or_left, or_right, or_cases, and_parts, false≢true, true≢false, both_ways}
+use Rattle.std.proofs.Common.{◌≡◌, ◌⊎◌, inl, inr, ℕ, zero, suc, Bool, true, false, not, ◌&&◌, ◌||◌, if◌then◌else◌, IsTrue, [], ◌∷◌, ◌++◌, Option, Some, None, slice_get, refl, sym, ap, ◌∙◌, subst}
+use Rattle.std.proofs.lemmas.Bool.{or_left, or_right, or_cases, and_parts, false≢true}
 use Rattle.std.proofs.lemmas.List.Folds.{list_any-append}
 use Rattle.fol_core.specs.Tree.{Tree}
-use Rattle.fol_core.specs.Literals.{Lit, literal, ClauseTree}
+use Rattle.fol_core.specs.Literals.{Lit, ClauseTree}
 use Rattle.substitutions.specs.Atoms.{IsAtom, AreAtoms}
 use Rattle.derivation.specs.Places.{same_sign, has_literal, has_place, atom_at, others, with_atom, are_alike, are_opposite}
 use Rattle.derivation.proofs.Values.{holds, true_in}

@@ -1,13 +1,13 @@
 -- A line is refused by no row, or by one alone.
-use Rattle.std.proofs.Common.{◌≡◌, ◌⊎◌, inl, inr, ℕ, suc, ◌<◌, Bool, true, false, ◌==◌, ◌&&◌, if◌then◌else◌, IsTrue, List, [], ◌∷◌, ◌++◌, map, Option, Some, None, is_some, unwrap_or, refl, sym, ap, ◌∙◌, subst}
-use Rattle.std.specs.Option.{option_and_then, option_map_or}
+use Rattle.std.proofs.Common.{◌≡◌, ◌⊎◌, inl, inr, ℕ, Bool, true, false, IsTrue, List, [], ◌∷◌, ◌++◌, map, Option, Some, None, is_some, unwrap_or, refl, sym, ap, ◌∙◌, subst}
+use Rattle.std.specs.Option.{option_map_or}
 use Rattle.std.specs.List.{list_all, flat_map}
 use Rattle.std.proofs.lemmas.Bool.{and_parts, and_from, false≢true, both_ways}
 use Rattle.fol_core.specs.Fol.{Fol}
 use Rattle.fol_core.specs.Literals.{ClauseTree}
 use Rattle.fol_core.specs.Stated.{Said}
 use Rattle.derivation.specs.Later.{LaterWord, later_parents, later_fits, Leads}
-use Rattle.derivation.specs.Lines.{FirstWord, assumed, wanted, clausified, denied, copied, resolved, factored, paramodulated, xx_resolved, Inference, inference_of, copy_inference, clash_inference, factor_inference, para_inference, xx_inference, Content, formula, clause, is_formula, is_formula_at, Line, line_at, clause_at, AreClauses, IsClause, After, IsInferred, Row, IsStated, IsFormulaAt, IsInputOf, IsAbove, IsLine, AreLines, is_empty_clause, ends_empty, IsRefutation}
+use Rattle.derivation.specs.Lines.{FirstWord, assumed, wanted, clausified, denied, copied, resolved, factored, paramodulated, xx_resolved, Inference, inference_of, copy_inference, clash_inference, factor_inference, para_inference, xx_inference, ContentTree, is_formula, is_formula_at, LineTree, clause_at, AreClauses, After, IsInferred, Row, IsStated, IsFormulaAt, IsInputOf, IsLine, AreLines, is_empty_clause, ends_empty, IsRefutation}
 use Rattle.derivation.specs.Refused.{Fails, StepFails, all_parents, are_there, InferenceFails, StatedFails, InputFails, LineFails, IsRefused, IsAccepted, HasFault, IsFault}
 use Rattle.derivation.specs.Rule.{Own, Unifies, Concludes}
 use Rattle.derivation.proofs.Conclusions.{IsNatural, copy_natural, clash_natural, factor_natural, xx_natural, para_natural, one_conclusion, one_lead}
@@ -39,7 +39,7 @@ three_once fits Lead Rest row other one once (inr (inr on)) (inr (inl seven)) = 
 three_once fits Lead Rest row other one once (inr (inr on)) (inr (inr goes)) =
     once on.1.0 on.1.2 (subst (λ b. Rest b other) (one goes.1.0 on.1.0 on.0 goes.1.1 on.1.1) goes.1.2)
 
-clauses_once : (ls : List Line) (ns : List ℕ) (cs ds : List ClauseTree) → AreClauses ls ns cs → AreClauses ls ns ds → cs ≡ ds
+clauses_once : (ls : List LineTree) (ns : List ℕ) (cs ds : List ClauseTree) → AreClauses ls ns cs → AreClauses ls ns ds → cs ≡ ds
 clauses_once ls [] [] [] are were = refl
 clauses_once ls [] [] (d ∷ ds) are were = absurd were
 clauses_once ls [] (c ∷ cs) ds are were = absurd are
@@ -50,7 +50,7 @@ clauses_once ls (n ∷ ns) (c ∷ cs) (d ∷ ds) are were =
     let rest = clauses_once ls ns cs ds are.1 were.1 in
     cc
 
-module _ (ls : List Line) (content : Content) where
+module _ (ls : List LineTree) (content : ContentTree) where
   -- words that fail lead nowhere
   fails_none : (ws : List LaterWord) (d : ClauseTree) (row : ℕ) → Fails ls ws d content row → ¬ After ls ws d content
   fails_none [] d row fails after = fails.1 after
@@ -92,50 +92,50 @@ all_append : (p : ℕ → Bool) (xs ys : List ℕ) → IsTrue (list_all p xs) �
 all_append p [] ys h k = k
 all_append p (x ∷ xs) ys h k = let parts = and_parts (p x) (list_all p xs) h in and_from (p x) (list_all p (xs ++ ys)) parts.0 (all_append p xs ys parts.1 k)
 
-clauses_there : (ls : List Line) (ns : List ℕ) (cs : List ClauseTree) → AreClauses ls ns cs → IsTrue (are_there ls ns)
+clauses_there : (ls : List LineTree) (ns : List ℕ) (cs : List ClauseTree) → AreClauses ls ns cs → IsTrue (are_there ls ns)
 clauses_there ls [] cs are = refl
 clauses_there ls (n ∷ ns) [] are = absurd are
 clauses_there ls (n ∷ ns) (c ∷ cs) are = and_from (is_some (clause_at ls n)) (are_there ls ns) (ap is_some are.0) (clauses_there ls ns cs are.1)
 
-after_there : (ls : List Line) (ws : List LaterWord) (d : ClauseTree) (content : Content) → After ls ws d content → IsTrue (are_there ls (flat_map later_parents ws))
+after_there : (ls : List LineTree) (ws : List LaterWord) (d : ClauseTree) (content : ContentTree) → After ls ws d content → IsTrue (are_there ls (flat_map later_parents ws))
 after_there ls [] d content after = refl
 after_there ls (w ∷ ws) d content (ps, b, are, fits, leads, after) =
     all_append (λ n. is_some (clause_at ls n)) (later_parents w) (flat_map later_parents ws) (clauses_there ls (later_parents w) ps are) (after_there ls ws b content after)
 
-inference_none : (ls : List Line) (i : Inference) → IsLawfulRule i.rule → IsNatural i.rule → (ws : List LaterWord) (content : Content) (row : ℕ)
+inference_none : (ls : List LineTree) (i : Inference) → IsLawfulRule i.rule → IsNatural i.rule → (ws : List LaterWord) (content : ContentTree) (row : ℕ)
     → InferenceFails ls i ws content row → ¬ IsInferred ls i ws content
 inference_none ls i law natural ws content row (inl three) is =
     both_ways (are_there ls (all_parents i ws)) three.1 (all_append (λ n. is_some (clause_at ls n)) i.parents (flat_map later_parents ws) (clauses_there ls i.parents is.0 is.2) (after_there ls ws is.1 content is.5))
 inference_none ls i law natural ws content row (inr fails) is = step_none ls content i law natural ws row fails.1 is
 
-inference_once : (ls : List Line) (i : Inference) → IsLawfulRule i.rule → IsNatural i.rule → (ws : List LaterWord) (content : Content) (row other : ℕ)
+inference_once : (ls : List LineTree) (i : Inference) → IsLawfulRule i.rule → IsNatural i.rule → (ws : List LaterWord) (content : ContentTree) (row other : ℕ)
     → InferenceFails ls i ws content row → InferenceFails ls i ws content other → row ≡ other
 inference_once ls i law natural ws content row other (inl three) (inl again) = three.0 ∙ sym again.0
 inference_once ls i law natural ws content row other (inl three) (inr fails) = absurd (both_ways (are_there ls (all_parents i ws)) three.1 fails.0)
 inference_once ls i law natural ws content row other (inr fails) (inl three) = absurd (both_ways (are_there ls (all_parents i ws)) three.1 fails.0)
 inference_once ls i law natural ws content row other (inr fails) (inr again) = step_once ls content i law natural ws row other fails.1 again.1
 
-stated_none : (goal : Bool) (ss : List Said) (ws : List LaterWord) (content : Content) (row : ℕ) → StatedFails goal ss ws content row → ¬ (IsStated goal content ss × (ws ≡ []))
+stated_none : (goal : Bool) (ss : List Said) (ws : List LaterWord) (content : ContentTree) (row : ℕ) → StatedFails goal ss ws content row → ¬ (IsStated goal content ss × (ws ≡ []))
 stated_none goal ss ws content row (inl four) is = four.1 is.0
 stated_none goal ss ws content row (inr eight) is = eight.2 is.1
 
-stated_once : (goal : Bool) (ss : List Said) (ws : List LaterWord) (content : Content) (row other : ℕ) → StatedFails goal ss ws content row → StatedFails goal ss ws content other → row ≡ other
+stated_once : (goal : Bool) (ss : List Said) (ws : List LaterWord) (content : ContentTree) (row other : ℕ) → StatedFails goal ss ws content row → StatedFails goal ss ws content other → row ≡ other
 stated_once goal ss ws content row other (inl four) (inl again) = four.0 ∙ sym again.0
 stated_once goal ss ws content row other (inl four) (inr eight) = absurd (four.1 eight.1)
 stated_once goal ss ws content row other (inr eight) (inl four) = absurd (four.1 eight.1)
 stated_once goal ss ws content row other (inr eight) (inr again) = eight.0 ∙ sym again.0
 
 -- the line that is taken is one of a formula
-formula_there : (ls : List Line) (n : ℕ) (goal : Bool) (f : Fol) → IsFormulaAt ls n goal f → IsTrue (is_formula_at ls n)
+formula_there : (ls : List LineTree) (n : ℕ) (goal : Bool) (f : Fol) → IsFormulaAt ls n goal f → IsTrue (is_formula_at ls n)
 formula_there ls n goal f (l, there, is, first) = ap (λ o. option_map_or (λ l. is_formula l.content) o false) there ∙ ap is_formula is
 
-module _ (ss : List Said) (rows : List Row) (ls : List Line) (goal : Bool) (n : ℕ) where
-  input_none : (ws : List LaterWord) (content : Content) (row : ℕ) → InputFails ss rows ls goal n ws content row → ¬ (IsInputOf ss rows ls goal n content × (ws ≡ []))
+module _ (ss : List Said) (rows : List Row) (ls : List LineTree) (goal : Bool) (n : ℕ) where
+  input_none : (ws : List LaterWord) (content : ContentTree) (row : ℕ) → InputFails ss rows ls goal n ws content row → ¬ (IsInputOf ss rows ls goal n content × (ws ≡ []))
   input_none ws content row (inl three) is = both_ways (is_formula_at ls n) three.1 (formula_there ls n goal is.0.0 is.0.1)
   input_none ws content row (inr (inl five)) is = five.2 is.0
   input_none ws content row (inr (inr eight)) is = eight.2 is.1
 
-  input_once : (ws : List LaterWord) (content : Content) (row other : ℕ) → InputFails ss rows ls goal n ws content row → InputFails ss rows ls goal n ws content other → row ≡ other
+  input_once : (ws : List LaterWord) (content : ContentTree) (row other : ℕ) → InputFails ss rows ls goal n ws content row → InputFails ss rows ls goal n ws content other → row ≡ other
   input_once ws content row other (inl three) (inl again) = three.0 ∙ sym again.0
   input_once ws content row other (inl three) (inr (inl five)) = absurd (both_ways (is_formula_at ls n) three.1 five.1)
   input_once ws content row other (inl three) (inr (inr eight)) = absurd (both_ways (is_formula_at ls n) three.1 (formula_there ls n goal eight.1.0 eight.1.1))
@@ -146,8 +146,8 @@ module _ (ss : List Said) (rows : List Row) (ls : List Line) (goal : Bool) (n : 
   input_once ws content row other (inr (inr eight)) (inr (inl five)) = absurd (five.2 eight.1)
   input_once ws content row other (inr (inr eight)) (inr (inr again)) = eight.0 ∙ sym again.0
 
-module _ (ss : List Said) (rows : List Row) (ls : List Line) where
-  line_none : (first : FirstWord) (ws : List LaterWord) (content : Content) (row : ℕ) → LineFails ss rows ls first ws content row → ¬ IsLine ss rows ls first ws content
+module _ (ss : List Said) (rows : List Row) (ls : List LineTree) where
+  line_none : (first : FirstWord) (ws : List LaterWord) (content : ContentTree) (row : ℕ) → LineFails ss rows ls first ws content row → ¬ IsLine ss rows ls first ws content
   line_none assumed ws content row fails is = stated_none false ss ws content row fails is
   line_none wanted ws content row fails is = stated_none true ss ws content row fails is
   line_none (clausified n) ws content row fails is = input_none ss rows ls false n ws content row fails is
@@ -160,7 +160,7 @@ module _ (ss : List Said) (rows : List Row) (ls : List Line) where
       inference_none ls (para_inference n a side m b path) (para_lawful a side b path) (para_natural a side b path) ws content row fails is
   line_none (xx_resolved n a) ws content row fails is = inference_none ls (xx_inference n a) (xx_lawful a) (xx_natural a) ws content row fails is
 
-  line_once : (first : FirstWord) (ws : List LaterWord) (content : Content) (row other : ℕ) → LineFails ss rows ls first ws content row → LineFails ss rows ls first ws content other → row ≡ other
+  line_once : (first : FirstWord) (ws : List LaterWord) (content : ContentTree) (row other : ℕ) → LineFails ss rows ls first ws content row → LineFails ss rows ls first ws content other → row ≡ other
   line_once assumed ws content row other fails again = stated_once false ss ws content row other fails again
   line_once wanted ws content row other fails again = stated_once true ss ws content row other fails again
   line_once (clausified n) ws content row other fails again = input_once ss rows ls false n ws content row other fails again
@@ -174,12 +174,12 @@ module _ (ss : List Said) (rows : List Row) (ls : List Line) where
   line_once (xx_resolved n a) ws content row other fails again = inference_once ls (xx_inference n a) (xx_lawful a) (xx_natural a) ws content row other fails again
 
   -- a refused line is no line
-  pub refused_none : (last : Option ℕ) (l : Line) (row : ℕ) → IsRefused ss rows ls last l row → ¬ IsAccepted ss rows ls last l
+  pub refused_none : (last : Option ℕ) (l : LineTree) (row : ℕ) → IsRefused ss rows ls last l row → ¬ IsAccepted ss rows ls last l
   refused_none last l row (inl two) is = two.1 is.0
   refused_none last l row (inr fails) is = line_none l.first l.later l.content row fails.1 is.1
 
   -- and is refused by one row
-  pub refused_once : (last : Option ℕ) (l : Line) (row other : ℕ) → IsRefused ss rows ls last l row → IsRefused ss rows ls last l other → row ≡ other
+  pub refused_once : (last : Option ℕ) (l : LineTree) (row other : ℕ) → IsRefused ss rows ls last l row → IsRefused ss rows ls last l other → row ≡ other
   refused_once last l row other (inl two) (inl again) = two.0 ∙ sym again.0
   refused_once last l row other (inl two) (inr fails) = absurd (two.1 fails.0)
   refused_once last l row other (inr fails) (inl two) = absurd (two.1 fails.0)
@@ -187,7 +187,7 @@ module _ (ss : List Said) (rows : List Row) (ls : List Line) where
 
 module _ (ss : List Said) (rows : List Row) where
   -- lines with a fault are no refutation
-  pub fault_none : (earlier : List Line) (last : Option ℕ) (ls : List Line) (number row : ℕ) → HasFault ss rows earlier last ls number row
+  pub fault_none : (earlier : List LineTree) (last : Option ℕ) (ls : List LineTree) (number row : ℕ) → HasFault ss rows earlier last ls number row
       → AreLines ss rows earlier last ls → ¬ IsTrue (ends_empty ls)
   fault_none earlier last [] number row fault are ends = fault
   fault_none earlier last (l ∷ []) number row (is, inl refused) are ends = refused_none ss rows earlier last l row refused (are.0, are.1)
@@ -196,7 +196,7 @@ module _ (ss : List Said) (rows : List Row) where
   fault_none earlier last (l ∷ k ∷ ls) number row (inr behind) are ends = fault_none (earlier ++ l ∷ []) (Some l.number) (k ∷ ls) number row behind.1 are.2 ends
 
   -- and have one fault
-  pub fault_once : (earlier : List Line) (last : Option ℕ) (ls : List Line) (number row other_number other : ℕ) → HasFault ss rows earlier last ls number row
+  pub fault_once : (earlier : List LineTree) (last : Option ℕ) (ls : List LineTree) (number row other_number other : ℕ) → HasFault ss rows earlier last ls number row
       → HasFault ss rows earlier last ls other_number other → (number ≡ other_number) × (row ≡ other)
   fault_once earlier last [] number row other_number other fault again = absurd fault
   fault_once earlier last (l ∷ []) number row other_number other (is, inl refused) (was, inl more) = (is ∙ sym was, refused_once ss rows earlier last l row other refused more)
@@ -225,11 +225,11 @@ word_lawful (paramodulated n a side m b path) i h =
     let same : para_inference n a side m b path ≡ i = cc in subst (λ i. IsLawfulRule i.rule × IsNatural i.rule) same (para_lawful a side b path, para_natural a side b path)
 word_lawful (xx_resolved n a) i h = let same : xx_inference n a ≡ i = cc in subst (λ i. IsLawfulRule i.rule × IsNatural i.rule) same (xx_lawful a, xx_natural a)
 
-pub whole_fault_none : (ss : List Said) (rows : List Row) (ls : List Line) (number row : ℕ) → IsFault ss rows ls number row → ¬ IsRefutation ss rows ls
+pub whole_fault_none : (ss : List Said) (rows : List Row) (ls : List LineTree) (number row : ℕ) → IsFault ss rows ls number row → ¬ IsRefutation ss rows ls
 whole_fault_none ss rows [] number row fault is = false≢true is.1
 whole_fault_none ss rows (l ∷ ls) number row fault is = fault_none ss rows [] None (l ∷ ls) number row fault is.0 is.1
 
-pub whole_fault_once : (ss : List Said) (rows : List Row) (ls : List Line) (number row other_number other : ℕ) → IsFault ss rows ls number row → IsFault ss rows ls other_number other
+pub whole_fault_once : (ss : List Said) (rows : List Row) (ls : List LineTree) (number row other_number other : ℕ) → IsFault ss rows ls number row → IsFault ss rows ls other_number other
     → (number ≡ other_number) × (row ≡ other)
 whole_fault_once ss rows [] number row other_number other fault again = (fault.0 ∙ sym again.0, fault.1 ∙ sym again.1)
 whole_fault_once ss rows (l ∷ ls) number row other_number other fault again = fault_once ss rows [] None (l ∷ ls) number row other_number other fault again

@@ -1,19 +1,19 @@
 -- Each rule makes what is true of what is true.
-use Rattle.std.proofs.Common.{◌≡◌, ◌⊎◌, inl, inr, ℕ, zero, suc, ◌-◌, Bool, true, false, not, ◌==◌, ◌&&◌, ◌||◌, if◌then◌else◌, IsTrue, List, [], ◌∷◌, ◌++◌, map, Option, Some, None, unwrap_or, refl, sym, ap, ap₂, ◌∙◌, subst}
-use Rattle.std.proofs.lemmas.Bool.{or_left, or_right, or_cases, and_parts, eq-eqb, eqb-true, ne_eqb, false≢true, cases_Bool, not-true}
+use Rattle.std.proofs.Common.{◌≡◌, inl, inr, ℕ, ◌-◌, Bool, true, false, not, ◌==◌, ◌&&◌, ◌||◌, if◌then◌else◌, IsTrue, List, [], ◌∷◌, ◌++◌, map, Option, Some, None, unwrap_or, refl, sym, ap, ◌∙◌, subst}
+use Rattle.std.proofs.lemmas.Bool.{or_cases, and_parts, eq-eqb, eqb-true, false≢true, not-true}
 use Rattle.std.specs.Option.{option_and_then}
 use Rattle.fol_core.specs.Free.{is_in}
 use Rattle.fol_core.specs.Literals.{ClauseTree, equality, are_equal}
 use Rattle.fol_core.specs.Meaning.{Meaning}
 use Rattle.fol_core.specs.Truth.{Assignment}
 use Rattle.fol_core.specs.Tree.{Tree, var, elem, app, Trees, none, more}
-use Rattle.substitutions.specs.Atoms.{IsAtom, AreAtoms}
+use Rattle.substitutions.specs.Atoms.{AreAtoms}
 use Rattle.substitutions.specs.Paths.{argument, subterm_at, with_argument, replaced}
-use Rattle.derivation.specs.Equations.{equation, is_equation, left_of, right_of, below, is_there, is_no_variable, term_below}
+use Rattle.derivation.specs.Equations.{is_equation, left_of, right_of, below, is_no_variable, term_below}
 use Rattle.derivation.specs.Places.{has_literal, has_place, atom_at, others, with_atom, are_alike, are_opposite}
 use Rattle.derivation.specs.Rule.{Rule, AreSame}
 use Rattle.derivation.specs.Words.{only_of, is_one, first_of_two, second_of_two, are_two, copy_rule, Clash, clashes_fit, clash_pairs, satellite_rests, clash_rule, factor_rule, xx_rule, side_of, other_side_of, para_fits, para_rest, para_rule}
-use Rattle.derivation.proofs.PlaceLemmas.{true_at, among_others, stays, at_sign, with_atom_true, append_left, append_right, alike_true, opposite_false, others_atoms, with_atom_atoms, append_atoms, atom_placed}
+use Rattle.derivation.proofs.PlaceLemmas.{true_at, among_others, stays, at_sign, with_atom_true, append_left, append_right, alike_true, opposite_false}
 use Rattle.derivation.proofs.Values.{true_in, val, vals, atom_true}
 
 -- each of the clauses is true
@@ -65,7 +65,6 @@ module _ (m : Meaning) (g : ℕ → ℕ) (e : Assignment) where
   replaced_atom (app r ts) (k ∷ path) old new h same =
       ap (λ xs. if r == equality then are_equal xs else m.relation r xs) (argument_same (λ v. replaced v path new) ts k
       (λ v is. replaced_same v path old new (sym (ap (option_and_then (λ w. subterm_at w path)) is) ∙ h) same))
-
 
 -- what a rule makes of true clauses is true
 abbrev pub IsSound : Meaning → (ℕ → ℕ) → Assignment → Rule → Type 0
@@ -172,19 +171,19 @@ module _ (m : Meaning) (g : ℕ → ℕ) (e : Assignment) where
       elim (among_others (atom_true m g e) (λ k. k == a) c hc) [
         | inl j ↦ append_right (atom_true m g e) (with_atom d b (replaced (atom_at d b) path (other_side_of side (atom_at c a)))) (others (λ k. k == a) c) j
         | inr p ↦
-          let here : IsTrue (true_at (atom_true m g e) c a) = subst (λ k. IsTrue (true_at (atom_true m g e) c k)) (eqb-true p.0 a p.1) p.2 in
-          let equal : val m g e (left_of (atom_at c a)) ≡ val m g e (right_of (atom_at c a)) =
-              eqb-true (val m g e (left_of (atom_at c a))) (val m g e (right_of (atom_at c a))) (sym (equation_true m g e (atom_at c a) p1.0) ∙ sym (at_sign (atom_true m g e) true c a p0.0) ∙ here) in
-          append_left (atom_true m g e) (with_atom d b (replaced (atom_at d b) path (other_side_of side (atom_at c a)))) (others (λ k. k == a) c)
-              (with_atom_true (atom_true m g e) d b (replaced (atom_at d b) path (other_side_of side (atom_at c a)))
-                  (replaced_atom m g e (atom_at d b) path (term_below (atom_at d b) path) (other_side_of side (atom_at c a)) (term_there (atom_at d b) path p3.1)
-                      (sides_same side (atom_at c a) equal ∙ ap (val m g e) same))
-              ∙ hd)
+            let here : IsTrue (true_at (atom_true m g e) c a) = subst (λ k. IsTrue (true_at (atom_true m g e) c k)) (eqb-true p.0 a p.1) p.2 in
+            let equal : val m g e (left_of (atom_at c a)) ≡ val m g e (right_of (atom_at c a)) =
+            eqb-true (val m g e (left_of (atom_at c a))) (val m g e (right_of (atom_at c a))) (sym (equation_true m g e (atom_at c a) p1.0) ∙ sym (at_sign (atom_true m g e) true c a p0.0) ∙ here) in
+            append_left (atom_true m g e) (with_atom d b (replaced (atom_at d b) path (other_side_of side (atom_at c a)))) (others (λ k. k == a) c)
+            (with_atom_true (atom_true m g e) d b (replaced (atom_at d b) path (other_side_of side (atom_at c a)))
+            (replaced_atom m g e (atom_at d b) path (term_below (atom_at d b) path) (other_side_of side (atom_at c a)) (term_there (atom_at d b) path p3.1)
+            (sides_same side (atom_at c a) equal ∙ ap (val m g e) same))
+            ∙ hd)
       ]
 
   pub para_sound : (a side b : ℕ) (path : List ℕ) → IsSound m g e (para_rule a side b path)
   para_sound a side b path cs fits pairs all =
       let parts = and_parts (are_two cs) (para_fits a side b path (first_of_two cs) (second_of_two cs)) fits in
       para_one a side b path (first_of_two cs) (second_of_two cs) parts.1 pairs.0
-          (two_parents (λ cs. AllTrue (atom_true m g e) cs → IsTrue (true_in (atom_true m g e) (first_of_two cs))) (λ c d h. h.0) cs parts.0 all)
-          (two_parents (λ cs. AllTrue (atom_true m g e) cs → IsTrue (true_in (atom_true m g e) (second_of_two cs))) (λ c d h. h.1.0) cs parts.0 all)
+      (two_parents (λ cs. AllTrue (atom_true m g e) cs → IsTrue (true_in (atom_true m g e) (first_of_two cs))) (λ c d h. h.0) cs parts.0 all)
+      (two_parents (λ cs. AllTrue (atom_true m g e) cs → IsTrue (true_in (atom_true m g e) (second_of_two cs))) (λ c d h. h.1.0) cs parts.0 all)

@@ -1,7 +1,6 @@
 -- Values and truth where each element that is named may stand for another one.
-use Rattle.std.proofs.Common.{◌≡◌, ℕ, Bool, true, false, not, ◌==◌, ◌||◌, if◌then◌else◌, IsTrue, List, [], ◌∷◌, Option, Some, refl, sym, ap, ap₂, ◌∙◌, subst}
+use Rattle.std.proofs.Common.{◌≡◌, ℕ, Bool, true, false, not, ◌==◌, ◌||◌, if◌then◌else◌, IsTrue, List, [], ◌∷◌, refl, ap, ap₂, ◌∙◌}
 use Rattle.std.specs.List.{list_any}
-use Rattle.std.proofs.lemmas.Bool.{eq-eqb, eqb-true, cases_Bool}
 use Rattle.fol_core.specs.Tree.{Tree, var, elem, app, Trees, none, more}
 use Rattle.fol_core.specs.Laws.{NamesElements, AllNameElements}
 use Rattle.fol_core.specs.Literals.{Lit, literal, ClauseTree, equality, are_equal, is_true_literal, is_true_clause, IsTrueClause}
@@ -9,7 +8,7 @@ use Rattle.fol_core.specs.Meaning.{Meaning, AllWithin, IsLawful}
 use Rattle.fol_core.specs.Substitutions.{Substitution, substitute, substitute_all}
 use Rattle.fol_core.specs.Truth.{Assignment, IsWithin, value_of, values_of}
 use Rattle.substitutions.specs.Atoms.{IsAtom, AreAtoms}
-use Rattle.substitutions.specs.Instances.{substitute_literal, substitute_clause}
+use Rattle.substitutions.specs.Instances.{substitute_clause}
 use Rattle.derivation.specs.Laws.{NamesWithin}
 
 -- a literal's truth by that of its atom

@@ -1,7 +1,7 @@
 -- Equations, and the terms below an atom.
 use Rattle.std.specs.Prelude.{ℕ, Bool, true, false, ◌==◌, List, [], ◌∷◌, Option, Some, None, unwrap_or}
 use Rattle.fol_core.specs.Literals.{equality}
-use Rattle.fol_core.specs.Tree.{Tree, var, elem, app, Trees, none, more}
+use Rattle.fol_core.specs.Tree.{Tree, var, elem, app, none, more}
 use Rattle.substitutions.specs.Paths.{subterm_at}
 
 abbrev pub equation : Tree → Tree → Tree

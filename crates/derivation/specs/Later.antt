@@ -1,7 +1,7 @@
 -- The words behind the first one of a line.
-use Rattle.std.specs.Prelude.{ℕ, ◌≡◌, ◌<◌, Bool, true, false, not, ◌==◌, ◌&&◌, ◌||◌, List, [], ◌∷◌, Some, slice_get}
+use Rattle.std.specs.Prelude.{ℕ, ◌≡◌, ◌<◌, Bool, true, false, ◌==◌, ◌&&◌, List, [], ◌∷◌, Some, slice_get}
 use Rattle.std.specs.List.{list_all}
-use Rattle.fol_core.specs.Free.{is_in, variables_of}
+use Rattle.fol_core.specs.Free.{variables_of}
 use Rattle.fol_core.specs.Literals.{ClauseTree}
 use Rattle.fol_core.specs.Substitutions.{Substitution, substitute}
 use Rattle.fol_core.specs.Tree.{Tree}

@@ -1,11 +1,11 @@
 -- What refutations show, in every interpretation.
-use Rattle.std.specs.Prelude.{ℕ, ◌≡◌, IsTrue, List, [], ◌∷◌, map, Option, Some, None}
+use Rattle.std.specs.Prelude.{ℕ, ◌≡◌, IsTrue, List, [], ◌∷◌, map, Some}
 use Rattle.fol_core.specs.Laws.{NamesElements}
 use Rattle.fol_core.specs.Literals.{ClauseTree, AreTrueClauses}
 use Rattle.fol_core.specs.Meaning.{Meaning}
 use Rattle.fol_core.specs.Stated.{Said}
 use Rattle.substitutions.specs.Atoms.{AreAtoms}
-use Rattle.derivation.specs.Lines.{FirstWord, Inference, Content, formula, clause, Line, Row, IsRefutation, inference_of}
+use Rattle.derivation.specs.Lines.{FirstWord, Inference, ContentTree, formula, clause, LineTree, Row, IsRefutation, inference_of}
 use Rattle.derivation.specs.Refused.{IsFault}
 use Rattle.derivation.specs.Rule.{Concludes}
 
@@ -14,12 +14,12 @@ abbrev pub NamesWithin : Meaning → ClauseTree → Type 0
 NamesWithin m [] = Unit {0}
 NamesWithin m (l ∷ c) = NamesElements m l.atom × NamesWithin m c
 
-abbrev pub ContentNamesWithin : Meaning → Content → Type 0
+abbrev pub ContentNamesWithin : Meaning → ContentTree → Type 0
 ContentNamesWithin m (formula f) = Unit {0}
 ContentNamesWithin m (clause c) = NamesWithin m c
 
 -- and each that the clauses of lines name; where they name none, in every interpretation
-abbrev pub LinesNameWithin : Meaning → List Line → Type 0
+abbrev pub LinesNameWithin : Meaning → List LineTree → Type 0
 LinesNameWithin m [] = Unit {0}
 LinesNameWithin m (l ∷ ls) = ContentNamesWithin m l.content × LinesNameWithin m ls
 
@@ -29,7 +29,7 @@ RowsAreAtoms (r ∷ rows) = AreAtoms r.1 × RowsAreAtoms rows
 
 -- where there is a refutation, not all input clauses are true
 abbrev pub RefutationIsSound : Meaning → Type 0
-RefutationIsSound m = (ss : List Said) (rows : List Row) (ls : List Line) → RowsAreAtoms rows → LinesNameWithin m ls
+RefutationIsSound m = (ss : List Said) (rows : List Row) (ls : List LineTree) → RowsAreAtoms rows → LinesNameWithin m ls
     → IsRefutation ss rows ls → ¬ AreTrueClauses m (map (λ r. r.1) rows)
 
 -- a rule has one conclusion
@@ -39,8 +39,8 @@ OneConclusion = (w : FirstWord) (i : Inference) (ps : List ClauseTree) (c d : Cl
 
 -- lines that have a fault are no refutation, and the fault is one
 abbrev pub FaultIsNone : Type 0
-FaultIsNone = (ss : List Said) (rows : List Row) (ls : List Line) (number row : ℕ) → IsFault ss rows ls number row → ¬ IsRefutation ss rows ls
+FaultIsNone = (ss : List Said) (rows : List Row) (ls : List LineTree) (number row : ℕ) → IsFault ss rows ls number row → ¬ IsRefutation ss rows ls
 
 abbrev pub FaultIsOne : Type 0
-FaultIsOne = (ss : List Said) (rows : List Row) (ls : List Line) (number row other_number other_row : ℕ)
+FaultIsOne = (ss : List Said) (rows : List Row) (ls : List LineTree) (number row other_number other_row : ℕ)
     → IsFault ss rows ls number row → IsFault ss rows ls other_number other_row → (number ≡ other_number) × (row ≡ other_row)

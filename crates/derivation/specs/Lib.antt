@@ -5,5 +5,6 @@ pub mod Lines
 pub mod Places
 pub mod Refused
 pub mod Rule
+pub mod View
 pub mod Words
 pub mod Worked

@@ -1,5 +1,5 @@
 -- The literals of a clause by their places, counted from 0.
-use Rattle.std.specs.Prelude.{ℕ, zero, suc, Bool, true, false, ◌&&◌, ◌||◌, if◌then◌else◌, List, [], ◌∷◌}
+use Rattle.std.specs.Prelude.{ℕ, zero, suc, Bool, true, false, ◌&&◌, ◌||◌, if◌then◌else◌, [], ◌∷◌}
 use Rattle.fol_core.specs.Tree.{Tree, var}
 use Rattle.fol_core.specs.Literals.{literal, ClauseTree}
 

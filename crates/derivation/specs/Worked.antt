@@ -1,13 +1,13 @@
 -- Steps worked out.
-use Rattle.std.specs.Prelude.{ℕ, ◌≡◌, true, false, IsTrue, List, [], ◌∷◌, Some, None}
-use Rattle.fol_core.specs.Fol.{Fol, atom}
-use Rattle.fol_core.specs.Literals.{Lit, literal, ClauseTree, equality}
+use Rattle.std.specs.Prelude.{ℕ, ◌≡◌, true, false, List, [], ◌∷◌, Some}
+use Rattle.fol_core.specs.Fol.{atom}
+use Rattle.fol_core.specs.Literals.{Lit, literal}
 use Rattle.fol_core.specs.Stated.{Said, said}
-use Rattle.fol_core.specs.Tree.{Tree, var, app, Trees, none, more}
+use Rattle.fol_core.specs.Tree.{Tree, var, app, none, more}
 use Rattle.fol_core.specs.declared.problem.Role.TheVariants.{Assumption, Goal}
 use Rattle.derivation.specs.Equations.{equation}
-use Rattle.derivation.specs.Later.{LaterWord, flipped, merged, reflexive, unit_deleted, rewritten, later_fits, Leads}
-use Rattle.derivation.specs.Lines.{FirstWord, assumed, wanted, clausified, denied, copied, resolved, Satellite, Content, formula, clause, Line, Row, IsRefutation}
+use Rattle.derivation.specs.Later.{flipped, merged, reflexive, unit_deleted, rewritten, later_fits, Leads}
+use Rattle.derivation.specs.Lines.{FirstWord, assumed, wanted, clausified, denied, copied, resolved, ContentTree, formula, clause, LineTree, Row, IsRefutation}
 use Rattle.derivation.specs.Refused.{IsRefused, IsFault}
 use Rattle.derivation.specs.Words.{copy_rule, clash_rule, factor_rule, xx_rule, para_rule}
 
@@ -109,13 +109,13 @@ stated = said Assumption (atom 3 (more a none)) ∷ said Goal (atom 3 (more a no
 abbrev pub inputs : List Row
 inputs = (1, yes (p a) ∷ []) ∷ (2, no (p a) ∷ []) ∷ []
 
-abbrev pub line : ℕ → Content → FirstWord → Line
+abbrev pub line : ℕ → ContentTree → FirstWord → LineTree
 line n content first = record { number = n; content = content; first = first; later = [] }
 
 abbrev pub clash : ℕ → ℕ → FirstWord
 clash n m = resolved n (record { place = 0; clause = m; literal = 0 } ∷ [])
 
-abbrev pub given : List Line
+abbrev pub given : List LineTree
 given =
     line 1 (formula (atom 3 (more a none))) assumed ∷ line 2 (formula (atom 3 (more a none))) wanted
     ∷ line 3 (clause (yes (p a) ∷ [])) (clausified 1) ∷ line 4 (clause (no (p a) ∷ [])) (denied 2) ∷ []
@@ -124,7 +124,7 @@ abbrev pub WorkedRefutation : Type 0
 WorkedRefutation =
     IsRefutation stated inputs
     (line 1 (formula (atom 3 (more a none))) assumed ∷ line 2 (formula (atom 3 (more a none))) wanted
-        ∷ line 3 (clause (yes (p a) ∷ [])) (clausified 1) ∷ line 4 (clause (no (p a) ∷ [])) (denied 2) ∷ line 5 (clause []) (clash 3 4) ∷ [])
+    ∷ line 3 (clause (yes (p a) ∷ [])) (clausified 1) ∷ line 4 (clause (no (p a) ∷ [])) (denied 2) ∷ line 5 (clause []) (clash 3 4) ∷ [])
 
 -- a fault of each row
 abbrev pub WorkedFaults : Type 0
