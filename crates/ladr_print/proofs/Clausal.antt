@@ -41,7 +41,7 @@ use Rattle.ladr_print.proofs.Letters.{first_variables}
 use Rattle.ladr_print.proofs.Naming.{Reaches, formula_back}
 use Rattle.ladr_print.proofs.Rereading.{turned}
 use Rattle.fol_core.specs.SymbolTable.{KeepsNumbers}
-use Rattle.ladr_print.proofs.Numerals.{own}
+use Rattle.ladr_lex.proofs.Numerals.{own}
 use Rattle.ladr_print.proofs.Printing.{Named, plain, Printable, PrintableAll, printed_reads, text_printable}
 use Rattle.ladr_print.proofs.Renaming.{or_parts, formula_ren}
 use Rattle.ladr_print.proofs.Stating.{turned_printable, sound_parts, names_found, brings, named_between, denial_printable}
@@ -99,7 +99,7 @@ module _ (rows : List OperatorRow) (k : KeepsFixed rows) (prolog : Bool) (frees 
 
   variable_named : (n : ℕ) → n < 2 ^ 64 → Named g (clause_variable prolog n) 0
   unfolding is_ordinary
-  variable_named n h = by prolog n h (frees n)
+  variable_named n h = by prolog n h (frees n h)
     where
       by : (q : Bool) (n : ℕ) → n < 2 ^ 64 → if_prefix (operator_of rows (clause_variable q n)) ≡ None → Named g (clause_variable q n) 0
       by true zero h f = record { sort = ordinary; written = refl; allowed = plain refl f }

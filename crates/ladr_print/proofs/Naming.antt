@@ -26,7 +26,7 @@ use Rattle.ladr_reader.specs.declared.connectives.Connective.TheVariants.{And, O
 use Rattle.ladr_reader.specs.declared.styles.Style.{Style}
 use Rattle.ladr_print.specs.FormulaText.{two, denial, formula_raw}
 use Rattle.ladr_print.specs.TermText.{Naming, symbol_name, term_raw, terms_raw}
-use Rattle.ladr_print.proofs.Numerals.{decimal_number}
+use Rattle.ladr_lex.proofs.Numerals.{decimal_number}
 use Rattle.ladr_print.proofs.Rereading.{turned, by_one, by_two}
 
 -- what was read before stays: symbols keep their numbers and variables theirs, and no misuse is forgotten

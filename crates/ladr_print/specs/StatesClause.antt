@@ -5,11 +5,10 @@ use Rattle.fol_core.specs.Fol.{Fol, falsum, equal, atom, denied, either}
 use Rattle.fol_core.specs.Literals.{Lit, ClauseTree, literal, equality}
 use Rattle.fol_core.specs.SymbolTable.{Symbol}
 use Rattle.fol_core.specs.Tree.{app, none, more}
-use Rattle.ladr_lex.specs.Operators.{OperatorRow, operator_of, if_prefix}
+pub use Rattle.ladr_lex.specs.ClauseNames.{FreesVariables}
 use Rattle.ladr_reader.specs.Table.{Table}
 use Rattle.ladr_reader.specs.declared.styles.Style.{Style}
 use Rattle.ladr_print.specs.StatesAs.{StatesAs}
-use Rattle.ladr_print.specs.TermText.{clause_variable}
 
 -- the literal that a relation, an equation or the denial of one is
 abbrev pub atom_in : Bool → Fol → Option Lit
@@ -41,7 +40,3 @@ pub record StatesClause (g : Table) (st : Style) (before : List Symbol) (text : 
   pub names : List (List ℕ)
   pub states : StatesAs g st before text None formula names after
   pub clause : clause_in formula ≡ Some c
-
--- no name of a clause's variable is an operator before its argument
-abbrev pub FreesVariables : Bool → List OperatorRow → Type 0
-FreesVariables prolog rows = (n : ℕ) → if_prefix (operator_of rows (clause_variable prolog n)) ≡ None
