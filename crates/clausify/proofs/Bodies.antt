@@ -2,14 +2,14 @@
 use Rattle.std.proofs.Common.{◌≡◌, ◌⊎◌, inl, inr, ℕ, suc, ◌+◌, ◌<◌, ◌≤◌, ◌==◌, ◌||◌, Bool, true, false, if◌then◌else◌, IsTrue, List, [], ◌∷◌, ◌++◌, length, map, slice_index, refl, sym, ap, ◌∙◌, subst, arith}
 use Rattle.std.proofs.lemmas.Bool.{or_left, or_right, or_cases, or_parts, eqb-true, eq-eqb, false≢true, true≢false, false_from_ne_true}
 use Rattle.fol_core.specs.Bound.{binders_of, IsOnce, has_symbol, have_symbol, uses_symbol}
-use Rattle.fol_core.specs.Fol.{Fol, verum, falsum, equal, atom, denied, both, either, implies, iff, every, some}
+use Rattle.fol_core.specs.Fol.{Fol, verum, falsum, equal, atom, negation, conjunction, disjunction, implication, equivalence, forall, exists}
 use Rattle.fol_core.specs.Free.{is_in, joined, without, variables_of, variables_of_all, free_vars_of}
-use Rattle.fol_core.specs.Put.{Substitution, with_term, put, put_all}
+use Rattle.fol_core.specs.Substitutions.{Substitution, with_term, substitute, substitute_all}
 use Rattle.fol_core.specs.Tree.{Tree, var, elem, app, Trees, none, more, trees_of}
-use Rattle.fol_core.specs.Witnesses.{Witness, IsClosedBody}
+use Rattle.fol_core.specs.SkolemAxioms.{SkolemAxiom, IsClosedBody}
 use Rattle.fol_core.proofs.Variables.{is_in_joined, is_in_without, noted_once}
-use Rattle.clausify.specs.Forms.{form_of}
-use Rattle.clausify.specs.Skolem.{put_in, skolem_term, somes, witnesses}
+use Rattle.clausify.specs.Forms.{nnf_of}
+use Rattle.clausify.specs.Skolem.{substitute_in, skolem_term, somes, skolem_axioms}
 use Rattle.clausify.proofs.Claims.{in_more, in_pushed, out_of}
 use Rattle.clausify.proofs.Clauses.{IsApart}
 use Rattle.clausify.proofs.FormSets.{joined_both}
@@ -25,55 +25,55 @@ or_turned a b c d f g h = elim (or_cases a b h) [ inl i ↦ or_right c d (f i) |
 or_one : (a b c : Bool) → (IsTrue a → IsTrue c) → (IsTrue b → IsTrue c) → IsTrue (a || b) → IsTrue c
 or_one a b c f g h = elim (or_cases a b h) [ inl i ↦ f i | inr i ↦ g i ]
 
--- a negation form has the symbols of its formula
-pub form_uses : (sign : Bool) (f : Fol) (s : ℕ) → IsTrue (uses_symbol s (form_of sign f)) → IsTrue (uses_symbol s f)
+-- a negation normal form has the symbols of its formula
+pub form_uses : (sign : Bool) (f : Fol) (s : ℕ) → IsTrue (uses_symbol s (nnf_of sign f)) → IsTrue (uses_symbol s f)
 form_uses true verum s i = i
 form_uses true falsum s i = i
 form_uses true (equal t u) s i = i
 form_uses true (atom r ts) s i = i
-form_uses true (denied f) s i = form_uses false f s i
-form_uses true (both f g) s i = or_both (uses_symbol s (form_of true f)) (uses_symbol s (form_of true g)) (uses_symbol s f) (uses_symbol s g) (form_uses true f s) (form_uses true g s) i
-form_uses true (either f g) s i = or_both (uses_symbol s (form_of true f)) (uses_symbol s (form_of true g)) (uses_symbol s f) (uses_symbol s g) (form_uses true f s) (form_uses true g s) i
-form_uses true (implies f g) s i = or_both (uses_symbol s (form_of false f)) (uses_symbol s (form_of true g)) (uses_symbol s f) (uses_symbol s g) (form_uses false f s) (form_uses true g s) i
-form_uses true (iff f g) s i =
+form_uses true (negation f) s i = form_uses false f s i
+form_uses true (conjunction f g) s i = or_both (uses_symbol s (nnf_of true f)) (uses_symbol s (nnf_of true g)) (uses_symbol s f) (uses_symbol s g) (form_uses true f s) (form_uses true g s) i
+form_uses true (disjunction f g) s i = or_both (uses_symbol s (nnf_of true f)) (uses_symbol s (nnf_of true g)) (uses_symbol s f) (uses_symbol s g) (form_uses true f s) (form_uses true g s) i
+form_uses true (implication f g) s i = or_both (uses_symbol s (nnf_of false f)) (uses_symbol s (nnf_of true g)) (uses_symbol s f) (uses_symbol s g) (form_uses false f s) (form_uses true g s) i
+form_uses true (equivalence f g) s i =
     let a = uses_symbol s f in
     let b = uses_symbol s g in
-    or_one (uses_symbol s (form_of false f) || uses_symbol s (form_of true g)) (uses_symbol s (form_of false g) || uses_symbol s (form_of true f)) (a || b)
-    (or_both (uses_symbol s (form_of false f)) (uses_symbol s (form_of true g)) a b (form_uses false f s) (form_uses true g s))
-    (or_turned (uses_symbol s (form_of false g)) (uses_symbol s (form_of true f)) a b (form_uses false g s) (form_uses true f s)) i
-form_uses true (every x f) s i = form_uses true f s i
-form_uses true (some x f) s i = form_uses true f s i
+    or_one (uses_symbol s (nnf_of false f) || uses_symbol s (nnf_of true g)) (uses_symbol s (nnf_of false g) || uses_symbol s (nnf_of true f)) (a || b)
+    (or_both (uses_symbol s (nnf_of false f)) (uses_symbol s (nnf_of true g)) a b (form_uses false f s) (form_uses true g s))
+    (or_turned (uses_symbol s (nnf_of false g)) (uses_symbol s (nnf_of true f)) a b (form_uses false g s) (form_uses true f s)) i
+form_uses true (forall x f) s i = form_uses true f s i
+form_uses true (exists x f) s i = form_uses true f s i
 form_uses false verum s i = i
 form_uses false falsum s i = i
 form_uses false (equal t u) s i = i
 form_uses false (atom r ts) s i = i
-form_uses false (denied f) s i = form_uses true f s i
-form_uses false (both f g) s i = or_both (uses_symbol s (form_of false f)) (uses_symbol s (form_of false g)) (uses_symbol s f) (uses_symbol s g) (form_uses false f s) (form_uses false g s) i
-form_uses false (either f g) s i = or_both (uses_symbol s (form_of false f)) (uses_symbol s (form_of false g)) (uses_symbol s f) (uses_symbol s g) (form_uses false f s) (form_uses false g s) i
-form_uses false (implies f g) s i = or_both (uses_symbol s (form_of true f)) (uses_symbol s (form_of false g)) (uses_symbol s f) (uses_symbol s g) (form_uses true f s) (form_uses false g s) i
-form_uses false (iff f g) s i =
+form_uses false (negation f) s i = form_uses true f s i
+form_uses false (conjunction f g) s i = or_both (uses_symbol s (nnf_of false f)) (uses_symbol s (nnf_of false g)) (uses_symbol s f) (uses_symbol s g) (form_uses false f s) (form_uses false g s) i
+form_uses false (disjunction f g) s i = or_both (uses_symbol s (nnf_of false f)) (uses_symbol s (nnf_of false g)) (uses_symbol s f) (uses_symbol s g) (form_uses false f s) (form_uses false g s) i
+form_uses false (implication f g) s i = or_both (uses_symbol s (nnf_of true f)) (uses_symbol s (nnf_of false g)) (uses_symbol s f) (uses_symbol s g) (form_uses true f s) (form_uses false g s) i
+form_uses false (equivalence f g) s i =
     let a = uses_symbol s f in
     let b = uses_symbol s g in
-    or_one (uses_symbol s (form_of true f) || uses_symbol s (form_of true g)) (uses_symbol s (form_of false f) || uses_symbol s (form_of false g)) (a || b)
-    (or_both (uses_symbol s (form_of true f)) (uses_symbol s (form_of true g)) a b (form_uses true f s) (form_uses true g s))
-    (or_both (uses_symbol s (form_of false f)) (uses_symbol s (form_of false g)) a b (form_uses false f s) (form_uses false g s)) i
-form_uses false (every x f) s i = form_uses false f s i
-form_uses false (some x f) s i = form_uses false f s i
+    or_one (uses_symbol s (nnf_of true f) || uses_symbol s (nnf_of true g)) (uses_symbol s (nnf_of false f) || uses_symbol s (nnf_of false g)) (a || b)
+    (or_both (uses_symbol s (nnf_of true f)) (uses_symbol s (nnf_of true g)) a b (form_uses true f s) (form_uses true g s))
+    (or_both (uses_symbol s (nnf_of false f)) (uses_symbol s (nnf_of false g)) a b (form_uses false f s) (form_uses false g s)) i
+form_uses false (forall x f) s i = form_uses false f s i
+form_uses false (exists x f) s i = form_uses false f s i
 
 -- whatever symbols terms and a formula have, the formula has with the terms put in
 module _ (P : ℕ → Type 0) (terms : Substitution) (fine : (y s : ℕ) → IsTrue (has_symbol s (terms y)) → P s) where
   mutual
-    put_uses : (t : Tree) → ((s : ℕ) → IsTrue (has_symbol s t) → P s) → (s : ℕ) → IsTrue (has_symbol s (put terms t)) → P s
+    put_uses : (t : Tree) → ((s : ℕ) → IsTrue (has_symbol s t) → P s) → (s : ℕ) → IsTrue (has_symbol s (substitute terms t)) → P s
     put_uses (var y) h s i = fine y s i
     put_uses (elem k) h s i = h s i
-    put_uses (app f ts) h s i = elim (or_cases (s == f) (have_symbol s (put_all terms ts)) i) [
+    put_uses (app f ts) h s i = elim (or_cases (s == f) (have_symbol s (substitute_all terms ts)) i) [
       | inl j ↦ h s (or_left (s == f) (have_symbol s ts) j)
       | inr j ↦ puts_use ts (λ r k. h r (or_right (r == f) (have_symbol r ts) k)) s j
     ]
 
-    puts_use : (ts : Trees) → ((s : ℕ) → IsTrue (have_symbol s ts) → P s) → (s : ℕ) → IsTrue (have_symbol s (put_all terms ts)) → P s
+    puts_use : (ts : Trees) → ((s : ℕ) → IsTrue (have_symbol s ts) → P s) → (s : ℕ) → IsTrue (have_symbol s (substitute_all terms ts)) → P s
     puts_use none h s i = h s i
-    puts_use (more t ts) h s i = elim (or_cases (has_symbol s (put terms t)) (have_symbol s (put_all terms ts)) i) [
+    puts_use (more t ts) h s i = elim (or_cases (has_symbol s (substitute terms t)) (have_symbol s (substitute_all terms ts)) i) [
       | inl j ↦ put_uses t (λ r k. h r (or_left (has_symbol r t) (have_symbol r ts) k)) s j
       | inr j ↦ puts_use ts (λ r k. h r (or_right (has_symbol r t) (have_symbol r ts) k)) s j
     ]
@@ -90,36 +90,36 @@ module _ (P : ℕ → Type 0) (terms : Substitution) (fine : (y s : ℕ) → IsT
     | inr j ↦ r (λ k o. h k (or_right (uses_symbol k f) (uses_symbol k g) o)) s j
   ]
 
-  pub put_in_uses : (f : Fol) → Fine f → Fine (put_in terms f)
+  pub put_in_uses : (f : Fol) → Fine f → Fine (substitute_in terms f)
   put_in_uses verum h = h
   put_in_uses falsum h = h
-  put_in_uses (equal t u) h = λ s i. elim (or_cases (has_symbol s (put terms t)) (has_symbol s (put terms u)) i) [
+  put_in_uses (equal t u) h = λ s i. elim (or_cases (has_symbol s (substitute terms t)) (has_symbol s (substitute terms u)) i) [
     | inl j ↦ put_uses t (λ r k. h r (or_left (has_symbol r t) (has_symbol r u) k)) s j
     | inr j ↦ put_uses u (λ r k. h r (or_right (has_symbol r t) (has_symbol r u) k)) s j
   ]
-  put_in_uses (atom r ts) h = λ s i. elim (or_cases (s == r) (have_symbol s (put_all terms ts)) i) [
+  put_in_uses (atom r ts) h = λ s i. elim (or_cases (s == r) (have_symbol s (substitute_all terms ts)) i) [
     | inl j ↦ h s (or_left (s == r) (have_symbol s ts) j)
     | inr j ↦ puts_use ts (λ n k. h n (or_right (n == r) (have_symbol n ts) k)) s j
   ]
-  put_in_uses (denied f) h = put_in_uses f h
-  put_in_uses (both f g) h = two f g (put_in terms f) (put_in terms g) (put_in_uses f) (put_in_uses g) h
-  put_in_uses (either f g) h = two f g (put_in terms f) (put_in terms g) (put_in_uses f) (put_in_uses g) h
-  put_in_uses (implies f g) h = two f g (put_in terms f) (put_in terms g) (put_in_uses f) (put_in_uses g) h
-  put_in_uses (iff f g) h = two f g (put_in terms f) (put_in terms g) (put_in_uses f) (put_in_uses g) h
-  put_in_uses (every x f) h = put_in_uses f h
-  put_in_uses (some x f) h = put_in_uses f h
+  put_in_uses (negation f) h = put_in_uses f h
+  put_in_uses (conjunction f g) h = two f g (substitute_in terms f) (substitute_in terms g) (put_in_uses f) (put_in_uses g) h
+  put_in_uses (disjunction f g) h = two f g (substitute_in terms f) (substitute_in terms g) (put_in_uses f) (put_in_uses g) h
+  put_in_uses (implication f g) h = two f g (substitute_in terms f) (substitute_in terms g) (put_in_uses f) (put_in_uses g) h
+  put_in_uses (equivalence f g) h = two f g (substitute_in terms f) (substitute_in terms g) (put_in_uses f) (put_in_uses g) h
+  put_in_uses (forall x f) h = put_in_uses f h
+  put_in_uses (exists x f) h = put_in_uses f h
 
 -- the variables of terms that are put in for those of a term
 module _ (terms : Substitution) where
   mutual
-    put_variables : (T : Set) (t : Tree) → ((x : ℕ) → IsTrue (is_in x (variables_of t)) → In (variables_of (terms x)) T) → In (variables_of (put terms t)) T
+    put_variables : (T : Set) (t : Tree) → ((x : ℕ) → IsTrue (is_in x (variables_of t)) → In (variables_of (terms x)) T) → In (variables_of (substitute terms t)) T
     put_variables T (var y) h = h y (or_left (y == y) false (eq-eqb y y refl))
     put_variables T (elem k) h = λ z i. absurd (false≢true i)
     put_variables T (app f ts) h = puts_variables T ts h
 
-    puts_variables : (T : Set) (ts : Trees) → ((x : ℕ) → IsTrue (is_in x (variables_of_all ts)) → In (variables_of (terms x)) T) → In (variables_of_all (put_all terms ts)) T
+    puts_variables : (T : Set) (ts : Trees) → ((x : ℕ) → IsTrue (is_in x (variables_of_all ts)) → In (variables_of (terms x)) T) → In (variables_of_all (substitute_all terms ts)) T
     puts_variables T none h = λ z i. absurd (false≢true i)
-    puts_variables T (more t ts) h = joined_both (variables_of (put terms t)) (variables_of_all (put_all terms ts)) T
+    puts_variables T (more t ts) h = joined_both (variables_of (substitute terms t)) (variables_of_all (substitute_all terms ts)) T
         (put_variables T t (λ x i. h x (is_in_joined x (variables_of t) (variables_of_all ts) ∙ or_left (is_in x (variables_of t)) (is_in x (variables_of_all ts)) i)))
         (puts_variables T ts (λ x i. h x (is_in_joined x (variables_of t) (variables_of_all ts) ∙ or_right (is_in x (variables_of t)) (is_in x (variables_of_all ts)) i)))
 
@@ -136,16 +136,16 @@ module _ (terms : Substitution) where
   right_in : (f g : Fol) → ((x : ℕ) → IsTrue (is_in x (binders_of f ++ binders_of g)) → terms x ≡ var x) → Stays g
   right_in f g h x i = h x (in_right x (binders_of f) (binders_of g) i)
 
-  pair_free : (T : Set) (f g : Fol) → (Stays f → Into T (free_vars_of f) → In (free_vars_of (put_in terms f)) T) → (Stays g → Into T (free_vars_of g) → In (free_vars_of (put_in terms g)) T)
+  pair_free : (T : Set) (f g : Fol) → (Stays f → Into T (free_vars_of f) → In (free_vars_of (substitute_in terms f)) T) → (Stays g → Into T (free_vars_of g) → In (free_vars_of (substitute_in terms g)) T)
       → ((x : ℕ) → IsTrue (is_in x (binders_of f ++ binders_of g)) → terms x ≡ var x) → Into T (joined (free_vars_of f) (free_vars_of g))
-      → In (joined (free_vars_of (put_in terms f)) (free_vars_of (put_in terms g))) T
-  pair_free T f g l r stays h = joined_both (free_vars_of (put_in terms f)) (free_vars_of (put_in terms g)) T
+      → In (joined (free_vars_of (substitute_in terms f)) (free_vars_of (substitute_in terms g))) T
+  pair_free T f g l r stays h = joined_both (free_vars_of (substitute_in terms f)) (free_vars_of (substitute_in terms g)) T
       (l (left_in f g stays) (λ x i. h x (is_in_joined x (free_vars_of f) (free_vars_of g) ∙ or_left (is_in x (free_vars_of f)) (is_in x (free_vars_of g)) i)))
       (r (right_in f g stays) (λ x i. h x (is_in_joined x (free_vars_of f) (free_vars_of g) ∙ or_right (is_in x (free_vars_of f)) (is_in x (free_vars_of g)) i)))
 
-  under_free : (T : Set) (x : ℕ) (f : Fol) → ((U : Set) → Stays f → Into U (free_vars_of f) → In (free_vars_of (put_in terms f)) U)
-      → ((y : ℕ) → IsTrue (y == x || is_in y (binders_of f)) → terms y ≡ var y) → Into T (without x (free_vars_of f)) → In (without x (free_vars_of (put_in terms f))) T
-  under_free T x f below stays h z i = out (z == x) refl (sym (is_in_without z x (free_vars_of (put_in terms f))) ∙ i)
+  under_free : (T : Set) (x : ℕ) (f : Fol) → ((U : Set) → Stays f → Into U (free_vars_of f) → In (free_vars_of (substitute_in terms f)) U)
+      → ((y : ℕ) → IsTrue (y == x || is_in y (binders_of f)) → terms y ≡ var y) → Into T (without x (free_vars_of f)) → In (without x (free_vars_of (substitute_in terms f))) T
+  under_free T x f below stays h z i = out (z == x) refl (sym (is_in_without z x (free_vars_of (substitute_in terms f))) ∙ i)
     where
       own : (y : ℕ) → (y == x) ≡ true → In (variables_of (terms y)) (plus x T)
       own y e z j =
@@ -162,27 +162,27 @@ module _ (terms : Substitution) where
           by true e = own y e
           by false e = λ w k. or_right (w == x) (T w) (h y (is_in_without y x (free_vars_of f) ∙ ap (λ (b : Bool). if b then false else is_in y (free_vars_of f)) e ∙ j) w k)
 
-      all : In (free_vars_of (put_in terms f)) (plus x T)
+      all : In (free_vars_of (substitute_in terms f)) (plus x T)
       all = below (plus x T) (λ y j. stays y (or_right (y == x) (is_in y (binders_of f)) j)) into
 
-      out : (b : Bool) → (z == x) ≡ b → (if b then false else is_in z (free_vars_of (put_in terms f))) ≡ true → IsTrue (T z)
+      out : (b : Bool) → (z == x) ≡ b → (if b then false else is_in z (free_vars_of (substitute_in terms f))) ≡ true → IsTrue (T z)
       out true e j = absurd (false≢true j)
       out false e j = subst (λ (b : Bool). IsTrue (b || T z)) e (all z j)
 
-  pub put_free : (f : Fol) (T : Set) → Stays f → Into T (free_vars_of f) → In (free_vars_of (put_in terms f)) T
+  pub put_free : (f : Fol) (T : Set) → Stays f → Into T (free_vars_of f) → In (free_vars_of (substitute_in terms f)) T
   put_free verum T stays h = λ z i. absurd (false≢true i)
   put_free falsum T stays h = λ z i. absurd (false≢true i)
-  put_free (equal t u) T stays h = joined_both (variables_of (put terms t)) (variables_of (put terms u)) T
+  put_free (equal t u) T stays h = joined_both (variables_of (substitute terms t)) (variables_of (substitute terms u)) T
       (put_variables T t (λ x i. h x (is_in_joined x (variables_of t) (variables_of u) ∙ or_left (is_in x (variables_of t)) (is_in x (variables_of u)) i)))
       (put_variables T u (λ x i. h x (is_in_joined x (variables_of t) (variables_of u) ∙ or_right (is_in x (variables_of t)) (is_in x (variables_of u)) i)))
   put_free (atom r ts) T stays h = puts_variables T ts h
-  put_free (denied f) T stays h = put_free f T stays h
-  put_free (both f g) T stays h = pair_free T f g (put_free f T) (put_free g T) stays h
-  put_free (either f g) T stays h = pair_free T f g (put_free f T) (put_free g T) stays h
-  put_free (implies f g) T stays h = pair_free T f g (put_free f T) (put_free g T) stays h
-  put_free (iff f g) T stays h = pair_free T f g (put_free f T) (put_free g T) stays h
-  put_free (every x f) T stays h = under_free T x f (λ U. put_free f U) stays h
-  put_free (some x f) T stays h = under_free T x f (λ U. put_free f U) stays h
+  put_free (negation f) T stays h = put_free f T stays h
+  put_free (conjunction f g) T stays h = pair_free T f g (put_free f T) (put_free g T) stays h
+  put_free (disjunction f g) T stays h = pair_free T f g (put_free f T) (put_free g T) stays h
+  put_free (implication f g) T stays h = pair_free T f g (put_free f T) (put_free g T) stays h
+  put_free (equivalence f g) T stays h = pair_free T f g (put_free f T) (put_free g T) stays h
+  put_free (forall x f) T stays h = under_free T x f (λ U. put_free f U) stays h
+  put_free (exists x f) T stays h = under_free T x f (λ U. put_free f U) stays h
 
 -- Around a part the variables of the set are bound: the terms for them have variables of the scope alone, each of which is in
 -- it once, and every other variable stands for itself.
@@ -227,20 +227,20 @@ apart_less u v verum sub h = h
 apart_less u v falsum sub h = h
 apart_less u v (equal s t) sub h = h
 apart_less u v (atom r ts) sub h = h
-apart_less u v (denied f) sub h = h
-apart_less u v (implies f g) sub h = h
-apart_less u v (iff f g) sub h = h
-apart_less u v (both f g) sub h = (apart_less u v f sub h.0, apart_less u v g sub h.1)
-apart_less u v (either f g) sub h = (apart_less (also (binders_of g) u) (also (binders_of g) v) f (also_more (binders_of g)) h.0, apart_less (also (binders_of f) u) (also (binders_of f) v) g (also_more (binders_of f)) h.1)
+apart_less u v (negation f) sub h = h
+apart_less u v (implication f g) sub h = h
+apart_less u v (equivalence f g) sub h = h
+apart_less u v (conjunction f g) sub h = (apart_less u v f sub h.0, apart_less u v g sub h.1)
+apart_less u v (disjunction f g) sub h = (apart_less (also (binders_of g) u) (also (binders_of g) v) f (also_more (binders_of g)) h.0, apart_less (also (binders_of f) u) (also (binders_of f) v) g (also_more (binders_of f)) h.1)
   where
     also_more : (xs : List ℕ) → Sub (also xs u) (also xs v)
     also_more xs y i = or_both (is_in y xs) (u y) (is_in y xs) (v y) (λ j. j) (sub y) i
-apart_less u v (every x f) sub h = (false_from_ne_true (u x) (λ i. true≢false (sym (sub x i) ∙ h.0)), apart_less (plus x u) (plus x v) f (λ y i. or_both (y == x) (u y) (y == x) (v y) (λ j. j) (sub y) i) h.1)
-apart_less u v (some x f) sub h = (false_from_ne_true (u x) (λ i. true≢false (sym (sub x i) ∙ h.0)), apart_less (plus x u) (plus x v) f (λ y i. or_both (y == x) (u y) (y == x) (v y) (λ j. j) (sub y) i) h.1)
+apart_less u v (forall x f) sub h = (false_from_ne_true (u x) (λ i. true≢false (sym (sub x i) ∙ h.0)), apart_less (plus x u) (plus x v) f (λ y i. or_both (y == x) (u y) (y == x) (v y) (λ j. j) (sub y) i) h.1)
+apart_less u v (exists x f) sub h = (false_from_ne_true (u x) (λ i. true≢false (sym (sub x i) ∙ h.0)), apart_less (plus x u) (plus x v) f (λ y i. or_both (y == x) (u y) (y == x) (v y) (λ j. j) (sub y) i) h.1)
 
 -- the body of an existential variable
 closed_body : (u : Set) (scope : List ℕ) (terms : Substitution) (y s : ℕ) (f : Fol) → u y ≡ false → IsApart (plus y u) f → In (free_vars_of f) (plus y u) → Around u scope terms
-    → IsClosedBody (record { symbol = s; variables = scope; variable = y; body = put_in terms f })
+    → IsClosedBody (record { symbol = s; variables = scope; variable = y; body = substitute_in terms f })
 closed_body u scope terms y s f new apart free a = (a.once, put_free terms f (λ z. z == y || is_in z scope) stays into)
   where
     stays : (x : ℕ) → IsTrue (is_in x (binders_of f)) → terms x ≡ var x
@@ -262,21 +262,21 @@ pub many_in_two : {A : Type 0} (xs ys : List A) → length (xs ++ ys) ≡ length
 many_in_two [] ys = omega arith
 many_in_two (x ∷ xs) ys = omega (arith, many_in_two xs ys)
 
--- a negation form has as many witnesses as existential variables
-pub witnesses_many : (symbols : List ℕ) (k : ℕ) (scope : List ℕ) (terms : Substitution) (f : Fol) → length (witnesses symbols k scope terms f) ≡ somes f
+-- a negation normal form has as many witnesses as existential variables
+pub witnesses_many : (symbols : List ℕ) (k : ℕ) (scope : List ℕ) (terms : Substitution) (f : Fol) → length (skolem_axioms symbols k scope terms f) ≡ somes f
 witnesses_many symbols k scope terms verum = refl
 witnesses_many symbols k scope terms falsum = refl
 witnesses_many symbols k scope terms (equal s t) = refl
 witnesses_many symbols k scope terms (atom r ts) = refl
-witnesses_many symbols k scope terms (denied f) = refl
-witnesses_many symbols k scope terms (implies f g) = refl
-witnesses_many symbols k scope terms (iff f g) = refl
-witnesses_many symbols k scope terms (both f g) =
-    omega (arith, many_in_two (witnesses symbols k scope terms f) (witnesses symbols (k + somes f) scope terms g), witnesses_many symbols k scope terms f, witnesses_many symbols (k + somes f) scope terms g)
-witnesses_many symbols k scope terms (either f g) =
-    omega (arith, many_in_two (witnesses symbols k scope terms f) (witnesses symbols (k + somes f) scope terms g), witnesses_many symbols k scope terms f, witnesses_many symbols (k + somes f) scope terms g)
-witnesses_many symbols k scope terms (every x f) = witnesses_many symbols k (scope ++ x ∷ []) terms f
-witnesses_many symbols k scope terms (some y f) = omega (arith, witnesses_many symbols (k + 1) scope (with_term terms y (skolem_term (slice_index symbols k) scope)) f)
+witnesses_many symbols k scope terms (negation f) = refl
+witnesses_many symbols k scope terms (implication f g) = refl
+witnesses_many symbols k scope terms (equivalence f g) = refl
+witnesses_many symbols k scope terms (conjunction f g) =
+    omega (arith, many_in_two (skolem_axioms symbols k scope terms f) (skolem_axioms symbols (k + somes f) scope terms g), witnesses_many symbols k scope terms f, witnesses_many symbols (k + somes f) scope terms g)
+witnesses_many symbols k scope terms (disjunction f g) =
+    omega (arith, many_in_two (skolem_axioms symbols k scope terms f) (skolem_axioms symbols (k + somes f) scope terms g), witnesses_many symbols k scope terms f, witnesses_many symbols (k + somes f) scope terms g)
+witnesses_many symbols k scope terms (forall x f) = witnesses_many symbols k (scope ++ x ∷ []) terms f
+witnesses_many symbols k scope terms (exists y f) = omega (arith, witnesses_many symbols (k + 1) scope (with_term terms y (skolem_term (slice_index symbols k) scope)) f)
 
 module _ (N : ℕ) (S : List ℕ) where
   -- a symbol of the problem, or a Skolem symbol before place k
@@ -288,11 +288,11 @@ module _ (N : ℕ) (S : List ℕ) where
   allowed_more k l s le (inr h) = inr (h.0, (omega (arith, h.1.0), h.1.1))
 
   -- each has the symbol of its place, and a body with symbols before it
-  abbrev pub IsOrdered : ℕ → List Witness → Type 0
+  abbrev pub IsOrdered : ℕ → List SkolemAxiom → Type 0
   IsOrdered k [] = Unit {0}
   IsOrdered k (w ∷ ws) = (w.symbol ≡ slice_index S k) × ((s : ℕ) → IsTrue (uses_symbol s w.body) → IsAllowed k s) × IsClosedBody w × IsOrdered (suc k) ws
 
-  pub ordered_two : (k l : ℕ) (xs ys : List Witness) → l ≡ k + length xs → IsOrdered k xs → IsOrdered l ys → IsOrdered k (xs ++ ys)
+  pub ordered_two : (k l : ℕ) (xs ys : List SkolemAxiom) → l ≡ k + length xs → IsOrdered k xs → IsOrdered l ys → IsOrdered k (xs ++ ys)
   ordered_two k l [] ys e h i = subst (λ (n : ℕ). IsOrdered n ys) (omega (arith, e)) i
   ordered_two k l (x ∷ xs) ys e h i = (h.0, h.1, h.2, ordered_two (suc k) l xs ys (omega (arith, e)) h.3 i)
 
@@ -319,12 +319,12 @@ module _ (N : ℕ) (S : List ℕ) where
   -- the two sides of a form
   abbrev Orders : Fol → Type 0
   Orders f = (u : Set) (k : ℕ) (scope : List ℕ) (terms : Substitution) → IsApart u f → In (free_vars_of f) u → Around u scope terms → TermsFine k terms → ((s : ℕ) → IsTrue (uses_symbol s f) → s < N)
-      → IsOrdered k (witnesses S k scope terms f)
+      → IsOrdered k (skolem_axioms S k scope terms f)
 
   ordered_sides : (f g : Fol) → Orders f → Orders g → (u : Set) (k : ℕ) (scope : List ℕ) (terms : Substitution) → IsApart u f → IsApart u g → In (joined (free_vars_of f) (free_vars_of g)) u
-      → Around u scope terms → TermsFine k terms → ((s : ℕ) → IsTrue (uses_symbol s f || uses_symbol s g) → s < N) → IsOrdered k (witnesses S k scope terms f ++ witnesses S (k + somes f) scope terms g)
+      → Around u scope terms → TermsFine k terms → ((s : ℕ) → IsTrue (uses_symbol s f || uses_symbol s g) → s < N) → IsOrdered k (skolem_axioms S k scope terms f ++ skolem_axioms S (k + somes f) scope terms g)
   ordered_sides f g l r u k scope terms af ag free a fine below =
-      ordered_two k (k + somes f) (witnesses S k scope terms f) (witnesses S (k + somes f) scope terms g) (omega (arith, witnesses_many S k scope terms f))
+      ordered_two k (k + somes f) (skolem_axioms S k scope terms f) (skolem_axioms S (k + somes f) scope terms g) (omega (arith, witnesses_many S k scope terms f))
       (l u k scope terms af (joined_left (free_vars_of f) (free_vars_of g) u free) a fine (λ s i. below s (or_left (uses_symbol s f) (uses_symbol s g) i)))
       (r u (k + somes f) scope terms ag (joined_right (free_vars_of f) (free_vars_of g) u free) a (λ y s i. allowed_more k (k + somes f) s (omega arith) (fine y s i))
       (λ s i. below s (or_right (uses_symbol s f) (uses_symbol s g) i)))
@@ -334,20 +334,20 @@ module _ (N : ℕ) (S : List ℕ) where
   ordered falsum u k scope terms apart free a fine below = tt
   ordered (equal s t) u k scope terms apart free a fine below = tt
   ordered (atom r ts) u k scope terms apart free a fine below = tt
-  ordered (denied f) u k scope terms apart free a fine below = tt
-  ordered (implies f g) u k scope terms apart free a fine below = tt
-  ordered (iff f g) u k scope terms apart free a fine below = tt
-  ordered (both f g) u k scope terms apart free a fine below = ordered_sides f g (ordered f) (ordered g) u k scope terms apart.0 apart.1 free a fine below
-  ordered (either f g) u k scope terms apart free a fine below =
+  ordered (negation f) u k scope terms apart free a fine below = tt
+  ordered (implication f g) u k scope terms apart free a fine below = tt
+  ordered (equivalence f g) u k scope terms apart free a fine below = tt
+  ordered (conjunction f g) u k scope terms apart free a fine below = ordered_sides f g (ordered f) (ordered g) u k scope terms apart.0 apart.1 free a fine below
+  ordered (disjunction f g) u k scope terms apart free a fine below =
       ordered_sides f g (ordered f) (ordered g) u k scope terms (apart_less u (also (binders_of g) u) f (sub_also (binders_of g) u) apart.0) (apart_less u (also (binders_of f) u) g (sub_also (binders_of f) u) apart.1) free a fine below
-  ordered (every x f) u k scope terms apart free a fine below =
+  ordered (forall x f) u k scope terms apart free a fine below =
       ordered f (plus x u) k (scope ++ x ∷ []) terms apart.1 (under x (free_vars_of f) u free) (around_every u scope terms x apart.0 a) fine below
-  ordered (some y f) u k scope terms apart free a fine below =
+  ordered (exists y f) u k scope terms apart free a fine below =
       let inner = under y (free_vars_of f) u free in
       let next = with_term terms y (skolem_term (slice_index S k) scope) in (
         refl,
         put_in_uses (IsAllowed k) terms fine f (λ s i. inl (below s i)),
         closed_body u scope terms y (slice_index S k) f apart.0 apart.1 inner a,
-        subst (λ (n : ℕ). IsOrdered n (witnesses S (k + 1) scope next f)) (omega arith)
+        subst (λ (n : ℕ). IsOrdered n (skolem_axioms S (k + 1) scope next f)) (omega arith)
             (ordered f (plus y u) (k + 1) scope next apart.1 inner (around_some u scope terms y (slice_index S k) a) (fine_some k scope terms y fine) below),
       )

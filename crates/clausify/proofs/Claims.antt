@@ -1,19 +1,19 @@
--- Clauses that are all true make their negation form true, and the other way round by witnesses.
+-- Clauses that are all true make their negation normal form true, and the other way round by witnesses.
 use Rattle.std.proofs.Common.{◌≡◌, inl, inr, ℕ, ◌+◌, Bool, true, false, not, ◌==◌, ◌||◌, ◌&&◌, if◌then◌else◌, IsTrue, List, [], ◌∷◌, ◌++◌, map, slice_index, refl, sym, ap, ap₂, ◌∙◌, subst}
 use Rattle.std.proofs.lemmas.Bool.{or_left, or_right, or_from, or_parts, or_cases, and_from, eqb-true, false≢true, true≢false, cases_Bool, true_from_ne_false, false_from_ne_true, and_left, and_right, not_from_false}
 use Rattle.std.proofs.lemmas.List.Folds.{list_all-append}
 use Rattle.fol_core.specs.Tree.{Tree, app, Trees, none, more}
-use Rattle.fol_core.specs.Fol.{Fol, verum, falsum, equal, atom, denied, both, either, implies, iff, every, some}
+use Rattle.fol_core.specs.Fol.{Fol, verum, falsum, equal, atom, negation, conjunction, disjunction, implication, equivalence, forall, exists}
 use Rattle.fol_core.specs.Bound.{binders_of}
 use Rattle.fol_core.specs.Free.{is_in, variables_of_all, free_vars_of}
 use Rattle.fol_core.specs.Literals.{literal, equality, is_true_clause, are_equal}
 use Rattle.fol_core.specs.Meaning.{Meaning, IsLawful}
 use Rattle.fol_core.specs.Truth.{Assignment, with_var, IsWithin, value_of, Holds}
-use Rattle.fol_core.specs.Witnesses.{Witness, PicksWitnesses}
+use Rattle.fol_core.specs.SkolemAxioms.{SkolemAxiom, PicksWitnesses}
 use Rattle.fol_core.proofs.TruthLemmas.{alike_value, alike_values, alike, stable}
 use Rattle.clausify.specs.Clausal.{literal_clauses, clauses_in}
-use Rattle.fol_core.specs.Put.{Substitution, with_term, put_all}
-use Rattle.clausify.specs.Skolem.{skolem_term, somes, witnesses}
+use Rattle.fol_core.specs.Substitutions.{Substitution, with_term, substitute_all}
+use Rattle.clausify.specs.Skolem.{skolem_term, somes, skolem_axioms}
 use Rattle.clausify.proofs.Clauses.{IsAtom, IsApart, Agree, all_true, crossed_true, test, test_holds, holds_test, signed, literal_true}
 use Rattle.clausify.proofs.Scopes.{Known, known_more, known_term, valued, put_values, put_holds, valued_var, skolem_value, skolem_within, within_var}
 use Rattle.clausify.proofs.Sets.{Set, plus, also, Sub, In, Out, sub_plus, sub_also, in_cases, in_left, in_right, joined_left, joined_right, under}
@@ -46,32 +46,32 @@ out_of u verum a y i = absurd (false≢true i)
 out_of u falsum a y i = absurd (false≢true i)
 out_of u (equal s t) a y i = absurd (false≢true i)
 out_of u (atom r ts) a y i = absurd (false≢true i)
-out_of u (denied f) a y i = absurd (none_bound f a y i)
+out_of u (negation f) a y i = absurd (none_bound f a y i)
   where
     none_bound : (f : Fol) → IsAtom f → (y : ℕ) → IsTrue (is_in y (binders_of f)) → ⊥
     none_bound verum a y i = false≢true i
     none_bound falsum a y i = false≢true i
     none_bound (equal s t) a y i = false≢true i
     none_bound (atom r ts) a y i = false≢true i
-    none_bound (denied f) a y i = a
-    none_bound (both f g) a y i = a
-    none_bound (either f g) a y i = a
-    none_bound (implies f g) a y i = a
-    none_bound (iff f g) a y i = a
-    none_bound (every x f) a y i = a
-    none_bound (some x f) a y i = a
-out_of u (both f g) a y i = elim (in_cases y (binders_of f) (binders_of g) i) [ inl j ↦ out_of u f a.0 y j | inr j ↦ out_of u g a.1 y j ]
-out_of u (either f g) a y i = elim (in_cases y (binders_of f) (binders_of g) i) [
+    none_bound (negation f) a y i = a
+    none_bound (conjunction f g) a y i = a
+    none_bound (disjunction f g) a y i = a
+    none_bound (implication f g) a y i = a
+    none_bound (equivalence f g) a y i = a
+    none_bound (forall x f) a y i = a
+    none_bound (exists x f) a y i = a
+out_of u (conjunction f g) a y i = elim (in_cases y (binders_of f) (binders_of g) i) [ inl j ↦ out_of u f a.0 y j | inr j ↦ out_of u g a.1 y j ]
+out_of u (disjunction f g) a y i = elim (in_cases y (binders_of f) (binders_of g) i) [
   | inl j ↦ out_less u (also (binders_of g) u) (binders_of f) (sub_also (binders_of g) u) (out_of (also (binders_of g) u) f a.0) y j
   | inr j ↦ out_less u (also (binders_of f) u) (binders_of g) (sub_also (binders_of f) u) (out_of (also (binders_of f) u) g a.1) y j
 ]
-out_of u (implies f g) a y i = absurd a
-out_of u (iff f g) a y i = absurd a
-out_of u (every x f) a y i = elim (or_cases (y == x) (is_in y (binders_of f)) i) [
+out_of u (implication f g) a y i = absurd a
+out_of u (equivalence f g) a y i = absurd a
+out_of u (forall x f) a y i = elim (or_cases (y == x) (is_in y (binders_of f)) i) [
   | inl e ↦ subst (λ z. u z ≡ false) (sym (eqb-true y x e)) a.0
   | inr j ↦ out_less u (plus x u) (binders_of f) (sub_plus x u) (out_of (plus x u) f a.1) y j
 ]
-out_of u (some x f) a y i = elim (or_cases (y == x) (is_in y (binders_of f)) i) [
+out_of u (exists x f) a y i = elim (or_cases (y == x) (is_in y (binders_of f)) i) [
   | inl e ↦ subst (λ z. u z ≡ false) (sym (eqb-true y x e)) a.0
   | inr j ↦ out_less u (plus x u) (binders_of f) (sub_plus x u) (out_of (plus x u) f a.1) y j
 ]
@@ -92,7 +92,7 @@ module _ (m : Meaning) where
     term_at k scope = skolem_term (slice_index symbols k) scope
 
     same_arguments : (u : Set) (terms : Substitution) (d e : Assignment) (positive : Bool) (r : ℕ) (ts : Trees) → Known u terms → In (variables_of_all ts) u → Agree u d e
-        → all_true m d ((literal positive (app r (put_all terms ts)) ∷ []) ∷ []) ≡ all_true m e ((literal positive (app r (put_all terms ts)) ∷ []) ∷ [])
+        → all_true m d ((literal positive (app r (substitute_all terms ts)) ∷ []) ∷ []) ≡ all_true m e ((literal positive (app r (substitute_all terms ts)) ∷ []) ∷ [])
     same_arguments u terms d e positive r ts known free a = ap (λ xs. (signed m positive (if r == equality then are_equal xs else m.relation r xs) || false) && true)
         (put_values m d terms ts ∙ alike_values m (valued m d terms) (valued m e terms) ts (λ y i. agree_valued u terms d e known a y (free y i)) ∙ sym (put_values m e terms ts))
 
@@ -104,13 +104,13 @@ module _ (m : Meaning) where
     same_literals u terms d e false falsum known free a = refl
     same_literals u terms d e positive (equal s t) known free a = same_arguments u terms d e positive equality (more s (more t none)) known free a
     same_literals u terms d e positive (atom r ts) known free a = same_arguments u terms d e positive r ts known free a
-    same_literals u terms d e positive (denied f) known free a = refl
-    same_literals u terms d e positive (both f g) known free a = refl
-    same_literals u terms d e positive (either f g) known free a = refl
-    same_literals u terms d e positive (implies f g) known free a = refl
-    same_literals u terms d e positive (iff f g) known free a = refl
-    same_literals u terms d e positive (every x f) known free a = refl
-    same_literals u terms d e positive (some x f) known free a = refl
+    same_literals u terms d e positive (negation f) known free a = refl
+    same_literals u terms d e positive (conjunction f g) known free a = refl
+    same_literals u terms d e positive (disjunction f g) known free a = refl
+    same_literals u terms d e positive (implication f g) known free a = refl
+    same_literals u terms d e positive (equivalence f g) known free a = refl
+    same_literals u terms d e positive (forall x f) known free a = refl
+    same_literals u terms d e positive (exists x f) known free a = refl
 
     -- the truth of clauses depends on the variables in scope and those that are bound
     same_clauses : (u : Set) (k : ℕ) (scope : List ℕ) (terms : Substitution) (d e : Assignment) (f : Fol) → In (free_vars_of f) u → Known u terms → In scope u
@@ -119,25 +119,25 @@ module _ (m : Meaning) where
     same_clauses u k scope terms d e falsum free known scoped a b = refl
     same_clauses u k scope terms d e (equal s t) free known scoped a b = same_literals u terms d e true (equal s t) known free a
     same_clauses u k scope terms d e (atom r ts) free known scoped a b = same_literals u terms d e true (atom r ts) known free a
-    same_clauses u k scope terms d e (denied f) free known scoped a b = same_literals u terms d e false f known free a
-    same_clauses u k scope terms d e (implies f g) free known scoped a b = refl
-    same_clauses u k scope terms d e (iff f g) free known scoped a b = refl
-    same_clauses u k scope terms d e (both f g) free known scoped a b =
+    same_clauses u k scope terms d e (negation f) free known scoped a b = same_literals u terms d e false f known free a
+    same_clauses u k scope terms d e (implication f g) free known scoped a b = refl
+    same_clauses u k scope terms d e (equivalence f g) free known scoped a b = refl
+    same_clauses u k scope terms d e (conjunction f g) free known scoped a b =
         let l = same_clauses u k scope terms d e f (joined_left (free_vars_of f) (free_vars_of g) u free) known scoped a (λ y i. b y (in_left y (binders_of f) (binders_of g) i)) in
         let r = same_clauses u (k + somes f) scope terms d e g (joined_right (free_vars_of f) (free_vars_of g) u free) known scoped a (λ y i. b y (in_right y (binders_of f) (binders_of g) i)) in
         list_all-append (is_true_clause m d) (clauses_in symbols k scope terms f) (clauses_in symbols (k + somes f) scope terms g)
         ∙ ap₂ (λ x y. x && y) l r
         ∙ sym (list_all-append (is_true_clause m e) (clauses_in symbols k scope terms f) (clauses_in symbols (k + somes f) scope terms g))
-    same_clauses u k scope terms d e (either f g) free known scoped a b =
+    same_clauses u k scope terms d e (disjunction f g) free known scoped a b =
         let l = same_clauses u k scope terms d e f (joined_left (free_vars_of f) (free_vars_of g) u free) known scoped a (λ y i. b y (in_left y (binders_of f) (binders_of g) i)) in
         let r = same_clauses u (k + somes f) scope terms d e g (joined_right (free_vars_of f) (free_vars_of g) u free) known scoped a (λ y i. b y (in_right y (binders_of f) (binders_of g) i)) in
         crossed_true m d (clauses_in symbols k scope terms f) (clauses_in symbols (k + somes f) scope terms g)
         ∙ ap₂ (λ x y. x || y) l r
         ∙ sym (crossed_true m e (clauses_in symbols k scope terms f) (clauses_in symbols (k + somes f) scope terms g))
-    same_clauses u k scope terms d e (every x f) free known scoped a b =
+    same_clauses u k scope terms d e (forall x f) free known scoped a b =
         same_clauses (plus x u) k (scope ++ x ∷ []) terms d e f (under x (free_vars_of f) u free) (known_more u (plus x u) terms (sub_plus x u) known) (in_pushed u scope x scoped)
         (agree_plus u x (binders_of f) d e a b) (λ y i. b y (or_right (y == x) (is_in y (binders_of f)) i))
-    same_clauses u k scope terms d e (some x f) free known scoped a b =
+    same_clauses u k scope terms d e (exists x f) free known scoped a b =
         same_clauses (plus x u) (k + 1) scope (with_term terms x (term_at k scope)) d e f (under x (free_vars_of f) u free)
         (known_term u terms scope x (slice_index symbols k) known scoped) (in_more u (plus x u) scope (sub_plus x u) scoped)
         (agree_plus u x (binders_of f) d e a b) (λ y i. b y (or_right (y == x) (is_in y (binders_of f)) i))
@@ -161,11 +161,11 @@ module _ (m : Meaning) where
         (literal_true m e terms true (equal s t) apart ∙ false_from_ne_true (test m (valued m e terms) (equal s t)) (λ h. wrong (test_holds m (valued m e terms) (equal s t) apart h)))
     suffice lawful u k scope terms e (atom r ts) apart free known scoped w wrong each = each e w (λ y i. refl)
         (literal_true m e terms true (atom r ts) apart ∙ false_from_ne_true (test m (valued m e terms) (atom r ts)) (λ h. wrong (test_holds m (valued m e terms) (atom r ts) apart h)))
-    suffice lawful u k scope terms e (denied f) apart free known scoped w wrong each = wrong (λ h. each e w (λ y i. refl)
+    suffice lawful u k scope terms e (negation f) apart free known scoped w wrong each = wrong (λ h. each e w (λ y i. refl)
         (literal_true m e terms false f apart ∙ ap not (holds_test m (valued m e terms) f apart h)))
-    suffice lawful u k scope terms e (implies f g) apart free known scoped w wrong each = absurd apart
-    suffice lawful u k scope terms e (iff f g) apart free known scoped w wrong each = absurd apart
-    suffice lawful u k scope terms e (both f g) apart free known scoped w wrong each =
+    suffice lawful u k scope terms e (implication f g) apart free known scoped w wrong each = absurd apart
+    suffice lawful u k scope terms e (equivalence f g) apart free known scoped w wrong each = absurd apart
+    suffice lawful u k scope terms e (conjunction f g) apart free known scoped w wrong each =
         wrong (
           stable m (valued m e terms) f (λ x. suffice lawful u k scope terms e f apart.0 (joined_left (free_vars_of f) (free_vars_of g) u free) known scoped w x
               (λ d v a h. each d v a (list_all-append (is_true_clause m d) (clauses_in symbols k scope terms f) (clauses_in symbols (k + somes f) scope terms g)
@@ -174,7 +174,7 @@ module _ (m : Meaning) where
               (λ d v a h. each d v a (list_all-append (is_true_clause m d) (clauses_in symbols k scope terms f) (clauses_in symbols (k + somes f) scope terms g)
               ∙ and_right (said_true d k scope terms f) (said_true d (k + somes f) scope terms g) h))),
         )
-    suffice lawful u k scope terms e (either f g) apart free known scoped w wrong each =
+    suffice lawful u k scope terms e (disjunction f g) apart free known scoped w wrong each =
         let free_f = joined_left (free_vars_of f) (free_vars_of g) u free in
         let free_g = joined_right (free_vars_of f) (free_vars_of g) u free in
         let uf = also (binders_of g) u in
@@ -191,7 +191,7 @@ module _ (m : Meaning) where
         each c z (agree_through u c d e (agree_less u ug c d sub_g b) near)
         (crossed_true m c (clauses_in symbols k scope terms f) (clauses_in symbols (k + somes f) scope terms g)
         ∙ or_from (said_true c k scope terms f) (said_true c (k + somes f) scope terms g) (same ∙ x) y))))
-    suffice lawful u k scope terms e (every x f) apart free known scoped w wrong each =
+    suffice lawful u k scope terms e (forall x f) apart free known scoped w wrong each =
         wrong (λ n i. stable m (with_var (valued m e terms) x n) f (λ h.
         suffice lawful (plus x u) k (scope ++ x ∷ []) terms (with_var e x n) f apart.1 (under x (free_vars_of f) u free)
         (known_more u (plus x u) terms (sub_plus x u) known) (in_pushed u scope x scoped) (within_var m e x n w i)
@@ -203,7 +203,7 @@ module _ (m : Meaning) where
           | inl h ↦ absurd (true≢false (sym (subst (λ z. IsTrue (u z)) (eqb-true y x h) i) ∙ new))
           | inr h ↦ ap (λ b. if b then n else e y) h
         ]
-    suffice lawful u k scope terms e (some x f) apart free known scoped w wrong each =
+    suffice lawful u k scope terms e (exists x f) apart free known scoped w wrong each =
         wrong (λ each_not.
         let n = m.function (slice_index symbols k) (map e scope) in
         suffice lawful (plus x u) (k + 1) scope (with_term terms x (term_at k scope)) e f apart.1 (under x (free_vars_of f) u free)
@@ -211,11 +211,11 @@ module _ (m : Meaning) where
         (λ h. each_not n (skolem_within m lawful e w (slice_index symbols k) scope) (subst (λ d. Holds m d f) (picked terms e k scope x) h))
         (λ d v a. each d v (λ y j. a y (or_right (y == x) (u y) j))))
 
-    pub picks_left : (ws vs : List Witness) → PicksWitnesses m (ws ++ vs) → PicksWitnesses m ws
+    pub picks_left : (ws vs : List SkolemAxiom) → PicksWitnesses m (ws ++ vs) → PicksWitnesses m ws
     picks_left [] vs h = tt
     picks_left (w ∷ ws) vs h = (h.0, picks_left ws vs h.1)
 
-    pub picks_right : (ws vs : List Witness) → PicksWitnesses m (ws ++ vs) → PicksWitnesses m vs
+    pub picks_right : (ws vs : List SkolemAxiom) → PicksWitnesses m (ws ++ vs) → PicksWitnesses m vs
     picks_right [] vs h = h
     picks_right (w ∷ ws) vs h = picks_right ws vs h.1
 
@@ -232,26 +232,26 @@ module _ (m : Meaning) where
 
     -- If the form is true and its witnesses are picked, all clauses are true.
     pub follow : (u : Set) (k : ℕ) (scope : List ℕ) (terms : Substitution) (e : Assignment) (f : Fol)
-        → IsApart u f → Known u terms → In scope u → IsWithin m e → PicksWitnesses m (witnesses symbols k scope terms f) → Holds m (valued m e terms) f
+        → IsApart u f → Known u terms → In scope u → IsWithin m e → PicksWitnesses m (skolem_axioms symbols k scope terms f) → Holds m (valued m e terms) f
         → said_true e k scope terms f ≡ true
     follow u k scope terms e verum apart known scoped w picks h = refl
     follow u k scope terms e falsum apart known scoped w picks h = absurd h
     follow u k scope terms e (equal s t) apart known scoped w picks h = literal_true m e terms true (equal s t) apart ∙ holds_test m (valued m e terms) (equal s t) apart h
     follow u k scope terms e (atom r ts) apart known scoped w picks h = literal_true m e terms true (atom r ts) apart ∙ holds_test m (valued m e terms) (atom r ts) apart h
-    follow u k scope terms e (denied f) apart known scoped w picks h = literal_true m e terms false f apart
+    follow u k scope terms e (negation f) apart known scoped w picks h = literal_true m e terms false f apart
         ∙ not_from_false (test m (valued m e terms) f) (false_from_ne_true (test m (valued m e terms) f) (λ x. h (test_holds m (valued m e terms) f apart x)))
-    follow u k scope terms e (implies f g) apart known scoped w picks h = absurd apart
-    follow u k scope terms e (iff f g) apart known scoped w picks h = absurd apart
-    follow u k scope terms e (both f g) apart known scoped w picks h =
-        let ws = witnesses symbols k scope terms f in
-        let vs = witnesses symbols (k + somes f) scope terms g in
+    follow u k scope terms e (implication f g) apart known scoped w picks h = absurd apart
+    follow u k scope terms e (equivalence f g) apart known scoped w picks h = absurd apart
+    follow u k scope terms e (conjunction f g) apart known scoped w picks h =
+        let ws = skolem_axioms symbols k scope terms f in
+        let vs = skolem_axioms symbols (k + somes f) scope terms g in
         list_all-append (is_true_clause m e) (clauses_in symbols k scope terms f) (clauses_in symbols (k + somes f) scope terms g)
         ∙ and_from (said_true e k scope terms f) (said_true e (k + somes f) scope terms g)
         (follow u k scope terms e f apart.0 known scoped w (picks_left ws vs picks) h.0)
         (follow u (k + somes f) scope terms e g apart.1 known scoped w (picks_right ws vs picks) h.1)
-    follow u k scope terms e (either f g) apart known scoped w picks h =
-        let ws = witnesses symbols k scope terms f in
-        let vs = witnesses symbols (k + somes f) scope terms g in
+    follow u k scope terms e (disjunction f g) apart known scoped w picks h =
+        let ws = skolem_axioms symbols k scope terms f in
+        let vs = skolem_axioms symbols (k + somes f) scope terms g in
         let uf = also (binders_of g) u in
         let ug = also (binders_of f) u in
         let sub_f = sub_also (binders_of g) u in
@@ -263,10 +263,10 @@ module _ (m : Meaning) where
           λ y. true≢false (sym (follow uf k scope terms e f apart.0 (known_more u uf terms sub_f known) (in_more u uf scope sub_f scoped) w (picks_left ws vs picks) y) ∙ parts.0),
           λ y. true≢false (sym (follow ug (k + somes f) scope terms e g apart.1 (known_more u ug terms sub_g known) (in_more u ug scope sub_g scoped) w (picks_right ws vs picks) y) ∙ parts.1),
         ))
-    follow u k scope terms e (every x f) apart known scoped w picks h =
+    follow u k scope terms e (forall x f) apart known scoped w picks h =
         follow (plus x u) k (scope ++ x ∷ []) terms e f apart.1 (known_more u (plus x u) terms (sub_plus x u) known) (in_pushed u scope x scoped) w picks
         (subst (λ d. Holds m d f) (sym (valued_var m u terms e x (e x) known apart.0) ∙ ap (λ d. valued m d terms) (own e x)) (h (e x) (w x)))
-    follow u k scope terms e (some x f) apart known scoped w picks h =
+    follow u k scope terms e (exists x f) apart known scoped w picks h =
         let new = out_less u (plus x u) (binders_of f) (sub_plus x u) (out_of (plus x u) f apart.1) in
         let body = λ (n : ℕ). put_holds m u terms (with_var e x n) f known new ∙ ap (λ d. Holds m d f) (valued_var m u terms e x n known apart.0) in
         let element = m.function (slice_index symbols k) (map e scope) in

@@ -2,7 +2,7 @@
 use Rattle.std.proofs.Common.{◌≡◌, ◌<◌, ◌≤◌, ℕ, suc, ◌+◌, List, [], ◌∷◌, ◌++◌, length, drop, get_or, sym, ap, ◌∙◌, add-one, drop-cons, append_assoc}
 use Rattle.std.proofs.lemmas.List.{append-nil, drop_all}
 use Rattle.fol_core.specs.Literals.{ClauseTree}
-use Rattle.clausify.specs.Clausal.{with_each, crossed}
+use Rattle.clausify.specs.Clausal.{with_each, distributed}
 
 front : (cs : List ClauseTree) (i : ℕ) (c : ClauseTree) → i < length cs → c ≡ get_or cs i c → drop i cs ≡ c ∷ drop (i + 1) cs
 front cs i c lt is = rw (add-one, drop-cons cs i c) (ap (λ b. b ∷ drop (suc i) cs) (sym is))
@@ -17,8 +17,8 @@ each_end found c ds i end = ap (λ t. found ++ with_each c t) (drop_all i ds end
 
 -- one more of the first list
 pub crossed_next : (found : List ClauseTree) (c : ClauseTree) (cs ds : List ClauseTree) (i : ℕ) → i < length cs → c ≡ get_or cs i c
-    → (found ++ with_each c ds) ++ crossed (drop (i + 1) cs) ds ≡ found ++ crossed (drop i cs) ds
-crossed_next found c cs ds i lt is = append_assoc found (with_each c ds) (crossed (drop (i + 1) cs) ds) ∙ ap (λ t. found ++ crossed t ds) (sym (front cs i c lt is))
+    → (found ++ with_each c ds) ++ distributed (drop (i + 1) cs) ds ≡ found ++ distributed (drop i cs) ds
+crossed_next found c cs ds i lt is = append_assoc found (with_each c ds) (distributed (drop (i + 1) cs) ds) ∙ ap (λ t. found ++ distributed t ds) (sym (front cs i c lt is))
 
-pub crossed_end : (found cs ds : List ClauseTree) (i : ℕ) → length cs ≤ i → found ++ crossed (drop i cs) ds ≡ found
-crossed_end found cs ds i end = ap (λ t. found ++ crossed t ds) (drop_all i cs end) ∙ append-nil found
+pub crossed_end : (found cs ds : List ClauseTree) (i : ℕ) → length cs ≤ i → found ++ distributed (drop i cs) ds ≡ found
+crossed_end found cs ds i end = ap (λ t. found ++ distributed t ds) (drop_all i cs end) ∙ append-nil found

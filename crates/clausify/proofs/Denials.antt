@@ -1,14 +1,14 @@
 -- The denial of a closure: a Skolem constant for each free variable.
 use Rattle.std.proofs.Common.{◌≡◌, ◌<◌, ◌≤◌, ℕ, ◌+◌, false, List, [], ◌∷◌, ◌++◌, length, drop, get_or, map, refl, sym, ap, ◌∙◌, arith, add-one, drop-cons, append_assoc, slice_index, subst}
 use Rattle.std.proofs.lemmas.List.{drop_all}
-use Rattle.fol_core.specs.EntryView.{witness_of, some_over}
-use Rattle.fol_core.specs.Fol.{Fol, some}
+use Rattle.fol_core.specs.EntryView.{skolem_axiom_of, some_over}
+use Rattle.fol_core.specs.Fol.{Fol, exists}
 use Rattle.fol_core.specs.Free.{closed_over}
-use Rattle.fol_core.specs.Put.{Substitution, with_term}
+use Rattle.fol_core.specs.Substitutions.{Substitution, with_term}
 use Rattle.clausify.specs.Clausal.{clauses_in}
-use Rattle.clausify.specs.Forms.{form_of}
+use Rattle.clausify.specs.Forms.{nnf_of}
 use Rattle.clausify.specs.Made.{witnesses_at, Begins, Leads}
-use Rattle.clausify.specs.Skolem.{put_in, witnesses, skolem_term}
+use Rattle.clausify.specs.Skolem.{substitute_in, skolem_axioms, skolem_term}
 use Rattle.clausify.specs.View.{terms_of}
 use Rattle.clausify.specs.declared.clausal.Work.{Work}
 
@@ -16,9 +16,9 @@ front : (xs : List ℕ) (i : ℕ) → i < length xs → drop i xs ≡ get_or xs 
 front xs i lt = rw (add-one, drop-cons xs i 0) refl
 
 -- the denial of a formula under universal quantifiers is its denial under existential ones
-pub denied_closed : (values : Substitution) (xs : List ℕ) (f : Fol) → some_over xs (put_in values (form_of false f)) ≡ put_in values (form_of false (closed_over xs f))
+pub denied_closed : (values : Substitution) (xs : List ℕ) (f : Fol) → some_over xs (substitute_in values (nnf_of false f)) ≡ substitute_in values (nnf_of false (closed_over xs f))
 denied_closed values [] f = refl
-denied_closed values (x ∷ xs) f = ap (some x) (denied_closed values xs f)
+denied_closed values (x ∷ xs) f = ap (exists x) (denied_closed values xs f)
 
 abbrev put_at : List ℕ → Work → ℕ → Substitution
 put_at symbols a x = with_term (terms_of a.terms.items) x (skolem_term (slice_index symbols (length a.entries.items)) a.scope.items)
@@ -32,15 +32,15 @@ moved P symbols a b x body begun =
     ∙ ap (λ ts. P (length b.entries.items) b.scope.items ts) (sym begun.5)
 
 -- to begin with a variable is to stand in front of its body
-leads_some : (symbols : List ℕ) (a b : Work) (x : ℕ) (g : Fol) → Begins symbols a b x (put_in (terms_of a.terms.items) g) → Leads symbols a b (some x g) g
+leads_some : (symbols : List ℕ) (a b : Work) (x : ℕ) (g : Fol) → Begins symbols a b x (substitute_in (terms_of a.terms.items) g) → Leads symbols a b (exists x g) g
 leads_some symbols a b x g begun =
-    let body = put_in (terms_of a.terms.items) g in (
+    let body = substitute_in (terms_of a.terms.items) g in (
       moved (λ k s ts. clauses_in symbols k s ts g) symbols a b x body begun,
       sym (
           ap (λ ws. ws ++ witnesses_at symbols b g) begun.0
-          ∙ append_assoc (map witness_of a.entries.items) (record { symbol = slice_index symbols (length a.entries.items); variables = a.scope.items; variable = x; body = body } ∷ []) (witnesses_at symbols b g)
-          ∙ ap (λ ws. map witness_of a.entries.items ++ record { symbol = slice_index symbols (length a.entries.items); variables = a.scope.items; variable = x; body = body } ∷ ws)
-          (sym (moved (λ k s ts. witnesses symbols k s ts g) symbols a b x body begun))
+          ∙ append_assoc (map skolem_axiom_of a.entries.items) (record { symbol = slice_index symbols (length a.entries.items); variables = a.scope.items; variable = x; body = body } ∷ []) (witnesses_at symbols b g)
+          ∙ ap (λ ws. map skolem_axiom_of a.entries.items ++ record { symbol = slice_index symbols (length a.entries.items); variables = a.scope.items; variable = x; body = body } ∷ ws)
+          (sym (moved (λ k s ts. skolem_axioms symbols k s ts g) symbols a b x body begun))
           ),
       omega (arith, begun.1),
     )
@@ -50,15 +50,15 @@ leads_through symbols a b c f g h p q = (p.0 ∙ q.0, p.1 ∙ q.1, p.2 ∙ q.2)
 
 -- one more variable
 pub leads_next : (symbols : List ℕ) (start a b : Work) (xs : List ℕ) (f g : Fol) (i : ℕ) → i < length xs
-    → Leads symbols start a g (form_of false (closed_over (drop i xs) f))
-    → Begins symbols a b (get_or xs i 0) (put_in (terms_of a.terms.items) (form_of false (closed_over (drop (i + 1) xs) f)))
-    → Leads symbols start b g (form_of false (closed_over (drop (i + 1) xs) f))
+    → Leads symbols start a g (nnf_of false (closed_over (drop i xs) f))
+    → Begins symbols a b (get_or xs i 0) (substitute_in (terms_of a.terms.items) (nnf_of false (closed_over (drop (i + 1) xs) f)))
+    → Leads symbols start b g (nnf_of false (closed_over (drop (i + 1) xs) f))
 leads_next symbols start a b xs f g i lt before begun =
-    let rest = form_of false (closed_over (drop (i + 1) xs) f) in
-    let there : Leads symbols start a g (some (get_or xs i 0) rest) = subst (λ ys. Leads symbols start a g (form_of false (closed_over ys f))) (front xs i lt) before in
-    leads_through symbols start a b g (some (get_or xs i 0) rest) rest there (leads_some symbols a b (get_or xs i 0) rest begun)
+    let rest = nnf_of false (closed_over (drop (i + 1) xs) f) in
+    let there : Leads symbols start a g (exists (get_or xs i 0) rest) = subst (λ ys. Leads symbols start a g (nnf_of false (closed_over ys f))) (front xs i lt) before in
+    leads_through symbols start a b g (exists (get_or xs i 0) rest) rest there (leads_some symbols a b (get_or xs i 0) rest begun)
 
 -- and none
 pub leads_end : (symbols : List ℕ) (start a : Work) (xs : List ℕ) (f g : Fol) (i : ℕ) → length xs ≤ i
-    → Leads symbols start a g (form_of false (closed_over (drop i xs) f)) → Leads symbols start a g (form_of false f)
-leads_end symbols start a xs f g i end before = subst (λ ys. Leads symbols start a g (form_of false (closed_over ys f))) (drop_all i xs end) before
+    → Leads symbols start a g (nnf_of false (closed_over (drop i xs) f)) → Leads symbols start a g (nnf_of false f)
+leads_end symbols start a xs f g i end before = subst (λ ys. Leads symbols start a g (nnf_of false (closed_over ys f))) (drop_all i xs end) before

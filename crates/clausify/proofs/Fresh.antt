@@ -7,18 +7,18 @@ use Rattle.std.proofs.lemmas.Bool.{or_left, or_right, false≢true, true≢false
 use Rattle.std.proofs.lemmas.Nat.{mul-le}
 use Rattle.std.proofs.lemmas.Slice.Eq.{bytes_eq-Decides}
 use Rattle.fol_core.specs.Bound.{uses_symbol}
-use Rattle.fol_core.specs.Fol.{Fol, verum, falsum, equal, atom, denied, both, either, implies, iff, every, some}
+use Rattle.fol_core.specs.Fol.{Fol, verum, falsum, equal, atom, negation, conjunction, disjunction, implication, equivalence, forall, exists}
 use Rattle.fol_core.specs.Free.{closure_of, free_vars_of}
 use Rattle.fol_core.specs.Literals.{equality}
-use Rattle.fol_core.specs.Stated.{Said, AreSound, AreNewTo}
+use Rattle.fol_core.specs.Stated.{Said, AreWellFormed, AreNewTo}
 use Rattle.fol_core.specs.SymbolTable.{Symbol, symbol, number_of, entered, KeepsNumbers}
 use Rattle.fol_core.specs.Tree.{var}
-use Rattle.fol_core.specs.Witnesses.{Witness, AreNotIn, IsApart, AreInOrder}
+use Rattle.fol_core.specs.SkolemAxioms.{SkolemAxiom, AreNotIn, IsApart, AreInOrder}
 use Rattle.fol_core.proofs.Soundness.{uses_closed}
 use Rattle.fol_core.proofs.SymbolLemmas.{symbol_there, number_of_push}
 use Rattle.clausify.specs.Input.{form, is_taken, all_arities, witnesses_from}
 use Rattle.clausify.specs.Names.{numbered, is_named, free_from, next_free, next_name, next_constant, next_function, skolem_symbols, all_entered, entered_numbers, IsNew}
-use Rattle.clausify.specs.Skolem.{somes, arities, witnesses}
+use Rattle.clausify.specs.Skolem.{somes, arities, skolem_axioms}
 use Rattle.clausify.proofs.FreeNames.{number_told, next_is_free, next_upto}
 use Rattle.clausify.proofs.Bodies.{form_uses, witnesses_many, many_in_two, around_none, IsAllowed, IsOrdered, ordered_two, ordered}
 use Rattle.clausify.proofs.SkolemLemmas.{kept_through}
@@ -252,7 +252,7 @@ fresh_apart N (n ∷ ns) h (suc i) zero l m e = absurd (omega arith)
 fresh_apart N (n ∷ ns) h (suc i) (suc j) l m e = fresh_apart N ns h.2 i j (omega arith) (omega arith) e
 
 module _ (N : ℕ) (S : List ℕ) (is_fresh : AreFresh N S) where
-  not_in : (k : ℕ) (f : Fol) (ws : List Witness) (l : ℕ) → ((s : ℕ) → IsTrue (uses_symbol s f) → IsAllowed N S k s) → k ≤ l → l + length ws ≤ length S → IsOrdered N S l ws → AreNotIn ws f
+  not_in : (k : ℕ) (f : Fol) (ws : List SkolemAxiom) (l : ℕ) → ((s : ℕ) → IsTrue (uses_symbol s f) → IsAllowed N S k s) → k ≤ l → l + length ws ≤ length S → IsOrdered N S l ws → AreNotIn ws f
   not_in k f [] l allowed le many h = tt
   not_in k f (w ∷ ws) l allowed le many h = (false_from_ne_true (uses_symbol w.symbol f) (λ i. by (allowed w.symbol i)), not_in k f ws (suc l) allowed (omega arith) (omega arith) h.3)
     where
@@ -260,11 +260,11 @@ module _ (N : ℕ) (S : List ℕ) (is_fresh : AreFresh N S) where
       by (inl i) = absurd (omega (arith, h.0, fresh_at N S is_fresh l (omega arith)))
       by (inr i) = fresh_apart N S is_fresh i.0 l (omega (arith, i.1.0)) (omega arith) (sym i.1.1 ∙ h.0)
 
-  apart_from : (k : ℕ) (ws : List Witness) (l : ℕ) → k < l → l + length ws ≤ length S → IsOrdered N S l ws → IsApart (slice_index S k) ws
+  apart_from : (k : ℕ) (ws : List SkolemAxiom) (l : ℕ) → k < l → l + length ws ≤ length S → IsOrdered N S l ws → IsApart (slice_index S k) ws
   apart_from k [] l lt many h = tt
   apart_from k (w ∷ ws) l lt many h = (ne_eqb w.symbol (slice_index S k) (λ e. fresh_apart N S is_fresh k l lt (omega arith) (sym e ∙ h.0)), apart_from k ws (suc l) (omega arith) (omega arith) h.3)
 
-  pub in_order : (k : ℕ) (ws : List Witness) → k + length ws ≤ length S → IsOrdered N S k ws → AreInOrder ws
+  pub in_order : (k : ℕ) (ws : List SkolemAxiom) → k + length ws ≤ length S → IsOrdered N S k ws → AreInOrder ws
   in_order k [] many h = tt
   in_order k (w ∷ ws) many h = (
     h.2,
@@ -273,39 +273,39 @@ module _ (N : ℕ) (S : List ℕ) (is_fresh : AreFresh N S) where
     in_order (suc k) ws (omega arith) h.3,
   )
 
-  pub new_to : (ss : List Said) (ws : List Witness) → AreSound N ss → length ws ≤ length S → IsOrdered N S 0 ws → AreNewTo ss ws
-  new_to [] ws sound many h = tt
-  new_to (s ∷ ss) ws sound many h = (not_in 0 s.formula ws 0 (λ n i. inl (sound.1 n i)) (omega arith) (omega arith) h, new_to ss ws sound.2 many h)
+  pub new_to : (ss : List Said) (ws : List SkolemAxiom) → AreWellFormed N ss → length ws ≤ length S → IsOrdered N S 0 ws → AreNewTo ss ws
+  new_to [] ws well_formed many h = tt
+  new_to (s ∷ ss) ws well_formed many h = (not_in 0 s.formula ws 0 (λ n i. inl (well_formed.1 n i)) (omega arith) (omega arith) h, new_to ss ws well_formed.2 many h)
 
 -- the witnesses of all formulas
-from_ordered : (N : ℕ) (S : List ℕ) (k : ℕ) (ss : List Said) → N ≤ equality → AreSound N ss → IsOrdered N S k (witnesses_from S k ss)
-from_ordered N S k [] le sound = tt
-from_ordered N S k (s ∷ ss) le sound =
+from_ordered : (N : ℕ) (S : List ℕ) (k : ℕ) (ss : List Said) → N ≤ equality → AreWellFormed N ss → IsOrdered N S k (witnesses_from S k ss)
+from_ordered N S k [] le well_formed = tt
+from_ordered N S k (s ∷ ss) le well_formed =
     let f = form s in
-    ordered_two N S k (k + somes f) (witnesses S k [] var f) (witnesses_from S (k + somes f) ss) (omega (arith, witnesses_many S k [] var f))
-    (ordered N S f (λ y. false) k [] var (apart_of (is_taken s.role) s.formula sound.0 (λ n i. let lt = sound.1 n i in omega arith)) (free_of (is_taken s.role) s.formula) around_none
-    (λ y n i. absurd (false≢true i)) (λ n i. sound.1 n (sym (uses_closed n (free_vars_of s.formula) s.formula) ∙ form_uses (is_taken s.role) (closure_of s.formula) n i)))
-    (from_ordered N S (k + somes f) ss le sound.2)
+    ordered_two N S k (k + somes f) (skolem_axioms S k [] var f) (witnesses_from S (k + somes f) ss) (omega (arith, witnesses_many S k [] var f))
+    (ordered N S f (λ y. false) k [] var (apart_of (is_taken s.role) s.formula well_formed.0 (λ n i. let lt = well_formed.1 n i in omega arith)) (free_of (is_taken s.role) s.formula) around_none
+    (λ y n i. absurd (false≢true i)) (λ n i. well_formed.1 n (sym (uses_closed n (free_vars_of s.formula) s.formula) ∙ form_uses (is_taken s.role) (closure_of s.formula) n i)))
+    (from_ordered N S (k + somes f) ss le well_formed.2)
 
 arities_many : (n : ℕ) (f : Fol) → length (arities n f) ≡ somes f
 arities_many n verum = refl
 arities_many n falsum = refl
 arities_many n (equal s t) = refl
 arities_many n (atom r ts) = refl
-arities_many n (denied f) = refl
-arities_many n (implies f g) = refl
-arities_many n (iff f g) = refl
-arities_many n (both f g) = omega (arith, many_in_two (arities n f) (arities n g), arities_many n f, arities_many n g)
-arities_many n (either f g) = omega (arith, many_in_two (arities n f) (arities n g), arities_many n f, arities_many n g)
-arities_many n (every x f) = arities_many (n + 1) f
-arities_many n (some x f) = omega (arith, arities_many n f)
+arities_many n (negation f) = refl
+arities_many n (implication f g) = refl
+arities_many n (equivalence f g) = refl
+arities_many n (conjunction f g) = omega (arith, many_in_two (arities n f) (arities n g), arities_many n f, arities_many n g)
+arities_many n (disjunction f g) = omega (arith, many_in_two (arities n f) (arities n g), arities_many n f, arities_many n g)
+arities_many n (forall x f) = arities_many (n + 1) f
+arities_many n (exists x f) = omega (arith, arities_many n f)
 
 from_many : (S : List ℕ) (k : ℕ) (ss : List Said) → length (witnesses_from S k ss) ≡ length (all_arities ss)
 from_many S k [] = refl
 from_many S k (s ∷ ss) =
     omega (
       arith,
-      many_in_two (witnesses S k [] var (form s)) (witnesses_from S (k + somes (form s)) ss),
+      many_in_two (skolem_axioms S k [] var (form s)) (witnesses_from S (k + somes (form s)) ss),
       many_in_two (arities 0 (form s)) (all_arities ss),
       witnesses_many S k [] var (form s),
       arities_many 0 (form s),
@@ -321,16 +321,16 @@ numbers_many table [] = refl
 numbers_many table (s ∷ ss) = omega (arith, numbers_many (entered table s) ss)
 
 -- what is to be shown of all: they stand in an order to be filled in, and none is a symbol of the formulas
-pub all_in_order : (input table : List Symbol) (ss : List Said) → length input ≤ equality → AreSound (length input) ss → KeepsNumbers input table
+pub all_in_order : (input table : List Symbol) (ss : List Said) → length input ≤ equality → AreWellFormed (length input) ss → KeepsNumbers input table
     → length (witnesses_from (entered_numbers table (skolem_symbols input 0 0 (all_arities ss))) 0 ss) ≤ equality
     → AreInOrder (witnesses_from (entered_numbers table (skolem_symbols input 0 0 (all_arities ss))) 0 ss) × AreNewTo ss (witnesses_from (entered_numbers table (skolem_symbols input 0 0 (all_arities ss))) 0 ss)
-all_in_order input table ss le sound keeps few =
+all_in_order input table ss le well_formed keeps few =
     let later = all_arities ss in
     let S = entered_numbers table (skolem_symbols input 0 0 later) in
     let ws = witnesses_from S 0 ss in
     let as_many = from_many S 0 ss in
     let below = mul-le (length later) (length input + 1) equality (equality + 1) (omega (arith, few, as_many)) (omega (arith, le)) in
     let is_fresh = numbers_fresh input table later keeps (are_names input 0 0 later (omega (arith, below)) (omega (arith, below))) in
-    let h = from_ordered (length input) S 0 ss le sound in
+    let h = from_ordered (length input) S 0 ss le well_formed in
     let many : length ws ≤ length S = omega (arith, as_many, numbers_many table (skolem_symbols input 0 0 later), symbols_many input 0 0 later) in
-    (in_order (length input) S is_fresh 0 ws (omega (arith, many)) h, new_to (length input) S is_fresh ss ws sound many h)
+    (in_order (length input) S is_fresh 0 ws (omega (arith, many)) h, new_to (length input) S is_fresh ss ws well_formed many h)

@@ -10,7 +10,7 @@ use Rattle.fol_core.specs.Meaning.{Meaning}
 use Rattle.fol_core.specs.Truth.{Assignment}
 use Rattle.fol_core.proofs.TruthLemmas.{alike_values}
 use Rattle.fol_core.specs.Renumbered.{clause_variables, place_in, renumbered}
-use Rattle.fol_core.specs.Put.{put}
+use Rattle.fol_core.specs.Substitutions.{substitute}
 use Rattle.clausify.proofs.Scopes.{put_values}
 use Rattle.clausify.proofs.Sets.{joined_left, joined_right}
 use Rattle.clausify.proofs.FormSets.{members}
@@ -48,13 +48,13 @@ module _ (m : Meaning) where
       (same_clause d e c (λ x i. h x (joined_right (variables_of l.atom) (clause_variables c) (members (clause_variables (l ∷ c))) (λ y j. j) x i)))
 
   renamed_literal : (e : Assignment) (p : ℕ → ℕ) (positive : Bool) (t : Tree)
-      → is_true_literal m e (literal positive (put (λ x. var (p x)) t)) ≡ is_true_literal m (λ x. e (p x)) (literal positive t)
+      → is_true_literal m e (literal positive (substitute (λ x. var (p x)) t)) ≡ is_true_literal m (λ x. e (p x)) (literal positive t)
   renamed_literal e p positive (var x) = refl
   renamed_literal e p positive (elem k) = refl
   renamed_literal e p positive (app r ts) = ap (by_values positive r) (put_values m e (λ x. var (p x)) ts)
 
   renamed_clause : (e : Assignment) (p : ℕ → ℕ) (c : ClauseTree)
-      → is_true_clause m e (map (λ l. literal l.positive (put (λ x. var (p x)) l.atom)) c) ≡ is_true_clause m (λ x. e (p x)) c
+      → is_true_clause m e (map (λ l. literal l.positive (substitute (λ x. var (p x)) l.atom)) c) ≡ is_true_clause m (λ x. e (p x)) c
   renamed_clause e p [] = refl
   renamed_clause e p (l ∷ c) = ap₂ (λ a b. a || b) (renamed_literal e p l.positive l.atom) (renamed_clause e p c)
 

@@ -2,15 +2,15 @@
 use Rattle.std.proofs.Common.{◌≡◌, ◌⊎◌, inl, inr, ℕ, Bool, true, false, ◌==◌, ◌||◌, if◌then◌else◌, IsTrue, List, [], ◌∷◌, map, refl, sym, ap, ap₂, ◌∙◌, subst}
 use Rattle.std.proofs.lemmas.Bool.{or_left, or_right, or_parts, or_cases, eqb-true, eq-eqb, false≢true, true≢false, cases_Bool}
 use Rattle.fol_core.specs.Tree.{Tree, var, elem, app, Trees, none, more, trees_of}
-use Rattle.fol_core.specs.Fol.{Fol, verum, falsum, equal, atom, denied, both, either, implies, iff, every, some}
+use Rattle.fol_core.specs.Fol.{Fol, verum, falsum, equal, atom, negation, conjunction, disjunction, implication, equivalence, forall, exists}
 use Rattle.fol_core.specs.Bound.{binders_of}
 use Rattle.fol_core.specs.Free.{is_in, variables_of, variables_of_all}
 use Rattle.fol_core.specs.Meaning.{Meaning, AllWithin, IsLawful}
 use Rattle.fol_core.specs.Truth.{Assignment, with_var, IsWithin, value_of, values_of, Holds}
 use Rattle.fol_core.proofs.TruthLemmas.{alike_value}
 use Rattle.fol_core.proofs.Variables.{is_in_joined}
-use Rattle.fol_core.specs.Put.{Substitution, with_term, put, put_all}
-use Rattle.clausify.specs.Skolem.{put_in, skolem_term}
+use Rattle.fol_core.specs.Substitutions.{Substitution, with_term, substitute, substitute_all}
+use Rattle.clausify.specs.Skolem.{substitute_in, skolem_term}
 use Rattle.clausify.proofs.Sets.{Set, plus, Sub, In, Out, in_left, in_right}
 
 -- Inside the set terms have variables of the set, and outside each variable stands for itself.
@@ -65,12 +65,12 @@ module _ (m : Meaning) where
   valued e terms = λ x. value_of m e (terms x)
 
   mutual
-    pub put_value : (e : Assignment) (terms : Substitution) (t : Tree) → value_of m e (put terms t) ≡ value_of m (valued e terms) t
+    pub put_value : (e : Assignment) (terms : Substitution) (t : Tree) → value_of m e (substitute terms t) ≡ value_of m (valued e terms) t
     put_value e terms (var x) = refl
     put_value e terms (elem k) = refl
     put_value e terms (app f ts) = ap (m.function f) (put_values e terms ts)
 
-    pub put_values : (e : Assignment) (terms : Substitution) (ts : Trees) → values_of m e (put_all terms ts) ≡ values_of m (valued e terms) ts
+    pub put_values : (e : Assignment) (terms : Substitution) (ts : Trees) → values_of m e (substitute_all terms ts) ≡ values_of m (valued e terms) ts
     put_values e terms none = refl
     put_values e terms (more t ts) = ap₂ (λ v vs. v ∷ vs) (put_value e terms t) (put_values e terms ts)
 
@@ -116,33 +116,33 @@ module _ (m : Meaning) where
       ]
 
   -- the terms put in, a formula is true where it is so of their elements
-  pub put_holds : (u : Set) (terms : Substitution) (e : Assignment) (f : Fol) → Known u terms → Out (binders_of f) u → Holds m e (put_in terms f) ≡ Holds m (valued e terms) f
+  pub put_holds : (u : Set) (terms : Substitution) (e : Assignment) (f : Fol) → Known u terms → Out (binders_of f) u → Holds m e (substitute_in terms f) ≡ Holds m (valued e terms) f
   put_holds u terms e verum known new = refl
   put_holds u terms e falsum known new = refl
   put_holds u terms e (equal s t) known new = λ i. put_value e terms s i ≡ put_value e terms t i
   put_holds u terms e (atom r ts) known new = λ i. IsTrue (m.relation r (put_values e terms ts i))
-  put_holds u terms e (denied f) known new = λ i. ¬ put_holds u terms e f known new i
-  put_holds u terms e (both f g) known new =
+  put_holds u terms e (negation f) known new = λ i. ¬ put_holds u terms e f known new i
+  put_holds u terms e (conjunction f g) known new =
       let l = put_holds u terms e f known (λ y j. new y (in_left y (binders_of f) (binders_of g) j)) in
       let r = put_holds u terms e g known (λ y j. new y (in_right y (binders_of f) (binders_of g) j)) in
       λ i. l i × r i
-  put_holds u terms e (either f g) known new =
+  put_holds u terms e (disjunction f g) known new =
       let l = put_holds u terms e f known (λ y j. new y (in_left y (binders_of f) (binders_of g) j)) in
       let r = put_holds u terms e g known (λ y j. new y (in_right y (binders_of f) (binders_of g) j)) in
       λ i. ¬ (¬ l i × ¬ r i)
-  put_holds u terms e (implies f g) known new =
+  put_holds u terms e (implication f g) known new =
       let l = put_holds u terms e f known (λ y j. new y (in_left y (binders_of f) (binders_of g) j)) in
       let r = put_holds u terms e g known (λ y j. new y (in_right y (binders_of f) (binders_of g) j)) in
       λ i. l i → r i
-  put_holds u terms e (iff f g) known new =
+  put_holds u terms e (equivalence f g) known new =
       let l = put_holds u terms e f known (λ y j. new y (in_left y (binders_of f) (binders_of g) j)) in
       let r = put_holds u terms e g known (λ y j. new y (in_right y (binders_of f) (binders_of g) j)) in
       λ i. (l i → r i) × (r i → l i)
-  put_holds u terms e (every x f) known new =
+  put_holds u terms e (forall x f) known new =
       let h = λ (n : ℕ). put_holds u terms (with_var e x n) f known (λ y j. new y (or_right (y == x) (is_in y (binders_of f)) j))
       ∙ ap (λ d. Holds m d f) (valued_var u terms e x n known (new x (or_left (x == x) (is_in x (binders_of f)) (eq-eqb x x refl)))) in
       λ i. (n : ℕ) → IsTrue (m.within n) → h n i
-  put_holds u terms e (some x f) known new =
+  put_holds u terms e (exists x f) known new =
       let h = λ (n : ℕ). put_holds u terms (with_var e x n) f known (λ y j. new y (or_right (y == x) (is_in y (binders_of f)) j))
       ∙ ap (λ d. Holds m d f) (valued_var u terms e x n known (new x (or_left (x == x) (is_in x (binders_of f)) (eq-eqb x x refl)))) in
       λ i. ¬ ((n : ℕ) → IsTrue (m.within n) → ¬ h n i)

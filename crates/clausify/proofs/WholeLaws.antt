@@ -7,9 +7,9 @@ use Rattle.fol_core.specs.Bound.{BindsOnce, HasSymbolsBelow}
 use Rattle.fol_core.specs.Free.{is_in, free_vars_of, closed_over, closure_of}
 use Rattle.fol_core.specs.Literals.{ClauseTree, equality, is_true_clause}
 use Rattle.fol_core.specs.Meaning.{Meaning, IsLawful}
-use Rattle.fol_core.specs.Stated.{Said, AreSound, IsAsRoled, IsCountermodel}
+use Rattle.fol_core.specs.Stated.{Said, AreWellFormed, IsAsRoled, IsCountermodel}
 use Rattle.fol_core.specs.Truth.{Assignment, IsWithin, Holds}
-use Rattle.fol_core.specs.Witnesses.{PicksWitnesses}
+use Rattle.fol_core.specs.SkolemAxioms.{PicksWitnesses}
 use Rattle.fol_core.proofs.Soundness.{uses_closed}
 use Rattle.fol_core.specs.declared.problem.Role.{Role}
 use Rattle.fol_core.specs.declared.problem.Role.TheVariants.{Assumption, Usable, Demodulator, Goal}
@@ -17,10 +17,10 @@ use Rattle.fol_core.proofs.TruthLemmas.{stable, free_decide}
 use Rattle.fol_core.proofs.Variables.{is_in_without}
 use Rattle.fol_core.specs.Renumbered.{renumbered}
 use Rattle.clausify.specs.Clausal.{clauses_in}
-use Rattle.clausify.specs.Forms.{form_of}
+use Rattle.clausify.specs.Forms.{nnf_of}
 use Rattle.clausify.specs.Input.{Row, form, is_taken, rows_from, witnesses_from}
 use Rattle.clausify.specs.Laws.{AreTrueRows}
-use Rattle.clausify.specs.Skolem.{somes, witnesses}
+use Rattle.clausify.specs.Skolem.{somes, skolem_axioms}
 use Rattle.clausify.proofs.Claims.{suffice, follow, picks_left, picks_right}
 use Rattle.clausify.proofs.Clauses.{IsApart, all_true}
 use Rattle.clausify.proofs.FormSets.{apart_form, free_form}
@@ -53,10 +53,10 @@ closure_free f y i = by (is_in y (free_vars_of f)) (sym (closed_free (free_vars_
 abbrev empty : Set
 empty y = false
 
-pub apart_of : (sign : Bool) (f : Fol) → BindsOnce f → HasSymbolsBelow equality f → IsApart empty (form_of sign (closure_of f))
+pub apart_of : (sign : Bool) (f : Fol) → BindsOnce f → HasSymbolsBelow equality f → IsApart empty (nnf_of sign (closure_of f))
 apart_of sign f once symbols = apart_form sign (closure_of f) empty once (λ y i. refl) (λ n i. symbols n (sym (uses_closed n (free_vars_of f) f) ∙ i))
 
-pub free_of : (sign : Bool) (f : Fol) (y : ℕ) → IsTrue (is_in y (free_vars_of (form_of sign (closure_of f)))) → IsTrue (empty y)
+pub free_of : (sign : Bool) (f : Fol) (y : ℕ) → IsTrue (is_in y (free_vars_of (nnf_of sign (closure_of f)))) → IsTrue (empty y)
 free_of sign f y i = absurd (closure_free f y (free_form sign (closure_of f) y i))
 
 module _ (m : Meaning) where
@@ -88,44 +88,44 @@ module _ (m : Meaning) where
     abbrev zeros : Assignment
     zeros x = 0
 
-    form_true : (sign : Bool) (k : ℕ) (f : Fol) → BindsOnce f → HasSymbolsBelow equality f → AllTrue (clauses_in symbols k [] var (form_of sign (closure_of f)))
-        → ¬ ¬ Holds m some_element (form_of sign (closure_of f))
-    form_true sign k f once below all wrong = suffice m symbols lawful empty k [] var some_element (form_of sign (closure_of f)) (apart_of sign f once below) (free_of sign f) known_none (λ y i. absurd (false≢true i))
+    form_true : (sign : Bool) (k : ℕ) (f : Fol) → BindsOnce f → HasSymbolsBelow equality f → AllTrue (clauses_in symbols k [] var (nnf_of sign (closure_of f)))
+        → ¬ ¬ Holds m some_element (nnf_of sign (closure_of f))
+    form_true sign k f once below all wrong = suffice m symbols lawful empty k [] var some_element (nnf_of sign (closure_of f)) (apart_of sign f once below) (free_of sign f) known_none (λ y i. absurd (false≢true i))
         (λ x. lawful.element.1) wrong (λ d w a h. true≢false (sym (all d w) ∙ h))
 
-    taken_suffices : (k : ℕ) (f : Fol) → BindsOnce f → HasSymbolsBelow equality f → AllTrue (clauses_in symbols k [] var (form_of true (closure_of f))) → Holds m zeros (closure_of f)
+    taken_suffices : (k : ℕ) (f : Fol) → BindsOnce f → HasSymbolsBelow equality f → AllTrue (clauses_in symbols k [] var (nnf_of true (closure_of f))) → Holds m zeros (closure_of f)
     taken_suffices k f once below all = stable m zeros (closure_of f) (λ no_closure.
         form_true true k f once below all (λ h. no_closure (closure_same some_element zeros f (true_from m some_element (closure_of f) h))))
 
-    role_suffices : (k : ℕ) (role : Role) (f : Fol) → BindsOnce f → HasSymbolsBelow equality f → AllTrue (clauses_in symbols k [] var (form_of (is_taken role) (closure_of f))) → IsAsRoled m role f
+    role_suffices : (k : ℕ) (role : Role) (f : Fol) → BindsOnce f → HasSymbolsBelow equality f → AllTrue (clauses_in symbols k [] var (nnf_of (is_taken role) (closure_of f))) → IsAsRoled m role f
     role_suffices k Assumption f once below all = taken_suffices k f once below all
     role_suffices k Usable f once below all = taken_suffices k f once below all
     role_suffices k Demodulator f once below all = taken_suffices k f once below all
     role_suffices k Goal f once below all = λ h. form_true false k f once below all (λ x. false_from m some_element (closure_of f) x (closure_same zeros some_element f h))
 
-    pub all_suffice : (n k : ℕ) (ss : List Said) → AreSound equality ss → AreTrueRows m (rows_from symbols n k ss) → IsCountermodel m ss
-    all_suffice n k [] sound h = tt
-    all_suffice n k (s ∷ ss) sound h =
+    pub all_suffice : (n k : ℕ) (ss : List Said) → AreWellFormed equality ss → AreTrueRows m (rows_from symbols n k ss) → IsCountermodel m ss
+    all_suffice n k [] well_formed h = tt
+    all_suffice n k (s ∷ ss) well_formed h =
         let parts = rows_true n (clauses_in symbols k [] var (form s)) (rows_from symbols (n + 1) (k + somes (form s)) ss) h in
-        (role_suffices k s.role s.formula sound.0 sound.1 parts.0, all_suffice (n + 1) (k + somes (form s)) ss sound.2 parts.1)
+        (role_suffices k s.role s.formula well_formed.0 well_formed.1 parts.0, all_suffice (n + 1) (k + somes (form s)) ss well_formed.2 parts.1)
 
-    form_follows : (sign : Bool) (k : ℕ) (f : Fol) → BindsOnce f → HasSymbolsBelow equality f → PicksWitnesses m (witnesses symbols k [] var (form_of sign (closure_of f)))
-        → ((e : Assignment) → Holds m e (form_of sign (closure_of f))) → AllTrue (clauses_in symbols k [] var (form_of sign (closure_of f)))
-    form_follows sign k f once below picks h e w = follow m symbols empty k [] var e (form_of sign (closure_of f)) (apart_of sign f once below) known_none (λ y i. absurd (false≢true i)) w picks (h e)
+    form_follows : (sign : Bool) (k : ℕ) (f : Fol) → BindsOnce f → HasSymbolsBelow equality f → PicksWitnesses m (skolem_axioms symbols k [] var (nnf_of sign (closure_of f)))
+        → ((e : Assignment) → Holds m e (nnf_of sign (closure_of f))) → AllTrue (clauses_in symbols k [] var (nnf_of sign (closure_of f)))
+    form_follows sign k f once below picks h e w = follow m symbols empty k [] var e (nnf_of sign (closure_of f)) (apart_of sign f once below) known_none (λ y i. absurd (false≢true i)) w picks (h e)
 
-    taken_follows : (k : ℕ) (f : Fol) → BindsOnce f → HasSymbolsBelow equality f → PicksWitnesses m (witnesses symbols k [] var (form_of true (closure_of f))) → Holds m zeros (closure_of f)
-        → AllTrue (clauses_in symbols k [] var (form_of true (closure_of f)))
+    taken_follows : (k : ℕ) (f : Fol) → BindsOnce f → HasSymbolsBelow equality f → PicksWitnesses m (skolem_axioms symbols k [] var (nnf_of true (closure_of f))) → Holds m zeros (closure_of f)
+        → AllTrue (clauses_in symbols k [] var (nnf_of true (closure_of f)))
     taken_follows k f once below picks h = form_follows true k f once below picks (λ e. true_to m e (closure_of f) (closure_same zeros e f h))
 
-    role_follows : (k : ℕ) (role : Role) (f : Fol) → BindsOnce f → HasSymbolsBelow equality f → PicksWitnesses m (witnesses symbols k [] var (form_of (is_taken role) (closure_of f))) → IsAsRoled m role f
-        → AllTrue (clauses_in symbols k [] var (form_of (is_taken role) (closure_of f)))
+    role_follows : (k : ℕ) (role : Role) (f : Fol) → BindsOnce f → HasSymbolsBelow equality f → PicksWitnesses m (skolem_axioms symbols k [] var (nnf_of (is_taken role) (closure_of f))) → IsAsRoled m role f
+        → AllTrue (clauses_in symbols k [] var (nnf_of (is_taken role) (closure_of f)))
     role_follows k Assumption f once below picks h = taken_follows k f once below picks h
     role_follows k Usable f once below picks h = taken_follows k f once below picks h
     role_follows k Demodulator f once below picks h = taken_follows k f once below picks h
     role_follows k Goal f once below picks h = form_follows false k f once below picks (λ e. false_to m e (closure_of f) (λ x. h (closure_same e zeros f x)))
 
-    pub all_follow : (n k : ℕ) (ss : List Said) → AreSound equality ss → PicksWitnesses m (witnesses_from symbols k ss) → IsCountermodel m ss → AreTrueRows m (rows_from symbols n k ss)
-    all_follow n k [] sound picks h = tt
-    all_follow n k (s ∷ ss) sound picks h = true_rows n (clauses_in symbols k [] var (form s)) (rows_from symbols (n + 1) (k + somes (form s)) ss)
-        (role_follows k s.role s.formula sound.0 sound.1 (picks_left m symbols (witnesses symbols k [] var (form s)) (witnesses_from symbols (k + somes (form s)) ss) picks) h.0)
-        (all_follow (n + 1) (k + somes (form s)) ss sound.2 (picks_right m symbols (witnesses symbols k [] var (form s)) (witnesses_from symbols (k + somes (form s)) ss) picks) h.1)
+    pub all_follow : (n k : ℕ) (ss : List Said) → AreWellFormed equality ss → PicksWitnesses m (witnesses_from symbols k ss) → IsCountermodel m ss → AreTrueRows m (rows_from symbols n k ss)
+    all_follow n k [] well_formed picks h = tt
+    all_follow n k (s ∷ ss) well_formed picks h = true_rows n (clauses_in symbols k [] var (form s)) (rows_from symbols (n + 1) (k + somes (form s)) ss)
+        (role_follows k s.role s.formula well_formed.0 well_formed.1 (picks_left m symbols (skolem_axioms symbols k [] var (form s)) (witnesses_from symbols (k + somes (form s)) ss) picks) h.0)
+        (all_follow (n + 1) (k + somes (form s)) ss well_formed.2 (picks_right m symbols (skolem_axioms symbols k [] var (form s)) (witnesses_from symbols (k + somes (form s)) ss) picks) h.1)

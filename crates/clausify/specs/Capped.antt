@@ -1,6 +1,6 @@
 -- Counts of clauses that are kept up to 20,001.
 use Rattle.std.specs.Prelude.{ℕ, ◌≡◌, ◌≤◌, min}
-use Rattle.fol_core.specs.Fol.{Fol, both, either}
+use Rattle.fol_core.specs.Fol.{Fol, conjunction, disjunction}
 use Rattle.clausify.specs.Forms.{clause_count}
 use Rattle.clausify.specs.declared.counts.Counts.{Counts}
 
@@ -8,7 +8,7 @@ use Rattle.clausify.specs.declared.counts.Counts.{Counts}
 abbrev pub capped : ℕ → ℕ
 capped n = min n 20001
 
--- the count of a negation form
+-- the count of a negation normal form
 abbrev pub IsCountOf : ℕ → Fol → Type 0
 IsCountOf a f = a ≡ capped (clause_count f)
 
@@ -18,12 +18,12 @@ AreCapped f g = (f.plain ≤ 20001) × (f.denied ≤ 20001) × (g.plain ≤ 2000
 
 -- whatever forms a and b are the counts of, c is that of "and"
 abbrev pub IsSum : ℕ → ℕ → ℕ → Type 0
-IsSum a b c = (x y : Fol) → IsCountOf a x → IsCountOf b y → IsCountOf c (both x y)
+IsSum a b c = (x y : Fol) → IsCountOf a x → IsCountOf b y → IsCountOf c (conjunction x y)
 
 -- and of "or"
 abbrev pub IsProduct : ℕ → ℕ → ℕ → Type 0
-IsProduct a b c = (x y : Fol) → IsCountOf a x → IsCountOf b y → IsCountOf c (either x y)
+IsProduct a b c = (x y : Fol) → IsCountOf a x → IsCountOf b y → IsCountOf c (disjunction x y)
 
 -- and of "or", "and", "or"
 abbrev pub IsSumOfProducts : ℕ → ℕ → ℕ → ℕ → ℕ → Type 0
-IsSumOfProducts a b c d e = (w x y z : Fol) → IsCountOf a w → IsCountOf b x → IsCountOf c y → IsCountOf d z → IsCountOf e (both (either w x) (either y z))
+IsSumOfProducts a b c d e = (w x y z : Fol) → IsCountOf a w → IsCountOf b x → IsCountOf c y → IsCountOf d z → IsCountOf e (conjunction (disjunction w x) (disjunction y z))

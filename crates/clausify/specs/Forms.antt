@@ -1,36 +1,36 @@
--- Negation form: a formula is brought to atoms, their denials, "and", "or" and quantifiers.
+-- Negation normal form: a formula is brought to atoms, their denials, "and", "or" and quantifiers.
 use Rattle.std.specs.Prelude.{ℕ, ◌+◌, ◌*◌, Bool, true, false}
-use Rattle.fol_core.specs.Fol.{Fol, verum, falsum, equal, atom, denied, both, either, implies, iff, every, some}
+use Rattle.fol_core.specs.Fol.{Fol, verum, falsum, equal, atom, negation, conjunction, disjunction, implication, equivalence, forall, exists}
 
--- the negation form of a formula where the sign is true, and of its denial where it is false
-abbrev pub form_of : Bool → Fol → Fol
-form_of true verum = verum
-form_of true falsum = falsum
-form_of true (equal s t) = equal s t
-form_of true (atom r ts) = atom r ts
-form_of true (denied f) = form_of false f
-form_of true (both f g) = both (form_of true f) (form_of true g)
-form_of true (either f g) = either (form_of true f) (form_of true g)
-form_of true (implies f g) = either (form_of false f) (form_of true g)
-form_of true (iff f g) = both (either (form_of false f) (form_of true g)) (either (form_of false g) (form_of true f))
-form_of true (every x f) = every x (form_of true f)
-form_of true (some x f) = some x (form_of true f)
-form_of false verum = denied verum
-form_of false falsum = denied falsum
-form_of false (equal s t) = denied (equal s t)
-form_of false (atom r ts) = denied (atom r ts)
-form_of false (denied f) = form_of true f
-form_of false (both f g) = either (form_of false f) (form_of false g)
-form_of false (either f g) = both (form_of false f) (form_of false g)
-form_of false (implies f g) = both (form_of true f) (form_of false g)
-form_of false (iff f g) = both (either (form_of true f) (form_of true g)) (either (form_of false f) (form_of false g))
-form_of false (every x f) = some x (form_of false f)
-form_of false (some x f) = every x (form_of false f)
+-- the negation normal form of a formula where the sign is true, and of its denial where it is false
+abbrev pub nnf_of : Bool → Fol → Fol
+nnf_of true verum = verum
+nnf_of true falsum = falsum
+nnf_of true (equal s t) = equal s t
+nnf_of true (atom r ts) = atom r ts
+nnf_of true (negation f) = nnf_of false f
+nnf_of true (conjunction f g) = conjunction (nnf_of true f) (nnf_of true g)
+nnf_of true (disjunction f g) = disjunction (nnf_of true f) (nnf_of true g)
+nnf_of true (implication f g) = disjunction (nnf_of false f) (nnf_of true g)
+nnf_of true (equivalence f g) = conjunction (disjunction (nnf_of false f) (nnf_of true g)) (disjunction (nnf_of false g) (nnf_of true f))
+nnf_of true (forall x f) = forall x (nnf_of true f)
+nnf_of true (exists x f) = exists x (nnf_of true f)
+nnf_of false verum = negation verum
+nnf_of false falsum = negation falsum
+nnf_of false (equal s t) = negation (equal s t)
+nnf_of false (atom r ts) = negation (atom r ts)
+nnf_of false (negation f) = nnf_of true f
+nnf_of false (conjunction f g) = disjunction (nnf_of false f) (nnf_of false g)
+nnf_of false (disjunction f g) = conjunction (nnf_of false f) (nnf_of false g)
+nnf_of false (implication f g) = conjunction (nnf_of true f) (nnf_of false g)
+nnf_of false (equivalence f g) = conjunction (disjunction (nnf_of true f) (nnf_of true g)) (disjunction (nnf_of false f) (nnf_of false g))
+nnf_of false (forall x f) = exists x (nnf_of false f)
+nnf_of false (exists x f) = forall x (nnf_of false f)
 
--- how many clauses a negation form gives, before any is dropped: the sum for "and", the product for "or"
+-- how many clauses a negation normal form gives, before any is dropped: the sum for "and", the product for "or"
 abbrev pub clause_count : Fol → ℕ
-clause_count (both f g) = clause_count f + clause_count g
-clause_count (either f g) = clause_count f * clause_count g
-clause_count (every x f) = clause_count f
-clause_count (some x f) = clause_count f
+clause_count (conjunction f g) = clause_count f + clause_count g
+clause_count (disjunction f g) = clause_count f * clause_count g
+clause_count (forall x f) = clause_count f
+clause_count (exists x f) = clause_count f
 clause_count f = 1

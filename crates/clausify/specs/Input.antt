@@ -7,14 +7,14 @@ use Rattle.fol_core.specs.Literals.{ClauseTree}
 use Rattle.fol_core.specs.Occurs.{occurs_in, size_needed}
 use Rattle.fol_core.specs.Stated.{Said, Stated}
 use Rattle.fol_core.specs.SymbolTable.{Symbol}
-use Rattle.fol_core.specs.Witnesses.{Witness}
+use Rattle.fol_core.specs.SkolemAxioms.{SkolemAxiom}
 use Rattle.fol_core.specs.declared.problem.Role.{Role}
 use Rattle.fol_core.specs.declared.problem.Role.TheVariants.{Assumption, Usable, Demodulator, Goal}
 use Rattle.fol_core.specs.Renumbered.{renumbered}
 use Rattle.clausify.specs.Clausal.{clauses_in}
-use Rattle.clausify.specs.Forms.{form_of, clause_count}
+use Rattle.clausify.specs.Forms.{nnf_of, clause_count}
 use Rattle.clausify.specs.Names.{skolem_symbols, all_entered, entered_numbers}
-use Rattle.clausify.specs.Skolem.{somes, arities, witnesses}
+use Rattle.clausify.specs.Skolem.{somes, arities, skolem_axioms}
 
 -- whether a formula is taken as it stands; a goal's denial is taken
 abbrev pub is_taken : Role → Bool
@@ -23,9 +23,9 @@ is_taken Usable = true
 is_taken Demodulator = true
 is_taken Goal = false
 
--- the negation form of the closure, or of its denial
+-- the negation normal form of the closure, or of its denial
 abbrev pub form : Said → Fol
-form s = form_of (is_taken s.role) (closure_of s.formula)
+form s = nnf_of (is_taken s.role) (closure_of s.formula)
 
 -- how many arguments each Skolem symbol has
 abbrev pub all_arities : List Said → List ℕ
@@ -46,15 +46,15 @@ rows_from symbols n k [] = []
 rows_from symbols n k (s ∷ ss) = map (λ c. (n, renumbered c)) (clauses_in symbols k [] var (form s)) ++ rows_from symbols (n + 1) (k + somes (form s)) ss
 
 -- and their witnesses
-abbrev pub witnesses_from : List ℕ → ℕ → List Said → List Witness
+abbrev pub witnesses_from : List ℕ → ℕ → List Said → List SkolemAxiom
 witnesses_from symbols k [] = []
-witnesses_from symbols k (s ∷ ss) = witnesses symbols k [] var (form s) ++ witnesses_from symbols (k + somes (form s)) ss
+witnesses_from symbols k (s ∷ ss) = skolem_axioms symbols k [] var (form s) ++ witnesses_from symbols (k + somes (form s)) ss
 
 abbrev pub all_rows : List ℕ → List Said → List Row
 all_rows symbols ss = rows_from symbols 1 0 ss
 
-abbrev pub all_witnesses : List ℕ → List Said → List Witness
-all_witnesses symbols ss = witnesses_from symbols 0 ss
+abbrev pub all_skolem_axioms : List ℕ → List Said → List SkolemAxiom
+all_skolem_axioms symbols ss = witnesses_from symbols 0 ss
 
 -- the number of the first formula, from n on, that gives more than 20,000 clauses
 abbrev pub first_over : ℕ → List Said → Option ℕ
@@ -98,5 +98,5 @@ with_skolems table p = all_entered table (skolems p.symbols p.formulas)
 abbrev pub clauses_in_table : List Symbol → Stated → List Row
 clauses_in_table table p = all_rows (skolem_numbers table p) p.formulas
 
-abbrev pub witnesses_in_table : List Symbol → Stated → List Witness
-witnesses_in_table table p = all_witnesses (skolem_numbers table p) p.formulas
+abbrev pub witnesses_in_table : List Symbol → Stated → List SkolemAxiom
+witnesses_in_table table p = all_skolem_axioms (skolem_numbers table p) p.formulas

@@ -1,27 +1,27 @@
 -- What a call that makes clauses does.
 use Rattle.std.specs.Prelude.{ℕ, ◌≡◌, ◌+◌, length, take, List, [], ◌∷◌, ◌++◌, map, slice_index}
-use Rattle.fol_core.specs.EntryView.{witness_of}
+use Rattle.fol_core.specs.EntryView.{skolem_axiom_of}
 use Rattle.fol_core.specs.Fol.{Fol}
 use Rattle.fol_core.specs.Literals.{ClauseTree}
 use Rattle.clausify.specs.Clausal.{clauses_in}
-use Rattle.fol_core.specs.Witnesses.{Witness}
-use Rattle.fol_core.specs.Put.{with_term}
-use Rattle.clausify.specs.Skolem.{somes, witnesses, skolem_term}
+use Rattle.fol_core.specs.SkolemAxioms.{SkolemAxiom}
+use Rattle.fol_core.specs.Substitutions.{with_term}
+use Rattle.clausify.specs.Skolem.{somes, skolem_axioms, skolem_term}
 use Rattle.clausify.specs.View.{terms_of}
 use Rattle.clausify.specs.declared.clausal.Work.{Work}
 
--- the clauses of a negation form where work begins
+-- the clauses of a negation normal form where work begins
 abbrev pub clauses_at : List ℕ → Work → Fol → List ClauseTree
 clauses_at symbols work f = clauses_in symbols (length work.entries.items) work.scope.items (terms_of work.terms.items) f
 
 -- and its witnesses
-abbrev pub witnesses_at : List ℕ → Work → Fol → List Witness
-witnesses_at symbols work f = witnesses symbols (length work.entries.items) work.scope.items (terms_of work.terms.items) f
+abbrev pub witnesses_at : List ℕ → Work → Fol → List SkolemAxiom
+witnesses_at symbols work f = skolem_axioms symbols (length work.entries.items) work.scope.items (terms_of work.terms.items) f
 
 -- its witnesses are noted, and scope and terms are as before
 abbrev pub Works : List ℕ → Work → Work → Fol → Type 0
 Works symbols old new f =
-    (map witness_of new.entries.items ≡ map witness_of old.entries.items ++ witnesses_at symbols old f)
+    (map skolem_axiom_of new.entries.items ≡ map skolem_axiom_of old.entries.items ++ witnesses_at symbols old f)
     × (length new.entries.items ≡ length old.entries.items + somes f)
     × (new.scope.items ≡ old.scope.items)
     × (new.terms.items ≡ old.terms.items)
@@ -30,7 +30,7 @@ Works symbols old new f =
 abbrev pub Begins : List ℕ → Work → Work → ℕ → Fol → Type 0
 Begins symbols old new variable body =
     let symbol = slice_index symbols (length old.entries.items) in
-    (map witness_of new.entries.items ≡ map witness_of old.entries.items ++ record { symbol = symbol; variables = old.scope.items; variable = variable; body = body } ∷ [])
+    (map skolem_axiom_of new.entries.items ≡ map skolem_axiom_of old.entries.items ++ record { symbol = symbol; variables = old.scope.items; variable = variable; body = body } ∷ [])
     × (length new.entries.items ≡ length old.entries.items + 1)
     × (new.scope.items ≡ old.scope.items)
     × (take (length old.terms.items) new.terms.items ≡ old.terms.items)
@@ -41,11 +41,11 @@ Begins symbols old new variable body =
 abbrev pub Leads : List ℕ → Work → Work → Fol → Fol → Type 0
 Leads symbols old new f g =
     (clauses_at symbols old f ≡ clauses_at symbols new g)
-    × (map witness_of old.entries.items ++ witnesses_at symbols old f ≡ map witness_of new.entries.items ++ witnesses_at symbols new g)
+    × (map skolem_axiom_of old.entries.items ++ witnesses_at symbols old f ≡ map skolem_axiom_of new.entries.items ++ witnesses_at symbols new g)
     × (length old.entries.items + somes f ≡ length new.entries.items + somes g)
 
 -- the witnesses of a form are noted
 abbrev pub Notes : List ℕ → Work → Work → Fol → Type 0
 Notes symbols old new f =
-    (map witness_of new.entries.items ≡ map witness_of old.entries.items ++ witnesses_at symbols old f)
+    (map skolem_axiom_of new.entries.items ≡ map skolem_axiom_of old.entries.items ++ witnesses_at symbols old f)
     × (length new.entries.items ≡ length old.entries.items + somes f)

@@ -1,6 +1,6 @@
 -- An interpretation for the tests: one element, of which every relation holds.
 use Rattle.std.specs.Prelude.{true, ◌==◌, refl}
-use Rattle.fol_core.specs.Fol.{Fol, equal, every, some}
+use Rattle.fol_core.specs.Fol.{Fol, equal, forall, exists}
 use Rattle.fol_core.specs.Tree.{var}
 use Rattle.fol_core.specs.Meaning.{Meaning, IsLawful}
 
@@ -16,4 +16,4 @@ one_is_lawful = record { element = (0, refl); closed = λ f xs within. refl }
 
 -- all x exists y x = y
 abbrev pub total : Fol
-total = every 0 (some 1 (equal (var 0) (var 1)))
+total = forall 0 (exists 1 (equal (var 0) (var 1)))

@@ -3,7 +3,7 @@ use Rattle.std.specs.Prelude.{ℕ, List, fold}
 use Rattle.fol_core.specs.Tree.{var}
 use Rattle.fol_core.specs.TermView.{tree_of}
 use Rattle.fol_core.specs.declared.term.Term.{Term}
-use Rattle.fol_core.specs.Put.{Substitution, with_term}
+use Rattle.fol_core.specs.Substitutions.{Substitution, with_term}
 
 abbrev pub terms_of : List (ℕ × Term) → Substitution
 terms_of values = fold (λ (terms : Substitution) (v : ℕ × Term). with_term terms v.0 (tree_of v.1)) var values

@@ -1,15 +1,15 @@
 -- Formulas worked out.
 use Rattle.std.specs.Prelude.{ℕ, ◌≡◌, zero, suc, Bool, true, false, List, [], ◌∷◌, Some, None, codes}
 use Rattle.fol_core.specs.Tree.{Tree, var, elem, app, Trees, none, more}
-use Rattle.fol_core.specs.Fol.{Fol, verum, falsum, equal, atom, denied, both, either, implies, iff, every, some}
+use Rattle.fol_core.specs.Fol.{Fol, verum, falsum, equal, atom, negation, conjunction, disjunction, implication, equivalence, forall, exists}
 use Rattle.fol_core.specs.Literals.{literal, ClauseTree, equality}
 use Rattle.fol_core.specs.Stated.{Said, said}
 use Rattle.fol_core.specs.SymbolTable.{symbol}
 use Rattle.fol_core.specs.declared.problem.Role.TheVariants.{Assumption, Goal}
 use Rattle.fol_core.specs.declared.symbols.Kind.TheVariants.{Function, Relation}
 use Rattle.clausify.specs.Clausal.{clauses_in}
-use Rattle.clausify.specs.Forms.{form_of}
-use Rattle.clausify.specs.Input.{all_rows, all_witnesses, skolems, first_over, used_symbols, numeral_of}
+use Rattle.clausify.specs.Forms.{nnf_of}
+use Rattle.clausify.specs.Input.{all_rows, all_skolem_axioms, skolems, first_over, used_symbols, numeral_of}
 
 -- relation 0 of one thing, and of nothing
 abbrev p : Tree → Fol
@@ -28,22 +28,22 @@ constant s = app s none
 -- "A if and only if B" gives two clauses, and so does its denial
 abbrev pub WorkedIff : Type 0
 WorkedIff =
-    (form_of true (iff (plain 0) (plain 1)) ≡ both (either (denied (plain 0)) (plain 1)) (either (denied (plain 1)) (plain 0)))
-    × (form_of false (iff (plain 0) (plain 1)) ≡ both (either (plain 0) (plain 1)) (either (denied (plain 0)) (denied (plain 1))))
+    (nnf_of true (equivalence (plain 0) (plain 1)) ≡ conjunction (disjunction (negation (plain 0)) (plain 1)) (disjunction (negation (plain 1)) (plain 0)))
+    × (nnf_of false (equivalence (plain 0) (plain 1)) ≡ conjunction (disjunction (plain 0) (plain 1)) (disjunction (negation (plain 0)) (negation (plain 1))))
 
 -- exists x all y x = y, where the Skolem symbol has number 7
 abbrev single : List Said
-single = said Assumption (some 0 (every 1 (equal (var 0) (var 1)))) ∷ []
+single = said Assumption (exists 0 (forall 1 (equal (var 0) (var 1)))) ∷ []
 
 abbrev pub WorkedSingle : Type 0
 WorkedSingle =
     (skolems [] single ≡ symbol (codes "c1") 0 Function ∷ [])
     × (all_rows (7 ∷ []) single ≡ (1, literal true (app equality (more (constant 7) (more (var 0) none))) ∷ []) ∷ [])
-    × (all_witnesses (7 ∷ []) single ≡ record { symbol = 7; variables = []; variable = 0; body = every 1 (equal (var 0) (var 1)) } ∷ [])
+    × (all_skolem_axioms (7 ∷ []) single ≡ record { symbol = 7; variables = []; variable = 0; body = forall 1 (equal (var 0) (var 1)) } ∷ [])
 
 -- the goal exists x (p(x) -> all y p(y)), with f1 under number 7: its denial is p(x) and not p(f1(x))
 abbrev drinker : List Said
-drinker = said Goal (some 0 (implies (p (var 0)) (every 1 (p (var 1))))) ∷ []
+drinker = said Goal (exists 0 (implication (p (var 0)) (forall 1 (p (var 1))))) ∷ []
 
 abbrev pub WorkedGoal : Type 0
 WorkedGoal =
@@ -64,7 +64,7 @@ abbrev relation : Tree → Tree → Tree → Tree → Trees
 relation s t u v = more s (more t (more u (more v none)))
 
 abbrev nested : List Said
-nested = said Assumption (every 0 (some 1 (every 2 (some 3 (atom 0 (relation (var 0) (var 1) (var 2) (var 3))))))) ∷ []
+nested = said Assumption (forall 0 (exists 1 (forall 2 (exists 3 (atom 0 (relation (var 0) (var 1) (var 2) (var 3))))))) ∷ []
 
 abbrev first : Tree
 first = app 7 (more (var 0) none)
@@ -75,24 +75,24 @@ second z = app 8 (more (var 0) (more z none))
 abbrev pub WorkedNested : Type 0
 WorkedNested =
     (all_rows (7 ∷ 8 ∷ []) nested ≡ (1, literal true (app 0 (relation (var 0) first (var 1) (second (var 1)))) ∷ []) ∷ [])
-    × (all_witnesses (7 ∷ 8 ∷ []) nested
-    ≡ record { symbol = 7; variables = 0 ∷ []; variable = 1; body = every 2 (some 3 (atom 0 (relation (var 0) (var 1) (var 2) (var 3)))) }
+    × (all_skolem_axioms (7 ∷ 8 ∷ []) nested
+    ≡ record { symbol = 7; variables = 0 ∷ []; variable = 1; body = forall 2 (exists 3 (atom 0 (relation (var 0) (var 1) (var 2) (var 3)))) }
     ∷ record { symbol = 8; variables = 0 ∷ 2 ∷ []; variable = 3; body = atom 0 (relation (var 0) first (var 2) (var 3)) } ∷ [])
 
 -- "true" drops a clause, "false" is left out of one, and a doubled literal stays
 abbrev pub WorkedConstants : Type 0
 WorkedConstants =
-    (clauses_in [] 0 [] var (either verum (plain 0)) ≡ [])
-    × (clauses_in [] 0 [] var (either falsum (either (plain 0) (plain 0))) ≡ (literal true (constant 0) ∷ literal true (constant 0) ∷ []) ∷ [])
-    × (clauses_in [] 0 [] var (denied verum) ≡ [] ∷ [])
-    × (clauses_in [] 0 [] var (either (both (plain 0) (plain 1)) (both (plain 2) (plain 3)))
+    (clauses_in [] 0 [] var (disjunction verum (plain 0)) ≡ [])
+    × (clauses_in [] 0 [] var (disjunction falsum (disjunction (plain 0) (plain 0))) ≡ (literal true (constant 0) ∷ literal true (constant 0) ∷ []) ∷ [])
+    × (clauses_in [] 0 [] var (negation verum) ≡ [] ∷ [])
+    × (clauses_in [] 0 [] var (disjunction (conjunction (plain 0) (plain 1)) (conjunction (plain 2) (plain 3)))
     ≡ (literal true (constant 0) ∷ literal true (constant 2) ∷ []) ∷ (literal true (constant 0) ∷ literal true (constant 3) ∷ [])
     ∷ (literal true (constant 1) ∷ literal true (constant 2) ∷ []) ∷ (literal true (constant 1) ∷ literal true (constant 3) ∷ []) ∷ [])
 
 -- "or" of so many parts "0 and 1", and one more
 abbrev alternatives : ℕ → Fol
-alternatives zero = both (plain 0) (plain 1)
-alternatives (suc n) = either (both (plain 0) (plain 1)) (alternatives n)
+alternatives zero = conjunction (plain 0) (plain 1)
+alternatives (suc n) = disjunction (conjunction (plain 0) (plain 1)) (alternatives n)
 
 -- fourteen parts give 16,384 clauses, and fifteen too many
 abbrev pub WorkedLimit : Type 0
@@ -103,7 +103,7 @@ WorkedLimit =
 -- the symbols by number, and the greatest numeral, of f(0) = 2 & p(0) in a table of five symbols
 abbrev pub WorkedSymbols : Type 0
 WorkedSymbols =
-    let ss = said Assumption (both (equal (app 3 (more (elem 0) none)) (elem 2)) (p (elem 0))) ∷ [] in
+    let ss = said Assumption (conjunction (equal (app 3 (more (elem 0) none)) (elem 2)) (p (elem 0))) ∷ [] in
     let s = symbol [] 0 Function in
     (used_symbols (s ∷ s ∷ s ∷ s ∷ s ∷ []) ss ≡ 0 ∷ 3 ∷ [])
     × (numeral_of ss ≡ Some 2)

@@ -3,14 +3,14 @@ ghost use Rattle.std.specs.Prelude.{◌≡◌, ◌+◌, ◌∷◌, ◌++◌, len
 ghost use Rattle.fol_core.specs.Stated.{said_of, all_said};
 ghost use Rattle.fol_core.specs.FormulaView.{fol_of};
 ghost use Rattle.fol_core.specs.Free.{closed_over};
-ghost use Rattle.clausify.specs.Forms.{form_of};
+ghost use Rattle.clausify.specs.Forms.{nnf_of};
 ghost use Rattle.clausify.specs.Input.{form, all_arities};
 ghost use Rattle.clausify.specs.Skolem.{arities};
 
 use fol_core::{Input, Role, Shape, Sub, free_vars};
 use std::alloc::{AllocError, Global};
 
-/// Adds the numbers of arguments for the existential variables of a formula's negation form, or of its denial's, under the
+/// Adds the numbers of arguments for the existential variables of a formula's negation normal form, or of its denial's, under the
 /// universal variables of a scope.
 #[cycle(arity)]
 pub fn add_arities(
@@ -19,7 +19,7 @@ pub fn add_arities(
     scope: &mut Vec<u64>,
     found: &mut Vec<u64>,
 ) -> Result<(), AllocError>
-    ensures found { OnOk result (found.new.items ≡ found.old.items ++ arities (length scope.old.items) (form_of sign (fol_of shape.now))) }
+    ensures found { OnOk result (found.new.items ≡ found.old.items ++ arities (length scope.old.items) (nnf_of sign (fol_of shape.now))) }
     ensures scope { OnOk result (scope.new.items ≡ scope.old.items) }
 {
     if sign {
@@ -37,7 +37,7 @@ fn add_part(
     scope: &mut Vec<u64>,
     found: &mut Vec<u64>,
 ) -> Result<(), AllocError>
-    ensures found { OnOk result (found.new.items ≡ found.old.items ++ arities (length scope.old.items) (form_of sign sub.now)) }
+    ensures found { OnOk result (found.new.items ≡ found.old.items ++ arities (length scope.old.items) (nnf_of sign sub.now)) }
     ensures scope { OnOk result (scope.new.items ≡ scope.old.items) }
 {
     add_arities(&sub.shape, sign, scope, found)
@@ -52,7 +52,7 @@ fn add_every(
     scope: &mut Vec<u64>,
     found: &mut Vec<u64>,
 ) -> Result<(), AllocError>
-    ensures found { OnOk result (found.new.items ≡ found.old.items ++ arities (length scope.old.items + 1) (form_of sign sub.now)) }
+    ensures found { OnOk result (found.new.items ≡ found.old.items ++ arities (length scope.old.items + 1) (nnf_of sign sub.now)) }
     ensures scope { OnOk result (scope.new.items ≡ scope.old.items) }
 {
     scope.push(x)?;
@@ -69,7 +69,7 @@ fn add_some(
     scope: &mut Vec<u64>,
     found: &mut Vec<u64>,
 ) -> Result<(), AllocError>
-    ensures found { OnOk result (found.new.items ≡ found.old.items ++ length scope.old.items ∷ arities (length scope.old.items) (form_of sign sub.now)) }
+    ensures found { OnOk result (found.new.items ≡ found.old.items ++ length scope.old.items ∷ arities (length scope.old.items) (nnf_of sign sub.now)) }
     ensures scope { OnOk result (scope.new.items ≡ scope.old.items) }
 {
     found.push(scope.len() as u64)?;
@@ -78,7 +78,7 @@ fn add_some(
 
 #[cycle(arity)]
 fn add_plain(shape: &Shape, scope: &mut Vec<u64>, found: &mut Vec<u64>) -> Result<(), AllocError>
-    ensures found { OnOk result (found.new.items ≡ found.old.items ++ arities (length scope.old.items) (form_of true (fol_of shape.now))) }
+    ensures found { OnOk result (found.new.items ≡ found.old.items ++ arities (length scope.old.items) (nnf_of true (fol_of shape.now))) }
     ensures scope { OnOk result (scope.new.items ≡ scope.old.items) }
 {
     match shape {
@@ -105,7 +105,7 @@ fn add_plain(shape: &Shape, scope: &mut Vec<u64>, found: &mut Vec<u64>) -> Resul
 
 #[cycle(arity)]
 fn add_denied(shape: &Shape, scope: &mut Vec<u64>, found: &mut Vec<u64>) -> Result<(), AllocError>
-    ensures found { OnOk result (found.new.items ≡ found.old.items ++ arities (length scope.old.items) (form_of false (fol_of shape.now))) }
+    ensures found { OnOk result (found.new.items ≡ found.old.items ++ arities (length scope.old.items) (nnf_of false (fol_of shape.now))) }
     ensures scope { OnOk result (scope.new.items ≡ scope.old.items) }
 {
     match shape {
@@ -148,7 +148,7 @@ fn add_of_denial(
     variables: &[u64],
     found: &mut Vec<u64>,
 ) -> Result<(), AllocError>
-    ensures { OnOk result (found.new.items ≡ found.old.items ++ arities 0 (form_of false (closed_over variables.now (fol_of shape.now)))) }
+    ensures { OnOk result (found.new.items ≡ found.old.items ++ arities 0 (nnf_of false (closed_over variables.now (fol_of shape.now)))) }
 {
     add_constants(variables, found)?;
     add_arities(shape, false, &mut Vec::new(alloc), found)?;

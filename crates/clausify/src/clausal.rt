@@ -1,18 +1,18 @@
 // The clauses of formulas.
 ghost use Rattle.std.specs.Prelude.{◌≡◌, ◌++◌, [], ◌∷◌, IfOk, OnOk, if◌then◌else◌, true, false, slice_index};
 ghost use Rattle.fol_core.specs.EntryView.{some_over};
-ghost use Rattle.fol_core.specs.Fol.{every, some};
+ghost use Rattle.fol_core.specs.Fol.{forall, exists};
 ghost use Rattle.fol_core.specs.FormulaView.{fol_of};
 ghost use Rattle.fol_core.specs.Literals.{literal};
 ghost use Rattle.fol_core.specs.TermView.{tree_of};
-ghost use Rattle.clausify.specs.Clausal.{with_each, crossed, literal_clauses};
-ghost use Rattle.clausify.specs.Forms.{form_of};
+ghost use Rattle.clausify.specs.Clausal.{with_each, distributed, literal_clauses};
+ghost use Rattle.clausify.specs.Forms.{nnf_of};
 ghost use Rattle.clausify.specs.Made.{clauses_at, Works, Begins};
 ghost use Rattle.clausify.specs.Skolem.{skolem_term};
 ghost use Rattle.clausify.specs.View.{terms_of};
 
 use crate::form::form;
-use crate::put::{put, put_all};
+use crate::substitution::{substitute, substitute_all};
 use fol_core::{Clause, EQ, Entry, Literal, Shape, Sub, Sym, Term, Terms};
 use std::alloc::{AllocError, Global};
 
@@ -55,8 +55,8 @@ fn add_each(
 
 // For each clause of one list and each of another the literals of both.
 #[tactic(auto, using(crate::proofs::Crossing::crossed_next, crate::proofs::Crossing::crossed_end))]
-fn crossed(alloc: Global, left: &[Clause], right: &[Clause]) -> Result<Vec<Clause>, AllocError>
-    ensures { IfOk result (λ all. all.items ≡ crossed left.now right.now) }
+fn distributed(alloc: Global, left: &[Clause], right: &[Clause]) -> Result<Vec<Clause>, AllocError>
+    ensures { IfOk result (λ all. all.items ≡ distributed left.now right.now) }
 {
     let mut found = Vec::new(alloc);
     for clause in left {
@@ -101,12 +101,12 @@ fn literal(
         Shape::False => constant(alloc, !positive),
         Shape::Eq(s, t) => {
             let mut sides = Terms::new(alloc);
-            sides.push(put(alloc, s, terms)?)?;
-            sides.push(put(alloc, t, terms)?)?;
+            sides.push(substitute(alloc, s, terms)?)?;
+            sides.push(substitute(alloc, t, terms)?)?;
             unit(alloc, positive, Term::App(EQ, sides))
         }
         Shape::Atom(r, arguments) => {
-            let arguments = put_all(alloc, arguments, terms)?;
+            let arguments = substitute_all(alloc, arguments, terms)?;
             unit(alloc, positive, Term::App(*r, arguments))
         }
         _ => Ok(Vec::new(alloc)),
@@ -161,7 +161,7 @@ pub fn begin(
     Ok(())
 }
 
-/// The clauses of a formula's negation form where the sign is true, and of its denial's where it is false.
+/// The clauses of a formula's negation normal form where the sign is true, and of its denial's where it is false.
 #[cycle(clausal)]
 pub fn clauses(
     alloc: Global,
@@ -170,8 +170,8 @@ pub fn clauses(
     sign: bool,
     work: &mut Work,
 ) -> Result<Vec<Clause>, AllocError>
-    ensures clauses { IfOk result (λ all. all.items ≡ clauses_at symbols.now work.old (form_of sign (fol_of shape.now))) }
-    ensures works { OnOk result (Works symbols.now work.old work.new (form_of sign (fol_of shape.now))) }
+    ensures clauses { IfOk result (λ all. all.items ≡ clauses_at symbols.now work.old (nnf_of sign (fol_of shape.now))) }
+    ensures works { OnOk result (Works symbols.now work.old work.new (nnf_of sign (fol_of shape.now))) }
 {
     if sign {
         plain(alloc, symbols, shape, work)
@@ -189,8 +189,8 @@ fn part(
     sign: bool,
     work: &mut Work,
 ) -> Result<Vec<Clause>, AllocError>
-    ensures clauses { IfOk result (λ all. all.items ≡ clauses_at symbols.now work.old (form_of sign sub.now)) }
-    ensures works { OnOk result (Works symbols.now work.old work.new (form_of sign sub.now)) }
+    ensures clauses { IfOk result (λ all. all.items ≡ clauses_at symbols.now work.old (nnf_of sign sub.now)) }
+    ensures works { OnOk result (Works symbols.now work.old work.new (nnf_of sign sub.now)) }
 {
     clauses(alloc, symbols, &sub.shape, sign, work)
 }
@@ -205,8 +205,8 @@ fn under_every(
     sign: bool,
     work: &mut Work,
 ) -> Result<Vec<Clause>, AllocError>
-    ensures clauses { IfOk result (λ all. all.items ≡ clauses_at symbols.now work.old (every x (form_of sign sub.now))) }
-    ensures works { OnOk result (Works symbols.now work.old work.new (every x (form_of sign sub.now))) }
+    ensures clauses { IfOk result (λ all. all.items ≡ clauses_at symbols.now work.old (forall x (nnf_of sign sub.now))) }
+    ensures works { OnOk result (Works symbols.now work.old work.new (forall x (nnf_of sign sub.now))) }
 {
     work.scope.push(x)?;
     let found = part(alloc, symbols, sub, sign, work)?;
@@ -224,8 +224,8 @@ fn under_some(
     sign: bool,
     work: &mut Work,
 ) -> Result<Vec<Clause>, AllocError>
-    ensures clauses { IfOk result (λ all. all.items ≡ clauses_at symbols.now work.old (some x (form_of sign sub.now))) }
-    ensures works { OnOk result (Works symbols.now work.old work.new (some x (form_of sign sub.now))) }
+    ensures clauses { IfOk result (λ all. all.items ≡ clauses_at symbols.now work.old (exists x (nnf_of sign sub.now))) }
+    ensures works { OnOk result (Works symbols.now work.old work.new (exists x (nnf_of sign sub.now))) }
 {
     let body = form(alloc, &sub.shape, sign, &work.terms)?;
     begin(alloc, symbols, x, Vec::new(alloc), body, work)?;
@@ -234,7 +234,7 @@ fn under_some(
     Ok(found)
 }
 
-// The clauses of a formula's negation form.
+// The clauses of a formula's negation normal form.
 #[cycle(clausal)]
 fn plain(
     alloc: Global,
@@ -242,8 +242,8 @@ fn plain(
     shape: &Shape,
     work: &mut Work,
 ) -> Result<Vec<Clause>, AllocError>
-    ensures clauses { IfOk result (λ all. all.items ≡ clauses_at symbols.now work.old (form_of true (fol_of shape.now))) }
-    ensures works { OnOk result (Works symbols.now work.old work.new (form_of true (fol_of shape.now))) }
+    ensures clauses { IfOk result (λ all. all.items ≡ clauses_at symbols.now work.old (nnf_of true (fol_of shape.now))) }
+    ensures works { OnOk result (Works symbols.now work.old work.new (nnf_of true (fol_of shape.now))) }
 {
     match shape {
         Shape::True | Shape::False | Shape::Eq(_, _) | Shape::Atom(_, _) => {
@@ -258,20 +258,20 @@ fn plain(
         Shape::Or(f, g) => {
             let left = part(alloc, symbols, f, true, work)?;
             let right = part(alloc, symbols, g, true, work)?;
-            crossed(alloc, &left, &right)
+            distributed(alloc, &left, &right)
         }
         Shape::If(f, g) => {
             let left = part(alloc, symbols, f, false, work)?;
             let right = part(alloc, symbols, g, true, work)?;
-            crossed(alloc, &left, &right)
+            distributed(alloc, &left, &right)
         }
         Shape::Iff(f, g) => {
             let left = part(alloc, symbols, f, false, work)?;
             let right = part(alloc, symbols, g, true, work)?;
-            let forth = crossed(alloc, &left, &right)?;
+            let forth = distributed(alloc, &left, &right)?;
             let left = part(alloc, symbols, g, false, work)?;
             let right = part(alloc, symbols, f, true, work)?;
-            let back = crossed(alloc, &left, &right)?;
+            let back = distributed(alloc, &left, &right)?;
             joined(forth, back)
         }
         Shape::All(x, f) => under_every(alloc, symbols, *x, f, true, work),
@@ -279,7 +279,7 @@ fn plain(
     }
 }
 
-// The clauses of the negation form of a formula's denial.
+// The clauses of the negation normal form of a formula's denial.
 #[cycle(clausal)]
 fn denied(
     alloc: Global,
@@ -287,8 +287,8 @@ fn denied(
     shape: &Shape,
     work: &mut Work,
 ) -> Result<Vec<Clause>, AllocError>
-    ensures clauses { IfOk result (λ all. all.items ≡ clauses_at symbols.now work.old (form_of false (fol_of shape.now))) }
-    ensures works { OnOk result (Works symbols.now work.old work.new (form_of false (fol_of shape.now))) }
+    ensures clauses { IfOk result (λ all. all.items ≡ clauses_at symbols.now work.old (nnf_of false (fol_of shape.now))) }
+    ensures works { OnOk result (Works symbols.now work.old work.new (nnf_of false (fol_of shape.now))) }
 {
     match shape {
         Shape::True | Shape::False | Shape::Eq(_, _) | Shape::Atom(_, _) => {
@@ -298,7 +298,7 @@ fn denied(
         Shape::And(f, g) => {
             let left = part(alloc, symbols, f, false, work)?;
             let right = part(alloc, symbols, g, false, work)?;
-            crossed(alloc, &left, &right)
+            distributed(alloc, &left, &right)
         }
         Shape::Or(f, g) => {
             let left = part(alloc, symbols, f, false, work)?;
@@ -313,10 +313,10 @@ fn denied(
         Shape::Iff(f, g) => {
             let left = part(alloc, symbols, f, true, work)?;
             let right = part(alloc, symbols, g, true, work)?;
-            let some_one = crossed(alloc, &left, &right)?;
+            let some_one = distributed(alloc, &left, &right)?;
             let left = part(alloc, symbols, f, false, work)?;
             let right = part(alloc, symbols, g, false, work)?;
-            let not_both = crossed(alloc, &left, &right)?;
+            let not_both = distributed(alloc, &left, &right)?;
             joined(some_one, not_both)
         }
         Shape::All(x, f) => under_some(alloc, symbols, *x, f, false, work),

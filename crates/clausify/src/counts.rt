@@ -1,7 +1,7 @@
 // How many clauses a formula gives, and its denial.
 ghost use Rattle.std.specs.Prelude.{◌≡◌, ◌≤◌, true, false};
 ghost use Rattle.fol_core.specs.FormulaView.{fol_of};
-ghost use Rattle.clausify.specs.Forms.{form_of, clause_count};
+ghost use Rattle.clausify.specs.Forms.{nnf_of, clause_count};
 ghost use Rattle.clausify.specs.Capped.{capped, IsSum, IsProduct, IsSumOfProducts, AreCapped};
 
 use fol_core::{Shape, Sub};
@@ -84,8 +84,8 @@ const ONE: Counts = Counts {
 // The counts of a part.
 #[cycle(counting)]
 fn part(sub: &Sub) -> Counts
-    ensures plain { result.plain ≡ capped (clause_count (form_of true sub.now)) }
-    ensures denied { result.denied ≡ capped (clause_count (form_of false sub.now)) }
+    ensures plain { result.plain ≡ capped (clause_count (nnf_of true sub.now)) }
+    ensures denied { result.denied ≡ capped (clause_count (nnf_of false sub.now)) }
 {
     counts_of(&sub.shape)
 }
@@ -93,8 +93,8 @@ fn part(sub: &Sub) -> Counts
 /// The counts of a formula.
 #[cycle(counting)]
 pub fn counts_of(shape: &Shape) -> Counts
-    ensures plain { result.plain ≡ capped (clause_count (form_of true (fol_of shape.now))) }
-    ensures denied { result.denied ≡ capped (clause_count (form_of false (fol_of shape.now))) }
+    ensures plain { result.plain ≡ capped (clause_count (nnf_of true (fol_of shape.now))) }
+    ensures denied { result.denied ≡ capped (clause_count (nnf_of false (fol_of shape.now))) }
 {
     match shape {
         Shape::True | Shape::False | Shape::Eq(_, _) | Shape::Atom(_, _) => ONE,

@@ -1,16 +1,16 @@
-// Negation forms with terms put in.
+// Negation normal forms with terms put in.
 ghost use Rattle.std.specs.Prelude.{◌≡◌, IfOk, true, false};
 ghost use Rattle.fol_core.specs.FormulaView.{fol_of};
-ghost use Rattle.fol_core.specs.Fol.{either};
-ghost use Rattle.clausify.specs.Forms.{form_of};
-ghost use Rattle.clausify.specs.Skolem.{put_in};
+ghost use Rattle.fol_core.specs.Fol.{disjunction};
+ghost use Rattle.clausify.specs.Forms.{nnf_of};
+ghost use Rattle.clausify.specs.Skolem.{substitute_in};
 ghost use Rattle.clausify.specs.View.{terms_of};
 
-use crate::put::{put, put_all};
+use crate::substitution::{substitute, substitute_all};
 use fol_core::{Shape, Sub, Term};
 use std::alloc::{AllocError, Global};
 
-/// The negation form of a formula where the sign is true, and of its denial where it is false, with terms put in.
+/// The negation normal form of a formula where the sign is true, and of its denial where it is false, with terms put in.
 #[cycle(form)]
 pub fn form(
     alloc: Global,
@@ -18,7 +18,7 @@ pub fn form(
     sign: bool,
     values: &[(u64, Term)],
 ) -> Result<Shape, AllocError>
-    ensures { IfOk result (λ f. fol_of f ≡ put_in (terms_of values.now) (form_of sign (fol_of shape.now))) }
+    ensures { IfOk result (λ f. fol_of f ≡ substitute_in (terms_of values.now) (nnf_of sign (fol_of shape.now))) }
 {
     if sign {
         plain(alloc, shape, values)
@@ -27,10 +27,10 @@ pub fn form(
     }
 }
 
-// The negation form of a part.
+// The negation normal form of a part.
 #[cycle(form)]
 fn part(alloc: Global, sub: &Sub, sign: bool, values: &[(u64, Term)]) -> Result<Sub, AllocError>
-    ensures { IfOk result (λ f. f ≡ put_in (terms_of values.now) (form_of sign sub.now)) }
+    ensures { IfOk result (λ f. f ≡ substitute_in (terms_of values.now) (nnf_of sign sub.now)) }
 {
     let shape = form(alloc, &sub.shape, sign, values)?;
     Sub::new(alloc, shape)
@@ -38,7 +38,7 @@ fn part(alloc: Global, sub: &Sub, sign: bool, values: &[(u64, Term)]) -> Result<
 
 // "Or" as a part.
 fn or(alloc: Global, f: Sub, g: Sub) -> Result<Sub, AllocError>
-    ensures { IfOk result (λ e. e ≡ either f g) }
+    ensures { IfOk result (λ e. e ≡ disjunction f g) }
 {
     Sub::new(alloc, Shape::Or(f, g))
 }
@@ -46,13 +46,13 @@ fn or(alloc: Global, f: Sub, g: Sub) -> Result<Sub, AllocError>
 // The form of a formula as it stands.
 #[cycle(form)]
 fn plain(alloc: Global, shape: &Shape, values: &[(u64, Term)]) -> Result<Shape, AllocError>
-    ensures { IfOk result (λ f. fol_of f ≡ put_in (terms_of values.now) (form_of true (fol_of shape.now))) }
+    ensures { IfOk result (λ f. fol_of f ≡ substitute_in (terms_of values.now) (nnf_of true (fol_of shape.now))) }
 {
     Ok(match shape {
         Shape::True => Shape::True,
         Shape::False => Shape::False,
-        Shape::Eq(s, t) => Shape::Eq(put(alloc, s, values)?, put(alloc, t, values)?),
-        Shape::Atom(r, terms) => Shape::Atom(*r, put_all(alloc, terms, values)?),
+        Shape::Eq(s, t) => Shape::Eq(substitute(alloc, s, values)?, substitute(alloc, t, values)?),
+        Shape::Atom(r, terms) => Shape::Atom(*r, substitute_all(alloc, terms, values)?),
         Shape::Not(f) => form(alloc, &f.shape, false, values)?,
         Shape::And(f, g) => Shape::And(
             part(alloc, f, true, values)?,
@@ -83,17 +83,17 @@ fn plain(alloc: Global, shape: &Shape, values: &[(u64, Term)]) -> Result<Shape, 
 // The form of a formula's denial.
 #[cycle(form)]
 fn denied(alloc: Global, shape: &Shape, values: &[(u64, Term)]) -> Result<Shape, AllocError>
-    ensures { IfOk result (λ f. fol_of f ≡ put_in (terms_of values.now) (form_of false (fol_of shape.now))) }
+    ensures { IfOk result (λ f. fol_of f ≡ substitute_in (terms_of values.now) (nnf_of false (fol_of shape.now))) }
 {
     Ok(match shape {
         Shape::True => Shape::Not(Sub::new(alloc, Shape::True)?),
         Shape::False => Shape::Not(Sub::new(alloc, Shape::False)?),
         Shape::Eq(s, t) => {
-            let equation = Shape::Eq(put(alloc, s, values)?, put(alloc, t, values)?);
+            let equation = Shape::Eq(substitute(alloc, s, values)?, substitute(alloc, t, values)?);
             Shape::Not(Sub::new(alloc, equation)?)
         }
         Shape::Atom(r, terms) => {
-            let atom = Shape::Atom(*r, put_all(alloc, terms, values)?);
+            let atom = Shape::Atom(*r, substitute_all(alloc, terms, values)?);
             Shape::Not(Sub::new(alloc, atom)?)
         }
         Shape::Not(f) => form(alloc, &f.shape, true, values)?,

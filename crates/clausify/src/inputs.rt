@@ -1,16 +1,16 @@
 // The clauses of all formulas of a problem.
 ghost use Rattle.std.specs.Prelude.{◌≡◌, ◌+◌, [], ◌++◌, length, IfOk, OnOk, true, false, map};
-ghost use Rattle.fol_core.specs.EntryView.{witness_of};
+ghost use Rattle.fol_core.specs.EntryView.{skolem_axiom_of};
 ghost use Rattle.fol_core.specs.FormulaView.{fol_of};
 ghost use Rattle.fol_core.specs.Free.{closed_over};
 ghost use Rattle.fol_core.specs.Renumbered.{renumbered};
 ghost use Rattle.fol_core.specs.Stated.{said_of, all_said};
 ghost use Rattle.fol_core.specs.Tree.{var};
 ghost use Rattle.clausify.specs.Clausal.{clauses_in};
-ghost use Rattle.clausify.specs.Forms.{form_of};
-ghost use Rattle.clausify.specs.Input.{form, all_rows, all_witnesses};
+ghost use Rattle.clausify.specs.Forms.{nnf_of};
+ghost use Rattle.clausify.specs.Input.{form, all_rows, all_skolem_axioms};
 ghost use Rattle.clausify.specs.Made.{clauses_at, Leads, Notes};
-ghost use Rattle.clausify.specs.Skolem.{somes, witnesses};
+ghost use Rattle.clausify.specs.Skolem.{somes, skolem_axioms};
 
 use crate::clausal::{Work, begin, clauses};
 use crate::form::form;
@@ -25,7 +25,7 @@ fn deny(
     variables: &[u64],
     work: &mut Work,
 ) -> Result<(), AllocError>
-    ensures { OnOk result (Leads symbols.now work.old work.new (form_of false (closed_over variables.now (fol_of shape.now))) (form_of false (fol_of shape.now))) }
+    ensures { OnOk result (Leads symbols.now work.old work.new (nnf_of false (closed_over variables.now (fol_of shape.now))) (nnf_of false (fol_of shape.now))) }
 {
     for place in 0..variables.len() {
         let bound = Vec::from_slice(alloc, &variables[place + 1..])?;
@@ -44,8 +44,8 @@ fn closed_clauses(
     work: &mut Work,
 ) -> Result<Vec<Clause>, AllocError>
     requires { work.old.scope.items ≡ [] }
-    ensures clauses { IfOk result (λ all. all.items ≡ clauses_at symbols.now work.old (form_of true (closed_over variables.items (fol_of shape.now)))) }
-    ensures notes { OnOk result (Notes symbols.now work.old work.new (form_of true (closed_over variables.items (fol_of shape.now)))) }
+    ensures clauses { IfOk result (λ all. all.items ≡ clauses_at symbols.now work.old (nnf_of true (closed_over variables.items (fol_of shape.now)))) }
+    ensures notes { OnOk result (Notes symbols.now work.old work.new (nnf_of true (closed_over variables.items (fol_of shape.now)))) }
 {
     work.scope = variables;
     let found = clauses(alloc, symbols, shape, true, work)?;
@@ -60,8 +60,8 @@ fn denied_clauses(
     variables: &[u64],
     work: &mut Work,
 ) -> Result<Vec<Clause>, AllocError>
-    ensures clauses { IfOk result (λ all. all.items ≡ clauses_at symbols.now work.old (form_of false (closed_over variables.now (fol_of shape.now)))) }
-    ensures notes { OnOk result (Notes symbols.now work.old work.new (form_of false (closed_over variables.now (fol_of shape.now)))) }
+    ensures clauses { IfOk result (λ all. all.items ≡ clauses_at symbols.now work.old (nnf_of false (closed_over variables.now (fol_of shape.now)))) }
+    ensures notes { OnOk result (Notes symbols.now work.old work.new (nnf_of false (closed_over variables.now (fol_of shape.now)))) }
 {
     deny(alloc, symbols, shape, variables, work)?;
     let found = clauses(alloc, symbols, shape, false, work)?;
@@ -114,7 +114,7 @@ fn add_input(
     entries: Vec<Entry>,
 ) -> Result<Vec<Entry>, AllocError>
     ensures rows { OnOk result (rows.new.items ≡ rows.old.items ++ map (λ c. (number, renumbered c)) (clauses_in symbols.now (length entries.items) [] var (form (said_of input.now)))) }
-    ensures entries { IfOk result (λ all. map witness_of all.items ≡ map witness_of entries.items ++ witnesses symbols.now (length entries.items) [] var (form (said_of input.now))) }
+    ensures entries { IfOk result (λ all. map skolem_axiom_of all.items ≡ map skolem_axiom_of entries.items ++ skolem_axioms symbols.now (length entries.items) [] var (form (said_of input.now))) }
     ensures count { IfOk result (λ all. length all.items ≡ length entries.items + somes (form (said_of input.now))) }
 {
     let mut work = Work {
@@ -136,7 +136,7 @@ pub fn all_clauses(
     inputs: &[Input],
 ) -> Result<(Vec<(u64, Clause)>, Vec<Entry>), AllocError>
     ensures rows { IfOk result (λ all. all.0.items ≡ all_rows symbols.now (all_said inputs.now)) }
-    ensures witnesses { IfOk result (λ all. map witness_of all.1.items ≡ all_witnesses symbols.now (all_said inputs.now)) }
+    ensures witnesses { IfOk result (λ all. map skolem_axiom_of all.1.items ≡ all_skolem_axioms symbols.now (all_said inputs.now)) }
 {
     let mut rows = Vec::new(alloc);
     let mut entries = Vec::new(alloc);

@@ -1,9 +1,9 @@
 // Laws of clauses, of every interpretation: the functions do nothing, and their contracts are the laws.
 ghost use Rattle.std.specs.Prelude.{List, length, ◌≤◌};
 ghost use Rattle.fol_core.specs.Literals.{equality};
-ghost use Rattle.fol_core.specs.Stated.{Stated, IsSound, AreNewTo};
+ghost use Rattle.fol_core.specs.Stated.{Stated, IsWellFormed, AreNewTo};
 ghost use Rattle.fol_core.specs.SymbolTable.{Symbol, KeepsNumbers};
-ghost use Rattle.fol_core.specs.Witnesses.{AreInOrder};
+ghost use Rattle.fol_core.specs.SkolemAxioms.{AreInOrder};
 ghost use Rattle.clausify.specs.Input.{witnesses_in_table};
 ghost use Rattle.clausify.specs.Laws.{ClausesSuffice, ClausesFollow};
 ghost use Rattle.clausify.specs.Names.{HasNoSkolemRelation};
@@ -29,8 +29,8 @@ pub fn own_table()
 /// Each Skolem symbol's body has those before it alone, and no formula has one, where there are no more of them than numbers
 /// of symbols.
 pub fn witnesses_are_in_order()
-    ensures order { (table : List Symbol) (p : Stated) → IsSound p → length p.symbols ≤ equality → KeepsNumbers p.symbols table → length (witnesses_in_table table p) ≤ equality → AreInOrder (witnesses_in_table table p) }
-    ensures new { (table : List Symbol) (p : Stated) → IsSound p → length p.symbols ≤ equality → KeepsNumbers p.symbols table → length (witnesses_in_table table p) ≤ equality → AreNewTo p.formulas (witnesses_in_table table p) }
+    ensures order { (table : List Symbol) (p : Stated) → IsWellFormed p → length p.symbols ≤ equality → KeepsNumbers p.symbols table → length (witnesses_in_table table p) ≤ equality → AreInOrder (witnesses_in_table table p) }
+    ensures new { (table : List Symbol) (p : Stated) → IsWellFormed p → length p.symbols ≤ equality → KeepsNumbers p.symbols table → length (witnesses_in_table table p) ≤ equality → AreNewTo p.formulas (witnesses_in_table table p) }
 {}
 
 /// Some formulas worked out.

@@ -11,13 +11,11 @@ mod laws;
 mod limit;
 mod names;
 mod problem;
-mod put;
 mod seen;
 mod skolem;
+mod substitution;
 
 pub use error::ClauseError;
 pub use laws::{clauses_follow, clauses_suffice, own_table, witnesses_are_in_order, worked};
 pub use problem::clauses_of;
 
-#[cfg(test)]
-mod tests;

@@ -1,10 +1,10 @@
 // The clauses of a problem.
 ghost use Rattle.std.specs.Prelude.{◌≡◌, ◌≤◌, ℕ, Some, None, Err, IfOk, OnOk, length, map};
-ghost use Rattle.fol_core.specs.EntryView.{witness_of};
+ghost use Rattle.fol_core.specs.EntryView.{skolem_axiom_of};
 ghost use Rattle.fol_core.specs.Literals.{equality};
-ghost use Rattle.fol_core.specs.Stated.{stated_of, IsSound, IsCountermodel, AreNewTo};
+ghost use Rattle.fol_core.specs.Stated.{stated_of, IsWellFormed, IsCountermodel, AreNewTo};
 ghost use Rattle.fol_core.specs.SymbolTable.{KeepsNumbers};
-ghost use Rattle.fol_core.specs.Witnesses.{PicksWitnesses, AreInOrder};
+ghost use Rattle.fol_core.specs.SkolemAxioms.{PicksWitnesses, AreInOrder};
 ghost use Rattle.clausify.specs.Input.{clauses_in_table, witnesses_in_table, with_skolems, first_over, used_symbols, numeral_of};
 ghost use Rattle.clausify.specs.Laws.{AreTrueRows};
 ghost use Rattle.clausify.specs.Names.{HasNoSkolemRelation};
@@ -28,16 +28,16 @@ fn fits(symbols: &Symbols)
 
 // The clauses of a problem whose formulas are within the limit.
 fn made(alloc: Global, problem: &Problem, symbols: &mut Symbols) -> Result<Clauses, AllocError>
-    requires sound { IsSound (stated_of problem.now) }
+    requires well_formed { IsWellFormed (stated_of problem.now) }
     requires small { length problem.now.symbols ≤ equality }
     requires table { KeepsNumbers problem.now.symbols symbols.old }
     requires no_relation { HasNoSkolemRelation problem.now.symbols symbols.old }
     ensures clauses { IfOk result (λ c. c.clauses.items ≡ clauses_in_table symbols.old (stated_of problem.now)) }
-    ensures skolem { IfOk result (λ c. map witness_of c.skolem.items ≡ witnesses_in_table symbols.old (stated_of problem.now)) }
+    ensures skolem { IfOk result (λ c. map skolem_axiom_of c.skolem.items ≡ witnesses_in_table symbols.old (stated_of problem.now)) }
     ensures symbols { IfOk result (λ c. map (λ s. s.0) c.symbols.items ≡ used_symbols problem.now.symbols (stated_of problem.now).formulas) }
     ensures numeral { IfOk result (λ c. c.numeral ≡ numeral_of (stated_of problem.now).formulas) }
-    ensures order { IfOk result (λ c. AreInOrder (map witness_of c.skolem.items)) }
-    ensures new { IfOk result (λ c. AreNewTo (stated_of problem.now).formulas (map witness_of c.skolem.items)) }
+    ensures order { IfOk result (λ c. AreInOrder (map skolem_axiom_of c.skolem.items)) }
+    ensures new { IfOk result (λ c. AreNewTo (stated_of problem.now).formulas (map skolem_axiom_of c.skolem.items)) }
     ensures table { OnOk result (symbols.new ≡ with_skolems symbols.old (stated_of problem.now)) }
     ensures kept { KeepsNumbers symbols.old symbols.new }
 {
@@ -61,17 +61,17 @@ pub fn clauses_of<I: Interpretation>(
     problem: &Problem,
     symbols: &mut Symbols,
 ) -> Result<Clauses, ClauseError>
-    requires sound { IsSound (stated_of problem.now) }
+    requires well_formed { IsWellFormed (stated_of problem.now) }
     requires table { KeepsNumbers problem.now.symbols symbols.old }
     requires no_relation { HasNoSkolemRelation problem.now.symbols symbols.old }
 
     ensures clauses { IfOk result (λ c. c.clauses.items ≡ clauses_in_table symbols.old (stated_of problem.now)) }
-    ensures skolem { IfOk result (λ c. map witness_of c.skolem.items ≡ witnesses_in_table symbols.old (stated_of problem.now)) }
+    ensures skolem { IfOk result (λ c. map skolem_axiom_of c.skolem.items ≡ witnesses_in_table symbols.old (stated_of problem.now)) }
     ensures symbols { IfOk result (λ c. map (λ s. s.0) c.symbols.items ≡ used_symbols problem.now.symbols (stated_of problem.now).formulas) }
     ensures numeral { IfOk result (λ c. c.numeral ≡ numeral_of (stated_of problem.now).formulas) }
     // Each Skolem symbol's body has those before it alone, and no formula has one.
-    ensures order { IfOk result (λ c. AreInOrder (map witness_of c.skolem.items)) }
-    ensures new { IfOk result (λ c. AreNewTo (stated_of problem.now).formulas (map witness_of c.skolem.items)) }
+    ensures order { IfOk result (λ c. AreInOrder (map skolem_axiom_of c.skolem.items)) }
+    ensures new { IfOk result (λ c. AreNewTo (stated_of problem.now).formulas (map skolem_axiom_of c.skolem.items)) }
     ensures entered { OnOk result (symbols.new ≡ with_skolems symbols.old (stated_of problem.now)) }
     ensures kept { KeepsNumbers symbols.old symbols.new }
 
@@ -81,7 +81,7 @@ pub fn clauses_of<I: Interpretation>(
 
     // Clauses and formulas say the same.
     ensures suffice { IfOk result (λ c. AreTrueRows (I.meaning any.now) c.clauses.items → IsCountermodel (I.meaning any.now) (stated_of problem.now).formulas) }
-    ensures follow { IfOk result (λ c. PicksWitnesses (I.meaning any.now) (map witness_of c.skolem.items) → IsCountermodel (I.meaning any.now) (stated_of problem.now).formulas → AreTrueRows (I.meaning any.now) c.clauses.items) }
+    ensures follow { IfOk result (λ c. PicksWitnesses (I.meaning any.now) (map skolem_axiom_of c.skolem.items) → IsCountermodel (I.meaning any.now) (stated_of problem.now).formulas → AreTrueRows (I.meaning any.now) c.clauses.items) }
 {
     if let Some(formula) = first_over(&problem.inputs) {
         return Err(ClauseError::ClauseLimit { formula });

@@ -2,7 +2,7 @@
 use Rattle.std.proofs.Common.{◌≡◌, ℕ, zero, suc, true, ◌==◌, nat_lt, List, [], ◌∷◌, Some, None, codes, slice_index, if◌then◌else◌, ◌<◌, refl, sym, ap, ◌∙◌, arith}
 use Rattle.std.proofs.lemmas.Bool.{false≢true, ltb-true}
 use Rattle.fol_core.specs.Tree.{var, app, none, more}
-use Rattle.fol_core.specs.Fol.{Fol, equal, atom, both, either, every, some}
+use Rattle.fol_core.specs.Fol.{Fol, equal, atom, conjunction, disjunction, forall, exists}
 use Rattle.fol_core.specs.Free.{free_vars_of, closure_of}
 use Rattle.fol_core.specs.Meaning.{Meaning}
 use Rattle.fol_core.specs.Truth.{Assignment, Holds}
@@ -36,22 +36,22 @@ r = 3
 
 -- all x r(x,f(y))
 abbrev under : Fol
-under = every x (atom r (more (var x) (more (app f (more (var y) none)) none)))
+under = forall x (atom r (more (var x) (more (app f (more (var y) none)) none)))
 
 under-free : free_vars_of under ≡ y ∷ []
 under-free = refl
 
-under-closure : closure_of under ≡ every y under
+under-closure : closure_of under ≡ forall y under
 under-closure = refl
 
 -- exists x (f(x) = y) & (p(z) | q(x)): x is free behind the place where it is bound
 abbrev beside : Fol
-beside = both (some x (equal (app f (more (var x) none)) (var y))) (either (of_var p z) (of_var q x))
+beside = conjunction (exists x (equal (app f (more (var x) none)) (var y))) (disjunction (of_var p z) (of_var q x))
 
 beside-free : free_vars_of beside ≡ y ∷ z ∷ x ∷ []
 beside-free = refl
 
-beside-closure : closure_of beside ≡ every y (every z (every x beside))
+beside-closure : closure_of beside ≡ forall y (forall z (forall x beside))
 beside-closure = refl
 
 -- p/1 and f/1 entered, and p/1 again
@@ -80,7 +80,7 @@ two = record { within = λ n. nat_lt n 2; function = λ s ns. 0; relation = λ s
 
 -- (all x p(x)) | q(x): the last x is free
 abbrev outer : Fol
-outer = either (every x (of_var p x)) (of_var q x)
+outer = disjunction (forall x (of_var p x)) (of_var q x)
 
 -- it is false of the element 0, so its closure is false
 outer-at-0 : (e : Assignment) → e x ≡ 0 → ¬ Holds two e outer
@@ -90,7 +90,7 @@ outer-closure : (e : Assignment) → ¬ Holds two e (closure_of outer)
 outer-closure e h = outer-at-0 (λ v. if v == x then 0 else e v) refl (h 0 refl)
 
 -- while all x (p(x) | q(x)) is true
-inner : (e : Assignment) → Holds two e (every x (either (of_var p x) (of_var q x)))
+inner : (e : Assignment) → Holds two e (forall x (disjunction (of_var p x) (of_var q x)))
 inner e zero within neither = neither.0 refl
 inner e (suc zero) within neither = neither.1 refl
 inner e (suc (suc n)) within neither = let below : suc (suc n) < 2 = ltb-true (suc (suc n)) 2 within in omega arith

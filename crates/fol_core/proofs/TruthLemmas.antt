@@ -2,7 +2,7 @@
 use Rattle.std.proofs.Common.{◌≡◌, ◌↔◌, inl, inr, ℕ, Bool, true, false, ◌==◌, ◌||◌, if◌then◌else◌, IsTrue, List, [], ◌∷◌, refl, sym, ap, ap₂, subst, ◌∙◌}
 use Rattle.std.proofs.lemmas.Bool.{or_left, or_right, or_parts, eq-eqb, eqb-true, cases_eq, false≢true}
 use Rattle.fol_core.specs.Tree.{Tree, var, elem, app, Trees, none, more}
-use Rattle.fol_core.specs.Fol.{Fol, verum, falsum, equal, atom, denied, both, either, implies, iff, every, some}
+use Rattle.fol_core.specs.Fol.{Fol, verum, falsum, equal, atom, negation, conjunction, disjunction, implication, equivalence, forall, exists}
 use Rattle.fol_core.specs.Free.{is_in, joined, without, variables_of, variables_of_all, free_vars_of, closed_over, closure_of}
 use Rattle.fol_core.specs.Meaning.{Meaning, AllWithin, IsLawful}
 use Rattle.fol_core.specs.Truth.{Assignment, with_var, IsWithin, value_of, values_of, Holds}
@@ -23,13 +23,13 @@ module _ (m : Meaning) where
   stable e falsum h = h (λ x. x)
   stable e (equal s t) h = number_stable (value_of m e s) (value_of m e t) h
   stable e (atom r ts) h = test_stable (m.relation r (values_of m e ts)) h
-  stable e (denied f) h = λ x. h (λ k. k x)
-  stable e (both f g) h = (stable e f (λ k. h (λ p. k p.0)), stable e g (λ k. h (λ p. k p.1)))
-  stable e (either f g) h = λ k. h (λ p. p k)
-  stable e (implies f g) h = λ x. stable e g (λ k. h (λ p. k (p x)))
-  stable e (iff f g) h = (λ x. stable e g (λ k. h (λ p. k (p.0 x))), λ x. stable e f (λ k. h (λ p. k (p.1 x))))
-  stable e (every x f) h = λ n w. stable (with_var e x n) f (λ k. h (λ p. k (p n w)))
-  stable e (some x f) h = λ k. h (λ p. p k)
+  stable e (negation f) h = λ x. h (λ k. k x)
+  stable e (conjunction f g) h = (stable e f (λ k. h (λ p. k p.0)), stable e g (λ k. h (λ p. k p.1)))
+  stable e (disjunction f g) h = λ k. h (λ p. p k)
+  stable e (implication f g) h = λ x. stable e g (λ k. h (λ p. k (p x)))
+  stable e (equivalence f g) h = (λ x. stable e g (λ k. h (λ p. k (p.0 x))), λ x. stable e f (λ k. h (λ p. k (p.1 x))))
+  stable e (forall x f) h = λ n w. stable (with_var e x n) f (λ k. h (λ p. k (p n w)))
+  stable e (exists x f) h = λ k. h (λ p. p k)
 
 abbrev Agree : List ℕ → Assignment → Assignment → Type 0
 Agree xs d e = (x : ℕ) → IsTrue (is_in x xs) → d x ≡ e x
@@ -65,25 +65,25 @@ module _ (m : Meaning) where
   alike d e falsum h = refl
   alike d e (equal s t) h = λ i. alike_value d e s (agree_left (variables_of s) (variables_of t) d e h) i ≡ alike_value d e t (agree_right (variables_of s) (variables_of t) d e h) i
   alike d e (atom r ts) h = λ i. IsTrue (m.relation r (alike_values d e ts h i))
-  alike d e (denied f) h = λ i. ¬ alike d e f h i
-  alike d e (both f g) h =
+  alike d e (negation f) h = λ i. ¬ alike d e f h i
+  alike d e (conjunction f g) h =
       let l = alike d e f (agree_left (free_vars_of f) (free_vars_of g) d e h) in
       let r = alike d e g (agree_right (free_vars_of f) (free_vars_of g) d e h) in
       λ i. l i × r i
-  alike d e (either f g) h =
+  alike d e (disjunction f g) h =
       let l = alike d e f (agree_left (free_vars_of f) (free_vars_of g) d e h) in
       let r = alike d e g (agree_right (free_vars_of f) (free_vars_of g) d e h) in
       λ i. ¬ (¬ l i × ¬ r i)
-  alike d e (implies f g) h =
+  alike d e (implication f g) h =
       let l = alike d e f (agree_left (free_vars_of f) (free_vars_of g) d e h) in
       let r = alike d e g (agree_right (free_vars_of f) (free_vars_of g) d e h) in
       λ i. l i → r i
-  alike d e (iff f g) h =
+  alike d e (equivalence f g) h =
       let l = alike d e f (agree_left (free_vars_of f) (free_vars_of g) d e h) in
       let r = alike d e g (agree_right (free_vars_of f) (free_vars_of g) d e h) in
       λ i. (l i → r i) × (r i → l i)
-  alike d e (every x f) h = λ i. (n : ℕ) → IsTrue (m.within n) → alike (with_var d x n) (with_var e x n) f (agree_bound (free_vars_of f) d e x n h) i
-  alike d e (some x f) h = λ i. ¬ ((n : ℕ) → IsTrue (m.within n) → ¬ alike (with_var d x n) (with_var e x n) f (agree_bound (free_vars_of f) d e x n h) i)
+  alike d e (forall x f) h = λ i. (n : ℕ) → IsTrue (m.within n) → alike (with_var d x n) (with_var e x n) f (agree_bound (free_vars_of f) d e x n h) i
+  alike d e (exists x f) h = λ i. ¬ ((n : ℕ) → IsTrue (m.within n) → ¬ alike (with_var d x n) (with_var e x n) f (agree_bound (free_vars_of f) d e x n h) i)
 
 pub free_decide : (m : Meaning) (d e : Assignment) (f : Fol) → Agree (free_vars_of f) d e → Holds m d f ↔ Holds m e f
 free_decide m d e f h = (subst (λ A. A) (alike m d e f h), subst (λ A. A) (sym (alike m d e f h)))

@@ -8,7 +8,7 @@ use Rattle.std.proofs.lemmas.Bool.Decides.{nat_tests}
 use Rattle.fol_core.specs.Tree.{Tree, var, elem, app, Trees, none, more, trees_of}
 use Rattle.fol_core.specs.TermView.{tree_of, tree_list}
 use Rattle.fol_core.specs.declared.term.Term.{Term}
-use Rattle.fol_core.specs.Fol.{Fol, verum, falsum, equal, atom, denied, both, either, implies, iff, every, some}
+use Rattle.fol_core.specs.Fol.{Fol, verum, falsum, equal, atom, negation, conjunction, disjunction, implication, equivalence, forall, exists}
 use Rattle.fol_core.specs.Bound.{IsOnce}
 use Rattle.fol_core.specs.Free.{is_in, noted, joined, without, variables_of, variables_of_all, free_vars_of, closed_over}
 use Rattle.fol_core.specs.Outside.{outside}
@@ -148,13 +148,13 @@ free_once verum = refl
 free_once falsum = refl
 free_once (equal s t) = once_joined (variables_of s) (variables_of t) (once s)
 free_once (atom r ts) = once_all ts
-free_once (denied f) = free_once f
-free_once (both f g) = once_joined (free_vars_of f) (free_vars_of g) (free_once f)
-free_once (either f g) = once_joined (free_vars_of f) (free_vars_of g) (free_once f)
-free_once (implies f g) = once_joined (free_vars_of f) (free_vars_of g) (free_once f)
-free_once (iff f g) = once_joined (free_vars_of f) (free_vars_of g) (free_once f)
-free_once (every x f) = sym (without_joined x [] (free_vars_of f)) ∙ ap (without x) (free_once f)
-free_once (some x f) = sym (without_joined x [] (free_vars_of f)) ∙ ap (without x) (free_once f)
+free_once (negation f) = free_once f
+free_once (conjunction f g) = once_joined (free_vars_of f) (free_vars_of g) (free_once f)
+free_once (disjunction f g) = once_joined (free_vars_of f) (free_vars_of g) (free_once f)
+free_once (implication f g) = once_joined (free_vars_of f) (free_vars_of g) (free_once f)
+free_once (equivalence f g) = once_joined (free_vars_of f) (free_vars_of g) (free_once f)
+free_once (forall x f) = sym (without_joined x [] (free_vars_of f)) ∙ ap (without x) (free_once f)
+free_once (exists x f) = sym (without_joined x [] (free_vars_of f)) ∙ ap (without x) (free_once f)
 
 turned : (x y : ℕ) → (x == y) ≡ false → (y == x) ≡ false
 turned x y h = grind (arith, nat_tests)
@@ -179,9 +179,9 @@ pub free_vars_once : (f : Fol) → IsOnce (free_vars_of f)
 free_vars_once f = subst IsOnce (free_once f) (joined_once [] (free_vars_of f) tt)
 
 -- a quantifier goes round the formula before those of the variables in front
-pub closed_over_push : (xs : List ℕ) (x : ℕ) (f : Fol) → closed_over (xs ++ x ∷ []) f ≡ closed_over xs (every x f)
+pub closed_over_push : (xs : List ℕ) (x : ℕ) (f : Fol) → closed_over (xs ++ x ∷ []) f ≡ closed_over xs (forall x f)
 closed_over_push [] x f = refl
-closed_over_push (y ∷ ys) x f = ap (every y) (closed_over_push ys x f)
+closed_over_push (y ∷ ys) x f = ap (forall y) (closed_over_push ys x f)
 
 -- the variables of the terms from a place on
 abbrev variables_from : List Term → ℕ → List ℕ

@@ -1,7 +1,7 @@
 -- Which variables a formula binds, and which symbols it has.
 use Rattle.std.specs.Prelude.{ℕ, Bool, false, ◌==◌, ◌||◌, ◌≡◌, ◌<◌, IsTrue, List, [], ◌∷◌, ◌++◌}
 use Rattle.fol_core.specs.Tree.{Tree, var, elem, app, Trees, none, more}
-use Rattle.fol_core.specs.Fol.{Fol, verum, falsum, equal, atom, denied, both, either, implies, iff, every, some}
+use Rattle.fol_core.specs.Fol.{Fol, verum, falsum, equal, atom, negation, conjunction, disjunction, implication, equivalence, forall, exists}
 use Rattle.fol_core.specs.Free.{is_in, closure_of}
 
 -- the variables of the quantifiers, from left to right
@@ -10,13 +10,13 @@ binders_of verum = []
 binders_of falsum = []
 binders_of (equal s t) = []
 binders_of (atom r ts) = []
-binders_of (denied f) = binders_of f
-binders_of (both f g) = binders_of f ++ binders_of g
-binders_of (either f g) = binders_of f ++ binders_of g
-binders_of (implies f g) = binders_of f ++ binders_of g
-binders_of (iff f g) = binders_of f ++ binders_of g
-binders_of (every x f) = x ∷ binders_of f
-binders_of (some x f) = x ∷ binders_of f
+binders_of (negation f) = binders_of f
+binders_of (conjunction f g) = binders_of f ++ binders_of g
+binders_of (disjunction f g) = binders_of f ++ binders_of g
+binders_of (implication f g) = binders_of f ++ binders_of g
+binders_of (equivalence f g) = binders_of f ++ binders_of g
+binders_of (forall x f) = x ∷ binders_of f
+binders_of (exists x f) = x ∷ binders_of f
 
 -- no number stands twice
 abbrev pub IsOnce : List ℕ → Type 0
@@ -44,13 +44,13 @@ uses_symbol n verum = false
 uses_symbol n falsum = false
 uses_symbol n (equal s t) = has_symbol n s || has_symbol n t
 uses_symbol n (atom r ts) = n == r || have_symbol n ts
-uses_symbol n (denied f) = uses_symbol n f
-uses_symbol n (both f g) = uses_symbol n f || uses_symbol n g
-uses_symbol n (either f g) = uses_symbol n f || uses_symbol n g
-uses_symbol n (implies f g) = uses_symbol n f || uses_symbol n g
-uses_symbol n (iff f g) = uses_symbol n f || uses_symbol n g
-uses_symbol n (every x f) = uses_symbol n f
-uses_symbol n (some x f) = uses_symbol n f
+uses_symbol n (negation f) = uses_symbol n f
+uses_symbol n (conjunction f g) = uses_symbol n f || uses_symbol n g
+uses_symbol n (disjunction f g) = uses_symbol n f || uses_symbol n g
+uses_symbol n (implication f g) = uses_symbol n f || uses_symbol n g
+uses_symbol n (equivalence f g) = uses_symbol n f || uses_symbol n g
+uses_symbol n (forall x f) = uses_symbol n f
+uses_symbol n (exists x f) = uses_symbol n f
 
 -- each symbol of the formula has a number below this one
 abbrev pub HasSymbolsBelow : ℕ → Fol → Type 0

@@ -8,13 +8,13 @@ pub data Fol : Type 0 where
   falsum : Fol
   equal : Tree → Tree → Fol
   atom : ℕ → Trees → Fol
-  denied : Fol → Fol
-  both : Fol → Fol → Fol
-  either : Fol → Fol → Fol
-  implies : Fol → Fol → Fol
-  iff : Fol → Fol → Fol
-  every : ℕ → Fol → Fol
-  some : ℕ → Fol → Fol
+  negation : Fol → Fol
+  conjunction : Fol → Fol → Fol
+  disjunction : Fol → Fol → Fol
+  implication : Fol → Fol → Fol
+  equivalence : Fol → Fol → Fol
+  forall : ℕ → Fol → Fol
+  exists : ℕ → Fol → Fol
 
 -- a measure that grows with each level
 abbrev pub folds : Fol → ℕ
@@ -22,10 +22,10 @@ folds verum = 1
 folds falsum = 1
 folds (equal s t) = 1
 folds (atom r ts) = 1
-folds (denied f) = folds f + 2
-folds (both f g) = folds f + folds g + 2
-folds (either f g) = folds f + folds g + 2
-folds (implies f g) = folds f + folds g + 2
-folds (iff f g) = folds f + folds g + 2
-folds (every x f) = folds f + 2
-folds (some x f) = folds f + 2
+folds (negation f) = folds f + 2
+folds (conjunction f g) = folds f + folds g + 2
+folds (disjunction f g) = folds f + folds g + 2
+folds (implication f g) = folds f + folds g + 2
+folds (equivalence f g) = folds f + folds g + 2
+folds (forall x f) = folds f + 2
+folds (exists x f) = folds f + 2

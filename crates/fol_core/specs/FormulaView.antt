@@ -1,6 +1,6 @@
 -- The tree of a formula of the code.
 use Rattle.fol_core.specs.Tree.{trees_of}
-use Rattle.fol_core.specs.Fol.{Fol, verum, falsum, equal, atom, denied, both, either, implies, iff, every, some}
+use Rattle.fol_core.specs.Fol.{Fol, verum, falsum, equal, atom, negation, conjunction, disjunction, implication, equivalence, forall, exists}
 use Rattle.fol_core.specs.TermView.{tree_of}
 use Rattle.fol_core.specs.declared.formula.Shape.{Shape}
 use Rattle.fol_core.specs.declared.formula.Shape.TheVariants.{True, False, Eq, Atom, Not, And, Or, If, Iff, All, Exists}
@@ -10,10 +10,10 @@ fol_of True = verum
 fol_of False = falsum
 fol_of (Eq s t) = equal (tree_of s) (tree_of t)
 fol_of (Atom r ts) = atom r.0 (trees_of ts)
-fol_of (Not f) = denied f
-fol_of (And f g) = both f g
-fol_of (Or f g) = either f g
-fol_of (If f g) = implies f g
-fol_of (Iff f g) = iff f g
-fol_of (All x f) = every x f
-fol_of (Exists x f) = some x f
+fol_of (Not f) = negation f
+fol_of (And f g) = conjunction f g
+fol_of (Or f g) = disjunction f g
+fol_of (If f g) = implication f g
+fol_of (Iff f g) = equivalence f g
+fol_of (All x f) = forall x f
+fol_of (Exists x f) = exists x f

@@ -2,7 +2,7 @@
 use Rattle.std.specs.Prelude.{ℕ, Bool, ◌==◌, if◌then◌else◌, List, [], ◌∷◌, ◌++◌}
 use Rattle.std.specs.List.{list_any}
 use Rattle.fol_core.specs.Tree.{Tree, var, elem, app, Trees, none, more}
-use Rattle.fol_core.specs.Fol.{Fol, verum, falsum, equal, atom, denied, both, either, implies, iff, every, some}
+use Rattle.fol_core.specs.Fol.{Fol, verum, falsum, equal, atom, negation, conjunction, disjunction, implication, equivalence, forall, exists}
 
 -- whether x is among the numbers
 abbrev pub is_in : ℕ → List ℕ → Bool
@@ -39,18 +39,18 @@ free_vars_of verum = []
 free_vars_of falsum = []
 free_vars_of (equal s t) = joined (variables_of s) (variables_of t)
 free_vars_of (atom r ts) = variables_of_all ts
-free_vars_of (denied f) = free_vars_of f
-free_vars_of (both f g) = joined (free_vars_of f) (free_vars_of g)
-free_vars_of (either f g) = joined (free_vars_of f) (free_vars_of g)
-free_vars_of (implies f g) = joined (free_vars_of f) (free_vars_of g)
-free_vars_of (iff f g) = joined (free_vars_of f) (free_vars_of g)
-free_vars_of (every x f) = without x (free_vars_of f)
-free_vars_of (some x f) = without x (free_vars_of f)
+free_vars_of (negation f) = free_vars_of f
+free_vars_of (conjunction f g) = joined (free_vars_of f) (free_vars_of g)
+free_vars_of (disjunction f g) = joined (free_vars_of f) (free_vars_of g)
+free_vars_of (implication f g) = joined (free_vars_of f) (free_vars_of g)
+free_vars_of (equivalence f g) = joined (free_vars_of f) (free_vars_of g)
+free_vars_of (forall x f) = without x (free_vars_of f)
+free_vars_of (exists x f) = without x (free_vars_of f)
 
 -- the formula under a universal quantifier for each of the variables, the first outermost
 abbrev pub closed_over : List ℕ → Fol → Fol
 closed_over [] f = f
-closed_over (x ∷ xs) f = every x (closed_over xs f)
+closed_over (x ∷ xs) f = forall x (closed_over xs f)
 
 -- the universal closure
 abbrev pub closure_of : Fol → Fol

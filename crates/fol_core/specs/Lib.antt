@@ -14,7 +14,7 @@ pub mod Meaning
 pub mod NamesOnce
 pub mod Occurs
 pub mod Outside
-pub mod Put
+pub mod Substitutions
 pub mod RawCodes
 pub mod RawFalls
 pub mod RawTree
@@ -34,4 +34,4 @@ pub mod WeightCodes
 pub mod WeightFalls
 pub mod WeightView
 pub mod Weights
-pub mod Witnesses
+pub mod SkolemAxioms

@@ -3,7 +3,7 @@ use Rattle.std.specs.Prelude.{ℕ, ◌≡◌, ◌<◌, suc, max, ◌==◌, Bool,
 use Rattle.std.specs.List.{list_any, slice_index_or}
 use Rattle.fol_core.specs.Tree.{Tree, var, elem, app, Trees, none, more}
 use Rattle.fol_core.specs.Bound.{uses_symbol}
-use Rattle.fol_core.specs.Fol.{Fol, verum, falsum, equal, atom, denied, both, either, implies, iff, every, some}
+use Rattle.fol_core.specs.Fol.{Fol, verum, falsum, equal, atom, negation, conjunction, disjunction, implication, equivalence, forall, exists}
 
 -- whether a symbol stands in one of the formulas
 abbrev pub occurs_in : ℕ → List Fol → Bool
@@ -30,13 +30,13 @@ above_numerals verum = 0
 above_numerals falsum = 0
 above_numerals (equal s t) = max (above_elements s) (above_elements t)
 above_numerals (atom r ts) = above_all_elements ts
-above_numerals (denied f) = above_numerals f
-above_numerals (both f g) = max (above_numerals f) (above_numerals g)
-above_numerals (either f g) = max (above_numerals f) (above_numerals g)
-above_numerals (implies f g) = max (above_numerals f) (above_numerals g)
-above_numerals (iff f g) = max (above_numerals f) (above_numerals g)
-above_numerals (every x f) = above_numerals f
-above_numerals (some x f) = above_numerals f
+above_numerals (negation f) = above_numerals f
+above_numerals (conjunction f g) = max (above_numerals f) (above_numerals g)
+above_numerals (disjunction f g) = max (above_numerals f) (above_numerals g)
+above_numerals (implication f g) = max (above_numerals f) (above_numerals g)
+above_numerals (equivalence f g) = max (above_numerals f) (above_numerals g)
+above_numerals (forall x f) = above_numerals f
+above_numerals (exists x f) = above_numerals f
 
 -- the least size that has each element that the formulas name
 abbrev pub size_needed : List Fol → ℕ
@@ -60,10 +60,10 @@ names k verum = false
 names k falsum = false
 names k (equal s t) = names_in k s || names_in k t
 names k (atom r ts) = names_in_any k ts
-names k (denied f) = names k f
-names k (both f g) = names k f || names k g
-names k (either f g) = names k f || names k g
-names k (implies f g) = names k f || names k g
-names k (iff f g) = names k f || names k g
-names k (every x f) = names k f
-names k (some x f) = names k f
+names k (negation f) = names k f
+names k (conjunction f g) = names k f || names k g
+names k (disjunction f g) = names k f || names k g
+names k (implication f g) = names k f || names k g
+names k (equivalence f g) = names k f || names k g
+names k (forall x f) = names k f
+names k (exists x f) = names k f

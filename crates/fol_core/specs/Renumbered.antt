@@ -3,7 +3,7 @@ use Rattle.std.specs.Prelude.{ℕ, ◌==◌, List, [], ◌∷◌, map, unwrap_or
 use Rattle.fol_core.specs.Tree.{var}
 use Rattle.fol_core.specs.Free.{joined, variables_of}
 use Rattle.fol_core.specs.Literals.{literal, ClauseTree}
-use Rattle.fol_core.specs.Put.{Substitution, put}
+use Rattle.fol_core.specs.Substitutions.{Substitution, substitute}
 use Rattle.fol_core.specs.SymbolTable.{first_place}
 
 -- the variables of a clause, each once, by first occurrence
@@ -21,4 +21,4 @@ by_place xs = λ x. var (place_in xs x)
 
 -- the clause with its variables numbered by first occurrence
 abbrev pub renumbered : ClauseTree → ClauseTree
-renumbered c = map (λ l. literal l.positive (put (by_place (clause_variables c)) l.atom)) c
+renumbered c = map (λ l. literal l.positive (substitute (by_place (clause_variables c)) l.atom)) c

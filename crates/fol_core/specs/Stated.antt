@@ -7,7 +7,7 @@ use Rattle.fol_core.specs.Free.{closure_of}
 use Rattle.fol_core.specs.Meaning.{Meaning}
 use Rattle.fol_core.specs.SymbolTable.{Symbol}
 use Rattle.fol_core.specs.Truth.{Assignment, Holds}
-use Rattle.fol_core.specs.Witnesses.{Witness, AreNotIn}
+use Rattle.fol_core.specs.SkolemAxioms.{SkolemAxiom, AreNotIn}
 use Rattle.fol_core.specs.declared.problem.Input.{Input}
 use Rattle.fol_core.specs.declared.problem.Problem.{Problem}
 use Rattle.fol_core.specs.declared.problem.Role.{Role}
@@ -40,16 +40,16 @@ abbrev pub stated_of : Problem → Stated
 stated_of p = stated p.symbols (all_said p.inputs.items)
 
 -- each formula binds a variable once, and its symbols have numbers below this one
-abbrev pub AreSound : ℕ → List Said → Type 0
-AreSound size [] = Unit {0}
-AreSound size (s ∷ ss) = BindsOnce s.formula × HasSymbolsBelow size s.formula × AreSound size ss
+abbrev pub AreWellFormed : ℕ → List Said → Type 0
+AreWellFormed size [] = Unit {0}
+AreWellFormed size (s ∷ ss) = BindsOnce s.formula × HasSymbolsBelow size s.formula × AreWellFormed size ss
 
 -- the formulas bind variables once, and have symbols of the table alone
-abbrev pub IsSound : Stated → Type 0
-IsSound p = AreSound (length p.symbols) p.formulas
+abbrev pub IsWellFormed : Stated → Type 0
+IsWellFormed p = AreWellFormed (length p.symbols) p.formulas
 
 -- the symbols of the witnesses stand in none of the formulas
-abbrev pub AreNewTo : List Said → List Witness → Type 0
+abbrev pub AreNewTo : List Said → List SkolemAxiom → Type 0
 AreNewTo [] ws = Unit {0}
 AreNewTo (s ∷ ss) ws = AreNotIn ws s.formula × AreNewTo ss ws
 

@@ -1,7 +1,7 @@
 -- The value of a term and the truth of a formula in an interpretation.
 use Rattle.std.specs.Prelude.{ℕ, ◌≡◌, ◌==◌, if◌then◌else◌, IsTrue, List, [], ◌∷◌}
 use Rattle.fol_core.specs.Tree.{Tree, var, elem, app, Trees, none, more}
-use Rattle.fol_core.specs.Fol.{Fol, verum, falsum, equal, atom, denied, both, either, implies, iff, every, some}
+use Rattle.fol_core.specs.Fol.{Fol, verum, falsum, equal, atom, negation, conjunction, disjunction, implication, equivalence, forall, exists}
 use Rattle.fol_core.specs.Meaning.{Meaning}
 
 -- an assignment gives each variable an element
@@ -34,10 +34,10 @@ Holds m e verum = Unit {0}
 Holds m e falsum = ⊥
 Holds m e (equal s t) = value_of m e s ≡ value_of m e t
 Holds m e (atom r ts) = IsTrue (m.relation r (values_of m e ts))
-Holds m e (denied f) = ¬ Holds m e f
-Holds m e (both f g) = Holds m e f × Holds m e g
-Holds m e (either f g) = ¬ (¬ Holds m e f × ¬ Holds m e g)
-Holds m e (implies f g) = Holds m e f → Holds m e g
-Holds m e (iff f g) = (Holds m e f → Holds m e g) × (Holds m e g → Holds m e f)
-Holds m e (every x f) = (n : ℕ) → IsTrue (m.within n) → Holds m (with_var e x n) f
-Holds m e (some x f) = ¬ ((n : ℕ) → IsTrue (m.within n) → ¬ Holds m (with_var e x n) f)
+Holds m e (negation f) = ¬ Holds m e f
+Holds m e (conjunction f g) = Holds m e f × Holds m e g
+Holds m e (disjunction f g) = ¬ (¬ Holds m e f × ¬ Holds m e g)
+Holds m e (implication f g) = Holds m e f → Holds m e g
+Holds m e (equivalence f g) = (Holds m e f → Holds m e g) × (Holds m e g → Holds m e f)
+Holds m e (forall x f) = (n : ℕ) → IsTrue (m.within n) → Holds m (with_var e x n) f
+Holds m e (exists x f) = ¬ ((n : ℕ) → IsTrue (m.within n) → ¬ Holds m (with_var e x n) f)

@@ -14,8 +14,6 @@ mod problem;
 mod raw;
 mod symbols;
 mod term;
-#[cfg(test)]
-mod tests;
 mod weights;
 
 pub use clause::{Clause, Clauses, EQ, Entry, Literal};

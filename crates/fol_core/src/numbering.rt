@@ -2,7 +2,7 @@
 ghost use Rattle.std.specs.Prelude.{◌≡◌, IfOk, map};
 ghost use Rattle.fol_core.specs.ClauseView.{literal_of};
 ghost use Rattle.fol_core.specs.Literals.{literal};
-ghost use Rattle.fol_core.specs.Put.{put};
+ghost use Rattle.fol_core.specs.Substitutions.{substitute};
 ghost use Rattle.fol_core.specs.Renumbered.{clause_variables, place_in, by_place, renumbered};
 ghost use Rattle.fol_core.specs.TermView.{tree_of};
 
@@ -26,7 +26,7 @@ fn placed_clause(
     clause: &Clause,
     variables: &IndexSet<u64>,
 ) -> Result<Clause, AllocError>
-    ensures { IfOk result (λ c. c ≡ map (λ l. literal l.positive (put (by_place variables.now.keys) l.atom)) clause.now) }
+    ensures { IfOk result (λ c. c ≡ map (λ l. literal l.positive (substitute (by_place variables.now.keys) l.atom)) clause.now) }
 {
     let mut made = Clause::new(alloc);
     for literal in &clause.literals {
@@ -64,7 +64,7 @@ fn place(x: u64, variables: &IndexSet<u64>) -> u64
 
 // The term with the places of its variables in their stead.
 fn placed(alloc: Global, term: &Term, variables: &IndexSet<u64>) -> Result<Term, AllocError>
-    ensures { IfOk result (λ t. tree_of t ≡ put (by_place variables.now.keys) (tree_of term.now)) }
+    ensures { IfOk result (λ t. tree_of t ≡ substitute (by_place variables.now.keys) (tree_of term.now)) }
 {
     match term {
         Term::Var(x) => Ok(Term::Var(place(*x, variables))),

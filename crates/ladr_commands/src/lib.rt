@@ -9,8 +9,6 @@ mod interpretation;
 mod laws;
 mod numbers;
 mod read;
-#[cfg(test)]
-mod tests;
 mod wanted;
 mod word;
 

@@ -3,7 +3,7 @@ use Rattle.std.proofs.Common.{◌≡◌, ℕ, ◌+◌, ◌<◌, ◌==◌, nat_lt
 use Rattle.std.proofs.lemmas.Bool.{and_parts, or_left, or_right}
 use Rattle.std.proofs.lemmas.Bool.Decides.{nat_tests}
 use Rattle.fol_core.specs.Bound.{has_symbol, have_symbol, uses_symbol}
-use Rattle.fol_core.specs.Fol.{Fol, verum, falsum, equal, atom, denied, both, either, implies, iff, every, some}
+use Rattle.fol_core.specs.Fol.{Fol, verum, falsum, equal, atom, negation, conjunction, disjunction, implication, equivalence, forall, exists}
 use Rattle.fol_core.specs.Occurs.{names_in, names_in_any, names}
 use Rattle.fol_core.specs.Tree.{Tree, var, elem, app, Trees, none, more}
 use Rattle.model_tables.specs.Tables.{Finite, has}
@@ -78,13 +78,13 @@ module _ (t : Finite) where
   tells falsum = tells_nothing
   tells (equal u v) = tells_both (covers_term t u) (covers_term t v) (λ s. has_symbol s u) (λ k. names_in k u) (λ s. has_symbol s v) (λ k. names_in k v) (tells_term u) (tells_term v)
   tells (atom r us) = tells_both (has t r) (covers_terms t us) (λ s. s == r) (λ k. false) (λ s. have_symbol s us) (λ k. names_in_any k us) (tells_symbol r) (tells_terms us)
-  tells (denied f) = tells f
-  tells (both f g) = tells_two f g (tells f) (tells g)
-  tells (either f g) = tells_two f g (tells f) (tells g)
-  tells (implies f g) = tells_two f g (tells f) (tells g)
-  tells (iff f g) = tells_two f g (tells f) (tells g)
-  tells (every x f) = tells f
-  tells (some x f) = tells f
+  tells (negation f) = tells f
+  tells (conjunction f g) = tells_two f g (tells f) (tells g)
+  tells (disjunction f g) = tells_two f g (tells f) (tells g)
+  tells (implication f g) = tells_two f g (tells f) (tells g)
+  tells (equivalence f g) = tells_two f g (tells f) (tells g)
+  tells (forall x f) = tells f
+  tells (exists x f) = tells f
 
   decided : (b : Bool) (p q : ℕ → Bool) → Tells b p q → MatchBool b (AreThere p q) (¬ AreThere p q)
   decided true p q h = h.there refl

@@ -1,7 +1,7 @@
 -- Which formulas a finite interpretation covers.
 use Rattle.std.specs.Prelude.{ℕ, ◌+◌, ◌<◌, nat_lt, Bool, true, ◌&&◌, IsTrue}
 use Rattle.fol_core.specs.Bound.{uses_symbol}
-use Rattle.fol_core.specs.Fol.{Fol, verum, falsum, equal, atom, denied, both, either, implies, iff, every, some}
+use Rattle.fol_core.specs.Fol.{Fol, verum, falsum, equal, atom, negation, conjunction, disjunction, implication, equivalence, forall, exists}
 use Rattle.fol_core.specs.Occurs.{names}
 use Rattle.fol_core.specs.Tree.{Tree, var, elem, app, Trees, none, more}
 use Rattle.model_tables.specs.Tables.{Finite, has}
@@ -27,10 +27,10 @@ covers t verum = true
 covers t falsum = true
 covers t (equal u v) = covers_term t u && covers_term t v
 covers t (atom r us) = has t r && covers_terms t us
-covers t (denied f) = covers t f
-covers t (both f g) = covers t f && covers t g
-covers t (either f g) = covers t f && covers t g
-covers t (implies f g) = covers t f && covers t g
-covers t (iff f g) = covers t f && covers t g
-covers t (every x f) = covers t f
-covers t (some x f) = covers t f
+covers t (negation f) = covers t f
+covers t (conjunction f g) = covers t f && covers t g
+covers t (disjunction f g) = covers t f && covers t g
+covers t (implication f g) = covers t f && covers t g
+covers t (equivalence f g) = covers t f && covers t g
+covers t (forall x f) = covers t f
+covers t (exists x f) = covers t f

@@ -1,6 +1,6 @@
 -- Formulas for examples.
 use Rattle.std.specs.Prelude.{ℕ, List, [], ◌∷◌}
-use Rattle.fol_core.specs.Fol.{Fol, equal, atom, denied, every}
+use Rattle.fol_core.specs.Fol.{Fol, equal, atom, negation, forall}
 use Rattle.fol_core.specs.Tree.{Tree, var, elem, app, none, more}
 use Rattle.fol_core.specs.declared.symbols.Kind.TheVariants.{Function, Relation}
 use Rattle.model_tables.specs.Tables.{Finite, listing}
@@ -18,4 +18,4 @@ related t = atom 2 (more t none)
 
 -- "for each x, not r(x)", `r(1)`, `r(2)`, and `c1 = c0`
 abbrev pub formulas : List Fol
-formulas = every 0 (denied (related (var 0))) ∷ related (elem 1) ∷ related (elem 2) ∷ equal (constant 1) (constant 0) ∷ []
+formulas = forall 0 (negation (related (var 0))) ∷ related (elem 1) ∷ related (elem 2) ∷ equal (constant 1) (constant 0) ∷ []

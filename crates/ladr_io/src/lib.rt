@@ -14,5 +14,3 @@ pub use reading::{ReadAll, read_all};
 pub use streams::{Failed, Sink, Source};
 pub use writing::write_all;
 
-#[cfg(test)]
-mod tests;

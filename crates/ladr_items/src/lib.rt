@@ -11,5 +11,3 @@ pub use item::ListItem;
 pub use laws::{one_item, same_tokens, worked, worked_cuts, worked_faults};
 pub use read::read_list_item;
 
-#[cfg(test)]
-mod tests;

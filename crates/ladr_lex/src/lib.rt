@@ -8,8 +8,6 @@ mod numeral;
 mod operators;
 mod places;
 mod scan;
-#[cfg(test)]
-mod tests;
 mod token;
 
 pub use laws::{one_cutting, one_numeral, one_operator, worked, worked_clauses, worked_operators};

@@ -1,6 +1,6 @@
 -- The text of an interpretation and its tokens, worked out.
 use Rattle.std.specs.Prelude.{ℕ, List, [], ◌∷◌, codes}
-use Rattle.fol_core.specs.Fol.{equal, denied, atom}
+use Rattle.fol_core.specs.Fol.{equal, negation, atom}
 use Rattle.fol_core.specs.Stated.{Stated, said, stated}
 use Rattle.fol_core.specs.SymbolTable.{symbol}
 use Rattle.fol_core.specs.Tree.{app, none, more}
@@ -16,7 +16,7 @@ use Rattle.model_tables.specs.Tables.{Finite, listing}
 abbrev pub pair : Stated
 pair =
     stated (symbol (codes "\"a b\"") 0 Function ∷ symbol (codes "h") 2 Function ∷ symbol (codes "-") 1 Function ∷ symbol (codes "p") 0 Relation ∷ [])
-    (said Assumption (denied (equal (app 2 (more (app 0 none) none)) (app 0 none))) ∷ said Assumption (atom 3 none) ∷ [])
+    (said Assumption (negation (equal (app 2 (more (app 0 none) none)) (app 0 none))) ∷ said Assumption (atom 3 none) ∷ [])
 
 abbrev pub pair_tables : Finite
 pair_tables = record { top = 1; rows = listing Function (1 ∷ []) ∷ listing Function [] ∷ listing Function (1 ∷ 0 ∷ []) ∷ listing Relation (1 ∷ []) ∷ [] }

@@ -3,8 +3,6 @@
 
 mod laws;
 mod named;
-#[cfg(test)]
-mod tests;
 
 pub use laws::worked;
 pub use named::{Named, NamedError, bind};

@@ -4,8 +4,6 @@
 mod laws;
 mod names;
 mod options;
-#[cfg(test)]
-mod tests;
 
 pub use laws::{options_stay_in_range, worked};
 pub use options::{NO_LIMIT, OptionError, Options, Order};

@@ -9,10 +9,10 @@ use Rattle.std.proofs.lemmas.Bool.{cases_lt, and_parts, and_from, cond_both, or_
 use Rattle.std.proofs.lemmas.Bool.Decides.{nat_tests}
 use Rattle.std.proofs.lemmas.Fmt.{digits_decimal}
 use Rattle.std.proofs.lemmas.Slice.Eq.{bytes_eq-Decides}
-use Rattle.fol_core.specs.Fol.{Fol, verum, falsum, equal, atom, denied, both, either, implies, iff, every, some}
+use Rattle.fol_core.specs.Fol.{Fol, verum, falsum, equal, atom, negation, conjunction, disjunction, implication, equivalence, forall, exists}
 use Rattle.fol_core.specs.Free.{is_in, joined, variables_of, variables_of_all}
 use Rattle.fol_core.specs.Literals.{Lit, ClauseTree, literal, equality}
-use Rattle.fol_core.specs.Put.{put, put_all}
+use Rattle.fol_core.specs.Substitutions.{substitute, substitute_all}
 use Rattle.fol_core.specs.RawTree.{RawTree, named, quantified, no_raws, more_raws}
 use Rattle.fol_core.specs.Renumbered.{clause_variables, place_in, by_place, renumbered}
 use Rattle.fol_core.specs.SymbolTable.{Symbol}
@@ -54,7 +54,7 @@ clause_once (l ∷ c) = once_joined (variables_of l.atom) (clause_variables c) (
 
 -- variables that stand at their places stay
 mutual
-  put_id : (xs : List ℕ) (t : Tree) → ((x : ℕ) → is_in x (variables_of t) ≡ true → place_in xs x ≡ x) → put (by_place xs) t ≡ t
+  put_id : (xs : List ℕ) (t : Tree) → ((x : ℕ) → is_in x (variables_of t) ≡ true → place_in xs x ≡ x) → substitute (by_place xs) t ≡ t
   put_id xs (var x) h = ap var (h x (at_first x))
     where
       at_first : (x : ℕ) → is_in x (x ∷ []) ≡ true
@@ -62,13 +62,13 @@ mutual
   put_id xs (elem k) h = refl
   put_id xs (app s ts) h = ap (app s) (put_all_id xs ts h)
 
-  put_all_id : (xs : List ℕ) (ts : Trees) → ((x : ℕ) → is_in x (variables_of_all ts) ≡ true → place_in xs x ≡ x) → put_all (by_place xs) ts ≡ ts
+  put_all_id : (xs : List ℕ) (ts : Trees) → ((x : ℕ) → is_in x (variables_of_all ts) ≡ true → place_in xs x ≡ x) → substitute_all (by_place xs) ts ≡ ts
   put_all_id xs none h = refl
   put_all_id xs (more t ts) h =
       ap₂ more (put_id xs t (λ x e. h x (is_in_joined x (variables_of t) (variables_of_all ts) ∙ or_left _ _ e)))
       (put_all_id xs ts (λ x e. h x (is_in_joined x (variables_of t) (variables_of_all ts) ∙ or_right _ _ e)))
 
-clause_id : (xs : List ℕ) (c : ClauseTree) → ((x : ℕ) → is_in x (clause_variables c) ≡ true → place_in xs x ≡ x) → map (λ l. literal l.positive (put (by_place xs) l.atom)) c ≡ c
+clause_id : (xs : List ℕ) (c : ClauseTree) → ((x : ℕ) → is_in x (clause_variables c) ≡ true → place_in xs x ≡ x) → map (λ l. literal l.positive (substitute (by_place xs) l.atom)) c ≡ c
 clause_id xs [] h = refl
 clause_id xs (l ∷ c) h =
     ap₂ (λ (m : Lit) (d : ClauseTree). m ∷ d) (ap (literal l.positive) (put_id xs l.atom (λ x e. h x (is_in_joined x (variables_of l.atom) (clause_variables c) ∙ or_left _ _ e))))
@@ -179,33 +179,33 @@ module _ (rows : List OperatorRow) (k : KeepsFixed rows) (prolog : Bool) (frees 
 
 -- the literals of a formula are printed as it is
 module _ (st : Style) (T : List Symbol) (v : Naming) (fewer : length T ≤ 65535) where
-  denied_raw : (f : Fol) (c : ClauseTree) → literals_in (denied f) ≡ Some c → (literals_in f ≡ literals_in f) → clause_raw T v c ≡ denial (formula_raw T v f)
+  denied_raw : (f : Fol) (c : ClauseTree) → literals_in (negation f) ≡ Some c → (literals_in f ≡ literals_in f) → clause_raw T v c ≡ denial (formula_raw T v f)
   denied_raw verum c h e = absurd (cc)
   denied_raw falsum c h e = absurd (cc)
   denied_raw (equal a b) c h e = let d : literal false (app equality (more a (more b none))) ∷ [] ≡ c = cc in ap (clause_raw T v) (sym d)
   denied_raw (atom r ts) c h e = let d : literal false (app r ts) ∷ [] ≡ c = cc in ap (clause_raw T v) (sym d)
-  denied_raw (denied f) c h e = absurd (cc)
-  denied_raw (both f g) c h e = absurd (cc)
-  denied_raw (either f g) c h e = absurd (cc)
-  denied_raw (implies f g) c h e = absurd (cc)
-  denied_raw (iff f g) c h e = absurd (cc)
-  denied_raw (every x f) c h e = absurd (cc)
-  denied_raw (some x f) c h e = absurd (cc)
+  denied_raw (negation f) c h e = absurd (cc)
+  denied_raw (conjunction f g) c h e = absurd (cc)
+  denied_raw (disjunction f g) c h e = absurd (cc)
+  denied_raw (implication f g) c h e = absurd (cc)
+  denied_raw (equivalence f g) c h e = absurd (cc)
+  denied_raw (forall x f) c h e = absurd (cc)
+  denied_raw (exists x f) c h e = absurd (cc)
 
   literals_raw : (f : Fol) (c : ClauseTree) → literals_in f ≡ Some c → clause_raw T v c ≡ formula_raw T v f
   literals_raw verum c h = absurd (cc)
   literals_raw falsum c h = absurd (cc)
   literals_raw (equal a b) c h = let d : literal true (app equality (more a (more b none))) ∷ [] ≡ c = cc in ap (clause_raw T v) (sym d)
   literals_raw (atom r ts) c h = let d : literal true (app r ts) ∷ [] ≡ c = cc in ap (clause_raw T v) (sym d)
-  literals_raw (denied f) c h = denied_raw f c h refl
-  literals_raw (both f g) c h = absurd (cc)
-  literals_raw (either f g) c h =
+  literals_raw (negation f) c h = denied_raw f c h refl
+  literals_raw (conjunction f g) c h = absurd (cc)
+  literals_raw (disjunction f g) c h =
       let p = or_parts st T v fewer f g c h in
       ap (clause_raw T v) (sym p.whole) ∙ ap₂ (two (codes "|")) (literals_raw f (p.first ∷ []) p.front) (literals_raw g (p.second ∷ p.others) p.back)
-  literals_raw (implies f g) c h = absurd (cc)
-  literals_raw (iff f g) c h = absurd (cc)
-  literals_raw (every x f) c h = absurd (cc)
-  literals_raw (some x f) c h = absurd (cc)
+  literals_raw (implication f g) c h = absurd (cc)
+  literals_raw (equivalence f g) c h = absurd (cc)
+  literals_raw (forall x f) c h = absurd (cc)
+  literals_raw (exists x f) c h = absurd (cc)
 
   -- only `$F` is read as falsum
   abbrev OnlyF : RawTree → Made Fol → Type 0
@@ -248,13 +248,13 @@ clause_cases verum c h = others h
 clause_cases falsum c h = empty refl (let d : [] ≡ c = cc in sym d)
 clause_cases (equal a b) c h = others h
 clause_cases (atom r ts) c h = others h
-clause_cases (denied f) c h = others h
-clause_cases (both f g) c h = others h
-clause_cases (either f g) c h = others h
-clause_cases (implies f g) c h = others h
-clause_cases (iff f g) c h = others h
-clause_cases (every x f) c h = others h
-clause_cases (some x f) c h = others h
+clause_cases (negation f) c h = others h
+clause_cases (conjunction f g) c h = others h
+clause_cases (disjunction f g) c h = others h
+clause_cases (implication f g) c h = others h
+clause_cases (equivalence f g) c h = others h
+clause_cases (forall x f) c h = others h
+clause_cases (exists x f) c h = others h
 
 names_length : (vs : List Variable) → length (names_of vs) ≡ length vs
 names_length [] = refl
@@ -303,8 +303,8 @@ module _ (rows : List OperatorRow) (st : Style) (table : List Symbol) (other : L
       let fewer : length after ≤ 65535 = omega (arith, parts.fewer, ap length x.states.symbols) in
       let n = length m.reading.variables in
       let size : n ≤ 2 ^ 64 = omega (arith, few, ap length x.states.named, names_length m.reading.variables) in
-      let both = formula_ren st after v fewer x.tree (unread table) c (ap literals_in (sym x.states.formula) ∙ h) (reaches, size) in
-      let listed : clause_variables c ≡ upto n = sym (clause_once c) ∙ both.1 in
+      let conjunction = formula_ren st after v fewer x.tree (unread table) c (ap literals_in (sym x.states.formula) ∙ h) (reaches, size) in
+      let listed : clause_variables c ≡ upto n = sym (clause_once c) ∙ conjunction.1 in
       let same : renumbered c ≡ c = numbered_already c n listed in
       let printed : formula_raw after v s.formula ≡ turned x.tree =
       ap (formula_raw after v) x.states.formula ∙ formula_back after v fewer st x.tree [] (unread table) (λ name i e. absurd (cc)) reaches
@@ -327,7 +327,7 @@ module _ (rows : List OperatorRow) (st : Style) (table : List Symbol) (other : L
           tree = clause_raw after canon c;
           precedence = precedence g (clause_raw after canon c);
           reads = printed_reads rows (clause_raw after canon c) l may;
-          states = subst (λ (r : Made Fol). IsReadAs r s.formula (names_of (first_variables st.prolog n)) after) (sym both.0) read;
+          states = subst (λ (r : Made Fol). IsReadAs r s.formula (names_of (first_variables st.prolog n)) after) (sym conjunction.0) read;
         };
         clause = s.clause;
       })

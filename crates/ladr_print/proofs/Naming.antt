@@ -8,7 +8,7 @@ use Rattle.std.proofs.lemmas.Bool.{cases_Bool, and_parts, ne_eqb, cond_both, con
 use Rattle.std.proofs.lemmas.Bool.Decides.{nat_tests}
 use Rattle.std.proofs.lemmas.Option.{slice_get_within}
 use Rattle.std.proofs.lemmas.Slice.Eq.{bytes_eq-Decides}
-use Rattle.fol_core.specs.Fol.{Fol, both, either, implies, iff}
+use Rattle.fol_core.specs.Fol.{Fol, conjunction, disjunction, implication, equivalence}
 use Rattle.fol_core.specs.Literals.{equality}
 use Rattle.fol_core.specs.RawTree.{RawTree, named, quantified, RawTrees, no_raws, more_raws}
 use Rattle.fol_core.specs.SymbolTable.{Symbol, number_of, name_at, entered, is_clash, KeepsNumbers}
@@ -149,11 +149,11 @@ grows_joined join f g h k s = beyond s (f s).reading _ (h s) (k (f s).reading)
 grows_connective : (o : Option Connective) (f g c : Reading → Made Fol) → ((s : Reading) → Grows s (f s).reading) → ((s : Reading) → Grows s (g s).reading) →
     ((s : Reading) → Grows s (c s).reading) → (s : Reading) → Grows s (by_connective o f g c s).reading
 grows_connective None f g c h k l s = l s
-grows_connective (Some And) f g c h k l s = grows_joined both f g h k s
-grows_connective (Some Or) f g c h k l s = grows_joined either f g h k s
-grows_connective (Some IfThen) f g c h k l s = grows_joined implies f g h k s
-grows_connective (Some ThenIf) f g c h k l s = grows_joined implies g f k h s
-grows_connective (Some IfAndOnlyIf) f g c h k l s = grows_joined iff f g h k s
+grows_connective (Some And) f g c h k l s = grows_joined conjunction f g h k s
+grows_connective (Some Or) f g c h k l s = grows_joined disjunction f g h k s
+grows_connective (Some IfThen) f g c h k l s = grows_joined implication f g h k s
+grows_connective (Some ThenIf) f g c h k l s = grows_joined implication g f k h s
+grows_connective (Some IfAndOnlyIf) f g c h k l s = grows_joined equivalence f g h k s
 
 pub grows_formula : (st : Style) (scope : List Bound) (t : RawTree) (s : Reading) → Grows s (formula_in st scope s t).reading
 grows_formula st scope (quantified q x t) s = beyond s (with_variable x false s) _ (grows_variable x false s) (grows_formula st (record { name = x; number = length s.variables } ∷ scope) t (with_variable x false s))
@@ -348,11 +348,11 @@ module _ (T : List Symbol) (v : Naming) where
     connective_back : (o : Option Connective) (f g c : Reading → Made Fol) (t u other : RawTree) → ((s : Reading) → Grows s (f s).reading) → ((s : Reading) → Grows s (g s).reading) →
         ((s : Reading) → Backs (f s) t) → ((s : Reading) → Backs (g s) u) → ((s : Reading) → Backs (c s) other) → (s : Reading) → Backs (by_connective o f g c s) (by_two o t u other)
     connective_back None f g c t u other h k x y z s = z s
-    connective_back (Some And) f g c t u other h k x y z s = joined_back (codes "&") both f g t u (λ a b. refl) k x y s
-    connective_back (Some Or) f g c t u other h k x y z s = joined_back (codes "|") either f g t u (λ a b. refl) k x y s
-    connective_back (Some IfThen) f g c t u other h k x y z s = joined_back (codes "->") implies f g t u (λ a b. refl) k x y s
-    connective_back (Some ThenIf) f g c t u other h k x y z s = joined_back (codes "->") implies g f u t (λ a b. refl) h y x s
-    connective_back (Some IfAndOnlyIf) f g c t u other h k x y z s = joined_back (codes "<->") iff f g t u (λ a b. refl) k x y s
+    connective_back (Some And) f g c t u other h k x y z s = joined_back (codes "&") conjunction f g t u (λ a b. refl) k x y s
+    connective_back (Some Or) f g c t u other h k x y z s = joined_back (codes "|") disjunction f g t u (λ a b. refl) k x y s
+    connective_back (Some IfThen) f g c t u other h k x y z s = joined_back (codes "->") implication f g t u (λ a b. refl) k x y s
+    connective_back (Some ThenIf) f g c t u other h k x y z s = joined_back (codes "->") implication g f u t (λ a b. refl) h y x s
+    connective_back (Some IfAndOnlyIf) f g c t u other h k x y z s = joined_back (codes "<->") equivalence f g t u (λ a b. refl) k x y s
 
     bound_back : (q : Quantifier) (n : ℕ) (x : List ℕ) (f : Fol) (t : RawTree) → v n ≡ x → formula_raw T v f ≡ t → formula_raw T v (bound_by q n f) ≡ quantified q x t
     bound_back All n x f t e h = ap₂ (quantified All) e h

@@ -7,7 +7,7 @@ use Rattle.std.specs.Fmt.{decimal}
 use Rattle.std.proofs.lemmas.Bool.{cases_Bool, cond-true, cond-false, cond_both}
 use Rattle.std.proofs.lemmas.List.{length-append}
 use Rattle.std.proofs.lemmas.Option.{slice_get_within, slice_get-get_or}
-use Rattle.fol_core.specs.Fol.{Fol, verum, falsum, equal, atom, denied, both, either, implies, iff, every, some}
+use Rattle.fol_core.specs.Fol.{Fol, verum, falsum, equal, atom, negation, conjunction, disjunction, implication, equivalence, forall, exists}
 use Rattle.fol_core.specs.Literals.{Lit, ClauseTree, literal, equality}
 use Rattle.fol_core.specs.RawTree.{RawTree, named, quantified, RawTrees, no_raws, more_raws}
 use Rattle.fol_core.specs.SymbolTable.{Symbol, entered, is_clash}
@@ -345,18 +345,18 @@ module _ (st : Style) where
       whole : literal false atom_is ∷ [] ≡ c
       positive : literals_in f ≡ Some (literal true atom_is ∷ [])
 
-    denied_parts : (f : Fol) (c : ClauseTree) → literals_in (denied f) ≡ Some c → DeniedParts f c
+    denied_parts : (f : Fol) (c : ClauseTree) → literals_in (negation f) ≡ Some c → DeniedParts f c
     denied_parts verum c h = absurd (cc)
     denied_parts falsum c h = absurd (cc)
     denied_parts (equal a b) c h = record { atom_is = app equality (more a (more b none)); whole = cc; positive = refl }
     denied_parts (atom r ts) c h = record { atom_is = app r ts; whole = cc; positive = refl }
-    denied_parts (denied f) c h = absurd (cc)
-    denied_parts (both f g) c h = absurd (cc)
-    denied_parts (either f g) c h = absurd (cc)
-    denied_parts (implies f g) c h = absurd (cc)
-    denied_parts (iff f g) c h = absurd (cc)
-    denied_parts (every x f) c h = absurd (cc)
-    denied_parts (some x f) c h = absurd (cc)
+    denied_parts (negation f) c h = absurd (cc)
+    denied_parts (conjunction f g) c h = absurd (cc)
+    denied_parts (disjunction f g) c h = absurd (cc)
+    denied_parts (implication f g) c h = absurd (cc)
+    denied_parts (equivalence f g) c h = absurd (cc)
+    denied_parts (forall x f) c h = absurd (cc)
+    denied_parts (exists x f) c h = absurd (cc)
 
     pub record OrParts (f g : Fol) (c : ClauseTree) : Type 0 where
       pub first : Lit
@@ -371,13 +371,13 @@ module _ (st : Style) where
     single falsum l h = absurd (cc)
     single (equal a b) l h = ap (option_map (λ (m : Lit). m ∷ [])) h
     single (atom r ts) l h = ap (option_map (λ (m : Lit). m ∷ [])) h
-    single (denied f) l h = ap (option_map (λ (m : Lit). m ∷ [])) h
-    single (both f g) l h = absurd (cc)
-    single (either f g) l h = absurd (cc)
-    single (implies f g) l h = absurd (cc)
-    single (iff f g) l h = absurd (cc)
-    single (every x f) l h = absurd (cc)
-    single (some x f) l h = absurd (cc)
+    single (negation f) l h = ap (option_map (λ (m : Lit). m ∷ [])) h
+    single (conjunction f g) l h = absurd (cc)
+    single (disjunction f g) l h = absurd (cc)
+    single (implication f g) l h = absurd (cc)
+    single (equivalence f g) l h = absurd (cc)
+    single (forall x f) l h = absurd (cc)
+    single (exists x f) l h = absurd (cc)
 
     one_more : (o : Option Lit) → option_map (λ (m : Lit). m ∷ []) o ≡ Some [] → ⊥
     one_more None h = cc
@@ -394,13 +394,13 @@ module _ (st : Style) where
     some_literal falsum h = cc
     some_literal (equal a b) h = cc
     some_literal (atom r ts) h = cc
-    some_literal (denied f) h = one_more (atom_in false f) h
-    some_literal (both f g) h = cc
-    some_literal (either f g) h = first_more (literal_in f) (literals_in g) h
-    some_literal (implies f g) h = cc
-    some_literal (iff f g) h = cc
-    some_literal (every x f) h = cc
-    some_literal (some x f) h = cc
+    some_literal (negation f) h = one_more (atom_in false f) h
+    some_literal (conjunction f g) h = cc
+    some_literal (disjunction f g) h = first_more (literal_in f) (literals_in g) h
+    some_literal (implication f g) h = cc
+    some_literal (equivalence f g) h = cc
+    some_literal (forall x f) h = cc
+    some_literal (exists x f) h = cc
 
     pub or_parts : (f g : Fol) (c : ClauseTree) → prepended (literal_in f) (literals_in g) ≡ Some c → OrParts f g c
     or_parts f g c h = by (literal_in f) (literals_in g) refl refl h
@@ -435,12 +435,12 @@ module _ (st : Style) where
         ((d : ClauseTree) → literals_in (formula_in st [] s t).tree ≡ Some d → Keeps (formula_in st [] s t).reading → Again d t s) →
         literals_in (formula_in st [] s (named name (more_raws t no_raws))).tree ≡ Some c → Keeps (formula_in st [] s (named name (more_raws t no_raws))).reading → Again c (named name (more_raws t no_raws)) s
     one_ren true name t s c e ih h k =
-        let d : formula_in st [] s (named name (more_raws t no_raws)) ≡ under denied (formula_in st [] s t) = cond-true (is_denial name) _ _ e in
+        let d : formula_in st [] s (named name (more_raws t no_raws)) ≡ under negation (formula_in st [] s t) = cond-true (is_denial name) _ _ e in
         let p = denied_parts (formula_in st [] s t).tree c (ap (λ (m : Made Fol). literals_in m.tree) (sym d) ∙ h) in
         let kept : Keeps (formula_in st [] s t).reading = subst (λ (m : Made Fol). Keeps m.reading) d k in
         subst (λ (x : ClauseTree). Again x (named name (more_raws t no_raws)) s) p.whole
         (let one = ih (literal true p.atom_is ∷ []) p.positive kept in
-        (denial_read st [] (ren s) (term_raw T canon p.atom_is) ∙ ap (under denied) one.0 ∙ sym (ap made_again d), one.1 ∙ ap (λ (m : Made Fol). so_far m.reading) (sym d)))
+        (denial_read st [] (ren s) (term_raw T canon p.atom_is) ∙ ap (under negation) one.0 ∙ sym (ap made_again d), one.1 ∙ ap (λ (m : Made Fol). so_far m.reading) (sym d)))
     one_ren false name t s c e ih h k =
         let d : (z : Reading) (x : RawTree) → formula_in st [] z (named name (more_raws x no_raws)) ≡ relation_of st [] name (more_raws x no_raws) z = λ z x. cond-false (is_denial name) _ _ e in
         by_relation name (more_raws t no_raws) s c (d s t) (λ us f. subst (λ (xs : RawTrees). formula_in st [] (ren s) (named name xs) ≡ relation_of st [] name xs (ren s)) (sym f) (d (ren s) (term_raw T canon (term_of st [] (with_symbol name (arity_of (more_raws t no_raws)) Relation (meets (is_element st name) 16 s)) t).tree))) h k
@@ -465,7 +465,7 @@ module _ (st : Style) where
                 let f : Some (literal false a ∷ []) ≡ Some c = ap (λ (m : Made Fol). literals_in m.tree) (sym d) ∙ h in
                 let e : literal false a ∷ [] ≡ c = cc in
                 let kept = subst (λ (m : Made Fol). Keeps m.reading) d k in
-                subst (λ (x : ClauseTree). Again x (two name t u) s) e (ap (under denied) (equation_ren t u s kept) ∙ sym (ap made_again d), equation_noted t u s kept ∙ ap (λ (m : Made Fol). so_far m.reading) (sym d)))
+                subst (λ (x : ClauseTree). Again x (two name t u) s) e (ap (under negation) (equation_ren t u s kept) ∙ sym (ap made_again d), equation_noted t u s kept ∙ ap (λ (m : Made Fol). so_far m.reading) (sym d)))
             | inr m ↦ by_relation name (more_raws t (more_raws u no_raws)) s c (plain n m s t u) (λ us f. subst (λ (xs : RawTrees). formula_in st [] (ren s) (named name xs) ≡ relation_of st [] name xs (ren s)) (sym f) (plain n m (ren s) (term_raw T canon (term_of st [] (with_symbol name (arity_of (more_raws t (more_raws u no_raws))) Relation (meets (is_element st name) 16 s)) t).tree) (term_raw T canon (term_of st [] (term_of st [] (with_symbol name (arity_of (more_raws t (more_raws u no_raws))) Relation (meets (is_element st name) 16 s)) t).reading u).tree))) h k
           ]
         ]
@@ -492,12 +492,12 @@ module _ (st : Style) where
         let one = f s (p.first ∷ []) p.front (keeps_before left.reading right.reading (grows_formula st [] u left.reading) kept) in
         let other = g left.reading (p.second ∷ p.others) p.back kept in
         subst (λ (x : ClauseTree). Again x (two name t u) s) p.whole (
-          ap (λ (m : Made Fol). under (either m.tree) (formula_in st [] m.reading b)) one.0 ∙ ap (under (either left.tree)) other.0 ∙ sym (ap made_again d),
+          ap (λ (m : Made Fol). under (disjunction m.tree) (formula_in st [] m.reading b)) one.0 ∙ ap (under (disjunction left.tree)) other.0 ∙ sym (ap made_again d),
           joined_joined (so_far s) (variables_of p.first.atom) (clause_variables (p.second ∷ p.others))
               ∙ ap (λ (xs : List ℕ). free.joined xs (clause_variables (p.second ∷ p.others))) one.1 ∙ other.1 ∙ ap (λ (m : Made Fol). so_far m.reading) (sym d),
         )
       where
-        whole : (z : Reading) → formula_in st [] z (two name t u) ≡ joined either (λ r. formula_in st [] r t) (λ r. formula_in st [] r u) z
+        whole : (z : Reading) → formula_in st [] z (two name t u) ≡ joined disjunction (λ r. formula_in st [] r t) (λ r. formula_in st [] r u) z
         whole z = ap (λ (p : Option Connective). by_connective p (λ r. formula_in st [] r t) (λ r. formula_in st [] r u) (comparison st [] name t u) z) o
     two_ren (Some And) name t u s c o f g h k = absurd (let e = ap (λ (p : Option Connective). literals_in (by_connective p (λ r. formula_in st [] r t) (λ r. formula_in st [] r u) (comparison st [] name t u) s).tree) o in let n : None ≡ Some c = sym e ∙ h in cc)
     two_ren (Some IfThen) name t u s c o f g h k = absurd (let e = ap (λ (p : Option Connective). literals_in (by_connective p (λ r. formula_in st [] r t) (λ r. formula_in st [] r u) (comparison st [] name t u) s).tree) o in let n : None ≡ Some c = sym e ∙ h in cc)

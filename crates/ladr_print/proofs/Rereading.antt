@@ -4,7 +4,7 @@ use Rattle.std.specs.Prelude.{codes}
 use Rattle.std.specs.Str.{bytes_eq}
 use Rattle.std.proofs.lemmas.Bool.{cases_Bool}
 use Rattle.std.proofs.lemmas.Slice.Eq.{bytes_eq-Decides}
-use Rattle.fol_core.specs.Fol.{Fol, denied, both, either, implies, iff}
+use Rattle.fol_core.specs.Fol.{Fol, negation, conjunction, disjunction, implication, equivalence}
 use Rattle.fol_core.specs.RawTree.{RawTree, named, quantified, no_raws, more_raws}
 use Rattle.ladr_reader.specs.Formulas.{Bound, Reading, Made, is_denial, connective_of, joined, under, bound_by, with_variable, by_connective, comparison, formula_in}
 use Rattle.ladr_reader.specs.declared.connectives.Connective.{Connective}
@@ -34,13 +34,13 @@ turned (named s (more_raws t (more_raws u no_raws))) = by_two (connective_of s) 
 turned (named s (more_raws t (more_raws u (more_raws w ts)))) = named s (more_raws t (more_raws u (more_raws w ts)))
 
 module _ (st : Style) where
-  pub denial_read : (scope : List Bound) (s : Reading) (t : RawTree) → formula_in st scope s (denial t) ≡ under denied (formula_in st scope s t)
+  pub denial_read : (scope : List Bound) (s : Reading) (t : RawTree) → formula_in st scope s (denial t) ≡ under negation (formula_in st scope s t)
   denial_read scope s (quantified q x t) = refl
   denial_read scope s (named n no_raws) = refl
   denial_read scope s (named n (more_raws t no_raws)) = refl
   denial_read scope s (named n (more_raws t (more_raws u no_raws))) =
       elim (cases_Bool (bytes_eq n (codes "="))) [
-        | inl y ↦ subst (λ (m : List ℕ). formula_in st scope s (denial (two m t u)) ≡ under denied (formula_in st scope s (two m t u))) (sym ((bytes_eq-Decides n (codes "=")).0 y)) refl
+        | inl y ↦ subst (λ (m : List ℕ). formula_in st scope s (denial (two m t u)) ≡ under negation (formula_in st scope s (two m t u))) (sym ((bytes_eq-Decides n (codes "=")).0 y)) refl
         | inr y ↦ ap (formula_in st scope s) (plain y)
       ]
     where
@@ -64,16 +64,16 @@ module _ (st : Style) where
       ((c : List Bound) (r : Reading) → formula_in st c r t' ≡ formula_in st c r t) → ((c : List Bound) (r : Reading) → formula_in st c r u' ≡ formula_in st c r u) →
       formula_in st scope s (by_two o t' u' (two n t u)) ≡ by_connective o (λ r. formula_in st scope r t) (λ r. formula_in st scope r u) (comparison st scope n t u) s
   two_read None n e scope s t u t' u' h k = ap (λ (o : Option Connective). by_connective o (λ r. formula_in st scope r t) (λ r. formula_in st scope r u) (comparison st scope n t u) s) e
-  two_read (Some And) n e scope s t u t' u' h k = both_read both scope s t u t' u' h k
-  two_read (Some Or) n e scope s t u t' u' h k = both_read either scope s t u t' u' h k
-  two_read (Some IfThen) n e scope s t u t' u' h k = both_read implies scope s t u t' u' h k
-  two_read (Some ThenIf) n e scope s t u t' u' h k = both_read implies scope s u t u' t' k h
-  two_read (Some IfAndOnlyIf) n e scope s t u t' u' h k = both_read iff scope s t u t' u' h k
+  two_read (Some And) n e scope s t u t' u' h k = both_read conjunction scope s t u t' u' h k
+  two_read (Some Or) n e scope s t u t' u' h k = both_read disjunction scope s t u t' u' h k
+  two_read (Some IfThen) n e scope s t u t' u' h k = both_read implication scope s t u t' u' h k
+  two_read (Some ThenIf) n e scope s t u t' u' h k = both_read implication scope s u t u' t' k h
+  two_read (Some IfAndOnlyIf) n e scope s t u t' u' h k = both_read equivalence scope s t u t' u' h k
 
   one_read :
       (b : Bool) (n : List ℕ) → is_denial n ≡ b → (scope : List Bound) (s : Reading) (t t' : RawTree) → formula_in st scope s t' ≡ formula_in st scope s t →
       formula_in st scope s (by_one b n t t') ≡ formula_in st scope s (named n (more_raws t no_raws))
-  one_read true n e scope s t t' h = denial_read scope s t' ∙ ap (under denied) h ∙ rw e refl
+  one_read true n e scope s t t' h = denial_read scope s t' ∙ ap (under negation) h ∙ rw e refl
   one_read false n e scope s t t' h = refl
 
   pub reread : (t : RawTree) (scope : List Bound) (s : Reading) → formula_in st scope s (turned t) ≡ formula_in st scope s t

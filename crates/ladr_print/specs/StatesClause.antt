@@ -1,7 +1,7 @@
 -- What clause a text states.
 use Rattle.std.specs.Prelude.{◌≡◌, ℕ, Bool, true, false, List, [], ◌∷◌, Option, Some, None}
 use Rattle.std.specs.Option.{option_map}
-use Rattle.fol_core.specs.Fol.{Fol, falsum, equal, atom, denied, either}
+use Rattle.fol_core.specs.Fol.{Fol, falsum, equal, atom, negation, disjunction}
 use Rattle.fol_core.specs.Literals.{Lit, ClauseTree, literal, equality}
 use Rattle.fol_core.specs.SymbolTable.{Symbol}
 use Rattle.fol_core.specs.Tree.{app, none, more}
@@ -17,7 +17,7 @@ atom_in positive (equal s t) = Some (literal positive (app equality (more s (mor
 atom_in positive f = None
 
 abbrev pub literal_in : Fol → Option Lit
-literal_in (denied f) = atom_in false f
+literal_in (negation f) = atom_in false f
 literal_in f = atom_in true f
 
 abbrev pub prepended : Option Lit → Option ClauseTree → Option ClauseTree
@@ -26,7 +26,7 @@ prepended l ls = None
 
 -- a formula cut into literals at each `|` of its right spine
 abbrev pub literals_in : Fol → Option ClauseTree
-literals_in (either f g) = prepended (literal_in f) (literals_in g)
+literals_in (disjunction f g) = prepended (literal_in f) (literals_in g)
 literals_in f = option_map (λ l. l ∷ []) (literal_in f)
 
 -- `$F` is the empty clause

@@ -9,7 +9,7 @@ use Rattle.fol_core.proofs.Soundness.{sound_below, sound_push}
 use Rattle.fol_core.specs.Bound.{BindsOnce, HasSymbolsBelow}
 use Rattle.fol_core.specs.FormulaView.{fol_of}
 use Rattle.fol_core.specs.RawTree.{RawTree}
-use Rattle.fol_core.specs.Stated.{said, AreSound, all_said}
+use Rattle.fol_core.specs.Stated.{said, AreWellFormed, all_said}
 use Rattle.fol_core.specs.SymbolTable.{Symbol}
 use Rattle.fol_core.specs.declared.problem.Input.{Input}
 use Rattle.fol_core.specs.declared.problem.Role.{Role}
@@ -47,7 +47,7 @@ use Rattle.ladr_settings.specs.declared.lists.OpenList.TheVariants.{Formulas, We
 use Rattle.ladr_settings.specs.declared.settings.Settings.{Settings}
 
 pub record IsGood (s : Sofar) : Type 0 where
-  pub sound : AreSound (length s.symbols) (said_in s)
+  pub well_formed : AreWellFormed (length s.symbols) (said_in s)
   pub ranged : AreInRange s.settings.options
 
 -- what is good on both ways is good
@@ -65,13 +65,13 @@ unmet true row least h = cc
 unmet false row least h = h
 
 module _ (m : Mode) (byte : ℕ) (s : Sofar) (good : IsGood s) where
-  grown : (table : List Symbol) → length s.symbols ≤ length table → AreSound (length table) (said_in s)
-  grown table h = sound_below (length s.symbols) (length table) (said_in s) h good.sound
+  grown : (table : List Symbol) → length s.symbols ≤ length table → AreWellFormed (length table) (said_in s)
+  grown table h = sound_below (length s.symbols) (length table) (said_in s) h good.well_formed
 
   pushed : (table : List Symbol) (role : Role) (l : Listed) → length s.symbols ≤ length table → BindsOnce l.formula → HasSymbolsBelow (length table) l.formula
       → IsGood (record s { symbols = table; formulas = s.formulas ++ (role, l) ∷ [] })
   pushed table role l h once below = record {
-    sound = subst (AreSound (length table)) (sym (map-append (λ f. said f.0 f.1.formula) s.formulas ((role, l) ∷ []))) (sound_push (length table) (said_in s) role l.formula (grown table h) once below);
+    well_formed = subst (AreWellFormed (length table)) (sym (map-append (λ f. said f.0 f.1.formula) s.formulas ((role, l) ∷ []))) (sound_push (length table) (said_in s) role l.formula (grown table h) once below);
     ranged = good.ranged;
   }
 
@@ -81,7 +81,7 @@ module _ (m : Mode) (byte : ℕ) (s : Sofar) (good : IsGood s) where
   listed_good lists.Usable table l w h once below = pushed table Usable l h once below
   listed_good Demodulators table l w h once below = pushed table Demodulator l h once below
   listed_good Goals table l w h once below = pushed table Goal l h once below
-  listed_good Hints table l w h once below = record { sound = grown table h; ranged = good.ranged }
+  listed_good Hints table l w h once below = record { well_formed = grown table h; ranged = good.ranged }
 
   formula_good : (list : Option FormulaList) (t : RawTree) → IfOk (after_formula m list byte s t) IsGood
   formula_good list t =
@@ -107,13 +107,13 @@ module _ (m : Mode) (byte : ℕ) (s : Sofar) (good : IsGood s) where
       (by_test made.reading.large _ _ tt
       (by_test (not (is_meant m s.settings)) _ _ good
       (by_option (λ k. Err (Row k)) made.reading.least _ (λ k e. tt)
-      (λ e. record { sound = grown made.reading.symbols (terms_good (style_in m s) [] (unread s.symbols) r.parts).grows.table; ranged = good.ranged }))))
+      (λ e. record { well_formed = grown made.reading.symbols (terms_good (style_in m s) [] (unread s.symbols) r.parts).grows.table; ranged = good.ranged }))))
 
   kbo_good : (t : RawTree) → IfOk (after_kbo m s t) IsGood
   kbo_good t =
       by_test (is_meant m s.settings) _ _
       (by_option (added_kbo s) (kbo_rule t) (Err (Row 15))
-      (λ r e. by_test (is_weighed r.0 s.kbo_weights) _ _ tt (record { sound = good.sound; ranged = good.ranged })) (λ e. tt))
+      (λ r e. by_test (is_weighed r.0 s.kbo_weights) _ _ tt (record { well_formed = good.well_formed; ranged = good.ranged })) (λ e. tt))
       good
 
   term_is_good : (list : OpenList) (t : RawTree) → IfOk (after_term m list byte s t) IsGood
@@ -124,12 +124,12 @@ module _ (m : Mode) (byte : ℕ) (s : Sofar) (good : IsGood s) where
   term_is_good (Formulas list) t = formula_good (Some list) t
 
   settings_good : (c : Command) (r : Result Settings ℕ) → after m c s.settings ≡ r → IfOk (with_settings s r) IsGood
-  settings_good c (Ok t) e = record { sound = good.sound; ranged = after_in_range m c s.settings t e good.ranged }
+  settings_good c (Ok t) e = record { well_formed = good.well_formed; ranged = after_in_range m c s.settings t e good.ranged }
   settings_good c (Err k) e = tt
 
   item_good : (ts : List Lexeme) (i : Item) → IfOk (after_item m byte s ts i) IsGood
   item_good ts (command c) = settings_good c (after m c s.settings) refl
-  item_good ts (within closing) = record { sound = good.sound; ranged = good.ranged }
+  item_good ts (within closing) = record { well_formed = good.well_formed; ranged = good.ranged }
   item_good ts (within (term t)) = by_test (nat_lt 500 (nesting ts t)) _ _ tt (by_option (λ l. after_term m l byte s t) s.settings.list (Ok s) (λ l e. term_is_good l t) (λ e. good))
 
 abbrev IfProblem : Outcome → Type 0
@@ -156,7 +156,7 @@ file_is_good m end s (ts ∷ items) o good (goes_on i t r e f) =
     file_is_good m end t items o (subst (λ (x : Result Sofar Refusal). IfOk x IsGood) e (item_good m (start_at end ts 0) s good (lexemes ts) i)) f
 
 start_good : IsGood nothing_read
-start_good = record { sound = tt; ranged = record { start_size = (omega arith, omega arith); end_size = (omega arith, omega arith); increment = (omega arith, omega arith); domain_size = omega arith; max_models = omega arith } }
+start_good = record { well_formed = tt; ranged = record { start_size = (omega arith, omega arith); end_size = (omega arith, omega arith); increment = (omega arith, omega arith); domain_size = omega arith; max_models = omega arith } }
 
 pub problem_good : (m : Mode) (end : ℕ) (s : Sofar) (items : List (List Piece)) → File m end nothing_read items (problem s) → IsGood s
 problem_good m end s items f = file_is_good m end nothing_read items (problem s) start_good f

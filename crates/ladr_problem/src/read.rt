@@ -1,6 +1,6 @@
 // The problem of a file.
 ghost use Rattle.std.specs.Prelude.{◌≡◌, ◌≤◌, OnOk, IfOk, IfErr, IsTrue, is_some, length, map, take};
-ghost use Rattle.fol_core.specs.Stated.{stated_of, IsSound};
+ghost use Rattle.fol_core.specs.Stated.{stated_of, IsWellFormed};
 ghost use Rattle.ladr_items.specs.Items.{items_of};
 ghost use Rattle.ladr_lex.specs.Cuts.{Cuts, piece_of, pieces_of};
 ghost use Rattle.ladr_lex.specs.Places.{line_of, column_of};
@@ -233,7 +233,7 @@ fn cut<'a>(alloc: Global, bytes: &'a [u8]) -> Result<Vec<Token<'a>>, ReadError>
 /// What a file says to a program: its problem, or the first refusal.
 pub fn read_problem(alloc: Global, program: Mode, bytes: &[u8]) -> Result<FileRead, ReadError>
     ensures read { IfOk result (λ r. (s : Sofar) × Says program bytes.now (problem s) × IsOf s r) }
-    ensures sound { IfOk result (λ r. IsSound (stated_of r.problem)) }
+    ensures well_formed { IfOk result (λ r. IsWellFormed (stated_of r.problem)) }
     // Its options have values of theirs, and a program that tests interpretations has one.
     ensures ranged { IfOk result (λ r. AreInRange r.problem.options) }
     ensures interpreted { program ≡ Tester → IfOk result (λ r. IsTrue (is_some r.interpretation)) }

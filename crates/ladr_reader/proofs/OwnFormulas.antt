@@ -6,7 +6,7 @@ use Rattle.std.specs.Str.{bytes_eq}
 use Rattle.std.proofs.lemmas.Bool.{or_cases, or_from, or_left, or_right, eqb-true, eq-eqb, false≢true, true≢false, false_from_ne_true}
 use Rattle.std.proofs.lemmas.List.Folds.{list_any-append}
 use Rattle.fol_core.specs.Bound.{binders_of, IsOnce, BindsOnce, has_symbol, uses_symbol, HasSymbolsBelow}
-use Rattle.fol_core.specs.Fol.{Fol, verum, falsum, denied}
+use Rattle.fol_core.specs.Fol.{Fol, verum, falsum, negation}
 use Rattle.fol_core.specs.Free.{is_in, joined, without, variables_of, free_vars_of, closed_over}
 use Rattle.fol_core.specs.FormulaView.{fol_of}
 use Rattle.fol_core.specs.declared.formula.Formula.{Formula}
@@ -132,7 +132,7 @@ comparison_good st scope name t u s = by (bytes_eq name (codes "=")) (bytes_eq n
     equal_good : FormulaGood scope s (equation st scope t u s)
     equal_good = equation_good st scope t u s
 
-    by : (a b : Bool) → FormulaGood scope s (if a then equation st scope t u s else (if b then under denied (equation st scope t u s) else relation_of st scope name (more_raws t (more_raws u no_raws)) s))
+    by : (a b : Bool) → FormulaGood scope s (if a then equation st scope t u s else (if b then under negation (equation st scope t u s) else relation_of st scope name (more_raws t (more_raws u no_raws)) s))
     by true b = equal_good
     by false true = record { grows = equal_good.grows; known = equal_good.known; rise = equal_good.rise; brought = equal_good.brought; below = equal_good.below }
     by false false = relation_good st scope name (more_raws t (more_raws u no_raws)) s
@@ -182,7 +182,7 @@ connected_good scope (Some IfAndOnlyIf) f g h a b c s = pair_good scope s (f s) 
 connected_good scope None f g h a b c s = c s
 
 denial_good : (st : Style) (scope : List Bound) (name : List ℕ) (t : RawTree) (s : Reading) (b : Bool) (m : Made Fol) → FormulaGood scope s m
-    → FormulaGood scope s (if b then under denied m else relation_of st scope name (more_raws t no_raws) s)
+    → FormulaGood scope s (if b then under negation m else relation_of st scope name (more_raws t no_raws) s)
 denial_good st scope name t s true m g = record { grows = g.grows; known = g.known; rise = g.rise; brought = g.brought; below = g.below }
 denial_good st scope name t s false m g = relation_good st scope name (more_raws t no_raws) s
 

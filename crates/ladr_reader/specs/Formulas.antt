@@ -2,7 +2,7 @@
 use Rattle.std.specs.Prelude.{◌≡◌, IsTrue, ℕ, suc, ◌==◌, nat_le, nat_lt, min, Bool, true, false, ◌&&◌, ◌||◌, List, [], ◌∷◌, ◌++◌, length, Option, Some, None, is_some, is_none, unwrap_or, if◌then◌else◌, codes}
 use Rattle.std.specs.Option.{option_map}
 use Rattle.std.specs.Str.{bytes_eq}
-use Rattle.fol_core.specs.Fol.{Fol, verum, falsum, equal, atom, denied, both, either, implies, iff, every, some}
+use Rattle.fol_core.specs.Fol.{Fol, verum, falsum, equal, atom, negation, conjunction, disjunction, implication, equivalence, forall, exists}
 use Rattle.fol_core.specs.RawTree.{RawTree, named, quantified, RawTrees, no_raws, more_raws}
 use Rattle.fol_core.specs.SymbolTable.{Symbol, number_of, entered, is_clash}
 use Rattle.fol_core.specs.Tree.{Tree, var, elem, app, Trees, none, more}
@@ -167,8 +167,8 @@ under f m = record { tree = f m.tree; reading = m.reading }
 
 -- a quantifier with the number of its variable
 abbrev pub bound_by : Quantifier → ℕ → Fol → Fol
-bound_by All n f = every n f
-bound_by Exists n f = some n f
+bound_by All n f = forall n f
+bound_by Exists n f = exists n f
 
 -- whether a name with one argument denies it
 abbrev pub is_denial : List ℕ → Bool
@@ -188,11 +188,11 @@ joined join first second s =
 
 -- two formulas under a connective, the premise of an implication first
 abbrev pub joined_by : Connective → Fol → Fol → Fol
-joined_by And f g = both f g
-joined_by Or f g = either f g
-joined_by IfThen f g = implies f g
-joined_by ThenIf f g = implies f g
-joined_by IfAndOnlyIf f g = iff f g
+joined_by And f g = conjunction f g
+joined_by Or f g = disjunction f g
+joined_by IfThen f g = implication f g
+joined_by ThenIf f g = implication f g
+joined_by IfAndOnlyIf f g = equivalence f g
 
 -- the two parts of a connective; `a <- b` is `b -> a`, and b is read first
 abbrev pub by_connective : Option Connective → (Reading → Made Fol) → (Reading → Made Fol) → (Reading → Made Fol) → Reading → Made Fol
@@ -207,7 +207,7 @@ by_connective None first second otherwise = otherwise
 abbrev pub comparison : Style → List Bound → List ℕ → RawTree → RawTree → Reading → Made Fol
 comparison st scope name t u s =
     if bytes_eq name (codes "=") then equation st scope t u s
-    else (if bytes_eq name (codes "!=") then under denied (equation st scope t u s)
+    else (if bytes_eq name (codes "!=") then under negation (equation st scope t u s)
     else relation_of st scope name (more_raws t (more_raws u no_raws)) s)
 
 -- A formula. A name with two arguments may be a connective, `=` or `!=`, one with one argument a denial; any other is a relation.
@@ -216,7 +216,7 @@ formula_in st scope s (quantified q x t) =
     under (bound_by q (length s.variables)) (formula_in st (record { name = x; number = length s.variables } ∷ scope) (with_variable x false s) t)
 formula_in st scope s (named name no_raws) = sentence st scope name s
 formula_in st scope s (named name (more_raws t no_raws)) =
-    if is_denial name then under denied (formula_in st scope s t) else relation_of st scope name (more_raws t no_raws) s
+    if is_denial name then under negation (formula_in st scope s t) else relation_of st scope name (more_raws t no_raws) s
 formula_in st scope s (named name (more_raws t (more_raws u no_raws))) =
     by_connective (connective_of name) (λ r. formula_in st scope r t) (λ r. formula_in st scope r u) (comparison st scope name t u) s
 formula_in st scope s (named name (more_raws t (more_raws u (more_raws v ts)))) = relation_of st scope name (more_raws t (more_raws u (more_raws v ts))) s

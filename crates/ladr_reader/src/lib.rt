@@ -30,7 +30,3 @@ pub use read::read_term;
 pub use reader::is_free_name;
 pub use styles::{FormulaError, Mode, Style, What, style_of};
 
-#[cfg(test)]
-mod formula_tests;
-#[cfg(test)]
-mod tests;

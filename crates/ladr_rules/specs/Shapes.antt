@@ -1,7 +1,7 @@
 -- What hints and demodulators are to be.
 use Rattle.std.specs.Prelude.{Bool, true, false, not, ◌&&◌}
 use Rattle.std.specs.List.{list_all}
-use Rattle.fol_core.specs.Fol.{Fol, equal, atom, denied, either}
+use Rattle.fol_core.specs.Fol.{Fol, equal, atom, negation, disjunction}
 use Rattle.fol_core.specs.Free.{is_in, variables_of}
 use Rattle.fol_core.specs.Tree.{Tree, var, elem, app}
 
@@ -12,8 +12,8 @@ is_atom f = false
 
 -- literals, each an atom or one denial of one, joined by `|`; another formula in a list of hints is row 13
 abbrev pub is_hint : Fol → Bool
-is_hint (either f g) = is_hint f && is_hint g
-is_hint (denied f) = is_atom f
+is_hint (disjunction f g) = is_hint f && is_hint g
+is_hint (negation f) = is_atom f
 is_hint f = is_atom f
 
 abbrev pub is_variable : Tree → Bool

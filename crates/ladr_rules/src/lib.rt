@@ -16,5 +16,3 @@ pub use laws::{worked, worked_rules};
 pub use rules::{RuleRead, weight_rule};
 pub use shapes::{is_demodulator, is_hint};
 
-#[cfg(test)]
-mod tests;

@@ -5,8 +5,6 @@ mod laws;
 mod lists;
 mod settings;
 mod symbols;
-#[cfg(test)]
-mod tests;
 
 pub use laws::{options_stay_in_range, worked};
 pub use lists::{FormulaList, OpenList};

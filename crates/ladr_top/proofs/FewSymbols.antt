@@ -7,7 +7,7 @@ use Rattle.std.specs.declared.result.Result.TheVariants.{Ok, Err}
 use Rattle.std.proofs.lemmas.Bool.Decides.{nat_tests}
 use Rattle.fol_core.specs.KboRows.{is_weighed}
 use Rattle.fol_core.specs.RawTree.{RawTree}
-use Rattle.fol_core.specs.Stated.{IsSound}
+use Rattle.fol_core.specs.Stated.{IsWellFormed}
 use Rattle.ladr_items.specs.Items.{lexemes, items_of}
 use Rattle.ladr_items.specs.ListItem.{closing, term}
 use Rattle.ladr_lex.specs.Cuts.{Piece}
@@ -125,12 +125,12 @@ file_few m end s (ts ∷ items) _ few (breaks i why r e) = refused_few _ why
 file_few m end s (ts ∷ items) o few (goes_on i t r e f) =
     file_few m end t items o (subst (λ (x : Result Sofar Refusal). IfOk x HasFew) e (item_few m (start_at end ts 0) s few (lexemes ts) i)) f
 
-of_outcome : (bytes : List ℕ) (o : Outcome) (s : Sofar) → Says Mace bytes o → o ≡ problem s → IsSound (stated_in s) × (length s.symbols ≤ 65535)
+of_outcome : (bytes : List ℕ) (o : Outcome) (s : Sofar) → Says Mace bytes o → o ≡ problem s → IsWellFormed (stated_in s) × (length s.symbols ≤ 65535)
 of_outcome bytes _ s (file.too_long h) e = absurd cc
 of_outcome bytes _ s (file.items {o} ts inside cut f) e =
     let g : File Mace (length bytes) nothing_read (items_of ts) (problem s) = subst (λ (p : Outcome). File Mace (length bytes) nothing_read (items_of ts) p) e f in
-    ((problem_good Mace (length bytes) s (items_of ts) g).sound, file_few Mace (length bytes) nothing_read (items_of ts) (problem s) (omega arith) g)
+    ((problem_good Mace (length bytes) s (items_of ts) g).well_formed, file_few Mace (length bytes) nothing_read (items_of ts) (problem s) (omega arith) g)
 
 -- a problem of `mace4` is sound, with at most 65,535 symbols
-pub read_sound : (bytes : List ℕ) (s : Sofar) → Says Mace bytes (problem s) → IsSound (stated_in s) × (length s.symbols ≤ 65535)
+pub read_sound : (bytes : List ℕ) (s : Sofar) → Says Mace bytes (problem s) → IsWellFormed (stated_in s) × (length s.symbols ≤ 65535)
 read_sound bytes s says = of_outcome bytes (problem s) s says refl

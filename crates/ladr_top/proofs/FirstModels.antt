@@ -3,7 +3,7 @@ use Rattle.std.proofs.Common.{◌≡◌, ◌≤◌, ℕ, suc, List, [], ◌∷�
 use Rattle.std.proofs.lemmas.Bool.{cases_order}
 use Rattle.std.proofs.lemmas.List.{length-append}
 use Rattle.fol_core.specs.Stated.{Stated}
-use Rattle.fol_core.specs.Witnesses.{Witness}
+use Rattle.fol_core.specs.SkolemAxioms.{SkolemAxiom}
 use Rattle.ladr_top.specs.Skolems.{all_witnesses, AreExpansions, AreFirstExpanded, AreAllExpanded}
 use Rattle.mace_search.proofs.Completing.{by_number}
 use Rattle.mace_search.specs.Models.{NoneFrom, IsNextModel, AreFirst, behind}
@@ -42,13 +42,13 @@ module _ (p : Stated) (n : ℕ) where
       omega (arith, no_more (suc (table_number u)) ts us behind_u i.1 none)
 
 -- there is one expansion for each of the tables
-as_many : (ws : List Witness) (ts us : List Finite) → AreExpansions ws ts us → length ts ≡ length us
+as_many : (ws : List SkolemAxiom) (ts us : List Finite) → AreExpansions ws ts us → length ts ≡ length us
 as_many ws [] [] h = refl
 as_many ws [] (u ∷ us) h = elim h [ ]
 as_many ws (t ∷ ts) [] h = elim h [ ]
 as_many ws (t ∷ ts) (u ∷ us) h = ap suc (as_many ws ts us h.1)
 
-expanded_front : (ws : List Witness) (ts zs us vs : List Finite) → AreExpansions ws ts us → AreExpansions ws (ts ++ zs) vs → (ys : List Finite) × (vs ≡ us ++ ys)
+expanded_front : (ws : List SkolemAxiom) (ts zs us vs : List Finite) → AreExpansions ws ts us → AreExpansions ws (ts ++ zs) vs → (ys : List Finite) × (vs ≡ us ++ ys)
 expanded_front ws [] zs [] vs h k = (vs, refl)
 expanded_front ws [] zs (u ∷ us) vs h k = elim h [ ]
 expanded_front ws (t ∷ ts) zs [] vs h k = elim h [ ]

@@ -6,9 +6,9 @@ use Rattle.std.proofs.lemmas.List.Elements.{All-nil, All-cons, Contains-append_r
 use Rattle.std.proofs.lemmas.Nat.{mul-le}
 use Rattle.std.proofs.Math.Nat.{pow-zero, pow-suc}
 use Rattle.fol_core.specs.Literals.{equality}
-use Rattle.fol_core.specs.Stated.{Stated, IsSound, AreNewTo}
+use Rattle.fol_core.specs.Stated.{Stated, IsWellFormed, AreNewTo}
 use Rattle.fol_core.specs.SymbolTable.{Symbol, KeepsNumbers}
-use Rattle.fol_core.specs.Witnesses.{Witness, AreInOrder}
+use Rattle.fol_core.specs.SkolemAxioms.{SkolemAxiom, AreInOrder}
 use Rattle.clausify.specs.Input.{witnesses_in_table}
 use Rattle.ladr_io.specs.Times.{Times}
 use Rattle.ladr_problem.specs.File.{Says, problem}
@@ -35,7 +35,7 @@ some_cells n (suc k) h =
     let le = mul-le 1 1 (n ^ k) n (some_cells n k h) h in
     omega (arith, e, le)
 
-few_witnesses : (n : ℕ) (ws : List Witness) → 1 ≤ n → length ws ≤ witness_cells n ws
+few_witnesses : (n : ℕ) (ws : List SkolemAxiom) → 1 ≤ n → length ws ≤ witness_cells n ws
 few_witnesses n [] h = omega arith
 few_witnesses n (w ∷ ws) h = omega (arith, some_cells n (length w.variables) h, few_witnesses n ws h)
 
@@ -64,11 +64,11 @@ has_each p n us (ts, all, x) t is =
     ]
 
 -- what holds of the witnesses where they are few
-abbrev OfWitnesses : (Stated → List Witness → Type 0) → Type 0
-OfWitnesses P = (table : List Symbol) (p : Stated) → IsSound p → length p.symbols ≤ equality → KeepsNumbers p.symbols table → length (witnesses_in_table table p) ≤ equality → P p (witnesses_in_table table p)
+abbrev OfWitnesses : (Stated → List SkolemAxiom → Type 0) → Type 0
+OfWitnesses P = (table : List Symbol) (p : Stated) → IsWellFormed p → length p.symbols ≤ equality → KeepsNumbers p.symbols table → length (witnesses_in_table table p) ≤ equality → P p (witnesses_in_table table p)
 
 -- of what is read, where a size has room
-of_read : (P : Stated → List Witness → Type 0) → OfWitnesses P → (bytes : List ℕ) (s : Sofar) (n : ℕ) → Says Mace bytes (problem s) → 1 ≤ n → all_cells n (stated_in s) < refused_cells → P (stated_in s) (all_witnesses (stated_in s))
+of_read : (P : Stated → List SkolemAxiom → Type 0) → OfWitnesses P → (bytes : List ℕ) (s : Sofar) (n : ℕ) → Says Mace bytes (problem s) → 1 ≤ n → all_cells n (stated_in s) < refused_cells → P (stated_in s) (all_witnesses (stated_in s))
 of_read P law bytes s n says some room =
     let read = read_sound bytes s says in
     law s.symbols (stated_in s) read.0 (omega (arith, read.1)) (λ k t e. e) (room_for n (stated_in s) some room)

@@ -3,7 +3,7 @@ use Rattle.std.proofs.Common.{◌≡◌, ℕ, suc, ◌+◌, ◌*◌, ◌<◌, Li
 use Rattle.std.specs.Global.{Vec}
 use Rattle.std.specs.declared.alloc.AllocError.{AllocError}
 use Rattle.fol_core.specs.Stated.{Stated}
-use Rattle.fol_core.specs.Witnesses.{Witness}
+use Rattle.fol_core.specs.SkolemAxioms.{SkolemAxiom}
 use Rattle.ladr_io.proofs.StreamLaws.{Takes-append, TakesFront-append}
 use Rattle.ladr_io.specs.Streams.{Takes}
 use Rattle.ladr_top.specs.Outcome.{Told, Printed}
@@ -117,7 +117,7 @@ text_more p k (u ∷ ts) t =
     rw e (ap (λ (l : List ℕ). model_text (all_symbols p) (suc k) u ++ l) (text_more p (suc k) ts t) ∙ sym (append_assoc (model_text (all_symbols p) (suc k) u) (models_text p (suc k) ts) _))
 
 -- one more expansion
-pub expanded_more : (ws : List Witness) (ts us : List Finite) (t u : Finite) → AreExpansions ws ts us → IsExpansion t ws u → AreExpansions ws (ts ++ t ∷ []) (us ++ u ∷ [])
+pub expanded_more : (ws : List SkolemAxiom) (ts us : List Finite) (t u : Finite) → AreExpansions ws ts us → IsExpansion t ws u → AreExpansions ws (ts ++ t ∷ []) (us ++ u ∷ [])
 expanded_more ws [] [] t u h x = (x, tt)
 expanded_more ws [] (v ∷ us) t u h x = absurd h
 expanded_more ws (s ∷ ts) [] t u h x = absurd h

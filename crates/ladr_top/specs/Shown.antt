@@ -2,7 +2,7 @@
 use Rattle.std.specs.Prelude.{◌≡◌, ℕ, ◌+◌, List, [], ◌∷◌, length, All, Contains}
 use Rattle.std.proofs.Common.{inl, inr}
 use Rattle.fol_core.specs.Stated.{Stated, IsCountermodel}
-use Rattle.fol_core.specs.Witnesses.{PicksWitnesses}
+use Rattle.fol_core.specs.SkolemAxioms.{PicksWitnesses}
 use Rattle.ladr_io.specs.Times.{Times}
 use Rattle.ladr_problem.specs.File.{Says, problem}
 use Rattle.ladr_problem.specs.Sofar.{Sofar, stated_in}

@@ -3,7 +3,7 @@ use Rattle.std.specs.Prelude.{ℕ, ◌+◌, List, [], ◌∷◌}
 use Rattle.clausify.specs.Input.{with_skolems, witnesses_in_table}
 use Rattle.fol_core.specs.Stated.{Stated}
 use Rattle.fol_core.specs.SymbolTable.{Symbol}
-use Rattle.fol_core.specs.Witnesses.{Witness}
+use Rattle.fol_core.specs.SkolemAxioms.{SkolemAxiom}
 use Rattle.mace_search.specs.Models.{AreFirst, AreAll}
 use Rattle.model_tables.specs.Expansion.{IsExpansion, witness_cells}
 use Rattle.model_tables.specs.Size.{cell_count}
@@ -14,7 +14,7 @@ abbrev pub all_symbols : Stated → List Symbol
 all_symbols p = with_skolems p.symbols p
 
 -- what each Skolem symbol is to pick
-abbrev pub all_witnesses : Stated → List Witness
+abbrev pub all_witnesses : Stated → List SkolemAxiom
 all_witnesses p = witnesses_in_table p.symbols p
 
 -- how many cells the symbols of the formulas have at a size, with those of the Skolem symbols
@@ -22,7 +22,7 @@ abbrev pub all_cells : ℕ → Stated → ℕ
 all_cells n p = cell_count n p + witness_cells n (all_witnesses p)
 
 -- the second tables are, one by one, the first ones with the least witnesses for the Skolem symbols
-abbrev pub AreExpansions : List Witness → List Finite → List Finite → Type 0
+abbrev pub AreExpansions : List SkolemAxiom → List Finite → List Finite → Type 0
 AreExpansions ws [] [] = Unit {0}
 AreExpansions ws [] (u ∷ us) = ⊥
 AreExpansions ws (t ∷ ts) [] = ⊥

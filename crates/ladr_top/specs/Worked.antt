@@ -1,6 +1,6 @@
 -- Interpretations and searches worked out.
 use Rattle.std.specs.Prelude.{ℕ, List, [], ◌∷◌, None, codes}
-use Rattle.fol_core.specs.Fol.{equal, atom, every, some}
+use Rattle.fol_core.specs.Fol.{equal, atom, forall, exists}
 use Rattle.fol_core.specs.Meaning.{Meaning}
 use Rattle.fol_core.specs.Stated.{Stated, stated, said}
 use Rattle.fol_core.specs.SymbolTable.{symbol}
@@ -22,7 +22,7 @@ f t = app 0 (more t none)
 
 -- a function that is its own inverse, and whether it leaves an element where it is
 abbrev pub involution : Stated
-involution = stated (symbol (codes "f") 1 Function ∷ []) (said Assumption (equal (f (f (var 0))) (var 0)) ∷ said Assumption (some 0 (equal (f (var 0)) (var 0))) ∷ [])
+involution = stated (symbol (codes "f") 1 Function ∷ []) (said Assumption (equal (f (f (var 0))) (var 0)) ∷ said Assumption (exists 0 (equal (f (var 0)) (var 0))) ∷ [])
 
 abbrev pub exchange : ByName
 exchange = by_name 2 (table Function (codes "f") 1 (1 ∷ 0 ∷ []) ∷ [])
@@ -33,14 +33,14 @@ g t = app 1 (more t none)
 -- a relation that holds of the first element alone, and a function with no other value, where `y` is free
 abbrev pub constant : Stated
 constant =
-    stated (symbol (codes "p") 2 Relation ∷ symbol (codes "f") 1 Function ∷ []) (said Assumption (every 0 (atom 0 (more (var 0) (more (g (var 1)) none)))) ∷ said Goal (some 0 (equal (g (var 0)) (var 1))) ∷ [])
+    stated (symbol (codes "p") 2 Relation ∷ symbol (codes "f") 1 Function ∷ []) (said Assumption (forall 0 (atom 0 (more (var 0) (more (g (var 1)) none)))) ∷ said Goal (exists 0 (equal (g (var 0)) (var 1))) ∷ [])
 
 abbrev pub zeros : ByName
 zeros = by_name 2 (table Function (codes "f") 1 (0 ∷ 0 ∷ []) ∷ table Relation (codes "p") 2 (1 ∷ 0 ∷ 1 ∷ 0 ∷ []) ∷ [])
 
 -- some element is each one, which has no symbol but the Skolem symbol for it
 abbrev pub lonely : Stated
-lonely = stated [] (said Assumption (some 0 (every 1 (equal (var 0) (var 1)))) ∷ [])
+lonely = stated [] (said Assumption (exists 0 (forall 1 (equal (var 0) (var 1)))) ∷ [])
 
 -- one element, which that symbol picks
 abbrev pub alone : Finite

@@ -1,7 +1,7 @@
 // A problem to search the models of.
 ghost use Rattle.std.specs.Prelude.{◌≡◌, ◌-◌, ◌^◌, ℕ, min, None, Some, Err, IfOk, OnOk};
 ghost use Rattle.clausify.specs.Input.{first_over};
-ghost use Rattle.fol_core.specs.Stated.{stated_of, IsSound};
+ghost use Rattle.fol_core.specs.Stated.{stated_of, IsWellFormed};
 ghost use Rattle.ladr_top.specs.Skolems.{all_symbols, all_witnesses, all_cells};
 ghost use Rattle.model_tables.specs.Expansion.{IsExpansion};
 ghost use Rattle.model_tables.specs.ModelText.{model_text};
@@ -23,10 +23,10 @@ pub struct Asked<'a> {
 
 impl<'a> Model for Asked<'a> {
     ghost use Rattle.std.specs.Prelude.{◌≡◌, map};
-    ghost use Rattle.fol_core.specs.EntryView.{witness_of};
+    ghost use Rattle.fol_core.specs.EntryView.{skolem_axiom_of};
     ghost use Rattle.fol_core.specs.Stated.{Stated, stated_of};
     ghost use Rattle.fol_core.specs.StatedCodes.{coded_stated};
-    ghost use Rattle.fol_core.specs.Witnesses.{AreInOrder};
+    ghost use Rattle.fol_core.specs.SkolemAxioms.{AreInOrder};
     ghost use Rattle.ladr_top.specs.Skolems.{all_symbols, all_witnesses};
 
     ghost Value = { Stated };
@@ -35,7 +35,7 @@ impl<'a> Model for Asked<'a> {
 
     ghost view = { λ a. stated_of a.problem.now };
 
-    ghost invariant = { λ a. record { symbols : a.symbols ≡ all_symbols (stated_of a.problem.now); witnesses : map witness_of a.clauses.skolem.items ≡ all_witnesses (stated_of a.problem.now); order : AreInOrder (map witness_of a.clauses.skolem.items) } };
+    ghost invariant = { λ a. record { symbols : a.symbols ≡ all_symbols (stated_of a.problem.now); witnesses : map skolem_axiom_of a.clauses.skolem.items ≡ all_witnesses (stated_of a.problem.now); order : AreInOrder (map skolem_axiom_of a.clauses.skolem.items) } };
 }
 
 impl<'a> Asked<'a> {
@@ -45,7 +45,7 @@ impl<'a> Asked<'a> {
         any: &I,
         problem: &'a Problem,
     ) -> Result<Asked<'a>, ClauseError>
-        requires { IsSound (stated_of problem.now) }
+        requires { IsWellFormed (stated_of problem.now) }
         ensures asked { IfOk result (λ a. a ≡ stated_of problem.now) }
         ensures limit { (n : ℕ) → result ≡ Err (ClauseError.ClauseLimit n) → first_over 1 (stated_of problem.now).formulas ≡ Some n }
         ensures within { OnOk result (first_over 1 (stated_of problem.now).formulas ≡ None) }

@@ -1,7 +1,7 @@
 // The models of what an input states.
 ghost use Rattle.std.specs.Prelude.{◌≡◌, ◌≢◌, ◌≤◌, None};
 ghost use Rattle.ladr_io.specs.Streams.{Rose};
-ghost use Rattle.fol_core.specs.Stated.{stated_of, IsSound};
+ghost use Rattle.fol_core.specs.Stated.{stated_of, IsWellFormed};
 ghost use Rattle.ladr_options.specs.Ranges.{IsSize};
 ghost use Rattle.ladr_top.specs.Finding.{Sought, Seeks, Finds, GoesOn, Searches, IsUntimed};
 ghost use Rattle.ladr_top.specs.Outcome.{Given, IsRead, Told};
@@ -32,7 +32,7 @@ fn seek<I: Interpretation, K: Sink, C: Clock>(
     sink: &mut K,
     clock: &mut C,
 ) -> Cause
-    requires sound { IsSound (stated_of problem.now) }
+    requires well_formed { IsWellFormed (stated_of problem.now) }
     requires start { 1 ≤ settings.start }
     requires end { settings.end ≤ 200 }
     requires step { IsSize settings.step }

@@ -10,5 +10,3 @@ pub use laws::{start_size_is_read, worked};
 pub use task::{ModelOptions, Task, WordsError};
 pub use words::task_of;
 
-#[cfg(test)]
-mod tests;

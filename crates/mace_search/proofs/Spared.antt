@@ -10,7 +10,7 @@ use Rattle.mace_search.specs.Complete.{AreComplete}
 use Rattle.mace_search.specs.Models.{IsModel, AreFirst, AreAll}
 use Rattle.mace_search.specs.Worked.{spared, tables}
 use Rattle.model_tables.specs.Order.{table_number, table_count}
-use Rattle.model_tables.specs.Renaming.{IsRenaming, carried}
+use Rattle.model_tables.specs.Renaming.{IsIsomorphism, carried}
 use Rattle.model_tables.specs.Size.{AllBelow, IsInterpretation}
 use Rattle.model_tables.specs.Tables.{Finite, has, listed, listing, meaning_of}
 use Rattle.model_tables.specs.Worked.{exchange}
@@ -104,7 +104,7 @@ carries (suc zero) (x ∷ []) l e b = of_one x b.0
 carries (suc zero) (x ∷ y ∷ xs) l e b = absurd (omega arith)
 carries (suc (suc s)) xs l e b = absurd (false≢true l)
 
-exchanged : IsRenaming 2 spared exchange (tables 0 0 1) (tables 1 1 0)
+exchanged : IsIsomorphism 2 spared exchange (tables 0 0 1) (tables 1 1 0)
 exchanged = record {
   permutes = (within, λ x y lx ly e. sym (twice x lx) ∙ ap exchange e ∙ twice y ly);
   fixes = λ k named. absurd (false≢true named);
@@ -117,7 +117,7 @@ up_to_names = record {
   different = (tt, tt);
   every = λ u m. elim (either_one u m) [
     | inl e ↦ inl (itself spared 2 (tables 0 0 1) u e)
-    | inr e ↦ inl (exchange, subst (λ (v : Finite). IsRenaming 2 spared exchange (tables 0 0 1) v) e exchanged)
+    | inr e ↦ inl (exchange, subst (λ (v : Finite). IsIsomorphism 2 spared exchange (tables 0 0 1) v) e exchanged)
   ];
 }
 

@@ -2,7 +2,7 @@
 use Rattle.std.specs.Prelude.{◌≢◌, ℕ, List, [], ◌∷◌, ◌⊎◌}
 use Rattle.fol_core.specs.Stated.{Stated}
 use Rattle.mace_search.specs.Models.{IsModel}
-use Rattle.model_tables.specs.Renaming.{IsRenaming}
+use Rattle.model_tables.specs.Renaming.{IsIsomorphism}
 use Rattle.model_tables.specs.Tables.{Finite}
 
 -- each of these tables is a model of size n
@@ -23,7 +23,7 @@ AreDifferent (t ∷ ts) = IsNew t ts × AreDifferent ts
 -- u is a renaming of one of these
 abbrev pub HasRenaming : Stated → ℕ → Finite → List Finite → Type 0
 HasRenaming p n u [] = ⊥
-HasRenaming p n u (t ∷ ts) = ((r : ℕ → ℕ) × IsRenaming n p r t u) ⊎ HasRenaming p n u ts
+HasRenaming p n u (t ∷ ts) = ((r : ℕ → ℕ) × IsIsomorphism n p r t u) ⊎ HasRenaming p n u ts
 
 -- These are models, no two the same, and every interpretation of the size in which each assumption is true and each goal is
 -- false is a renaming of one of them.

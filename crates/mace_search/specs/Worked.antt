@@ -1,6 +1,6 @@
 -- A search worked out.
 use Rattle.std.specs.Prelude.{ℕ, [], ◌∷◌, None, codes}
-use Rattle.fol_core.specs.Fol.{atom, some}
+use Rattle.fol_core.specs.Fol.{atom, exists}
 use Rattle.fol_core.specs.Stated.{Stated, said, stated}
 use Rattle.fol_core.specs.SymbolTable.{symbol}
 use Rattle.fol_core.specs.Tree.{var, app, none, more}
@@ -14,7 +14,7 @@ use Rattle.model_tables.specs.Tables.{Finite, listing}
 abbrev pub spared : Stated
 spared =
     stated (symbol (codes "a") 0 Function ∷ symbol (codes "p") 1 Relation ∷ [])
-    (said Assumption (some 0 (atom 1 (more (var 0) none))) ∷ said Goal (atom 1 (more (app 0 none) none)) ∷ [])
+    (said Assumption (exists 0 (atom 1 (more (var 0) none))) ∷ said Goal (atom 1 (more (app 0 none) none)) ∷ [])
 
 -- two elements: `a` is x, and `p` has these values at 0 and at 1
 abbrev pub tables : ℕ → ℕ → ℕ → Finite

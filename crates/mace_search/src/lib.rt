@@ -12,5 +12,3 @@ pub use answer::Answer;
 pub use laws::{all_models, first_models, worked, worked_readings};
 pub use plain::PlainSearch;
 
-#[cfg(test)]
-mod tests;

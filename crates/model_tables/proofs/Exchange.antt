@@ -5,7 +5,7 @@ use Rattle.fol_core.specs.Stated.{Stated}
 use Rattle.fol_core.specs.SymbolTable.{arity_at, kind_at}
 use Rattle.fol_core.specs.declared.symbols.Kind.{Kind}
 use Rattle.fol_core.specs.declared.symbols.Kind.TheVariants.{Function, Relation}
-use Rattle.model_tables.specs.Renaming.{IsRenaming, carried}
+use Rattle.model_tables.specs.Renaming.{IsIsomorphism, carried}
 use Rattle.model_tables.specs.Size.{AllBelow}
 use Rattle.model_tables.specs.Tables.{Finite, has, listed}
 use Rattle.model_tables.specs.Worked.{apart, tables, exchange}
@@ -41,7 +41,7 @@ carries (suc (suc (suc zero))) (x ∷ []) l e b = of_one x b.0
 carries (suc (suc (suc zero))) (x ∷ y ∷ xs) l e b = absurd (omega arith)
 carries (suc (suc (suc (suc s)))) xs l e b = absurd (false≢true l)
 
-pub exchanged : IsRenaming 3 apart exchange (tables 0 1) (tables 1 0)
+pub exchanged : IsIsomorphism 3 apart exchange (tables 0 1) (tables 1 0)
 exchanged = record {
   permutes = (within, λ x y lx ly e. sym (twice x lx) ∙ ap exchange e ∙ twice y ly);
   fixes = λ k named. absurd (false≢true named);
@@ -57,7 +57,7 @@ carried_itself Function v = refl
 carried_itself Relation v = refl
 
 -- tables whose elements keep their names are the same
-pub in_place : (n : ℕ) (p : Stated) (t : Finite) → IsRenaming n p (λ x. x) t t
+pub in_place : (n : ℕ) (p : Stated) (t : Finite) → IsIsomorphism n p (λ x. x) t t
 in_place n p t = record {
   permutes = (λ x l. l, λ x y lx ly e. e);
   fixes = λ k h. refl;

@@ -5,13 +5,13 @@ use Rattle.std.proofs.lemmas.Bool.{or_left, or_right, eqb-true, eq-eqb, cases_Bo
 use Rattle.std.proofs.lemmas.Bool.Decides.{nat_tests}
 use Rattle.std.proofs.lemmas.List.{length-map}
 use Rattle.fol_core.specs.Bound.{has_symbol, have_symbol, uses_symbol}
-use Rattle.fol_core.specs.Fol.{Fol, verum, falsum, equal, atom, denied, both, either, implies, iff, every, some}
+use Rattle.fol_core.specs.Fol.{Fol, verum, falsum, equal, atom, negation, conjunction, disjunction, implication, equivalence, forall, exists}
 use Rattle.fol_core.specs.Free.{is_in, free_vars_of, closure_of, closed_over}
 use Rattle.fol_core.specs.Meaning.{Meaning}
 use Rattle.fol_core.specs.Stated.{Said, IsAsRoled, IsCountermodel, AreNewTo}
 use Rattle.fol_core.specs.Tree.{Tree, var, elem, app, Trees, none, more}
 use Rattle.fol_core.specs.Truth.{Assignment, with_var, value_of, values_of, Holds}
-use Rattle.fol_core.specs.Witnesses.{Witness, PicksWitness, PicksWitnesses, AreNotIn, IsApart, IsClosedBody, AreInOrder}
+use Rattle.fol_core.specs.SkolemAxioms.{SkolemAxiom, PicksWitness, PicksWitnesses, AreNotIn, IsApart, IsClosedBody, AreInOrder}
 use Rattle.fol_core.specs.declared.problem.Role.{Role}
 use Rattle.fol_core.specs.declared.problem.Role.TheVariants.{Assumption, Usable, Demodulator, Goal}
 use Rattle.fol_core.specs.declared.symbols.Kind.TheVariants.{Function}
@@ -46,25 +46,25 @@ module _ (m n : Meaning) (within : m.within ≡ n.within) where
       let l = (same r (or_left (r == r) (have_symbol r ts) (eq-eqb r r refl))).1 in
       let vs = same_values ts (λ s i. same s (or_right (s == r) (have_symbol s ts) i)) e in
       λ i. IsTrue (l i (vs i))
-  same_truth (denied f) same e = let h = same_truth f same e in λ i. ¬ h i
-  same_truth (both f g) same e =
+  same_truth (negation f) same e = let h = same_truth f same e in λ i. ¬ h i
+  same_truth (conjunction f g) same e =
       let l = same_truth f (λ s i. same s (or_left (uses_symbol s f) (uses_symbol s g) i)) e in
       let r = same_truth g (λ s i. same s (or_right (uses_symbol s f) (uses_symbol s g) i)) e in
       λ i. l i × r i
-  same_truth (either f g) same e =
+  same_truth (disjunction f g) same e =
       let l = same_truth f (λ s i. same s (or_left (uses_symbol s f) (uses_symbol s g) i)) e in
       let r = same_truth g (λ s i. same s (or_right (uses_symbol s f) (uses_symbol s g) i)) e in
       λ i. ¬ (¬ l i × ¬ r i)
-  same_truth (implies f g) same e =
+  same_truth (implication f g) same e =
       let l = same_truth f (λ s i. same s (or_left (uses_symbol s f) (uses_symbol s g) i)) e in
       let r = same_truth g (λ s i. same s (or_right (uses_symbol s f) (uses_symbol s g) i)) e in
       λ i. l i → r i
-  same_truth (iff f g) same e =
+  same_truth (equivalence f g) same e =
       let l = same_truth f (λ s i. same s (or_left (uses_symbol s f) (uses_symbol s g) i)) e in
       let r = same_truth g (λ s i. same s (or_right (uses_symbol s f) (uses_symbol s g) i)) e in
       λ i. (l i → r i) × (r i → l i)
-  same_truth (every x f) same e = let h = λ (k : ℕ). same_truth f same (with_var e x k) in λ i. (k : ℕ) → IsTrue (within i k) → h k i
-  same_truth (some x f) same e = let h = λ (k : ℕ). same_truth f same (with_var e x k) in λ i. ¬ ((k : ℕ) → IsTrue (within i k) → ¬ h k i)
+  same_truth (forall x f) same e = let h = λ (k : ℕ). same_truth f same (with_var e x k) in λ i. (k : ℕ) → IsTrue (within i k) → h k i
+  same_truth (exists x f) same e = let h = λ (k : ℕ). same_truth f same (with_var e x k) in λ i. ¬ ((k : ℕ) → IsTrue (within i k) → ¬ h k i)
 
 -- what the symbol with such a row means
 abbrev function_of : ℕ → List ℕ → List ℕ → ℕ
@@ -96,18 +96,18 @@ row_other (r ∷ rs) top (suc s) zero l apart = refl
 row_other (r ∷ rs) top (suc s) (suc k) l apart = row_other rs top s k l (λ e. apart (ap suc e))
 
 -- an expansion has the same elements, and the rows of other symbols
-pub same_top : (ws : List Witness) (t u : Finite) → IsExpansion t ws u → u.top ≡ t.top
+pub same_top : (ws : List SkolemAxiom) (t u : Finite) → IsExpansion t ws u → u.top ≡ t.top
 same_top [] t u h = ap (λ (v : Finite). v.top) h
 same_top (w ∷ ws) t u h = same_top ws (with_values t w.symbol h.0) u h.1.1
 
-pub kept_row : (ws : List Witness) (t u : Finite) → IsExpansion t ws u → (s : ℕ) → IsApart s ws → row_of u s ≡ row_of t s
+pub kept_row : (ws : List SkolemAxiom) (t u : Finite) → IsExpansion t ws u → (s : ℕ) → IsApart s ws → row_of u s ≡ row_of t s
 kept_row [] t u h s apart = ap (λ (v : Finite). row_of v s) h
 kept_row (w ∷ ws) t u h s apart =
     kept_row ws (with_values t w.symbol h.0) u h.1.1 s apart.1
     ∙ row_other t.rows t.top w.symbol s (listing Function h.0) (λ e. true≢false (sym (eq-eqb w.symbol s e) ∙ apart.0))
 
 -- a symbol of a formula that has none of theirs is apart from them
-used_apart : (ws : List Witness) (f : Fol) → AreNotIn ws f → (s : ℕ) → IsTrue (uses_symbol s f) → IsApart s ws
+used_apart : (ws : List SkolemAxiom) (f : Fol) → AreNotIn ws f → (s : ℕ) → IsTrue (uses_symbol s f) → IsApart s ws
 used_apart [] f h s i = tt
 used_apart (w ∷ ws) f h s i = (
   elim (cases_Bool (w.symbol == s)) [
@@ -117,24 +117,24 @@ used_apart (w ∷ ws) f h s i = (
   used_apart ws f h.1 s i,
 )
 
-pub kept_truth : (ws : List Witness) (t u : Finite) → IsExpansion t ws u → (e : Assignment) (f : Fol) → AreNotIn ws f → Holds (meaning_of u) e f ≡ Holds (meaning_of t) e f
+pub kept_truth : (ws : List SkolemAxiom) (t u : Finite) → IsExpansion t ws u → (e : Assignment) (f : Fol) → AreNotIn ws f → Holds (meaning_of u) e f ≡ Holds (meaning_of t) e f
 kept_truth ws t u h e f new = same_rows t u f (same_top ws t u h) (λ s i. kept_row ws t u h s (used_apart ws f new s i)) e
 
 uses_closed : (s : ℕ) (xs : List ℕ) (f : Fol) → uses_symbol s (closed_over xs f) ≡ uses_symbol s f
 uses_closed s [] f = refl
 uses_closed s (x ∷ xs) f = uses_closed s xs f
 
-closure_new : (ws : List Witness) (f : Fol) → AreNotIn ws f → AreNotIn ws (closure_of f)
+closure_new : (ws : List SkolemAxiom) (f : Fol) → AreNotIn ws f → AreNotIn ws (closure_of f)
 closure_new [] f h = tt
 closure_new (w ∷ ws) f h = (uses_closed w.symbol (free_vars_of f) f ∙ h.0, closure_new ws f h.1)
 
-kept_role : (ws : List Witness) (t u : Finite) → IsExpansion t ws u → (role : Role) (f : Fol) → AreNotIn ws f → IsAsRoled (meaning_of u) role f ≡ IsAsRoled (meaning_of t) role f
+kept_role : (ws : List SkolemAxiom) (t u : Finite) → IsExpansion t ws u → (role : Role) (f : Fol) → AreNotIn ws f → IsAsRoled (meaning_of u) role f ≡ IsAsRoled (meaning_of t) role f
 kept_role ws t u h Assumption f new = kept_truth ws t u h (λ x. 0) (closure_of f) (closure_new ws f new)
 kept_role ws t u h Usable f new = kept_truth ws t u h (λ x. 0) (closure_of f) (closure_new ws f new)
 kept_role ws t u h Demodulator f new = kept_truth ws t u h (λ x. 0) (closure_of f) (closure_new ws f new)
 kept_role ws t u h Goal f new = let same = kept_truth ws t u h (λ x. 0) (closure_of f) (closure_new ws f new) in λ i. ¬ same i
 
-pub kept_countermodel : (ws : List Witness) (t u : Finite) → IsExpansion t ws u → (ss : List Said) → AreNewTo ss ws → IsCountermodel (meaning_of u) ss ≡ IsCountermodel (meaning_of t) ss
+pub kept_countermodel : (ws : List SkolemAxiom) (t u : Finite) → IsExpansion t ws u → (ss : List Said) → AreNewTo ss ws → IsCountermodel (meaning_of u) ss ≡ IsCountermodel (meaning_of t) ss
 kept_countermodel ws t u h [] new = refl
 kept_countermodel ws t u h (s ∷ ss) new =
     let role = kept_role ws t u h s.role s.formula new.0 in
@@ -161,7 +161,7 @@ within_below : (top n : ℕ) → IsTrue (nat_le n top) → n ≤ top
 within_below top n h = grind (arith, nat_tests)
 
 -- assignments that agree on a witness's variables agree on its body
-pub same_witness : (t : Finite) (w : Witness) → IsClosedBody w → (d e : Assignment) → ((x : ℕ) → IsTrue (is_in x w.variables) → d x ≡ e x) → (n : ℕ) → IsWitness t d w n → IsWitness t e w n
+pub same_witness : (t : Finite) (w : SkolemAxiom) → IsClosedBody w → (d e : Assignment) → ((x : ℕ) → IsTrue (is_in x w.variables) → d x ≡ e x) → (n : ℕ) → IsWitness t d w n → IsWitness t e w n
 same_witness t w closed d e same n h = (free_decide (meaning_of t) (with_var d w.variable n) (with_var e w.variable n) w.body (λ x i. by (x == w.variable) x (closed.1 x i))).0 h
   where
     by : (b : Bool) (x : ℕ) → IsTrue (b || is_in x w.variables) → (if b then n else d x) ≡ (if b then n else e x)
@@ -169,11 +169,11 @@ same_witness t w closed d e same n h = (free_decide (meaning_of t) (with_var d w
     by false x i = same x i
 
 -- the least witness is a witness, where there is one
-picked : (t : Finite) (e : Assignment) (w : Witness) (v n : ℕ) → IsLeastWitness t e w v → n ≤ t.top → IsWitness t e w n → (v ≤ t.top) × IsWitness t e w v
+picked : (t : Finite) (e : Assignment) (w : SkolemAxiom) (v n : ℕ) → IsLeastWitness t e w v → n ≤ t.top → IsWitness t e w n → (v ≤ t.top) × IsWitness t e w v
 picked t e w v n (inl h) le is = (h.0, h.1)
 picked t e w v n (inr h) le is = absurd (h.1 n le is)
 
-pub expansion_picks : (ws : List Witness) (t u : Finite) → AreInOrder ws → IsExpansion t ws u → PicksWitnesses (meaning_of u) ws
+pub expansion_picks : (ws : List SkolemAxiom) (t u : Finite) → AreInOrder ws → IsExpansion t ws u → PicksWitnesses (meaning_of u) ws
 expansion_picks [] t u order h = tt
 expansion_picks (w ∷ ws) t u order h = (picks, expansion_picks ws (with_values t w.symbol h.0) u order.3 h.1.1)
   where

@@ -4,12 +4,12 @@ use Rattle.std.proofs.lemmas.Bool.{cases_lt}
 use Rattle.std.proofs.lemmas.Grind.{same_number_lists}
 use Rattle.std.proofs.lemmas.List.{drop_more, drop_all, length-replicate}
 use Rattle.std.proofs.Math.Nat.{pow-zero, pow-suc}
-use Rattle.fol_core.specs.EntryView.{witness_of}
-use Rattle.fol_core.specs.Fol.{every}
+use Rattle.fol_core.specs.EntryView.{skolem_axiom_of}
+use Rattle.fol_core.specs.Fol.{forall}
 use Rattle.fol_core.specs.FormulaView.{fol_of}
 use Rattle.fol_core.specs.Free.{closed_over}
 use Rattle.fol_core.specs.Truth.{Assignment}
-use Rattle.fol_core.specs.Witnesses.{Witness, IsClosedBody, AreInOrder}
+use Rattle.fol_core.specs.SkolemAxioms.{SkolemAxiom, IsClosedBody, AreInOrder}
 use Rattle.fol_core.specs.declared.clause.Entry.{Entry}
 use Rattle.fol_core.specs.declared.symbols.Kind.TheVariants.{Function}
 use Rattle.model_tables.specs.Digits.{AreDigits, count, number}
@@ -38,11 +38,11 @@ with_row_there (r ∷ rs) (suc s) l h = ap (λ (ls : List Listing). r ∷ ls) (w
 pub room_for : (e : Entry) (a b : List (Option ℕ)) → length a ≡ length b → HasRoomFor e b → HasRoomFor e a
 room_for e a b same h = (same_room e.variables.items a b same h.0, omega (arith, h.1), same_room e.bound.items a b same h.2, omega (arith, h.3))
 
-pub entry_room : (e : Entry) (slots : List (Option ℕ)) → room_of (closed_over e.variables.items (every e.variable (closed_over e.bound.items (fol_of e.body)))) ≤ length slots → HasRoomFor e slots
+pub entry_room : (e : Entry) (slots : List (Option ℕ)) → room_of (closed_over e.variables.items (forall e.variable (closed_over e.bound.items (fol_of e.body)))) ≤ length slots → HasRoomFor e slots
 entry_room e slots h =
     let inner = closed_over e.bound.items (fol_of e.body) in
-    let variable : room_of (every e.variable inner) ≤ length slots = omega (arith, inner_room e.variables.items (every e.variable inner)) in (
-      closed_room e.variables.items (every e.variable inner) slots h,
+    let variable : room_of (forall e.variable inner) ≤ length slots = omega (arith, inner_room e.variables.items (forall e.variable inner)) in (
+      closed_room e.variables.items (forall e.variable inner) slots h,
       omega arith,
       closed_room e.bound.items (fol_of e.body) slots (omega arith),
       omega (arith, inner_room e.bound.items (fol_of e.body)),
@@ -66,14 +66,14 @@ length_more [] x = refl
 length_more (y ∷ ys) x = omega (arith, length_more ys x)
 
 -- the first k values are least witnesses
-abbrev pub AreFilledTo : Finite → Witness → ℕ → List ℕ → Type 0
+abbrev pub AreFilledTo : Finite → SkolemAxiom → ℕ → List ℕ → Type 0
 AreFilledTo t w k values = (length values ≡ k)
     × ((ns : List ℕ) → AreDigits (bounds t w.variables) ns → number (bounds t w.variables) ns < k → IsLeastWitness t (assigned w.variables ns) w (get_or values (number (bounds t w.variables) ns) 0))
 
-pub filled_none : (t : Finite) (w : Witness) → AreFilledTo t w 0 []
+pub filled_none : (t : Finite) (w : SkolemAxiom) → AreFilledTo t w 0 []
 filled_none t w = (refl, λ ns d l. absurd (omega arith))
 
-pub filled_more : (t : Finite) (w : Witness) (k : ℕ) (values ms : List ℕ) (v : ℕ) → AreFilledTo t w k values → AreDigits (bounds t w.variables) ms
+pub filled_more : (t : Finite) (w : SkolemAxiom) (k : ℕ) (values ms : List ℕ) (v : ℕ) → AreFilledTo t w k values → AreDigits (bounds t w.variables) ms
     → number (bounds t w.variables) ms ≡ k → IsLeastWitness t (assigned w.variables ms) w v → AreFilledTo t w (k + 1) (values ++ v ∷ [])
 filled_more t w k values ms v h digits here least = (length_more values v ∙ ap (λ (n : ℕ). n + 1) h.0, each)
   where
@@ -106,7 +106,7 @@ place_number n [] (m ∷ ns) p h = absurd (omega arith)
 place_number n (x ∷ xs) [] p h = absurd (omega arith)
 place_number n (x ∷ xs) (m ∷ ns) p h = omega (arith, place_number n xs ns (p * n + m) (omega arith))
 
-pub filled_all : (t : Finite) (w : Witness) (k : ℕ) (values : List ℕ) → AreFilledTo t w k values → count (bounds t w.variables) ≡ k → AreLeastWitnesses t w values
+pub filled_all : (t : Finite) (w : SkolemAxiom) (k : ℕ) (values : List ℕ) → AreFilledTo t w k values → count (bounds t w.variables) ≡ k → AreLeastWitnesses t w values
 filled_all t w k values h all = (h.0 ∙ sym all ∙ count_power (t.top + 1) w.variables, each)
   where
     each : (ns : List ℕ) → length ns ≡ length w.variables → AllBelow (t.top + 1) ns → IsLeastWitness t (assigned w.variables ns) w (slice_index values (place_from (t.top + 1) 0 ns))
@@ -116,7 +116,7 @@ filled_all t w k values h all = (h.0 ∙ sym all ∙ count_power (t.top + 1) w.v
         subst (λ (p : ℕ). IsLeastWitness t (assigned w.variables ns) w (get_or values p 0)) (sym place) (h.1 ns d (omega (arith, number_below (bounds t w.variables) ns d, all)))
 
 -- there is one list of least witnesses
-least_once : (t : Finite) (e : Assignment) (w : Witness) (a b : ℕ) → IsLeastWitness t e w a → IsLeastWitness t e w b → a ≡ b
+least_once : (t : Finite) (e : Assignment) (w : SkolemAxiom) (a b : ℕ) → IsLeastWitness t e w a → IsLeastWitness t e w b → a ≡ b
 least_once t e w a b (inl h) (inl k) = elim (cases_lt a b) [
   | inl lt ↦ absurd (k.2 a lt h.1)
   | inr ge ↦ elim (cases_lt b a) [ inl lt ↦ absurd (h.2 b lt k.1) | inr le ↦ omega arith ]
@@ -130,7 +130,7 @@ below_of n xs [] d = tt
 below_of n [] (m ∷ ns) d = absurd d
 below_of n (x ∷ xs) (m ∷ ns) d = (d.0, below_of n xs ns d.1)
 
-values_once : (t : Finite) (w : Witness) (vs us : List ℕ) → AreLeastWitnesses t w vs → AreLeastWitnesses t w us → vs ≡ us
+values_once : (t : Finite) (w : SkolemAxiom) (vs us : List ℕ) → AreLeastWitnesses t w vs → AreLeastWitnesses t w us → vs ≡ us
 values_once t w vs us h k = same_number_lists vs us (h.0 ∙ sym k.0) each
   where
     each : (p : ℕ) → p < length vs → get_or vs p 0 ≡ get_or us p 0
@@ -142,24 +142,24 @@ values_once t w vs us h k = same_number_lists vs us (h.0 ∙ sym k.0) each
         let place : place_from (t.top + 1) 0 ns ≡ p = omega (arith, place_number (t.top + 1) w.variables ns 0 many, ds.1.1) in
         subst (λ (q : ℕ). get_or vs q 0 ≡ get_or us q 0) place (least_once t (assigned w.variables ns) w _ _ (h.1 ns many below) (k.1 ns many below))
 
-pub one_expansion : (ws : List Witness) (t u v : Finite) → IsExpansion t ws u → IsExpansion t ws v → u ≡ v
+pub one_expansion : (ws : List SkolemAxiom) (t u v : Finite) → IsExpansion t ws u → IsExpansion t ws v → u ≡ v
 one_expansion [] t u v h k = h ∙ sym k
 one_expansion (w ∷ ws) t u v h k =
     let same = values_once t w h.0 k.0 h.1.0 k.1.0 in
     one_expansion ws (with_values t w.symbol h.0) u v h.1.1 (subst (λ (ns : List ℕ). IsExpansion (with_values t w.symbol ns) ws v) (sym same) k.1.1)
 
 -- one entry after the other
-pub entry_closed : (es : List Entry) (i : ℕ) (e : Entry) → AreInOrder (map witness_of es) → i < length es → e ≡ get_or es i e → IsClosedBody (witness_of e)
+pub entry_closed : (es : List Entry) (i : ℕ) (e : Entry) → AreInOrder (map skolem_axiom_of es) → i < length es → e ≡ get_or es i e → IsClosedBody (skolem_axiom_of e)
 entry_closed [] i e h l is = absurd (omega arith)
-entry_closed (f ∷ es) zero e h l is = subst (λ (x : Entry). IsClosedBody (witness_of x)) (sym is) h.0
+entry_closed (f ∷ es) zero e h l is = subst (λ (x : Entry). IsClosedBody (skolem_axiom_of x)) (sym is) h.0
 entry_closed (f ∷ es) (suc i) e h l is = entry_closed es i e h.3 (omega arith) is
 
 pub entry_next : (es : List Entry) (i : ℕ) (e : Entry) (t v u : Finite) → i < length es → e ≡ get_or es i e
-    → ((values : List ℕ) × (AreLeastWitnesses t (witness_of e) values × (v ≡ with_values t e.symbol.0 values))) → IsExpansion v (map witness_of (drop (i + 1) es)) u
-    → IsExpansion t (map witness_of (drop i es)) u
+    → ((values : List ℕ) × (AreLeastWitnesses t (skolem_axiom_of e) values × (v ≡ with_values t e.symbol.0 values))) → IsExpansion v (map skolem_axiom_of (drop (i + 1) es)) u
+    → IsExpansion t (map skolem_axiom_of (drop i es)) u
 entry_next es i e t v u l is h rest =
     let here : drop i es ≡ e ∷ drop (i + 1) es = drop_more es i e l ∙ ap (λ (x : Entry). x ∷ drop (i + 1) es) (sym is) in
-    subst (λ (xs : List Entry). IsExpansion t (map witness_of xs) u) (sym here) (h.0, (h.1.0, subst (λ (x : Finite). IsExpansion x (map witness_of (drop (i + 1) es)) u) h.1.1 rest))
+    subst (λ (xs : List Entry). IsExpansion t (map skolem_axiom_of xs) u) (sym here) (h.0, (h.1.0, subst (λ (x : Finite). IsExpansion x (map skolem_axiom_of (drop (i + 1) es)) u) h.1.1 rest))
 
-pub entries_end : (es : List Entry) (i : ℕ) (t : Finite) → length es ≤ i → IsExpansion t (map witness_of (drop i es)) t
-entries_end es i t past = subst (λ (xs : List Entry). IsExpansion t (map witness_of xs) t) (sym (drop_all i es past)) refl
+pub entries_end : (es : List Entry) (i : ℕ) (t : Finite) → length es ≤ i → IsExpansion t (map skolem_axiom_of (drop i es)) t
+entries_end es i t past = subst (λ (xs : List Entry). IsExpansion t (map skolem_axiom_of xs) t) (sym (drop_all i es past)) refl

@@ -24,7 +24,7 @@ carried Function r v = r v
 carried Relation r v = v
 
 -- the second tables, of size n, are the first ones with each element x called r x: so for each symbol that has values
-pub record IsRenaming (n : ℕ) (p : Stated) (r : ℕ → ℕ) (t u : Finite) : Type 0 where
+pub record IsIsomorphism (n : ℕ) (p : Stated) (r : ℕ → ℕ) (t u : Finite) : Type 0 where
   pub permutes : IsPermutation n r
   pub fixes : FixesNumerals (formulas_of p) r
   pub carries : (s : ℕ) (xs : List ℕ) → IsTrue (has t s) → length xs ≡ arity_at p.symbols s → AllBelow n xs → listed u s (map r xs) ≡ carried (kind_at p.symbols s) r (listed t s xs)

@@ -1,7 +1,7 @@
 -- Which variables have elements.
 use Rattle.std.specs.Prelude.{ℕ, ◌<◌, ◌≤◌, suc, ◌-◌, max, List, [], ◌∷◌, ◌++◌, length, replicate, Option, None, unwrap_or}
 use Rattle.std.specs.List.{slice_index_or}
-use Rattle.fol_core.specs.Fol.{Fol, verum, falsum, equal, atom, denied, both, either, implies, iff, every, some}
+use Rattle.fol_core.specs.Fol.{Fol, verum, falsum, equal, atom, negation, conjunction, disjunction, implication, equivalence, forall, exists}
 use Rattle.fol_core.specs.FormulaView.{fol_of}
 use Rattle.fol_core.specs.Truth.{Assignment, with_var}
 use Rattle.fol_core.specs.declared.clause.Entry.{Entry}
@@ -30,13 +30,13 @@ room_of verum = 0
 room_of falsum = 0
 room_of (equal s t) = 0
 room_of (atom r ts) = 0
-room_of (denied f) = room_of f
-room_of (both f g) = max (room_of f) (room_of g)
-room_of (either f g) = max (room_of f) (room_of g)
-room_of (implies f g) = max (room_of f) (room_of g)
-room_of (iff f g) = max (room_of f) (room_of g)
-room_of (every x f) = max (suc x) (room_of f)
-room_of (some x f) = max (suc x) (room_of f)
+room_of (negation f) = room_of f
+room_of (conjunction f g) = max (room_of f) (room_of g)
+room_of (disjunction f g) = max (room_of f) (room_of g)
+room_of (implication f g) = max (room_of f) (room_of g)
+room_of (equivalence f g) = max (room_of f) (room_of g)
+room_of (forall x f) = max (suc x) (room_of f)
+room_of (exists x f) = max (suc x) (room_of f)
 
 -- there is room for each of the variables
 abbrev pub HasRoom : List ℕ → List (Option ℕ) → Type 0

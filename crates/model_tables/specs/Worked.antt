@@ -1,10 +1,10 @@
 -- Tables worked out.
 use Rattle.std.specs.Prelude.{ℕ, ◌==◌, if◌then◌else◌, List, [], ◌∷◌, ◌++◌, codes}
-use Rattle.fol_core.specs.Fol.{equal, atom, denied, both, every, some}
+use Rattle.fol_core.specs.Fol.{equal, atom, negation, conjunction, forall, exists}
 use Rattle.fol_core.specs.Stated.{Stated, said, stated}
 use Rattle.fol_core.specs.SymbolTable.{Symbol, symbol}
 use Rattle.fol_core.specs.Tree.{Tree, var, elem, app, none, more}
-use Rattle.fol_core.specs.Witnesses.{Witness}
+use Rattle.fol_core.specs.SkolemAxioms.{SkolemAxiom}
 use Rattle.fol_core.specs.declared.problem.Role.TheVariants.{Assumption, Goal}
 use Rattle.fol_core.specs.declared.symbols.Kind.TheVariants.{Function, Relation}
 use Rattle.model_tables.specs.Tables.{Listing, Finite, listing}
@@ -16,7 +16,7 @@ constant s = app s none
 abbrev pub apart : Stated
 apart =
     stated (symbol (codes "a") 0 Function ∷ symbol (codes "b") 0 Function ∷ symbol (codes "h") 2 Function ∷ symbol (codes "p") 1 Relation ∷ [])
-    (said Assumption (denied (equal (constant 0) (constant 1))) ∷ said Goal (atom 3 (more (constant 0) none)) ∷ [])
+    (said Assumption (negation (equal (constant 0) (constant 1))) ∷ said Goal (atom 3 (more (constant 0) none)) ∷ [])
 
 -- three elements: `a` and `b` have these values, and `p` holds of the third element alone
 abbrev pub tables : ℕ → ℕ → Finite
@@ -40,31 +40,31 @@ abbrev pub group_text : List ℕ
 group_text = codes "interpretation(2, [number = 1,seconds = 0], [\n    function(*(_,_), [0,1,1,0])\n]).\n"
 
 -- "some x equals all y" is made true by the one element that there is
-abbrev pub single : Witness
-single = record { symbol = 0; variables = []; variable = 0; body = every 1 (equal (var 0) (var 1)) }
+abbrev pub single : SkolemAxiom
+single = record { symbol = 0; variables = []; variable = 0; body = forall 1 (equal (var 0) (var 1)) }
 
 abbrev pub one : List Listing → Finite
 one rows = record { top = 0; rows = rows }
 
 -- "for each x some y is another element"
-abbrev pub other : ℕ → Witness
-other s = record { symbol = s; variables = 0 ∷ []; variable = 1; body = denied (equal (var 1) (var 0)) }
+abbrev pub other : ℕ → SkolemAxiom
+other s = record { symbol = s; variables = 0 ∷ []; variable = 1; body = negation (equal (var 1) (var 0)) }
 
 -- "for some y and z, the symbol 0 at x is y, y isn't z, and z is element 1"
-abbrev pub chain : ℕ → Witness
+abbrev pub chain : ℕ → SkolemAxiom
 chain s = record {
   symbol = s;
   variables = [];
   variable = 0;
-  body = some 1 (some 2 (both (equal (app 0 (more (var 0) none)) (var 1)) (both (denied (equal (var 1) (var 2))) (equal (var 2) (elem 1)))));
+  body = exists 1 (exists 2 (conjunction (equal (app 0 (more (var 0) none)) (var 1)) (conjunction (negation (equal (var 1) (var 2))) (equal (var 2) (elem 1)))));
 }
 
 -- "p holds of some y", that, and "some y isn't itself"
-abbrev pub seekers : List Witness
+abbrev pub seekers : List SkolemAxiom
 seekers =
     record { symbol = 4; variables = []; variable = 1; body = atom 3 (more (var 1) none) }
     ∷ other 5
-    ∷ record { symbol = 6; variables = []; variable = 1; body = denied (equal (var 1) (var 1)) } ∷ []
+    ∷ record { symbol = 6; variables = []; variable = 1; body = negation (equal (var 1) (var 1)) } ∷ []
 
 abbrev pub found : List Listing
 found = listing Function (2 ∷ []) ∷ listing Function (1 ∷ 0 ∷ 0 ∷ []) ∷ listing Function (0 ∷ []) ∷ []

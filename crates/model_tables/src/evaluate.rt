@@ -1,6 +1,6 @@
 // Values of terms and truth of formulas in tables.
 ghost use Rattle.std.specs.Prelude.{◌≡◌, ℕ, ◌+◌, ◌*◌, ◌<◌, ◌≤◌, List, length, slice_index, MatchBool};
-ghost use Rattle.fol_core.specs.Fol.{every, some};
+ghost use Rattle.fol_core.specs.Fol.{forall, exists};
 ghost use Rattle.fol_core.specs.Tree.{trees_of};
 ghost use Rattle.fol_core.specs.TermView.{tree_of};
 ghost use Rattle.fol_core.specs.FormulaView.{fol_of};
@@ -123,8 +123,8 @@ fn true_of_all(tables: &Tables, variable: u64, shape: &Shape, env: &mut Env) -> 
     requires room { room_of (fol_of shape.now) ≤ length env.old }
     requires slot { variable < length env.old }
     ensures same { env.new ≡ env.old }
-    ensures truth { MatchBool result (Holds (meaning_of tables.now) (assignment env.old) (every variable (fol_of shape.now)))
-        (¬ Holds (meaning_of tables.now) (assignment env.old) (every variable (fol_of shape.now))) }
+    ensures truth { MatchBool result (Holds (meaning_of tables.now) (assignment env.old) (forall variable (fol_of shape.now)))
+        (¬ Holds (meaning_of tables.now) (assignment env.old) (forall variable (fol_of shape.now))) }
 {
     for element in 0..tables.size() {
         if !true_at(tables, variable, element, shape, env) {
@@ -140,8 +140,8 @@ fn true_of_some(tables: &Tables, variable: u64, shape: &Shape, env: &mut Env) ->
     requires room { room_of (fol_of shape.now) ≤ length env.old }
     requires slot { variable < length env.old }
     ensures same { env.new ≡ env.old }
-    ensures truth { MatchBool result (Holds (meaning_of tables.now) (assignment env.old) (some variable (fol_of shape.now)))
-        (¬ Holds (meaning_of tables.now) (assignment env.old) (some variable (fol_of shape.now))) }
+    ensures truth { MatchBool result (Holds (meaning_of tables.now) (assignment env.old) (exists variable (fol_of shape.now)))
+        (¬ Holds (meaning_of tables.now) (assignment env.old) (exists variable (fol_of shape.now))) }
 {
     for element in 0..tables.size() {
         if true_at(tables, variable, element, shape, env) {

@@ -6,7 +6,7 @@ ghost use Rattle.model_tables.specs.Expansion.{IsExpansion, OneExpansion, Expans
 ghost use Rattle.model_tables.specs.ModelText.{model_text};
 ghost use Rattle.model_tables.specs.Order.{first_of, GoesOn, EachComesOnce, table_count, table_number};
 ghost use Rattle.model_tables.specs.Reads.{TextTells};
-ghost use Rattle.model_tables.specs.Renaming.{IsRenaming};
+ghost use Rattle.model_tables.specs.Renaming.{IsIsomorphism};
 ghost use Rattle.model_tables.specs.Size.{IsInterpretation, cell_count};
 ghost use Rattle.model_tables.specs.Tables.{Finite, listing, meaning_of};
 ghost use Rattle.model_tables.specs.Worked.{apart, tables, exchange, tables_text, group_symbols, group, group_text, one, single, seekers, expanded};
@@ -22,8 +22,8 @@ pub fn text_tells()
 {}
 
 /// Tables are a renaming of themselves.
-pub fn renames_itself()
-    ensures { (n : ℕ) (p : Stated) (t : Finite) → IsRenaming n p (λ x. x) t t }
+pub fn is_isomorphic_to_itself()
+    ensures { (n : ℕ) (p : Stated) (t : Finite) → IsIsomorphism n p (λ x. x) t t }
 {}
 
 /// Tables of three elements: they are an interpretation of this size and a countermodel, come at a place among all, and have a
@@ -34,7 +34,7 @@ pub fn worked()
     ensures place { (cell_count 3 apart ≡ 5) × (table_count (tables 0 1) ≡ 72) × (table_number (tables 0 1) ≡ 9) }
     ensures text { model_text apart.symbols 7 (tables 0 1) ≡ tables_text }
     ensures operation { model_text group_symbols 1 group ≡ group_text }
-    ensures renaming { IsRenaming 3 apart exchange (tables 0 1) (tables 1 0) }
+    ensures renaming { IsIsomorphism 3 apart exchange (tables 0 1) (tables 1 0) }
 {}
 
 /// The tables with the values of Skolem symbols are the only ones that have them, pick witnesses, and keep the tables of all other

@@ -16,7 +16,7 @@ pub use closures::closure_truth;
 pub use env::Env;
 pub use evaluate::{truth, value};
 pub use laws::{
-    each_comes_once, expansions, renames_itself, text_tells, worked, worked_expansions,
+    each_comes_once, expansions, is_isomorphic_to_itself, text_tells, worked, worked_expansions,
 };
 pub use order::bound;
 pub use room::reserve_closure;
@@ -25,6 +25,4 @@ pub use skolem::expand;
 pub use tables::{Row, Tables};
 pub use text::interpretation_text;
 
-#[cfg(test)]
-mod tests;
 mod text;

@@ -1,6 +1,6 @@
 // How much room the variables of a formula need.
 ghost use Rattle.std.specs.Prelude.{◌≡◌, ◌<◌, ◌≤◌, suc, max, length, Some, OnOk, OnErr, MatchOption, ⊤};
-ghost use Rattle.fol_core.specs.Fol.{Fol, every};
+ghost use Rattle.fol_core.specs.Fol.{Fol, forall};
 ghost use Rattle.fol_core.specs.FormulaView.{fol_of};
 ghost use Rattle.fol_core.specs.Free.{closed_over};
 ghost use Rattle.model_tables.specs.Variables.{room_of, HasRoomFor};
@@ -37,7 +37,7 @@ pub(crate) fn reserve_entry(env: &mut Env, entry: &Entry) -> Result<(), AllocErr
 
 // How many slots a Skolem symbol needs, if so many can be had.
 fn entry_room(entry: &Entry) -> Option<u64>
-    ensures { MatchOption result ⊤ (λ n. n ≡ room_of (closed_over entry.now.variables.items (every entry.now.variable (closed_over entry.now.bound.items (fol_of entry.now.body))))) }
+    ensures { MatchOption result ⊤ (λ n. n ≡ room_of (closed_over entry.now.variables.items (forall entry.now.variable (closed_over entry.now.bound.items (fol_of entry.now.body))))) }
 {
     let bound = closed_room(&entry.body, &entry.bound)?;
     let body = greater(behind(entry.variable)?, bound)?;

@@ -1,6 +1,6 @@
 // The cells of a problem's symbols at a size, and the first tables.
 ghost use Rattle.std.specs.Prelude.{◌≡◌, ◌≤◌, ◌^◌, ◌-◌, ◌<◌, min, replicate, length, map, IfOk};
-ghost use Rattle.fol_core.specs.EntryView.{witness_of};
+ghost use Rattle.fol_core.specs.EntryView.{skolem_axiom_of};
 ghost use Rattle.fol_core.specs.Occurs.{occurs_in, AreMarked, size_needed};
 ghost use Rattle.fol_core.specs.Stated.{all_said, stated_of};
 ghost use Rattle.model_tables.specs.Expansion.{witness_cells};
@@ -66,7 +66,7 @@ fn sum_of_cells(problem: &Problem, used: &[bool], size: u32) -> u64
 
 /// How many cells the Skolem symbols have at a size, or the greatest u64 if there are more.
 pub fn skolem_cell_count(clauses: &Clauses, size: u32) -> u64
-    ensures { result ≡ min (witness_cells size (map witness_of clauses.now.skolem.items)) (2 ^ 64 - 1) }
+    ensures { result ≡ min (witness_cells size (map skolem_axiom_of clauses.now.skolem.items)) (2 ^ 64 - 1) }
 {
     let mut all: u64 = 0;
     let mut at = clauses.skolem.len();

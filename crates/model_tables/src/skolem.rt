@@ -1,7 +1,7 @@
 // The values of Skolem symbols in tables.
 ghost use Rattle.std.specs.Prelude.{◌≡◌, ℕ, List, length, map, IfOk, OnOk, MatchBool};
-ghost use Rattle.fol_core.specs.EntryView.{witness_of};
-ghost use Rattle.fol_core.specs.Witnesses.{IsClosedBody, AreInOrder};
+ghost use Rattle.fol_core.specs.EntryView.{skolem_axiom_of};
+ghost use Rattle.fol_core.specs.SkolemAxioms.{IsClosedBody, AreInOrder};
 ghost use Rattle.model_tables.specs.Expansion.{assigned, IsWitness, IsLeastWitness, AreLeastWitnesses, with_values, IsExpansion};
 ghost use Rattle.model_tables.specs.Variables.{HasRoomFor};
 
@@ -15,8 +15,8 @@ use std::alloc::{AllocError, Global};
 
 /// The tables with the least witnesses for each Skolem symbol; the tables of all other symbols are kept.
 pub fn expand(alloc: Global, tables: &Tables, clauses: &Clauses) -> Result<Tables, AllocError>
-    requires { AreInOrder (map witness_of clauses.now.skolem.items) }
-    ensures { IfOk result (λ u. IsExpansion tables.now (map witness_of clauses.now.skolem.items) u) }
+    requires { AreInOrder (map skolem_axiom_of clauses.now.skolem.items) }
+    ensures { IfOk result (λ u. IsExpansion tables.now (map skolem_axiom_of clauses.now.skolem.items) u) }
 {
     let mut expanded = tables.copy(alloc)?;
     let mut env = Env::new(alloc);
@@ -28,8 +28,8 @@ pub fn expand(alloc: Global, tables: &Tables, clauses: &Clauses) -> Result<Table
 
 // Puts in the least witnesses for a Skolem symbol.
 fn fill(alloc: Global, entry: &Entry, tables: &mut Tables, env: &mut Env) -> Result<(), AllocError>
-    requires { IsClosedBody (witness_of entry.now) }
-    ensures { OnOk result ((values : List ℕ) × (AreLeastWitnesses tables.old (witness_of entry.now) values × (tables.new ≡ with_values tables.old entry.now.symbol.0 values))) }
+    requires { IsClosedBody (skolem_axiom_of entry.now) }
+    ensures { OnOk result ((values : List ℕ) × (AreLeastWitnesses tables.old (skolem_axiom_of entry.now) values × (tables.new ≡ with_values tables.old entry.now.symbol.0 values))) }
 {
     reserve_entry(env, entry)?;
     let values = witnesses(alloc, tables, entry, env)?;
@@ -43,9 +43,9 @@ fn witnesses(
     entry: &Entry,
     env: &mut Env,
 ) -> Result<Vec<u32>, AllocError>
-    requires closed { IsClosedBody (witness_of entry.now) }
+    requires closed { IsClosedBody (skolem_axiom_of entry.now) }
     requires room { HasRoomFor entry.now env.old }
-    ensures { IfOk result (λ values. AreLeastWitnesses tables.now (witness_of entry.now) values.items) }
+    ensures { IfOk result (λ values. AreLeastWitnesses tables.now (skolem_axiom_of entry.now) values.items) }
 {
     let mut arguments = vec![in alloc; 0; entry.variables.len()]?;
     let mut elements = vec![in alloc; 0; entry.bound.len()]?;
@@ -65,12 +65,12 @@ fn least(
     elements: &mut [u32],
     env: &mut Env,
 ) -> u32
-    requires closed { IsClosedBody (witness_of entry.now) }
+    requires closed { IsClosedBody (skolem_axiom_of entry.now) }
     requires room { HasRoomFor entry.now env.old }
     requires arguments { length arguments.now ≡ length entry.now.variables.items }
     requires elements { length elements.old ≡ length entry.now.bound.items }
     ensures room { length env.new ≡ length env.old }
-    ensures least { IsLeastWitness tables.now (assigned entry.now.variables.items arguments.now) (witness_of entry.now) result }
+    ensures least { IsLeastWitness tables.now (assigned entry.now.variables.items arguments.now) (skolem_axiom_of entry.now) result }
 {
     for element in 0..tables.size() {
         if is_witness(tables, entry, arguments, element, elements, env) {
@@ -89,13 +89,13 @@ fn is_witness(
     elements: &mut [u32],
     env: &mut Env,
 ) -> bool
-    requires closed { IsClosedBody (witness_of entry.now) }
+    requires closed { IsClosedBody (skolem_axiom_of entry.now) }
     requires room { HasRoomFor entry.now env.old }
     requires arguments { length arguments.now ≡ length entry.now.variables.items }
     requires elements { length elements.old ≡ length entry.now.bound.items }
     ensures room { length env.new ≡ length env.old }
-    ensures truth { MatchBool result (IsWitness tables.now (assigned entry.now.variables.items arguments.now) (witness_of entry.now) element)
-        (¬ IsWitness tables.now (assigned entry.now.variables.items arguments.now) (witness_of entry.now) element) }
+    ensures truth { MatchBool result (IsWitness tables.now (assigned entry.now.variables.items arguments.now) (skolem_axiom_of entry.now) element)
+        (¬ IsWitness tables.now (assigned entry.now.variables.items arguments.now) (skolem_axiom_of entry.now) element) }
 {
     env.set_each(&entry.variables, arguments);
     env.set(entry.variable, element);

@@ -1,5 +1,5 @@
 use Rattle.std.proofs.Common.{◌+◌, ◌++◌, ap, ◌∙◌, length, map, drop}
-use Rattle.fol_core.specs.EntryView.{witness_of}
+use Rattle.fol_core.specs.EntryView.{skolem_axiom_of}
 use Rattle.fol_core.specs.Stated.{all_said}
 use Rattle.clausify.specs.Input.{rows_from, witnesses_from}
 use Rattle.clausify.proofs.Rows.{rows_next, witnesses_next}
@@ -17,6 +17,6 @@ loop-place-preserved c =
           ∙ rows_next symbols c.loop-place.rows.items inputs place before after c.index-inputs-place.result c.loop-place-test.true c.index-inputs-place.is c.in_ok-entries.ensures.count
           ∙ c.loop-place.invariant.rows;
       witnesses = ap (λ ws. ws ++ witnesses_from symbols after (all_said (drop (place + 1) inputs))) c.in_ok-entries.ensures.entries
-          ∙ witnesses_next symbols (map witness_of c.loop-place.entries.items) inputs place before after c.index-inputs-place.result c.loop-place-test.true c.index-inputs-place.is c.in_ok-entries.ensures.count
+          ∙ witnesses_next symbols (map skolem_axiom_of c.loop-place.entries.items) inputs place before after c.index-inputs-place.result c.loop-place-test.true c.index-inputs-place.is c.in_ok-entries.ensures.count
           ∙ c.loop-place.invariant.witnesses;
     }

@@ -1,7 +1,7 @@
 use Rattle.std.proofs.Common.{subst, sym, length}
 use Rattle.fol_core.specs.Literals.{equality}
 use Rattle.fol_core.specs.Stated.{all_said}
-use Rattle.fol_core.specs.Witnesses.{PicksWitnesses}
+use Rattle.fol_core.specs.SkolemAxioms.{PicksWitnesses}
 use Rattle.clausify.specs.Input.{skolems}
 use Rattle.clausify.specs.Laws.{AreTrueRows}
 use Rattle.clausify.specs.Names.{entered_numbers}
@@ -12,7 +12,7 @@ pub returns-clause-suffice : goal.returns-clause-suffice
 returns-clause-suffice g c = λ rows.
     let ss = all_said c.args.problem.now.inputs.items in
     c.clauses_suffice.ensures (entered_numbers c.args.symbols.now (skolems c.args.problem.now.symbols ss)) ss
-    (sound_below (length c.args.problem.now.symbols) equality ss c.fits.ensures c.requires.sound)
+    (sound_below (length c.args.problem.now.symbols) equality ss c.fits.ensures c.requires.well_formed)
     (subst (AreTrueRows (g.I.Interpretation.meaning c.args.any.now)) c.in_ok-clauses.ensures.clauses rows)
 
 pub returns-clause-follow : goal.returns-clause-follow
@@ -20,5 +20,5 @@ returns-clause-follow g c = λ picks as_roled.
     let ss = all_said c.args.problem.now.inputs.items in
     subst (AreTrueRows (g.I.Interpretation.meaning c.args.any.now)) (sym c.in_ok-clauses.ensures.clauses)
     (c.clauses_follow.ensures (entered_numbers c.args.symbols.now (skolems c.args.problem.now.symbols ss)) ss
-    (sound_below (length c.args.problem.now.symbols) equality ss c.fits.ensures c.requires.sound)
+    (sound_below (length c.args.problem.now.symbols) equality ss c.fits.ensures c.requires.well_formed)
     (subst (PicksWitnesses (g.I.Interpretation.meaning c.args.any.now)) c.in_ok-clauses.ensures.skolem picks) as_roled)

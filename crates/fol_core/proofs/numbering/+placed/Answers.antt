@@ -1,5 +1,5 @@
 use Rattle.std.proofs.Common.{◌∙◌, ap, sym}
-use Rattle.fol_core.specs.Put.{put, put_all}
+use Rattle.fol_core.specs.Substitutions.{substitute, substitute_all}
 use Rattle.fol_core.specs.Renumbered.{by_place}
 use Rattle.fol_core.specs.TermView.{tree_of, tree_list}
 use Rattle.fol_core.specs.Tree.{app, trees_of}
@@ -9,6 +9,6 @@ use Rattle.fol_core.proofs.numbering.+placed.Goals as goal
 pub returns-after-loop-term : goal.returns-after-loop-term
 returns-after-loop-term t c =
     ap (app c.in-App.s.0) (put_made (by_place c.args.variables.now.keys) c.deref-term-items.result.now c.loop-term.term-index c.loop-term.made c.loop-term-test.false c.loop-term.invariant
-    ∙ ap (λ ts. put_all (by_place c.args.variables.now.keys) (trees_of (tree_list ts))) c.deref-term-items.ensures.value
-    ∙ ap (λ ts. put_all (by_place c.args.variables.now.keys) (trees_of ts)) c.terms.view_is)
-    ∙ ap (λ t. put (by_place c.args.variables.now.keys) (tree_of t)) (sym c.in-App.is)
+    ∙ ap (λ ts. substitute_all (by_place c.args.variables.now.keys) (trees_of (tree_list ts))) c.deref-term-items.ensures.value
+    ∙ ap (λ ts. substitute_all (by_place c.args.variables.now.keys) (trees_of ts)) c.terms.view_is)
+    ∙ ap (λ t. substitute (by_place c.args.variables.now.keys) (tree_of t)) (sym c.in-App.is)

@@ -1,9 +1,9 @@
 -- The first arguments are made.
 use Rattle.std.proofs.Common.{◌≡◌, map, take}
-use Rattle.fol_core.specs.Put.{put}
+use Rattle.fol_core.specs.Substitutions.{substitute}
 use Rattle.fol_core.specs.Renumbered.{by_place}
 use Rattle.fol_core.specs.TermView.{tree_of}
 use Rattle.fol_core.proofs.numbering.+placed.Given as goal
 
 abbrev pub invariant-loop-term : goal.invariant-loop-term
-invariant-loop-term l = l.made ≡ map (λ t. put (by_place l.variables.keys) (tree_of t)) (take l.term-index l.term-items)
+invariant-loop-term l = l.made ≡ map (λ t. substitute (by_place l.variables.keys) (tree_of t)) (take l.term-index l.term-items)

@@ -1,6 +1,6 @@
 use Rattle.std.proofs.Common.{◌≡◌, ◌∙◌, List, length, is_some, ap, sym, subst}
 use Rattle.ladr_reader.specs.declared.styles.Mode.{Mode}
-use Rattle.fol_core.specs.Stated.{AreSound, all_said}
+use Rattle.fol_core.specs.Stated.{AreWellFormed, all_said}
 use Rattle.fol_core.specs.SymbolTable.{Symbol}
 use Rattle.fol_core.specs.declared.problem.Input.{Input}
 use Rattle.ladr_items.specs.Items.{items_of}
@@ -43,12 +43,12 @@ returns-in-Ok-take_file-clause-interpreted c = λ tests.
     let there = has_interpretation (length c.args.bytes.now) f.0 (sofar_of c.take_file.new.draft) (subst (λ (m : Mode). file.finished m (length c.args.bytes.now) f.0 ≡ problem (sofar_of c.take_file.new.draft)) tests f.2) in
     ap is_some c.finish.ensures.of.interpretation ∙ there
 
-pub returns-in-Ok-take_file-clause-sound : goal.returns-in-Ok-take_file-clause-sound
-returns-in-Ok-take_file-clause-sound c =
+pub returns-in-Ok-take_file-clause-well_formed : goal.returns-in-Ok-take_file-clause-well_formed
+returns-in-Ok-take_file-clause-well_formed c =
     let draft = c.take_file.new.draft in
-    let sound = subst (AreSound (length draft.symbols)) (said_same draft.inputs.items) (good c).sound in
-    subst (λ (is : List Input). AreSound (length c.finish.result.problem.symbols) (all_said is)) (sym c.finish.ensures.inputs)
-    (subst (λ (t : List Symbol). AreSound (length t) (all_said draft.inputs.items)) (sym c.finish.ensures.of.symbols) sound)
+    let well_formed = subst (AreWellFormed (length draft.symbols)) (said_same draft.inputs.items) (good c).well_formed in
+    subst (λ (is : List Input). AreWellFormed (length c.finish.result.problem.symbols) (all_said is)) (sym c.finish.ensures.inputs)
+    (subst (λ (t : List Symbol). AreWellFormed (length t) (all_said draft.inputs.items)) (sym c.finish.ensures.of.symbols) well_formed)
 
 pub returns-in-Err-clause-refused : goal.returns-in-Err-clause-refused
 returns-in-Err-clause-refused c = c.in-Err.ensures.refused c.args.program

@@ -3,16 +3,16 @@ use Rattle.std.specs.Prelude.{nat_le}
 use Rattle.std.proofs.Math.Nat.{pow-zero}
 use Rattle.std.proofs.lemmas.Bool.{false≢true}
 use Rattle.std.proofs.lemmas.Bool.Decides.{nat_tests}
-use Rattle.fol_core.specs.Fol.{Fol, atom, denied, equal}
+use Rattle.fol_core.specs.Fol.{Fol, atom, negation, equal}
 use Rattle.fol_core.specs.Tree.{var, none, more}
-use Rattle.fol_core.specs.Witnesses.{Witness}
+use Rattle.fol_core.specs.SkolemAxioms.{SkolemAxiom}
 use Rattle.model_tables.specs.Expansion.{assigned, IsWitness, IsLeastWitness, AreLeastWitnesses, with_values}
 use Rattle.model_tables.specs.Size.{AllBelow}
 use Rattle.model_tables.specs.Tables.{Finite, place_from}
 use Rattle.model_tables.specs.Worked.{tables, one, single, other}
 use Rattle.model_tables.proofs.laws.worked_expansions.Goals as goal
 
-abbrev constant : ℕ → ℕ → Fol → Witness
+abbrev constant : ℕ → ℕ → Fol → SkolemAxiom
 constant s y f = record { symbol = s; variables = []; variable = y; body = f }
 
 -- one value, where there are no arguments
@@ -60,6 +60,6 @@ returns-clause-seekers c = (
   2 ∷ [],
   (
     alone (tables 0 1) 4 1 (atom 3 (more (var 1) none)) 2 (inl (omega arith, refl, not_before)),
-    (1 ∷ 0 ∷ 0 ∷ [], (others, (0 ∷ [], (alone (with_values second 5 (1 ∷ 0 ∷ 0 ∷ [])) 6 1 (denied (equal (var 1) (var 1))) 0 (inr (refl, λ n l w. w refl)), refl)))),
+    (1 ∷ 0 ∷ 0 ∷ [], (others, (0 ∷ [], (alone (with_values second 5 (1 ∷ 0 ∷ 0 ∷ [])) 6 1 (negation (equal (var 1) (var 1))) 0 (inr (refl, λ n l w. w refl)), refl)))),
   ),
 )

@@ -1,6 +1,6 @@
 use Rattle.std.proofs.Common.{◌≡◌, ◌∙◌, ℕ, List, IsTrue, MatchBool, Option, ap, length, subst, sym, arith}
 use Rattle.std.proofs.lemmas.List.{length-set}
-use Rattle.fol_core.specs.EntryView.{witness_of, some_over}
+use Rattle.fol_core.specs.EntryView.{skolem_axiom_of, some_over}
 use Rattle.fol_core.specs.FormulaView.{fol_of}
 use Rattle.fol_core.specs.Free.{is_in}
 use Rattle.fol_core.specs.Truth.{Assignment, Holds, with_var}
@@ -22,7 +22,7 @@ some_truth-requires-clause-variables c =
 pub returns-clause-truth : goal.returns-clause-truth
 returns-clause-truth c =
     let t = c.args.tables.now in
-    let w = witness_of c.args.entry.now in
+    let w = skolem_axiom_of c.args.entry.now in
     let xs = c.args.entry.now.variables.items in
     let ns = c.args.arguments.now in
     let x = c.args.entry.now.variable in

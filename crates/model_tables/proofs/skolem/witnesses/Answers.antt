@@ -1,6 +1,6 @@
 use Rattle.std.proofs.Common.{◌≡◌, ◌∙◌, ◌+◌, ℕ, List, [], ap, length, replicate, arith}
 use Rattle.std.proofs.lemmas.List.{length-replicate, with_items_is}
-use Rattle.fol_core.specs.EntryView.{witness_of}
+use Rattle.fol_core.specs.EntryView.{skolem_axiom_of}
 use Rattle.model_tables.specs.Digits.{AreDigits, number}
 use Rattle.model_tables.specs.Expansion.{assigned, IsLeastWitness}
 use Rattle.model_tables.proofs.Filling.{room_for, filled_none, filled_more, filled_all}
@@ -12,7 +12,7 @@ pub loop-values-init : goal.loop-values-init
 loop-values-init c =
     let t = c.args.tables.now in
     let xs = c.args.entry.now.variables.items in
-    let w = witness_of c.args.entry.now in
+    let w = skolem_axiom_of c.args.entry.now in
     let zero : c.in_ok-arguments.arguments.items ≡ replicate (length xs) 0 =
     c.in_ok-arguments.ensures.items_if_clones_equal (λ y e. e) ∙ ap (λ (n : ℕ). replicate {A = ℕ} n 0) (c.len.ensures ∙ c.args.entry.now.variables.ok.0) in
     let none : number (bounds t xs) c.in_ok-arguments.arguments.items ≡ 0 = rw zero (number_zeros (length xs) (t.top + 1)) in
@@ -57,7 +57,7 @@ loop-values-smaller c =
 pub loop-values-preserved : goal.loop-values-preserved
 loop-values-preserved c =
     let t = c.args.tables.now in
-    let w = witness_of c.args.entry.now in
+    let w = skolem_axiom_of c.args.entry.now in
     let xs = c.args.entry.now.variables.items in
     let ns = c.advance_values.new.values in
     let many : length c.loop-values.arguments.items ≡ length xs = digits_many _ _ c.loop-values.invariant.digits ∙ length-replicate (length xs) (t.top + 1) in
@@ -80,4 +80,4 @@ returns c =
     let xs = c.args.entry.now.variables.items in
     let many : length c.loop-values.arguments.items ≡ length xs = digits_many _ _ c.loop-values.invariant.digits ∙ length-replicate (length xs) (t.top + 1) in
     let last = rw (c.deref_mut-in-loop-values.ensures.value, c.size.ensures, many) at c.loop-values-test.ensures.next in
-    filled_all t (witness_of c.args.entry.now) _ c.loop-values.values.items c.loop-values.invariant.filled last.0
+    filled_all t (skolem_axiom_of c.args.entry.now) _ c.loop-values.values.items c.loop-values.invariant.filled last.0

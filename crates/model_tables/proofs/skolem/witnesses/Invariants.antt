@@ -1,6 +1,6 @@
 -- the arguments are digits, and the values up to theirs are least witnesses
 use Rattle.std.proofs.Common.{◌≡◌, ◌+◌, ◌-◌, length}
-use Rattle.fol_core.specs.EntryView.{witness_of}
+use Rattle.fol_core.specs.EntryView.{skolem_axiom_of}
 use Rattle.model_tables.specs.Digits.{AreDigits, count, number}
 use Rattle.model_tables.proofs.Filling.{AreFilledTo}
 use Rattle.model_tables.proofs.Setting.{bounds}
@@ -11,7 +11,7 @@ invariant-loop-values l = record {
   room : length l.env ≡ length l.fn.env;
   elements : length l.elements.items ≡ length l.entry.bound.items;
   digits : AreDigits (bounds l.tables l.entry.variables.items) l.arguments.items;
-  filled : AreFilledTo l.tables (witness_of l.entry) (number (bounds l.tables l.entry.variables.items) l.arguments.items + 1) l.values.items;
+  filled : AreFilledTo l.tables (skolem_axiom_of l.entry) (number (bounds l.tables l.entry.variables.items) l.arguments.items + 1) l.values.items;
 }
 
 abbrev pub decreases-loop-values : goal.decreases-loop-values

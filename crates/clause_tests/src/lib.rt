@@ -1,0 +1,12 @@
+// Symbols, clauses, tables and searches, with ample memory. Tests are proved with all that they stand on, so they have a
+// crate of their own.
+#![tactic(auto)]
+
+#[cfg(test)]
+mod clauses;
+#[cfg(test)]
+mod searches;
+#[cfg(test)]
+mod symbols;
+#[cfg(test)]
+mod tables;

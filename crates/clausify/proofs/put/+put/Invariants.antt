@@ -1,9 +1,0 @@
--- The terms made are the first ones with terms put in.
-use Rattle.std.proofs.Common.{◌≡◌, take, map}
-use Rattle.fol_core.specs.TermView.{tree_of}
-use Rattle.fol_core.specs.Put.{put}
-use Rattle.clausify.specs.View.{terms_of}
-use Rattle.clausify.proofs.put.+put.Given as goal
-
-abbrev pub invariant-loop-term : goal.invariant-loop-term
-invariant-loop-term l = l.made ≡ map (λ t. put (terms_of l.values) (tree_of t)) (take l.term-index l.term-items)
