@@ -1,5 +1,6 @@
 pub mod Bounds
 pub mod Complete
+pub mod Disjunctions
 pub mod FormulaLemmas
 pub mod Lawful
 pub mod Levels

@@ -1,4 +1,5 @@
 pub mod Capped
+pub mod DisjunctView
 pub mod Faults
 pub mod Formulas
 pub mod Machine

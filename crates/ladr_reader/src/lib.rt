@@ -4,6 +4,7 @@
 mod arguments;
 mod capped;
 mod connectives;
+mod disjuncts;
 mod examples;
 mod fault;
 mod formulas;
@@ -26,7 +27,7 @@ pub use fault::TermFault;
 pub use formulas::{FormulaRead, formula_of, is_too_great, read_formula};
 pub use laws::{one_reading, quoted_symbols, worked_declared, worked_faults, worked_terms};
 pub use numbering::Variables;
-pub use read::read_term;
+pub use read::{read_literals, read_term, read_tree};
 pub use reader::is_free_name;
 pub use styles::{FormulaError, Mode, Style, What, style_of};
 
