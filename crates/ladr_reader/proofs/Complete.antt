@@ -49,9 +49,9 @@ one_more n g ts ks t p s fs finds =
     in
     let a : finished n s (all_capped n ks) (built n t) ≡ built n (named s (raws_of (ks ++ t ∷ []))) = finished_built n s ks t in (
       finds (Applied s (all_capped n ks) ∷ fs) refl comma refl
-      ∙ ap (λ (o : Option (List RawTree)). operand (Applied s o ∷ fs)) e,
+          ∙ ap (λ (o : Option (List RawTree)). operand (Applied s o ∷ fs)) e,
       finds (Applied s (all_capped n ks) ∷ fs) refl close_paren refl
-      ∙ ap (λ (o : Option (List RawTree)). standing (Some (Term o 0)) fs) a,
+          ∙ ap (λ (o : Option (List RawTree)). standing (Some (Term o 0)) fs) a,
     )
 
 -- an operator behind the tokens of its left argument

@@ -6,7 +6,7 @@ use Rattle.std.proofs.lemmas.Slice.Eq.{bytes_eq-Decides}
 use Rattle.std.proofs.lemmas.Bool.Decides.{nat_tests}
 use Rattle.fol_core.specs.RawTree.{RawTree, named, quantified, no_raws, more_raws, depth, depth_of, raws_of}
 use Rattle.fol_core.specs.declared.raw.Quantifier.{Quantifier}
-use Rattle.ladr_reader.specs.Capped.{capped, with_argument, application, quantification, is_bar, disjuncts, beside, disjunction, all_within, built, single, capped_if, whole_of, is_one, prepended, finished}
+use Rattle.ladr_reader.specs.Capped.{capped, with_argument, application, quantification, is_bar, disjuncts, beside, disjunction, all_within, built, single, capped_if, whole_of, is_one, in_front, finished}
 
 -- one more argument
 pub depth_of_append : (ts : List RawTree) (t : RawTree) → depth_of (raws_of (ts ++ t ∷ [])) ≡ max (depth_of (raws_of ts)) (depth t)
@@ -92,7 +92,7 @@ plain : (n : ℕ) (s : List ℕ) (ts : List RawTree) (t : RawTree) → (is_bar s
 plain n s ts t f e =
     let all : application n s (with_argument (all_capped n ts) (whole_of n (built n t))) ≡ capped n (named s (raws_of (ts ++ t ∷ []))) =
     ap (λ (o : Option RawTree). application n s (with_argument (all_capped n ts) o)) (whole_built n t) ∙ ap (application n s) (with_capped n ts t) ∙ application_capped n s (ts ++ t ∷ []) in
-    ap (λ (b : Bool). if b then prepended (all_capped n ts) (built n t) else single (application n s (with_argument (all_capped n ts) (whole_of n (built n t))))) f
+    ap (λ (b : Bool). if b then in_front (all_capped n ts) (built n t) else single (application n s (with_argument (all_capped n ts) (whole_of n (built n t))))) f
     ∙ ap single all ∙ single_built n (named s (raws_of (ts ++ t ∷ []))) e
 
 -- a disjunction
@@ -100,7 +100,7 @@ alongside : (n : ℕ) (s : List ℕ) (t u : RawTree) → is_bar s ≡ true → f
 alongside n s t u y = rw y (by (cases_Bool (nat_le (depth t) n)) (cases_Bool (all_within n (disjuncts u))))
   where
     by : (nat_le (depth t) n ≡ true) ⊎ (nat_le (depth t) n ≡ false) → (all_within n (disjuncts u) ≡ true) ⊎ (all_within n (disjuncts u) ≡ false)
-        → (if is_one (all_capped n (t ∷ [])) then prepended (all_capped n (t ∷ [])) (built n u) else single (application n s (with_argument (all_capped n (t ∷ [])) (whole_of n (built n u)))))
+        → (if is_one (all_capped n (t ∷ [])) then in_front (all_capped n (t ∷ [])) (built n u) else single (application n s (with_argument (all_capped n (t ∷ [])) (whole_of n (built n u)))))
         ≡ (if nat_le (depth t) n && all_within n (disjuncts u) then Some (t ∷ disjuncts u) else None)
     by (inl a) (inl b) = let c : all_capped n (t ∷ []) ≡ Some (t ∷ []) = grind (arith, nat_tests) in rw (c, a, b) refl
     by (inl a) (inr b) = let c : all_capped n (t ∷ []) ≡ Some (t ∷ []) = grind (arith, nat_tests) in rw (c, a, b) refl

@@ -7,7 +7,7 @@ use Rattle.fol_core.specs.RawView.{raw_of}
 use Rattle.fol_core.specs.declared.raw.Raw.{Raw}
 use Rattle.ladr_lex.specs.Lexeme.{Lexeme, unreadable, lexeme_of, lexemes_of}
 use Rattle.ladr_lex.specs.declared.token.Token.{Token}
-use Rattle.ladr_reader.specs.Capped.{capped, built, disjuncts, whole_of}
+use Rattle.ladr_reader.specs.Capped.{built, disjuncts}
 use Rattle.ladr_reader.specs.Faults.{IsTermFault, IsFaultWhere}
 use Rattle.ladr_reader.specs.Machine.{State, standing, step, next, go}
 use Rattle.ladr_reader.specs.Nesting.{most_open, nesting}

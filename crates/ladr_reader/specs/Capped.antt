@@ -74,10 +74,10 @@ is_one (Some (t ∷ [])) = true
 is_one (Some (t ∷ u ∷ ts)) = false
 
 -- an argument in front of disjuncts
-abbrev pub prepended : Option (List RawTree) → Option (List RawTree) → Option (List RawTree)
-prepended (Some (t ∷ [])) (Some us) = Some (t ∷ us)
-prepended ts us = None
+abbrev pub in_front : Option (List RawTree) → Option (List RawTree) → Option (List RawTree)
+in_front (Some (t ∷ [])) (Some us) = Some (t ∷ us)
+in_front ts us = None
 
 -- a name with arguments, the last of them in disjuncts, which go on as those of a disjunction
 abbrev pub finished : ℕ → List ℕ → Option (List RawTree) → Option (List RawTree) → Option (List RawTree)
-finished n s ts us = if is_bar s && is_one ts then prepended ts us else single (application n s (with_argument ts (whole_of n us)))
+finished n s ts us = if is_bar s && is_one ts then in_front ts us else single (application n s (with_argument ts (whole_of n us)))

@@ -1,4 +1,6 @@
 pub mod Capped
+pub mod ClauseIn
+pub mod Literals
 pub mod DisjunctView
 pub mod Faults
 pub mod Formulas

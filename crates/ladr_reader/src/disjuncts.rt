@@ -3,7 +3,7 @@ ghost use Rattle.std.specs.Prelude.{◌≡◌, [], true, Some, None, IfOk};
 ghost use Rattle.std.specs.Option.{option_map};
 ghost use Rattle.fol_core.specs.RawTree.{named, no_raws};
 ghost use Rattle.fol_core.specs.RawView.{raw_of, raw_list};
-ghost use Rattle.ladr_reader.specs.Capped.{disjunction, is_bar, is_one, single, whole_of, prepended, finished, built, quantification};
+ghost use Rattle.ladr_reader.specs.Capped.{disjunction, is_bar, is_one, single, whole_of, in_front, finished, built, quantification};
 ghost use Rattle.ladr_reader.specs.DisjunctView.{in_order};
 
 use crate::capped::{Arguments, Build, Capped};
@@ -98,7 +98,7 @@ impl Disjuncts {
     // The disjuncts behind another one, which is the argument.
     fn behind(self, build: Build, first: Arguments) -> Result<Disjuncts, AllocError>
         requires { is_one first ≡ true }
-        ensures { IfOk result (λ term. term ≡ prepended first self) }
+        ensures { IfOk result (λ term. term ≡ in_front first self) }
     {
         let Arguments {
             trees,

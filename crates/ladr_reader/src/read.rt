@@ -44,12 +44,7 @@ pub fn read_term(alloc: Global, ops: &Ops, tokens: &[Token]) -> Result<Raw, Term
 }
 
 /// The term that the tokens are, unless it has more levels than this; parentheses don't count.
-pub fn read_tree(
-    alloc: Global,
-    ops: &Ops,
-    tokens: &[Token],
-    most: u16,
-) -> Result<Raw, TermFault>
+pub fn read_tree(alloc: Global, ops: &Ops, tokens: &[Token], most: u16) -> Result<Raw, TermFault>
     ensures read { IfOk result (λ raw. Item (table_of ops.now) (lexemes_of tokens.now) (raw_of raw)) }
     ensures shallow { IfOk result (λ raw. depth (raw_of raw) ≤ most) }
     ensures fault { IfErr result

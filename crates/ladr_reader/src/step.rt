@@ -214,7 +214,8 @@ fn behind_operator(
 fn behind_close(
     build: Build,
     stack: &mut Stack,
-    term: Disjuncts) -> Result<Option<Place>, AllocError>
+    term: Disjuncts,
+) -> Result<Option<Place>, AllocError>
     ensures { IfOk result (λ place. standing place stack.new ≡ behind_close build.most term stack.old) }
 {
     match stack.pop() {
@@ -232,7 +233,8 @@ fn behind_close(
 fn behind_comma(
     build: Build,
     stack: &mut Stack,
-    term: Disjuncts) -> Result<Option<Place>, AllocError>
+    term: Disjuncts,
+) -> Result<Option<Place>, AllocError>
     ensures { IfOk result (λ place. standing place stack.new ≡ behind_comma build.most term stack.old) }
 {
     match stack.pop() {

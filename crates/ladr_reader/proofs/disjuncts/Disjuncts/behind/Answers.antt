@@ -1,4 +1,4 @@
-use Rattle.std.proofs.Common.{◌≡◌, ℕ, ◌∷◌, ◌++◌, [], List, Option, Some, true, ap, ◌∙◌, sym, min, max, ◌+◌}
+use Rattle.std.proofs.Common.{◌≡◌, ℕ, List, Option, Some, true, ap, ◌∙◌, sym, min, max, ◌+◌}
 use Rattle.fol_core.specs.RawTree.{RawTree}
 use Rattle.fol_core.specs.RawView.{raw_of}
 use Rattle.ladr_reader.specs.Capped.{is_one}

@@ -1,4 +1,4 @@
-use Rattle.std.proofs.Common.{◌≡◌, ℕ, [], ◌∷◌, ◌++◌, reverse, List, Option, Some, ap, ◌∙◌, sym}
+use Rattle.std.proofs.Common.{◌≡◌, [], ◌∷◌, ◌++◌, reverse, List, Some, ap, ◌∙◌, sym}
 use Rattle.std.specs.Option.{option_map}
 use Rattle.fol_core.specs.RawTree.{RawTree}
 use Rattle.fol_core.specs.RawView.{raw_of, raw_list}
