@@ -1,7 +1,7 @@
 // The models of a sentence with elements 0 and 1, in order.
-use mace_search::{Answer, PlainSearch};
 use fol_core::{Formula, Input, Kind, Names, Problem, Role, Shape, Sym, Symbols, Term, Terms};
 use ladr_io::MemClock;
+use mace_search::{Answer, PlainSearch};
 use model_tables::cell_count;
 use std::alloc::{AllocError, Global};
 use std::test::Fail;

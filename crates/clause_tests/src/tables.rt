@@ -6,13 +6,13 @@ ghost use Rattle.fol_core.specs.Tree.{app, more, none};
 ghost use Rattle.fol_core.specs.SkolemAxioms.{AreInOrder};
 ghost use Rattle.model_tables.specs.Worked.{other, chain};
 
-use model_tables::{
-    Env, Row, Tables, cell_count, closure_truth, expand, interpretation_text, reserve_closure,
-    size_needed, skolem_cell_count, truth, value,
-};
 use fol_core::{
     Clauses, Entry, Formula, Input, Kind, Names, Problem, Role, Shape, Sub, Sym, Symbols, Term,
     Terms, free_vars,
+};
+use model_tables::{
+    Env, Row, Tables, cell_count, closure_truth, expand, interpretation_text, reserve_closure,
+    size_needed, skolem_cell_count, truth, value,
 };
 use std::alloc::{AllocError, Global};
 use std::test::Fail;

@@ -18,4 +18,3 @@ mod substitution;
 pub use error::ClauseError;
 pub use laws::{clauses_follow, clauses_suffice, own_table, witnesses_are_in_order, worked};
 pub use problem::clauses_of;
-

@@ -44,7 +44,11 @@ pub fn substitute(alloc: Global, term: &Term, values: &[(u64, Term)]) -> Result<
 
 /// The same of each of some terms.
 
-pub fn substitute_all(alloc: Global, terms: &Terms, values: &[(u64, Term)]) -> Result<Terms, AllocError>
+pub fn substitute_all(
+    alloc: Global,
+    terms: &Terms,
+    values: &[(u64, Term)],
+) -> Result<Terms, AllocError>
     ensures { IfOk result (λ ts. trees_of ts ≡ substitute_all (terms_of values.now) (trees_of terms.now)) }
 {
     let mut made = Terms::new(alloc);

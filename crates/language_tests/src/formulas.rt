@@ -1,6 +1,6 @@
-use ladr_reader::{FormulaError, Mode, formula_of, read_term, style_of, terms_of};
 use fol_core::{Raws, Symbols};
 use ladr_lex::{Ops, tokens};
+use ladr_reader::{FormulaError, Mode, formula_of, read_term, style_of, terms_of};
 use std::alloc::Global;
 use std::test::Fail;
 

@@ -1,6 +1,6 @@
-use ladr_named::{Named, NamedError, bind};
 use fol_core::{Kind, Symbols};
 use ladr_commands::{CommandFault, read_interpretation};
+use ladr_interpretations::{Named, NamedError, bind};
 use ladr_lex::tokens;
 use std::test::Fail;
 

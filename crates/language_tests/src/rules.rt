@@ -1,7 +1,7 @@
-use ladr_rules::{kbo_rule, weight_rule};
 use fol_core::{Raw, Symbols};
 use ladr_lex::{Ops, tokens};
 use ladr_reader::{Mode, read_term};
+use ladr_rules::{kbo_rule, weight_rule};
 use std::alloc::Global;
 use std::test::Fail;
 

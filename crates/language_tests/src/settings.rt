@@ -1,7 +1,7 @@
-use ladr_settings::{Misuse, Settings};
 use ladr_commands::read_command;
 use ladr_lex::tokens;
 use ladr_reader::Mode;
+use ladr_settings::{Misuse, Settings};
 use std::test::Fail;
 
 // Commands that are taken one behind the other.

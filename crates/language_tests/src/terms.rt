@@ -1,6 +1,6 @@
-use ladr_reader::{TermFault, read_term};
 use fol_core::{Quantifier, Raw};
 use ladr_lex::{Ops, tokens};
+use ladr_reader::{TermFault, read_term};
 use std::alloc::{AllocError, Global};
 use std::test::Fail;
 

@@ -11,4 +11,3 @@ mod sentence;
 pub use answer::Answer;
 pub use laws::{all_models, first_models, worked, worked_readings};
 pub use plain::PlainSearch;
-
