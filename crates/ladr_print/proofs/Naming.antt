@@ -1,6 +1,6 @@
 -- A formula that was read is printed with the names that it was read by.
 use Rattle.std.proofs.Common.{◌≡◌, ℕ, suc, ◌+◌, ◌<◌, ◌≤◌, Bool, true, false, List, [], ◌∷◌, length, Option, Some, None, inl, inr, refl, sym, ap, ap₂, ◌∙◌, subst, arith}
-use Rattle.std.specs.Prelude.{◌==◌, ◌&&◌, ◌||◌, is_some, unwrap_or, slice_get, nat_lt, codes}
+use Rattle.std.specs.Prelude.{◌==◌, ◌&&◌, unwrap_or, slice_get, nat_lt, codes}
 use Rattle.std.specs.Option.{option_map_or}
 use Rattle.std.specs.Str.{bytes_eq}
 use Rattle.std.specs.Fmt.{decimal}
@@ -11,20 +11,20 @@ use Rattle.std.proofs.lemmas.Slice.Eq.{bytes_eq-Decides}
 use Rattle.fol_core.specs.Fol.{Fol, conjunction, disjunction, implication, equivalence}
 use Rattle.fol_core.specs.Literals.{equality}
 use Rattle.fol_core.specs.RawTree.{RawTree, named, quantified, RawTrees, no_raws, more_raws}
-use Rattle.fol_core.specs.SymbolTable.{Symbol, number_of, name_at, entered, is_clash, KeepsNumbers}
+use Rattle.fol_core.specs.SymbolTable.{Symbol, number_of, name_at, entered, KeepsNumbers}
 use Rattle.fol_core.specs.Tree.{Tree, elem, app, none}
 use Rattle.fol_core.specs.declared.raw.Quantifier.{Quantifier}
 use Rattle.fol_core.specs.declared.raw.Quantifier.TheVariants.{All, Exists}
 use Rattle.fol_core.specs.declared.symbols.Kind.{Kind}
 use Rattle.fol_core.specs.declared.symbols.Kind.TheVariants.{Function, Relation}
-use Rattle.fol_core.proofs.Places.{slice_get_more, slice_get_last}
+use Rattle.fol_core.proofs.Places.{slice_get_last}
 use Rattle.fol_core.proofs.SymbolLemmas.{symbol_there, number_of_push}
 use Rattle.ladr_lex.specs.Numeral.{is_numeral, number}
 use Rattle.ladr_reader.specs.Formulas.{Variable, Reading, Made, Bound, meets, bound_number, free_number, is_variable, with_variable, variable_number, with_name, named_variable, with_symbol, symbol_number, arity_of, is_too_great, is_element, constant_as, constant, term_of, terms_of, relation_of, sentence_as, sentence, equation, bound_by, is_denial, connective_of, joined, by_connective, comparison, formula_in}
 use Rattle.ladr_reader.specs.declared.connectives.Connective.{Connective}
 use Rattle.ladr_reader.specs.declared.connectives.Connective.TheVariants.{And, Or, IfThen, ThenIf, IfAndOnlyIf}
 use Rattle.ladr_reader.specs.declared.styles.Style.{Style}
-use Rattle.ladr_reader.proofs.Growing.{Grows, beyond, grows_name, grows_variable, grows_named, grows_constant_as, grows_term, grows_terms, grows_equation, grows_formula, grows_relation}
+use Rattle.ladr_reader.proofs.Growing.{Grows, beyond, grows_name, grows_variable, grows_term, grows_terms, grows_formula}
 use Rattle.ladr_print.specs.FormulaText.{two, denial, formula_raw}
 use Rattle.ladr_print.specs.TermText.{Naming, symbol_name, term_raw, terms_raw}
 use Rattle.ladr_lex.proofs.Numerals.{decimal_number}

@@ -25,7 +25,8 @@ use Rattle.ladr_print.specs.FormulaText.{two}
 use Rattle.ladr_print.specs.StatesClause.{atom_in, literal_in, prepended, literals_in}
 use Rattle.ladr_print.specs.TermText.{Naming, clause_variable, symbol_name, term_raw, terms_raw}
 use Rattle.ladr_print.proofs.Letters.{name_free, first_variables, first_length, not_yet, found_there}
-use Rattle.ladr_print.proofs.Naming.{Grows, Reaches, beyond, before, unmet, clear, free_found, symbol_back, element_back, grows_variable, grows_term, grows_terms, grows_formula}
+use Rattle.ladr_reader.proofs.Growing.{Grows, beyond, grows_variable, grows_term, grows_terms, grows_formula}
+use Rattle.ladr_print.proofs.Naming.{Reaches, before, unmet, clear, free_found, symbol_back, element_back}
 use Rattle.ladr_print.proofs.Rereading.{denial_read}
 use Rattle.ladr_print.proofs.Upto.{upto, noted_old, noted_new}
 use Rattle.fol_core.specs.Free.{noted, variables_of, variables_of_all}

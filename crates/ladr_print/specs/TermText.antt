@@ -1,5 +1,5 @@
 -- The term as read that a term is printed as.
-use Rattle.std.specs.Prelude.{ℕ, Bool, ◌==◌, List, [], slice_get, unwrap_or, if◌then◌else◌, codes}
+use Rattle.std.specs.Prelude.{ℕ, ◌==◌, List, [], slice_get, unwrap_or, if◌then◌else◌, codes}
 use Rattle.std.specs.Fmt.{decimal}
 use Rattle.fol_core.specs.Literals.{equality}
 use Rattle.fol_core.specs.RawTree.{RawTree, named, RawTrees, no_raws, more_raws}
