@@ -15,7 +15,9 @@ use Rattle.clausify.specs.Clausal.{literal_clauses, clauses_in}
 use Rattle.fol_core.specs.Substitutions.{Substitution, with_term, substitute_all}
 use Rattle.clausify.specs.Skolem.{skolem_term, somes, skolem_axioms}
 use Rattle.clausify.proofs.Clauses.{IsAtom, IsApart, Agree, all_true, crossed_true, test, test_holds, holds_test, signed, literal_true}
-use Rattle.clausify.proofs.Scopes.{Known, known_more, known_term, valued, put_values, put_holds, valued_var, skolem_value, skolem_within, within_var}
+use Rattle.substitutions.specs.Instances.{valued}
+use Rattle.substitutions.proofs.Truth.{substitute_values}
+use Rattle.clausify.proofs.Scopes.{Known, known_more, known_term, put_holds, valued_var, skolem_value, skolem_within, within_var}
 use Rattle.clausify.proofs.Sets.{Set, plus, also, Sub, In, Out, sub_plus, sub_also, in_cases, in_left, in_right, joined_left, joined_right, under}
 
 pub in_more : (u v : Set) (xs : List ℕ) → Sub u v → In xs u → In xs v
@@ -94,7 +96,7 @@ module _ (m : Meaning) where
     same_arguments : (u : Set) (terms : Substitution) (d e : Assignment) (positive : Bool) (r : ℕ) (ts : Trees) → Known u terms → In (variables_of_all ts) u → Agree u d e
         → all_true m d ((literal positive (app r (substitute_all terms ts)) ∷ []) ∷ []) ≡ all_true m e ((literal positive (app r (substitute_all terms ts)) ∷ []) ∷ [])
     same_arguments u terms d e positive r ts known free a = ap (λ xs. (signed m positive (if r == equality then are_equal xs else m.relation r xs) || false) && true)
-        (put_values m d terms ts ∙ alike_values m (valued m d terms) (valued m e terms) ts (λ y i. agree_valued u terms d e known a y (free y i)) ∙ sym (put_values m e terms ts))
+        (substitute_values m d terms ts ∙ alike_values m (valued m d terms) (valued m e terms) ts (λ y i. agree_valued u terms d e known a y (free y i)) ∙ sym (substitute_values m e terms ts))
 
     same_literals : (u : Set) (terms : Substitution) (d e : Assignment) (positive : Bool) (f : Fol) → Known u terms → In (free_vars_of f) u → Agree u d e
         → all_true m d (literal_clauses terms positive f) ≡ all_true m e (literal_clauses terms positive f)

@@ -12,7 +12,8 @@ use Rattle.fol_core.specs.Meaning.{Meaning}
 use Rattle.fol_core.specs.Truth.{Assignment, value_of, values_of, Holds}
 use Rattle.clausify.specs.Clausal.{with_each, distributed, literal_clauses}
 use Rattle.fol_core.specs.Substitutions.{Substitution, substitute, substitute_all}
-use Rattle.clausify.proofs.Scopes.{valued, put_value, put_values}
+use Rattle.substitutions.specs.Instances.{valued}
+use Rattle.substitutions.proofs.Truth.{substitute_value, substitute_values}
 use Rattle.clausify.proofs.Sets.{Set, plus, also}
 
 -- an atom, none of whose relations has equality's number
@@ -109,10 +110,10 @@ module _ (m : Meaning) where
   literal_true e terms true falsum a = refl
   literal_true e terms false falsum a = refl
   literal_true e terms positive (equal s t) a = one_true e (literal positive (app equality (more (substitute terms s) (more (substitute terms t) none))))
-      ∙ ap (signed positive) (ap₂ (λ x y. x == y) (put_value m e terms s) (put_value m e terms t))
+      ∙ ap (signed positive) (ap₂ (λ x y. x == y) (substitute_value m e terms s) (substitute_value m e terms t))
   literal_true e terms positive (atom r ts) a = one_true e (literal positive (app r (substitute_all terms ts)))
       ∙ ap (signed positive) (ap (λ b. if b then are_equal (values_of m e (substitute_all terms ts)) else m.relation r (values_of m e (substitute_all terms ts))) a
-      ∙ ap (m.relation r) (put_values m e terms ts))
+      ∙ ap (m.relation r) (substitute_values m e terms ts))
   literal_true e terms positive (negation f) a = absurd a
   literal_true e terms positive (conjunction f g) a = absurd a
   literal_true e terms positive (disjunction f g) a = absurd a

@@ -12,7 +12,6 @@ mod WholeLaws
 mod Works
 mod Marks
 mod NameLemmas
-mod Numbering
 mod Rows
 mod Scopes
 mod Sets

@@ -1,7 +1,7 @@
 -- Substitution that stand for variables, and truth under them.
-use Rattle.std.proofs.Common.{◌≡◌, ◌⊎◌, inl, inr, ℕ, Bool, true, false, ◌==◌, ◌||◌, if◌then◌else◌, IsTrue, List, [], ◌∷◌, map, refl, sym, ap, ap₂, ◌∙◌, subst}
+use Rattle.std.proofs.Common.{◌≡◌, ◌⊎◌, inl, inr, ℕ, Bool, true, false, ◌==◌, ◌||◌, if◌then◌else◌, IsTrue, List, [], ◌∷◌, map, refl, sym, ap, ◌∙◌, subst}
 use Rattle.std.proofs.lemmas.Bool.{or_left, or_right, or_parts, or_cases, eqb-true, eq-eqb, false≢true, true≢false, cases_Bool}
-use Rattle.fol_core.specs.Tree.{Tree, var, elem, app, Trees, none, more, trees_of}
+use Rattle.fol_core.specs.Tree.{var, trees_of}
 use Rattle.fol_core.specs.Fol.{Fol, verum, falsum, equal, atom, negation, conjunction, disjunction, implication, equivalence, forall, exists}
 use Rattle.fol_core.specs.Bound.{binders_of}
 use Rattle.fol_core.specs.Free.{is_in, variables_of, variables_of_all}
@@ -9,7 +9,9 @@ use Rattle.fol_core.specs.Meaning.{Meaning, AllWithin, IsLawful}
 use Rattle.fol_core.specs.Truth.{Assignment, with_var, IsWithin, value_of, values_of, Holds}
 use Rattle.fol_core.proofs.TruthLemmas.{alike_value}
 use Rattle.fol_core.proofs.Variables.{is_in_joined}
-use Rattle.fol_core.specs.Substitutions.{Substitution, with_term, substitute, substitute_all}
+use Rattle.fol_core.specs.Substitutions.{Substitution, with_term}
+use Rattle.substitutions.specs.Instances.{valued}
+use Rattle.substitutions.proofs.Truth.{substitute_value, substitute_values}
 use Rattle.clausify.specs.Skolem.{substitute_in, skolem_term}
 use Rattle.clausify.proofs.Sets.{Set, plus, Sub, In, Out, in_left, in_right}
 
@@ -60,20 +62,6 @@ known_term u terms scope y s known scoped = record {
     inside z false e i = λ w j. or_right (w == y) (u w) (known.inside z i w j)
 
 module _ (m : Meaning) where
-  -- the elements of the terms that stand for variables
-  abbrev pub valued : Assignment → Substitution → Assignment
-  valued e terms = λ x. value_of m e (terms x)
-
-  mutual
-    pub put_value : (e : Assignment) (terms : Substitution) (t : Tree) → value_of m e (substitute terms t) ≡ value_of m (valued e terms) t
-    put_value e terms (var x) = refl
-    put_value e terms (elem k) = refl
-    put_value e terms (app f ts) = ap (m.function f) (put_values e terms ts)
-
-    pub put_values : (e : Assignment) (terms : Substitution) (ts : Trees) → values_of m e (substitute_all terms ts) ≡ values_of m (valued e terms) ts
-    put_values e terms none = refl
-    put_values e terms (more t ts) = ap₂ (λ v vs. v ∷ vs) (put_value e terms t) (put_values e terms ts)
-
   skolem_values : (e : Assignment) (xs : List ℕ) → values_of m e (trees_of (map var xs)) ≡ map e xs
   skolem_values e [] = refl
   skolem_values e (x ∷ xs) = ap (λ vs. e x ∷ vs) (skolem_values e xs)
@@ -99,7 +87,7 @@ module _ (m : Meaning) where
 
   -- Where the variable isn't in the set, terms stand for the same elements but there.
   pub valued_var : (u : Set) (terms : Substitution) (e : Assignment) (x n : ℕ) → Known u terms → u x ≡ false
-      → ◌≡◌ {A = Assignment} (valued (with_var e x n) terms) (with_var (valued e terms) x n)
+      → ◌≡◌ {A = Assignment} (valued m (with_var e x n) terms) (with_var (valued m e terms) x n)
   valued_var u terms e x n known new = λ i y. at y i
     where
       apart : (y : ℕ) → IsTrue (u y) → (y == x) ≡ false
@@ -116,11 +104,11 @@ module _ (m : Meaning) where
       ]
 
   -- the terms put in, a formula is true where it is so of their elements
-  pub put_holds : (u : Set) (terms : Substitution) (e : Assignment) (f : Fol) → Known u terms → Out (binders_of f) u → Holds m e (substitute_in terms f) ≡ Holds m (valued e terms) f
+  pub put_holds : (u : Set) (terms : Substitution) (e : Assignment) (f : Fol) → Known u terms → Out (binders_of f) u → Holds m e (substitute_in terms f) ≡ Holds m (valued m e terms) f
   put_holds u terms e verum known new = refl
   put_holds u terms e falsum known new = refl
-  put_holds u terms e (equal s t) known new = λ i. put_value e terms s i ≡ put_value e terms t i
-  put_holds u terms e (atom r ts) known new = λ i. IsTrue (m.relation r (put_values e terms ts i))
+  put_holds u terms e (equal s t) known new = λ i. substitute_value m e terms s i ≡ substitute_value m e terms t i
+  put_holds u terms e (atom r ts) known new = λ i. IsTrue (m.relation r (substitute_values m e terms ts i))
   put_holds u terms e (negation f) known new = λ i. ¬ put_holds u terms e f known new i
   put_holds u terms e (conjunction f g) known new =
       let l = put_holds u terms e f known (λ y j. new y (in_left y (binders_of f) (binders_of g) j)) in

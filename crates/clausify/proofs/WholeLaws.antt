@@ -25,7 +25,7 @@ use Rattle.clausify.proofs.Claims.{suffice, follow, picks_left, picks_right}
 use Rattle.clausify.proofs.Clauses.{IsApart, all_true}
 use Rattle.clausify.proofs.FormSets.{apart_form, free_form}
 use Rattle.clausify.proofs.FormTruth.{true_from, true_to, false_from, false_to}
-use Rattle.clausify.proofs.Numbering.{renumbered_true, true_renumbered}
+use Rattle.substitutions.proofs.Numbering.{renumbered_true, true_renumbered}
 use Rattle.clausify.proofs.Scopes.{known_none}
 use Rattle.clausify.proofs.Sets.{Set}
 

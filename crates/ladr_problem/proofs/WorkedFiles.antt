@@ -2,8 +2,8 @@
 use Rattle.std.proofs.Common.{◌≡◌, ℕ, List, [], length, Some, true, leb}
 use Rattle.std.proofs.lemmas.Bool.{leb-true}
 use Rattle.fol_core.specs.RawTree.{RawTree}
-use Rattle.ladr_items.specs.Items.{items_of}
-use Rattle.ladr_items.specs.ListItem.{term, closing_tokens, IsListItem}
+use Rattle.ladr_problem.specs.Items.{items_of}
+use Rattle.ladr_problem.specs.ListItem.{term, closing_tokens, IsListItem}
 use Rattle.ladr_lex.proofs.Lexing.{cuts_text}
 use Rattle.ladr_lex.specs.Lexed.{lexed}
 use Rattle.ladr_lex.specs.Lexeme.{Lexeme}

@@ -177,18 +177,20 @@ once_built cs are = built_once [] cs (λ i j a b e. elim (none i a) [ ]) are
 pub new_where_none : (cs : List (Cell × Measures)) → AreCells [] cs → (c : Cell) → ArgumentsAreIn (length (built [] cs)) c → position (equal_cells c) (keys_of cs) ≡ None
     → IsNew (built [] cs) (tree_in (built [] cs) c)
 new_where_none cs are c arguments h n within e =
-    let inside : n < length cs = subst (λ k. n < k) (built_length [] cs) within in
-    let there = entry_at cs n (omega (arith, inside)) in
+    let inside : n < 0 + length cs = subst (λ k. n < k) (built_length [] cs) within in
+    let inner : n < length cs = omega (arith, inside) in
+    let there = entry_at cs n inner in
     let p = placed cs are n there.0 there.1 in
-    let more = arguments_more n (length (built [] cs)) (omega (arith, within)) there.0.0 p.arguments in
+    let least : n ≤ length (built [] cs) = omega (arith, within) in
+    let more = arguments_more n (length (built [] cs)) least there.0.0 p.arguments in
     let same = equal_cell (built [] cs) (once_built cs are) c there.0.0 arguments more (sym e ∙ p.tree) in
     let other = none_passes cs n there.0 (first_place_is_position (equal_cells c) (keys_of cs) ∙ h) there.1 in
     cc
   where
     entry_at : (cs : List (Cell × Measures)) (n : ℕ) → n < length cs → (d : Cell × Measures) × (slice_get cs n ≡ Some d)
-    entry_at [] n h = elim (omega arith) as (λ (x : ⊥). (d : Cell × Measures) × (slice_get [] n ≡ Some d)) [ ]
+    entry_at [] n h = let no_place : ⊥ = omega (arith, h) in elim no_place [ ]
     entry_at (d ∷ cs) zero h = (d, refl)
-    entry_at (d ∷ cs) (suc n) h = entry_at cs n (omega (arith, h))
+    entry_at (d ∷ cs) (suc n) h = let inner : n < length cs = omega (arith, h) in entry_at cs n inner
 
     none_passes : (cs : List (Cell × Measures)) (n : ℕ) (d : Cell × Measures) → first_place (equal_cells c) (keys_of cs) ≡ None → slice_get cs n ≡ Some d → equal_cells c d.0 ≡ false
     none_passes [] n d none at = cc

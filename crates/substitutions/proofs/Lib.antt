@@ -1,0 +1,7 @@
+pub mod Composing
+pub mod Elements
+pub mod Numbering
+pub mod PathLemmas
+pub mod Replacing
+pub mod Truth
+pub mod Variants
