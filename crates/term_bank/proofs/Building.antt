@@ -1,15 +1,17 @@
 -- The terms that cells build, one behind the other.
-use Rattle.std.proofs.Common.{◌≡◌, ℕ, zero, suc, ◌+◌, ◌<◌, ◌≤◌, Bool, true, false, refl, sym, ap, ap₂, subst, ◌∙◌, List, [], ◌∷◌, ◌++◌, length, map, Option, Some, None, slice_get, position, arith, inl, inr, ◌⊎◌, if◌then◌else◌}
+use Rattle.std.proofs.Common.{◌≡◌, ℕ, zero, suc, ◌+◌, ◌<◌, ◌≤◌, Bool, true, false, refl, sym, ap, ap₂, subst, ◌∙◌, List, [], ◌∷◌, ◌++◌, length, map, Option, Some, None, slice_get, position, arith, inl, inr, if◌then◌else◌, slice_index_or, max, drop, take, get_or, add-one}
 use Rattle.std.specs.Option.{option_map}
 use Rattle.fol_core.specs.SymbolTable.{first_place}
 use Rattle.std.specs.Map.{keys_of}
 use Rattle.std.proofs.lemmas.Bool.{cases_lt}
-use Rattle.std.proofs.lemmas.List.{get_or_append_left}
-use Rattle.std.proofs.Math.Seq.{get_or-append_seam}
+use Rattle.std.proofs.lemmas.List.{get_or_append_left, drop_all, map-append}
+use Rattle.std.proofs.Math.Seq.{get_or-append_seam, take-suc}
+use Rattle.fol_core.specs.TermView.{tree_of, tree_list}
+use Rattle.fol_core.specs.declared.term.Term.{Term}
 use Rattle.fol_core.specs.Tree.{Tree, var, app, trees_of}
 use Rattle.fol_core.proofs.Places.{first_place-found, first_place_is_position}
-use Rattle.term_bank.specs.Bank.{tree_at, IsAt, Grows, AreOnce}
-use Rattle.term_bank.specs.Cells.{AllBelow, numbers, ArgumentsAreIn, tree_in, IsMeasured, built, IsNew, IsCell, AreCells}
+use Rattle.term_bank.specs.Bank.{tree_at, IsAt, Grows, AreOnce, sizes_of, depths_of, saturated}
+use Rattle.term_bank.specs.Cells.{AllBelow, numbers, ArgumentsAreIn, tree_in, IsMeasured, built, IsNew, IsCell, AreCells, IsPlaced}
 use Rattle.term_bank.specs.declared.cell.Cell.{Cell}
 use Rattle.term_bank.specs.declared.cell.Cell.TheVariants.{Variable, Element, Application}
 use Rattle.term_bank.specs.declared.cell.Measures.{Measures}
@@ -85,12 +87,6 @@ pub cells_end : (bank : List Tree) (cs : List (Cell × Measures)) (c : Cell × M
 cells_end bank [] c are is = (is, tt)
 cells_end bank (d ∷ cs) c are is = (are.0, cells_end (bank ++ tree_in bank d.0 ∷ []) cs c are.1 is)
 
--- what stands at a place
-pub record IsPlaced (bank : List Tree) (n : ℕ) (c : Cell × Measures) : Type 0 where
-  pub tree : tree_at bank n ≡ tree_in bank c.0
-  pub arguments : ArgumentsAreIn n c.0
-  pub measured : IsMeasured (tree_at bank n) c.1
-
 pub placed_from : (bank : List Tree) (cs : List (Cell × Measures)) → AreCells bank cs → (k : ℕ) (c : Cell × Measures) → slice_get cs k ≡ Some c
     → IsPlaced (built bank cs) (length bank + k) c
 placed_from bank [] are k c h = cc
@@ -131,16 +127,16 @@ one_more_once bank t once is_new i j a b e =
 
     by : (i j : ℕ) → i < suc (length bank) → j < suc (length bank) → tree_at (bank ++ t ∷ []) i ≡ tree_at (bank ++ t ∷ []) j → i ≡ j
     by i j a b e = elim (cases_lt i (length bank)) [
-      inl x ↦ elim (cases_lt j (length bank)) [
-        inl y ↦ once i j x y (sym (old i x) ∙ e ∙ old j y)
+      | inl x ↦ elim (cases_lt j (length bank)) [
+        | inl y ↦ once i j x y (sym (old i x) ∙ e ∙ old j y)
         | inr y ↦ let m : j ≡ length bank = omega arith in
-          elim (is_new i x (sym (old i x) ∙ e ∙ ap (tree_at (bank ++ t ∷ [])) m ∙ last)) [ ]
+            elim (is_new i x (sym (old i x) ∙ e ∙ ap (tree_at (bank ++ t ∷ [])) m ∙ last)) [ ]
       ]
       | inr x ↦ let n : i ≡ length bank = omega arith in
-        elim (cases_lt j (length bank)) [
-          inl y ↦ elim (is_new j y (sym (old j y) ∙ sym e ∙ ap (tree_at (bank ++ t ∷ [])) n ∙ last)) [ ]
-          | inr y ↦ let m : j ≡ length bank = omega arith in n ∙ sym m
-        ]
+          elim (cases_lt j (length bank)) [
+            | inl y ↦ elim (is_new j y (sym (old j y) ∙ sym e ∙ ap (tree_at (bank ++ t ∷ [])) n ∙ last)) [ ]
+            | inr y ↦ let m : j ≡ length bank = omega arith in n ∙ sym m
+          ]
     ]
 
 pub built_once : (bank : List Tree) (cs : List (Cell × Measures)) → AreOnce bank → AreCells bank cs → AreOnce (built bank cs)
@@ -202,3 +198,59 @@ new_where_none cs are c arguments h n within e =
         by false e (Some m) i n none at rest = cc
         by false e None i zero none at rest = let same : f ≡ d = cc in ap (λ (x : Cell × Measures). equal_cells c x.0) (sym same) ∙ e
         by false e None i (suc n) none at rest = rest n i at
+
+pub full_length : (cs : List (Cell × Measures)) → length (built [] cs) ≡ length cs
+full_length cs = built_length [] cs ∙ omega arith
+
+-- a cell whose term is new equals no key
+pub apart_where_new : (cs : List (Cell × Measures)) → AreCells [] cs → (c : Cell) → IsNew (built [] cs) (tree_in (built [] cs) c) → first_place (equal_cells c) (keys_of cs) ≡ None
+apart_where_new cs are c is_new = by (first_place (equal_cells c) (keys_of cs)) refl
+  where
+    by : (o : Option ℕ) → first_place (equal_cells c) (keys_of cs) ≡ o → first_place (equal_cells c) (keys_of cs) ≡ None
+    by None e = e
+    by (Some n) e =
+        let at = found_at cs are c n (sym e ∙ first_place_is_position (equal_cells c) (keys_of cs)) in
+        elim (is_new n at.within at.tree) [ ]
+
+pub at_end : (bank : List Tree) (t : Tree) → IsAt (bank ++ t ∷ []) (length bank) t
+at_end bank t = record { within = subst (λ n. length bank < n) (sym (length_end bank t)) (omega arith); tree = get_or-append_seam bank t [] (var 0) }
+
+-- an argument by its place
+pub below_at : (n : ℕ) (ks : List TermId) (i : ℕ) (d : TermId) → AllBelow n (numbers ks) → i < length ks → (slice_index_or ks i d).0 < n
+below_at n [] i d b h = let none : ⊥ = omega (arith, h) in elim none [ ]
+below_at n (k ∷ ks) zero d b h = b.0
+below_at n (k ∷ ks) (suc i) d b h = let inner : i < length ks = omega (arith, h) in below_at n ks i d b.1 inner
+
+-- one argument more, in a bank that grew
+pub more_arguments : (a b : List Tree) (ks new : List TermId) (ts : List Tree) (k : TermId) (t : Tree) → Grows a b → AllBelow (length a) (numbers ks)
+    → map (λ (j : TermId). tree_at a j.0) ks ≡ ts → IsAt b k.0 t → new ≡ ks ++ k ∷ [] → AllBelow (length b) (numbers new) × (map (λ (j : TermId). tree_at b j.0) new ≡ ts ++ t ∷ [])
+more_arguments a b ks new ts k t g below trees at e =
+    subst (λ (js : List TermId). AllBelow (length b) (numbers js) × (map (λ (j : TermId). tree_at b j.0) js ≡ ts ++ t ∷ [])) (sym e)
+    (below_end ks (below_more (length a) (length b) (grows_length a b g) (numbers ks) below), trees_end ks ∙ ap₂ (λ (us : List Tree) (u : Tree). us ++ u ∷ []) (trees_grow a b g ks below ∙ trees) at.tree)
+  where
+    below_end : (ks : List TermId) → AllBelow (length b) (numbers ks) → AllBelow (length b) (numbers (ks ++ k ∷ []))
+    below_end [] h = (at.within, tt)
+    below_end (j ∷ js) h = (h.0, below_end js h.1)
+
+    trees_end : (ks : List TermId) → map (λ (j : TermId). tree_at b j.0) (ks ++ k ∷ []) ≡ map (λ (j : TermId). tree_at b j.0) ks ++ tree_at b k.0 ∷ []
+    trees_end [] = refl
+    trees_end (j ∷ js) = ap (λ (us : List Tree). tree_at b j.0 ∷ us) (trees_end js)
+
+-- what was counted of all arguments is what the application has
+pub counted : (bank : List Tree) (ks : List TermId) (i size depth deep : ℕ) (f : ℕ) → length ks ≤ i
+    → saturated (sizes_of (trees_of (map (λ (k : TermId). tree_at bank k.0) (drop i ks))) + size) ≡ saturated (sizes_of (trees_of (map (λ (k : TermId). tree_at bank k.0) ks)) + 1)
+    → max (depths_of (trees_of (map (λ (k : TermId). tree_at bank k.0) (drop i ks)))) depth ≡ depths_of (trees_of (map (λ (k : TermId). tree_at bank k.0) ks))
+    → saturated size ≡ size → deep ≡ depth + 1
+    → IsMeasured (app f (trees_of (map (λ (k : TermId). tree_at bank k.0) ks))) (record { size = size; depth = deep })
+counted bank ks i size depth deep f all sized levels small up =
+    let none : drop i ks ≡ [] = drop_all i ks all in
+    let none_sized : saturated (0 + size) ≡ saturated (sizes_of (trees_of (map (λ (k : TermId). tree_at bank k.0) ks)) + 1) =
+    ap (λ (js : List TermId). saturated (sizes_of (trees_of (map (λ (k : TermId). tree_at bank k.0) js)) + size)) (sym none) ∙ sized in
+    let none_deep : max 0 depth ≡ depths_of (trees_of (map (λ (k : TermId). tree_at bank k.0) ks)) =
+    ap (λ (js : List TermId). max (depths_of (trees_of (map (λ (k : TermId). tree_at bank k.0) js))) depth) (sym none) ∙ levels in
+    let plain_size : 0 + size ≡ size = omega arith in
+    record { sized = sym small ∙ ap saturated (sym plain_size) ∙ none_sized; deep = up ∙ ap (λ n. n + 1) (grind arith ∙ none_deep) }
+
+pub trees_next : (ts : List Term) (i : ℕ) (t : Term) → i < length ts → t ≡ get_or ts i t → tree_list (take i ts) ++ tree_of t ∷ [] ≡ tree_list (take (i + 1) ts)
+trees_next ts i t h e = sym (ap tree_list (ap (λ n. take n ts) (add-one i) ∙ take-suc ts i t h)
+    ∙ map-append tree_of (take i ts) (get_or ts i t ∷ []) ∙ ap (λ u. tree_list (take i ts) ++ tree_of u ∷ []) (sym e))

@@ -1,8 +1,7 @@
 -- Cells are equal exactly where their terms are.
-use Rattle.std.proofs.Common.{◌≡◌, ℕ, ◌<◌, ◌==◌, ◌&&◌, Bool, true, false, refl, sym, ap, ap₂, ◌∙◌, List, [], ◌∷◌, length, map, eq-eqb, eqb-true}
+use Rattle.std.proofs.Common.{◌≡◌, ◌==◌, ◌&&◌, Bool, true, false, refl, sym, ap, ap₂, ◌∙◌, List, [], ◌∷◌, length, map, eq-eqb, eqb-true}
 use Rattle.std.specs.Cmp.Lexicographic.{pointwise}
-use Rattle.smallvec.specs.SmallVec.{SmallVec}
-use Rattle.fol_core.specs.Tree.{Tree, var, elem, app, Trees, none, more, trees_of, list_of}
+use Rattle.fol_core.specs.Tree.{Tree, var, elem, app, trees_of, list_of}
 use Rattle.term_bank.specs.Bank.{tree_at, AreOnce}
 use Rattle.term_bank.specs.Cells.{AllBelow, numbers, ArgumentsAreIn, tree_in}
 use Rattle.term_bank.specs.declared.cell.Cell.{Cell}

@@ -51,3 +51,9 @@ pub record IsCell (bank : List Tree) (c : Cell × Measures) : Type 0 where
 abbrev pub AreCells : List Tree → List (Cell × Measures) → Type 0
 AreCells bank [] = Unit {0}
 AreCells bank (c ∷ cs) = IsCell bank c × AreCells (bank ++ tree_in bank c.0 ∷ []) cs
+
+-- the cell that stands for a number's term
+pub record IsPlaced (bank : List Tree) (n : ℕ) (c : Cell × Measures) : Type 0 where
+  pub tree : tree_at bank n ≡ tree_in bank c.0
+  pub arguments : ArgumentsAreIn n c.0
+  pub measured : IsMeasured (tree_at bank n) c.1

@@ -2,8 +2,8 @@
 ghost use Rattle.std.specs.Prelude.{◌≡◌, ℕ, ◌<◌, ◌↔◌, [], IfOk, IsTrue, length, map};
 ghost use Rattle.fol_core.specs.Tree.{app, trees_of};
 ghost use Rattle.fol_core.specs.TermView.{tree_of};
-ghost use Rattle.term_bank.specs.Bank.{tree_at, IsAt, Grows, size_of, depth_of, saturated};
-ghost use Rattle.term_bank.specs.Cells.{tree_in, ArgumentsAreIn, IsMeasured, AllBelow};
+ghost use Rattle.term_bank.specs.Bank.{tree_at, IsAt, Grows, AreOnce, size_of, depth_of, saturated};
+ghost use Rattle.term_bank.specs.Cells.{tree_in, ArgumentsAreIn, IsMeasured, AllBelow, numbers, IsPlaced};
 ghost use Rattle.term_bank.specs.Nodes.{node_tree, NodeIsBelow};
 
 use crate::cell::{Cell, Measures};
@@ -48,7 +48,8 @@ impl Bank {
 
     /// How many terms there are; no term has two numbers.
     pub fn len(&self) -> usize
-        ensures { result ≡ length self.now }
+        ensures len { result ≡ length self.now }
+        ensures once { AreOnce self.now }
     {
         self.cells.len()
     }
@@ -69,7 +70,7 @@ impl Bank {
         ensures tree { node_tree self.now result ≡ tree_at self.now id.0 }
         ensures below { NodeIsBelow id.0 result }
     {
-        match self.cells.get_index(id.0 as usize).unwrap().0 {
+        match self.cell(id).0 {
             Cell::Variable(x) => Node::Var(*x),
             Cell::Element(k) => Node::Elem(*k),
             Cell::Application(f, arguments) => Node::App(Sym(*f), arguments.as_slice()),
@@ -81,7 +82,7 @@ impl Bank {
         requires { id.0 < length self.now }
         ensures { result ≡ saturated (size_of (tree_at self.now id.0)) }
     {
-        self.cells.get_index(id.0 as usize).unwrap().1.size
+        self.cell(id).1.size
     }
 
     /// How many levels the term has.
@@ -89,7 +90,7 @@ impl Bank {
         requires { id.0 < length self.now }
         ensures { result ≡ depth_of (tree_at self.now id.0) }
     {
-        self.cells.get_index(id.0 as usize).unwrap().1.depth
+        self.cell(id).1.depth
     }
 
     /// The number of the term; the bank may have grown, whatever is answered.
@@ -112,7 +113,7 @@ impl Bank {
 
     /// The number of the application of a symbol to terms of the bank.
     pub fn apply(&mut self, f: Sym, arguments: &[TermId]) -> Result<TermId, AllocError>
-        requires { AllBelow (length self.old) (map (λ k. k.0) arguments.now) }
+        requires { AllBelow (length self.old) (numbers arguments.now) }
         ensures grows { Grows self.old self.new }
         ensures term { IfOk result (λ id. IsAt self.new id.0 (app f.0 (trees_of (map (λ k. tree_at self.old k.0) arguments.now)))) }
     {
@@ -138,6 +139,14 @@ impl Bank {
         }
     }
 
+    // The cell of a number.
+    fn cell(&self, id: TermId) -> (&Cell, &Measures)
+        requires { id.0 < length self.now }
+        ensures { IsPlaced self.now id.0 (result.0.now, result.1.now) }
+    {
+        self.cells.get_index(id.0 as usize).unwrap()
+    }
+
     // How great the term of a cell is; want of memory where its levels can't be counted.
     fn measures(&self, cell: &Cell) -> Result<Measures, AllocError>
         requires { ArgumentsAreIn (length self.now) cell.now }
@@ -146,14 +155,14 @@ impl Bank {
         match cell {
             Cell::Variable(_) => Ok(Measures { size: 1, depth: 1 }),
             Cell::Element(_) => Ok(Measures { size: 1, depth: 1 }),
-            Cell::Application(_, arguments) => self.application(arguments.as_slice()),
+            Cell::Application(f, arguments) => self.application(*f, arguments.as_slice()),
         }
     }
 
     // The same for a symbol with arguments.
-    fn application(&self, arguments: &[TermId]) -> Result<Measures, AllocError>
-        requires { AllBelow (length self.now) (map (λ k. k.0) arguments.now) }
-        ensures { IfOk result (λ m. (f : ℕ) → IsMeasured (app f (trees_of (map (λ k. tree_at self.now k.0) arguments.now))) m) }
+    fn application(&self, f: u64, arguments: &[TermId]) -> Result<Measures, AllocError>
+        requires { AllBelow (length self.now) (numbers arguments.now) }
+        ensures { IfOk result (IsMeasured (app f (trees_of (map (λ k. tree_at self.now k.0) arguments.now)))) }
     {
         let mut size = 1u64;
         let mut depth = 0;

@@ -4,6 +4,8 @@
 mod bank;
 mod cell;
 mod id;
+mod laws;
 
 pub use bank::Bank;
 pub use id::{Node, TermId};
+pub use laws::worked;
