@@ -1,5 +1,5 @@
 -- A formula that was read is printed with the names that it was read by.
-use Rattle.std.proofs.Common.{◌≡◌, ℕ, suc, ◌+◌, ◌<◌, ◌≤◌, Bool, true, false, List, [], ◌∷◌, length, Option, Some, None, inl, inr, refl, sym, ap, ap₂, ◌∙◌, subst, arith}
+use Rattle.std.proofs.Common.{◌≡◌, ℕ, suc, ◌+◌, ◌^◌, ◌<◌, ◌≤◌, Bool, true, false, List, [], ◌∷◌, length, Option, Some, None, inl, inr, refl, sym, ap, ap₂, ◌∙◌, subst, arith}
 use Rattle.std.specs.Prelude.{◌==◌, ◌&&◌, unwrap_or, slice_get, nat_lt, codes}
 use Rattle.std.specs.Option.{option_map_or}
 use Rattle.std.specs.Str.{bytes_eq}
@@ -97,7 +97,7 @@ module _ (T : List Symbol) (v : Naming) where
       by (Some n) e = (n, rw e e)
       by None e = (length table, rw e (number_of_push table x.name x.arity x.kind e))
 
-  module _ (fewer : length T ≤ 65535) where
+  module _ (fewer : length T < 2 ^ 64) where
     pub symbol_back : (name : List ℕ) (arity : ℕ) (kind : Kind) (s : Reading) → Reaches (with_symbol name arity kind s) → symbol_name T (symbol_number name arity (with_symbol name arity kind s)) ≡ name
     symbol_back name arity kind s r =
         let x : Symbol = record { name = name; arity = arity; kind = kind } in

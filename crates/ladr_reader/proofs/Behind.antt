@@ -78,16 +78,16 @@ stands a T x k = by (number_of a x.name x.arity) refl
 
 module _ (T : List Symbol) where
   -- the same reading behind the table
-  abbrev into : Reading → Reading
+  abbrev pub into : Reading → Reading
   into s = record s { symbols = T }
 
-  abbrev again : {A : Type 0} → Made A → Made A
+  abbrev pub again : {A : Type 0} → Made A → Made A
   again m = record { tree = m.tree; reading = into m.reading }
 
-  abbrev Keeps : Reading → Type 0
+  abbrev pub Keeps : Reading → Type 0
   Keeps s = KeepsNumbers s.symbols T
 
-  abbrev Alike : {A : Type 0} → (Reading → Made A) → Type 0
+  abbrev pub Alike : {A : Type 0} → (Reading → Made A) → Type 0
   Alike f = (s : Reading) → Keeps (f s).reading → f (into s) ≡ again (f s)
 
   kept_before : (a b : Reading) → Grows a b → Keeps b → Keeps a
@@ -150,7 +150,7 @@ module _ (T : List Symbol) where
       ap (λ (m : Made (Option ℕ)). constant_as st name m.tree m.reading) (named_into st scope name s) ∙ constant_as_into st name v.tree v.reading k
 
   mutual
-    term_into : (st : Style) (scope : List Bound) (t : RawTree) → Alike (λ s. term_of st scope s t)
+    pub term_into : (st : Style) (scope : List Bound) (t : RawTree) → Alike (λ s. term_of st scope s t)
     term_into st scope (quantified q x t) s k = term_into st (record { name = x; number = length s.variables } ∷ scope) t (with_variable x false (meets true 11 s)) k
     term_into st scope (named name no_raws) s k = constant_into st scope name s k
     term_into st scope (named name (more_raws t ts)) s k =
