@@ -27,6 +27,8 @@ fn equal_terms_stand_once(rt: HostRuntime) -> Result<(), Fail> {
     assert_eq!(rt; bank.len(), 4);
     assert_eq!(rt; bank.size(first), 7);
     assert_eq!(rt; bank.depth(first), 3);
-    assert!(rt; matches!(bank.node(first), Node::App(head, arguments) if head == Sym(1) && arguments.len() == 2));
+    assert!(rt;
+        matches!(bank.node(first), Node::App(head, arguments) if head == Sym(1) && arguments.len() == 2)
+    );
     Ok(())
 }

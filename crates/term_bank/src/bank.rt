@@ -115,7 +115,8 @@ impl Bank {
     pub fn apply(&mut self, f: Sym, arguments: &[TermId]) -> Result<TermId, AllocError>
         requires { AllBelow (length self.old) (numbers arguments.now) }
         ensures grows { Grows self.old self.new }
-        ensures term { IfOk result (λ id. IsAt self.new id.0 (app f.0 (trees_of (map (λ k. tree_at self.old k.0) arguments.now)))) }
+        ensures term { IfOk result (λ id. IsAt self.new id.0
+            (app f.0 (trees_of (map (λ k. tree_at self.old k.0) arguments.now)))) }
     {
         let arguments = SmallVec::from_slice(*self.cells.allocator(), arguments)?;
         self.enter(Cell::Application(f.0, arguments))
@@ -162,7 +163,8 @@ impl Bank {
     // The same for a symbol with arguments.
     fn application(&self, f: u64, arguments: &[TermId]) -> Result<Measures, AllocError>
         requires { AllBelow (length self.now) (numbers arguments.now) }
-        ensures { IfOk result (IsMeasured (app f (trees_of (map (λ k. tree_at self.now k.0) arguments.now)))) }
+        ensures { IfOk result (IsMeasured (app f
+            (trees_of (map (λ k. tree_at self.now k.0) arguments.now)))) }
     {
         let mut size = 1u64;
         let mut depth = 0;
@@ -191,7 +193,8 @@ impl Bank {
     // The number of a new term.
     fn append(&mut self, cell: Cell) -> Result<TermId, AllocError>
         requires arguments { ArgumentsAreIn (length self.old) cell }
-        requires new { (n : ℕ) → n < length self.old → tree_at self.old n ≡ tree_in self.old cell → ⊥ }
+        requires new { (n : ℕ) → n < length self.old → tree_at self.old n ≡ tree_in self.old cell
+            → ⊥ }
         ensures grows { Grows self.old self.new }
         ensures term { IfOk result (λ id. IsAt self.new id.0 (tree_in self.old cell)) }
     {
