@@ -1,6 +1,8 @@
 // The numbers that numerals write.
 ghost use Rattle.std.specs.Prelude.{◌≡◌, ◌≤◌};
-ghost use Rattle.ladr_commands.specs.Whole.{whole, with_digit};
+ghost use Rattle.ladr_commands.specs.Whole.{whole};
+
+use ladr_lex::value;
 
 const MOST: u64 = 4_294_967_296;
 
@@ -10,19 +12,8 @@ pub fn whole(text: &[u8]) -> u64
     ensures value { result ≡ whole text.now }
     ensures most { result ≤ 4294967296 }
 {
-    let mut sum = 0;
-    for byte in text {
-        sum = with_digit(sum, *byte);
+    match value(text) {
+        Some(n) => n.min(MOST),
+        None => MOST,
     }
-    sum
-}
-
-// The number with one more digit.
-fn with_digit(sum: u64, byte: u8) -> u64
-    requires { sum ≤ 4294967296 }
-    ensures value { result ≡ with_digit sum byte }
-    ensures most { result ≤ 4294967296 }
-{
-    let more = sum * 10 + u64::from(byte.saturating_sub(b'0'));
-    more.min(MOST)
 }

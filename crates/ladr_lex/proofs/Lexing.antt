@@ -44,5 +44,9 @@ cuts_lexed i zero (b ∷ bs) h =
     subst (λ (m : ℕ). Cuts m (b ∷ bs) (lexed_behind i zero (b ∷ bs))) (omega arith)
     (cuts_more i b bs n (kind_at b bs) _ (longest_at b bs) (behind_within b bs) (cuts_lexed (suc i) n bs (behind_within b bs)))
 
+-- the tokens of bytes that stand at a place
+pub cuts_at : (i : ℕ) (bytes : List ℕ) → Cuts i bytes (lexed_behind i 0 bytes)
+cuts_at i bytes = subst (λ (k : ℕ). Cuts k bytes (lexed_behind i 0 bytes)) (omega arith) (cuts_lexed i 0 bytes (omega arith))
+
 pub cuts_text : (bytes : List ℕ) → Cuts 0 bytes (lexed bytes)
-cuts_text bytes = cuts_lexed 0 0 bytes (omega arith)
+cuts_text bytes = cuts_at 0 bytes

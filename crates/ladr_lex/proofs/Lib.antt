@@ -1,11 +1,13 @@
 pub mod Blocks
 pub mod Classes
+pub mod ClauseOperators
 pub mod Comments
 pub mod Extents
 pub mod Kept
 pub mod OperatorLemmas
 pub mod Quotes
 pub mod Lexing
+pub mod Numerals
 pub mod Steps
 pub mod Wholes
 pub mod Unique

@@ -1,13 +1,13 @@
 -- What one token more does to the tokens that are ahead.
 use Rattle.std.proofs.Common.{◌≡◌, ℕ, suc, ◌+◌, ◌-◌, ◌≤◌, ◌<◌, true, List, [], ◌∷◌, ◌++◌, length, take, drop, get_or, Option, Some, None, Result, Ok, Err, refl, sym, ap, ◌∙◌, subst, append_assoc, arith, drop-drop}
-use Rattle.std.proofs.Common.{length-drop}
+use Rattle.std.proofs.Common.{length-drop, add-zero}
 use Rattle.std.proofs.lemmas.Bool.Decides.{nat_tests}
 use Rattle.ladr_lex.specs.Bytes.{is_blank, is_ordinary, is_special}
 use Rattle.ladr_lex.specs.declared.token.TokenKind.{TokenKind}
 use Rattle.ladr_lex.specs.declared.token.TokenKind.TheVariants.{Special}
 use Rattle.ladr_lex.specs.Cuts.{Piece, piece_of, pieces_of, Cuts}
-use Rattle.ladr_lex.specs.Lexed.{start_of, kind_at, behind_in, behind, begins_with_dash, kept, piece, lexed_behind, lexed, lexed_from, Advances}
-use Rattle.ladr_lex.proofs.Lexing.{behind_within, cuts_text}
+use Rattle.ladr_lex.specs.Lexed.{start_of, kind_at, behind_in, behind, begins_with_dash, kept, piece, lexed_behind, lexed_from, Advances}
+use Rattle.ladr_lex.proofs.Lexing.{behind_within, cuts_at}
 use Rattle.ladr_lex.proofs.Unique.{lexed_front}
 use Rattle.ladr_lex.specs.declared.token.Token.{Token}
 use Rattle.std.proofs.lemmas.List.{drop_more, drop_all, append-nil}
@@ -17,17 +17,17 @@ use Rattle.ladr_lex.proofs.Classes.{special_start}
 use Rattle.ladr_lex.proofs.Kept.{kept_behind}
 
 -- the tokens from a place on are the one that begins there, if one does, and those behind it
-lexed_place : (bytes : List ℕ) (at end : ℕ) → at < length bytes → end ≡ at + 1 + behind (get_or bytes at 0) (drop (at + 1) bytes) →
-    lexed_from at bytes ≡ piece (kind_at (get_or bytes at 0) (drop (at + 1) bytes)) (take (end - at) (drop at bytes)) at ++ lexed_from end bytes
-lexed_place bytes at end h e =
+lexed_place : (first : ℕ) (bytes : List ℕ) (at end : ℕ) → at < length bytes → end ≡ at + 1 + behind (get_or bytes at 0) (drop (at + 1) bytes) →
+    lexed_from first at bytes ≡ piece (kind_at (get_or bytes at 0) (drop (at + 1) bytes)) (take (end - at) (drop at bytes)) (first + at) ++ lexed_from first end bytes
+lexed_place first bytes at end h e =
     let b = get_or bytes at 0 in
     let bs = drop (at + 1) bytes in
     let here : drop at bytes ≡ b ∷ bs = drop_more bytes at 0 h in
     let text : b ∷ take (behind b bs) bs ≡ take (end - at) (drop at bytes) =
     ap (λ (n : ℕ). take n (b ∷ bs)) {x = suc (behind b bs)} {y = end - at} (omega arith) ∙ ap (take (end - at)) (sym here) in
-    let place : suc at + behind b bs ≡ end = omega arith in
+    let place : suc (first + at) + behind b bs ≡ first + end = omega arith in
     let rest : drop (behind b bs) bs ≡ drop end bytes = drop-drop (behind b bs) (at + 1) bytes ∙ ap (λ (n : ℕ). drop n bytes) (sym e) in
-    ap (lexed_behind at 0) here ∙ lexed_front at b bs ∙ (λ i. piece (kind_at b bs) (text i) at ++ lexed_behind (place i) 0 (rest i))
+    ap (lexed_behind (first + at) 0) here ∙ lexed_front (first + at) b bs ∙ (λ i. piece (kind_at b bs) (text i) (first + at) ++ lexed_behind (place i) 0 (rest i))
 
 end_within : (bytes : List ℕ) (at : ℕ) → at < length bytes → at + 1 + behind (get_or bytes at 0) (drop (at + 1) bytes) ≤ length bytes
 end_within bytes at h = omega (arith, behind_within (get_or bytes at 0) (drop (at + 1) bytes), length-drop (at + 1) bytes)
@@ -36,44 +36,44 @@ pieces-append : (ts us : List Token) → pieces_of (ts ++ us) ≡ pieces_of ts +
 pieces-append [] us = refl
 pieces-append (t ∷ ts) us = ap (λ (l : List Piece). piece_of t ∷ l) (pieces-append ts us)
 
-advances_add : (bytes : List ℕ) (old : List Token) (t : Token) (at end : ℕ) → at < length bytes → kind_at (get_or bytes at 0) (drop (at + 1) bytes) ≡ Some t.kind →
-    end ≡ at + 1 + behind (get_or bytes at 0) (drop (at + 1) bytes) → t.text.now ≡ take (end - at) (drop at bytes) → t.start ≡ at →
-    Advances bytes old (old ++ t ∷ []) at end
-advances_add bytes old t at end h k e text start = record {
+advances_add : (first : ℕ) (bytes : List ℕ) (old : List Token) (t : Token) (at end : ℕ) → at < length bytes → kind_at (get_or bytes at 0) (drop (at + 1) bytes) ≡ Some t.kind →
+    end ≡ at + 1 + behind (get_or bytes at 0) (drop (at + 1) bytes) → t.text.now ≡ take (end - at) (drop at bytes) → t.start ≡ first + at →
+    Advances first bytes old (old ++ t ∷ []) at end
+advances_add first bytes old t at end h k e text start = record {
   onward = omega arith;
   within = omega (arith, end_within bytes at h);
   found =
-      let ahead = lexed_place bytes at end h e in
-      let here : piece (Some t.kind) (take (end - at) (drop at bytes)) at ≡ piece_of t ∷ [] = λ i. record { kind = t.kind; text = sym text i; start = sym start i } ∷ [] in
-      ap (λ (l : List Piece). l ++ lexed_from end bytes) (pieces-append old (t ∷ [])) ∙
-      append_assoc (pieces_of old) (piece_of t ∷ []) (lexed_from end bytes) ∙
-      ap (λ (l : List Piece). pieces_of old ++ l) (ap (λ (l : List Piece). l ++ lexed_from end bytes) (sym here ∙ ap (λ (o : Option TokenKind). piece o (take (end - at) (drop at bytes)) at) (sym k)) ∙ sym ahead);
+      let ahead = lexed_place first bytes at end h e in
+      let here : piece (Some t.kind) (take (end - at) (drop at bytes)) (first + at) ≡ piece_of t ∷ [] = λ i. record { kind = t.kind; text = sym text i; start = sym start i } ∷ [] in
+      ap (λ (l : List Piece). l ++ lexed_from first end bytes) (pieces-append old (t ∷ [])) ∙
+      append_assoc (pieces_of old) (piece_of t ∷ []) (lexed_from first end bytes) ∙
+      ap (λ (l : List Piece). pieces_of old ++ l) (ap (λ (l : List Piece). l ++ lexed_from first end bytes) (sym here ∙ ap (λ (o : Option TokenKind). piece o (take (end - at) (drop at bytes)) (first + at)) (sym k)) ∙ sym ahead);
 }
 
 -- what `add` does
-pub advances_pushed : (bytes : List ℕ) (old new : List Token) (t : Token) (at end : ℕ) → new ≡ old ++ t ∷ [] → at < length bytes → kind_at (get_or bytes at 0) (drop (at + 1) bytes) ≡ Some t.kind →
-    end ≡ at + 1 + behind (get_or bytes at 0) (drop (at + 1) bytes) → t.text.now ≡ take (end - at) (drop at bytes) → t.start ≡ at →
-    Advances bytes old new at end
-advances_pushed bytes old new t at end pushed h k e text start = subst (λ (l : List Token). Advances bytes old l at end) (sym pushed) (advances_add bytes old t at end h k e text start)
+pub advances_pushed : (first : ℕ) (bytes : List ℕ) (old new : List Token) (t : Token) (at end : ℕ) → new ≡ old ++ t ∷ [] → at < length bytes → kind_at (get_or bytes at 0) (drop (at + 1) bytes) ≡ Some t.kind →
+    end ≡ at + 1 + behind (get_or bytes at 0) (drop (at + 1) bytes) → t.text.now ≡ take (end - at) (drop at bytes) → t.start ≡ first + at →
+    Advances first bytes old new at end
+advances_pushed first bytes old new t at end pushed h k e text start = subst (λ (l : List Token). Advances first bytes old l at end) (sym pushed) (advances_add first bytes old t at end h k e text start)
 
 -- white space and comments are passed over
-pub advances_gap : (bytes : List ℕ) (old : List Token) (at end : ℕ) → at < length bytes → kind_at (get_or bytes at 0) (drop (at + 1) bytes) ≡ None →
-    end ≡ at + 1 + behind (get_or bytes at 0) (drop (at + 1) bytes) → Advances bytes old old at end
-advances_gap bytes old at end h k e = record {
+pub advances_gap : (first : ℕ) (bytes : List ℕ) (old : List Token) (at end : ℕ) → at < length bytes → kind_at (get_or bytes at 0) (drop (at + 1) bytes) ≡ None →
+    end ≡ at + 1 + behind (get_or bytes at 0) (drop (at + 1) bytes) → Advances first bytes old old at end
+advances_gap first bytes old at end h k e = record {
   onward = omega arith;
   within = omega (arith, end_within bytes at h);
   found =
-      let ahead = lexed_place bytes at end h e in
-      ap (λ (l : List Piece). pieces_of old ++ l) (sym (ahead ∙ ap (λ (o : Option TokenKind). piece o (take (end - at) (drop at bytes)) at ++ lexed_from end bytes) k));
+      let ahead = lexed_place first bytes at end h e in
+      ap (λ (l : List Piece). pieces_of old ++ l) (sym (ahead ∙ ap (λ (o : Option TokenKind). piece o (take (end - at) (drop at bytes)) (first + at) ++ lexed_from first end bytes) k));
 }
 
-pub advances_both : (bytes : List ℕ) (old mid new : List Token) (at place next : ℕ) → Advances bytes old mid at place → Advances bytes mid new place next → Advances bytes old new at next
-advances_both bytes old mid new at place next a b = record { onward = omega (arith, a.onward, b.onward); within = b.within; found = b.found ∙ a.found }
+pub advances_both : (first : ℕ) (bytes : List ℕ) (old mid new : List Token) (at place next : ℕ) → Advances first bytes old mid at place → Advances first bytes mid new place next → Advances first bytes old new at next
+advances_both first bytes old mid new at place next a b = record { onward = omega (arith, a.onward, b.onward); within = b.within; found = b.found ∙ a.found }
 
-pub advances_then : {E : Type 0} (bytes : List ℕ) (old mid new : List Token) (at place : ℕ) (r : Result ℕ E) → at < place → Advances bytes old mid at place →
-    IfOk r (λ (next : ℕ). Advances bytes mid new place next) → IfOk r (λ (next : ℕ). Advances bytes old new at next × (at < next))
-advances_then bytes old mid new at place (Ok next) h a b = (advances_both bytes old mid new at place next a b, omega (arith, b.onward))
-advances_then bytes old mid new at place (Err e) h a b = tt
+pub advances_then : {E : Type 0} (first : ℕ) (bytes : List ℕ) (old mid new : List Token) (at place : ℕ) (r : Result ℕ E) → at < place → Advances first bytes old mid at place →
+    IfOk r (λ (next : ℕ). Advances first bytes mid new place next) → IfOk r (λ (next : ℕ). Advances first bytes old new at next × (at < next))
+advances_then first bytes old mid new at place (Ok next) h a b = (advances_both first bytes old mid new at place next a b, omega (arith, b.onward))
+advances_then first bytes old mid new at place (Err e) h a b = tt
 
 -- a `-` before which no longer token ends is a token
 pub record IsDash (bytes : List ℕ) (at : ℕ) : Type 0 where
@@ -119,8 +119,9 @@ special_place bytes at end s e =
     ap (λ (n : ℕ). kept (drop n bytes)) e ∙ ap kept (sym (drop-drop (behind (get_or bytes at 0) (drop (at + 1) bytes)) (at + 1) bytes)) ∙ special_rest (get_or bytes at 0) (drop (at + 1) bytes) s
 
 -- where no text is left the tokens found cut it all
-pub all_found : (bytes : List ℕ) (ts : List Token) (at : ℕ) → Advances bytes [] ts 0 at → length bytes ≤ at → Cuts 0 bytes (pieces_of ts)
-all_found bytes ts at a h =
-    let none : lexed_from at bytes ≡ [] = ap (lexed_behind at 0) (drop_all at bytes h) in
-    let all : lexed bytes ≡ pieces_of ts = sym a.found ∙ ap (λ (l : List Piece). pieces_of ts ++ l) none ∙ append-nil (pieces_of ts) in
-    subst (Cuts 0 bytes) all (cuts_text bytes)
+pub all_found : (first : ℕ) (bytes : List ℕ) (ts : List Token) (at : ℕ) → Advances first bytes [] ts 0 at → length bytes ≤ at → Cuts first bytes (pieces_of ts)
+all_found first bytes ts at a h =
+    let none : lexed_from first at bytes ≡ [] = ap (lexed_behind (first + at) 0) (drop_all at bytes h) in
+    let begin : lexed_behind first 0 bytes ≡ lexed_from first 0 bytes = ap (λ (i : ℕ). lexed_behind i 0 bytes) (sym (add-zero first)) in
+    let all : lexed_behind first 0 bytes ≡ pieces_of ts = begin ∙ sym a.found ∙ ap (λ (l : List Piece). pieces_of ts ++ l) none ∙ append-nil (pieces_of ts) in
+    subst (Cuts first bytes) all (cuts_at first bytes)

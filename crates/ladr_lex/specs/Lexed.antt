@@ -1,5 +1,5 @@
 -- The tokens of a text, computed.
-use Rattle.std.specs.Prelude.{◌≡◌, ◌≤◌, length, ℕ, zero, suc, Bool, false, ◌==◌, ◌&&◌, if◌then◌else◌, unwrap_or, Option, Some, None, List, [], ◌∷◌, ◌++◌, take, drop, codes}
+use Rattle.std.specs.Prelude.{◌≡◌, ◌≤◌, ◌+◌, length, ℕ, zero, suc, Bool, false, ◌==◌, ◌&&◌, if◌then◌else◌, unwrap_or, Option, Some, None, List, [], ◌∷◌, ◌++◌, take, drop, codes}
 use Rattle.std.specs.List.{prefix_len}
 use Rattle.ladr_lex.specs.Bytes.{is_blank, is_ordinary, is_special, is_dash, is_apostrophe, is_quote, is_quotable, is_percent}
 use Rattle.ladr_lex.specs.Comments.{begins_with, up_to, contains, is_in_line}
@@ -109,12 +109,13 @@ lexed_behind i zero (b ∷ bs) = piece (kind_at b bs) (b ∷ take (behind b bs) 
 abbrev pub lexed : List ℕ → List Piece
 lexed bytes = lexed_behind 0 0 bytes
 
--- the tokens of a text from a place on
-abbrev pub lexed_from : ℕ → List ℕ → List Piece
-lexed_from i bytes = lexed_behind i 0 (drop i bytes)
+-- the tokens of a text, which stands at place start, from its byte i on
+abbrev pub lexed_from : ℕ → ℕ → List ℕ → List Piece
+lexed_from start i bytes = lexed_behind (start + i) 0 (drop i bytes)
 
--- Tokens were added that begin from one place on and before another: with those to come from there they are the same as before.
-pub record Advances (bytes : List ℕ) (old new : List Token) (at next : ℕ) : Type 0 where
+-- Tokens of a text, which stands at place start, were added that begin from one byte on and before another: with those to come
+-- from there they are the same as before.
+pub record Advances (start : ℕ) (bytes : List ℕ) (old new : List Token) (at next : ℕ) : Type 0 where
   pub onward : at ≤ next
   pub within : next ≤ length bytes
-  pub found : pieces_of new ++ lexed_from next bytes ≡ pieces_of old ++ lexed_from at bytes
+  pub found : pieces_of new ++ lexed_from start next bytes ≡ pieces_of old ++ lexed_from start at bytes

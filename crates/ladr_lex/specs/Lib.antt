@@ -1,4 +1,5 @@
 pub mod Bytes
+pub mod ClauseNames
 pub mod Comments
 pub mod Cuts
 pub mod Lexed

@@ -1,5 +1,5 @@
 -- Numerals and their numbers.
-use Rattle.std.specs.Prelude.{ℕ, ◌+◌, ◌*◌, ◌-◌, min, Bool, false, not, ◌&&◌, ◌||◌, length, ◌==◌, List, [], ◌∷◌}
+use Rattle.std.specs.Prelude.{ℕ, ◌+◌, ◌*◌, ◌-◌, ◌^◌, min, Bool, false, not, ◌&&◌, ◌||◌, nat_lt, length, ◌==◌, List, [], ◌∷◌, Option, Some, None, if◌then◌else◌}
 use Rattle.std.specs.List.{list_all}
 use Rattle.std.specs.Char.{is_ascii_digit}
 
@@ -8,15 +8,23 @@ abbrev pub is_numeral : List ℕ → Bool
 is_numeral [] = false
 is_numeral (b ∷ bs) = list_all is_ascii_digit (b ∷ bs) && (not (b == 48) || length bs == 0)
 
--- a number with one more digit behind it, at most a billion
-abbrev pub with_digit : ℕ → ℕ → ℕ
-with_digit n b = min 1000000000 (n * 10 + (b - 48))
-
 -- the number that digits write behind those read, which make n
-abbrev pub number_from : ℕ → List ℕ → ℕ
-number_from n [] = n
-number_from n (b ∷ bs) = number_from (with_digit n b) bs
+abbrev pub value_from : ℕ → List ℕ → ℕ
+value_from n [] = n
+value_from n (b ∷ bs) = value_from (n * 10 + (b - 48)) bs
+
+-- the number that digits write
+abbrev pub value : List ℕ → ℕ
+value text = value_from 0 text
+
+-- a number, if it is at most 18,446,744,073,709,551,615
+abbrev pub fitting : ℕ → Option ℕ
+fitting n = if nat_lt n (2 ^ 64) then Some n else None
+
+-- the number of a numeral, if the text is one and its number isn't too great
+abbrev pub whole_number : List ℕ → Option ℕ
+whole_number text = if is_numeral text then fitting (value text) else None
 
 -- the number of a numeral, where one above a billion counts as a billion
 abbrev pub number : List ℕ → ℕ
-number text = number_from 0 text
+number text = min 1000000000 (value text)

@@ -1,6 +1,9 @@
 // Laws of the definitions, and examples worked out.
-ghost use Rattle.std.specs.Prelude.{◌≡◌, ℕ, Bool, true, false, IsTrue, List, Option, Some, None, if◌then◌else◌, codes};
+ghost use Rattle.std.specs.Prelude.{◌≡◌, ◌<◌, ◌^◌, ℕ, Bool, true, false, IsTrue, List, Option, Some, None, if◌then◌else◌, codes};
 ghost use Rattle.std.specs.Str.{bytes_eq};
+ghost use Rattle.std.specs.Fmt.{decimal};
+ghost use Rattle.ladr_lex.specs.ClauseNames.{clause_variable, is_clause_name, clause_operator};
+ghost use Rattle.ladr_lex.specs.Numeral.{whole_number};
 ghost use Rattle.ladr_lex.specs.Cuts.{Piece, is_quoted, Cuts};
 ghost use Rattle.ladr_lex.specs.Lexed.{lexed};
 ghost use Rattle.ladr_lex.specs.Operators.{OperatorRow, operator_of, are_lawful, is_fixed, standard_rows, unquoted, breaks_row_5, breaks_row_6, declared, with_row};
@@ -13,6 +16,22 @@ ghost use Rattle.ladr_lex.specs.Worked.{formula_line, formula_tokens, special_li
 pub fn one_cutting()
     ensures some { (bytes : List ℕ) → Cuts 0 bytes (lexed bytes) }
     ensures only { (bytes : List ℕ) (ts us : List Piece) → Cuts 0 bytes ts → Cuts 0 bytes us → ts ≡ us }
+{}
+
+/// Decimal digits are the numeral of their number, and no other text is.
+pub fn one_numeral()
+    ensures reads { (n : ℕ) → n < 2 ^ 64 → whole_number (decimal n) ≡ Some n }
+    ensures writes { (text : List ℕ) (n : ℕ) → whole_number text ≡ Some n → text ≡ decimal n }
+{}
+
+/// The names of a clause's variables, and the operators of its text.
+pub fn worked_clauses()
+    ensures third { clause_variable false 2 ≡ codes "z" }
+    ensures tenth { clause_variable false 9 ≡ codes "v9" }
+    ensures prolog { (clause_variable true 4 ≡ codes "E") × (clause_variable true 5 ≡ codes "V5") }
+    ensures names { (is_clause_name false (codes "v4") ≡ false) × (is_clause_name false (codes "v05") ≡ false) × (is_clause_name true (codes "f0") ≡ true) }
+    ensures taken_away { clause_operator false (codes "x") (Some (record { precedence = 350; kind = Prefix })) ≡ None }
+    ensures kept { clause_operator false (codes "x") (Some (record { precedence = 700; kind = InfixLeft })) ≡ Some (record { precedence = 700; kind = InfixLeft }) }
 {}
 
 /// The tokens of some lines, and the place of a byte on a second line.

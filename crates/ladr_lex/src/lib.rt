@@ -2,6 +2,7 @@
 #![tactic(auto)]
 
 mod bytes;
+mod clause_names;
 mod laws;
 mod numeral;
 mod operators;
@@ -9,9 +10,9 @@ mod places;
 mod scan;
 mod token;
 
-pub use laws::{one_cutting, one_operator, worked, worked_operators};
-pub use numeral::{is_numeral, number};
+pub use laws::{one_cutting, one_numeral, one_operator, worked, worked_clauses, worked_operators};
+pub use numeral::{is_numeral, number, value, whole_number};
 pub use operators::{DeclareError, Operator, OperatorKind, Ops};
 pub use places::{Place, place_of};
-pub use scan::{Lex, MOST_BYTES, tokens};
+pub use scan::{Lex, MOST_BYTES, tokens, tokens_from};
 pub use token::{Token, TokenKind};

@@ -1,10 +1,10 @@
 // Numerals: `0`, or digits without a leading `0`.
-ghost use Rattle.std.specs.Prelude.{◌≡◌, ◌≤◌};
-ghost use Rattle.ladr_lex.specs.Numeral.{is_numeral, number, with_digit};
+ghost use Rattle.std.specs.Prelude.{◌≡◌, ◌+◌, ◌-◌, ◌*◌, ◌≤◌};
+ghost use Rattle.ladr_lex.specs.Numeral.{is_numeral, value, fitting, whole_number, number};
 ghost use Rattle.std.specs.List.{list_all};
 ghost use Rattle.std.specs.Char.{is_ascii_digit};
 
-const MOST: u32 = 1_000_000_000;
+const MOST: u64 = 1_000_000_000;
 
 /// Whether a symbol's text is a numeral.
 pub fn is_numeral(text: &[u8]) -> bool
@@ -16,27 +16,48 @@ pub fn is_numeral(text: &[u8]) -> bool
     }
 }
 
+/// The number that digits write, unless it is above 18,446,744,073,709,551,615.
+/// A byte that is no digit counts by how far it is above `0`.
+pub fn value(text: &[u8]) -> Option<u64>
+    ensures { result ≡ fitting (value text.now) }
+{
+    let mut sum = 0;
+    for byte in text {
+        match with_digit(sum, *byte) {
+            Some(more) => sum = more,
+            None => return None,
+        }
+    }
+    Some(sum)
+}
+
+// The number with one more digit.
+fn with_digit(sum: u64, byte: u8) -> Option<u64>
+    ensures { result ≡ fitting (sum * 10 + (byte - 48)) }
+{
+    match sum.checked_mul(10) {
+        Some(tens) => tens.checked_add(u64::from(byte.saturating_sub(b'0'))),
+        None => None,
+    }
+}
+
+/// The number of a numeral, if the text is one and its number is at most 18,446,744,073,709,551,615.
+pub fn whole_number(text: &[u8]) -> Option<u64>
+    ensures { result ≡ whole_number text.now }
+{
+    if is_numeral(text) { value(text) } else { None }
+}
+
 /// The number that digits write; a number above a billion reads as a billion, which is above all that the language allows.
 /// A byte that is no digit counts by how far it is above `0`.
 pub fn number(text: &[u8]) -> u32
     ensures value { result ≡ number text.now }
     ensures most { result ≤ 1000000000 }
 {
-    let mut sum = 0;
-    for byte in text {
-        sum = with_digit(sum, *byte);
+    match value(text) {
+        Some(n) => n.min(MOST) as u32,
+        None => MOST as u32,
     }
-    sum
-}
-
-// The number with one more digit.
-fn with_digit(sum: u32, byte: u8) -> u32
-    requires { sum ≤ 1000000000 }
-    ensures value { result ≡ with_digit sum byte }
-    ensures most { result ≤ 1000000000 }
-{
-    let more = u64::from(sum) * 10 + u64::from(byte.saturating_sub(b'0'));
-    more.min(u64::from(MOST)) as u32
 }
 
 fn are_digits(text: &[u8]) -> bool

@@ -1,9 +1,11 @@
 // Operators: how each stands to its arguments, and the table of those in force.
-ghost use Rattle.std.specs.Prelude.{◌≡◌, ◌↔◌, ◌&&◌, not, IfOk, OnOk, OnErr, Err, IsTrue, [], Some, false};
+ghost use Rattle.std.specs.Prelude.{◌≡◌, ◌↔◌, ◌&&◌, not, ℕ, IfOk, OnOk, OnErr, Err, IsTrue, List, [], Some, true, false};
+ghost use Rattle.ladr_lex.specs.ClauseNames.{clause_operator, FreesVariables};
 ghost use Rattle.ladr_lex.specs.Cuts.{is_symbol};
 ghost use Rattle.ladr_lex.specs.OperatorView.{row_list, with_rows, may_be_put};
 ghost use Rattle.ladr_lex.specs.Operators.{OperatorRow, operator_of, if_prefix, if_after, is_prefix, is_word, has_precedence, are_lawful, standard_rows, with_row, is_precedence, is_fixed, type_named, operator_with, unquoted, breaks_row_5, breaks_row_6, declared};
 
+use crate::clause_names::clause_operator;
 use crate::scan::{is_quoted, is_symbol};
 use indexmap::IndexMap;
 use std::alloc::{AllocError, Global};
@@ -153,6 +155,24 @@ impl Ops {
             Ok(()) => Ok(()),
             Err(_) => Err(DeclareError::Memory),
         }
+    }
+
+    /// The operators of the texts of clauses: those that stand before their argument are none there if they are named like a
+    /// clause's variable in this style, or like `c` or `f` with a number.
+    pub fn of_clauses(&self, alloc: Global, prolog: bool) -> Result<Ops, AllocError>
+        ensures operators { IfOk result (λ ops. (name : List ℕ) →
+            operator_of ops name ≡ clause_operator prolog name (operator_of self.now name)) }
+        ensures frees { IfOk result (λ ops. FreesVariables prolog ops) }
+        ensures fixed { IfOk result (λ ops. (name : List ℕ) → is_fixed name ≡ true →
+            operator_of ops name ≡ operator_of self.now name) }
+    {
+        let mut ops = Ops::none(alloc);
+        for i in 0..self.rows.len() {
+            if let Some((name, operator)) = self.rows.get_index(i) {
+                ops.put(name, clause_operator(prolog, name, *operator))?;
+            }
+        }
+        Ok(ops)
     }
 
     fn none(alloc: Global) -> Ops

@@ -1,5 +1,5 @@
 // Cuts a text into its tokens.
-ghost use Rattle.std.specs.Prelude.{◌≡◌, ◌+◌, ◌<◌, ◌≤◌, ◌↔◌, length, drop, slice_index, codes, IsTrue, Some, IfSome, IfOk, OnOk, Err};
+ghost use Rattle.std.specs.Prelude.{◌≡◌, ◌+◌, ◌^◌, ◌<◌, ◌≤◌, ◌↔◌, length, drop, slice_index, codes, IsTrue, Some, IfSome, IfOk, OnOk, Err};
 ghost use Rattle.std.specs.List.{prefix_len};
 ghost use Rattle.ladr_lex.specs.Comments.{begins_with, up_to};
 ghost use Rattle.ladr_lex.specs.Cuts.{pieces_of, is_symbol, is_quoted, Cuts};
@@ -39,10 +39,23 @@ pub fn tokens<'a>(alloc: Global, bytes: &'a [u8]) -> Result<Vec<Token<'a>>, Lex>
     if bytes.len() > MOST_BYTES {
         return Err(Lex::Input);
     }
+    let found = tokens_from(alloc, bytes, 0)?;
+    Ok(found)
+}
+
+/// The tokens of bytes that stand at place `start` of a text, from which their places count; there is no limit on bytes.
+pub fn tokens_from<'a>(
+    alloc: Global,
+    bytes: &'a [u8],
+    start: usize,
+) -> Result<Vec<Token<'a>>, AllocError>
+    requires { start + length bytes.now < 2 ^ 64 }
+    ensures { IfOk result (λ found. Cuts start bytes.now (pieces_of found.items)) }
+{
     let mut found = Vec::new(alloc);
     let mut at = 0;
     while at < bytes.len() {
-        at = step(&mut found, bytes, at)?;
+        at = step(&mut found, bytes, start, at)?;
     }
     Ok(found)
 }
@@ -78,17 +91,24 @@ fn whole_kind(text: &[u8]) -> Option<TokenKind>
 }
 
 // Adds the token that begins at a place, if one does, with each `-` that was cut off its end, and answers the place behind them.
-fn step<'a>(found: &mut Vec<Token<'a>>, bytes: &'a [u8], at: usize) -> Result<usize, AllocError>
-    requires { at < length bytes.now }
-    ensures { IfOk result (λ next. Advances bytes.now found.old.items found.new.items at next × (at < next)) }
+fn step<'a>(
+    found: &mut Vec<Token<'a>>,
+    bytes: &'a [u8],
+    start: usize,
+    at: usize,
+) -> Result<usize, AllocError>
+    requires place { at < length bytes.now }
+    requires end { start + length bytes.now < 2 ^ 64 }
+    ensures { IfOk result (λ next.
+        Advances start bytes.now found.old.items found.new.items at next × (at < next)) }
 {
     let (kind, end) = piece_at(bytes, at);
     match kind {
         None => Ok(end),
         Some(kind) => {
-            add(found, kind, bytes, at, end)?;
+            add(found, kind, bytes, start, at, end)?;
             if is_special(bytes[at]) {
-                dashes(found, bytes, end)
+                dashes(found, bytes, start, end)
             } else {
                 Ok(end)
             }
@@ -97,14 +117,21 @@ fn step<'a>(found: &mut Vec<Token<'a>>, bytes: &'a [u8], at: usize) -> Result<us
 }
 
 // Each `-` from a place on is a token, where no special byte but `-` follows.
-fn dashes<'a>(found: &mut Vec<Token<'a>>, bytes: &'a [u8], from: usize) -> Result<usize, AllocError>
+fn dashes<'a>(
+    found: &mut Vec<Token<'a>>,
+    bytes: &'a [u8],
+    start: usize,
+    from: usize,
+) -> Result<usize, AllocError>
     requires place { from ≤ length bytes.now }
+    requires end { start + length bytes.now < 2 ^ 64 }
     requires dashed { kept (drop from bytes.now) ≡ 0 }
-    ensures { IfOk result (λ next. Advances bytes.now found.old.items found.new.items from next) }
+    ensures { IfOk result (λ next.
+        Advances start bytes.now found.old.items found.new.items from next) }
 {
     let mut at = from;
     while at < bytes.len() && bytes[at] == b'-' {
-        add(found, TokenKind::Special, bytes, at, at + 1)?;
+        add(found, TokenKind::Special, bytes, start, at, at + 1)?;
         at += 1;
     }
     Ok(at)
@@ -115,19 +142,21 @@ fn add<'a>(
     found: &mut Vec<Token<'a>>,
     kind: TokenKind,
     bytes: &'a [u8],
+    start: usize,
     at: usize,
     end: usize,
 ) -> Result<(), AllocError>
     requires place { at < length bytes.now }
+    requires text { start + length bytes.now < 2 ^ 64 }
     requires kind { kind_at (slice_index bytes.now at) (drop (at + 1) bytes.now) ≡ Some kind }
     requires end { end ≡ at + 1 + behind (slice_index bytes.now at) (drop (at + 1) bytes.now) }
     requires within { end ≤ length bytes.now }
-    ensures { OnOk result (Advances bytes.now found.old.items found.new.items at end) }
+    ensures { OnOk result (Advances start bytes.now found.old.items found.new.items at end) }
 {
     found.push(Token {
         kind,
         text: &bytes[at..end],
-        start: at,
+        start: start + at,
     })?;
     Ok(())
 }

@@ -1,4 +1,3 @@
-pub mod Decimals
 pub mod Entries
 pub mod Parsing
 pub mod Reading

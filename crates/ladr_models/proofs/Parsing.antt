@@ -13,7 +13,7 @@ use Rattle.ladr_commands.specs.declared.command.Command.TheVariants.{Interpretat
 use Rattle.ladr_commands.specs.declared.wanted.Wanted.TheVariants.{CommaOrClose, CommaOrCloseSquare}
 use Rattle.ladr_lex.specs.Lexeme.{Sort, ordinary, special, Lexeme, open_paren, close_paren, open_square, close_square, comma, symbol}
 use Rattle.ladr_lex.specs.Numeral.{is_numeral, number}
-use Rattle.ladr_models.proofs.Decimals.{numeral, number_decimal}
+use Rattle.ladr_lex.proofs.Numerals.{numeral_decimal, number_decimal}
 use Rattle.ladr_models.proofs.Entries.{IsPlain, ArePlain}
 use Rattle.ladr_models.proofs.Writing.{number_token, behind_value, value_tokens, behind_place, place_tokens, sort_of, entry_tokens, behind_entry, list_tokens, end_tokens, all_tokens}
 use Rattle.model_tables.specs.Size.{AllBelow}
@@ -25,7 +25,7 @@ value_said text x read onward us h e = rw h (ap (λ (v : ℕ). outcome (token Co
 
 decimal_said : (x : ℕ) (read : List ℕ) (onward : List ℕ → Form) (us : List Lexeme) → x < 1000000000
     → outcome (values read onward) (number_token x ∷ us) ≡ outcome (token CommaOrCloseSquare (form.behind_number (read ++ x ∷ []) onward)) us
-decimal_said x read onward us l = value_said (decimal x) x read onward us (numeral x (omega (arith, l))) (number_decimal x (omega (arith, l)))
+decimal_said x read onward us l = value_said (decimal x) x read onward us (numeral_decimal x (omega (arith, l))) (number_decimal x (omega (arith, l)))
 
 more_values : (xs read : List ℕ) (onward : List ℕ → Form) (us : List Lexeme) → AllBelow 1000000000 xs
     → outcome (token CommaOrCloseSquare (form.behind_number read onward)) (behind_value xs us) ≡ outcome (onward (read ++ xs)) us
@@ -91,7 +91,7 @@ texts_said size made n us h k e = rw h (rw k (ap (λ (m : ℕ). outcome (entry_l
 
 pub all_said : (n k : ℕ) (ts : List Table) → n < 1000000000 → k < 2 ^ 64 → ArePlain ts → Says interpretation_item (all_tokens n k ts) (Interpretation (by_name n ts))
 all_said n k ts l m p =
-    texts_said (decimal n) (decimal k) n (open_square ∷ list_tokens ts end_tokens) (numeral n (omega (arith, l))) (numeral k m) (number_decimal n (omega (arith, l))) ∙ list_said n ts p
+    texts_said (decimal n) (decimal k) n (open_square ∷ list_tokens ts end_tokens) (numeral_decimal n (omega (arith, l))) (numeral_decimal k m) (number_decimal n (omega (arith, l))) ∙ list_said n ts p
 
 -- the tester reads it alike
 pub tester_said : (n k : ℕ) (ts : List Table) → outcome tester_commands (all_tokens n k ts) ≡ outcome interpretation_item (all_tokens n k ts)

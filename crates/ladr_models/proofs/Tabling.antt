@@ -15,7 +15,7 @@ use Rattle.fol_core.specs.declared.symbols.Kind.TheVariants.{Function, Relation}
 use Rattle.ladr_commands.specs.ByName.{Table, table}
 use Rattle.ladr_models.proofs.Entries.{named, ArePlain}
 use Rattle.ladr_models.specs.ReadsBack.{is_name, are_named}
-use Rattle.ladr_named.specs.Good.{is_filled, are_new, heads_of, values_for, listing_for}
+use Rattle.ladr_interpretations.specs.Good.{is_filled, are_new, heads_of, values_for, listing_for}
 use Rattle.model_tables.specs.Size.{AllBelow, AreListings, IsListing, bound_of, cells_for}
 use Rattle.model_tables.specs.Tables.{Listing, listing}
 

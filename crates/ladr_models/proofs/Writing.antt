@@ -11,7 +11,7 @@ use Rattle.ladr_lex.specs.Lexed.{start_of}
 use Rattle.ladr_lex.specs.Lexeme.{Sort, ordinary, quoted, special, Lexeme, lexeme, open_paren, close_paren, open_square, close_square, comma, full_stop, symbol}
 use Rattle.ladr_lex.specs.declared.token.TokenKind.{TokenKind}
 use Rattle.ladr_lex.specs.declared.token.TokenKind.TheVariants.{LeftSquare, RightSquare, Ordinary, Special}
-use Rattle.ladr_models.proofs.Decimals.{ordinary_digits}
+use Rattle.ladr_lex.proofs.Numerals.{ordinary_decimal}
 use Rattle.ladr_models.proofs.Entries.{table_text, IsPlain, ArePlain}
 use Rattle.ladr_models.specs.ReadsBack.{is_name}
 use Rattle.ladr_print.specs.Spacing.{runs_into}
@@ -145,7 +145,7 @@ pub named_by : (k : Sort) (s r : List ℕ) (us : List Lexeme) → can_be (Some (
 named_by k s r us w n h = (symbol_written k s w).has r us n h
 
 numbered : (x : ℕ) (r : List ℕ) (us : List Lexeme) → x < 2 ^ 64 → runs_into (decimal x) r ≡ false → Has r us → Has (decimal x ++ r) (number_token x ∷ us)
-numbered x r us l n h = named_by ordinary (decimal x) r us (ordinary_digits x l) n h
+numbered x r us l n h = named_by ordinary (decimal x) r us (ordinary_decimal x l) n h
 
 before_comma : (x : ℕ) (r : List ℕ) (us : List Lexeme) → x < 2 ^ 64 → Has (44 ∷ r) us → Has (decimal x ++ 44 ∷ r) (number_token x ∷ us)
 before_comma x r us l h = numbered x (44 ∷ r) us l (before_alone (decimal x) 44 r comma_alone) h

@@ -10,7 +10,7 @@ use Rattle.ladr_commands.specs.declared.command.Command.{Command}
 use Rattle.ladr_commands.specs.declared.command.Command.TheVariants.{Interpretation}
 use Rattle.ladr_lex.specs.Cuts.{Piece, is_symbol, is_quoted, Cuts}
 use Rattle.ladr_lex.specs.Lexeme.{Lexeme}
-use Rattle.ladr_named.specs.Good.{is_good, tables_for}
+use Rattle.ladr_interpretations.specs.Good.{is_good, tables_for}
 use Rattle.ladr_reader.specs.Worked.{lexemes_in}
 use Rattle.model_tables.specs.Size.{IsInterpretation}
 use Rattle.model_tables.specs.Tables.{Finite}

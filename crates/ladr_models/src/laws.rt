@@ -10,7 +10,7 @@ ghost use Rattle.ladr_lex.specs.Lexeme.{lexemes_of};
 ghost use Rattle.ladr_lex.specs.declared.token.Token.{Token};
 ghost use Rattle.ladr_models.specs.ReadsBack.{IsPrintable, ReadsBack, SayTables};
 ghost use Rattle.ladr_models.specs.Worked.{pair, pair_tables, pair_text, pair_tokens, pair_entries};
-ghost use Rattle.ladr_named.specs.Good.{is_good, tables_for};
+ghost use Rattle.ladr_interpretations.specs.Good.{is_good, tables_for};
 ghost use Rattle.ladr_reader.specs.Worked.{lexemes_in};
 ghost use Rattle.model_tables.specs.ModelText.{model_text};
 ghost use Rattle.model_tables.specs.Tables.{Finite};

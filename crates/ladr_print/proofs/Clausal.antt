@@ -23,7 +23,7 @@ use Rattle.ladr_lex.specs.Lexeme.{ordinary}
 use Rattle.ladr_lex.specs.Operators.{OperatorRow, operator_of, are_lawful, if_prefix}
 use Rattle.ladr_lex.specs.declared.operators.OperatorKind.TheVariants.{Infix}
 use Rattle.fol_core.specs.declared.raw.Quantifier.TheVariants.{All, Exists}
-use Rattle.ladr_reader.specs.Formulas.{Variable, Reading, Made, named_variable, sentence_as, is_denial, connective_of, by_connective, comparison, formula_in, formula_reading, unread, names_of, IsReadAs}
+use Rattle.ladr_reader.specs.Formulas.{Variable, Reading, Made, term_of, named_variable, sentence_as, is_denial, connective_of, by_connective, comparison, formula_in, formula_reading, unread, names_of, IsReadAs}
 use Rattle.ladr_reader.specs.declared.connectives.Connective.{Connective}
 use Rattle.ladr_reader.specs.declared.connectives.Connective.TheVariants.{And, Or, IfThen, ThenIf, IfAndOnlyIf}
 use Rattle.ladr_reader.specs.Table.{Table, table_of}
@@ -31,19 +31,22 @@ use Rattle.ladr_reader.specs.declared.styles.Style.{Style}
 use Rattle.ladr_print.specs.ClauseText.{literal_raw, clause_raw, clause_bytes}
 use Rattle.ladr_print.specs.FormulaText.{two, denial, formula_raw}
 use Rattle.ladr_print.specs.Precedences.{count}
-use Rattle.ladr_print.specs.StatesAs.{KeepsFixed, StatesAs}
+use Rattle.ladr_print.specs.StatesAs.{KeepsFixed}
+use Rattle.ladr_reader.proofs.Behind.{read_behind, term_into}
+use Rattle.ladr_print.specs.ReadsAgain.{IsAmong, behind, IsClean, ReadsClause, ReadsTerm}
+use Rattle.ladr_print.specs.ReadsAs.{ReadsAs}
 use Rattle.ladr_print.specs.StatesClause.{literals_in, clause_in, StatesClause, FreesVariables}
 use Rattle.ladr_print.specs.TermText.{name_in, Naming, clause_variable, symbol_name, term_raw, terms_raw}
 use Rattle.ladr_print.specs.Precedences.{precedence}
 use Rattle.ladr_print.specs.RawText.{text_of}
 use Rattle.ladr_print.proofs.Disjunctions.{clause_is}
-use Rattle.ladr_print.proofs.Letters.{first_variables}
-use Rattle.ladr_print.proofs.Naming.{Reaches, formula_back}
+use Rattle.ladr_print.proofs.Letters.{first_variables, first_length}
+use Rattle.ladr_print.proofs.Naming.{Reaches, formula_back, term_back}
 use Rattle.ladr_print.proofs.Rereading.{turned}
 use Rattle.fol_core.specs.SymbolTable.{KeepsNumbers}
-use Rattle.ladr_print.proofs.Numerals.{own}
+use Rattle.ladr_lex.proofs.Numerals.{own}
 use Rattle.ladr_print.proofs.Printing.{Named, plain, Printable, PrintableAll, printed_reads, text_printable}
-use Rattle.ladr_print.proofs.Renaming.{or_parts, formula_ren}
+use Rattle.ladr_print.proofs.Renaming.{or_parts, formula_ren, term_ren, term_noted}
 use Rattle.ladr_print.proofs.Stating.{turned_printable, sound_parts, names_found, brings, named_between, denial_printable}
 use Rattle.ladr_print.proofs.Upto.{upto, not_in, own_place}
 
@@ -99,7 +102,7 @@ module _ (rows : List OperatorRow) (k : KeepsFixed rows) (prolog : Bool) (frees 
 
   variable_named : (n : ℕ) → n < 2 ^ 64 → Named g (clause_variable prolog n) 0
   unfolding is_ordinary
-  variable_named n h = by prolog n h (frees n)
+  variable_named n h = by prolog n h (frees n h)
     where
       by : (q : Bool) (n : ℕ) → n < 2 ^ 64 → if_prefix (operator_of rows (clause_variable q n)) ≡ None → Named g (clause_variable q n) 0
       by true zero h f = record { sort = ordinary; written = refl; allowed = plain refl f }
@@ -178,7 +181,7 @@ module _ (rows : List OperatorRow) (k : KeepsFixed rows) (prolog : Bool) (frees 
     )
 
 -- the literals of a formula are printed as it is
-module _ (st : Style) (T : List Symbol) (v : Naming) (fewer : length T ≤ 65535) where
+module _ (st : Style) (T : List Symbol) (v : Naming) (fewer : length T < 2 ^ 64) where
   denied_raw : (f : Fol) (c : ClauseTree) → literals_in (negation f) ≡ Some c → (literals_in f ≡ literals_in f) → clause_raw T v c ≡ denial (formula_raw T v f)
   denied_raw verum c h e = absurd (cc)
   denied_raw falsum c h e = absurd (cc)
@@ -260,84 +263,177 @@ names_length : (vs : List Variable) → length (names_of vs) ≡ length vs
 names_length [] = refl
 names_length (x ∷ vs) = ap suc (names_length vs)
 
--- what is printed for literals that a text states
-module _ (rows : List OperatorRow) (st : Style) (table : List Symbol) (other : List ℕ) (c : ClauseTree) (after : List Symbol) (l : are_lawful rows ≡ true) (k : KeepsFixed rows) where
-  empty_back : (s : StatesClause (table_of rows) st table other c after) → s.formula ≡ falsum → c ≡ [] → StatesClause (table_of rows) st table (clause_bytes (table_of rows) after (clause_variable st.prolog) (renumbered c)) c after
-  empty_back s f e =
-      let x = s.states in
-      let g = table_of rows in
-      let canon = clause_variable st.prolog in
-      let is : x.tree ≡ named (codes "$F") no_raws = falsum_is st after canon (sound_parts_fewer x) x.tree (unread table) (sym x.states.formula ∙ f) in
-      let may : Printable g (named (codes "$F") no_raws) = subst (Printable g) is (text_printable rows x.reads) in
-      let text : clause_bytes g after canon (renumbered c) ≡ text_of g (named (codes "$F") no_raws) = ap (λ (d : ClauseTree). clause_bytes g after canon (renumbered d)) e ∙ clause_is rows k after canon [] in
-      subst (λ (b : List ℕ). StatesClause g st table b c after) (sym text)
-      (record {
-        formula = s.formula;
-        names = s.names;
-        states = record {
-          tree = named (codes "$F") no_raws;
-          precedence = precedence g (named (codes "$F") no_raws);
-          reads = printed_reads rows (named (codes "$F") no_raws) l may;
-          states = subst (λ (t : RawTree). IsReadAs (formula_reading st table t) s.formula s.names after) is x.states;
-        };
-        clause = s.clause;
-      })
-    where
-      sound_parts_fewer : {names : List (List ℕ)} {f : Fol} → (x : StatesAs (table_of rows) st table other None f names after) → length after ≤ 65535
-      sound_parts_fewer x = omega (arith, (sound_parts (formula_reading st table x.tree).reading x.states.sound).fewer, ap length x.states.symbols)
+-- what is printed for a clause is read with all that was read with it, but for the names of variables
+record Again (rows : List OperatorRow) (st : Style) (table T : List Symbol) (c : ClauseTree) (m : Made Fol) : Type 0 where
+  tree : RawTree
+  precedence : ℕ
+  reads : ReadsAs (table_of rows) (clause_bytes (table_of rows) T (clause_variable st.prolog) (renumbered c)) tree precedence
+  variables : List Variable
+  count : length variables ≡ length m.reading.variables
+  made : formula_reading st table tree ≡ record { tree = m.tree; reading = record m.reading { variables = variables } }
 
-  literals_back : FreesVariables st.prolog rows → (s : StatesClause (table_of rows) st table other c after) → length s.names ≤ 2 ^ 64 → literals_in s.formula ≡ Some c →
-      StatesClause (table_of rows) st table (clause_bytes (table_of rows) after (clause_variable st.prolog) (renumbered c)) c after
-  literals_back frees s few h =
-      let x = s.states in
+module _ (rows : List OperatorRow) (st : Style) (table T : List Symbol) (other : List ℕ) (x : RawTree) (p : ℕ) (c : ClauseTree) (l : are_lawful rows ≡ true) (k : KeepsFixed rows)
+    (given : ReadsAs (table_of rows) other x p) (among : IsAmong (formula_reading st table x).reading T) where
+  abbrev M : Made Fol
+  M = formula_reading st table x
+
+  abbrev canonical : Naming
+  canonical = clause_variable st.prolog
+
+  empty_again : M.tree ≡ falsum → c ≡ [] → Again rows st table T c M
+  empty_again f e =
       let g = table_of rows in
-      let v = name_in s.names in
-      let canon = clause_variable st.prolog in
-      let m = formula_reading st table x.tree in
-      let parts = sound_parts m.reading x.states.sound in
-      let reaches : Reaches after v m.reading = record {
-        sound = parts.least;
-        symbols = subst (KeepsNumbers m.reading.symbols) (sym x.states.symbols) (λ n y e. e);
-        names = λ n y e. ap (λ (ns : List (List ℕ)). name_in ns n) x.states.named ∙ names_found m.reading.variables n y e;
-      } in
-      let fewer : length after ≤ 65535 = omega (arith, parts.fewer, ap length x.states.symbols) in
-      let n = length m.reading.variables in
-      let size : n ≤ 2 ^ 64 = omega (arith, few, ap length x.states.named, names_length m.reading.variables) in
-      let conjunction = formula_ren st after v fewer x.tree (unread table) c (ap literals_in (sym x.states.formula) ∙ h) (reaches, size) in
-      let listed : clause_variables c ≡ upto n = sym (clause_once c) ∙ conjunction.1 in
+      let is : x ≡ named (codes "$F") no_raws = falsum_is st T canonical among.few x (unread table) f in
+      let may : Printable g (named (codes "$F") no_raws) = subst (Printable g) is (text_printable rows given) in
+      let text : clause_bytes g T canonical (renumbered c) ≡ text_of g (named (codes "$F") no_raws) = ap (λ (d : ClauseTree). clause_bytes g T canonical (renumbered d)) e ∙ clause_is rows k T canonical [] in
+      record {
+        tree = named (codes "$F") no_raws;
+        precedence = precedence g (named (codes "$F") no_raws);
+        reads = subst (λ (b : List ℕ). ReadsAs g b (named (codes "$F") no_raws) (precedence g (named (codes "$F") no_raws))) (sym text) (printed_reads rows (named (codes "$F") no_raws) l may);
+        variables = M.reading.variables;
+        count = refl;
+        made = ap (formula_reading st table) (sym is);
+      }
+
+  literals_again : FreesVariables st.prolog rows → length M.reading.variables ≤ 2 ^ 64 → literals_in M.tree ≡ Some c → Again rows st table T c M
+  literals_again frees size h =
+      let g = table_of rows in
+      let v = name_in (names_of M.reading.variables) in
+      let reaches : Reaches T v M.reading = record { sound = among.clean; symbols = among.kept; names = λ n y e. names_found M.reading.variables n y e } in
+      let n = length M.reading.variables in
+      let both = formula_ren st T v among.few x (unread table) c h (reaches, size) in
+      let listed : clause_variables c ≡ upto n = sym (clause_once c) ∙ both.1 in
       let same : renumbered c ≡ c = numbered_already c n listed in
-      let printed : formula_raw after v s.formula ≡ turned x.tree =
-      ap (formula_raw after v) x.states.formula ∙ formula_back after v fewer st x.tree [] (unread table) (λ name i e. absurd (cc)) reaches
+      let printed : formula_raw T v M.tree ≡ turned x = formula_back T v among.few st x [] (unread table) (λ name i e. absurd (cc)) reaches in
+      let first : Printable g (clause_raw T v c) =
+      subst (Printable g) (sym (literals_raw st T v among.few M.tree c h ∙ printed)) (turned_printable rows (brings rows k) x (text_printable rows given))
       in
-      let first : Printable g (clause_raw after v c) =
-      subst (Printable g) (sym (literals_raw st after v fewer s.formula c h ∙ printed)) (turned_printable rows (brings rows k) x.tree (text_printable rows x.reads))
+      let may : Printable g (clause_raw T canonical c) =
+      clause_printable rows k st.prolog frees T v c (λ y e. omega (arith, size, below n y (ap (is_in y) (sym listed) ∙ e))) first
       in
-      let may : Printable g (clause_raw after canon c) =
-      clause_printable rows k st.prolog frees after v c (λ y e. omega (arith, size, below n y (ap (is_in y) (sym listed) ∙ e))) first
-      in
-      let text : clause_bytes g after canon (renumbered c) ≡ text_of g (clause_raw after canon c) = ap (clause_bytes g after canon) same ∙ clause_is rows k after canon c in
-      let read : IsReadAs (record { tree = m.tree; reading = record m.reading { variables = first_variables st.prolog n } }) s.formula (names_of (first_variables st.prolog n)) after =
-      record { sound = x.states.sound; formula = x.states.formula; named = refl; symbols = x.states.symbols }
-      in
-      subst (λ (b : List ℕ). StatesClause g st table b c after) (sym text)
-      (record {
-        formula = s.formula;
-        names = names_of (first_variables st.prolog n);
-        states = record {
-          tree = clause_raw after canon c;
-          precedence = precedence g (clause_raw after canon c);
-          reads = printed_reads rows (clause_raw after canon c) l may;
-          states = subst (λ (r : Made Fol). IsReadAs r s.formula (names_of (first_variables st.prolog n)) after) (sym conjunction.0) read;
-        };
-        clause = s.clause;
-      })
+      let text : clause_bytes g T canonical (renumbered c) ≡ text_of g (clause_raw T canonical c) = ap (clause_bytes g T canonical) same ∙ clause_is rows k T canonical c in
+      record {
+        tree = clause_raw T canonical c;
+        precedence = precedence g (clause_raw T canonical c);
+        reads = subst (λ (b : List ℕ). ReadsAs g b (clause_raw T canonical c) (precedence g (clause_raw T canonical c))) (sym text) (printed_reads rows (clause_raw T canonical c) l may);
+        variables = first_variables st.prolog n;
+        count = first_length st.prolog n;
+        made = both.0;
+      }
+
+  clause_again : FreesVariables st.prolog rows → length M.reading.variables ≤ 2 ^ 64 → clause_in M.tree ≡ Some c → Again rows st table T c M
+  clause_again frees size h =
+      elim (clause_cases M.tree c h) [
+        | empty f e ↦ empty_again f e
+        | others o ↦ literals_again frees size o
+      ]
+
+-- a printed clause is read as the one that it came from, behind the table before it and behind any that has all its symbols
+pub clause_both :
+    (rows : List OperatorRow) (st : Style) (table : List Symbol) (other : List ℕ) (c : ClauseTree) (after : List Symbol) (n : ℕ) (T : List Symbol) →
+    are_lawful rows ≡ true → KeepsFixed rows → FreesVariables st.prolog rows → ReadsClause (table_of rows) st table other c after n → KeepsNumbers after T → length T < 2 ^ 64 → n ≤ 2 ^ 64 →
+    ReadsClause (table_of rows) st table (clause_bytes (table_of rows) T (clause_variable st.prolog) (renumbered c)) c after n
+    × ReadsClause (table_of rows) st T (clause_bytes (table_of rows) T (clause_variable st.prolog) (renumbered c)) c T n
+clause_both rows st table other c after n T l k frees s kept few size =
+    let m = formula_reading st table s.tree in
+    let among : IsAmong m.reading T = record { clean = s.reading.clean; kept = subst (λ (t : List Symbol). KeepsNumbers t T) (sym s.reading.table) kept; few = few } in
+    let a = clause_again rows st table T other s.tree s.precedence c l k s.reads among frees (omega (arith, size, s.reading.count)) s.clause in
+    let read : Made Fol = record { tree = m.tree; reading = record m.reading { variables = a.variables } } in
+    let clean : IsClean read.reading after n = record { clean = s.reading.clean; table = s.reading.table; count = a.count ∙ s.reading.count } in
+    let behind_all : formula_reading st T a.tree ≡ behind T read =
+    read_behind T st table a.tree (subst (λ (r : Made Fol). KeepsNumbers r.reading.symbols T) (sym a.made) among.kept) ∙ ap (behind T) a.made
+    in
+    let larger : IsClean (behind T read).reading T n = record { clean = s.reading.clean; table = refl; count = a.count ∙ s.reading.count } in (
+      record {
+        tree = a.tree;
+        precedence = a.precedence;
+        reads = a.reads;
+        clause = ap (λ (r : Made Fol). clause_in r.tree) a.made ∙ s.clause;
+        reading = subst (λ (r : Made Fol). IsClean r.reading after n) (sym a.made) clean;
+      },
+      record {
+        tree = a.tree;
+        precedence = a.precedence;
+        reads = a.reads;
+        clause = ap (λ (r : Made Fol). clause_in r.tree) behind_all ∙ s.clause;
+        reading = subst (λ (r : Made Fol). IsClean r.reading T n) (sym behind_all) larger;
+      },
+    )
 
 pub clause_back :
     (rows : List OperatorRow) (st : Style) (table : List Symbol) (other : List ℕ) (c : ClauseTree) (after : List Symbol) →
     are_lawful rows ≡ true → KeepsFixed rows → FreesVariables st.prolog rows → (s : StatesClause (table_of rows) st table other c after) → length s.names ≤ 2 ^ 64 →
     StatesClause (table_of rows) st table (clause_bytes (table_of rows) after (clause_variable st.prolog) (renumbered c)) c after
 clause_back rows st table other c after l k frees s few =
-    elim (clause_cases s.formula c s.clause) [
-      | empty f e ↦ empty_back rows st table other c after l k s f e
-      | others h ↦ literals_back rows st table other c after l k frees s few h
-    ]
+    let x = s.states in
+    let m = formula_reading st table x.tree in
+    let parts = sound_parts m.reading x.states.sound in
+    let among : IsAmong m.reading after = record {
+      clean = parts.least;
+      kept = subst (KeepsNumbers m.reading.symbols) (sym x.states.symbols) (λ n y e. e);
+      few = omega (arith, parts.fewer, ap length x.states.symbols);
+    } in
+    let size : length m.reading.variables ≤ 2 ^ 64 = omega (arith, few, ap length x.states.named, names_length m.reading.variables) in
+    let a = clause_again rows st table after other x.tree x.precedence c l k x.reads among frees size (ap clause_in (sym x.states.formula) ∙ s.clause) in
+    let read : IsReadAs (record { tree = m.tree; reading = record m.reading { variables = a.variables } }) s.formula (names_of a.variables) after =
+    record { sound = x.states.sound; formula = x.states.formula; named = refl; symbols = x.states.symbols }
+    in
+    record {
+      formula = s.formula;
+      names = names_of a.variables;
+      states = record {
+        tree = a.tree;
+        precedence = a.precedence;
+        reads = a.reads;
+        states = subst (λ (r : Made Fol). IsReadAs r s.formula (names_of a.variables) after) (sym a.made) read;
+      };
+      clause = s.clause;
+    }
+
+-- a printed term is read as the one that it came from, behind the table before it and behind any that has all its symbols
+pub term_both :
+    (rows : List OperatorRow) (st : Style) (table : List Symbol) (other : List ℕ) (t : Tree) (after : List Symbol) (n : ℕ) (T : List Symbol) →
+    are_lawful rows ≡ true → KeepsFixed rows → FreesVariables st.prolog rows → ReadsTerm (table_of rows) st table other t after n → KeepsNumbers after T → length T < 2 ^ 64 → n ≤ 2 ^ 64 →
+    ReadsTerm (table_of rows) st table (text_of (table_of rows) (term_raw T (clause_variable st.prolog) t)) t after n
+    × ReadsTerm (table_of rows) st T (text_of (table_of rows) (term_raw T (clause_variable st.prolog) t)) t T n
+term_both rows st table other t after n T l k frees s kept few size =
+    let g = table_of rows in
+    let canon = clause_variable st.prolog in
+    let m = term_of st [] (unread table) s.tree in
+    let v = name_in (names_of m.reading.variables) in
+    let keeps : KeepsNumbers m.reading.symbols T = subst (λ (z : List Symbol). KeepsNumbers z T) (sym s.reading.table) kept in
+    let reaches : Reaches T v m.reading = record { sound = s.reading.clean; symbols = keeps; names = λ i y e. names_found m.reading.variables i y e } in
+    let small : length m.reading.variables ≤ 2 ^ 64 = omega (arith, size, s.reading.count) in
+    let raw = term_raw T canon t in
+    let again : term_of st [] (unread table) raw ≡ record { tree = m.tree; reading = record m.reading { variables = first_variables st.prolog (length m.reading.variables) } } =
+    ap (λ (u : Tree). term_of st [] (unread table) (term_raw T canon u)) (sym s.term) ∙ term_ren st T v few s.tree (unread table) (reaches, small)
+    in
+    let listed : variables_of t ≡ upto (length m.reading.variables) =
+    sym (once t) ∙ ap (λ (u : Tree). joined [] (variables_of u)) (sym s.term) ∙ term_noted st T v few s.tree (unread table) (reaches, small)
+    in
+    let first : Printable g (term_raw T v t) =
+    subst (Printable g) (sym (ap (term_raw T v) (sym s.term) ∙ term_back T v few st [] (unread table) s.tree (λ name i e. absurd (cc)) reaches)) (text_printable rows s.reads)
+    in
+    let may : Printable g raw = term_printable rows k st.prolog frees T v t (λ y e. omega (arith, small, below (length m.reading.variables) y (ap (is_in y) (sym listed) ∙ e))) first in
+    let read : Made Tree = record { tree = m.tree; reading = record m.reading { variables = first_variables st.prolog (length m.reading.variables) } } in
+    let count : length (first_variables st.prolog (length m.reading.variables)) ≡ n = first_length st.prolog (length m.reading.variables) ∙ s.reading.count in
+    let larger : term_of st [] (unread T) raw ≡ behind T read =
+    term_into T st [] raw (unread table) (subst (λ (r : Made Tree). KeepsNumbers r.reading.symbols T) (sym again) keeps) ∙ ap (behind T) again
+    in
+    let own : IsClean read.reading after n = record { clean = s.reading.clean; table = s.reading.table; count = count } in
+    let all : IsClean (behind T read).reading T n = record { clean = s.reading.clean; table = refl; count = count } in (
+      record {
+        tree = raw;
+        precedence = precedence g raw;
+        reads = printed_reads rows raw l may;
+        term = ap (λ (r : Made Tree). r.tree) again ∙ s.term;
+        reading = subst (λ (r : Made Tree). IsClean r.reading after n) (sym again) own;
+      },
+      record {
+        tree = raw;
+        precedence = precedence g raw;
+        reads = printed_reads rows raw l may;
+        term = ap (λ (r : Made Tree). r.tree) larger ∙ s.term;
+        reading = subst (λ (r : Made Tree). IsClean r.reading T n) (sym larger) all;
+      },
+    )

@@ -5,7 +5,6 @@ pub mod Ends
 pub mod Letters
 pub mod Longest
 pub mod Naming
-pub mod Numerals
 pub mod Operands
 pub mod Printing
 pub mod Renaming

@@ -25,7 +25,8 @@ use Rattle.ladr_print.specs.FormulaText.{two}
 use Rattle.ladr_print.specs.StatesClause.{atom_in, literal_in, prepended, literals_in}
 use Rattle.ladr_print.specs.TermText.{Naming, clause_variable, symbol_name, term_raw, terms_raw}
 use Rattle.ladr_print.proofs.Letters.{name_free, first_variables, first_length, not_yet, found_there}
-use Rattle.ladr_print.proofs.Naming.{Grows, Reaches, beyond, before, unmet, clear, free_found, symbol_back, element_back, grows_variable, grows_term, grows_terms, grows_formula}
+use Rattle.ladr_reader.proofs.Growing.{Grows, beyond, grows_variable, grows_term, grows_terms, grows_formula}
+use Rattle.ladr_print.proofs.Naming.{Reaches, before, unmet, clear, free_found, symbol_back, element_back}
 use Rattle.ladr_print.proofs.Rereading.{denial_read}
 use Rattle.ladr_print.proofs.Upto.{upto, noted_old, noted_new}
 use Rattle.fol_core.specs.Free.{noted, variables_of, variables_of_all}
@@ -103,7 +104,7 @@ module _ (st : Style) where
   unfolding named_variable
   named_none name s k = cond-false (is_variable st [] name) _ _ k
 
-  module _ (T : List Symbol) (v : Naming) (fewer : length T ≤ 65535) where
+  module _ (T : List Symbol) (v : Naming) (fewer : length T < 2 ^ 64) where
     abbrev Keeps : Reading → Type 0
     Keeps s = Reaches T v s × (length s.variables ≤ 2 ^ 64)
 
@@ -166,7 +167,7 @@ module _ (st : Style) where
     all_again m = record { tree = m.tree; reading = ren m.reading }
 
     mutual
-      term_ren : (t : RawTree) (s : Reading) → Keeps (term_of st [] s t).reading → term_of st [] (ren s) (term_raw T canon (term_of st [] s t).tree) ≡ again (term_of st [] s t)
+      pub term_ren : (t : RawTree) (s : Reading) → Keeps (term_of st [] s t).reading → term_of st [] (ren s) (term_raw T canon (term_of st [] s t).tree) ≡ again (term_of st [] s t)
       term_ren (quantified q x t) s k =
           let met = meets true 11 s in
           let inner = with_variable x false met in
@@ -278,7 +279,7 @@ module _ (st : Style) where
             (λ e. ap (λ (vs : List Variable). upto (length vs)) (sym (symbol_variables name 0 Function s)))
 
     mutual
-      term_noted : (t : RawTree) (s : Reading) → Keeps (term_of st [] s t).reading → free.joined (so_far s) (variables_of (term_of st [] s t).tree) ≡ so_far (term_of st [] s t).reading
+      pub term_noted : (t : RawTree) (s : Reading) → Keeps (term_of st [] s t).reading → free.joined (so_far s) (variables_of (term_of st [] s t).tree) ≡ so_far (term_of st [] s t).reading
       term_noted (quantified q x t) s k =
           let met = meets true 11 s in
           let inner = with_variable x false met in

@@ -24,8 +24,10 @@ use Rattle.ladr_print.specs.Precedences.{is_infix, precedence}
 use Rattle.ladr_lex.specs.Cuts.{can_be}
 use Rattle.ladr_lex.specs.declared.token.TokenKind.TheVariants.{Special}
 use Rattle.ladr_print.specs.RawText.{text_of}
+use Rattle.ladr_print.specs.ReadsAgain.{IsAmong, behind, ReadsFormula}
 use Rattle.ladr_print.specs.StatesAs.{KeepsFixed, StatesAs}
 use Rattle.ladr_print.specs.TermText.{name_in}
+use Rattle.ladr_reader.proofs.Behind.{read_behind}
 use Rattle.ladr_print.proofs.Naming.{Reaches, formula_back}
 use Rattle.ladr_print.proofs.Printing.{Named, before, between, Printable, printed_reads, text_printable}
 use Rattle.ladr_print.proofs.Rereading.{turned, by_one, by_two, reread}
@@ -121,30 +123,51 @@ names_found [] n x e = absurd (cc)
 names_found (y ∷ vs) zero x e = ap (λ (o : Option Variable). unwrap_or (option_map (λ (z : Variable). z.name) o) []) e
 names_found (y ∷ vs) (suc n) x e = names_found vs n x e
 
+-- a printed formula is read as the one that it came from, behind the table before it and behind any that has all its symbols
+pub formula_again :
+    (rows : List OperatorRow) (st : Style) (first : List Symbol) (other : List ℕ) (label : Option RawTree) (m : Made Fol) (T : List Symbol) →
+    are_lawful rows ≡ true → KeepsFixed rows → ReadsFormula (table_of rows) st first other label m → IsAmong m.reading T →
+    ReadsFormula (table_of rows) st first (text_of (table_of rows) (attributed label (formula_raw T (name_in (names_of m.reading.variables)) m.tree))) label m
+    × ReadsFormula (table_of rows) st T (text_of (table_of rows) (attributed label (formula_raw T (name_in (names_of m.reading.variables)) m.tree))) label (behind T m)
+formula_again rows st first other label m T l k s among =
+    let g = table_of rows in
+    let v = name_in (names_of m.reading.variables) in
+    let own = formula_reading st first s.tree in
+    let reaches : Reaches T v own.reading = subst (λ (r : Made Fol). Reaches T v r.reading) (sym s.made)
+    (record { sound = among.clean; symbols = among.kept; names = λ n x e. names_found m.reading.variables n x e }) in
+    let printed : formula_raw T v m.tree ≡ turned s.tree =
+    ap (λ (r : Made Fol). formula_raw T v r.tree) (sym s.made) ∙ formula_back T v among.few st s.tree [] (unread first) (λ name n e. absurd (cc)) reaches
+    in
+    let again : formula_reading st first (turned s.tree) ≡ m = reread st s.tree [] (unread first) ∙ s.made in
+    let may : Printable g (attributed label (turned s.tree)) =
+    attributed_printable rows (brings rows k) label s.tree (turned s.tree) (turned_printable rows (brings rows k) s.tree) (text_printable rows s.reads)
+    in
+    let larger : formula_reading st T (turned s.tree) ≡ behind T m =
+    read_behind T st first (turned s.tree) (subst (λ (r : Made Fol). KeepsNumbers r.reading.symbols T) (sym again) among.kept) ∙ ap (behind T) again
+    in
+    let text = λ (t : RawTree). text_of g (attributed label t) in (
+      subst (λ (t : RawTree). ReadsFormula g st first (text t) label m) (sym printed)
+          (record { tree = turned s.tree; precedence = precedence g (attributed label (turned s.tree)); reads = printed_reads rows (attributed label (turned s.tree)) l may; made = again }),
+      subst (λ (t : RawTree). ReadsFormula g st T (text t) label (behind T m)) (sym printed)
+          (record { tree = turned s.tree; precedence = precedence g (attributed label (turned s.tree)); reads = printed_reads rows (attributed label (turned s.tree)) l may; made = larger }),
+    )
+
 pub states_back :
     (rows : List OperatorRow) (st : Style) (table : List Symbol) (other : List ℕ) (label : Option RawTree) (f : Fol) (names : List (List ℕ)) (after : List Symbol) →
     are_lawful rows ≡ true → KeepsFixed rows → StatesAs (table_of rows) st table other label f names after →
     StatesAs (table_of rows) st table (text_of (table_of rows) (attributed label (formula_raw after (name_in names) f))) label f names after
 states_back rows st table other label f names after l k s =
+    let g = table_of rows in
     let m = formula_reading st table s.tree in
     let parts = sound_parts m.reading s.states.sound in
-    let reaches : Reaches after (name_in names) m.reading = record {
-      sound = parts.least;
-      symbols = subst (KeepsNumbers m.reading.symbols) (sym s.states.symbols) (λ n x e. e);
-      names = λ n x e. ap (λ (ns : List (List ℕ)). name_in ns n) s.states.named ∙ names_found m.reading.variables n x e;
+    let among : IsAmong m.reading after = record {
+      clean = parts.least;
+      kept = subst (KeepsNumbers m.reading.symbols) (sym s.states.symbols) (λ n x e. e);
+      few = omega (arith, parts.fewer, ap length s.states.symbols);
     } in
-    let fewer : length after ≤ 65535 = omega (arith, parts.fewer, ap length s.states.symbols) in
-    let printed : formula_raw after (name_in names) f ≡ turned s.tree =
-    ap (formula_raw after (name_in names)) s.states.formula ∙ formula_back after (name_in names) fewer st s.tree [] (unread table) (λ name n e. absurd (cc)) reaches
+    let again = (formula_again rows st table other label m after l k (record { tree = s.tree; precedence = s.precedence; reads = s.reads; made = refl }) among).0 in
+    let text : text_of g (attributed label (formula_raw after (name_in (names_of m.reading.variables)) m.tree)) ≡ text_of g (attributed label (formula_raw after (name_in names) f)) =
+    λ i. text_of g (attributed label (formula_raw after (name_in (sym s.states.named i)) (sym s.states.formula i)))
     in
-    let again : formula_reading st table (turned s.tree) ≡ m = reread st s.tree [] (unread table) in
-    let may : Printable (table_of rows) (attributed label (turned s.tree)) =
-    attributed_printable rows (brings rows k) label s.tree (turned s.tree) (turned_printable rows (brings rows k) s.tree) (text_printable rows s.reads)
-    in
-    subst (λ (t : RawTree). StatesAs (table_of rows) st table (text_of (table_of rows) (attributed label t)) label f names after) (sym printed)
-    (record {
-      tree = turned s.tree;
-      precedence = precedence (table_of rows) (attributed label (turned s.tree));
-      reads = printed_reads rows (attributed label (turned s.tree)) l may;
-      states = subst (λ (r : Made Fol). IsReadAs r f names after) (sym again) s.states;
-    })
+    subst (λ (b : List ℕ). StatesAs g st table b label f names after) text
+    (record { tree = again.tree; precedence = again.precedence; reads = again.reads; states = subst (λ (r : Made Fol). IsReadAs r f names after) (sym again.made) s.states })

@@ -2,6 +2,7 @@ pub mod ClauseText
 pub mod FormulaText
 pub mod Precedences
 pub mod RawText
+pub mod ReadsAgain
 pub mod ReadsAs
 pub mod Spacing
 pub mod StatesAs

@@ -1,39 +1,13 @@
 -- What clause a text states.
-use Rattle.std.specs.Prelude.{◌≡◌, ℕ, Bool, true, false, List, [], ◌∷◌, Option, Some, None}
-use Rattle.std.specs.Option.{option_map}
-use Rattle.fol_core.specs.Fol.{Fol, falsum, equal, atom, negation, disjunction}
-use Rattle.fol_core.specs.Literals.{Lit, ClauseTree, literal, equality}
+use Rattle.std.specs.Prelude.{◌≡◌, ℕ, List, Some, None}
+use Rattle.fol_core.specs.Fol.{Fol}
+use Rattle.fol_core.specs.Literals.{ClauseTree}
 use Rattle.fol_core.specs.SymbolTable.{Symbol}
-use Rattle.fol_core.specs.Tree.{app, none, more}
-use Rattle.ladr_lex.specs.Operators.{OperatorRow, operator_of, if_prefix}
+pub use Rattle.ladr_lex.specs.ClauseNames.{FreesVariables}
+pub use Rattle.ladr_reader.specs.ClauseIn.{atom_in, literal_in, prepended, literals_in, clause_in}
 use Rattle.ladr_reader.specs.Table.{Table}
 use Rattle.ladr_reader.specs.declared.styles.Style.{Style}
 use Rattle.ladr_print.specs.StatesAs.{StatesAs}
-use Rattle.ladr_print.specs.TermText.{clause_variable}
-
--- the literal that a relation, an equation or the denial of one is
-abbrev pub atom_in : Bool → Fol → Option Lit
-atom_in positive (atom r ts) = Some (literal positive (app r ts))
-atom_in positive (equal s t) = Some (literal positive (app equality (more s (more t none))))
-atom_in positive f = None
-
-abbrev pub literal_in : Fol → Option Lit
-literal_in (negation f) = atom_in false f
-literal_in f = atom_in true f
-
-abbrev pub prepended : Option Lit → Option ClauseTree → Option ClauseTree
-prepended (Some l) (Some ls) = Some (l ∷ ls)
-prepended l ls = None
-
--- a formula cut into literals at each `|` of its right spine
-abbrev pub literals_in : Fol → Option ClauseTree
-literals_in (disjunction f g) = prepended (literal_in f) (literals_in g)
-literals_in f = option_map (λ l. l ∷ []) (literal_in f)
-
--- `$F` is the empty clause
-abbrev pub clause_in : Fol → Option ClauseTree
-clause_in falsum = Some []
-clause_in f = literals_in f
 
 -- behind a table of symbols the text reads as a formula that is this clause; the table is then this one
 pub record StatesClause (g : Table) (st : Style) (before : List Symbol) (text : List ℕ) (c : ClauseTree) (after : List Symbol) : Type 0 where
@@ -41,7 +15,3 @@ pub record StatesClause (g : Table) (st : Style) (before : List Symbol) (text : 
   pub names : List (List ℕ)
   pub states : StatesAs g st before text None formula names after
   pub clause : clause_in formula ≡ Some c
-
--- no name of a clause's variable is an operator before its argument
-abbrev pub FreesVariables : Bool → List OperatorRow → Type 0
-FreesVariables prolog rows = (n : ℕ) → if_prefix (operator_of rows (clause_variable prolog n)) ≡ None

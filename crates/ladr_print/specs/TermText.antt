@@ -1,9 +1,10 @@
 -- The term as read that a term is printed as.
-use Rattle.std.specs.Prelude.{ℕ, Bool, ◌==◌, List, [], ◌∷◌, ◌++◌, Option, Some, None, slice_get, unwrap_or, if◌then◌else◌, codes}
+use Rattle.std.specs.Prelude.{ℕ, ◌==◌, List, [], slice_get, unwrap_or, if◌then◌else◌, codes}
 use Rattle.std.specs.Fmt.{decimal}
 use Rattle.fol_core.specs.Literals.{equality}
 use Rattle.fol_core.specs.RawTree.{RawTree, named, RawTrees, no_raws, more_raws}
 use Rattle.fol_core.specs.SymbolTable.{Symbol, name_at}
+pub use Rattle.ladr_lex.specs.ClauseNames.{letters, clause_variable}
 use Rattle.ladr_print.specs.declared.terms.Variables.{Variables}
 use Rattle.ladr_print.specs.declared.terms.Variables.TheVariants.{Named, Numbered}
 use Rattle.fol_core.specs.Tree.{Tree, var, elem, app, Trees, none, more}
@@ -11,17 +12,6 @@ use Rattle.fol_core.specs.Tree.{Tree, var, elem, app, Trees, none, more}
 -- the names of variables, by their numbers
 abbrev pub Naming : Type 0
 Naming = ℕ → List ℕ
-
--- those of a clause: x, y, z, u, w, v5, v6, .., and in the style of Prolog A, B, C, D, E, V5, ..
-abbrev pub letters : Bool → List ℕ
-letters prolog = if prolog then codes "ABCDE" else codes "xyzuw"
-
-abbrev pub lettered : Option ℕ → List ℕ → List ℕ
-lettered (Some letter) other = letter ∷ []
-lettered None other = other
-
-abbrev pub clause_variable : Bool → Naming
-clause_variable prolog n = lettered (slice_get (letters prolog) n) ((if prolog then codes "V" else codes "v") ++ decimal n)
 
 -- those of a formula, which it has with it
 abbrev pub name_in : List (List ℕ) → Naming

@@ -1,5 +1,5 @@
 // The texts of clauses.
-ghost use Rattle.std.specs.Prelude.{◌≡◌, ◌≤◌, ◌^◌, ◌++◌, ℕ, List, length, map, codes, IfOk, OnOk};
+ghost use Rattle.std.specs.Prelude.{◌≡◌, ◌<◌, ◌≤◌, ◌^◌, ◌++◌, ℕ, List, length, map, codes, IfOk, OnOk};
 ghost use Rattle.fol_core.specs.ClauseView.{literal_of};
 ghost use Rattle.fol_core.specs.RawView.{raw_of};
 ghost use Rattle.fol_core.specs.Renumbered.{renumbered};
@@ -9,7 +9,8 @@ ghost use Rattle.ladr_print.specs.RawText.{left_argument, right_argument, text_o
 ghost use Rattle.ladr_print.specs.ReadsAs.{ReadsAs};
 ghost use Rattle.ladr_print.specs.StatesAs.{KeepsFixed};
 ghost use Rattle.ladr_print.specs.StatesClause.{StatesClause, FreesVariables};
-ghost use Rattle.fol_core.specs.SymbolTable.{Symbol};
+ghost use Rattle.fol_core.specs.SymbolTable.{Symbol, KeepsNumbers};
+ghost use Rattle.ladr_print.specs.ReadsAgain.{ReadsClause};
 ghost use Rattle.ladr_reader.specs.declared.styles.Style.{Style};
 ghost use Rattle.ladr_print.specs.TermText.{clause_variable, naming_of};
 ghost use Rattle.ladr_reader.specs.Table.{table_of};
@@ -39,6 +40,13 @@ pub fn clause_text(
         (precedence (table_of ops.now) (clause_raw symbols.now (clause_variable prolog) (renumbered clause.now)))) }
     ensures states { IfOk result (λ text. (st : Style) (before : List Symbol) (other : List ℕ) → KeepsFixed ops.now → st.prolog ≡ prolog → FreesVariables prolog ops.now →
         (s : StatesClause (table_of ops.now) st before other clause.now symbols.now) → length s.names ≤ 2 ^ 64 → StatesClause (table_of ops.now) st before text.items clause.now symbols.now) }
+    // So it is whatever the size, behind the same table and behind this one, which may have more symbols at its end.
+    ensures again { IfOk result (λ text. (st : Style) (before after : List Symbol) (other : List ℕ) (n : ℕ) →
+        KeepsFixed ops.now → st.prolog ≡ prolog → FreesVariables prolog ops.now →
+        ReadsClause (table_of ops.now) st before other clause.now after n →
+        KeepsNumbers after symbols.now → length symbols.now < 2 ^ 64 → n ≤ 2 ^ 64 →
+        ReadsClause (table_of ops.now) st before text.items clause.now after n
+        × ReadsClause (table_of ops.now) st symbols.now text.items clause.now symbols.now n) }
 {
     ops.rows_are_lawful();
     let clause = renumber(alloc, clause)?;

@@ -1,6 +1,7 @@
 // The texts of formulas.
 ghost use Rattle.std.specs.Prelude.{◌≡◌, ℕ, List, IfOk};
 ghost use Rattle.std.specs.Option.{option_map};
+ghost use Rattle.fol_core.specs.Fol.{Fol};
 ghost use Rattle.fol_core.specs.FormulaView.{fol_of};
 ghost use Rattle.fol_core.specs.RawTree.{named, quantified, no_raws, more_raws};
 ghost use Rattle.fol_core.specs.RawView.{raw_of};
@@ -8,6 +9,8 @@ ghost use Rattle.ladr_print.specs.FormulaText.{two, denial, formula_raw, attribu
 ghost use Rattle.ladr_print.specs.RawText.{text_of};
 ghost use Rattle.fol_core.specs.SymbolTable.{Symbol};
 ghost use Rattle.ladr_reader.specs.declared.styles.Style.{Style};
+ghost use Rattle.ladr_print.specs.ReadsAgain.{IsAmong, behind, ReadsFormula};
+ghost use Rattle.ladr_reader.specs.Formulas.{Made, names_of};
 ghost use Rattle.ladr_print.specs.StatesAs.{KeepsFixed, StatesAs};
 ghost use Rattle.ladr_print.specs.TermText.{name_in, naming_of};
 ghost use Rattle.ladr_reader.specs.Table.{table_of};
@@ -32,6 +35,15 @@ pub fn formula_text(
     ensures back { IfOk result (λ text. (st : Style) (before : List Symbol) (other : List ℕ) → KeepsFixed ops.now →
         StatesAs (table_of ops.now) st before other (option_map (λ l. raw_of l.now) label.entry) (fol_of formula.now.shape) formula.now.names symbols.now →
         StatesAs (table_of ops.now) st before text.items (option_map (λ l. raw_of l.now) label.entry) (fol_of formula.now.shape) formula.now.names symbols.now) }
+    // So it is whatever the size, and however many symbols stand at the table's end: it is read with all that was read with it,
+    // behind the same table and behind this one.
+    ensures again { IfOk result (λ text. (st : Style) (before : List Symbol) (other : List ℕ) (m : Made Fol) →
+        KeepsFixed ops.now → m.tree ≡ fol_of formula.now.shape →
+        names_of m.reading.variables ≡ formula.now.names → IsAmong m.reading symbols.now →
+        ReadsFormula (table_of ops.now) st before other (option_map (λ l. raw_of l.now) label.entry) m →
+        ReadsFormula (table_of ops.now) st before text.items (option_map (λ l. raw_of l.now) label.entry) m
+        × ReadsFormula (table_of ops.now) st symbols.now text.items
+        (option_map (λ l. raw_of l.now) label.entry) (behind symbols.now m)) }
 {
     ops.rows_are_lawful();
     let text = labelled(alloc, ops, symbols, formula, label)?;

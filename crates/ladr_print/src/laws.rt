@@ -1,8 +1,11 @@
 // Laws of the definitions, and texts worked out.
-ghost use Rattle.std.specs.Prelude.{◌≡◌, ◌≤◌, ◌^◌, length, Option, false, ℕ, List, [], ◌∷◌, IsTrue, ◌++◌, codes};
+ghost use Rattle.std.specs.Prelude.{◌≡◌, ◌<◌, ◌≤◌, ◌^◌, length, Option, false, ℕ, List, [], ◌∷◌, IsTrue, ◌++◌, codes};
 ghost use Rattle.fol_core.specs.RawTree.{RawTree};
 ghost use Rattle.fol_core.specs.Fol.{Fol};
-ghost use Rattle.fol_core.specs.SymbolTable.{Symbol};
+ghost use Rattle.fol_core.specs.SymbolTable.{Symbol, KeepsNumbers};
+ghost use Rattle.fol_core.specs.Tree.{Tree};
+ghost use Rattle.ladr_print.specs.ReadsAgain.{IsAmong, behind, ReadsFormula, ReadsClause, ReadsTerm};
+ghost use Rattle.ladr_reader.specs.Formulas.{Made, names_of};
 ghost use Rattle.ladr_lex.specs.Operators.{OperatorRow, are_lawful, standard_rows, breaks_row_6, declared};
 ghost use Rattle.ladr_print.specs.FormulaText.{attributed, formula_raw};
 ghost use Rattle.fol_core.specs.Literals.{ClauseTree};
@@ -10,7 +13,7 @@ ghost use Rattle.fol_core.specs.Renumbered.{renumbered};
 ghost use Rattle.ladr_print.specs.ClauseText.{clause_bytes};
 ghost use Rattle.ladr_print.specs.StatesAs.{KeepsFixed, StatesAs};
 ghost use Rattle.ladr_print.specs.StatesClause.{StatesClause, FreesVariables};
-ghost use Rattle.ladr_print.specs.TermText.{name_in, clause_variable};
+ghost use Rattle.ladr_print.specs.TermText.{name_in, clause_variable, term_raw};
 ghost use Rattle.ladr_print.specs.Worked.{reprinted};
 ghost use Rattle.ladr_reader.specs.declared.styles.Style.{Style};
 ghost use Rattle.ladr_print.specs.Precedences.{precedence};
@@ -69,6 +72,33 @@ pub fn printed_clause_states_again()
     ensures { (rows : List OperatorRow) (st : Style) (before : List Symbol) (other : List ℕ) (c : ClauseTree) (after : List Symbol) →
         IsTrue (are_lawful rows) → KeepsFixed rows → FreesVariables st.prolog rows → (s : StatesClause (table_of rows) st before other c after) → length s.names ≤ 2 ^ 64 →
         StatesClause (table_of rows) st before (clause_bytes (table_of rows) after (clause_variable st.prolog) (renumbered c)) c after }
+{}
+
+/// Whatever the size, where any text is read as a formula, a clause or a term, the printed one is too: behind the same table of
+/// symbols, and behind any that has all of its symbols, with more at its end. So what a file says of a formula is what its
+/// printed text says behind the file's final table.
+pub fn printed_reads_again()
+    ensures formula { (rows : List OperatorRow) (st : Style) (before : List Symbol) (other : List ℕ)
+        (label : Option RawTree) (m : Made Fol) (T : List Symbol) →
+        IsTrue (are_lawful rows) → KeepsFixed rows → ReadsFormula (table_of rows) st before other label m →
+        IsAmong m.reading T →
+        let text = text_of (table_of rows) (attributed label (formula_raw T (name_in (names_of m.reading.variables)) m.tree)) in
+        ReadsFormula (table_of rows) st before text label m
+        × ReadsFormula (table_of rows) st T text label (behind T m) }
+    ensures clause { (rows : List OperatorRow) (st : Style) (before : List Symbol) (other : List ℕ) (c : ClauseTree)
+        (after : List Symbol) (n : ℕ) (T : List Symbol) →
+        IsTrue (are_lawful rows) → KeepsFixed rows → FreesVariables st.prolog rows →
+        ReadsClause (table_of rows) st before other c after n →
+        KeepsNumbers after T → length T < 2 ^ 64 → n ≤ 2 ^ 64 →
+        let text = clause_bytes (table_of rows) T (clause_variable st.prolog) (renumbered c) in
+        ReadsClause (table_of rows) st before text c after n × ReadsClause (table_of rows) st T text c T n }
+    ensures term { (rows : List OperatorRow) (st : Style) (before : List Symbol) (other : List ℕ) (t : Tree)
+        (after : List Symbol) (n : ℕ) (T : List Symbol) →
+        IsTrue (are_lawful rows) → KeepsFixed rows → FreesVariables st.prolog rows →
+        ReadsTerm (table_of rows) st before other t after n →
+        KeepsNumbers after T → length T < 2 ^ 64 → n ≤ 2 ^ 64 →
+        let text = text_of (table_of rows) (term_raw T (clause_variable st.prolog) t) in
+        ReadsTerm (table_of rows) st before text t after n × ReadsTerm (table_of rows) st T text t T n }
 {}
 
 /// Formulas with their texts: what is printed for the formula of a term.

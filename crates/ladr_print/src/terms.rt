@@ -1,5 +1,5 @@
 // The terms as read that terms are printed as.
-ghost use Rattle.std.specs.Prelude.{◌≡◌, ◌++◌, ℕ, List, IfOk, OnOk};
+ghost use Rattle.std.specs.Prelude.{◌≡◌, ◌<◌, ◌≤◌, ◌^◌, ◌++◌, ℕ, List, length, IfOk, OnOk};
 ghost use Rattle.std.specs.Fmt.{decimal};
 ghost use Rattle.fol_core.specs.RawTree.{raws_of};
 ghost use Rattle.fol_core.specs.RawView.{raw_of};
@@ -7,9 +7,14 @@ ghost use Rattle.fol_core.specs.TermView.{tree_of};
 ghost use Rattle.fol_core.specs.Tree.{trees_of};
 ghost use Rattle.ladr_print.specs.Precedences.{precedence};
 ghost use Rattle.ladr_print.specs.RawText.{text_of};
+ghost use Rattle.fol_core.specs.SymbolTable.{Symbol, KeepsNumbers};
+ghost use Rattle.ladr_lex.specs.ClauseNames.{FreesVariables};
+ghost use Rattle.ladr_print.specs.ReadsAgain.{ReadsTerm};
 ghost use Rattle.ladr_print.specs.ReadsAs.{ReadsAs};
+ghost use Rattle.ladr_print.specs.StatesAs.{KeepsFixed};
 ghost use Rattle.ladr_print.specs.TermText.{clause_variable, name_in, naming_of, symbol_name, term_raw, terms_raw};
 ghost use Rattle.ladr_reader.specs.Table.{table_of};
+ghost use Rattle.ladr_reader.specs.declared.styles.Style.{Style};
 
 use crate::raw::raw_text;
 use fol_core::{EQ, Name, Names, Raw, Raws, Sym, Symbols, Term, Terms};
@@ -35,9 +40,19 @@ pub fn term_text(
     ensures text { IfOk result (λ text. text.items ≡ text_of (table_of ops.now) (term_raw symbols.now (clause_variable prolog) (tree_of term.now))) }
     ensures back { IfOk result (λ text. (other : List ℕ) (p : ℕ) → ReadsAs (table_of ops.now) other (term_raw symbols.now (clause_variable prolog) (tree_of term.now)) p →
         ReadsAs (table_of ops.now) text.items (term_raw symbols.now (clause_variable prolog) (tree_of term.now)) (precedence (table_of ops.now) (term_raw symbols.now (clause_variable prolog) (tree_of term.now)))) }
+    // Where any text is read as this term, with its variables, the printed one is too, behind the same table and behind this one,
+    // which may have more symbols at its end.
+    ensures again { IfOk result (λ text. (st : Style) (before after : List Symbol) (other : List ℕ) (n : ℕ) →
+        KeepsFixed ops.now → st.prolog ≡ prolog → FreesVariables prolog ops.now →
+        ReadsTerm (table_of ops.now) st before other (tree_of term.now) after n →
+        KeepsNumbers after symbols.now → length symbols.now < 2 ^ 64 → n ≤ 2 ^ 64 →
+        ReadsTerm (table_of ops.now) st before text.items (tree_of term.now) after n
+        × ReadsTerm (table_of ops.now) st symbols.now text.items (tree_of term.now) symbols.now n) }
 {
+    ops.rows_are_lawful();
     let raw = term_raw(alloc, symbols, Variables::Numbered(prolog), term)?;
-    raw_text(alloc, ops, &raw)
+    let text = raw_text(alloc, ops, &raw)?;
+    Ok(text)
 }
 
 // Adds the decimal digits of a number.

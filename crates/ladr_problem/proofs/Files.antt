@@ -1,8 +1,8 @@
 -- Items taken one behind the other say what the file says.
 use Rattle.std.proofs.Common.{◌≡◌, ℕ, false, List, ◌∷◌, Option, Some, None, refl, sym, subst}
 use Rattle.std.specs.Prelude.{is_some}
-use Rattle.ladr_items.proofs.CutLemmas.{lexemes_pieces}
-use Rattle.ladr_items.specs.Items.{lexemes}
+use Rattle.ladr_problem.proofs.CutLemmas.{lexemes_pieces}
+use Rattle.ladr_problem.specs.Items.{lexemes}
 use Rattle.ladr_lex.specs.Cuts.{Piece, pieces_of}
 use Rattle.ladr_lex.specs.Lexeme.{Lexeme, lexemes_of}
 use Rattle.ladr_lex.specs.declared.token.Token.{Token}

@@ -16,11 +16,11 @@ use Rattle.fol_core.specs.declared.problem.Role.{Role}
 use Rattle.fol_core.specs.declared.problem.Role.TheVariants.{Assumption, Usable, Demodulator, Goal}
 use Rattle.ladr_commands.specs.ByName.{ByName}
 use Rattle.ladr_commands.specs.declared.command.Command.{Command}
-use Rattle.ladr_items.specs.Items.{lexemes}
-use Rattle.ladr_items.specs.ListItem.{closing, term}
+use Rattle.ladr_problem.specs.Items.{lexemes}
+use Rattle.ladr_problem.specs.ListItem.{closing, term}
 use Rattle.ladr_lex.specs.Cuts.{Piece}
 use Rattle.ladr_lex.specs.Lexeme.{Lexeme}
-use Rattle.ladr_named.specs.Good as named
+use Rattle.ladr_interpretations.specs.Good as named
 use Rattle.ladr_options.specs.Ranges.{AreInRange}
 use Rattle.ladr_problem.specs.Adding.{Item, command, within, after_item, after_term, after_formula, after_list, after_rule, after_kbo, added_kbo, unshaped, formula_made, style_in, with_settings, with_listed, with_formula, least_row, met, is_hints, is_demodulators}
 use Rattle.ladr_problem.specs.File.{Outcome, problem, unreadable, misused, too_large, File, ends, open_list, open_block, bad, breaks, goes_on, covered, finished, first_lacking, start_at, refused_at}

@@ -1,3 +1,5 @@
+pub mod CutLemmas
+pub mod EndLemmas
 pub mod Files
 pub mod Good
 pub mod Once

@@ -11,10 +11,10 @@ use Rattle.ladr_commands.specs.Faults as commands
 use Rattle.ladr_commands.specs.Faults.{IsCommandFault}
 use Rattle.ladr_commands.specs.Form.{Form}
 use Rattle.ladr_commands.specs.declared.fault.CommandFault.TheVariants as command_fault
-use Rattle.ladr_items.proofs.EndLemmas as listed
-use Rattle.ladr_items.specs.Items.{items_of, lexemes}
-use Rattle.ladr_items.specs.ListItem as lists
-use Rattle.ladr_items.specs.ListItem.{ListItem, IsListItem, IsItemFault}
+use Rattle.ladr_problem.proofs.EndLemmas as listed
+use Rattle.ladr_problem.specs.Items.{items_of, lexemes}
+use Rattle.ladr_problem.specs.ListItem as lists
+use Rattle.ladr_problem.specs.ListItem.{ListItem, IsListItem, IsItemFault}
 use Rattle.ladr_lex.proofs.Unique.{cut_once}
 use Rattle.ladr_lex.specs.Cuts.{Piece}
 use Rattle.ladr_lex.specs.Lexeme.{Lexeme}

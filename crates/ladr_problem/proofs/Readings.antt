@@ -1,6 +1,6 @@
 -- What the items of a file say is what the file says.
 use Rattle.std.proofs.Common.{ℕ, ◌≤◌, List, length, sym, subst}
-use Rattle.ladr_items.specs.Items.{items_of}
+use Rattle.ladr_problem.specs.Items.{items_of}
 use Rattle.ladr_lex.specs.Cuts.{Piece, Cuts}
 use Rattle.ladr_problem.specs.File.{Outcome, unreadable, misused, Says, items, most_bytes}
 use Rattle.ladr_problem.specs.Places.{IsPlaced, IsReadError}

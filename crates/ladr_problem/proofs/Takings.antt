@@ -9,7 +9,7 @@ use Rattle.fol_core.specs.RawView.{raw_of}
 use Rattle.fol_core.specs.SymbolTable.{Symbol, KeepsNumbers}
 use Rattle.fol_core.specs.Weights.{Rule}
 use Rattle.ladr_commands.specs.declared.command.Command.{Command}
-use Rattle.ladr_items.specs.ListItem.{term, IsListItem, IsItemFault}
+use Rattle.ladr_problem.specs.ListItem.{term, IsListItem, IsItemFault}
 use Rattle.ladr_lex.specs.Lexeme.{Lexeme}
 use Rattle.ladr_problem.specs.Adding.{command, within, IsRead, IsRefused, after_item, after_term, after_formula, after_rule, after_weight, unshaped, formula_made, style_in, with_settings, with_listed, least_row}
 use Rattle.ladr_problem.specs.Reading.{IsNo, IsTaken, after_read, after_rule_read}

@@ -2,8 +2,8 @@
 use Rattle.std.proofs.Common.{◌≡◌, ℕ, List, [], length, Some, true, leb}
 use Rattle.std.proofs.lemmas.Bool.{leb-true}
 use Rattle.fol_core.specs.RawTree.{RawTree}
-use Rattle.ladr_items.specs.Items.{items_of}
-use Rattle.ladr_items.specs.ListItem.{term, closing_tokens, IsListItem}
+use Rattle.ladr_problem.specs.Items.{items_of}
+use Rattle.ladr_problem.specs.ListItem.{term, closing_tokens, IsListItem}
 use Rattle.ladr_lex.proofs.Lexing.{cuts_text}
 use Rattle.ladr_lex.specs.Lexed.{lexed}
 use Rattle.ladr_lex.specs.Lexeme.{Lexeme}
@@ -12,6 +12,7 @@ use Rattle.ladr_problem.specs.Sofar.{nothing_read}
 use Rattle.ladr_reader.proofs.Lawful.{standard_lawful}
 use Rattle.ladr_reader.proofs.Moves.{operand}
 use Rattle.ladr_reader.proofs.Runs.{run_item}
+use Rattle.ladr_reader.specs.Capped.{disjuncts}
 use Rattle.ladr_reader.specs.Machine.{go, standing}
 use Rattle.ladr_reader.specs.Worked.{standard}
 use Rattle.ladr_reader.specs.declared.place.Place.TheVariants.{Done}
@@ -22,5 +23,5 @@ pub says : (m : Mode) (bytes : List ℕ) (o : Outcome) → leb (length bytes) mo
 says m bytes o few file = items (lexed bytes) (leb-true _ _ few) (cuts_text bytes) file
 
 -- a run of the machine of terms reads a term of a list
-pub read : {ts : List Lexeme} {t : RawTree} (q : ℕ) → (¬ ts ≡ closing_tokens) → go 500 standard (operand []) ts ≡ standing (Some (Done (Some t) q)) [] → IsListItem standard ts (term t)
+pub read : {ts : List Lexeme} {t : RawTree} (q : ℕ) → (¬ ts ≡ closing_tokens) → go 500 standard (operand []) ts ≡ standing (Some (Done (Some (disjuncts t)) q)) [] → IsListItem standard ts (term t)
 read q other run = (other, run_item standard standard_lawful _ _ q run)

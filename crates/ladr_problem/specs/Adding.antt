@@ -12,7 +12,7 @@ use Rattle.ladr_commands.specs.Faults.{IsCommandFault}
 use Rattle.ladr_commands.specs.Form.{Says}
 use Rattle.ladr_commands.specs.declared.command.Command.{Command}
 use Rattle.ladr_commands.specs.declared.fault.CommandFault.TheVariants as command_fault
-use Rattle.ladr_items.specs.ListItem.{ListItem, closing, term, IsListItem, IsItemFault}
+use Rattle.ladr_problem.specs.ListItem.{ListItem, closing, term, IsListItem, IsItemFault}
 use Rattle.ladr_lex.specs.Lexeme.{Lexeme}
 use Rattle.ladr_rules.specs.Attributes.{attributed, breaks_row_12, label_of, hint_weight_of}
 use Rattle.fol_core.specs.Weights.{Rule}

@@ -5,10 +5,10 @@ use Rattle.std.specs.List.{slice_get}
 use Rattle.std.specs.declared.result.Result.TheVariants.{Ok, Err}
 use Rattle.fol_core.specs.declared.problem.Role.{Role}
 use Rattle.ladr_commands.specs.ByName.{ByName}
-use Rattle.ladr_covers.specs.Covers.{covers}
-use Rattle.ladr_items.specs.Items.{items_of, lexemes}
+use Rattle.ladr_interpretations.specs.Covers.{covers}
+use Rattle.ladr_problem.specs.Items.{items_of, lexemes}
 use Rattle.ladr_lex.specs.Cuts.{Piece, Cuts}
-use Rattle.ladr_named.specs.Good.{tables_for}
+use Rattle.ladr_interpretations.specs.Good.{tables_for}
 use Rattle.ladr_problem.specs.Adding.{Item, IsRead, IsUnreadable, after_item}
 use Rattle.ladr_problem.specs.Sofar.{Sofar, Listed, nothing_read}
 use Rattle.ladr_problem.specs.declared.refusal.Limit.{Limit}

@@ -1,6 +1,9 @@
 pub mod Adding
 pub mod Draft
 pub mod File
+pub mod ItemView
+pub mod Items
+pub mod ListItem
 pub mod Places
 pub mod Reading
 pub mod Refusals
@@ -8,3 +11,4 @@ pub mod Sofar
 pub mod Stops
 pub mod Whole
 pub mod Worked
+pub mod WorkedItems

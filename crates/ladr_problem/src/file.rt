@@ -1,15 +1,15 @@
 // The items of a file, one behind the other.
 ghost use Rattle.std.specs.Prelude.{◌≡◌, ◌≤◌, OnOk, IfOk, IfErr, None, Some, [], length, drop, List};
-ghost use Rattle.ladr_items.specs.Items.{items_of};
+ghost use Rattle.ladr_problem.specs.Items.{items_of};
 ghost use Rattle.ladr_lex.specs.Cuts.{pieces_of};
 ghost use Rattle.ladr_problem.specs.Draft.{sofar_of};
 ghost use Rattle.ladr_problem.specs.File.{Outcome, File, problem, unreadable, start_at};
 ghost use Rattle.ladr_problem.specs.Stops.{IsStop, by_refusal};
 
+use crate::cut::item_end;
 use crate::draft::Draft;
 use crate::refusal::{Limit, Refusal};
 use crate::stop::Stop;
-use ladr_items::item_end;
 use ladr_lex::Token;
 use ladr_reader::Mode;
 use std::alloc::Global;

@@ -1,7 +1,7 @@
 // The problem of a file.
 ghost use Rattle.std.specs.Prelude.{◌≡◌, ◌≤◌, OnOk, IfOk, IfErr, IsTrue, is_some, length, map, take};
 ghost use Rattle.fol_core.specs.Stated.{stated_of, IsWellFormed};
-ghost use Rattle.ladr_items.specs.Items.{items_of};
+ghost use Rattle.ladr_problem.specs.Items.{items_of};
 ghost use Rattle.ladr_lex.specs.Cuts.{Cuts, piece_of, pieces_of};
 ghost use Rattle.ladr_lex.specs.Places.{line_of, column_of};
 ghost use Rattle.ladr_problem.specs.Draft.{sofar_of};
@@ -19,9 +19,8 @@ use crate::file::take_all;
 use crate::refusal::{Limit, Place, ReadError};
 use crate::stop::Stop;
 use fol_core::{Input, Name, Problem};
-use ladr_covers::covers;
+use ladr_interpretations::{Named, bind, covers};
 use ladr_lex::{Lex, Ops, Token, TokenKind, place_of, tokens};
-use ladr_named::{Named, bind};
 use ladr_reader::Mode;
 use ladr_settings::Settings;
 use model_tables::Tables;

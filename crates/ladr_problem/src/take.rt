@@ -7,10 +7,11 @@ ghost use Rattle.ladr_problem.specs.Draft.{sofar_of};
 ghost use Rattle.ladr_problem.specs.Reading.{IsNo, IsTaken};
 
 use crate::draft::Draft;
+use crate::item::ListItem;
+use crate::list_items::read_list_item;
 use crate::refusal::{Refusal, by_command, by_misuse, by_term};
 use fol_core::Raw;
 use ladr_commands::read_command;
-use ladr_items::{ListItem, read_list_item};
 use ladr_lex::Token;
 use ladr_reader::Mode;
 use ladr_settings::OpenList;

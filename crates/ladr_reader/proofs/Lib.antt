@@ -1,10 +1,15 @@
+pub mod Behind
 pub mod Bounds
+pub mod ClauseLemmas
 pub mod Complete
+pub mod Disjunctions
 pub mod FormulaLemmas
+pub mod Growing
 pub mod Lawful
 pub mod Levels
 pub mod Live
 pub mod Moves
+pub mod NoElements
 pub mod NumberingLemmas
 pub mod OwnFormulas
 pub mod OwnTerms

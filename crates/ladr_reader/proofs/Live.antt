@@ -6,7 +6,7 @@ use Rattle.std.specs.Str.{bytes_eq}
 use Rattle.fol_core.specs.RawTree.{RawTree, named, no_raws}
 use Rattle.ladr_lex.specs.Lexeme.{ordinary, Lexeme, close_paren, full_stop, symbol}
 use Rattle.ladr_lex.specs.Operators.{OperatorRow, operator_of, if_prefix}
-use Rattle.ladr_reader.specs.Capped.{capped, with_argument, application}
+use Rattle.ladr_reader.specs.Capped.{built, finished}
 use Rattle.ladr_reader.specs.Machine.{whole}
 use Rattle.ladr_reader.specs.Reads.{Begins}
 use Rattle.ladr_reader.specs.Table.{Table, table_of, quantifier_of}
@@ -36,7 +36,7 @@ begins_less g vs xs b =
 module _ (n : ℕ) (g : Table) (lawful : Lawful g) where
   -- all that waits is ended
   term_begins :
-      (fs : List Frame) (vs : List Lexeme) (t : Option RawTree) (q : ℕ) → Split (Spells n g fs) (Becomes n g fs t q) vs →
+      (fs : List Frame) (vs : List Lexeme) (t : Option (List RawTree)) (q : ℕ) → Split (Spells n g fs) (Becomes n g fs t q) vs →
       Begins g vs
   term_begins [] vs t q h =
       let i = stopped n g lawful [] vs t q h in record { more = full_stop ∷ []; tree = i.tree; item = i.item }
@@ -44,12 +44,12 @@ module _ (n : ℕ) (g : Table) (lawful : Lawful g) where
       begins_less g vs (close_paren ∷ []) (term_begins fs (vs ++ close_paren ∷ []) t 0 (closed n g lawful (Group ∷ fs) vs t q h))
   term_begins (Applied s us ∷ fs) vs t q h =
       begins_less g vs (close_paren ∷ [])
-      (term_begins fs (vs ++ close_paren ∷ []) (application n s (with_argument us t)) 0 (closed n g lawful (Applied s us ∷ fs) vs t q h))
+      (term_begins fs (vs ++ close_paren ∷ []) (finished n s us t) 0 (closed n g lawful (Applied s us ∷ fs) vs t q h))
   term_begins (Waiting part side p ∷ fs) vs t q h =
       term_begins fs vs (whole n part t) p (ended n g lawful part side p fs vs t q h)
 
   name_begins : (s : List ℕ) (fs : List Frame) (vs : List Lexeme) → Split (Spells n g fs) (IsName g s) vs → Begins g vs
-  name_begins s fs vs h = term_begins fs vs (capped n (named s no_raws)) 0 (as_atom n g lawful s fs vs h)
+  name_begins s fs vs h = term_begins fs vs (built n (named s no_raws)) 0 (as_atom n g lawful s fs vs h)
 
   operand_begins : HasNames g → (fs : List Frame) (vs : List Lexeme) → Spells n g fs vs → Begins g vs
   operand_begins names fs vs h =

@@ -1,11 +1,11 @@
 -- How the machine moves.
-use Rattle.std.proofs.Common.{◌≡◌, ℕ, ◌≤◌, Bool, true, false, List, [], ◌∷◌, ◌++◌, Option, Some, None, refl, rules}
+use Rattle.std.proofs.Common.{◌≡◌, ℕ, ◌≤◌, Bool, true, false, List, [], ◌∷◌, ◌++◌, Option, Some, None, refl, sym, ap, ◌∙◌, rules}
 use Rattle.fol_core.specs.RawTree.{RawTree, named, no_raws, raws_of}
 use Rattle.fol_core.specs.declared.raw.Quantifier.{Quantifier}
 use Rattle.ladr_lex.specs.Lexeme.{Sort, Lexeme, symbol}
 use Rattle.ladr_lex.specs.Operators.{if_prefix, if_after}
 use Rattle.ladr_lex.specs.declared.operators.Operator.{Operator}
-use Rattle.ladr_reader.specs.Capped.{capped}
+use Rattle.ladr_reader.specs.Capped.{capped, with_argument, whole_of, built, finished}
 use Rattle.ladr_reader.specs.Machine.{State, standing, allows, closes, whole, behind_operator, behind_name, after, next, go}
 use Rattle.ladr_reader.specs.Table.{Table, left, right, takes, grows, ends, operator_grows}
 use Rattle.ladr_reader.specs.declared.place.Place.TheVariants.{Operand, Named}
@@ -18,7 +18,7 @@ use Rattle.ladr_reader.specs.declared.stack.Frame.TheVariants.{Group, Applied, W
 use Rattle.ladr_reader.specs.declared.stack.Part.{Part}
 use Rattle.ladr_reader.specs.declared.stack.Part.TheVariants.{Prefix, Infix, Quantified}
 use Rattle.ladr_reader.proofs.Bounds.{takes_less, ends_or_takes, ends_left}
-use Rattle.ladr_reader.proofs.Levels.{none_capped, with_capped, application_capped}
+use Rattle.ladr_reader.proofs.Levels.{none_capped, with_capped, finished_built}
 
 -- before an operand
 abbrev pub operand : List Frame → Option State
@@ -30,13 +30,16 @@ go_append n g s [] ys = refl
 go_append n g s (x ∷ xs) ys = go_append n g (next n g s x) xs ys
 
 -- the terms that parts become
-pub prefix_whole : (n : ℕ) (s : List ℕ) (t : RawTree) → whole n (Prefix s) (capped n t) ≡ capped n (named s (raws_of (t ∷ [])))
-prefix_whole n s t = rw (← none_capped n, with_capped, application_capped)
+pub prefix_whole : (n : ℕ) (s : List ℕ) (t : RawTree) → whole n (Prefix s) (built n t) ≡ built n (named s (raws_of (t ∷ [])))
+prefix_whole n s t = ap (λ (o : Option (List RawTree)). finished n s o (built n t)) (sym (none_capped n)) ∙ finished_built n s [] t
 
 pub infix_whole :
     (n : ℕ) (s : List ℕ) (t u : RawTree) →
-    whole n (Infix s (capped n t)) (capped n u) ≡ capped n (named s (raws_of (t ∷ u ∷ [])))
-infix_whole n s t u = rw (← none_capped n, with_capped n [] t, with_capped n (t ∷ []) u, application_capped)
+    whole n (Infix s (capped n t)) (built n u) ≡ built n (named s (raws_of (t ∷ u ∷ [])))
+infix_whole n s t u =
+    ap (λ (o : Option (List RawTree)). finished n s o (built n u))
+    (ap (λ (o : Option (List RawTree)). with_argument o (capped n t)) (sym (none_capped n)) ∙ with_capped n [] t)
+    ∙ finished_built n s (t ∷ []) u
 
 -- the first moves of terms
 pub begin_name :
@@ -59,7 +62,7 @@ begin_prefix n g k s o fs w e h = rw (w, e, h)
 -- an atom ends before a token that ends terms of precedence 0
 pub behind_atom :
     (n : ℕ) (f : Follow) (s : List ℕ) (fs : List Frame) → closes f 0 ≡ true →
-    behind_name n f s fs ≡ after n f (capped n (named s no_raws)) 0 fs
+    behind_name n f s fs ≡ after n f (built n (named s no_raws)) 0 fs
 behind_atom n Applies s fs h = cc
 behind_atom n Closes s fs h = refl
 behind_atom n Separates s fs h = refl
@@ -87,7 +90,7 @@ allows_left o q b (Waiting part side p ∷ fs) t h = ends_left side o.kind p o.p
 
 -- an operator that may stand on top takes the term before it as its left argument
 pub after_operator :
-    (n : ℕ) (s : List ℕ) (o : Operator) (t : Option RawTree) (q : ℕ) (fs : List Frame) →
+    (n : ℕ) (s : List ℕ) (o : Operator) (t : Option (List RawTree)) (q : ℕ) (fs : List Frame) →
     takes (left o.kind) o.precedence q ≡ true → allows fs o.precedence (grows o.kind) ≡ true →
     after n (Operates s o) t q fs ≡ behind_operator n (right o.kind) s o t fs
 after_operator n s o t q [] e h = rw e
@@ -97,16 +100,16 @@ after_operator n s o t q (Waiting part side p ∷ fs) e h = rw (ends_or_takes si
 
 -- an operator with a right argument waits for it
 pub behind_infix :
-    (n : ℕ) (side : Side) (s : List ℕ) (o : Operator) (t : Option RawTree) (q : ℕ) (b : Bool) (fs : List Frame) →
+    (n : ℕ) (side : Side) (s : List ℕ) (o : Operator) (t : Option (List RawTree)) (q : ℕ) (b : Bool) (fs : List Frame) →
     ends side o.precedence q b ≡ true →
-    behind_operator n side s o t fs ≡ operand (Waiting (Infix s t) side o.precedence ∷ fs)
+    behind_operator n side s o t fs ≡ operand (Waiting (Infix s (whole_of n t)) side o.precedence ∷ fs)
 behind_infix n Nothing s o t q b fs h = cc
 behind_infix n Below s o t q b fs h = refl
 behind_infix n UpTo s o t q b fs h = refl
 
 -- a token that ends the term that a part becomes
 pub after_waiting :
-    (n : ℕ) (f : Follow) (part : Part) (side : Side) (p q : ℕ) (t u : Option RawTree) (fs : List Frame) →
+    (n : ℕ) (f : Follow) (part : Part) (side : Side) (p q : ℕ) (t u : Option (List RawTree)) (fs : List Frame) →
     closes f p ≡ true → whole n part t ≡ u → after n f t q (Waiting part side p ∷ fs) ≡ after n f u p fs
 after_waiting n f part side p q t u fs c e = rw (c, e)
 

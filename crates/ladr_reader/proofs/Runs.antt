@@ -7,20 +7,20 @@ use Rattle.fol_core.specs.RawView.{raw_of}
 use Rattle.fol_core.specs.declared.raw.Raw.{Raw}
 use Rattle.ladr_lex.specs.Lexeme.{Lexeme, unreadable, lexeme_of, lexemes_of}
 use Rattle.ladr_lex.specs.declared.token.Token.{Token}
-use Rattle.ladr_reader.specs.Capped.{capped}
-use Rattle.ladr_reader.specs.Faults.{IsTermFault}
+use Rattle.ladr_reader.specs.Capped.{built, disjuncts}
+use Rattle.ladr_reader.specs.Faults.{IsTermFault, IsFaultWhere}
 use Rattle.ladr_reader.specs.Machine.{State, standing, step, next, go}
 use Rattle.ladr_reader.specs.Nesting.{most_open, nesting}
 use Rattle.ladr_reader.specs.Reads.{Item, Begins, IsBadToken}
 use Rattle.ladr_reader.specs.Table.{Table}
 use Rattle.ladr_reader.specs.declared.fault.TermFault.{TermFault}
-use Rattle.ladr_reader.specs.declared.fault.TermFault.TheVariants.{Deep}
+use Rattle.ladr_reader.specs.declared.fault.TermFault.TheVariants.{Bad, Deep, Memory}
 use Rattle.ladr_reader.specs.declared.place.Place.{Place}
 use Rattle.ladr_reader.specs.declared.place.Place.TheVariants.{Done}
 use Rattle.ladr_reader.specs.declared.stack.Frame.{Frame}
 use Rattle.ladr_reader.proofs.Complete.{item_read, place_of}
 use Rattle.ladr_reader.proofs.Lawful.{Lawful}
-use Rattle.ladr_reader.proofs.Levels.{uncapped}
+use Rattle.ladr_reader.proofs.Levels.{unbuilt}
 use Rattle.ladr_reader.proofs.Live.{HasNames, begins}
 use Rattle.ladr_reader.proofs.Moves.{operand, go_append}
 use Rattle.ladr_reader.proofs.Sound.{runs, sound}
@@ -98,7 +98,7 @@ bad_at n g lawful names ts i place fs h e stuck = (
 pub bad_end :
     (n : ℕ) (g : Table) → Lawful g → HasNames g → (ts : List Lexeme) (k : ℕ) (place : Place) (fs : List Frame) →
     length ts ≡ k → go n g (operand []) (take k ts) ≡ standing (Some place) fs →
-    ((t : Option RawTree) (q : ℕ) → place ≡ Done t q → ⊥) → IsBadAt g ts k
+    ((t : Option (List RawTree)) (q : ℕ) → place ≡ Done t q → ⊥) → IsBadAt g ts k
 bad_end n g lawful names ts k place fs l e other =
     let whole : take k ts ≡ ts = take_all k ts (omega arith) in (
       record {
@@ -106,15 +106,15 @@ bad_end n g lawful names ts k place fs l e other =
         before = begins n g lawful names place fs (take k ts) (runs n g lawful (take k ts) place fs e);
         here = λ h. absurd (omega arith);
       },
-      λ t item. other (capped n t) item.precedence
+      λ t item. other (built n t) item.precedence
           (ap place_of (sym e ∙ ap (λ (xs : List Lexeme). go n g (operand []) xs) whole ∙ item_read n g item)),
     )
 
 -- what the tokens are where the machine stands behind an item
 pub done_item :
-    (n : ℕ) (g : Table) → Lawful g → (ts : List Lexeme) (i : ℕ) (place : Place) (fs : List Frame) (t : Option RawTree)
+    (n : ℕ) (g : Table) → Lawful g → (ts : List Lexeme) (i : ℕ) (place : Place) (fs : List Frame) (t : Option (List RawTree))
     (q : ℕ) → length ts ≤ i → go n g (operand []) (take i ts) ≡ standing (Some place) fs → place ≡ Done t q →
-    (u : RawTree) × (t ≡ capped n u) × Item g ts u
+    (u : RawTree) × (t ≡ built n u) × Item g ts u
 done_item n g lawful ts i place fs t q h e d =
     sound n g lawful ts t q fs
     (ap (λ (xs : List Lexeme). go n g (operand []) xs) (sym (take_all i ts h))
@@ -148,13 +148,19 @@ answered g ts t n (Err fault) item e ok err = (
   subst (IsTermFault g ts) (sym err.0) (t, item, subst (λ (k : ℕ). 500 < max (depth t) k) e err.1),
 )
 
+-- where no term is too deep nothing is said of depth
+pub never_deep : (IsDeep : RawTree → Type 0) (g : Table) (ts : List Lexeme) (f : TermFault) → IsFaultWhere (λ _. ⊥) g ts f → IsFaultWhere IsDeep g ts f
+never_deep IsDeep g ts (Bad k) h = h
+never_deep IsDeep g ts Deep h = absurd h.2
+never_deep IsDeep g ts Memory h = tt
+
 -- what a run over given tokens tells
 pub run_item :
     (g : Table) → Lawful g → (ts : List Lexeme) (t : RawTree) (q : ℕ) →
-    go 500 g (operand []) ts ≡ standing (Some (Done (Some t) q)) [] → Item g ts t
+    go 500 g (operand []) ts ≡ standing (Some (Done (Some (disjuncts t)) q)) [] → Item g ts t
 run_item g lawful ts t q e =
-    let read = sound 500 g lawful ts (Some t) q [] e in
-    let same : read.0 ≡ t = uncapped 500 read.0 t (sym read.1) in
+    let read = sound 500 g lawful ts (Some (disjuncts t)) q [] e in
+    let same : read.0 ≡ t = unbuilt 500 read.0 t (sym read.1) in
     subst (Item g ts) same read.2
 
 pub stuck_item : (g : Table) (ts : List Lexeme) → go 500 g (operand []) ts ≡ None → (t : RawTree) → ¬ Item g ts t

@@ -5,7 +5,7 @@ use Rattle.fol_core.specs.declared.raw.Quantifier.{Quantifier}
 use Rattle.ladr_lex.specs.Lexeme.{Sort, Lexeme, open_paren, close_paren, comma, full_stop, symbol}
 use Rattle.ladr_lex.specs.Operators.{if_prefix, if_after}
 use Rattle.ladr_lex.specs.declared.operators.Operator.{Operator}
-use Rattle.ladr_reader.specs.Capped.{capped, with_argument, application}
+use Rattle.ladr_reader.specs.Capped.{with_argument, whole_of, built, finished}
 use Rattle.ladr_reader.specs.Machine.{State, standing, start_of, start_of_symbol, follow_of, follow_of_symbol, variable_of, allows, closes, whole, begin, bind, behind_operator, behind_close, behind_comma, behind_stop, behind_name, act, after, step, next, go}
 use Rattle.ladr_reader.specs.Reads.{Reads, atom, applied, group, bound, prefixed, postfixed, infixed, ReadsAll, single, further, Item}
 use Rattle.ladr_reader.specs.Table.{Table, left, right, takes, grows, ends, tree_grows}
@@ -18,14 +18,14 @@ use Rattle.ladr_reader.specs.declared.stack.Frame.TheVariants.{Group, Applied, W
 use Rattle.ladr_reader.specs.declared.stack.Part.{Part}
 use Rattle.ladr_reader.specs.declared.stack.Part.TheVariants.{Prefix, Infix, Quantified}
 use Rattle.ladr_reader.proofs.Lawful.{Lawful, after_own, prefix_room, below_room, up_to_room, reads_at_most}
-use Rattle.ladr_reader.proofs.Levels.{all_capped, none_capped, with_capped, application_capped, quantification_capped}
+use Rattle.ladr_reader.proofs.Levels.{all_capped, none_capped, with_capped, whole_built, finished_built, quantification_built}
 use Rattle.ladr_reader.proofs.Moves.{operand, prefix_whole, infix_whole, prefix_grows}
 use Rattle.ladr_reader.proofs.Splits.{Split, longer, joined, pushed, changed}
 
 -- what is built is the tree of the tokens, a term that may stand on top of what waits
-pub record Becomes (n : ℕ) (g : Table) (fs : List Frame) (built : Option RawTree) (p : ℕ) (ts : List Lexeme) : Type 0 where
+pub record Becomes (n : ℕ) (g : Table) (fs : List Frame) (made : Option (List RawTree)) (p : ℕ) (ts : List Lexeme) : Type 0 where
   pub tree : RawTree
-  pub is : built ≡ capped n tree
+  pub is : made ≡ built n tree
   pub reads : Reads g ts tree p
   pub fits : allows fs p (tree_grows g tree) ≡ true
 
@@ -33,7 +33,7 @@ pub record Becomes (n : ℕ) (g : Table) (fs : List Frame) (built : Option RawTr
 pub record Waits (n : ℕ) (g : Table) (fs : List Frame) (part : Part) (side : Side) (p : ℕ) (ts : List Lexeme) : Type 0 where
   pub becomes :
       (xs : List Lexeme) (t : RawTree) (q : ℕ) → Reads g xs t q → ends side p q (tree_grows g t) ≡ true →
-      Becomes n g fs (whole n part (capped n t)) p (ts ++ xs)
+      Becomes n g fs (whole n part (built n t)) p (ts ++ xs)
   pub room : (b : Bool) → ends side p 0 b ≡ true
 
 -- arguments, each with its comma
@@ -49,14 +49,14 @@ pub record IsName (g : Table) (s : List ℕ) (ts : List Lexeme) : Type 0 where
   pub is : ts ≡ symbol sort s ∷ []
 
 -- such a symbol, an open parenthesis and arguments
-pub record HasArguments (n : ℕ) (g : Table) (s : List ℕ) (built : Option (List RawTree)) (ts : List Lexeme) : Type 0 where
+pub record HasArguments (n : ℕ) (g : Table) (s : List ℕ) (made : Option (List RawTree)) (ts : List Lexeme) : Type 0 where
   pub sort : Sort
   pub no_word : g.word s ≡ None
   pub no_prefix : if_prefix (g.op s) ≡ None
   pub tokens : List Lexeme
   pub trees : List RawTree
   pub given : Given g tokens trees
-  pub is_built : built ≡ all_capped n trees
+  pub is_built : made ≡ all_capped n trees
   pub is : ts ≡ symbol sort s ∷ open_paren ∷ tokens
 
 -- a word whose term may stand on top of what waits
@@ -68,9 +68,9 @@ pub record IsWord (g : Table) (fs : List Frame) (w : Quantifier) (ts : List Lexe
   pub is : ts ≡ symbol sort name ∷ []
 
 -- a readable item
-pub record IsItem (n : ℕ) (g : Table) (built : Option RawTree) (ts : List Lexeme) : Type 0 where
+pub record IsItem (n : ℕ) (g : Table) (made : Option (List RawTree)) (ts : List Lexeme) : Type 0 where
   pub tree : RawTree
-  pub is : built ≡ capped n tree
+  pub is : made ≡ built n tree
   pub item : Item g ts tree
 
 -- the tokens of all that waits
@@ -120,7 +120,7 @@ given_more g {xs = xs} (some {ts} rs) r h = rw (append_assoc ts (comma ∷ []) x
 -- behind a name the machine goes on as behind an atom
 behind_symbol :
     (n : ℕ) (o : Option Operator) (r s : List ℕ) (fs : List Frame) →
-    behind_name n (follow_of_symbol o r) s fs ≡ after n (follow_of_symbol o r) (capped n (named s no_raws)) 0 fs
+    behind_name n (follow_of_symbol o r) s fs ≡ after n (follow_of_symbol o r) (built n (named s no_raws)) 0 fs
 behind_symbol n None r s fs = refl
 behind_symbol n (Some o) r s fs = refl
 
@@ -172,7 +172,7 @@ module _ (n : ℕ) (g : Table) (lawful : Lawful g) where
       (λ bs b. record {
         becomes = λ xs t q r l. record {
           tree = quantified w y t;
-          is = quantification_capped n w y t;
+          is = quantification_built n w y t;
           reads = rw b.is (bound b.sort j w b.name y b.is_word e r l);
           fits = b.fits;
         };
@@ -187,7 +187,7 @@ module _ (n : ℕ) (g : Table) (lawful : Lawful g) where
 
   -- behind a term and a closing parenthesis
   pub closed :
-      (fs : List Frame) (vs : List Lexeme) (t : Option RawTree) (q : ℕ) → Split (Spells n g fs) (Becomes n g fs t q) vs →
+      (fs : List Frame) (vs : List Lexeme) (t : Option (List RawTree)) (q : ℕ) → Split (Spells n g fs) (Becomes n g fs t q) vs →
       MayBe n g (behind_close n t fs) (vs ++ close_paren ∷ [])
   closed [] vs t q h = tt
   closed (Waiting part side p ∷ fs) vs t q h = tt
@@ -203,13 +203,13 @@ module _ (n : ℕ) (g : Table) (lawful : Lawful g) where
       }))
       (λ bs b. b)
   closed (Applied s us ∷ fs) vs t q h =
-      let built : Option RawTree = application n s (with_argument us t) in
-      let C : List Lexeme → Type 0 = λ xs. Becomes n g fs built 0 (xs ++ close_paren ∷ []) in
-      longer (Spells n g fs) C (Becomes n g fs built 0) vs (close_paren ∷ [])
+      let made : Option (List RawTree) = finished n s us t in
+      let C : List Lexeme → Type 0 = λ xs. Becomes n g fs made 0 (xs ++ close_paren ∷ []) in
+      longer (Spells n g fs) C (Becomes n g fs made 0) vs (close_paren ∷ [])
       (joined (Spells n g fs) (HasArguments n g s us) (Becomes n g (Applied s us ∷ fs) t q) C vs h
       (λ ws bs w b. record {
         tree = named s (raws_of (w.trees ++ b.tree ∷ []));
-        is = rw (w.is_built, b.is, with_capped, application_capped);
+        is = (λ i. finished n s (w.is_built i) (b.is i)) ∙ finished_built n s w.trees b.tree;
         reads = rw w.is (applied w.sort s w.no_word w.no_prefix (given_more g w.given b.reads (reads_at_most g lawful b.reads)));
         fits = fits_zero n g fs h.is_front.front (tree_grows g (named s (raws_of (w.trees ++ b.tree ∷ [])))) h.is_front.is_front;
       }))
@@ -217,14 +217,14 @@ module _ (n : ℕ) (g : Table) (lawful : Lawful g) where
 
   -- behind a term and a comma
   separated :
-      (fs : List Frame) (vs : List Lexeme) (t : Option RawTree) (q : ℕ) → Split (Spells n g fs) (Becomes n g fs t q) vs →
-      MayBe n g (behind_comma t fs) (vs ++ comma ∷ [])
+      (fs : List Frame) (vs : List Lexeme) (t : Option (List RawTree)) (q : ℕ) → Split (Spells n g fs) (Becomes n g fs t q) vs →
+      MayBe n g (behind_comma n t fs) (vs ++ comma ∷ [])
   separated [] vs t q h = tt
   separated (Waiting part side p ∷ fs) vs t q h = tt
   separated (Group ∷ fs) vs t q h = tt
   separated (Applied s us ∷ fs) vs t q h =
-      let C : List Lexeme → Type 0 = λ xs. HasArguments n g s (with_argument us t) (xs ++ comma ∷ []) in
-      longer (Spells n g fs) C (HasArguments n g s (with_argument us t)) vs (comma ∷ [])
+      let C : List Lexeme → Type 0 = λ xs. HasArguments n g s (with_argument us (whole_of n t)) (xs ++ comma ∷ []) in
+      longer (Spells n g fs) C (HasArguments n g s (with_argument us (whole_of n t))) vs (comma ∷ [])
       (joined (Spells n g fs) (HasArguments n g s us) (Becomes n g (Applied s us ∷ fs) t q) C vs h
       (λ ws bs w b. record {
         sort = w.sort;
@@ -233,14 +233,16 @@ module _ (n : ℕ) (g : Table) (lawful : Lawful g) where
         tokens = (w.tokens ++ bs) ++ comma ∷ [];
         trees = w.trees ++ b.tree ∷ [];
         given = some (given_more g w.given b.reads (reads_at_most g lawful b.reads));
-        is_built = rw (w.is_built, b.is, with_capped);
+        is_built = (λ i. with_argument (w.is_built i) (whole_of n (b.is i)))
+            ∙ ap (with_argument (all_capped n w.trees)) (whole_built n b.tree)
+            ∙ with_capped n w.trees b.tree;
         is = ap (λ (ts : List Lexeme). (ts ++ bs) ++ comma ∷ []) w.is;
       }))
       (λ bs b. b)
 
   -- behind a term and a full stop
   pub stopped :
-      (fs : List Frame) (vs : List Lexeme) (t : Option RawTree) (q : ℕ) → Split (Spells n g fs) (Becomes n g fs t q) vs →
+      (fs : List Frame) (vs : List Lexeme) (t : Option (List RawTree)) (q : ℕ) → Split (Spells n g fs) (Becomes n g fs t q) vs →
       MayBe n g (behind_stop t q fs) (vs ++ full_stop ∷ [])
   stopped (f ∷ fs) vs t q h = tt
   stopped [] vs t q h =
@@ -259,15 +261,16 @@ module _ (n : ℕ) (g : Table) (lawful : Lawful g) where
 
   -- an infix operator waits for its right argument
   infix_waits :
-      (k : Sort) (s : List ℕ) (o : Operator) (fs : List Frame) (t : Option RawTree) (q : ℕ) (side : Side) →
+      (k : Sort) (s : List ℕ) (o : Operator) (fs : List Frame) (t : Option (List RawTree)) (q : ℕ) (side : Side) →
       right o.kind ≡ side → ((b : Bool) → ends side o.precedence 0 b ≡ true) → if_after (g.op s) ≡ Some o →
       takes (left o.kind) o.precedence q ≡ true → allows fs o.precedence (grows o.kind) ≡ true →
-      (bs : List Lexeme) → Becomes n g fs t q bs → Waits n g fs (Infix s t) side o.precedence (bs ++ symbol k s ∷ [])
+      (bs : List Lexeme) → Becomes n g fs t q bs → Waits n g fs (Infix s (whole_of n t)) side o.precedence (bs ++ symbol k s ∷ [])
   infix_waits k s o fs t q side d room e takes_it fits bs b =
       record {
         becomes = λ xs u p r l. record {
           tree = named s (raws_of (b.tree ∷ u ∷ []));
-          is = rw b.is (infix_whole n s b.tree u);
+          is = ap (λ (z : Option RawTree). whole n (Infix s z) (built n u)) (ap (whole_of n) b.is ∙ whole_built n b.tree)
+              ∙ infix_whole n s b.tree u;
           reads = rw (append_assoc bs (symbol k s ∷ []) xs) (infixed k s o e b.reads takes_it r (rw d l));
           fits = rw e fits;
         };
@@ -275,28 +278,28 @@ module _ (n : ℕ) (g : Table) (lawful : Lawful g) where
       }
 
   operated :
-      (k : Sort) (s : List ℕ) (o : Operator) (fs : List Frame) (vs : List Lexeme) (t : Option RawTree) (q : ℕ) →
+      (k : Sort) (s : List ℕ) (o : Operator) (fs : List Frame) (vs : List Lexeme) (t : Option (List RawTree)) (q : ℕ) →
       Split (Spells n g fs) (Becomes n g fs t q) vs → if_after (g.op s) ≡ Some o →
       takes (left o.kind) o.precedence q ≡ true → allows fs o.precedence (grows o.kind) ≡ true →
       (side : Side) → right o.kind ≡ side → MayBe n g (behind_operator n side s o t fs) (vs ++ symbol k s ∷ [])
   operated k s o fs vs t q h e takes_it fits Nothing d =
-      longer (Spells n g fs) (Becomes n g fs t q) (Becomes n g fs (application n s (with_argument (Some []) t)) o.precedence) vs (symbol k s ∷ []) h
+      longer (Spells n g fs) (Becomes n g fs t q) (Becomes n g fs (finished n s (Some []) t) o.precedence) vs (symbol k s ∷ []) h
       (λ bs b. record {
         tree = named s (raws_of (b.tree ∷ []));
-        is = rw b.is (prefix_whole n s b.tree);
+        is = ap (finished n s (Some [])) b.is ∙ prefix_whole n s b.tree;
         reads = postfixed k s o e d b.reads takes_it;
         fits = rw e fits;
       })
   operated k s o fs vs t q h e takes_it fits Below d =
-      longer (Spells n g fs) (Becomes n g fs t q) (Waits n g fs (Infix s t) Below o.precedence) vs (symbol k s ∷ []) h
+      longer (Spells n g fs) (Becomes n g fs t q) (Waits n g fs (Infix s (whole_of n t)) Below o.precedence) vs (symbol k s ∷ []) h
       (infix_waits k s o fs t q Below d (λ b. below_room o.precedence b (after_own g lawful s o e).0) e takes_it fits)
   operated k s o fs vs t q h e takes_it fits UpTo d =
-      longer (Spells n g fs) (Becomes n g fs t q) (Waits n g fs (Infix s t) UpTo o.precedence) vs (symbol k s ∷ []) h
+      longer (Spells n g fs) (Becomes n g fs t q) (Waits n g fs (Infix s (whole_of n t)) UpTo o.precedence) vs (symbol k s ∷ []) h
       (infix_waits k s o fs t q UpTo d (λ b. up_to_room o.precedence b (after_own g lawful s o e).0) e takes_it fits)
 
   -- behind a term and a symbol
   symbol_acts :
-      (k : Sort) (s : List ℕ) (fs : List Frame) (vs : List Lexeme) (t : Option RawTree) (q : ℕ) →
+      (k : Sort) (s : List ℕ) (fs : List Frame) (vs : List Lexeme) (t : Option (List RawTree)) (q : ℕ) →
       Split (Spells n g fs) (Becomes n g fs t q) vs → (o : Option Operator) → if_after (g.op s) ≡ o →
       MayBe n g (act n (follow_of_symbol o s) t q fs) (vs ++ symbol k s ∷ [])
   symbol_acts k s fs vs t q h None e = tt
@@ -307,7 +310,7 @@ module _ (n : ℕ) (g : Table) (lawful : Lawful g) where
       (λ both. operated k s o fs vs t q h e (both_left a c both) (both_right a c both) (right o.kind) refl)
 
   acts :
-      (x : Lexeme) (fs : List Frame) (vs : List Lexeme) (t : Option RawTree) (q : ℕ) →
+      (x : Lexeme) (fs : List Frame) (vs : List Lexeme) (t : Option (List RawTree)) (q : ℕ) →
       Split (Spells n g fs) (Becomes n g fs t q) vs → MayBe n g (act n (follow_of g x) t q fs) (vs ++ x ∷ [])
   acts close_paren fs vs t q h = closed fs vs t q h
   acts comma fs vs t q h = separated fs vs t q h
@@ -317,7 +320,7 @@ module _ (n : ℕ) (g : Table) (lawful : Lawful g) where
 
   -- a part with its last argument
   pub ended :
-      (part : Part) (side : Side) (p : ℕ) (fs : List Frame) (vs : List Lexeme) (t : Option RawTree) (q : ℕ) →
+      (part : Part) (side : Side) (p : ℕ) (fs : List Frame) (vs : List Lexeme) (t : Option (List RawTree)) (q : ℕ) →
       Split (Spells n g (Waiting part side p ∷ fs)) (Becomes n g (Waiting part side p ∷ fs) t q) vs →
       Split (Spells n g fs) (Becomes n g fs (whole n part t) p) vs
   ended part side p fs vs t q h =
@@ -326,7 +329,7 @@ module _ (n : ℕ) (g : Table) (lawful : Lawful g) where
 
   -- behind a term
   follows :
-      (x : Lexeme) (fs : List Frame) (vs : List Lexeme) (t : Option RawTree) (q : ℕ) →
+      (x : Lexeme) (fs : List Frame) (vs : List Lexeme) (t : Option (List RawTree)) (q : ℕ) →
       Split (Spells n g fs) (Becomes n g fs t q) vs → MayBe n g (after n (follow_of g x) t q fs) (vs ++ x ∷ [])
   follows x [] vs t q h = acts x [] vs t q h
   follows x (Group ∷ fs) vs t q h = acts x (Group ∷ fs) vs t q h
@@ -338,9 +341,9 @@ module _ (n : ℕ) (g : Table) (lawful : Lawful g) where
 
   pub as_atom :
       (s : List ℕ) (fs : List Frame) (vs : List Lexeme) → Split (Spells n g fs) (IsName g s) vs →
-      Split (Spells n g fs) (Becomes n g fs (capped n (named s no_raws)) 0) vs
+      Split (Spells n g fs) (Becomes n g fs (built n (named s no_raws)) 0) vs
   as_atom s fs vs h =
-      changed (Spells n g fs) (IsName g s) (Becomes n g fs (capped n (named s no_raws)) 0) vs h
+      changed (Spells n g fs) (IsName g s) (Becomes n g fs (built n (named s no_raws)) 0) vs h
       (λ bs b. record {
         tree = named s no_raws;
         is = refl;
@@ -365,8 +368,8 @@ module _ (n : ℕ) (g : Table) (lawful : Lawful g) where
         is = ap (λ (ts : List Lexeme). ts ++ open_paren ∷ []) b.is;
       })
   names (symbol k r) s fs vs h =
-      rw (behind_symbol n (if_after (g.op r)) r s fs) (follows (symbol k r) fs vs (capped n (named s no_raws)) 0 (as_atom s fs vs h))
-  names x s fs vs h = follows x fs vs (capped n (named s no_raws)) 0 (as_atom s fs vs h)
+      rw (behind_symbol n (if_after (g.op r)) r s fs) (follows (symbol k r) fs vs (built n (named s no_raws)) 0 (as_atom s fs vs h))
+  names x s fs vs h = follows x fs vs (built n (named s no_raws)) 0 (as_atom s fs vs h)
 
   steps : (x : Lexeme) (place : Place) (fs : List Frame) (vs : List Lexeme) → IsAt n g place fs vs → MayBe n g (step n g place fs x) (vs ++ x ∷ [])
   steps x Operand fs vs h = starts x fs vs h
@@ -391,7 +394,7 @@ module _ (n : ℕ) (g : Table) (lawful : Lawful g) where
 
   -- what a run from the start makes of tokens that end an item
   pub sound :
-      (xs : List Lexeme) (t : Option RawTree) (q : ℕ) (fs : List Frame) →
-      go n g (operand []) xs ≡ standing (Some (Done t q)) fs → (u : RawTree) × (t ≡ capped n u) × Item g xs u
+      (xs : List Lexeme) (t : Option (List RawTree)) (q : ℕ) (fs : List Frame) →
+      go n g (operand []) xs ≡ standing (Some (Done t q)) fs → (u : RawTree) × (t ≡ built n u) × Item g xs u
   sound xs t q fs e =
       let i = runs xs (Done t q) fs e in (i.tree, i.is, i.item)

@@ -1,16 +1,27 @@
 -- Why tokens have no term.
-use Rattle.std.specs.Prelude.{◌<◌, List}
+use Rattle.std.specs.Prelude.{◌≡◌, ℕ, ◌<◌, List, Option}
 use Rattle.fol_core.specs.RawTree.{RawTree}
 use Rattle.ladr_lex.specs.Lexeme.{Lexeme}
-use Rattle.ladr_reader.specs.Nesting.{nesting}
+use Rattle.ladr_reader.specs.Capped.{built}
+use Rattle.ladr_reader.specs.Nesting.{nesting, most_open}
 use Rattle.ladr_reader.specs.Reads.{Item, IsBadToken}
 use Rattle.ladr_reader.specs.Table.{Table}
 use Rattle.ladr_reader.specs.declared.fault.TermFault.{TermFault}
 use Rattle.ladr_reader.specs.declared.fault.TermFault.TheVariants.{Bad, Deep, Memory}
 
--- The tokens are no item, and this one is the first bad one; they are one that is nested deeper than 500; nothing is said of
--- memory.
+-- The tokens are no item, and this one is the first bad one; they are one whose term is too deep; nothing is said of memory.
+abbrev pub IsFaultWhere : (RawTree → Type 0) → Table → List Lexeme → TermFault → Type 0
+IsFaultWhere IsDeep g ts (Bad k) = IsBadToken g ts k × ((t : RawTree) → ¬ Item g ts t)
+IsFaultWhere IsDeep g ts Deep = (t : RawTree) × Item g ts t × IsDeep t
+IsFaultWhere IsDeep g ts Memory = Unit {0}
+
+-- a term is too deep where it is nested deeper than 500
 abbrev pub IsTermFault : Table → List Lexeme → TermFault → Type 0
-IsTermFault g ts (Bad k) = IsBadToken g ts k × ((t : RawTree) → ¬ Item g ts t)
-IsTermFault g ts Deep = (t : RawTree) × Item g ts t × (500 < nesting ts t)
-IsTermFault g ts Memory = Unit {0}
+IsTermFault g ts fault = IsFaultWhere (λ t. 500 < nesting ts t) g ts fault
+
+-- the tokens are an item, of whose term this is built, and so many parentheses are open at once
+pub record IsRead (n : ℕ) (g : Table) (ts : List Lexeme) (term : Option (List RawTree)) (most : ℕ) : Type 0 where
+  pub tree : RawTree
+  pub item : Item g ts tree
+  pub term_is : term ≡ built n tree
+  pub most_is : most ≡ most_open 0 ts

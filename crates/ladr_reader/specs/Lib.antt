@@ -1,4 +1,7 @@
 pub mod Capped
+pub mod ClauseIn
+pub mod Literals
+pub mod DisjunctView
 pub mod Faults
 pub mod Formulas
 pub mod Machine

@@ -1,11 +1,11 @@
 -- One pass over the tokens, with a stack of what waits for more of them.
 use Rattle.std.specs.Prelude.{ℕ, Bool, true, false, ◌&&◌, List, [], ◌∷◌, Option, Some, None, if◌then◌else◌}
-use Rattle.fol_core.specs.RawTree.{RawTree}
+use Rattle.fol_core.specs.RawTree.{RawTree, named, no_raws}
 use Rattle.fol_core.specs.declared.raw.Quantifier.{Quantifier}
 use Rattle.ladr_lex.specs.Lexeme.{Sort, Lexeme, open_paren, close_paren, comma, full_stop, symbol}
 use Rattle.ladr_lex.specs.Operators.{if_prefix, if_after}
 use Rattle.ladr_lex.specs.declared.operators.Operator.{Operator}
-use Rattle.ladr_reader.specs.Capped.{with_argument, application, quantification}
+use Rattle.ladr_reader.specs.Capped.{with_argument, quantification, whole_of, single, built, finished}
 use Rattle.ladr_reader.specs.Table.{Table, left, right, takes, grows, ends}
 use Rattle.ladr_reader.specs.declared.place.Place.{Place}
 use Rattle.ladr_reader.specs.declared.place.Place.TheVariants.{Operand, Named, Word, Term, Done}
@@ -86,11 +86,13 @@ abbrev pub first : List Frame → Option Frame
 first [] = None
 first (f ∷ fs) = Some f
 
+-- Terms stand here as the machine builds them: by their disjuncts, or nothing where one has more than n levels.
+
 -- the term that a part becomes with its last argument
-abbrev pub whole : ℕ → Part → Option RawTree → Option RawTree
-whole n (Prefix s) t = application n s (with_argument (Some []) t)
-whole n (Infix s u) t = application n s (with_argument (with_argument (Some []) u) t)
-whole n (Quantified q x) t = quantification n q x t
+abbrev pub whole : ℕ → Part → Option (List RawTree) → Option (List RawTree)
+whole n (Prefix s) t = finished n s (Some []) t
+whole n (Infix s u) t = finished n s (with_argument (Some []) u) t
+whole n (Quantified q x) t = single (quantification n q x (whole_of n t))
 
 -- before an operand
 abbrev pub begin : Start → List Frame → Option State
@@ -109,36 +111,35 @@ bind w None fs = None
 bind w (Some x) fs = standing (Some Operand) (Waiting (Quantified w x) UpTo 750 ∷ fs)
 
 -- behind a term and an operator with this right side
-abbrev pub behind_operator : ℕ → Side → List ℕ → Operator → Option RawTree → List Frame → Option State
-behind_operator n Nothing s o t fs =
-    standing (Some (Term (application n s (with_argument (Some []) t)) o.precedence)) fs
-behind_operator n Below s o t fs = standing (Some Operand) (Waiting (Infix s t) Below o.precedence ∷ fs)
-behind_operator n UpTo s o t fs = standing (Some Operand) (Waiting (Infix s t) UpTo o.precedence ∷ fs)
+abbrev pub behind_operator : ℕ → Side → List ℕ → Operator → Option (List RawTree) → List Frame → Option State
+behind_operator n Nothing s o t fs = standing (Some (Term (finished n s (Some []) t) o.precedence)) fs
+behind_operator n Below s o t fs = standing (Some Operand) (Waiting (Infix s (whole_of n t)) Below o.precedence ∷ fs)
+behind_operator n UpTo s o t fs = standing (Some Operand) (Waiting (Infix s (whole_of n t)) UpTo o.precedence ∷ fs)
 
 -- behind a term and a closing parenthesis
-abbrev pub behind_close : ℕ → Option RawTree → List Frame → Option State
+abbrev pub behind_close : ℕ → Option (List RawTree) → List Frame → Option State
 behind_close n t [] = None
 behind_close n t (Group ∷ fs) = standing (Some (Term t 0)) fs
-behind_close n t (Applied s us ∷ fs) = standing (Some (Term (application n s (with_argument us t)) 0)) fs
+behind_close n t (Applied s us ∷ fs) = standing (Some (Term (finished n s us t) 0)) fs
 behind_close n t (Waiting part side p ∷ fs) = None
 
 -- behind a term and a comma
-abbrev pub behind_comma : Option RawTree → List Frame → Option State
-behind_comma t [] = None
-behind_comma t (Group ∷ fs) = None
-behind_comma t (Applied s us ∷ fs) = standing (Some Operand) (Applied s (with_argument us t) ∷ fs)
-behind_comma t (Waiting part side p ∷ fs) = None
+abbrev pub behind_comma : ℕ → Option (List RawTree) → List Frame → Option State
+behind_comma n t [] = None
+behind_comma n t (Group ∷ fs) = None
+behind_comma n t (Applied s us ∷ fs) = standing (Some Operand) (Applied s (with_argument us (whole_of n t)) ∷ fs)
+behind_comma n t (Waiting part side p ∷ fs) = None
 
 -- behind a term and a full stop
-abbrev pub behind_stop : Option RawTree → ℕ → List Frame → Option State
+abbrev pub behind_stop : Option (List RawTree) → ℕ → List Frame → Option State
 behind_stop t q [] = standing (Some (Done t q)) []
 behind_stop t q (f ∷ fs) = None
 
 -- what a token does behind a term of precedence q, once it has ended what it may
-abbrev pub act : ℕ → Follow → Option RawTree → ℕ → List Frame → Option State
+abbrev pub act : ℕ → Follow → Option (List RawTree) → ℕ → List Frame → Option State
 act n Applies t q fs = None
 act n Closes t q fs = behind_close n t fs
-act n Separates t q fs = behind_comma t fs
+act n Separates t q fs = behind_comma n t fs
 act n Stops t q fs = behind_stop t q fs
 act n (Operates s o) t q fs =
     if takes (left o.kind) o.precedence q && allows fs o.precedence (grows o.kind)
@@ -147,7 +148,7 @@ act n (Operates s o) t q fs =
 act n FollowsNot t q fs = None
 
 -- behind a term of precedence q: the token ends what waits as far as it may, and acts then
-abbrev pub after : ℕ → Follow → Option RawTree → ℕ → List Frame → Option State
+abbrev pub after : ℕ → Follow → Option (List RawTree) → ℕ → List Frame → Option State
 after n f t q [] = act n f t q []
 after n f t q (Group ∷ fs) = act n f t q (Group ∷ fs)
 after n f t q (Applied s us ∷ fs) = act n f t q (Applied s us ∷ fs)
@@ -157,7 +158,7 @@ after n f t q (Waiting part side p ∷ fs) =
 -- behind a symbol: its arguments begin, or it is an atom
 abbrev pub behind_name : ℕ → Follow → List ℕ → List Frame → Option State
 behind_name n Applies s fs = standing (Some Operand) (Applied s (Some []) ∷ fs)
-behind_name n f s fs = after n f (application n s (Some [])) 0 fs
+behind_name n f s fs = after n f (built n (named s no_raws)) 0 fs
 
 -- one token more
 abbrev pub step : ℕ → Table → Place → List Frame → Lexeme → Option State

@@ -1,21 +1,25 @@
-// Trees that are built as long as they have at most 500 levels.
+// Trees that are built as long as they have few levels.
 ghost use Rattle.std.specs.Prelude.{◌≡◌, [], Some, IfOk};
 ghost use Rattle.std.specs.Option.{option_map};
 ghost use Rattle.fol_core.specs.RawView.{raw_of};
-ghost use Rattle.ladr_reader.specs.Capped.{with_argument, application, quantification};
+ghost use Rattle.ladr_reader.specs.Capped.{with_argument, application, quantification, is_one};
 
 use fol_core::{Name, Quantifier, Raw, RawSub, Raws};
 use std::alloc::{AllocError, Global};
 use std::marker::Model;
 
-/// The most levels that the tree of an item may have.
-pub const MOST_LEVELS: u16 = 500;
+/// How trees are built: where, and with how many levels at most.
+#[derive(Clone, Copy)]
+pub struct Build {
+    pub alloc: Global,
+    pub most: u16,
+}
 
 /// A tree, or nothing in place of one with too many levels; contracts see just that.
 #[derive(Drop)]
 pub struct Capped {
-    tree: Option<Raw>,
-    levels: u16,
+    pub tree: Option<Raw>,
+    pub levels: u16,
 }
 
 impl Model for Capped {
@@ -41,8 +45,8 @@ impl Model for Capped {
 /// The arguments of an application, or nothing where one has too many levels; contracts see just that.
 #[derive(Drop)]
 pub struct Arguments {
-    trees: Option<Raws>,
-    levels: u16,
+    pub trees: Option<Raws>,
+    pub levels: u16,
 }
 
 impl Model for Arguments {
@@ -72,6 +76,16 @@ impl Arguments {
         Arguments {
             trees: Some(Raws::new(alloc)),
             levels: 0,
+        }
+    }
+
+    /// Whether there is one.
+    pub fn is_one(&self) -> bool
+        ensures { result ≡ is_one self.now }
+    {
+        match &self.trees {
+            Some(trees) => trees.len() == 1,
+            None => false,
         }
     }
 
@@ -106,12 +120,12 @@ impl Arguments {
 
 impl Capped {
     /// A name with arguments.
-    pub fn application(name: Name, arguments: Arguments) -> Capped
-        ensures { result ≡ application 500 name arguments }
+    pub fn application(build: Build, name: Name, arguments: Arguments) -> Capped
+        ensures { result ≡ application build.most name arguments }
     {
         let Arguments { trees, levels } = arguments;
         match trees {
-            Some(trees) if levels < MOST_LEVELS => Capped {
+            Some(trees) if levels < build.most => Capped {
                 tree: Some(Raw::App(name, trees)),
                 levels: levels + 1,
             },
@@ -121,17 +135,17 @@ impl Capped {
 
     /// A quantifier with its variable and body.
     pub fn quantification(
-        alloc: Global,
+        build: Build,
         quantifier: Quantifier,
         variable: Name,
         body: Capped,
     ) -> Result<Capped, AllocError>
-        ensures { IfOk result (λ tree. tree ≡ quantification 500 quantifier variable body) }
+        ensures { IfOk result (λ tree. tree ≡ quantification build.most quantifier variable body) }
     {
         let Capped { tree, levels } = body;
         match tree {
-            Some(tree) if levels < MOST_LEVELS => {
-                let body = RawSub::new(alloc, tree)?;
+            Some(tree) if levels < build.most => {
+                let body = RawSub::new(build.alloc, tree)?;
                 Ok(Capped {
                     tree: Some(Raw::Quant(quantifier, variable, body)),
                     levels: levels + 1,
@@ -149,7 +163,8 @@ impl Capped {
         tree
     }
 
-    fn too_deep() -> Capped
+    /// Nothing, in place of a tree with too many levels.
+    pub fn too_deep() -> Capped
         ensures { result ≡ None }
     {
         Capped {

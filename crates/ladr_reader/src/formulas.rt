@@ -217,8 +217,13 @@ fn quantified(word: Quantifier, number: u64, body: Sub) -> Shape
 }
 
 #[tactic(auto, using(crate::proofs::TermLemmas::kept_both))]
-// The formula that is read from a term.
-fn formula(alloc: Global, raw: &Raw, style: Style, reader: &mut Reader) -> Result<Shape, AllocError>
+/// The formula that is read from a term.
+pub fn formula(
+    alloc: Global,
+    raw: &Raw,
+    style: Style,
+    reader: &mut Reader,
+) -> Result<Shape, AllocError>
     ensures read { IfOk result (λ shape. formula_in style reader.old.scope reader.old.reading (raw_of raw.now) ≡ record { tree = fol_of shape; reading = reader.new.reading }) }
     ensures scope { OnOk result (reader.new.scope ≡ reader.old.scope) }
     ensures kept { KeepsNumbers reader.old.reading.symbols reader.new.reading.symbols }

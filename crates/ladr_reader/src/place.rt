@@ -1,5 +1,5 @@
 // Where the reader stands.
-use crate::capped::Capped;
+use crate::disjuncts::Disjuncts;
 use fol_core::{Name, Quantifier};
 
 /// Where the reader stands: before an operand, behind a symbol that may get arguments, behind a quantifier's word,
@@ -9,6 +9,6 @@ pub enum Place {
     Operand,
     Named(Name),
     Word(Quantifier),
-    Term(Capped, u16),
-    Done(Capped, u16),
+    Term(Disjuncts, u16),
+    Done(Disjuncts, u16),
 }

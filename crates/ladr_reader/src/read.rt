@@ -1,15 +1,16 @@
 // The term that the tokens of an item are.
-ghost use Rattle.std.specs.Prelude.{◌≡◌, ◌≤◌, ◌<◌, max, IfOk, IfErr};
+ghost use Rattle.std.specs.Prelude.{◌≡◌, ◌≤◌, ◌<◌, max, true, false, IfOk, IfErr};
 ghost use Rattle.fol_core.specs.RawTree.{RawTree, depth};
-ghost use Rattle.fol_core.specs.RawView.{raw_of};
+ghost use Rattle.fol_core.specs.RawView.{raw_of, raw_list};
 ghost use Rattle.ladr_lex.specs.Lexeme.{lexemes_of};
-ghost use Rattle.ladr_reader.specs.Capped.{capped};
-ghost use Rattle.ladr_reader.specs.Faults.{IsTermFault};
-ghost use Rattle.ladr_reader.specs.Nesting.{nesting};
+ghost use Rattle.ladr_reader.specs.Capped.{capped, built, disjuncts, all_within};
+ghost use Rattle.ladr_reader.specs.Faults.{IsTermFault, IsFaultWhere, IsRead};
+ghost use Rattle.ladr_reader.specs.Nesting.{nesting, most_open};
 ghost use Rattle.ladr_reader.specs.Reads.{Item};
 ghost use Rattle.ladr_reader.specs.Table.{table_of};
 
-use crate::capped::Capped;
+use crate::capped::{Build, Capped};
+use crate::disjuncts::Disjuncts;
 use crate::fault::TermFault;
 use crate::nesting::Parentheses;
 use crate::place::Place;
@@ -18,6 +19,9 @@ use crate::step::step;
 use fol_core::Raw;
 use ladr_lex::{Ops, Token};
 use std::alloc::Global;
+
+/// The most levels that the tree of an item may have.
+const MOST_LEVELS: u16 = 500;
 
 /// The most parentheses that may be open at once.
 const MOST_OPEN: usize = 500;
@@ -30,13 +34,70 @@ pub fn read_term(alloc: Global, ops: &Ops, tokens: &[Token]) -> Result<Raw, Term
     ensures shallow { IfOk result (λ raw. nesting (lexemes_of tokens.now) (raw_of raw) ≤ 500) }
     ensures fault { IfErr result (IsTermFault (table_of ops.now) (lexemes_of tokens.now)) }
 {
+    let build = Build {
+        alloc,
+        most: MOST_LEVELS,
+    };
+    let (term, most_open) = read_disjuncts(build, ops, tokens)?;
+    let tree = term.into_whole(build)?;
+    shallow(tree, most_open)
+}
+
+/// The term that the tokens are, unless it has more levels than this; parentheses don't count.
+pub fn read_tree(alloc: Global, ops: &Ops, tokens: &[Token], most: u16) -> Result<Raw, TermFault>
+    ensures read { IfOk result (λ raw. Item (table_of ops.now) (lexemes_of tokens.now) (raw_of raw)) }
+    ensures shallow { IfOk result (λ raw. depth (raw_of raw) ≤ most) }
+    ensures fault { IfErr result
+        (IsFaultWhere (λ t. most < depth t) (table_of ops.now) (lexemes_of tokens.now)) }
+{
+    let build = Build { alloc, most };
+    let (term, _) = read_disjuncts(build, ops, tokens)?;
+    let tree = term.into_whole(build)?;
+    match tree.into_tree() {
+        Some(raw) => Ok(raw),
+        None => Err(TermFault::Deep),
+    }
+}
+
+/// The disjuncts of the term that the tokens are, between the `|` of its right spine, unless one of them has more levels than
+/// this; there may be many more of them than that.
+pub fn read_literals(
+    alloc: Global,
+    ops: &Ops,
+    tokens: &[Token],
+    most: u16,
+) -> Result<Vec<Raw>, TermFault>
+    ensures read { IfOk result (λ literals. (t : RawTree) × Item (table_of ops.now) (lexemes_of tokens.now) t
+        × (raw_list literals.items ≡ disjuncts t)) }
+    ensures shallow { IfOk result (λ literals. all_within most (raw_list literals.items) ≡ true) }
+    ensures fault { IfErr result
+        (IsFaultWhere (λ t. all_within most (disjuncts t) ≡ false) (table_of ops.now) (lexemes_of tokens.now)) }
+{
+    let build = Build { alloc, most };
+    let (term, _) = read_disjuncts(build, ops, tokens)?;
+    match term.into_literals()? {
+        Some(literals) => Ok(literals),
+        None => Err(TermFault::Deep),
+    }
+}
+
+// The term that the tokens are, by its disjuncts, and how many parentheses are open at once.
+fn read_disjuncts(
+    build: Build,
+    ops: &Ops,
+    tokens: &[Token],
+) -> Result<(Disjuncts, usize), TermFault>
+    ensures read { IfOk result (λ r.
+        IsRead build.most (table_of ops.now) (lexemes_of tokens.now) r.0 r.1) }
+    ensures fault { IfErr result (IsFaultWhere (λ _. ⊥) (table_of ops.now) (lexemes_of tokens.now)) }
+{
     ops.rows_are_lawful();
-    let mut stack = Stack::new(alloc);
+    let mut stack = Stack::new(build.alloc);
     let mut place = Place::Operand;
     let mut parentheses = Parentheses::new();
     for (i, token) in tokens.iter().enumerate() {
         parentheses.note(token);
-        match step(alloc, ops, &mut stack, place, token)? {
+        match step(build, ops, &mut stack, place, token)? {
             Some(next) => place = next,
             None => return Err(TermFault::Bad(i)),
         }
@@ -44,7 +105,7 @@ pub fn read_term(alloc: Global, ops: &Ops, tokens: &[Token]) -> Result<Raw, Term
     let Place::Done(term, _) = place else {
         return Err(TermFault::Bad(tokens.len()));
     };
-    shallow(term, parentheses.most())
+    Ok((term, parentheses.most()))
 }
 
 // The tree, unless the item is nested too deep.

@@ -15,4 +15,3 @@ pub use kbo::kbo_rule;
 pub use laws::{worked, worked_rules};
 pub use rules::{RuleRead, weight_rule};
 pub use shapes::{is_demodulator, is_hint};
-

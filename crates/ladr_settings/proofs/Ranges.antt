@@ -7,7 +7,7 @@ use Rattle.ladr_commands.specs.declared.command.Command.TheVariants as command
 use Rattle.ladr_commands.specs.declared.command.Value.{Value}
 use Rattle.ladr_commands.specs.declared.command.Value.TheVariants as value
 use Rattle.ladr_lex.specs.Operators.{breaks_row_5, breaks_row_6}
-use Rattle.ladr_named.specs.Good.{is_good}
+use Rattle.ladr_interpretations.specs.Good.{is_good}
 use Rattle.ladr_options.proofs.Ranges.{flagged_in_range, numbered_in_range, symbolized_in_range}
 use Rattle.ladr_options.specs.Options.{flagged, numbered, symbolized}
 use Rattle.ladr_options.specs.Ranges.{AreInRange}

@@ -12,7 +12,7 @@ use Rattle.ladr_commands.specs.declared.command.Command.TheVariants as command
 use Rattle.ladr_commands.specs.declared.command.Value.{Value}
 use Rattle.ladr_commands.specs.declared.command.Value.TheVariants as value
 use Rattle.ladr_lex.specs.Operators.{OperatorRow, standard_rows, breaks_row_5, breaks_row_6, declared}
-use Rattle.ladr_named.specs.Good.{is_good}
+use Rattle.ladr_interpretations.specs.Good.{is_good}
 use Rattle.ladr_options.specs.Options.{start, flagged, numbered, symbolized}
 use Rattle.ladr_options.specs.declared.options.Options.{Options}
 use Rattle.ladr_options.specs.declared.options.OptionError.{OptionError}

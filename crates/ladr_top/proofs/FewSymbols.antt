@@ -8,8 +8,8 @@ use Rattle.std.proofs.lemmas.Bool.Decides.{nat_tests}
 use Rattle.fol_core.specs.KboRows.{is_weighed}
 use Rattle.fol_core.specs.RawTree.{RawTree}
 use Rattle.fol_core.specs.Stated.{IsWellFormed}
-use Rattle.ladr_items.specs.Items.{lexemes, items_of}
-use Rattle.ladr_items.specs.ListItem.{closing, term}
+use Rattle.ladr_problem.specs.Items.{lexemes, items_of}
+use Rattle.ladr_problem.specs.ListItem.{closing, term}
 use Rattle.ladr_lex.specs.Cuts.{Piece}
 use Rattle.ladr_lex.specs.Lexeme.{Lexeme}
 use Rattle.ladr_problem.proofs.Good.{problem_good}

@@ -7,7 +7,7 @@ use Rattle.ladr_commands.specs.ByName.{ByName}
 use Rattle.ladr_io.specs.Streams.{greatest}
 use Rattle.ladr_lex.proofs.Unique.{cut_once}
 use Rattle.ladr_lex.specs.Places.{line_of, column_of}
-use Rattle.ladr_named.specs.Good.{tables_for}
+use Rattle.ladr_interpretations.specs.Good.{tables_for}
 use Rattle.ladr_problem.proofs.Once.{says_once}
 use Rattle.ladr_problem.specs.File as file
 use Rattle.ladr_problem.specs.File.{Outcome, Says, most_bytes}

@@ -3,7 +3,7 @@ use Rattle.std.specs.Prelude.{◌≡◌, Bool, List, [], ◌∷◌, MatchBool, S
 use Rattle.fol_core.specs.Meaning.{Meaning}
 use Rattle.fol_core.specs.Stated.{Said, IsTrueIn}
 use Rattle.ladr_commands.specs.ByName.{ByName}
-use Rattle.ladr_named.specs.Good.{tables_for}
+use Rattle.ladr_interpretations.specs.Good.{tables_for}
 use Rattle.ladr_problem.specs.Sofar.{Sofar, said_in}
 use Rattle.model_tables.specs.Tables.{meaning_of}
 

@@ -8,7 +8,7 @@ use Rattle.fol_core.specs.Tree.{Tree, var, app, none, more}
 use Rattle.fol_core.specs.declared.problem.Role.TheVariants.{Assumption, Goal}
 use Rattle.fol_core.specs.declared.symbols.Kind.TheVariants.{Function, Relation}
 use Rattle.ladr_commands.specs.ByName.{ByName, by_name, table}
-use Rattle.ladr_named.specs.Good.{tables_for}
+use Rattle.ladr_interpretations.specs.Good.{tables_for}
 use Rattle.ladr_top.specs.Search.{Size, searched}
 use Rattle.ladr_words.specs.declared.task.ModelOptions.{ModelOptions}
 use Rattle.model_tables.specs.Tables.{Finite, listing, meaning_of}

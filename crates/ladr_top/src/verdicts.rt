@@ -10,7 +10,7 @@ ghost use Rattle.ladr_top.specs.Verdicts.{AreTrueAsTold, AreToldOf};
 ghost use Rattle.model_tables.specs.Tables.{meaning_of};
 
 use fol_core::{Formula, Input, free_vars};
-use ladr_named::bind;
+use ladr_interpretations::bind;
 use ladr_problem::{ReadError, read_problem};
 use ladr_reader::Mode;
 use model_tables::{Env, Tables, closure_truth, reserve_closure};

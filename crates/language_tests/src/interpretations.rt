@@ -1,7 +1,7 @@
 use fol_core::{Kind, Symbols};
 use ladr_commands::{CommandFault, read_interpretation};
+use ladr_interpretations::{Named, NamedError, bind};
 use ladr_lex::tokens;
-use ladr_named::{Named, NamedError, bind};
 use std::test::Fail;
 
 // Texts of interpretations: the last value of `f` with one argument in the tables, if they are interpretations.

@@ -9,9 +9,9 @@ mod formulas;
 #[cfg(test)]
 mod interpretations;
 #[cfg(test)]
-mod items;
-#[cfg(test)]
 mod options;
+#[cfg(test)]
+mod problems;
 #[cfg(test)]
 mod rules;
 #[cfg(test)]

@@ -9,4 +9,4 @@ add-requires-clause-end c = (dash_alone c.args.bytes.now c.loop-at.at c.loop-at-
 
 pub loop-at-preserved : goal.loop-at-preserved
 loop-at-preserved c =
-    (advances_both _ _ _ _ _ _ _ c.loop-at.invariant.0 c.in_ok-add.ensures, (dash_alone c.args.bytes.now c.loop-at.at c.loop-at-test.true c.if-bytes-at-eq45.true c.loop-at.invariant.1).ahead)
+    (advances_both _ _ _ _ _ _ _ _ c.loop-at.invariant.0 c.in_ok-add.ensures, (dash_alone c.args.bytes.now c.loop-at.at c.loop-at-test.true c.if-bytes-at-eq45.true c.loop-at.invariant.1).ahead)

@@ -1,6 +1,6 @@
 use Rattle.std.proofs.Common.{ℕ, List, drop, sym, subst}
 use Rattle.std.specs.Prelude.{slice_range}
-use Rattle.ladr_items.specs.Items.{items_of}
+use Rattle.ladr_problem.specs.Items.{items_of}
 use Rattle.ladr_lex.specs.Cuts.{Piece, pieces_of}
 use Rattle.ladr_lex.specs.Lexeme.{lexemes_of}
 use Rattle.ladr_lex.specs.declared.token.Token.{Token}

@@ -1,6 +1,6 @@
 -- what is left goes on as the whole does
 use Rattle.std.proofs.Common.{◌≤◌, ◌-◌, drop, length}
-use Rattle.ladr_items.specs.Items.{items_of}
+use Rattle.ladr_problem.specs.Items.{items_of}
 use Rattle.ladr_lex.specs.Cuts.{pieces_of}
 use Rattle.ladr_problem.specs.Draft.{sofar_of}
 use Rattle.ladr_problem.specs.File.{Outcome, File}

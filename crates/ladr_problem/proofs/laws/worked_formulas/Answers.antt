@@ -2,8 +2,8 @@ use Rattle.std.proofs.Common.{[], codes, refl, lit≤}
 use Rattle.ladr_commands.specs.ByName.{by_name}
 use Rattle.ladr_commands.specs.declared.command.Command.TheVariants.{Formulas, If, EndIf, Interpretation}
 use Rattle.ladr_commands.specs.declared.command.Command.TheVariants as of_commands
-use Rattle.ladr_items.proofs.EndLemmas.{fault_of_term}
-use Rattle.ladr_items.specs.ListItem.{closing, term}
+use Rattle.ladr_problem.proofs.EndLemmas.{fault_of_term}
+use Rattle.ladr_problem.specs.ListItem.{closing, term}
 use Rattle.ladr_lex.specs.Bytes.{is_blank, is_ordinary, is_special}
 use Rattle.ladr_lex.specs.Lexed.{start_of}
 use Rattle.ladr_lex.specs.Operators.{standard_rows}

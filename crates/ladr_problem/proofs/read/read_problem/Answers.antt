@@ -3,7 +3,7 @@ use Rattle.ladr_reader.specs.declared.styles.Mode.{Mode}
 use Rattle.fol_core.specs.Stated.{AreWellFormed, all_said}
 use Rattle.fol_core.specs.SymbolTable.{Symbol}
 use Rattle.fol_core.specs.declared.problem.Input.{Input}
-use Rattle.ladr_items.specs.Items.{items_of}
+use Rattle.ladr_problem.specs.Items.{items_of}
 use Rattle.ladr_lex.specs.Cuts.{pieces_of}
 use Rattle.ladr_lex.specs.declared.token.Token.{Token}
 use Rattle.ladr_problem.specs.Draft.{sofar_of}

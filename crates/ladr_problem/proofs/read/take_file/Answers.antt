@@ -1,5 +1,5 @@
 use Rattle.std.proofs.lemmas.Result.{on_ok_weaker, IfErr-weaker}
-use Rattle.ladr_items.specs.Items.{items_of}
+use Rattle.ladr_problem.specs.Items.{items_of}
 use Rattle.ladr_lex.specs.Cuts.{pieces_of}
 use Rattle.ladr_problem.specs.Draft.{sofar_of}
 use Rattle.ladr_problem.proofs.Files.{stop_finished, tested_problem, tested_stop}

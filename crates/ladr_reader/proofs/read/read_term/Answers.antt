@@ -1,55 +1,20 @@
--- The token that stops the machine is the first bad one; a run over all tokens ends behind an item just where they are one.
-use Rattle.std.proofs.Common.{◌≡◌, ◌≤◌, ◌+◌, max, List, length, drop, sym, ap, ◌∙◌, arith}
-use Rattle.ladr_lex.specs.Lexeme.{Lexeme, lexemes_of}
-use Rattle.ladr_reader.specs.Machine.{standing}
-use Rattle.ladr_reader.specs.Nesting.{most_open}
-use Rattle.ladr_reader.specs.Table.{Table, table_of}
-use Rattle.ladr_reader.proofs.Lawful.{table_lawful}
-use Rattle.ladr_reader.proofs.Live.{table_names}
-use Rattle.ladr_reader.proofs.Runs.{lexemes_length, lexemes_from, run_more, bad_at, bad_end, done_item, all_noted, answered}
+use Rattle.std.proofs.Common.{ap, ◌∙◌}
+use Rattle.std.proofs.lemmas.Result.{err_from_is_err_and}
+use Rattle.ladr_lex.specs.Lexeme.{lexemes_of}
+use Rattle.ladr_reader.specs.Capped.{whole_of}
+use Rattle.ladr_reader.specs.Table.{table_of}
+use Rattle.ladr_reader.proofs.Levels.{whole_built}
+use Rattle.ladr_reader.proofs.Runs.{answered, never_deep}
 use Rattle.ladr_reader.proofs.read.read_term.Goals as goal
 
-pub returns-in-None-clause-fault : goal.returns-in-None-clause-fault
-returns-in-None-clause-fault c =
-    let rows = c.args.ops.now in
-    bad_at 500 (table_of rows) (table_lawful rows c.rows_are_lawful.ensures) (table_names rows) (lexemes_of c.args.tokens.now) c.loop-i.i c.loop-i.place c.loop-i.stack
-    (omega (arith, lexemes_length c.args.tokens.now))
-    c.loop-i.invariant.run
-    (run_more 500 _ _ _ _ c.loop-i.place c.loop-i.stack c.loop-i-test.true c.loop-i.invariant.run
-    ∙ sym c.in_ok-next.ensures
-    ∙ ap (λ o. standing o c.step.new.stack) c.in-None.is)
-
-pub loop-i-preserved : goal.loop-i-preserved
-loop-i-preserved c =
-    record {
-      run = run_more 500 _ _ _ _ c.loop-i.place c.loop-i.stack c.loop-i-test.true c.loop-i.invariant.run
-          ∙ sym c.in_ok-next.ensures
-          ∙ ap (λ o. standing o c.step.new.stack) c.in-Some.is;
-      few = omega arith;
-      most = c.note.ensures.most (drop (c.loop-i.i + 1) (lexemes_of c.args.tokens.now))
-          ∙ ap (λ (ts : List Lexeme). max c.loop-i.parentheses.most (most_open c.loop-i.parentheses.unclosed ts)) (sym (lexemes_from c.args.tokens.now c.loop-i.i _ c.loop-i-test.true))
-          ∙ c.loop-i.invariant.most;
-    }
-
-pub returns-in_default : goal.returns-in_default
-returns-in_default c =
-    let rows = c.args.ops.now in
-    let k : c.loop-i.i ≡ length c.args.tokens.now = omega arith in
-    record {
-      read = tt;
-      shallow = tt;
-      fault = bad_end 500 (table_of rows) (table_lawful rows c.rows_are_lawful.ensures) (table_names rows) (lexemes_of c.args.tokens.now) (length c.args.tokens.now) c.loop-i.place c.loop-i.stack
-          (lexemes_length c.args.tokens.now)
-          (rw k at c.loop-i.invariant.run)
-          c.in_default.not-Done;
-    }
+pub returns-in_err-term-clause-fault : goal.returns-in_err-term-clause-fault
+returns-in_err-term-clause-fault c =
+    let p = err_from_is_err_and c.from_residual.result c.from_residual.ensures.1 in
+    rw (p.1, p.2) (never_deep _ _ _ _ c.in_err-term.ensures.fault)
 
 pub returns : goal.returns
 returns c =
-    let g : Table = table_of c.args.ops.now in
-    let ts : List Lexeme = lexemes_of c.args.tokens.now in
-    let end : length ts ≤ c.loop-i.i = omega (arith, lexemes_length c.args.tokens.now) in
-    let done = done_item 500 g (table_lawful c.args.ops.now c.rows_are_lawful.ensures) ts c.loop-i.i c.loop-i.place c.loop-i.stack c.in-Done.term c.in-Done.field-1 end c.loop-i.invariant.run c.in-Done.is in
-    let noted = all_noted ts c.loop-i.i c.loop-i.parentheses.most c.loop-i.parentheses.unclosed c.most.result end c.most.ensures c.loop-i.invariant.most in
-    let answer = answered g ts done.0 c.most.result c.shallow.result done.2 noted (c.shallow.ensures.ok done.0 done.1) (c.shallow.ensures.err done.0 done.1) in
+    let read = c.in_ok-term.ensures.read in
+    let tree = c.in_ok-tree.ensures ∙ ap (whole_of 500) read.term_is ∙ whole_built 500 read.tree in
+    let answer = answered (table_of c.args.ops.now) (lexemes_of c.args.tokens.now) read.tree c.in_ok-term.most_open c.shallow.result read.item read.most_is (c.shallow.ensures.ok read.tree tree) (c.shallow.ensures.err read.tree tree) in
     record { read = answer.0; shallow = answer.1; fault = answer.2 }

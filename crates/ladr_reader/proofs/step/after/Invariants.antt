@@ -4,7 +4,7 @@ use Rattle.ladr_reader.specs.Machine.{after}
 use Rattle.ladr_reader.proofs.step.after.Given as goal
 
 abbrev pub invariant-loop-part : goal.invariant-loop-part
-invariant-loop-part l = after 500 l.follow l.term l.precedence l.stack ≡ after 500 l.fn.follow l.fn.term l.fn.precedence l.fn.stack
+invariant-loop-part l = after l.build.most l.follow l.term l.precedence l.stack ≡ after l.build.most l.fn.follow l.fn.term l.fn.precedence l.fn.stack
 
 abbrev pub decreases-loop-part : goal.decreases-loop-part
 decreases-loop-part l = length l.stack

@@ -1,7 +1,7 @@
 use Rattle.std.proofs.Common.{List, ap, sym, subst, ◌∙◌}
 use Rattle.std.specs.Option.{option_copied}
 use Rattle.fol_core.specs.Stated.{Said, all_said}
-use Rattle.ladr_named.specs.Good.{tables_for}
+use Rattle.ladr_interpretations.specs.Good.{tables_for}
 use Rattle.ladr_problem.specs.Sofar.{said_in}
 use Rattle.ladr_top.specs.Verdicts.{AreTrueAsTold}
 use Rattle.ladr_top.proofs.Readings.{same_said}

@@ -2,9 +2,9 @@ use Rattle.std.proofs.Common.{ap, subst, sym, refl}
 use Rattle.std.specs.Prelude.{is_some}
 use Rattle.std.proofs.lemmas.Result.{on_ok_weaker, IfErr-weaker}
 use Rattle.fol_core.specs.RawView.{raw_of}
-use Rattle.ladr_items.specs.ItemView.{item_of}
-use Rattle.ladr_items.specs.ListItem.{closing, term, IsListItem, IsShallow}
-use Rattle.ladr_items.specs.declared.item.ListItem as code
+use Rattle.ladr_problem.specs.ItemView.{item_of}
+use Rattle.ladr_problem.specs.ListItem.{closing, term, IsListItem, IsShallow}
+use Rattle.ladr_problem.specs.declared.item.ListItem as code
 use Rattle.ladr_reader.specs.Table.{table_of}
 use Rattle.ladr_lex.specs.Lexeme.{lexemes_of}
 use Rattle.ladr_problem.specs.Adding.{IsRefused, within}

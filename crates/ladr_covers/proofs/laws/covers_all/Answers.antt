@@ -1,5 +1,0 @@
-use Rattle.ladr_covers.proofs.CoversLemmas.{test_tells}
-use Rattle.ladr_covers.proofs.laws.covers_all.Goals as goal
-
-pub returns : goal.returns
-returns c = test_tells

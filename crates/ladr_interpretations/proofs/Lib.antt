@@ -1,0 +1,3 @@
+pub mod CoversLemmas
+mod Powers
+mod ValuesFor

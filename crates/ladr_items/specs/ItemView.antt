@@ -1,9 +1,0 @@
--- Items of lists as definitions see them.
-use Rattle.fol_core.specs.RawView.{raw_of}
-use Rattle.ladr_items.specs.ListItem.{ListItem, closing, term}
-use Rattle.ladr_items.specs.declared.item.ListItem as code
-use Rattle.ladr_items.specs.declared.item.ListItem.TheVariants.{End, Term}
-
-abbrev pub item_of : code.ListItem → ListItem
-item_of End = closing
-item_of (Term raw) = term (raw_of raw)

@@ -1,4 +1,0 @@
-pub mod ItemView
-pub mod Items
-pub mod ListItem
-pub mod Worked

@@ -1,2 +1,0 @@
-mod Powers
-mod ValuesFor

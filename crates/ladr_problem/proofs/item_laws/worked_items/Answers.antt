@@ -1,0 +1,23 @@
+-- A run of the machine of terms shows each.
+use Rattle.std.proofs.Common.{refl}
+use Rattle.ladr_lex.specs.Bytes.{is_blank, is_ordinary, is_special}
+use Rattle.ladr_lex.specs.Lexed.{start_of}
+use Rattle.ladr_reader.specs.Worked.{standard}
+use Rattle.ladr_reader.proofs.Lawful.{Lawful, standard_lawful, table_lawful}
+use Rattle.ladr_reader.proofs.Runs.{run_item}
+use Rattle.ladr_problem.specs.WorkedItems.{prefix_rows, with_prefix}
+use Rattle.ladr_problem.proofs.item_laws.worked_items.Goals as goal
+
+lawful : Lawful with_prefix
+unfolding is_ordinary is_special
+lawful = table_lawful prefix_rows refl
+
+pub returns : goal.returns
+unfolding start_of is_blank is_ordinary is_special
+returns c =
+    record {
+      end = refl;
+      term = (λ e. cc, run_item standard standard_lawful _ _ 0 refl);
+      operator = refl;
+      argument = (λ e. cc, run_item with_prefix lawful _ _ 500 refl);
+    }

@@ -1,0 +1,42 @@
+// What the definitions of items amount to.
+ghost use Rattle.std.specs.Prelude.{◌≡◌, List, codes};
+ghost use Rattle.ladr_lex.specs.Cuts.{pieces_of};
+ghost use Rattle.ladr_lex.specs.Lexed.{lexed};
+ghost use Rattle.ladr_lex.specs.Lexeme.{Lexeme, lexemes_of};
+ghost use Rattle.ladr_lex.specs.declared.token.Token.{Token};
+ghost use Rattle.ladr_reader.specs.Table.{Table};
+ghost use Rattle.ladr_reader.specs.Worked.{line, constant, unary, standard};
+ghost use Rattle.ladr_reader.specs.declared.fault.TermFault.TheVariants.{Bad};
+ghost use Rattle.ladr_problem.specs.Items.{items_of, lexemes};
+ghost use Rattle.ladr_problem.specs.ListItem.{ListItem, closing, term, IsListItem, IsItemFault};
+ghost use Rattle.ladr_problem.specs.WorkedItems.{with_prefix, two_items};
+
+/// Tokens are one item of a list at most.
+pub fn one_item()
+    ensures { (g : Table) (ts : List Lexeme) (i j : ListItem) → IsListItem g ts i → IsListItem g ts j → i ≡ j }
+{}
+
+/// Tokens are the same as lexemes with their places and without.
+pub fn same_tokens()
+    ensures { (ts : List Token) → lexemes (pieces_of ts) ≡ lexemes_of ts }
+{}
+
+/// Each full stop ends an item, and the end of the tokens the last one.
+pub fn worked_cuts()
+    ensures { items_of (lexed (codes "p. q")) ≡ two_items }
+{}
+
+/// Items of lists. `end_of_list.` ends a list also where `end_of_list` is an operator.
+pub fn worked_items()
+    ensures end { IsListItem standard (line "end_of_list.") closing }
+    ensures term { IsListItem standard (line "p(a).") (term (unary "p" (constant "a"))) }
+    ensures operator { IsListItem with_prefix (line "end_of_list.") closing }
+    ensures argument { IsListItem with_prefix (line "end_of_list a.") (term (unary "end_of_list" (constant "a"))) }
+{}
+
+/// Tokens that are no item of a list, each with its first bad one.
+pub fn worked_item_faults()
+    ensures cut_off { IsItemFault standard (line "end_of_list") (Bad 1) }
+    ensures operator { IsItemFault with_prefix (line "end_of_list. a.") (Bad 2) }
+    ensures further { IsItemFault standard (line "end_of_list a.") (Bad 1) }
+{}

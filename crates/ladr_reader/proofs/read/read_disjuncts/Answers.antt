@@ -1,0 +1,55 @@
+-- The token that stops the machine is the first bad one; a run over all tokens ends behind an item just where they are one.
+use Rattle.std.proofs.Common.{◌≡◌, ◌≤◌, ◌+◌, max, List, length, drop, sym, ap, ◌∙◌, arith}
+use Rattle.ladr_lex.specs.Lexeme.{Lexeme, lexemes_of}
+use Rattle.ladr_reader.specs.Machine.{standing}
+use Rattle.ladr_reader.specs.Nesting.{most_open}
+use Rattle.ladr_reader.specs.Table.{Table, table_of}
+use Rattle.ladr_reader.proofs.Lawful.{table_lawful}
+use Rattle.ladr_reader.proofs.Live.{table_names}
+use Rattle.ladr_reader.proofs.Runs.{lexemes_length, lexemes_from, run_more, bad_at, bad_end, done_item, all_noted}
+use Rattle.ladr_reader.proofs.read.read_disjuncts.Goals as goal
+
+pub returns-in-None-clause-fault : goal.returns-in-None-clause-fault
+returns-in-None-clause-fault c =
+    let rows = c.args.ops.now in
+    let n = c.args.build.most in
+    bad_at n (table_of rows) (table_lawful rows c.rows_are_lawful.ensures) (table_names rows) (lexemes_of c.args.tokens.now) c.loop-i.i c.loop-i.place c.loop-i.stack
+    (omega (arith, lexemes_length c.args.tokens.now))
+    c.loop-i.invariant.run
+    (run_more n _ _ _ _ c.loop-i.place c.loop-i.stack c.loop-i-test.true c.loop-i.invariant.run
+    ∙ sym c.in_ok-next.ensures
+    ∙ ap (λ o. standing o c.step.new.stack) c.in-None.is)
+
+pub loop-i-preserved : goal.loop-i-preserved
+loop-i-preserved c =
+    record {
+      run = run_more c.args.build.most _ _ _ _ c.loop-i.place c.loop-i.stack c.loop-i-test.true c.loop-i.invariant.run
+          ∙ sym c.in_ok-next.ensures
+          ∙ ap (λ o. standing o c.step.new.stack) c.in-Some.is;
+      few = omega arith;
+      most = c.note.ensures.most (drop (c.loop-i.i + 1) (lexemes_of c.args.tokens.now))
+          ∙ ap (λ (ts : List Lexeme). max c.loop-i.parentheses.most (most_open c.loop-i.parentheses.unclosed ts)) (sym (lexemes_from c.args.tokens.now c.loop-i.i _ c.loop-i-test.true))
+          ∙ c.loop-i.invariant.most;
+    }
+
+pub returns-in_default-clause-fault : goal.returns-in_default-clause-fault
+returns-in_default-clause-fault c =
+    let rows = c.args.ops.now in
+    let k : c.loop-i.i ≡ length c.args.tokens.now = omega arith in
+    bad_end c.args.build.most (table_of rows) (table_lawful rows c.rows_are_lawful.ensures) (table_names rows) (lexemes_of c.args.tokens.now) (length c.args.tokens.now) c.loop-i.place c.loop-i.stack
+    (lexemes_length c.args.tokens.now)
+    (rw k at c.loop-i.invariant.run)
+    c.in_default.not-Done
+
+pub returns-clause-read : goal.returns-clause-read
+returns-clause-read c =
+    let g : Table = table_of c.args.ops.now in
+    let ts : List Lexeme = lexemes_of c.args.tokens.now in
+    let end : length ts ≤ c.loop-i.i = omega (arith, lexemes_length c.args.tokens.now) in
+    let done = done_item c.args.build.most g (table_lawful c.args.ops.now c.rows_are_lawful.ensures) ts c.loop-i.i c.loop-i.place c.loop-i.stack c.in-Done.term c.in-Done.field-1 end c.loop-i.invariant.run c.in-Done.is in
+    record {
+      tree = done.0;
+      item = done.2;
+      term_is = done.1;
+      most_is = all_noted ts c.loop-i.i c.loop-i.parentheses.most c.loop-i.parentheses.unclosed c.most.result end c.most.ensures c.loop-i.invariant.most;
+    }
