@@ -2,8 +2,10 @@
 use Rattle.std.proofs.Common.{◌≡◌, ℕ, zero, suc, ◌+◌, ◌<◌, ◌≤◌, Bool, true, false, if◌then◌else◌, ◌⊎◌, inl, inr, refl, sym, ap, subst, ◌∙◌, arith}
 use Rattle.fol_core.specs.Tree.{Tree, var, elem, app, Trees, none, more, nodes, nodes_of}
 use Rattle.term_order.specs.Laws.{IsSymbolOrder}
-use Rattle.term_order.specs.Lpo.{same_tree, lpo_greater, first_greater}
-use Rattle.term_order.proofs.Tests.{split_and, both_and, same_is, is_same, same_from}
+use Rattle.unifiers.specs.Matching.{same_tree}
+use Rattle.unifiers.proofs.Matches.{tree_same, same_itself}
+use Rattle.term_order.specs.Lpo.{lpo_greater, first_greater}
+use Rattle.term_order.proofs.Tests.{split_and, both_and, same_from}
 use Rattle.term_order.proofs.LpoParts.{Greater, SomeAtLeast, FirstGreater, GreaterEach, by_part, by_head, by_first, why, because, the_same, is_greater, head_at_least, at_least_here, at_least_behind, by_argument, keeps_variable}
 
 module _ (above : ℕ → ℕ → Bool) (order : IsSymbolOrder above) where
@@ -81,7 +83,7 @@ module _ (above : ℕ → ℕ → Bool) (order : IsSymbolOrder above) where
   -- no term is greater than itself
   first_not_itself : (ss : Trees) → FirstGreater above ss ss → ⊥
   first_not_itself none h = cc
-  first_not_itself (more s ss) h = first_not_itself ss (by (same_tree s s) (is_same s) h)
+  first_not_itself (more s ss) h = first_not_itself ss (by (same_tree s s) (same_itself s) h)
     where
       by : (b : Bool) → b ≡ true → (if b then first_greater above ss ss else lpo_greater above s s) ≡ true → first_greater above ss ss ≡ true
       by true e h = h
@@ -120,12 +122,12 @@ module _ (above : ℕ → ℕ → Bool) (order : IsSymbolOrder above) where
           → (if b then first_greater above ts us else lpo_greater above t u) ≡ true
           → (if c then first_greater above ss us else lpo_greater above s u) ≡ true
       by rest true i true j true l h k = rest h k
-      by rest true i true j false l h k = (let e = same_from s u (same_is s t i ∙ same_is t u j) in cc)
-      by rest true i false j true l h k = (let e = same_from t u (sym (same_is s t i) ∙ same_is s u l) in cc)
-      by rest true i false j false l h k = subst (λ x. Greater above x u) (sym (same_is s t i)) k
-      by rest false i true j true l h k = (let e = same_from s t (same_is s u l ∙ sym (same_is t u j)) in cc)
-      by rest false i true j false l h k = subst (Greater above s) (same_is t u j) h
-      by rest false i false j true l h k = (let size : nodes s ≡ nodes u = ap nodes (same_is s u l) in elim (not_itself s (on s t s (omega (arith, size)) h (subst (Greater above t) (sym (same_is s u l)) k))) [ ])
+      by rest true i true j false l h k = (let e = same_from s u (tree_same s t i ∙ tree_same t u j) in cc)
+      by rest true i false j true l h k = (let e = same_from t u (sym (tree_same s t i) ∙ tree_same s u l) in cc)
+      by rest true i false j false l h k = subst (λ x. Greater above x u) (sym (tree_same s t i)) k
+      by rest false i true j true l h k = (let e = same_from s t (tree_same s u l ∙ sym (tree_same t u j)) in cc)
+      by rest false i true j false l h k = subst (Greater above s) (tree_same t u j) h
+      by rest false i false j true l h k = (let size : nodes s ≡ nodes u = ap nodes (tree_same s u l) in elim (not_itself s (on s t s (omega (arith, size)) h (subst (Greater above t) (sym (tree_same s u l)) k))) [ ])
       by rest false i false j false l h k = on s t u (omega arith) h k
 
   -- transitive

@@ -2,8 +2,10 @@
 use Rattle.std.proofs.Common.{◌≡◌, ℕ, zero, suc, ◌+◌, ◌<◌, ◌≤◌, Bool, true, ◌==◌, ◌&&◌, ◌||◌, ◌⊎◌, inl, inr, refl, ap, ◌∙◌, eq-eqb, eqb-true, arith}
 use Rattle.fol_core.specs.Tree.{Tree, var, elem, app, Trees, none, more, nodes, nodes_of}
 use Rattle.substitutions.specs.Occurring.{has_variable, have_variable}
-use Rattle.term_order.specs.Lpo.{same_tree, lpo_greater, some_at_least, first_greater, greater_each}
-use Rattle.term_order.proofs.Tests.{split_or, split_and, left_or, right_or, both_and, same_is, same_from}
+use Rattle.unifiers.specs.Matching.{same_tree}
+use Rattle.unifiers.proofs.Matches.{tree_same}
+use Rattle.term_order.specs.Lpo.{lpo_greater, some_at_least, first_greater, greater_each}
+use Rattle.term_order.proofs.Tests.{split_or, split_and, left_or, right_or, both_and, same_from}
 
 module _ (above : ℕ → ℕ → Bool) where
   abbrev pub Greater : Tree → Tree → Type 0
@@ -51,7 +53,7 @@ module _ (above : ℕ → ℕ → Bool) where
 
   pub head_at_least : (s : Tree) (ss : Trees) (t : Tree) → SomeAtLeast (more s ss) t → AtLeast s t ⊎ SomeAtLeast ss t
   head_at_least s ss t h = elim (split_or (same_tree s t || lpo_greater above s t) (some_at_least above ss t) h) [
-    | inl p ↦ elim (split_or (same_tree s t) (lpo_greater above s t) p) [ inl e ↦ inl (the_same (same_is s t e)) | inr g ↦ inl (is_greater g) ]
+    | inl p ↦ elim (split_or (same_tree s t) (lpo_greater above s t) p) [ inl e ↦ inl (the_same (tree_same s t e)) | inr g ↦ inl (is_greater g) ]
     | inr q ↦ inr q
   ]
 

@@ -4,8 +4,10 @@ use Rattle.fol_core.specs.Substitutions.{Substitution, substitute, substitute_al
 use Rattle.fol_core.specs.Tree.{Tree, var, elem, app, Trees, none, more, nodes, nodes_of}
 use Rattle.substitutions.specs.Occurring.{has_variable, have_variable}
 use Rattle.term_order.specs.Laws.{IsSymbolOrder}
-use Rattle.term_order.specs.Lpo.{same_tree, lpo_greater, first_greater}
-use Rattle.term_order.proofs.Tests.{split_or, split_and, both_and, same_is, same_from}
+use Rattle.unifiers.specs.Matching.{same_tree}
+use Rattle.unifiers.proofs.Matches.{tree_same}
+use Rattle.term_order.specs.Lpo.{lpo_greater, first_greater}
+use Rattle.term_order.proofs.Tests.{split_or, split_and, both_and, same_from}
 use Rattle.term_order.proofs.LpoParts.{Greater, SomeAtLeast, FirstGreater, GreaterEach, by_part, by_head, by_first, why, because, AtLeast, the_same, is_greater, head_at_least, at_least_here, at_least_behind, by_argument}
 use Rattle.term_order.proofs.LpoOrder.{not_itself}
 
@@ -54,8 +56,8 @@ module _ (above : ℕ → ℕ → Bool) (order : IsSymbolOrder above) (p : Subst
           → (if a then first_greater above ss ts else lpo_greater above s t) ≡ true
           → (if b then first_greater above (substitute_all p ss) (substitute_all p ts) else lpo_greater above (substitute p s) (substitute p t)) ≡ true
       by rest true i true j h = rest h
-      by rest true i false j h = (let e = same_from (substitute p s) (substitute p t) (ap (substitute p) (same_is s t i)) in cc)
-      by rest false i true j h = elim (not_itself above order (substitute p s) (subst (Greater above (substitute p s)) (sym (same_is (substitute p s) (substitute p t) j)) (on s t (omega arith) h))) [ ]
+      by rest true i false j h = (let e = same_from (substitute p s) (substitute p t) (ap (substitute p) (tree_same s t i)) in cc)
+      by rest false i true j h = elim (not_itself above order (substitute p s) (subst (Greater above (substitute p s)) (sym (tree_same (substitute p s) (substitute p t) j)) (on s t (omega arith) h))) [ ]
       by rest false i false j h = on s t (omega arith) h
 
   stays_by : (n : ℕ) (s t : Tree) → nodes s + nodes t < n → Greater above s t → Greater above (substitute p s) (substitute p t)

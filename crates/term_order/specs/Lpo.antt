@@ -2,25 +2,7 @@
 use Rattle.std.specs.Prelude.{ℕ, Bool, true, false, ◌==◌, ◌&&◌, ◌||◌, if◌then◌else◌}
 use Rattle.fol_core.specs.Tree.{Tree, var, elem, app, Trees, none, more}
 use Rattle.substitutions.specs.Occurring.{have_variable}
-
-abbrev mutual
-  -- whether two terms are the same
-  pub same_tree : Tree → Tree → Bool
-  same_tree (var x) (var y) = x == y
-  same_tree (var x) (elem k) = false
-  same_tree (var x) (app g ts) = false
-  same_tree (elem j) (var y) = false
-  same_tree (elem j) (elem k) = j == k
-  same_tree (elem j) (app g ts) = false
-  same_tree (app f ss) (var y) = false
-  same_tree (app f ss) (elem k) = false
-  same_tree (app f ss) (app g ts) = f == g && same_trees ss ts
-
-  pub same_trees : Trees → Trees → Bool
-  same_trees none none = true
-  same_trees none (more t ts) = false
-  same_trees (more s ss) none = false
-  same_trees (more s ss) (more t ts) = same_tree s t && same_trees ss ts
+use Rattle.unifiers.specs.Matching.{same_tree}
 
 -- An order of symbols: whether the first stands above the second.
 module _ (above : ℕ → ℕ → Bool) where
