@@ -61,9 +61,9 @@ solution (b ∷ bs) = followed (only b.0 b.1) (solution bs)
 
 -- a variable that differs is bound, unless its term has it, and what is left is unified
 abbrev pub after_difference : Difference → Option (List Binding) → (ℕ → Tree → Option (List Binding)) → Option (List Binding)
-after_difference same done go = done
-after_difference clash done go = None
-after_difference (bind x t) done go = if has_variable x t then None else option_map (λ bs. (x, t) ∷ bs) (go x t)
+after_difference same found go = found
+after_difference clash found go = None
+after_difference (bind x t) found go = if has_variable x t then None else option_map (λ bs. (x, t) ∷ bs) (go x t)
 
 abbrev pub unifier : ℕ → Trees → Trees → Option (List Binding)
 unifier zero ss ts = after_difference (differ_all ss ts) (Some []) (λ x t. None)
