@@ -10,3 +10,5 @@ mod searches;
 mod symbols;
 #[cfg(test)]
 mod tables;
+#[cfg(test)]
+mod terms;

@@ -19,7 +19,8 @@ pub fn add_arities(
     scope: &mut Vec<u64>,
     found: &mut Vec<u64>,
 ) -> Result<(), AllocError>
-    ensures found { OnOk result (found.new.items ≡ found.old.items ++ arities (length scope.old.items) (nnf_of sign (fol_of shape.now))) }
+    ensures found { OnOk result (found.new.items ≡ found.old.items
+        ++ arities (length scope.old.items) (nnf_of sign (fol_of shape.now))) }
     ensures scope { OnOk result (scope.new.items ≡ scope.old.items) }
 {
     if sign {
@@ -37,7 +38,8 @@ fn add_part(
     scope: &mut Vec<u64>,
     found: &mut Vec<u64>,
 ) -> Result<(), AllocError>
-    ensures found { OnOk result (found.new.items ≡ found.old.items ++ arities (length scope.old.items) (nnf_of sign sub.now)) }
+    ensures found { OnOk result (found.new.items ≡ found.old.items
+        ++ arities (length scope.old.items) (nnf_of sign sub.now)) }
     ensures scope { OnOk result (scope.new.items ≡ scope.old.items) }
 {
     add_arities(&sub.shape, sign, scope, found)
@@ -52,7 +54,8 @@ fn add_every(
     scope: &mut Vec<u64>,
     found: &mut Vec<u64>,
 ) -> Result<(), AllocError>
-    ensures found { OnOk result (found.new.items ≡ found.old.items ++ arities (length scope.old.items + 1) (nnf_of sign sub.now)) }
+    ensures found { OnOk result (found.new.items ≡ found.old.items
+        ++ arities (length scope.old.items + 1) (nnf_of sign sub.now)) }
     ensures scope { OnOk result (scope.new.items ≡ scope.old.items) }
 {
     scope.push(x)?;
@@ -69,7 +72,8 @@ fn add_some(
     scope: &mut Vec<u64>,
     found: &mut Vec<u64>,
 ) -> Result<(), AllocError>
-    ensures found { OnOk result (found.new.items ≡ found.old.items ++ length scope.old.items ∷ arities (length scope.old.items) (nnf_of sign sub.now)) }
+    ensures found { OnOk result (found.new.items ≡ found.old.items
+        ++ length scope.old.items ∷ arities (length scope.old.items) (nnf_of sign sub.now)) }
     ensures scope { OnOk result (scope.new.items ≡ scope.old.items) }
 {
     found.push(scope.len() as u64)?;
@@ -78,7 +82,8 @@ fn add_some(
 
 #[cycle(arity)]
 fn add_plain(shape: &Shape, scope: &mut Vec<u64>, found: &mut Vec<u64>) -> Result<(), AllocError>
-    ensures found { OnOk result (found.new.items ≡ found.old.items ++ arities (length scope.old.items) (nnf_of true (fol_of shape.now))) }
+    ensures found { OnOk result (found.new.items ≡ found.old.items
+        ++ arities (length scope.old.items) (nnf_of true (fol_of shape.now))) }
     ensures scope { OnOk result (scope.new.items ≡ scope.old.items) }
 {
     match shape {
@@ -105,7 +110,8 @@ fn add_plain(shape: &Shape, scope: &mut Vec<u64>, found: &mut Vec<u64>) -> Resul
 
 #[cycle(arity)]
 fn add_denied(shape: &Shape, scope: &mut Vec<u64>, found: &mut Vec<u64>) -> Result<(), AllocError>
-    ensures found { OnOk result (found.new.items ≡ found.old.items ++ arities (length scope.old.items) (nnf_of false (fol_of shape.now))) }
+    ensures found { OnOk result (found.new.items ≡ found.old.items
+        ++ arities (length scope.old.items) (nnf_of false (fol_of shape.now))) }
     ensures scope { OnOk result (scope.new.items ≡ scope.old.items) }
 {
     match shape {
@@ -132,7 +138,8 @@ fn add_denied(shape: &Shape, scope: &mut Vec<u64>, found: &mut Vec<u64>) -> Resu
 
 // Adds a Skolem constant for each of some variables.
 fn add_constants(variables: &[u64], found: &mut Vec<u64>) -> Result<(), AllocError>
-    ensures { OnOk result (found.new.items ≡ found.old.items ++ replicate (length variables.now) 0) }
+    ensures { OnOk result (found.new.items ≡ found.old.items
+        ++ replicate (length variables.now) 0) }
 {
     for _x in variables {
         found.push(0)?;
@@ -148,7 +155,8 @@ fn add_of_denial(
     variables: &[u64],
     found: &mut Vec<u64>,
 ) -> Result<(), AllocError>
-    ensures { OnOk result (found.new.items ≡ found.old.items ++ arities 0 (nnf_of false (closed_over variables.now (fol_of shape.now)))) }
+    ensures { OnOk result (found.new.items ≡ found.old.items
+        ++ arities 0 (nnf_of false (closed_over variables.now (fol_of shape.now)))) }
 {
     add_constants(variables, found)?;
     add_arities(shape, false, &mut Vec::new(alloc), found)?;
@@ -158,7 +166,8 @@ fn add_of_denial(
 // Adds the numbers of arguments for a formula of a problem: its free variables are bound around it.
 #[tactic(auto, using(crate::proofs::Closures::closed_arities))]
 fn add_of_input(alloc: Global, input: &Input, found: &mut Vec<u64>) -> Result<(), AllocError>
-    ensures { OnOk result (found.new.items ≡ found.old.items ++ arities 0 (form (said_of input.now))) }
+    ensures { OnOk result (found.new.items ≡ found.old.items
+        ++ arities 0 (form (said_of input.now))) }
 {
     let mut variables = free_vars(alloc, &input.formula)?;
     match input.role {

@@ -94,7 +94,8 @@ fn literal(
     shape: &Shape,
     terms: &[(u64, Term)],
 ) -> Result<Vec<Clause>, AllocError>
-    ensures { IfOk result (λ all. all.items ≡ literal_clauses (terms_of terms.now) positive (fol_of shape.now)) }
+    ensures { IfOk result (λ all. all.items ≡ literal_clauses (terms_of terms.now) positive
+        (fol_of shape.now)) }
 {
     match shape {
         Shape::True => constant(alloc, positive),
@@ -144,7 +145,8 @@ pub fn begin(
     body: Shape,
     work: &mut Work,
 ) -> Result<(), AllocError>
-    ensures { OnOk result (Begins symbols.now work.old work.new variable (some_over bound.items (fol_of body))) }
+    ensures { OnOk result (Begins symbols.now work.old work.new variable
+        (some_over bound.items (fol_of body))) }
 {
     let symbol = symbol_at(symbols, work.entries.len());
     let term = skolem_term(alloc, symbol, &work.scope)?;
@@ -170,8 +172,10 @@ pub fn clauses(
     sign: bool,
     work: &mut Work,
 ) -> Result<Vec<Clause>, AllocError>
-    ensures clauses { IfOk result (λ all. all.items ≡ clauses_at symbols.now work.old (nnf_of sign (fol_of shape.now))) }
-    ensures works { OnOk result (Works symbols.now work.old work.new (nnf_of sign (fol_of shape.now))) }
+    ensures clauses { IfOk result (λ all. all.items
+        ≡ clauses_at symbols.now work.old (nnf_of sign (fol_of shape.now))) }
+    ensures works { OnOk result (Works symbols.now work.old work.new
+        (nnf_of sign (fol_of shape.now))) }
 {
     if sign {
         plain(alloc, symbols, shape, work)
@@ -189,7 +193,8 @@ fn part(
     sign: bool,
     work: &mut Work,
 ) -> Result<Vec<Clause>, AllocError>
-    ensures clauses { IfOk result (λ all. all.items ≡ clauses_at symbols.now work.old (nnf_of sign sub.now)) }
+    ensures clauses { IfOk result (λ all. all.items
+        ≡ clauses_at symbols.now work.old (nnf_of sign sub.now)) }
     ensures works { OnOk result (Works symbols.now work.old work.new (nnf_of sign sub.now)) }
 {
     clauses(alloc, symbols, &sub.shape, sign, work)
@@ -205,8 +210,10 @@ fn under_every(
     sign: bool,
     work: &mut Work,
 ) -> Result<Vec<Clause>, AllocError>
-    ensures clauses { IfOk result (λ all. all.items ≡ clauses_at symbols.now work.old (forall x (nnf_of sign sub.now))) }
-    ensures works { OnOk result (Works symbols.now work.old work.new (forall x (nnf_of sign sub.now))) }
+    ensures clauses { IfOk result (λ all. all.items
+        ≡ clauses_at symbols.now work.old (forall x (nnf_of sign sub.now))) }
+    ensures works { OnOk result (Works symbols.now work.old work.new
+        (forall x (nnf_of sign sub.now))) }
 {
     work.scope.push(x)?;
     let found = part(alloc, symbols, sub, sign, work)?;
@@ -224,8 +231,10 @@ fn under_some(
     sign: bool,
     work: &mut Work,
 ) -> Result<Vec<Clause>, AllocError>
-    ensures clauses { IfOk result (λ all. all.items ≡ clauses_at symbols.now work.old (exists x (nnf_of sign sub.now))) }
-    ensures works { OnOk result (Works symbols.now work.old work.new (exists x (nnf_of sign sub.now))) }
+    ensures clauses { IfOk result (λ all. all.items
+        ≡ clauses_at symbols.now work.old (exists x (nnf_of sign sub.now))) }
+    ensures works { OnOk result (Works symbols.now work.old work.new
+        (exists x (nnf_of sign sub.now))) }
 {
     let body = form(alloc, &sub.shape, sign, &work.terms)?;
     begin(alloc, symbols, x, Vec::new(alloc), body, work)?;
@@ -242,8 +251,10 @@ fn plain(
     shape: &Shape,
     work: &mut Work,
 ) -> Result<Vec<Clause>, AllocError>
-    ensures clauses { IfOk result (λ all. all.items ≡ clauses_at symbols.now work.old (nnf_of true (fol_of shape.now))) }
-    ensures works { OnOk result (Works symbols.now work.old work.new (nnf_of true (fol_of shape.now))) }
+    ensures clauses { IfOk result (λ all. all.items
+        ≡ clauses_at symbols.now work.old (nnf_of true (fol_of shape.now))) }
+    ensures works { OnOk result (Works symbols.now work.old work.new
+        (nnf_of true (fol_of shape.now))) }
 {
     match shape {
         Shape::True | Shape::False | Shape::Eq(_, _) | Shape::Atom(_, _) => {
@@ -287,8 +298,10 @@ fn denied(
     shape: &Shape,
     work: &mut Work,
 ) -> Result<Vec<Clause>, AllocError>
-    ensures clauses { IfOk result (λ all. all.items ≡ clauses_at symbols.now work.old (nnf_of false (fol_of shape.now))) }
-    ensures works { OnOk result (Works symbols.now work.old work.new (nnf_of false (fol_of shape.now))) }
+    ensures clauses { IfOk result (λ all. all.items
+        ≡ clauses_at symbols.now work.old (nnf_of false (fol_of shape.now))) }
+    ensures works { OnOk result (Works symbols.now work.old work.new
+        (nnf_of false (fol_of shape.now))) }
 {
     match shape {
         Shape::True | Shape::False | Shape::Eq(_, _) | Shape::Atom(_, _) => {

@@ -18,7 +18,8 @@ pub fn form(
     sign: bool,
     values: &[(u64, Term)],
 ) -> Result<Shape, AllocError>
-    ensures { IfOk result (λ f. fol_of f ≡ substitute_in (terms_of values.now) (nnf_of sign (fol_of shape.now))) }
+    ensures { IfOk result (λ f. fol_of f ≡ substitute_in (terms_of values.now)
+        (nnf_of sign (fol_of shape.now))) }
 {
     if sign {
         plain(alloc, shape, values)
@@ -46,7 +47,8 @@ fn or(alloc: Global, f: Sub, g: Sub) -> Result<Sub, AllocError>
 // The form of a formula as it stands.
 #[cycle(form)]
 fn plain(alloc: Global, shape: &Shape, values: &[(u64, Term)]) -> Result<Shape, AllocError>
-    ensures { IfOk result (λ f. fol_of f ≡ substitute_in (terms_of values.now) (nnf_of true (fol_of shape.now))) }
+    ensures { IfOk result (λ f. fol_of f ≡ substitute_in (terms_of values.now)
+        (nnf_of true (fol_of shape.now))) }
 {
     Ok(match shape {
         Shape::True => Shape::True,
@@ -83,7 +85,8 @@ fn plain(alloc: Global, shape: &Shape, values: &[(u64, Term)]) -> Result<Shape, 
 // The form of a formula's denial.
 #[cycle(form)]
 fn denied(alloc: Global, shape: &Shape, values: &[(u64, Term)]) -> Result<Shape, AllocError>
-    ensures { IfOk result (λ f. fol_of f ≡ substitute_in (terms_of values.now) (nnf_of false (fol_of shape.now))) }
+    ensures { IfOk result (λ f. fol_of f ≡ substitute_in (terms_of values.now)
+        (nnf_of false (fol_of shape.now))) }
 {
     Ok(match shape {
         Shape::True => Shape::Not(Sub::new(alloc, Shape::True)?),

@@ -25,7 +25,9 @@ fn deny(
     variables: &[u64],
     work: &mut Work,
 ) -> Result<(), AllocError>
-    ensures { OnOk result (Leads symbols.now work.old work.new (nnf_of false (closed_over variables.now (fol_of shape.now))) (nnf_of false (fol_of shape.now))) }
+    ensures { OnOk result (Leads symbols.now work.old work.new
+        (nnf_of false (closed_over variables.now (fol_of shape.now)))
+        (nnf_of false (fol_of shape.now))) }
 {
     for place in 0..variables.len() {
         let bound = Vec::from_slice(alloc, &variables[place + 1..])?;
@@ -44,8 +46,11 @@ fn closed_clauses(
     work: &mut Work,
 ) -> Result<Vec<Clause>, AllocError>
     requires { work.old.scope.items ≡ [] }
-    ensures clauses { IfOk result (λ all. all.items ≡ clauses_at symbols.now work.old (nnf_of true (closed_over variables.items (fol_of shape.now)))) }
-    ensures notes { OnOk result (Notes symbols.now work.old work.new (nnf_of true (closed_over variables.items (fol_of shape.now)))) }
+    ensures clauses { IfOk result (λ all. all.items
+        ≡ clauses_at symbols.now work.old
+        (nnf_of true (closed_over variables.items (fol_of shape.now)))) }
+    ensures notes { OnOk result (Notes symbols.now work.old work.new
+        (nnf_of true (closed_over variables.items (fol_of shape.now)))) }
 {
     work.scope = variables;
     let found = clauses(alloc, symbols, shape, true, work)?;
@@ -60,8 +65,11 @@ fn denied_clauses(
     variables: &[u64],
     work: &mut Work,
 ) -> Result<Vec<Clause>, AllocError>
-    ensures clauses { IfOk result (λ all. all.items ≡ clauses_at symbols.now work.old (nnf_of false (closed_over variables.now (fol_of shape.now)))) }
-    ensures notes { OnOk result (Notes symbols.now work.old work.new (nnf_of false (closed_over variables.now (fol_of shape.now)))) }
+    ensures clauses { IfOk result (λ all. all.items
+        ≡ clauses_at symbols.now work.old
+        (nnf_of false (closed_over variables.now (fol_of shape.now)))) }
+    ensures notes { OnOk result (Notes symbols.now work.old work.new
+        (nnf_of false (closed_over variables.now (fol_of shape.now)))) }
 {
     deny(alloc, symbols, shape, variables, work)?;
     let found = clauses(alloc, symbols, shape, false, work)?;
@@ -77,7 +85,8 @@ fn input_clauses(
 ) -> Result<Vec<Clause>, AllocError>
     requires scope { work.old.scope.items ≡ [] }
     requires terms { work.old.terms.items ≡ [] }
-    ensures clauses { IfOk result (λ all. all.items ≡ clauses_at symbols.now work.old (form (said_of input.now))) }
+    ensures clauses { IfOk result (λ all. all.items
+        ≡ clauses_at symbols.now work.old (form (said_of input.now))) }
     ensures notes { OnOk result (Notes symbols.now work.old work.new (form (said_of input.now))) }
 {
     let variables = free_vars(alloc, &input.formula)?;
@@ -96,7 +105,8 @@ fn add_rows(
     clauses: &[Clause],
     rows: &mut Vec<(u64, Clause)>,
 ) -> Result<(), AllocError>
-    ensures { OnOk result (rows.new.items ≡ rows.old.items ++ map (λ c. (number, renumbered c)) clauses.now) }
+    ensures { OnOk result (rows.new.items ≡ rows.old.items
+        ++ map (λ c. (number, renumbered c)) clauses.now) }
 {
     for clause in clauses {
         rows.push((number, renumber(alloc, clause)?))?;
@@ -113,9 +123,14 @@ fn add_input(
     rows: &mut Vec<(u64, Clause)>,
     entries: Vec<Entry>,
 ) -> Result<Vec<Entry>, AllocError>
-    ensures rows { OnOk result (rows.new.items ≡ rows.old.items ++ map (λ c. (number, renumbered c)) (clauses_in symbols.now (length entries.items) [] var (form (said_of input.now)))) }
-    ensures entries { IfOk result (λ all. map skolem_axiom_of all.items ≡ map skolem_axiom_of entries.items ++ skolem_axioms symbols.now (length entries.items) [] var (form (said_of input.now))) }
-    ensures count { IfOk result (λ all. length all.items ≡ length entries.items + somes (form (said_of input.now))) }
+    ensures rows { OnOk result (rows.new.items ≡ rows.old.items
+        ++ map (λ c. (number, renumbered c))
+        (clauses_in symbols.now (length entries.items) [] var (form (said_of input.now)))) }
+    ensures entries { IfOk result (λ all. map skolem_axiom_of all.items
+        ≡ map skolem_axiom_of entries.items
+        ++ skolem_axioms symbols.now (length entries.items) [] var (form (said_of input.now))) }
+    ensures count { IfOk result (λ all. length all.items
+        ≡ length entries.items + somes (form (said_of input.now))) }
 {
     let mut work = Work {
         scope: Vec::new(alloc),
@@ -136,7 +151,8 @@ pub fn all_clauses(
     inputs: &[Input],
 ) -> Result<(Vec<(u64, Clause)>, Vec<Entry>), AllocError>
     ensures rows { IfOk result (λ all. all.0.items ≡ all_rows symbols.now (all_said inputs.now)) }
-    ensures witnesses { IfOk result (λ all. map skolem_axiom_of all.1.items ≡ all_skolem_axioms symbols.now (all_said inputs.now)) }
+    ensures witnesses { IfOk result (λ all. map skolem_axiom_of all.1.items
+        ≡ all_skolem_axioms symbols.now (all_said inputs.now)) }
 {
     let mut rows = Vec::new(alloc);
     let mut entries = Vec::new(alloc);

@@ -29,8 +29,12 @@ pub fn own_table()
 /// Each Skolem symbol's body has those before it alone, and no formula has one, where there are no more of them than numbers
 /// of symbols.
 pub fn witnesses_are_in_order()
-    ensures order { (table : List Symbol) (p : Stated) → IsWellFormed p → length p.symbols ≤ equality → KeepsNumbers p.symbols table → length (witnesses_in_table table p) ≤ equality → AreInOrder (witnesses_in_table table p) }
-    ensures new { (table : List Symbol) (p : Stated) → IsWellFormed p → length p.symbols ≤ equality → KeepsNumbers p.symbols table → length (witnesses_in_table table p) ≤ equality → AreNewTo p.formulas (witnesses_in_table table p) }
+    ensures order { (table : List Symbol) (p : Stated) → IsWellFormed p
+        → length p.symbols ≤ equality → KeepsNumbers p.symbols table
+        → length (witnesses_in_table table p) ≤ equality → AreInOrder (witnesses_in_table table p) }
+    ensures new { (table : List Symbol) (p : Stated) → IsWellFormed p → length p.symbols ≤ equality
+        → KeepsNumbers p.symbols table → length (witnesses_in_table table p) ≤ equality
+        → AreNewTo p.formulas (witnesses_in_table table p) }
 {}
 
 /// Some formulas worked out.

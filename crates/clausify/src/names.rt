@@ -69,7 +69,8 @@ fn is_free(
     letter: u8,
     number: u64,
 ) -> Result<bool, AllocError>
-    ensures { IfOk result (λ free. not free ≡ list_any (λ v. bytes_eq (numbered letter number) v.items) names.now.keys) }
+    ensures { IfOk result (λ free. not free ≡ list_any
+        (λ v. bytes_eq (numbered letter number) v.items) names.now.keys) }
 {
     let name = numbered(alloc, letter, number)?;
     Ok(!names.contains(name.as_slice()))

@@ -32,12 +32,16 @@ fn made(alloc: Global, problem: &Problem, symbols: &mut Symbols) -> Result<Claus
     requires small { length problem.now.symbols ≤ equality }
     requires table { KeepsNumbers problem.now.symbols symbols.old }
     requires no_relation { HasNoSkolemRelation problem.now.symbols symbols.old }
-    ensures clauses { IfOk result (λ c. c.clauses.items ≡ clauses_in_table symbols.old (stated_of problem.now)) }
-    ensures skolem { IfOk result (λ c. map skolem_axiom_of c.skolem.items ≡ witnesses_in_table symbols.old (stated_of problem.now)) }
-    ensures symbols { IfOk result (λ c. map (λ s. s.0) c.symbols.items ≡ used_symbols problem.now.symbols (stated_of problem.now).formulas) }
+    ensures clauses { IfOk result (λ c. c.clauses.items
+        ≡ clauses_in_table symbols.old (stated_of problem.now)) }
+    ensures skolem { IfOk result (λ c. map skolem_axiom_of c.skolem.items
+        ≡ witnesses_in_table symbols.old (stated_of problem.now)) }
+    ensures symbols { IfOk result (λ c. map (λ s. s.0) c.symbols.items
+        ≡ used_symbols problem.now.symbols (stated_of problem.now).formulas) }
     ensures numeral { IfOk result (λ c. c.numeral ≡ numeral_of (stated_of problem.now).formulas) }
     ensures order { IfOk result (λ c. AreInOrder (map skolem_axiom_of c.skolem.items)) }
-    ensures new { IfOk result (λ c. AreNewTo (stated_of problem.now).formulas (map skolem_axiom_of c.skolem.items)) }
+    ensures new { IfOk result (λ c. AreNewTo (stated_of problem.now).formulas
+        (map skolem_axiom_of c.skolem.items)) }
     ensures table { OnOk result (symbols.new ≡ with_skolems symbols.old (stated_of problem.now)) }
     ensures kept { KeepsNumbers symbols.old symbols.new }
 {
@@ -65,23 +69,32 @@ pub fn clauses_of<I: Interpretation>(
     requires table { KeepsNumbers problem.now.symbols symbols.old }
     requires no_relation { HasNoSkolemRelation problem.now.symbols symbols.old }
 
-    ensures clauses { IfOk result (λ c. c.clauses.items ≡ clauses_in_table symbols.old (stated_of problem.now)) }
-    ensures skolem { IfOk result (λ c. map skolem_axiom_of c.skolem.items ≡ witnesses_in_table symbols.old (stated_of problem.now)) }
-    ensures symbols { IfOk result (λ c. map (λ s. s.0) c.symbols.items ≡ used_symbols problem.now.symbols (stated_of problem.now).formulas) }
+    ensures clauses { IfOk result (λ c. c.clauses.items
+        ≡ clauses_in_table symbols.old (stated_of problem.now)) }
+    ensures skolem { IfOk result (λ c. map skolem_axiom_of c.skolem.items
+        ≡ witnesses_in_table symbols.old (stated_of problem.now)) }
+    ensures symbols { IfOk result (λ c. map (λ s. s.0) c.symbols.items
+        ≡ used_symbols problem.now.symbols (stated_of problem.now).formulas) }
     ensures numeral { IfOk result (λ c. c.numeral ≡ numeral_of (stated_of problem.now).formulas) }
     // Each Skolem symbol's body has those before it alone, and no formula has one.
     ensures order { IfOk result (λ c. AreInOrder (map skolem_axiom_of c.skolem.items)) }
-    ensures new { IfOk result (λ c. AreNewTo (stated_of problem.now).formulas (map skolem_axiom_of c.skolem.items)) }
+    ensures new { IfOk result (λ c. AreNewTo (stated_of problem.now).formulas
+        (map skolem_axiom_of c.skolem.items)) }
     ensures entered { OnOk result (symbols.new ≡ with_skolems symbols.old (stated_of problem.now)) }
     ensures kept { KeepsNumbers symbols.old symbols.new }
 
     // A formula over the limit is named, and comes to nothing else but want of memory.
-    ensures limit { (n : ℕ) → result ≡ Err (ClauseError.ClauseLimit n) → first_over 1 (stated_of problem.now).formulas ≡ Some n }
+    ensures limit { (n : ℕ) → result ≡ Err (ClauseError.ClauseLimit n)
+        → first_over 1 (stated_of problem.now).formulas ≡ Some n }
     ensures within { OnOk result (first_over 1 (stated_of problem.now).formulas ≡ None) }
 
     // Clauses and formulas say the same.
-    ensures suffice { IfOk result (λ c. AreTrueRows (I.meaning any.now) c.clauses.items → IsCountermodel (I.meaning any.now) (stated_of problem.now).formulas) }
-    ensures follow { IfOk result (λ c. PicksWitnesses (I.meaning any.now) (map skolem_axiom_of c.skolem.items) → IsCountermodel (I.meaning any.now) (stated_of problem.now).formulas → AreTrueRows (I.meaning any.now) c.clauses.items) }
+    ensures suffice { IfOk result (λ c. AreTrueRows (I.meaning any.now) c.clauses.items
+        → IsCountermodel (I.meaning any.now) (stated_of problem.now).formulas) }
+    ensures follow { IfOk result (λ c. PicksWitnesses (I.meaning any.now)
+        (map skolem_axiom_of c.skolem.items)
+        → IsCountermodel (I.meaning any.now) (stated_of problem.now).formulas
+        → AreTrueRows (I.meaning any.now) c.clauses.items) }
 {
     if let Some(formula) = first_over(&problem.inputs) {
         return Err(ClauseError::ClauseLimit { formula });

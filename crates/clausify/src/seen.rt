@@ -44,7 +44,8 @@ fn before(above: u64) -> Result<Option<u32>, AllocError>
 
 // Adds a symbol if it is marked.
 fn add_marked(number: usize, mark: bool, found: &mut Vec<Sym>) -> Result<(), AllocError>
-    ensures { OnOk result (map (λ s. s.0) found.new.items ≡ map (λ s. s.0) found.old.items ++ (if mark then number ∷ [] else [])) }
+    ensures { OnOk result (map (λ s. s.0) found.new.items ≡ map (λ s. s.0) found.old.items
+        ++ (if mark then number ∷ [] else [])) }
 {
     if mark {
         found.push(Sym(number as u64))?;
@@ -55,7 +56,8 @@ fn add_marked(number: usize, mark: bool, found: &mut Vec<Sym>) -> Result<(), All
 // The symbols that are marked, by number.
 #[tactic(auto, using(crate::proofs::Marks::passing_next, crate::proofs::Marks::passing_end))]
 fn marked_symbols(alloc: Global, marks: &[bool]) -> Result<Vec<Sym>, AllocError>
-    ensures { IfOk result (λ symbols. map (λ s. s.0) symbols.items ≡ passing (is_marked marks.now) 0 (length marks.now)) }
+    ensures { IfOk result (λ symbols. map (λ s. s.0) symbols.items
+        ≡ passing (is_marked marks.now) 0 (length marks.now)) }
 {
     let mut found = Vec::new(alloc);
     for (number, mark) in marks.iter().enumerate() {
@@ -69,8 +71,10 @@ pub fn symbols_and_numeral(
     alloc: Global,
     problem: &Problem,
 ) -> Result<(Vec<Sym>, Option<u32>), AllocError>
-    ensures symbols { IfOk result (λ seen. map (λ s. s.0) seen.0.items ≡ used_symbols problem.now.symbols (all_said problem.now.inputs.items)) }
-    ensures numeral { IfOk result (λ seen. seen.1 ≡ numeral_of (all_said problem.now.inputs.items)) }
+    ensures symbols { IfOk result (λ seen. map (λ s. s.0) seen.0.items
+        ≡ used_symbols problem.now.symbols (all_said problem.now.inputs.items)) }
+    ensures numeral { IfOk result (λ seen. seen.1
+        ≡ numeral_of (all_said problem.now.inputs.items)) }
 {
     let mut marks = vec![in alloc; false; problem.symbols.len()]?;
     mark_all(&problem.inputs, &mut marks);

@@ -26,10 +26,14 @@ impl Last {
         arity: u64,
     ) -> Result<Vec<u8>, AllocError>
         requires taken { HasNames input.now names.now.keys }
-        ensures name { IfOk result (λ name. name.items ≡ next_name input.now self.old.constants self.old.functions arity) }
-        ensures constants { OnOk result (self.new.constants ≡ next_constant input.now self.old.constants arity) }
-        ensures functions { OnOk result (self.new.functions ≡ next_function input.now self.old.functions arity) }
-        ensures new { OnOk result (IsNew input.now (next_name input.now self.old.constants self.old.functions arity)) }
+        ensures name { IfOk result (λ name. name.items
+            ≡ next_name input.now self.old.constants self.old.functions arity) }
+        ensures constants { OnOk result (self.new.constants
+            ≡ next_constant input.now self.old.constants arity) }
+        ensures functions { OnOk result (self.new.functions
+            ≡ next_function input.now self.old.functions arity) }
+        ensures new { OnOk result (IsNew input.now
+            (next_name input.now self.old.constants self.old.functions arity)) }
     {
         if arity == 0 {
             self.constants = next_free(alloc, input, names, b'c', self.constants)?;
@@ -44,7 +48,8 @@ impl Last {
 // The number of a function, entered where the table doesn't have it.
 fn enter(name: &[u8], arity: u64, symbols: &mut Symbols) -> Result<u64, AllocError>
     requires { is_clash symbols.old (symbol name.now arity Function) ≡ false }
-    ensures table { OnOk result (symbols.new ≡ entered symbols.old (symbol name.now arity Function)) }
+    ensures table { OnOk result (symbols.new
+        ≡ entered symbols.old (symbol name.now arity Function)) }
     ensures number { IfOk result (λ n. number_of symbols.new name.now arity ≡ Some n) }
     ensures kept { KeepsNumbers symbols.old symbols.new }
 {
@@ -67,10 +72,15 @@ fn enter_next(
 ) -> Result<u64, AllocError>
     requires taken { HasNames input.now names.now.keys }
     requires none { HasNoSkolemRelation input.now symbols.old }
-    ensures table { OnOk result (symbols.new ≡ entered symbols.old (symbol (next_name input.now last.old.constants last.old.functions arity) arity Function)) }
-    ensures number { IfOk result (λ n. number_of symbols.new (next_name input.now last.old.constants last.old.functions arity) arity ≡ Some n) }
-    ensures constants { OnOk result (last.new.constants ≡ next_constant input.now last.old.constants arity) }
-    ensures functions { OnOk result (last.new.functions ≡ next_function input.now last.old.functions arity) }
+    ensures table { OnOk result (symbols.new
+        ≡ entered symbols.old
+        (symbol (next_name input.now last.old.constants last.old.functions arity) arity Function)) }
+    ensures number { IfOk result (λ n. number_of symbols.new
+        (next_name input.now last.old.constants last.old.functions arity) arity ≡ Some n) }
+    ensures constants { OnOk result (last.new.constants
+        ≡ next_constant input.now last.old.constants arity) }
+    ensures functions { OnOk result (last.new.functions
+        ≡ next_function input.now last.old.functions arity) }
     ensures none { OnOk result (HasNoSkolemRelation input.now symbols.new) }
     ensures kept { KeepsNumbers symbols.old symbols.new }
 {
@@ -87,8 +97,10 @@ pub fn enter_all(
     symbols: &mut Symbols,
 ) -> Result<Vec<u64>, AllocError>
     requires { HasNoSkolemRelation input.now symbols.old }
-    ensures table { OnOk result (symbols.new ≡ all_entered symbols.old (skolem_symbols input.now 0 0 arities.now)) }
-    ensures numbers { IfOk result (λ made. made.items ≡ entered_numbers symbols.old (skolem_symbols input.now 0 0 arities.now)) }
+    ensures table { OnOk result (symbols.new
+        ≡ all_entered symbols.old (skolem_symbols input.now 0 0 arities.now)) }
+    ensures numbers { IfOk result (λ made. made.items
+        ≡ entered_numbers symbols.old (skolem_symbols input.now 0 0 arities.now)) }
     ensures kept { KeepsNumbers symbols.old symbols.new }
 {
     let names = names_of(alloc, input)?;

@@ -49,7 +49,8 @@ pub fn substitute_all(
     terms: &Terms,
     values: &[(u64, Term)],
 ) -> Result<Terms, AllocError>
-    ensures { IfOk result (λ ts. trees_of ts ≡ substitute_all (terms_of values.now) (trees_of terms.now)) }
+    ensures { IfOk result (λ ts. trees_of ts
+        ≡ substitute_all (terms_of values.now) (trees_of terms.now)) }
 {
     let mut made = Terms::new(alloc);
     for term in &terms.items {

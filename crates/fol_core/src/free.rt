@@ -14,7 +14,8 @@ use std::alloc::{AllocError, Global};
 /// The formula under a universal quantifier for each of its free variables, the first outermost.
 #[tactic(auto, using(crate::proofs::Variables::closed_over_push))]
 pub fn closure(alloc: Global, formula: &Formula) -> Result<Formula, AllocError>
-    ensures shape { IfOk result (λ closed. fol_of closed.shape ≡ closure_of (fol_of formula.now.shape)) }
+    ensures shape { IfOk result (λ closed. fol_of closed.shape
+        ≡ closure_of (fol_of formula.now.shape)) }
     ensures names { IfOk result (λ closed. closed.names ≡ formula.now.names) }
 {
     let mut variables = free_vars(alloc, formula)?;
@@ -44,7 +45,8 @@ fn add_free(
     bound: &mut Vec<u64>,
     found: &mut IndexSet<u64>,
 ) -> Result<(), AllocError>
-    ensures found { OnOk result (found.new.keys ≡ joined found.old.keys (outside bound.old.items (free_vars_of (fol_of shape.now)))) }
+    ensures found { OnOk result (found.new.keys
+        ≡ joined found.old.keys (outside bound.old.items (free_vars_of (fol_of shape.now)))) }
     ensures bound { OnOk result (bound.new.items ≡ bound.old.items) }
 {
     match shape {
@@ -75,7 +77,8 @@ pub fn add_variables(
     bound: &[u64],
     found: &mut IndexSet<u64>,
 ) -> Result<(), AllocError>
-    ensures { OnOk result (found.new.keys ≡ joined found.old.keys (outside bound.now (variables_of (tree_of term.now)))) }
+    ensures { OnOk result (found.new.keys ≡ joined found.old.keys
+        (outside bound.now (variables_of (tree_of term.now)))) }
 {
     match term {
         Term::Var(x) => add(*x, bound, found),
@@ -96,7 +99,8 @@ fn add_variables_of_all(
     bound: &[u64],
     found: &mut IndexSet<u64>,
 ) -> Result<(), AllocError>
-    ensures { OnOk result (found.new.keys ≡ joined found.old.keys (outside bound.now (variables_of_all (trees_of terms.now)))) }
+    ensures { OnOk result (found.new.keys ≡ joined found.old.keys
+        (outside bound.now (variables_of_all (trees_of terms.now)))) }
 {
     for term in &terms.items {
         add_variables(term, bound, found)?;
@@ -106,7 +110,8 @@ fn add_variables_of_all(
 
 // Adds a variable unless it is bound.
 fn add(x: u64, bound: &[u64], found: &mut IndexSet<u64>) -> Result<(), AllocError>
-    ensures { OnOk result (found.new.keys ≡ (if is_in x bound.now then found.old.keys else noted found.old.keys x)) }
+    ensures { OnOk result (found.new.keys ≡ (if is_in x bound.now then found.old.keys else noted
+        found.old.keys x)) }
 {
     if !is_among(x, bound) {
         found.insert(x)?;

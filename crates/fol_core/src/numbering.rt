@@ -26,7 +26,8 @@ fn placed_clause(
     clause: &Clause,
     variables: &IndexSet<u64>,
 ) -> Result<Clause, AllocError>
-    ensures { IfOk result (λ c. c ≡ map (λ l. literal l.positive (substitute (by_place variables.now.keys) l.atom)) clause.now) }
+    ensures { IfOk result (λ c. c ≡ map (λ l. literal l.positive
+        (substitute (by_place variables.now.keys) l.atom)) clause.now) }
 {
     let mut made = Clause::new(alloc);
     for literal in &clause.literals {
@@ -64,7 +65,8 @@ fn place(x: u64, variables: &IndexSet<u64>) -> u64
 
 // The term with the places of its variables in their stead.
 fn placed(alloc: Global, term: &Term, variables: &IndexSet<u64>) -> Result<Term, AllocError>
-    ensures { IfOk result (λ t. tree_of t ≡ substitute (by_place variables.now.keys) (tree_of term.now)) }
+    ensures { IfOk result (λ t. tree_of t ≡ substitute (by_place variables.now.keys)
+        (tree_of term.now)) }
 {
     match term {
         Term::Var(x) => Ok(Term::Var(place(*x, variables))),

@@ -100,9 +100,11 @@ impl Symbols {
     pub fn enter(&mut self, name: &[u8], arity: u64, kind: Kind) -> Result<Sym, Clash>
         ensures table { OnOk result (self.new ≡ entered self.old (symbol name.now arity kind)) }
         ensures number { IfOk result (λ s. number_of self.new name.now arity ≡ Some s.0) }
-        ensures symbol { IfOk result (λ s. slice_get self.new s.0 ≡ Some (symbol name.now arity kind)) }
+        ensures symbol { IfOk result (λ s. slice_get self.new s.0
+            ≡ Some (symbol name.now arity kind)) }
 
-        ensures other_kind { (result ≡ Err Clash.OtherKind) ↔ IsTrue (is_clash self.old (symbol name.now arity kind)) }
+        ensures other_kind { (result ≡ Err Clash.OtherKind)
+            ↔ IsTrue (is_clash self.old (symbol name.now arity kind)) }
         ensures memory { result ≡ Err Clash.Memory → number_of self.old name.now arity ≡ None }
         ensures err { OnErr result (self.new ≡ self.old) }
 

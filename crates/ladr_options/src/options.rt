@@ -226,8 +226,10 @@ impl Options {
     }
 
     fn put_order(&mut self, symbol: &[u8]) -> Result<(), OptionError>
-        ensures ok { OnOk result (option_map_or (ordered self.old) (order_named symbol.now) (Err NotAValue) ≡ Ok self.new) }
-        ensures err { IfErr result (λ e. option_map_or (ordered self.old) (order_named symbol.now) (Err NotAValue) ≡ Err e) }
+        ensures ok { OnOk result (option_map_or (ordered self.old) (order_named symbol.now)
+            (Err NotAValue) ≡ Ok self.new) }
+        ensures err { IfErr result (λ e. option_map_or (ordered self.old) (order_named symbol.now)
+            (Err NotAValue) ≡ Err e) }
         ensures kept { IfErr result (λ e. self.new ≡ self.old) }
     {
         if symbol == b"lpo".as_slice() {

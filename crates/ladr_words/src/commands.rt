@@ -58,7 +58,8 @@ fn numbered<'a>(
     most: u64,
 ) -> Result<Command<'a>, AllocError>
     requires { (out-Command command).has_globals ≡ false }
-    ensures app { IfOk result (λ c. app_of c ≡ taking (app_of command.entry) (number_option name.entry.now letter least most)) }
+    ensures app { IfOk result (λ c. app_of c
+        ≡ taking (app_of command.entry) (number_option name.entry.now letter least most)) }
     ensures local { IfOk result (λ c. (out-Command c).has_globals ≡ false) }
 {
     let option = number_option(alloc, name, letter, least, most);

@@ -9,4 +9,3 @@ mod words;
 pub use laws::{start_size_is_read, worked};
 pub use task::{ModelOptions, Task, WordsError};
 pub use words::task_of;
-

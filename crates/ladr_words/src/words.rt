@@ -17,7 +17,8 @@ use std::alloc::Global;
 #[tactic(auto, unfolding(crate::specs::Tasks::task_of))]
 pub fn task_of(alloc: Global, words: &[String]) -> Result<Task, WordsError>
     ensures task { IfOk result (λ task. task_of (map string_bytes words.now) ≡ Some task) }
-    ensures no_command { result ≡ Err WordsError.NoCommand → task_of (map string_bytes words.now) ≡ None }
+    ensures no_command { result ≡ Err WordsError.NoCommand
+        → task_of (map string_bytes words.now) ≡ None }
     ensures ranges { IfOk result HasRanges }
 {
     let matches = parsed(alloc, words)?;
@@ -29,9 +30,11 @@ pub fn task_of(alloc: Global, words: &[String]) -> Result<Task, WordsError>
 
 // What clap finds in the words.
 fn parsed<'a>(alloc: Global, words: &'a [String]) -> Result<ArgMatches<'a>, WordsError>
-    ensures found { IfOk result (λ matches. subcommand_rows_of matches ≡ subcommand_of ladr_app (map string_bytes words.now)) }
+    ensures found { IfOk result (λ matches. subcommand_rows_of matches
+        ≡ subcommand_of ladr_app (map string_bytes words.now)) }
     ensures taken { IfOk result (λ matches. fault_of ladr_app (map string_bytes words.now) ≡ []) }
-    ensures refused { result ≡ Err WordsError.NoCommand → fault_of ladr_app (map string_bytes words.now) ≢ [] }
+    ensures refused { result ≡ Err WordsError.NoCommand
+        → fault_of ladr_app (map string_bytes words.now) ≢ [] }
 {
     match ladr(alloc)?.try_get_matches_from(words) {
         Ok(matches) => Ok(matches),
@@ -51,7 +54,8 @@ fn cause(error: &Error) -> WordsError
 
 // The task of what clap found.
 fn task_in(matches: &ArgMatches) -> Option<Task>
-    ensures task { result ≡ option_and_then (λ found. task_named found.0 found.1) (subcommand_rows_of matches.now) }
+    ensures task { result ≡ option_and_then (λ found. task_named found.0 found.1)
+        (subcommand_rows_of matches.now) }
     ensures ranges { IfSome result HasRanges }
 {
     let (name, found) = matches.subcommand()?;

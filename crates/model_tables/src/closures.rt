@@ -19,7 +19,9 @@ pub fn closure_truth(tables: &Tables, formula: &Formula, variables: &[u64], env:
     requires variables { variables.now ≡ free_vars_of (fol_of formula.now.shape) }
     requires room { room_of (closure_of (fol_of formula.now.shape)) ≤ length env.old }
     ensures room { length env.new ≡ length env.old }
-    ensures truth { (e : Assignment) → MatchBool result (Holds (meaning_of tables.now) e (closure_of (fol_of formula.now.shape))) (¬ Holds (meaning_of tables.now) e (closure_of (fol_of formula.now.shape))) }
+    ensures truth { (e : Assignment) → MatchBool result
+        (Holds (meaning_of tables.now) e (closure_of (fol_of formula.now.shape)))
+        (¬ Holds (meaning_of tables.now) e (closure_of (fol_of formula.now.shape))) }
 {
     clear(variables, env);
     while truth(tables, formula, env) {
@@ -45,12 +47,19 @@ fn clear(variables: &[u64], env: &mut Env)
 fn advance(tables: &Tables, variables: &[u64], env: &mut Env) -> bool
     requires room { HasRoom variables.now env.old }
     requires apart { IsOnce variables.now }
-    requires digits { AreDigits (map (λ x. tables.now.top + 1) variables.now) (map (assignment env.old) variables.now) }
+    requires digits { AreDigits (map (λ x. tables.now.top + 1) variables.now)
+        (map (assignment env.old) variables.now) }
     ensures room { length env.new ≡ length env.old }
-    ensures digits { AreDigits (map (λ x. tables.now.top + 1) variables.now) (map (assignment env.new) variables.now) }
+    ensures digits { AreDigits (map (λ x. tables.now.top + 1) variables.now)
+        (map (assignment env.new) variables.now) }
     ensures next { MatchBool result
-        (number (map (λ x. tables.now.top + 1) variables.now) (map (assignment env.new) variables.now) ≡ number (map (λ x. tables.now.top + 1) variables.now) (map (assignment env.old) variables.now) + 1)
-        (count (map (λ x. tables.now.top + 1) variables.now) ≡ number (map (λ x. tables.now.top + 1) variables.now) (map (assignment env.old) variables.now) + 1) }
+        (number (map (λ x. tables.now.top + 1) variables.now)
+        (map (assignment env.new) variables.now)
+        ≡ number (map (λ x. tables.now.top + 1) variables.now)
+        (map (assignment env.old) variables.now) + 1)
+        (count (map (λ x. tables.now.top + 1) variables.now)
+        ≡ number (map (λ x. tables.now.top + 1) variables.now)
+        (map (assignment env.old) variables.now) + 1) }
 {
     let size = tables.size();
     let mut at = variables.len();

@@ -79,7 +79,8 @@ impl Env {
         requires room { HasRoom variables.now self.old }
         requires many { length elements.now ≡ length variables.now }
         ensures room { length self.new ≡ length self.old }
-        ensures set { assignment self.new ≡ with_vars (assignment self.old) variables.now elements.now }
+        ensures set { assignment self.new ≡ with_vars
+            (assignment self.old) variables.now elements.now }
     {
         for (place, variable) in variables.iter().enumerate() {
             self.set(*variable, elements[place]);

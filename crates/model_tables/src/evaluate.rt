@@ -15,7 +15,8 @@ use fol_core::{Formula, Shape, Sym, Term, Terms};
 // The place of the arguments passed so far and x behind them, or the row's length where that is past its end.
 fn onward(row: &[u32], place: usize, size: usize, x: u32) -> usize
     requires { 0 < size }
-    ensures { (xs : List ℕ) → slice_index row.now (place_from size result xs) ≡ slice_index row.now (place_from size (place * size + x) xs) }
+    ensures { (xs : List ℕ) → slice_index row.now (place_from size result xs)
+        ≡ slice_index row.now (place_from size (place * size + x) xs) }
 {
     let end = row.len();
     match place.checked_mul(size) {
@@ -55,7 +56,8 @@ fn at(row: &[u32], place: usize) -> u32
 
 // What a relation's row has for the values of these terms.
 fn atom(tables: &Tables, relation: Sym, terms: &Terms, env: &Env) -> u32
-    ensures { result ≡ listed tables.now relation.0 (values_of (meaning_of tables.now) (assignment env.now) (trees_of terms.now)) }
+    ensures { result ≡ listed tables.now relation.0
+        (values_of (meaning_of tables.now) (assignment env.now) (trees_of terms.now)) }
 {
     let row = tables.row(relation);
     let size = tables.size() as usize;
@@ -70,7 +72,9 @@ fn atom(tables: &Tables, relation: Sym, terms: &Terms, env: &Env) -> u32
 pub fn truth(tables: &Tables, formula: &Formula, env: &mut Env) -> bool
     requires { room_of (fol_of formula.now.shape) ≤ length env.old }
     ensures same { env.new ≡ env.old }
-    ensures truth { MatchBool result (Holds (meaning_of tables.now) (assignment env.old) (fol_of formula.now.shape)) (¬ Holds (meaning_of tables.now) (assignment env.old) (fol_of formula.now.shape)) }
+    ensures truth { MatchBool result (Holds (meaning_of tables.now) (assignment env.old)
+        (fol_of formula.now.shape))
+        (¬ Holds (meaning_of tables.now) (assignment env.old) (fol_of formula.now.shape)) }
 {
     is_true(tables, &formula.shape, env)
 }
@@ -80,7 +84,9 @@ pub fn truth(tables: &Tables, formula: &Formula, env: &mut Env) -> bool
 pub(crate) fn is_true(tables: &Tables, shape: &Shape, env: &mut Env) -> bool
     requires { room_of (fol_of shape.now) ≤ length env.old }
     ensures same { env.new ≡ env.old }
-    ensures truth { MatchBool result (Holds (meaning_of tables.now) (assignment env.old) (fol_of shape.now)) (¬ Holds (meaning_of tables.now) (assignment env.old) (fol_of shape.now)) }
+    ensures truth { MatchBool result (Holds (meaning_of tables.now) (assignment env.old)
+        (fol_of shape.now))
+        (¬ Holds (meaning_of tables.now) (assignment env.old) (fol_of shape.now)) }
 {
     match shape {
         Shape::True => true,
@@ -107,8 +113,10 @@ fn true_at(tables: &Tables, variable: u64, element: u32, shape: &Shape, env: &mu
     requires room { room_of (fol_of shape.now) ≤ length env.old }
     requires slot { variable < length env.old }
     ensures same { env.new ≡ env.old }
-    ensures truth { MatchBool result (Holds (meaning_of tables.now) (with_var (assignment env.old) variable element) (fol_of shape.now))
-        (¬ Holds (meaning_of tables.now) (with_var (assignment env.old) variable element) (fol_of shape.now)) }
+    ensures truth { MatchBool result (Holds (meaning_of tables.now)
+        (with_var (assignment env.old) variable element) (fol_of shape.now))
+        (¬ Holds (meaning_of tables.now) (with_var (assignment env.old) variable element)
+        (fol_of shape.now)) }
 {
     let before = env.get(variable);
     env.put(variable, Some(element));
@@ -123,8 +131,10 @@ fn true_of_all(tables: &Tables, variable: u64, shape: &Shape, env: &mut Env) -> 
     requires room { room_of (fol_of shape.now) ≤ length env.old }
     requires slot { variable < length env.old }
     ensures same { env.new ≡ env.old }
-    ensures truth { MatchBool result (Holds (meaning_of tables.now) (assignment env.old) (forall variable (fol_of shape.now)))
-        (¬ Holds (meaning_of tables.now) (assignment env.old) (forall variable (fol_of shape.now))) }
+    ensures truth { MatchBool result (Holds (meaning_of tables.now) (assignment env.old)
+        (forall variable (fol_of shape.now)))
+        (¬ Holds (meaning_of tables.now) (assignment env.old)
+        (forall variable (fol_of shape.now))) }
 {
     for element in 0..tables.size() {
         if !true_at(tables, variable, element, shape, env) {
@@ -140,8 +150,10 @@ fn true_of_some(tables: &Tables, variable: u64, shape: &Shape, env: &mut Env) ->
     requires room { room_of (fol_of shape.now) ≤ length env.old }
     requires slot { variable < length env.old }
     ensures same { env.new ≡ env.old }
-    ensures truth { MatchBool result (Holds (meaning_of tables.now) (assignment env.old) (exists variable (fol_of shape.now)))
-        (¬ Holds (meaning_of tables.now) (assignment env.old) (exists variable (fol_of shape.now))) }
+    ensures truth { MatchBool result (Holds (meaning_of tables.now) (assignment env.old)
+        (exists variable (fol_of shape.now)))
+        (¬ Holds (meaning_of tables.now) (assignment env.old)
+        (exists variable (fol_of shape.now))) }
 {
     for element in 0..tables.size() {
         if true_at(tables, variable, element, shape, env) {

@@ -25,8 +25,10 @@ pub fn some_truth(
     requires room { room_of (fol_of shape.now) ≤ length env.old }
     requires many { length elements.old ≡ length variables.now }
     ensures room { length env.new ≡ length env.old }
-    ensures truth { MatchBool result (Holds (meaning_of tables.now) (assignment env.old) (some_over variables.now (fol_of shape.now)))
-        (¬ Holds (meaning_of tables.now) (assignment env.old) (some_over variables.now (fol_of shape.now))) }
+    ensures truth { MatchBool result (Holds (meaning_of tables.now) (assignment env.old)
+        (some_over variables.now (fol_of shape.now)))
+        (¬ Holds (meaning_of tables.now) (assignment env.old)
+        (some_over variables.now (fol_of shape.now))) }
 {
     elements.fill(0);
     env.set_each(variables, elements);

@@ -13,7 +13,8 @@ ghost use Rattle.model_tables.specs.Worked.{apart, tables, exchange, tables_text
 
 /// From the first tables of a size to the last, one step after the other, every interpretation of the size comes just once.
 pub fn each_comes_once()
-    ensures { (n : ℕ) (p : Stated) (ts : List Finite) → 1 ≤ n → GoesOn (first_of n p) ts → EachComesOnce n p (first_of n p ∷ ts) }
+    ensures { (n : ℕ) (p : Stated) (ts : List Finite) → 1 ≤ n → GoesOn (first_of n p) ts
+        → EachComesOnce n p (first_of n p ∷ ts) }
 {}
 
 /// The text of an interpretation tells its tables and its number.
@@ -31,7 +32,8 @@ pub fn is_isomorphic_to_itself()
 pub fn worked()
     ensures interpretation { IsInterpretation 3 apart (tables 0 1) }
     ensures countermodel { IsCountermodel (meaning_of (tables 0 1)) apart.formulas }
-    ensures place { (cell_count 3 apart ≡ 5) × (table_count (tables 0 1) ≡ 72) × (table_number (tables 0 1) ≡ 9) }
+    ensures place { (cell_count 3 apart ≡ 5) × (table_count (tables 0 1) ≡ 72)
+        × (table_number (tables 0 1) ≡ 9) }
     ensures text { model_text apart.symbols 7 (tables 0 1) ≡ tables_text }
     ensures operation { model_text group_symbols 1 group ≡ group_text }
     ensures renaming { IsIsomorphism 3 apart exchange (tables 0 1) (tables 1 0) }

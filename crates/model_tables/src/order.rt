@@ -29,8 +29,10 @@ fn advance_rows(size: u32, rows: &mut [Row]) -> bool
     ensures cells { HaveSameCells rows.old rows.new }
     ensures digits { AreDigits (bounds_of size rows.new) (cells_of rows.new) }
     ensures next { MatchBool result
-        (number (bounds_of size rows.new) (cells_of rows.new) ≡ number (bounds_of size rows.old) (cells_of rows.old) + 1)
-        ((count (bounds_of size rows.old) ≡ number (bounds_of size rows.old) (cells_of rows.old) + 1) × (number (bounds_of size rows.new) (cells_of rows.new) ≡ 0)) }
+        (number (bounds_of size rows.new) (cells_of rows.new)
+        ≡ number (bounds_of size rows.old) (cells_of rows.old) + 1)
+        ((count (bounds_of size rows.old) ≡ number (bounds_of size rows.old)
+        (cells_of rows.old) + 1) × (number (bounds_of size rows.new) (cells_of rows.new) ≡ 0)) }
 {
     let mut at = rows.len();
     while at > 0 {
@@ -71,8 +73,11 @@ pub(crate) fn advance_values(bound: u32, values: &mut [u32]) -> bool
     requires { AreDigits (replicate (length values.old) bound) values.old }
     ensures digits { AreDigits (replicate (length values.old) bound) values.new }
     ensures next { MatchBool result
-        (number (replicate (length values.old) bound) values.new ≡ number (replicate (length values.old) bound) values.old + 1)
-        ((count (replicate (length values.old) bound) ≡ number (replicate (length values.old) bound) values.old + 1) × (number (replicate (length values.old) bound) values.new ≡ 0)) }
+        (number (replicate (length values.old) bound) values.new
+        ≡ number (replicate (length values.old) bound) values.old + 1)
+        ((count (replicate (length values.old) bound)
+        ≡ number (replicate (length values.old) bound) values.old + 1)
+        × (number (replicate (length values.old) bound) values.new ≡ 0)) }
 {
     let mut at = values.len();
     while at > 0 {

@@ -15,7 +15,8 @@ pub fn reserve_closure(
     formula: &Formula,
     variables: &[u64],
 ) -> Result<(), AllocError>
-    ensures room { OnOk result (room_of (closed_over variables.now (fol_of formula.now.shape)) ≤ length env.new) }
+    ensures room { OnOk result (room_of (closed_over variables.now (fol_of formula.now.shape))
+        ≤ length env.new) }
     ensures kept { length env.old ≤ length env.new }
     ensures err { OnErr result (env.new ≡ env.old) }
 {
@@ -37,7 +38,9 @@ pub(crate) fn reserve_entry(env: &mut Env, entry: &Entry) -> Result<(), AllocErr
 
 // How many slots a Skolem symbol needs, if so many can be had.
 fn entry_room(entry: &Entry) -> Option<u64>
-    ensures { MatchOption result ⊤ (λ n. n ≡ room_of (closed_over entry.now.variables.items (forall entry.now.variable (closed_over entry.now.bound.items (fol_of entry.now.body))))) }
+    ensures { MatchOption result ⊤ (λ n. n ≡ room_of
+        (closed_over entry.now.variables.items
+        (forall entry.now.variable (closed_over entry.now.bound.items (fol_of entry.now.body))))) }
 {
     let bound = closed_room(&entry.body, &entry.bound)?;
     let body = greater(behind(entry.variable)?, bound)?;
@@ -46,14 +49,16 @@ fn entry_room(entry: &Entry) -> Option<u64>
 
 // How many slots a formula and these variables need, if so many can be had.
 fn closed_room(shape: &Shape, variables: &[u64]) -> Option<u64>
-    ensures { MatchOption result ⊤ (λ n. n ≡ room_of (closed_over variables.now (fol_of shape.now))) }
+    ensures { MatchOption result ⊤ (λ n. n ≡ room_of
+        (closed_over variables.now (fol_of shape.now))) }
 {
     behind_all(variables, room(shape)?)
 }
 
 // How many slots these variables and a formula that needs so many slots need, if so many can be had.
 fn behind_all(variables: &[u64], room: u64) -> Option<u64>
-    ensures { (f : Fol) → room ≡ room_of f → MatchOption result ⊤ (λ n. n ≡ room_of (closed_over variables.now f)) }
+    ensures { (f : Fol) → room ≡ room_of f → MatchOption result ⊤
+        (λ n. n ≡ room_of (closed_over variables.now f)) }
 {
     let mut all = room;
     let mut at = variables.len();

@@ -28,9 +28,11 @@ impl Tables {
 
 // A value 0 for each cell of the symbols.
 fn zeros(alloc: Global, problem: &Problem, used: &[bool], size: u32) -> Result<Vec<Row>, AllocError>
-    requires used { used.now ≡ used_from (formulas_of (stated_of problem.now)) 0 problem.now.symbols }
+    requires used { used.now ≡ used_from (formulas_of
+        (stated_of problem.now)) 0 problem.now.symbols }
     requires cells { cell_count size (stated_of problem.now) ≤ 50000000 }
-    ensures { IfOk result (λ rows. rows.items ≡ zeros_for size (formulas_of (stated_of problem.now)) 0 problem.now.symbols) }
+    ensures { IfOk result (λ rows. rows.items
+        ≡ zeros_for size (formulas_of (stated_of problem.now)) 0 problem.now.symbols) }
 {
     let mut rows = Vec::new(alloc);
     for number in 0..used.len() {
@@ -66,7 +68,8 @@ fn sum_of_cells(problem: &Problem, used: &[bool], size: u32) -> u64
 
 /// How many cells the Skolem symbols have at a size, or the greatest u64 if there are more.
 pub fn skolem_cell_count(clauses: &Clauses, size: u32) -> u64
-    ensures { result ≡ min (witness_cells size (map skolem_axiom_of clauses.now.skolem.items)) (2 ^ 64 - 1) }
+    ensures { result ≡ min (witness_cells size (map skolem_axiom_of clauses.now.skolem.items))
+        (2 ^ 64 - 1) }
 {
     let mut all: u64 = 0;
     let mut at = clauses.skolem.len();
@@ -91,7 +94,8 @@ pub fn size_needed(problem: &Problem) -> u64
 
 // Which symbols stand in the formulas.
 fn used_symbols(alloc: Global, problem: &Problem) -> Result<Vec<bool>, AllocError>
-    ensures { IfOk result (λ used. used.items ≡ used_from (formulas_of (stated_of problem.now)) 0 problem.now.symbols) }
+    ensures { IfOk result (λ used. used.items
+        ≡ used_from (formulas_of (stated_of problem.now)) 0 problem.now.symbols) }
 {
     let mut used = vec![in alloc; false; problem.symbols.len()]?;
     mark_inputs(&problem.inputs, &mut used);
@@ -100,7 +104,8 @@ fn used_symbols(alloc: Global, problem: &Problem) -> Result<Vec<bool>, AllocErro
 
 // Marks the symbols of formulas, by their numbers.
 fn mark_inputs(inputs: &[Input], marks: &mut [bool])
-    ensures { AreMarked (λ s. occurs_in s (map (λ i. i.formula) (all_said inputs.now))) marks.old marks.new }
+    ensures { AreMarked (λ s. occurs_in s (map (λ i. i.formula)
+        (all_said inputs.now))) marks.old marks.new }
 {
     for input in inputs {
         mark_symbols(&input.formula, marks);

@@ -16,7 +16,8 @@ use std::alloc::{AllocError, Global};
 /// The tables with the least witnesses for each Skolem symbol; the tables of all other symbols are kept.
 pub fn expand(alloc: Global, tables: &Tables, clauses: &Clauses) -> Result<Tables, AllocError>
     requires { AreInOrder (map skolem_axiom_of clauses.now.skolem.items) }
-    ensures { IfOk result (λ u. IsExpansion tables.now (map skolem_axiom_of clauses.now.skolem.items) u) }
+    ensures { IfOk result (λ u. IsExpansion tables.now
+        (map skolem_axiom_of clauses.now.skolem.items) u) }
 {
     let mut expanded = tables.copy(alloc)?;
     let mut env = Env::new(alloc);
@@ -29,7 +30,9 @@ pub fn expand(alloc: Global, tables: &Tables, clauses: &Clauses) -> Result<Table
 // Puts in the least witnesses for a Skolem symbol.
 fn fill(alloc: Global, entry: &Entry, tables: &mut Tables, env: &mut Env) -> Result<(), AllocError>
     requires { IsClosedBody (skolem_axiom_of entry.now) }
-    ensures { OnOk result ((values : List ℕ) × (AreLeastWitnesses tables.old (skolem_axiom_of entry.now) values × (tables.new ≡ with_values tables.old entry.now.symbol.0 values))) }
+    ensures { OnOk result ((values : List ℕ)
+        × (AreLeastWitnesses tables.old (skolem_axiom_of entry.now) values
+        × (tables.new ≡ with_values tables.old entry.now.symbol.0 values))) }
 {
     reserve_entry(env, entry)?;
     let values = witnesses(alloc, tables, entry, env)?;
@@ -45,7 +48,8 @@ fn witnesses(
 ) -> Result<Vec<u32>, AllocError>
     requires closed { IsClosedBody (skolem_axiom_of entry.now) }
     requires room { HasRoomFor entry.now env.old }
-    ensures { IfOk result (λ values. AreLeastWitnesses tables.now (skolem_axiom_of entry.now) values.items) }
+    ensures { IfOk result (λ values. AreLeastWitnesses tables.now
+        (skolem_axiom_of entry.now) values.items) }
 {
     let mut arguments = vec![in alloc; 0; entry.variables.len()]?;
     let mut elements = vec![in alloc; 0; entry.bound.len()]?;
@@ -70,7 +74,8 @@ fn least(
     requires arguments { length arguments.now ≡ length entry.now.variables.items }
     requires elements { length elements.old ≡ length entry.now.bound.items }
     ensures room { length env.new ≡ length env.old }
-    ensures least { IsLeastWitness tables.now (assigned entry.now.variables.items arguments.now) (skolem_axiom_of entry.now) result }
+    ensures least { IsLeastWitness tables.now (assigned entry.now.variables.items arguments.now)
+        (skolem_axiom_of entry.now) result }
 {
     for element in 0..tables.size() {
         if is_witness(tables, entry, arguments, element, elements, env) {
@@ -94,8 +99,10 @@ fn is_witness(
     requires arguments { length arguments.now ≡ length entry.now.variables.items }
     requires elements { length elements.old ≡ length entry.now.bound.items }
     ensures room { length env.new ≡ length env.old }
-    ensures truth { MatchBool result (IsWitness tables.now (assigned entry.now.variables.items arguments.now) (skolem_axiom_of entry.now) element)
-        (¬ IsWitness tables.now (assigned entry.now.variables.items arguments.now) (skolem_axiom_of entry.now) element) }
+    ensures truth { MatchBool result (IsWitness tables.now
+        (assigned entry.now.variables.items arguments.now) (skolem_axiom_of entry.now) element)
+        (¬ IsWitness tables.now (assigned entry.now.variables.items arguments.now)
+        (skolem_axiom_of entry.now) element) }
 {
     env.set_each(&entry.variables, arguments);
     env.set(entry.variable, element);

@@ -110,7 +110,8 @@ impl Tables {
 
     // Puts in a row for a symbol; symbols before it that had none have no entry.
     pub(crate) fn put(&mut self, alloc: Global, symbol: Sym, row: Row) -> Result<(), AllocError>
-        ensures { OnOk result (self.new ≡ record { top = self.old.top; rows = with_row self.old.rows symbol.0 row }) }
+        ensures { OnOk result (self.new ≡ record
+            { top = self.old.top; rows = with_row self.old.rows symbol.0 row }) }
     {
         while self.rows.len() as u64 <= symbol.0 {
             self.rows.push(Row::none(alloc))?;

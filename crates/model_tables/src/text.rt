@@ -30,7 +30,8 @@ pub fn interpretation_text(
 
 // The lines of the entries of the symbols that have values.
 fn entries(out: &mut Vec<u8>, symbols: &Symbols, rows: &[Row]) -> Result<(), AllocError>
-    ensures { OnOk result (out.new.items ≡ out.old.items ++ lines_of (entries_of symbols.now rows.now)) }
+    ensures { OnOk result (out.new.items ≡ out.old.items
+        ++ lines_of (entries_of symbols.now rows.now)) }
 {
     let mut before = false;
     for number in 0..rows.len().min(symbols.len()) {
@@ -49,7 +50,8 @@ fn line(
     before: bool,
 ) -> Result<bool, AllocError>
     requires { symbol.0 < length symbols.now }
-    ensures text { OnOk result (out.new.items ≡ out.old.items ++ line_of before (name_at symbols.now symbol.0) (arity_at symbols.now symbol.0) row.now) }
+    ensures text { OnOk result (out.new.items ≡ out.old.items
+        ++ line_of before (name_at symbols.now symbol.0) (arity_at symbols.now symbol.0) row.now) }
     ensures now { IfOk result (λ now. now ≡ (before || not (length row.now.values == 0))) }
 {
     if row.is_empty() {
@@ -77,7 +79,9 @@ fn end(before: bool) -> &'static [u8]
 // `function(f(_), [1,0])`
 fn entry(out: &mut Vec<u8>, symbols: &Symbols, symbol: Sym, row: &Row) -> Result<(), AllocError>
     requires { symbol.0 < length symbols.now }
-    ensures { OnOk result (out.new.items ≡ out.old.items ++ entry_text (name_at symbols.now symbol.0) (arity_at symbols.now symbol.0) row.now.kind row.now.values) }
+    ensures { OnOk result (out.new.items ≡ out.old.items
+        ++ entry_text (name_at symbols.now symbol.0)
+        (arity_at symbols.now symbol.0) row.now.kind row.now.values) }
 {
     text(out, word(row.kind))?;
     text(out, b"(")?;

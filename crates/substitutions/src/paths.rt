@@ -60,7 +60,8 @@ fn push_copies(made: &mut Terms, alloc: Global, terms: &[Term]) -> Result<(), Al
 
 // Terms between others.
 fn between(alloc: Global, before: &[Term], new: Term, after: &[Term]) -> Result<Terms, AllocError>
-    ensures { IfOk result (λ made. made ≡ (tree_list before.now ++ tree_of new ∷ []) ++ tree_list after.now) }
+    ensures { IfOk result (λ made. made ≡ (tree_list before.now ++ tree_of new ∷ [])
+        ++ tree_list after.now) }
 {
     let mut made = Terms::new(alloc);
     push_copies(&mut made, alloc, before)?;
@@ -72,7 +73,8 @@ fn between(alloc: Global, before: &[Term], new: Term, after: &[Term]) -> Result<
 // The arguments with another one under a number.
 #[tactic(auto, using(crate::proofs::PathLemmas::with_argument_made, crate::proofs::PathLemmas::with_argument_zero, crate::proofs::PathLemmas::with_argument_past))]
 fn with_argument(alloc: Global, terms: &Terms, number: u64, new: Term) -> Result<Terms, AllocError>
-    ensures { IfOk result (λ made. trees_of made ≡ with_argument (λ _. tree_of new) (trees_of terms.now) number) }
+    ensures { IfOk result (λ made. trees_of made
+        ≡ with_argument (λ _. tree_of new) (trees_of terms.now) number) }
 {
     let all = terms.as_slice();
     if number == 0 {
@@ -87,7 +89,8 @@ fn with_argument(alloc: Global, terms: &Terms, number: u64, new: Term) -> Result
 
 // The term with another one in place of an argument.
 fn with_part(alloc: Global, term: &Term, number: u64, new: Term) -> Result<Term, AllocError>
-    ensures { IfOk result (λ made. tree_of made ≡ with_part (λ _. tree_of new) (tree_of term.now) number) }
+    ensures { IfOk result (λ made. tree_of made
+        ≡ with_part (λ _. tree_of new) (tree_of term.now) number) }
 {
     match term {
         Term::Var(x) => Ok(Term::Var(*x)),
@@ -103,7 +106,9 @@ pub fn replace_at(
     path: &[u64],
     new: &Term,
 ) -> Result<Option<Term>, AllocError>
-    ensures { IfOk result (λ made. option_map tree_of made ≡ option_map (λ _. replaced (tree_of term.now) path.now (tree_of new.now)) (subterm_at (tree_of term.now) path.now)) }
+    ensures { IfOk result (λ made. option_map tree_of made
+        ≡ option_map (λ _. replaced (tree_of term.now) path.now (tree_of new.now))
+        (subterm_at (tree_of term.now) path.now)) }
 {
     let Some((number, rest)) = path.split_first() else {
         return Ok(Some(new.copy(alloc)?));

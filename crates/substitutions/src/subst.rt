@@ -81,7 +81,8 @@ pub fn apply(alloc: Global, term: &Term, subst: &Subst) -> Result<Term, AllocErr
 
 /// The literal with terms put in for its variables.
 pub fn apply_literal(alloc: Global, literal: &Literal, subst: &Subst) -> Result<Literal, AllocError>
-    ensures { IfOk result (λ l. literal_of l ≡ substitute_literal (by_bindings subst.now) (literal_of literal.now)) }
+    ensures { IfOk result (λ l. literal_of l
+        ≡ substitute_literal (by_bindings subst.now) (literal_of literal.now)) }
 {
     let atom = apply(alloc, &literal.atom, subst)?;
     Ok(Literal {

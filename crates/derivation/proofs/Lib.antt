@@ -1,0 +1,10 @@
+pub mod Conclusions
+pub mod Induction
+pub mod LaterSound
+pub mod Lawful
+pub mod Naturality
+pub mod PlaceLemmas
+pub mod Rows
+pub mod RuleSound
+pub mod Values
+mod WorkedLemmas

@@ -1,0 +1,46 @@
+-- What refutations show, in every interpretation.
+use Rattle.std.specs.Prelude.{ℕ, ◌≡◌, IsTrue, List, [], ◌∷◌, map, Some}
+use Rattle.fol_core.specs.Laws.{NamesElements}
+use Rattle.fol_core.specs.Literals.{ClauseTree, AreTrueClauses}
+use Rattle.fol_core.specs.Meaning.{Meaning}
+use Rattle.fol_core.specs.Stated.{Said}
+use Rattle.substitutions.specs.Atoms.{AreAtoms}
+use Rattle.derivation.specs.Lines.{FirstWord, Inference, ContentTree, formula, clause, LineTree, Row, IsRefutation, inference_of}
+use Rattle.derivation.specs.Refused.{IsFault}
+use Rattle.derivation.specs.Rule.{Concludes}
+
+-- each element that a clause names is within
+abbrev pub NamesWithin : Meaning → ClauseTree → Type 0
+NamesWithin m [] = Unit {0}
+NamesWithin m (l ∷ c) = NamesElements m l.atom × NamesWithin m c
+
+abbrev pub ContentNamesWithin : Meaning → ContentTree → Type 0
+ContentNamesWithin m (formula f) = Unit {0}
+ContentNamesWithin m (clause c) = NamesWithin m c
+
+-- and each that the clauses of lines name; where they name none, in every interpretation
+abbrev pub LinesNameWithin : Meaning → List LineTree → Type 0
+LinesNameWithin m [] = Unit {0}
+LinesNameWithin m (l ∷ ls) = ContentNamesWithin m l.content × LinesNameWithin m ls
+
+abbrev pub RowsAreAtoms : List Row → Type 0
+RowsAreAtoms [] = Unit {0}
+RowsAreAtoms (r ∷ rows) = AreAtoms r.1 × RowsAreAtoms rows
+
+-- where there is a refutation, not all input clauses are true
+abbrev pub RefutationIsSound : Meaning → Type 0
+RefutationIsSound m = (ss : List Said) (rows : List Row) (ls : List LineTree) → RowsAreAtoms rows → LinesNameWithin m ls
+    → IsRefutation ss rows ls → ¬ AreTrueClauses m (map (λ r. r.1) rows)
+
+-- a rule has one conclusion
+abbrev pub OneConclusion : Type 0
+OneConclusion = (w : FirstWord) (i : Inference) (ps : List ClauseTree) (c d : ClauseTree) → inference_of w ≡ Some i
+    → IsTrue (i.rule.fits ps) → Concludes i.rule ps c → Concludes i.rule ps d → c ≡ d
+
+-- lines that have a fault are no refutation, and the fault is one
+abbrev pub FaultIsNone : Type 0
+FaultIsNone = (ss : List Said) (rows : List Row) (ls : List LineTree) (number row : ℕ) → IsFault ss rows ls number row → ¬ IsRefutation ss rows ls
+
+abbrev pub FaultIsOne : Type 0
+FaultIsOne = (ss : List Said) (rows : List Row) (ls : List LineTree) (number row other_number other_row : ℕ)
+    → IsFault ss rows ls number row → IsFault ss rows ls other_number other_row → (number ≡ other_number) × (row ≡ other_row)

@@ -1,0 +1,10 @@
+pub mod Equations
+pub mod Later
+pub mod Laws
+pub mod Lines
+pub mod Places
+pub mod Refused
+pub mod Rule
+pub mod View
+pub mod Words
+pub mod Worked

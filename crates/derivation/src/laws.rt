@@ -1,0 +1,34 @@
+// Laws of derivations: the functions do nothing, and their contracts are the laws.
+ghost use Rattle.derivation.specs.Laws.{RefutationIsSound, OneConclusion, FaultIsNone, FaultIsOne};
+ghost use Rattle.derivation.specs.Worked.{WorkedCopy, WorkedClash, WorkedFactor, WorkedReflexivity, WorkedParamodulation, WorkedLater, WorkedMisfits, WorkedRefutation, WorkedFaults};
+
+use fol_core::Interpretation;
+
+/// Where there is a refutation, not all input clauses are true.
+pub fn refutation_is_sound<I: Interpretation>(any: &I)
+    ensures { RefutationIsSound (I.meaning any.now) }
+{}
+
+/// A rule has one conclusion, whatever most general unifier it is made by.
+pub fn conclusion_is_one()
+    ensures { OneConclusion }
+{}
+
+/// Lines that have a fault are no refutation, and the fault is one: a line and a row.
+pub fn fault_is_one()
+    ensures none { FaultIsNone }
+    ensures one { FaultIsOne }
+{}
+
+/// Steps worked out: one of each word, and a fault of each row.
+pub fn worked()
+    ensures copy { WorkedCopy }
+    ensures clash { WorkedClash }
+    ensures factor { WorkedFactor }
+    ensures reflexivity { WorkedReflexivity }
+    ensures paramodulation { WorkedParamodulation }
+    ensures later { WorkedLater }
+    ensures misfits { WorkedMisfits }
+    ensures refutation { WorkedRefutation }
+    ensures faults { WorkedFaults }
+{}

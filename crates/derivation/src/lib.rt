@@ -1,0 +1,10 @@
+// Derivations: the rules of inference, the lines of a proof, and what a refutation shows.
+#![tactic(auto)]
+
+mod laws;
+mod line;
+mod words;
+
+pub use laws::{conclusion_is_one, fault_is_one, refutation_is_sound, worked};
+pub use line::{Content, Derivation, Just, Line};
+pub use words::{First, Later, Paramodulation, Rewrite, Satellite};

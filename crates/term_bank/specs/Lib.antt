@@ -1,0 +1,4 @@
+pub mod Bank
+pub mod Cells
+pub mod Nodes
+pub mod Worked
