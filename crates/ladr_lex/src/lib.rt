@@ -4,6 +4,7 @@
 mod bytes;
 mod clause_names;
 mod laws;
+mod limits;
 mod numeral;
 mod operators;
 mod places;
@@ -11,8 +12,9 @@ mod scan;
 mod token;
 
 pub use laws::{one_cutting, one_numeral, one_operator, worked, worked_clauses, worked_operators};
+pub use limits::{MOST_ARGUMENTS, MOST_BYTES, MOST_ELEMENT, MOST_LEVELS, MOST_SYMBOLS};
 pub use numeral::{is_numeral, number, value, whole_number};
 pub use operators::{DeclareError, Operator, OperatorKind, Ops};
 pub use places::{Place, place_of};
-pub use scan::{Lex, MOST_BYTES, tokens, tokens_from};
+pub use scan::{Lex, tokens, tokens_from};
 pub use token::{Token, TokenKind};

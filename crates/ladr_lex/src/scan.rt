@@ -7,11 +7,9 @@ ghost use Rattle.ladr_lex.specs.Lexed.{kind_in, kind_at, kept, behind, special_b
 ghost use Rattle.ladr_lex.specs.declared.bytes.Start.TheVariants.{Quote, Percent};
 
 use crate::bytes::{Class, Start, is_special, start_of};
+use crate::limits::MOST_BYTES;
 use crate::token::{Token, TokenKind};
 use std::alloc::{AllocError, Global};
-
-/// The most bytes that a text may have.
-pub const MOST_BYTES: usize = 16_777_216;
 
 /// Why a text isn't cut: it has too many bytes, or memory is lacking.
 #[derive(Clone, Copy, Debug, PartialEq, Eq)]
@@ -34,7 +32,7 @@ impl From<AllocError> for Lex {
 /// The tokens of a text.
 pub fn tokens<'a>(alloc: Global, bytes: &'a [u8]) -> Result<Vec<Token<'a>>, Lex>
     ensures cut { IfOk result (λ found. Cuts 0 bytes.now (pieces_of found.items)) }
-    ensures input { (result ≡ Err Lex.Input) ↔ (16777216 < length bytes.now) }
+    ensures input { (result ≡ Err Lex.Input) ↔ (MOST_BYTES < length bytes.now) }
 {
     if bytes.len() > MOST_BYTES {
         return Err(Lex::Input);

@@ -13,6 +13,7 @@ use Rattle.ladr_commands.specs.Form.{Says}
 use Rattle.ladr_commands.specs.declared.command.Command.{Command}
 use Rattle.ladr_commands.specs.declared.fault.CommandFault.TheVariants as command_fault
 use Rattle.ladr_problem.specs.ListItem.{ListItem, closing, term, IsListItem, IsItemFault}
+use Rattle.ladr_lex.specs.declared.limits.TheConstants.{MOST_LEVELS, MOST_SYMBOLS}
 use Rattle.ladr_lex.specs.Lexeme.{Lexeme}
 use Rattle.ladr_rules.specs.Attributes.{attributed, breaks_row_12, label_of, hint_weight_of}
 use Rattle.fol_core.specs.Weights.{Rule}
@@ -107,7 +108,7 @@ after_list list byte s t made = option_map_or (λ k. Err (Row k)) (least_row lis
 abbrev pub after_formula : Mode → Option FormulaList → ℕ → Sofar → RawTree → Result Sofar Refusal
 after_formula m list byte s t =
     let made = formula_made m s t in
-    if nat_lt 65535 (length made.reading.symbols) then Err Symbols
+    if nat_lt MOST_SYMBOLS (length made.reading.symbols) then Err Symbols
     else (if made.reading.large then Err Arity
     else (if not (is_meant m s.settings) then Ok s
     else option_map_or (λ l. after_list l byte s t made) list (Ok s)))
@@ -123,7 +124,7 @@ unshaped m s = if is_meant m s.settings then Err (Row 15) else Ok s
 -- a rule of weights, of the right shape: its symbols count, as those of formulas do
 abbrev pub after_rule : Mode → Sofar → Made Rule → Result Sofar Refusal
 after_rule m s made =
-    if nat_lt 65535 (length made.reading.symbols) then Err Symbols
+    if nat_lt MOST_SYMBOLS (length made.reading.symbols) then Err Symbols
     else (if made.reading.large then Err Arity
     else (if not (is_meant m s.settings) then Ok s
     else option_map_or (λ k. Err (Row k)) made.reading.least (Ok (record s { symbols = made.reading.symbols; weights = s.weights ++ made.tree ∷ [] }))))
@@ -151,7 +152,7 @@ abbrev pub after_item : Mode → ℕ → Sofar → List Lexeme → Item → Resu
 after_item m byte s ts (command c) = with_settings s (after m c s.settings)
 after_item m byte s ts (within closing) = Ok (record s { settings = record s.settings { list = None } })
 after_item m byte s ts (within (term t)) =
-    if nat_lt 500 (nesting ts t) then Err Nesting else option_map_or (λ l. after_term m l byte s t) s.settings.list (Ok s)
+    if nat_lt MOST_LEVELS (nesting ts t) then Err Nesting else option_map_or (λ l. after_term m l byte s t) s.settings.list (Ok s)
 
 -- The item is refused so: it can't be read, or is read and passes a limit or breaks a row. Nothing is said of memory.
 abbrev pub IsRefused : Mode → ℕ → Sofar → List Lexeme → Refusal → Type 0

@@ -7,6 +7,7 @@ use Rattle.fol_core.specs.declared.problem.Role.{Role}
 use Rattle.ladr_commands.specs.ByName.{ByName}
 use Rattle.ladr_interpretations.specs.Covers.{covers}
 use Rattle.ladr_problem.specs.Items.{items_of, lexemes}
+use Rattle.ladr_lex.specs.declared.limits.TheConstants.{MOST_BYTES}
 use Rattle.ladr_lex.specs.Cuts.{Piece, Cuts}
 use Rattle.ladr_interpretations.specs.Good.{tables_for}
 use Rattle.ladr_problem.specs.Adding.{Item, IsRead, IsUnreadable, after_item}
@@ -81,7 +82,7 @@ finished Tester end o = tested end o
 
 -- the most bytes that an input may have
 abbrev pub most_bytes : ℕ
-most_bytes = 16777216
+most_bytes = MOST_BYTES
 
 -- the bytes say this to the program
 pub data Says (m : Mode) (bytes : List ℕ) : Outcome → Type 0 where

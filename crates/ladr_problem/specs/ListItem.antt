@@ -1,6 +1,7 @@
 -- What stands in a list: its end, or a term.
 use Rattle.std.specs.Prelude.{◌≡◌, ℕ, ◌+◌, ◌<◌, ◌≤◌, List, [], ◌∷◌, ◌++◌, length, take, codes}
 use Rattle.fol_core.specs.RawTree.{RawTree}
+use Rattle.ladr_lex.specs.declared.limits.TheConstants.{MOST_LEVELS}
 use Rattle.ladr_lex.specs.Lexeme.{Lexeme, ordinary, symbol, full_stop}
 use Rattle.ladr_reader.specs.Nesting.{nesting}
 use Rattle.ladr_reader.specs.Reads.{Item}
@@ -21,10 +22,10 @@ abbrev pub IsListItem : Table → List Lexeme → ListItem → Type 0
 IsListItem g ts closing = ts ≡ closing_tokens
 IsListItem g ts (term t) = (¬ ts ≡ closing_tokens) × Item g ts t
 
--- a term that is nested at most 500 deep, or the end of the list
+-- a term that is nested no deeper than its limit, or the end of the list
 abbrev pub IsShallow : List Lexeme → ListItem → Type 0
 IsShallow ts closing = Unit {0}
-IsShallow ts (term t) = nesting ts t ≤ 500
+IsShallow ts (term t) = nesting ts t ≤ MOST_LEVELS
 
 -- some item of a list begins with these tokens
 pub record Begins (g : Table) (ts : List Lexeme) : Type 0 where
@@ -39,9 +40,9 @@ pub record IsBadToken (g : Table) (ts : List Lexeme) (k : ℕ) : Type 0 where
   pub before : Begins g (take k ts)
   pub here : k < length ts → ¬ Begins g (take (k + 1) ts)
 
--- The tokens are no item of a list, and this one is the first bad one; they are a term that is nested deeper than 500; nothing is
+-- The tokens are no item of a list, and this one is the first bad one; they are a term that is nested deeper; nothing is
 -- said of memory.
 abbrev pub IsItemFault : Table → List Lexeme → TermFault → Type 0
 IsItemFault g ts (Bad k) = IsBadToken g ts k × ((i : ListItem) → ¬ IsListItem g ts i)
-IsItemFault g ts Deep = (t : RawTree) × IsListItem g ts (term t) × (500 < nesting ts t)
+IsItemFault g ts Deep = (t : RawTree) × IsListItem g ts (term t) × (MOST_LEVELS < nesting ts t)
 IsItemFault g ts Memory = Unit {0}

@@ -5,6 +5,7 @@ use Rattle.std.specs.declared.result.Result.{Result}
 use Rattle.std.specs.declared.result.Result.TheVariants.{Ok, Err}
 use Rattle.fol_core.specs.FormulaView.{fol_of}
 use Rattle.fol_core.specs.RuleView.{rule_of}
+use Rattle.ladr_lex.specs.declared.limits.TheConstants.{MOST_SYMBOLS}
 use Rattle.ladr_lex.specs.Lexeme.{Lexeme}
 use Rattle.ladr_problem.specs.Adding.{Item, IsRead, after_item, least_row, with_listed}
 use Rattle.ladr_problem.specs.Sofar.{Sofar, listed_of}
@@ -34,7 +35,7 @@ with_read list byte s a r =
 -- the table has the formula's symbols behind so many
 abbrev pub after_read : Mode → Option FormulaList → ℕ → ℕ → Sofar → Stated → FormulaRead → Result Sofar Refusal
 after_read m list byte before s a r =
-    if nat_lt 65535 (length s.symbols) then Err Symbols
+    if nat_lt MOST_SYMBOLS (length s.symbols) then Err Symbols
     else (if r.large then Err Arity
     else (if not (is_meant m s.settings) then Ok (record s { symbols = take before s.symbols })
     else option_map_or (λ l. with_read l byte s a r) list (Ok (record s { symbols = take before s.symbols }))))
@@ -46,7 +47,7 @@ IsTaken m byte s ts t = (i : Item) × IsRead m s ts i × (after_item m byte s ts
 -- what was read with the symbols of a rule of weights, and then the rule; the table has its symbols behind so many
 abbrev pub after_rule_read : Mode → ℕ → Sofar → RuleRead → Result Sofar Refusal
 after_rule_read m before s r =
-    if nat_lt 65535 (length s.symbols) then Err Symbols
+    if nat_lt MOST_SYMBOLS (length s.symbols) then Err Symbols
     else (if r.large then Err Arity
     else (if not (is_meant m s.settings) then Ok (record s { symbols = take before s.symbols })
     else option_map_or (λ k. Err (Row k)) r.least (Ok (record s { weights = s.weights ++ rule_of r.rule ∷ [] }))))

@@ -9,13 +9,11 @@ ghost use Rattle.ladr_problem.specs.Reading.{after_read, with_read, IsNo};
 use crate::draft::Draft;
 use crate::refusal::Refusal;
 use fol_core::Raw;
+use ladr_lex::MOST_SYMBOLS;
 use ladr_reader::{FormulaRead, Mode, read_formula};
 use ladr_rules::{Stated, is_demodulator, is_hint};
 use ladr_settings::FormulaList;
 use std::alloc::{AllocError, Global};
-
-/// The most symbols of a file.
-pub const MOST_SYMBOLS: usize = 65_535;
 
 fn is_hints(list: FormulaList) -> bool
     ensures { result ≡ is_hints list }

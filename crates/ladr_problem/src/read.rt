@@ -27,7 +27,7 @@ use model_tables::Tables;
 use std::alloc::{AllocError, Global};
 
 /// The most bytes that an input may have.
-pub const MOST_BYTES: u64 = 16_777_216;
+pub const MOST_BYTES: u64 = ladr_lex::MOST_BYTES as u64;
 
 /// What a file says: its problem, the operators as they are at its end, and the interpretation, if there is one.
 #[derive(Drop)]

@@ -6,9 +6,9 @@ ghost use Rattle.ladr_problem.specs.Draft.{sofar_of};
 ghost use Rattle.ladr_problem.specs.Reading.{IsNo, after_rule_read};
 
 use crate::draft::Draft;
-use crate::formulas::MOST_SYMBOLS;
 use crate::refusal::Refusal;
 use fol_core::Raw;
+use ladr_lex::MOST_SYMBOLS;
 use ladr_reader::Mode;
 use ladr_rules::{RuleRead, kbo_rule, weight_rule};
 use std::alloc::Global;

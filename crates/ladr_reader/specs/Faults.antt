@@ -1,6 +1,7 @@
 -- Why tokens have no term.
 use Rattle.std.specs.Prelude.{◌≡◌, ℕ, ◌<◌, List, Option}
 use Rattle.fol_core.specs.RawTree.{RawTree}
+use Rattle.ladr_lex.specs.declared.limits.TheConstants.{MOST_LEVELS}
 use Rattle.ladr_lex.specs.Lexeme.{Lexeme}
 use Rattle.ladr_reader.specs.Capped.{built}
 use Rattle.ladr_reader.specs.Nesting.{nesting, most_open}
@@ -15,9 +16,9 @@ IsFaultWhere IsDeep g ts (Bad k) = IsBadToken g ts k × ((t : RawTree) → ¬ It
 IsFaultWhere IsDeep g ts Deep = (t : RawTree) × Item g ts t × IsDeep t
 IsFaultWhere IsDeep g ts Memory = Unit {0}
 
--- a term is too deep where it is nested deeper than 500
+-- a term of an item is too deep where it is nested deeper than its limit
 abbrev pub IsTermFault : Table → List Lexeme → TermFault → Type 0
-IsTermFault g ts fault = IsFaultWhere (λ t. 500 < nesting ts t) g ts fault
+IsTermFault g ts fault = IsFaultWhere (λ t. MOST_LEVELS < nesting ts t) g ts fault
 
 -- the tokens are an item, of whose term this is built, and so many parentheses are open at once
 pub record IsRead (n : ℕ) (g : Table) (ts : List Lexeme) (term : Option (List RawTree)) (most : ℕ) : Type 0 where

@@ -10,6 +10,7 @@ use Rattle.fol_core.specs.declared.raw.Quantifier.{Quantifier}
 use Rattle.fol_core.specs.declared.raw.Quantifier.TheVariants.{All, Exists}
 use Rattle.fol_core.specs.declared.symbols.Kind.{Kind}
 use Rattle.fol_core.specs.declared.symbols.Kind.TheVariants.{Function, Relation}
+use Rattle.ladr_lex.specs.declared.limits.TheConstants.{MOST_ARGUMENTS, MOST_ELEMENT, MOST_SYMBOLS}
 use Rattle.ladr_lex.specs.Numeral.{is_numeral, number}
 use Rattle.ladr_reader.specs.declared.connectives.Connective.{Connective}
 use Rattle.ladr_reader.specs.declared.connectives.Connective.TheVariants.{And, Or, IfThen, ThenIf, IfAndOnlyIf}
@@ -88,7 +89,7 @@ abbrev pub with_symbol : List ℕ → ℕ → Kind → Reading → Reading
 with_symbol name arity kind s =
     let symbol : Symbol = record { name = name; arity = arity; kind = kind } in
     let met = meets (bytes_eq name (codes "#")) 12 (meets (is_clash s.symbols symbol) 9 s) in
-    record met { symbols = entered s.symbols symbol; large = s.large || nat_lt 255 arity }
+    record met { symbols = entered s.symbols symbol; large = s.large || nat_lt MOST_ARGUMENTS arity }
 
 abbrev pub symbol_number : List ℕ → ℕ → Reading → ℕ
 symbol_number name arity s = unwrap_or (number_of s.symbols name arity) 0
@@ -99,7 +100,7 @@ arity_of (more_raws t ts) = suc (arity_of ts)
 
 -- numerals that name elements end at 999,999,999
 abbrev pub is_too_great : Style → List ℕ → Bool
-is_too_great st name = st.elements && is_numeral name && nat_lt 999999999 (number name)
+is_too_great st name = st.elements && is_numeral name && nat_lt MOST_ELEMENT (number name)
 
 abbrev pub is_element : Style → List ℕ → Bool
 is_element st name = st.elements && is_numeral name
@@ -242,7 +243,7 @@ names_of (v ∷ vs) = v.name ∷ names_of vs
 
 -- why what was read is refused, if it is: too many symbols, else too large an arity, else the least row of misuse
 abbrev pub fault_of : Reading → Option FormulaError
-fault_of s = if nat_lt 65535 (length s.symbols) then Some (Large what.Symbols) else (if s.large then Some (Large what.Arity) else option_map Row s.least)
+fault_of s = if nat_lt MOST_SYMBOLS (length s.symbols) then Some (Large what.Symbols) else (if s.large then Some (Large what.Arity) else option_map Row s.least)
 
 -- nothing is misused, and nothing too large
 abbrev pub is_sound : Reading → Bool

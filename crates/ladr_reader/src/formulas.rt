@@ -15,11 +15,9 @@ use crate::connectives::{Connective, connective_of, is_denial};
 use crate::reader::Reader;
 use crate::styles::{FormulaError, Mode, Style, style_of};
 use fol_core::{Formula, Kind, Quantifier, Raw, Raws, Shape, Sub, Sym, Symbols, Term, Terms};
-use ladr_lex::{is_numeral, number};
+use ladr_lex::{MOST_ELEMENT, is_numeral, number};
 use std::alloc::{AllocError, Global};
 use std::mem;
-
-const MOST_ELEMENT: u32 = 999_999_999;
 
 fn is_element(style: Style, name: &[u8]) -> bool
     ensures { result ≡ is_element style name.now }

@@ -17,21 +17,15 @@ use crate::place::Place;
 use crate::stack::Stack;
 use crate::step::step;
 use fol_core::Raw;
-use ladr_lex::{Ops, Token};
+use ladr_lex::{MOST_LEVELS, Ops, Token};
 use std::alloc::Global;
-
-/// The most levels that the tree of an item may have.
-const MOST_LEVELS: u16 = 500;
-
-/// The most parentheses that may be open at once.
-const MOST_OPEN: usize = 500;
 
 /// The term that the tokens are, which are one item with its full stop, or all that is left of a text.
 ///
 /// The tokens are read once, from left to right, also where the item turns out to be nested too deep.
 pub fn read_term(alloc: Global, ops: &Ops, tokens: &[Token]) -> Result<Raw, TermFault>
     ensures read { IfOk result (λ raw. Item (table_of ops.now) (lexemes_of tokens.now) (raw_of raw)) }
-    ensures shallow { IfOk result (λ raw. nesting (lexemes_of tokens.now) (raw_of raw) ≤ 500) }
+    ensures shallow { IfOk result (λ raw. nesting (lexemes_of tokens.now) (raw_of raw) ≤ MOST_LEVELS) }
     ensures fault { IfErr result (IsTermFault (table_of ops.now) (lexemes_of tokens.now)) }
 {
     let build = Build {
@@ -110,13 +104,13 @@ fn read_disjuncts(
 
 // The tree, unless the item is nested too deep.
 fn shallow(term: Capped, most_open: usize) -> Result<Raw, TermFault>
-    ensures ok { (t : RawTree) → term ≡ capped 500 t →
-        IfOk result (λ raw. (raw_of raw ≡ t) × (max (depth t) most_open ≤ 500)) }
-    ensures err { (t : RawTree) → term ≡ capped 500 t →
-        IfErr result (λ fault. (fault ≡ TermFault.Deep) × (500 < max (depth t) most_open)) }
+    ensures ok { (t : RawTree) → term ≡ capped MOST_LEVELS t →
+        IfOk result (λ raw. (raw_of raw ≡ t) × (max (depth t) most_open ≤ MOST_LEVELS)) }
+    ensures err { (t : RawTree) → term ≡ capped MOST_LEVELS t →
+        IfErr result (λ fault. (fault ≡ TermFault.Deep) × (MOST_LEVELS < max (depth t) most_open)) }
 {
     match term.into_tree() {
-        Some(raw) if most_open <= MOST_OPEN => Ok(raw),
+        Some(raw) if most_open <= usize::from(MOST_LEVELS) => Ok(raw),
         _ => Err(TermFault::Deep),
     }
 }

@@ -8,12 +8,9 @@ use crate::numbering::Variables;
 use crate::scopes::Scope;
 use crate::styles::{FormulaError, Style, What};
 use fol_core::{Clash, Kind, Name, Names, Sym, Symbols};
+use ladr_lex::{MOST_ARGUMENTS, MOST_SYMBOLS};
 use std::alloc::{AllocError, Global};
 use std::marker::Model;
-
-const MOST_SYMBOLS: usize = 65_535;
-
-const MOST_ARGUMENTS: usize = 255;
 
 /// The symbols and variables so far, the quantifiers around the place where the reader is, the least row of misuse that was
 /// met, and whether an arity was too large.
