@@ -136,9 +136,12 @@ impl Ops {
         type_name: &[u8],
         symbol: &[u8],
     ) -> Result<(), DeclareError>
-        ensures declared { OnOk result (self.new ≡ declared precedence type_name.now symbol.now self.old) }
-        ensures row5 { (result ≡ Err DeclareError.Row5) ↔ IsTrue (breaks_row_5 precedence type_name.now) }
-        ensures row6 { (result ≡ Err DeclareError.Row6) ↔ IsTrue (not (breaks_row_5 precedence type_name.now) && breaks_row_6 symbol.now) }
+        ensures declared { OnOk result (self.new
+            ≡ declared precedence type_name.now symbol.now self.old) }
+        ensures row5 { (result ≡ Err DeclareError.Row5)
+            ↔ IsTrue (breaks_row_5 precedence type_name.now) }
+        ensures row6 { (result ≡ Err DeclareError.Row6)
+            ↔ IsTrue (not (breaks_row_5 precedence type_name.now) && breaks_row_6 symbol.now) }
         ensures err { OnErr result (self.new ≡ self.old) }
     {
         if precedence < 1 || precedence > 998 {

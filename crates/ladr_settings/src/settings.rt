@@ -131,7 +131,8 @@ impl Settings {
 
     fn assign(&mut self, name: &[u8], value: &Value) -> Result<(), Misuse>
         ensures ok { OnOk result (after_value name.now value.now self.old ≡ Ok self.new) }
-        ensures row { (k : ℕ) → result ≡ Err (Row k) → after_value name.now value.now self.old ≡ Err k }
+        ensures row { (k : ℕ) → result ≡ Err (Row k)
+            → after_value name.now value.now self.old ≡ Err k }
     {
         let assigned = match value {
             Value::Symbol(text) => self.options.assign_symbol(name, text.bytes()),
@@ -144,8 +145,10 @@ impl Settings {
     }
 
     fn declare(&mut self, precedence: u32, type_name: &[u8], names: &Names) -> Result<(), Misuse>
-        ensures ok { OnOk result (after_operators precedence type_name.now names.now self.old ≡ Ok self.new) }
-        ensures row { (k : ℕ) → result ≡ Err (Row k) → after_operators precedence type_name.now names.now self.old ≡ Err k }
+        ensures ok { OnOk result (after_operators precedence type_name.now names.now self.old
+            ≡ Ok self.new) }
+        ensures row { (k : ℕ) → result ≡ Err (Row k)
+            → after_operators precedence type_name.now names.now self.old ≡ Err k }
     {
         match declare_all(&mut self.operators, precedence, type_name, names.as_slice()) {
             Ok(()) => {}

@@ -12,7 +12,8 @@ use std::alloc::{AllocError, Global};
 
 /// The names as an order, unless one stands twice.
 pub fn order_of(alloc: Global, names: &[Name]) -> Result<Option<NameOrder>, AllocError>
-    ensures { IfOk result (λ order. order ≡ (if are_apart names.now then Some names.now else None)) }
+    ensures { IfOk result (λ order. order ≡ (if are_apart names.now then Some names.now else
+        None)) }
 {
     let mut order = NameOrder::new(alloc);
     for name in names {
@@ -30,10 +31,13 @@ pub fn declare_all(
     type_name: &[u8],
     symbols: &[Name],
 ) -> Result<(), DeclareError>
-    ensures ok { OnOk result (operators.new ≡ all_declared precedence type_name.now symbols.now operators.old) }
-    ensures no_row5 { OnOk result ((nat_lt 0 (length symbols.now) && breaks_row_5 precedence type_name.now) ≡ false) }
+    ensures ok { OnOk result (operators.new ≡ all_declared precedence type_name.now symbols.now
+        operators.old) }
+    ensures no_row5 { OnOk result ((nat_lt 0 (length symbols.now)
+        && breaks_row_5 precedence type_name.now) ≡ false) }
     ensures no_row6 { OnOk result (list_any breaks_row_6 symbols.now ≡ false) }
-    ensures row5 { result ≡ Err Row5 → (nat_lt 0 (length symbols.now) && breaks_row_5 precedence type_name.now) ≡ true }
+    ensures row5 { result ≡ Err Row5 → (nat_lt 0 (length symbols.now)
+        && breaks_row_5 precedence type_name.now) ≡ true }
     ensures not_row5 { result ≡ Err Row6 → breaks_row_5 precedence type_name.now ≡ false }
     ensures row6 { result ≡ Err Row6 → list_any breaks_row_6 symbols.now ≡ true }
 {
@@ -53,7 +57,8 @@ fn declare(
     type_name: &[u8],
     symbol: &[u8],
 ) -> Result<(), DeclareError>
-    ensures ok { OnOk result (operators.new ≡ declared precedence type_name.now symbol.now operators.old) }
+    ensures ok { OnOk result (operators.new ≡ declared precedence type_name.now symbol.now
+        operators.old) }
     ensures no_row5 { OnOk result (breaks_row_5 precedence type_name.now ≡ false) }
     ensures no_row6 { OnOk result (breaks_row_6 symbol.now ≡ false) }
     ensures row5 { result ≡ Err Row5 → breaks_row_5 precedence type_name.now ≡ true }
