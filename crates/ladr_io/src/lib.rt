@@ -13,4 +13,3 @@ pub use memory::{MemClock, MemSink, MemSource};
 pub use reading::{ReadAll, read_all};
 pub use streams::{Failed, Sink, Source};
 pub use writing::write_all;
-
