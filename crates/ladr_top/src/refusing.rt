@@ -35,9 +35,10 @@ pub fn refuse_input<K: Sink>(alloc: Global, error: ReadError, sink: &mut K) -> C
             let text = text::unreadable(alloc, &place);
             conclude(text, Cause::Unreadable(place), sink)
         }
-        ReadError::Misuse(place, row) => {
+        ReadError::Misuse(place, misuse) => {
+            let row = misuse.row();
             let text = text::misuse(alloc, row, &place);
-            conclude(text, Cause::Misuse(place, row), sink)
+            conclude(text, Cause::Misuse(place, misuse), sink)
         }
         ReadError::TooLarge { byte, what } => {
             let text = text::too_large(alloc, byte, limit_text(what));
