@@ -15,7 +15,8 @@ ghost use Rattle.ladr_lex.specs.Worked.{formula_line, formula_tokens, special_li
 /// Each text is cut by one list of tokens and no other.
 pub fn one_cutting()
     ensures some { (bytes : List ℕ) → Cuts 0 bytes (lexed bytes) }
-    ensures only { (bytes : List ℕ) (ts us : List Piece) → Cuts 0 bytes ts → Cuts 0 bytes us → ts ≡ us }
+    ensures only { (bytes : List ℕ) (ts us : List Piece) → Cuts 0 bytes ts → Cuts 0 bytes us
+        → ts ≡ us }
 {}
 
 /// Decimal digits are the numeral of their number, and no other text is.
@@ -29,9 +30,13 @@ pub fn worked_clauses()
     ensures third { clause_variable false 2 ≡ codes "z" }
     ensures tenth { clause_variable false 9 ≡ codes "v9" }
     ensures prolog { (clause_variable true 4 ≡ codes "E") × (clause_variable true 5 ≡ codes "V5") }
-    ensures names { (is_clause_name false (codes "v4") ≡ false) × (is_clause_name false (codes "v05") ≡ false) × (is_clause_name true (codes "f0") ≡ true) }
-    ensures taken_away { clause_operator false (codes "x") (Some (record { precedence = 350; kind = Prefix })) ≡ None }
-    ensures kept { clause_operator false (codes "x") (Some (record { precedence = 700; kind = InfixLeft })) ≡ Some (record { precedence = 700; kind = InfixLeft }) }
+    ensures names { (is_clause_name false (codes "v4") ≡ false)
+        × (is_clause_name false (codes "v05") ≡ false) × (is_clause_name true (codes "f0") ≡ true) }
+    ensures taken_away { clause_operator false (codes "x")
+        (Some (record { precedence = 350; kind = Prefix })) ≡ None }
+    ensures kept { clause_operator false (codes "x")
+        (Some (record { precedence = 700; kind = InfixLeft }))
+        ≡ Some (record { precedence = 700; kind = InfixLeft }) }
 {}
 
 /// The tokens of some lines, and the place of a byte on a second line.
@@ -49,22 +54,33 @@ pub fn worked()
 pub fn one_operator()
     // The name has it, and each other name what it had.
     ensures put { (rows : List OperatorRow) (name : List ℕ) (o : Option Operator) (other : List ℕ) →
-        operator_of (with_row name o rows) other ≡ (if bytes_eq other name then o else operator_of rows other) }
+        operator_of (with_row name o rows) other
+        ≡ (if bytes_eq other name then o else operator_of rows other) }
     // A fixed symbol has what it had, whatever is declared.
-    ensures kept { (rows : List OperatorRow) (p : ℕ) (type symbol name : List ℕ) → is_unfit_symbol symbol ≡ false → is_fixed name ≡ true →
+    ensures kept { (rows : List OperatorRow) (p : ℕ) (type symbol name : List ℕ)
+        → is_unfit_symbol symbol ≡ false → is_fixed name ≡ true →
         operator_of (declared p type symbol rows) name ≡ operator_of rows name }
     // A quoted symbol is never an operator.
-    ensures quotes { (rows : List OperatorRow) (text : List ℕ) → IsTrue (are_lawful rows) → is_quoted text ≡ true → operator_of rows text ≡ None }
+    ensures quotes { (rows : List OperatorRow) (text : List ℕ) → IsTrue (are_lawful rows)
+        → is_quoted text ≡ true → operator_of rows text ≡ None }
 {}
 
 /// Symbols that are declared, with quotes and without, and such as can't be.
 pub fn worked_operators()
     ensures unquoted_name { unquoted (codes "\"@@\"") ≡ codes "@@" }
-    ensures operates { operator_of (declared 700 (codes "infix_left") (codes "\"@@\"") standard_rows) (codes "@@") ≡ Some (record { precedence = 700; kind = InfixLeft }) }
-    ensures replaced { operator_of (declared 400 (codes "prefix") (codes "v") standard_rows) (codes "v") ≡ Some (record { precedence = 400; kind = Prefix }) }
-    ensures taken_away { operator_of (declared 1 (codes "ordinary") (codes "+") standard_rows) (codes "+") ≡ None }
-    ensures precedences { (is_unfit_operator 0 (codes "infix") ≡ true) × (is_unfit_operator 998 (codes "infix") ≡ false) × (is_unfit_operator 999 (codes "infix") ≡ true) }
+    ensures operates { operator_of (declared 700 (codes "infix_left")
+        (codes "\"@@\"") standard_rows) (codes "@@")
+        ≡ Some (record { precedence = 700; kind = InfixLeft }) }
+    ensures replaced { operator_of (declared 400 (codes "prefix") (codes "v") standard_rows)
+        (codes "v") ≡ Some (record { precedence = 400; kind = Prefix }) }
+    ensures taken_away { operator_of (declared 1 (codes "ordinary") (codes "+") standard_rows)
+        (codes "+") ≡ None }
+    ensures precedences { (is_unfit_operator 0 (codes "infix") ≡ true)
+        × (is_unfit_operator 998 (codes "infix") ≡ false)
+        × (is_unfit_operator 999 (codes "infix") ≡ true) }
     ensures types { is_unfit_operator 500 (codes "\"infix\"") ≡ true }
-    ensures fixed_symbols { (is_unfit_symbol (codes "->") ≡ true) × (is_unfit_symbol (codes "\"$T\"") ≡ true) × (is_unfit_symbol (codes "exists") ≡ true) }
-    ensures symbols { (is_unfit_symbol (codes "\"a b\"") ≡ true) × (is_unfit_symbol (codes "\"--\"") ≡ true) × (is_unfit_symbol (codes "\"'\"") ≡ false) }
+    ensures fixed_symbols { (is_unfit_symbol (codes "->") ≡ true)
+        × (is_unfit_symbol (codes "\"$T\"") ≡ true) × (is_unfit_symbol (codes "exists") ≡ true) }
+    ensures symbols { (is_unfit_symbol (codes "\"a b\"") ≡ true)
+        × (is_unfit_symbol (codes "\"--\"") ≡ true) × (is_unfit_symbol (codes "\"'\"") ≡ false) }
 {}

@@ -136,9 +136,13 @@ impl Ops {
         type_name: &[u8],
         symbol: &[u8],
     ) -> Result<(), DeclareError>
-        ensures declared { OnOk result (self.new ≡ declared precedence type_name.now symbol.now self.old) }
-        ensures operator { (result ≡ Err DeclareError.UnfitOperator) ↔ IsTrue (is_unfit_operator precedence type_name.now) }
-        ensures symbol { (result ≡ Err DeclareError.UnfitSymbol) ↔ IsTrue (not (is_unfit_operator precedence type_name.now) && is_unfit_symbol symbol.now) }
+        ensures declared { OnOk result (self.new
+            ≡ declared precedence type_name.now symbol.now self.old) }
+        ensures operator { (result ≡ Err DeclareError.UnfitOperator)
+            ↔ IsTrue (is_unfit_operator precedence type_name.now) }
+        ensures symbol { (result ≡ Err DeclareError.UnfitSymbol)
+            ↔ IsTrue (not (is_unfit_operator precedence type_name.now)
+            && is_unfit_symbol symbol.now) }
         ensures err { OnErr result (self.new ≡ self.old) }
     {
         if precedence < 1 || precedence > 998 {

@@ -249,7 +249,8 @@ fn run_end(bytes: &[u8], from: usize, class: Class) -> usize
 // Where the special token that begins at a place ends.
 fn special_end(bytes: &[u8], at: usize) -> usize
     requires { at < length bytes.now }
-    ensures end { result ≡ at + 1 + special_behind (slice_index bytes.now at) (drop (at + 1) bytes.now) }
+    ensures end { result ≡ at + 1 + special_behind (slice_index bytes.now at)
+        (drop (at + 1) bytes.now) }
     ensures within { result ≤ length bytes.now }
 {
     let end = kept_end(bytes, at + 1);

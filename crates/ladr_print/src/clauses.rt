@@ -33,15 +33,24 @@ pub fn clause_text(
     clause: &Clause,
     prolog: bool,
 ) -> Result<Vec<u8>, AllocError>
-    ensures text { IfOk result (λ text. text.items ≡ clause_bytes (table_of ops.now) symbols.now (clause_variable prolog) (renumbered clause.now)) }
+    ensures text { IfOk result (λ text. text.items
+        ≡ clause_bytes (table_of ops.now) symbols.now (clause_variable prolog)
+        (renumbered clause.now)) }
     ensures back { IfOk result (λ text. (other : List ℕ) (p : ℕ) → KeepsFixed ops.now →
-        ReadsAs (table_of ops.now) other (clause_raw symbols.now (clause_variable prolog) (renumbered clause.now)) p →
-        ReadsAs (table_of ops.now) text.items (clause_raw symbols.now (clause_variable prolog) (renumbered clause.now))
-        (precedence (table_of ops.now) (clause_raw symbols.now (clause_variable prolog) (renumbered clause.now)))) }
-    ensures states { IfOk result (λ text. (st : Style) (before : List Symbol) (other : List ℕ) → KeepsFixed ops.now → st.prolog ≡ prolog → FreesVariables prolog ops.now →
-        (s : StatesClause (table_of ops.now) st before other clause.now symbols.now) → length s.names ≤ 2 ^ 64 → StatesClause (table_of ops.now) st before text.items clause.now symbols.now) }
+        ReadsAs (table_of ops.now) other (clause_raw symbols.now (clause_variable prolog)
+        (renumbered clause.now)) p →
+        ReadsAs (table_of ops.now) text.items (clause_raw symbols.now (clause_variable prolog)
+        (renumbered clause.now))
+        (precedence (table_of ops.now) (clause_raw symbols.now (clause_variable prolog)
+        (renumbered clause.now)))) }
+    ensures states { IfOk result (λ text. (st : Style) (before : List Symbol) (other : List ℕ)
+        → KeepsFixed ops.now → st.prolog ≡ prolog → FreesVariables prolog ops.now →
+        (s : StatesClause (table_of ops.now) st before other clause.now symbols.now)
+        → length s.names ≤ 2 ^ 64
+        → StatesClause (table_of ops.now) st before text.items clause.now symbols.now) }
     // So it is whatever the size, behind the same table and behind this one, which may have more symbols at its end.
-    ensures again { IfOk result (λ text. (st : Style) (before after : List Symbol) (other : List ℕ) (n : ℕ) →
+    ensures again { IfOk result (λ text. (st : Style) (before after : List Symbol) (other : List ℕ)
+        (n : ℕ) →
         KeepsFixed ops.now → st.prolog ≡ prolog → FreesVariables prolog ops.now →
         ReadsClause (table_of ops.now) st before other clause.now after n →
         KeepsNumbers after symbols.now → length symbols.now < 2 ^ 64 → n ≤ 2 ^ 64 →
@@ -62,7 +71,9 @@ fn literals_text(
     literals: &[Literal],
     prolog: bool,
 ) -> Result<Vec<u8>, AllocError>
-    ensures { IfOk result (λ text. text.items ≡ clause_bytes (table_of ops.now) symbols.now (clause_variable prolog) (map literal_of literals.now)) }
+    ensures { IfOk result (λ text. text.items
+        ≡ clause_bytes (table_of ops.now) symbols.now (clause_variable prolog)
+        (map literal_of literals.now)) }
 {
     let mut out = Vec::new(alloc);
     let [first, rest @ ..] = literals else {
@@ -95,7 +106,8 @@ fn literal_raw(
     literal: &Literal,
     prolog: bool,
 ) -> Result<Raw, AllocError>
-    ensures { IfOk result (λ raw. raw_of raw ≡ literal_raw symbols.now (clause_variable prolog) (literal_of literal.now)) }
+    ensures { IfOk result (λ raw. raw_of raw
+        ≡ literal_raw symbols.now (clause_variable prolog) (literal_of literal.now)) }
 {
     let atom = term_raw(alloc, symbols, Variables::Numbered(prolog), &literal.atom)?;
     if literal.positive {
@@ -114,7 +126,11 @@ fn before_bar(
     prolog: bool,
     out: &mut Vec<u8>,
 ) -> Result<(), AllocError>
-    ensures { OnOk result (out.new.items ≡ out.old.items ++ (left_argument bar (printed (table_of ops.now) (literal_raw symbols.now (clause_variable prolog) (literal_of literal.now))) ++ codes " | ")) }
+    ensures { OnOk result (out.new.items ≡ out.old.items
+        ++ (left_argument bar
+        (printed (table_of ops.now)
+        (literal_raw symbols.now (clause_variable prolog) (literal_of literal.now)))
+        ++ codes " | ")) }
 {
     let raw = literal_raw(alloc, symbols, literal, prolog)?;
     argument(alloc, ops, fits_left(ops, bar(), &raw), &raw, out)?;
@@ -130,7 +146,10 @@ fn behind_bar(
     prolog: bool,
     out: &mut Vec<u8>,
 ) -> Result<(), AllocError>
-    ensures { OnOk result (out.new.items ≡ out.old.items ++ right_argument bar (printed (table_of ops.now) (literal_raw symbols.now (clause_variable prolog) (literal_of literal.now)))) }
+    ensures { OnOk result (out.new.items ≡ out.old.items
+        ++ right_argument bar
+        (printed (table_of ops.now)
+        (literal_raw symbols.now (clause_variable prolog) (literal_of literal.now)))) }
 {
     let raw = literal_raw(alloc, symbols, literal, prolog)?;
     argument(alloc, ops, fits_right(ops, bar(), &raw), &raw, out)
@@ -146,7 +165,9 @@ fn disjunction(
     prolog: bool,
     out: &mut Vec<u8>,
 ) -> Result<(), AllocError>
-    ensures { OnOk result (out.new.items ≡ out.old.items ++ disjunction (table_of ops.now) symbols.now (clause_variable prolog) (literal_of first.now) (map literal_of rest.now)) }
+    ensures { OnOk result (out.new.items ≡ out.old.items
+        ++ disjunction (table_of ops.now) symbols.now (clause_variable prolog)
+        (literal_of first.now) (map literal_of rest.now)) }
 {
     let mut literal = first;
     for next in rest {

@@ -31,17 +31,25 @@ pub fn formula_text(
     label: Option<&Raw>,
 ) -> Result<Vec<u8>, AllocError>
     ensures text { IfOk result (λ text. text.items ≡ text_of (table_of ops.now)
-        (attributed (option_map (λ l. raw_of l.now) label.entry) (formula_raw symbols.now (name_in formula.now.names) (fol_of formula.now.shape)))) }
-    ensures back { IfOk result (λ text. (st : Style) (before : List Symbol) (other : List ℕ) → KeepsFixed ops.now →
-        StatesAs (table_of ops.now) st before other (option_map (λ l. raw_of l.now) label.entry) (fol_of formula.now.shape) formula.now.names symbols.now →
-        StatesAs (table_of ops.now) st before text.items (option_map (λ l. raw_of l.now) label.entry) (fol_of formula.now.shape) formula.now.names symbols.now) }
+        (attributed (option_map (λ l. raw_of l.now) label.entry)
+        (formula_raw symbols.now (name_in formula.now.names) (fol_of formula.now.shape)))) }
+    ensures back { IfOk result (λ text. (st : Style) (before : List Symbol) (other : List ℕ)
+        → KeepsFixed ops.now →
+        StatesAs (table_of ops.now) st before other (option_map (λ l. raw_of l.now) label.entry)
+        (fol_of formula.now.shape) formula.now.names symbols.now →
+        StatesAs (table_of ops.now) st before text.items
+        (option_map (λ l. raw_of l.now) label.entry)
+        (fol_of formula.now.shape) formula.now.names symbols.now) }
     // So it is whatever the size, and however many symbols stand at the table's end: it is read with all that was read with it,
     // behind the same table and behind this one.
-    ensures again { IfOk result (λ text. (st : Style) (before : List Symbol) (other : List ℕ) (m : Made Fol) →
+    ensures again { IfOk result (λ text. (st : Style) (before : List Symbol) (other : List ℕ)
+        (m : Made Fol) →
         KeepsFixed ops.now → m.tree ≡ fol_of formula.now.shape →
         names_of m.reading.variables ≡ formula.now.names → IsAmong m.reading symbols.now →
-        ReadsFormula (table_of ops.now) st before other (option_map (λ l. raw_of l.now) label.entry) m →
-        ReadsFormula (table_of ops.now) st before text.items (option_map (λ l. raw_of l.now) label.entry) m
+        ReadsFormula (table_of ops.now) st before other
+        (option_map (λ l. raw_of l.now) label.entry) m →
+        ReadsFormula (table_of ops.now) st before text.items
+        (option_map (λ l. raw_of l.now) label.entry) m
         × ReadsFormula (table_of ops.now) st symbols.now text.items
         (option_map (λ l. raw_of l.now) label.entry) (behind symbols.now m)) }
 {
@@ -59,7 +67,8 @@ fn labelled(
     label: Option<&Raw>,
 ) -> Result<Vec<u8>, AllocError>
     ensures { IfOk result (λ text. text.items ≡ text_of (table_of ops.now)
-        (attributed (option_map (λ l. raw_of l.now) label.entry) (formula_raw symbols.now (name_in formula.now.names) (fol_of formula.now.shape)))) }
+        (attributed (option_map (λ l. raw_of l.now) label.entry)
+        (formula_raw symbols.now (name_in formula.now.names) (fol_of formula.now.shape)))) }
 {
     let raw = formula_raw(
         alloc,
@@ -132,7 +141,8 @@ pub fn formula_raw(
     variables: Variables,
     shape: &Shape,
 ) -> Result<Raw, AllocError>
-    ensures { IfOk result (λ raw. raw_of raw ≡ formula_raw symbols.now (naming_of variables.entry) (fol_of shape.now)) }
+    ensures { IfOk result (λ raw. raw_of raw
+        ≡ formula_raw symbols.now (naming_of variables.entry) (fol_of shape.now)) }
 {
     match shape {
         Shape::True => constant(alloc, b"$T"),

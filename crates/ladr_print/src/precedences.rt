@@ -69,7 +69,8 @@ fn grows(ops: &Ops, raw: &Raw) -> bool
 
 /// Whether a term may be an operator's left argument as it stands.
 pub fn fits_left(ops: &Ops, operator: Operator, raw: &Raw) -> bool
-    ensures { result ≡ takes (left operator.kind) operator.precedence (precedence (table_of ops.now) (raw_of raw.now)) }
+    ensures { result ≡ takes (left operator.kind) operator.precedence
+        (precedence (table_of ops.now) (raw_of raw.now)) }
 {
     let other = precedence(ops, raw);
     match operator.kind {
@@ -83,7 +84,9 @@ pub fn fits_left(ops: &Ops, operator: Operator, raw: &Raw) -> bool
 
 /// Whether a term may be an operator's right argument as it stands.
 pub fn fits_right(ops: &Ops, operator: Operator, raw: &Raw) -> bool
-    ensures { result ≡ ends (right operator.kind) operator.precedence (precedence (table_of ops.now) (raw_of raw.now)) (tree_grows (table_of ops.now) (raw_of raw.now)) }
+    ensures { result ≡ ends (right operator.kind) operator.precedence
+        (precedence (table_of ops.now) (raw_of raw.now))
+        (tree_grows (table_of ops.now) (raw_of raw.now)) }
 {
     let other = precedence(ops, raw);
     match operator.kind {
@@ -99,7 +102,8 @@ pub fn fits_right(ops: &Ops, operator: Operator, raw: &Raw) -> bool
 
 /// Whether a term may be a quantifier's body as it stands.
 pub fn fits_body(ops: &Ops, raw: &Raw) -> bool
-    ensures { result ≡ ends UpTo 750 (precedence (table_of ops.now) (raw_of raw.now)) (tree_grows (table_of ops.now) (raw_of raw.now)) }
+    ensures { result ≡ ends UpTo 750 (precedence (table_of ops.now) (raw_of raw.now))
+        (tree_grows (table_of ops.now) (raw_of raw.now)) }
 {
     let other = precedence(ops, raw);
     other < QUANTIFIED || other == QUANTIFIED && !grows(ops, raw)

@@ -19,8 +19,10 @@ use std::alloc::{AllocError, Global};
 /// The text of a term as read, with the operators of a table. It reads back as the same term where any text reads as it.
 pub fn raw_text(alloc: Global, ops: &Ops, raw: &Raw) -> Result<Vec<u8>, AllocError>
     ensures text { IfOk result (λ text. text.items ≡ text_of (table_of ops.now) (raw_of raw.now)) }
-    ensures back { IfOk result (λ text. (other : List ℕ) (p : ℕ) → ReadsAs (table_of ops.now) other (raw_of raw.now) p →
-        ReadsAs (table_of ops.now) text.items (raw_of raw.now) (precedence (table_of ops.now) (raw_of raw.now))) }
+    ensures back { IfOk result (λ text. (other : List ℕ) (p : ℕ)
+        → ReadsAs (table_of ops.now) other (raw_of raw.now) p →
+        ReadsAs (table_of ops.now) text.items (raw_of raw.now)
+        (precedence (table_of ops.now) (raw_of raw.now))) }
 {
     ops.rows_are_lawful();
     let mut out = Vec::new(alloc);
@@ -31,7 +33,8 @@ pub fn raw_text(alloc: Global, ops: &Ops, raw: &Raw) -> Result<Vec<u8>, AllocErr
 /// Adds the text of a term.
 #[cycle(text)]
 pub fn write(alloc: Global, ops: &Ops, raw: &Raw, out: &mut Vec<u8>) -> Result<(), AllocError>
-    ensures { OnOk result (out.new.items ≡ out.old.items ++ text_of (table_of ops.now) (raw_of raw.now)) }
+    ensures { OnOk result (out.new.items ≡ out.old.items
+        ++ text_of (table_of ops.now) (raw_of raw.now)) }
 {
     match raw {
         Raw::App(name, args) => {
@@ -66,7 +69,8 @@ pub fn argument(
     raw: &Raw,
     out: &mut Vec<u8>,
 ) -> Result<(), AllocError>
-    ensures { OnOk result (out.new.items ≡ out.old.items ++ wrapped fits (text_of (table_of ops.now) (raw_of raw.now))) }
+    ensures { OnOk result (out.new.items ≡ out.old.items
+        ++ wrapped fits (text_of (table_of ops.now) (raw_of raw.now))) }
 {
     if fits {
         return write(alloc, ops, raw, out);
@@ -88,7 +92,9 @@ fn arranged(
     args: &[Raw],
     out: &mut Vec<u8>,
 ) -> Result<(), AllocError>
-    ensures { OnOk result (out.new.items ≡ out.old.items ++ arranged operator name.now (printed_all (table_of ops.now) (raws_of (raw_list args.now)))) }
+    ensures { OnOk result (out.new.items ≡ out.old.items
+        ++ arranged operator name.now
+        (printed_all (table_of ops.now) (raws_of (raw_list args.now)))) }
 {
     let Some(operator) = operator else {
         return application(alloc, ops, name, args, out);
@@ -114,7 +120,8 @@ fn unary(
     out: &mut Vec<u8>,
 ) -> Result<(), AllocError>
     requires { is_infix operator.kind ≡ false }
-    ensures { OnOk result (out.new.items ≡ out.old.items ++ with_one operator name.now (printed (table_of ops.now) (raw_of raw.now))) }
+    ensures { OnOk result (out.new.items ≡ out.old.items
+        ++ with_one operator name.now (printed (table_of ops.now) (raw_of raw.now))) }
 {
     let mut text = Vec::new(alloc);
     if operator.kind.is_prefix() {
@@ -138,7 +145,9 @@ fn binary(
     out: &mut Vec<u8>,
 ) -> Result<(), AllocError>
     requires { is_infix operator.kind ≡ true }
-    ensures { OnOk result (out.new.items ≡ out.old.items ++ with_two operator name.now (printed (table_of ops.now) (raw_of left.now)) (printed (table_of ops.now) (raw_of right.now))) }
+    ensures { OnOk result (out.new.items ≡ out.old.items
+        ++ with_two operator name.now (printed (table_of ops.now) (raw_of left.now))
+        (printed (table_of ops.now) (raw_of right.now))) }
 {
     argument(alloc, ops, fits_left(ops, operator, left), left, out)?;
     out.push(b' ')?;
@@ -156,7 +165,8 @@ fn application(
     args: &[Raw],
     out: &mut Vec<u8>,
 ) -> Result<(), AllocError>
-    ensures { OnOk result (out.new.items ≡ out.old.items ++ application name.now (printed_all (table_of ops.now) (raws_of (raw_list args.now)))) }
+    ensures { OnOk result (out.new.items ≡ out.old.items
+        ++ application name.now (printed_all (table_of ops.now) (raws_of (raw_list args.now)))) }
 {
     out.extend_from_slice(name)?;
     let [first, rest @ ..] = args else {
@@ -173,7 +183,8 @@ fn application(
 #[cycle(text)]
 #[tactic(auto, using(crate::proofs::Ends::nodes_item))]
 fn further(alloc: Global, ops: &Ops, raws: &[Raw], out: &mut Vec<u8>) -> Result<(), AllocError>
-    ensures { OnOk result (out.new.items ≡ out.old.items ++ further (printed_all (table_of ops.now) (raws_of (raw_list raws.now)))) }
+    ensures { OnOk result (out.new.items ≡ out.old.items
+        ++ further (printed_all (table_of ops.now) (raws_of (raw_list raws.now)))) }
 {
     for raw in raws {
         out.push(b',')?;
@@ -191,7 +202,8 @@ pub fn write_two(
     right: &Raw,
     out: &mut Vec<u8>,
 ) -> Result<(), AllocError>
-    ensures { OnOk result (out.new.items ≡ out.old.items ++ text_of (table_of ops.now) (two name.now (raw_of left.now) (raw_of right.now))) }
+    ensures { OnOk result (out.new.items ≡ out.old.items
+        ++ text_of (table_of ops.now) (two name.now (raw_of left.now) (raw_of right.now))) }
 {
     let Some(operator) = operator_of(ops, name) else {
         return pair(alloc, ops, name, left, right, out);
@@ -212,7 +224,10 @@ fn pair(
     right: &Raw,
     out: &mut Vec<u8>,
 ) -> Result<(), AllocError>
-    ensures { OnOk result (out.new.items ≡ out.old.items ++ application name.now (printed (table_of ops.now) (raw_of left.now) ∷ printed (table_of ops.now) (raw_of right.now) ∷ [])) }
+    ensures { OnOk result (out.new.items ≡ out.old.items
+        ++ application name.now
+        (printed (table_of ops.now) (raw_of left.now) ∷ printed (table_of ops.now)
+        (raw_of right.now) ∷ [])) }
 {
     out.extend_from_slice(name)?;
     out.push(b'(')?;

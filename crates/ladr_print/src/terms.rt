@@ -37,12 +37,20 @@ pub fn term_text(
     term: &Term,
     prolog: bool,
 ) -> Result<Vec<u8>, AllocError>
-    ensures text { IfOk result (λ text. text.items ≡ text_of (table_of ops.now) (term_raw symbols.now (clause_variable prolog) (tree_of term.now))) }
-    ensures back { IfOk result (λ text. (other : List ℕ) (p : ℕ) → ReadsAs (table_of ops.now) other (term_raw symbols.now (clause_variable prolog) (tree_of term.now)) p →
-        ReadsAs (table_of ops.now) text.items (term_raw symbols.now (clause_variable prolog) (tree_of term.now)) (precedence (table_of ops.now) (term_raw symbols.now (clause_variable prolog) (tree_of term.now)))) }
+    ensures text { IfOk result (λ text. text.items
+        ≡ text_of (table_of ops.now)
+        (term_raw symbols.now (clause_variable prolog) (tree_of term.now))) }
+    ensures back { IfOk result (λ text. (other : List ℕ) (p : ℕ)
+        → ReadsAs (table_of ops.now) other
+        (term_raw symbols.now (clause_variable prolog) (tree_of term.now)) p →
+        ReadsAs (table_of ops.now) text.items (term_raw symbols.now (clause_variable prolog)
+        (tree_of term.now))
+        (precedence (table_of ops.now)
+        (term_raw symbols.now (clause_variable prolog) (tree_of term.now)))) }
     // Where any text is read as this term, with its variables, the printed one is too, behind the same table and behind this one,
     // which may have more symbols at its end.
-    ensures again { IfOk result (λ text. (st : Style) (before after : List Symbol) (other : List ℕ) (n : ℕ) →
+    ensures again { IfOk result (λ text. (st : Style) (before after : List Symbol) (other : List ℕ)
+        (n : ℕ) →
         KeepsFixed ops.now → st.prolog ≡ prolog → FreesVariables prolog ops.now →
         ReadsTerm (table_of ops.now) st before other (tree_of term.now) after n →
         KeepsNumbers after symbols.now → length symbols.now < 2 ^ 64 → n ≤ 2 ^ 64 →
@@ -119,7 +127,8 @@ pub fn term_raw(
     variables: Variables,
     term: &Term,
 ) -> Result<Raw, AllocError>
-    ensures { IfOk result (λ raw. raw_of raw ≡ term_raw symbols.now (naming_of variables.entry) (tree_of term.now)) }
+    ensures { IfOk result (λ raw. raw_of raw
+        ≡ term_raw symbols.now (naming_of variables.entry) (tree_of term.now)) }
 {
     match term {
         Term::Var(x) => Ok(Raw::App(variable(alloc, variables, *x)?, Raws::new(alloc))),
@@ -146,7 +155,8 @@ pub fn terms_raw(
     variables: Variables,
     terms: &Terms,
 ) -> Result<Raws, AllocError>
-    ensures { IfOk result (λ raws. raws_of raws ≡ terms_raw symbols.now (naming_of variables.entry) (trees_of terms.now)) }
+    ensures { IfOk result (λ raws. raws_of raws
+        ≡ terms_raw symbols.now (naming_of variables.entry) (trees_of terms.now)) }
 {
     let mut args = Raws::new(alloc);
     for term in &terms.items {

@@ -10,7 +10,9 @@ pub fn item_end(tokens: &[Token], at: usize) -> usize
     requires { at < length tokens.now }
     ensures some { at < result }
     ensures within { result ≤ length tokens.now }
-    ensures item { items_of (pieces_of (drop at tokens.now)) ≡ pieces_of (slice_range tokens.now at result) ∷ items_of (pieces_of (drop result tokens.now)) }
+    ensures item { items_of (pieces_of (drop at tokens.now))
+        ≡ pieces_of (slice_range tokens.now at result) ∷ items_of
+        (pieces_of (drop result tokens.now)) }
 {
     at + first_len(&tokens[at..])
 }
@@ -20,7 +22,8 @@ fn first_len(tokens: &[Token]) -> usize
     requires { 0 < length tokens.now }
     ensures some { 0 < result }
     ensures within { result ≤ length tokens.now }
-    ensures item { items_of (pieces_of tokens.now) ≡ pieces_of (take result tokens.now) ∷ items_of (pieces_of (drop result tokens.now)) }
+    ensures item { items_of (pieces_of tokens.now)
+        ≡ pieces_of (take result tokens.now) ∷ items_of (pieces_of (drop result tokens.now)) }
 {
     for (i, token) in tokens.iter().enumerate() {
         if is_stop(token) {

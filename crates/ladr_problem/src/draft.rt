@@ -44,7 +44,8 @@ impl Draft {
         weight: Option<u32>,
         byte: u64,
     ) -> Result<(), AllocError>
-        ensures { OnOk result (sofar_of self.new ≡ with_listed list (listed_of formula label byte) weight (sofar_of self.old)) }
+        ensures { OnOk result (sofar_of self.new
+            ≡ with_listed list (listed_of formula label byte) weight (sofar_of self.old)) }
     {
         let role = match list {
             FormulaList::Assumptions => Role::Assumption,
@@ -69,7 +70,9 @@ impl Draft {
         weight: Option<u32>,
         byte: u64,
     ) -> Result<(), AllocError>
-        ensures { OnOk result (sofar_of self.new ≡ with_listed FormulaList.Hints (listed_of formula label byte) weight (sofar_of self.old)) }
+        ensures { OnOk result (sofar_of self.new
+            ≡ with_listed FormulaList.Hints (listed_of formula label byte) weight
+            (sofar_of self.old)) }
     {
         self.hints.push(Hint {
             formula,

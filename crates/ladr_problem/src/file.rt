@@ -47,8 +47,10 @@ fn take_items(
     tokens: &[Token],
     draft: &mut Draft,
 ) -> Result<(), Stop>
-    ensures ok { OnOk result ((o : Outcome) → File program end (sofar_of draft.new) [] o → File program end (sofar_of draft.old) (items_of (pieces_of tokens.now)) o) }
-    ensures stop { IfErr result (IsStop (File program end (sofar_of draft.old) (items_of (pieces_of tokens.now)))) }
+    ensures ok { OnOk result ((o : Outcome) → File program end (sofar_of draft.new) [] o
+        → File program end (sofar_of draft.old) (items_of (pieces_of tokens.now)) o) }
+    ensures stop { IfErr result (IsStop (File program end (sofar_of draft.old)
+        (items_of (pieces_of tokens.now)))) }
 {
     let mut at = 0;
     while at < tokens.len() {
@@ -71,8 +73,10 @@ pub fn take_all(
     tokens: &[Token],
     draft: &mut Draft,
 ) -> Result<(), Stop>
-    ensures ok { OnOk result (File program end (sofar_of draft.old) (items_of (pieces_of tokens.now)) (problem (sofar_of draft.new))) }
-    ensures stop { IfErr result (IsStop (File program end (sofar_of draft.old) (items_of (pieces_of tokens.now)))) }
+    ensures ok { OnOk result (File program end (sofar_of draft.old)
+        (items_of (pieces_of tokens.now)) (problem (sofar_of draft.new))) }
+    ensures stop { IfErr result (IsStop (File program end (sofar_of draft.old)
+        (items_of (pieces_of tokens.now)))) }
 {
     match take_items(alloc, program, end, tokens, draft) {
         Ok(()) => {}

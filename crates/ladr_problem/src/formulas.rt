@@ -55,7 +55,8 @@ fn least_misuse(
     misused: bool,
     read: &FormulaRead,
 ) -> Result<Option<Misuse>, AllocError>
-    ensures { IfOk result (λ row. row ≡ least_misuse list misused (fol_of read.now.formula.shape) read.now.least) }
+    ensures { IfOk result (λ row. row ≡ least_misuse list misused
+        (fol_of read.now.formula.shape) read.now.least) }
 {
     let least = meet(misused, Misuse::UnfitAttribute, read.least);
     let is_lost = is_demodulators(list) && !is_demodulator(alloc, &read.formula)?;
@@ -77,8 +78,10 @@ impl Draft {
         byte: u64,
         raw: Raw,
     ) -> Result<(), Refusal>
-        ensures ok { OnOk result (after_formula program list byte (sofar_of self.old) (raw_of raw) ≡ Ok (sofar_of self.new)) }
-        ensures refused { IfErr result (IsNo (after_formula program list byte (sofar_of self.old) (raw_of raw))) }
+        ensures ok { OnOk result (after_formula program list byte (sofar_of self.old) (raw_of raw)
+            ≡ Ok (sofar_of self.new)) }
+        ensures refused { IfErr result (IsNo (after_formula program list byte (sofar_of self.old)
+            (raw_of raw))) }
     {
         let stated = Stated::of(raw);
         let before = self.symbols.len();
@@ -98,8 +101,10 @@ impl Draft {
         stated: Stated,
         read: FormulaRead,
     ) -> Result<(), Refusal>
-        ensures ok { OnOk result (after_read program list byte before (sofar_of self.old) stated read ≡ Ok (sofar_of self.new)) }
-        ensures refused { IfErr result (IsNo (after_read program list byte before (sofar_of self.old) stated read)) }
+        ensures ok { OnOk result (after_read program list byte before
+            (sofar_of self.old) stated read ≡ Ok (sofar_of self.new)) }
+        ensures refused { IfErr result (IsNo (after_read program list byte before
+            (sofar_of self.old) stated read)) }
     {
         if self.symbols.len() > MOST_SYMBOLS {
             return Err(Refusal::Symbols);
@@ -127,8 +132,10 @@ impl Draft {
         stated: Stated,
         read: FormulaRead,
     ) -> Result<(), Refusal>
-        ensures ok { OnOk result (with_read list byte (sofar_of self.old) stated read ≡ Ok (sofar_of self.new)) }
-        ensures refused { IfErr result (IsNo (with_read list byte (sofar_of self.old) stated read)) }
+        ensures ok { OnOk result (with_read list byte (sofar_of self.old) stated read
+            ≡ Ok (sofar_of self.new)) }
+        ensures refused { IfErr result (IsNo (with_read list byte
+            (sofar_of self.old) stated read)) }
     {
         match least_misuse(alloc, list, stated.misused, &read)? {
             Some(misuse) => Err(Refusal::Misused(misuse)),

@@ -13,7 +13,8 @@ ghost use Rattle.ladr_problem.specs.WorkedItems.{with_prefix, two_items};
 
 /// Tokens are one item of a list at most.
 pub fn one_item()
-    ensures { (g : Table) (ts : List Lexeme) (i j : ListItem) → IsListItem g ts i → IsListItem g ts j → i ≡ j }
+    ensures { (g : Table) (ts : List Lexeme) (i j : ListItem) → IsListItem g ts i
+        → IsListItem g ts j → i ≡ j }
 {}
 
 /// Tokens are the same as lexemes with their places and without.
@@ -31,7 +32,8 @@ pub fn worked_items()
     ensures end { IsListItem standard (line "end_of_list.") closing }
     ensures term { IsListItem standard (line "p(a).") (term (unary "p" (constant "a"))) }
     ensures operator { IsListItem with_prefix (line "end_of_list.") closing }
-    ensures argument { IsListItem with_prefix (line "end_of_list a.") (term (unary "end_of_list" (constant "a"))) }
+    ensures argument { IsListItem with_prefix (line "end_of_list a.")
+        (term (unary "end_of_list" (constant "a"))) }
 {}
 
 /// Tokens that are no item of a list, each with its first bad one.

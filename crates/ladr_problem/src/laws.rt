@@ -9,7 +9,8 @@ ghost use Rattle.ladr_reader.specs.declared.styles.Mode.TheVariants.{Prover, Mac
 
 /// A file says one thing at most to a program.
 pub fn one_outcome()
-    ensures { (m : Mode) (bytes : List ℕ) (o p : Outcome) → Says m bytes o → Says m bytes p → o ≡ p }
+    ensures { (m : Mode) (bytes : List ℕ) (o p : Outcome) → Says m bytes o → Says m bytes p
+        → o ≡ p }
 {}
 
 /// Files worked out.
@@ -18,8 +19,10 @@ pub fn worked()
     // A program that tests interpretations is to have one.
     ensures untested { Says Tester [] (misused 0 Uncovered) }
     ensures unknown_flag { Says Prover (codes "% a\nset(b).\n") (misused 4 UnknownFlag) }
-    ensures for_another { Says Mace (codes "if(Prover9).\nset(b).\nend_if.\n") (problem nothing_read) }
-    ensures not_for_another { Says Prover (codes "if(Prover9).\nset(b).\nend_if.\n") (misused 13 UnknownFlag) }
+    ensures for_another { Says Mace (codes "if(Prover9).\nset(b).\nend_if.\n")
+        (problem nothing_read) }
+    ensures not_for_another { Says Prover (codes "if(Prover9).\nset(b).\nend_if.\n")
+        (misused 13 UnknownFlag) }
     ensures open_list { Says Mace (codes "formulas(goals).\n") (unreadable 17) }
 {}
 
@@ -28,15 +31,22 @@ pub fn worked_formulas()
     // The symbols are numbered as they come, and the label is kept.
     ensures listed { Says Prover (codes "formulas(assumptions).\np(a) # label(b).\nend_of_list.\nformulas(goals).\nq(x).\nend_of_list.\n") (problem labelled_and_goal) }
     // f stands for a relation, and then for a function.
-    ensures clash { Says Prover (codes "formulas(sos).\nf(a).\nf(a) = b.\nend_of_list.\n") (misused 21 TwoKinds) }
+    ensures clash { Says Prover (codes "formulas(sos).\nf(a).\nf(a) = b.\nend_of_list.\n")
+        (misused 21 TwoKinds) }
     // A formula for another program enters no symbol.
-    ensures for_another { Says Prover (codes "if(Mace4).\nformulas(sos).\nf(a).\nend_of_list.\nend_if.\nformulas(sos).\nf(a) = b.\nend_of_list.\n") (problem one_equation) }
+    ensures for_another { Says Prover (codes
+        "if(Mace4).\nformulas(sos).\nf(a).\nend_of_list.\nend_if.\nformulas(sos).\nf(a) = b.\nend_of_list.\n") (problem one_equation) }
     // p & q is no clause, and x = f(x) no demodulator.
-    ensures hint { Says Prover (codes "formulas(hints).\np | -q.\np & q.\nend_of_list.\n") (misused 25 UnfitHint) }
-    ensures demodulator { Says Prover (codes "formulas(demodulators).\nf(x) = x.\nx = f(x).\nend_of_list.\n") (misused 34 UnfitDemodulator) }
+    ensures hint { Says Prover (codes "formulas(hints).\np | -q.\np & q.\nend_of_list.\n")
+        (misused 25 UnfitHint) }
+    ensures demodulator { Says Prover (codes
+        "formulas(demodulators).\nf(x) = x.\nx = f(x).\nend_of_list.\n")
+        (misused 34 UnfitDemodulator) }
     // Each name has one weight for KBO.
-    ensures weights { Says Prover (codes "list(kbo_weights).\nf = 2.\ng = 3.\nend_of_list.\n") (problem weighed) }
-    ensures weighed_twice { Says Prover (codes "list(kbo_weights).\nf = 2.\nf = 3.\nend_of_list.\n") (misused 26 UnfitRule) }
+    ensures weights { Says Prover (codes "list(kbo_weights).\nf = 2.\ng = 3.\nend_of_list.\n")
+        (problem weighed) }
+    ensures weighed_twice { Says Prover (codes "list(kbo_weights).\nf = 2.\nf = 3.\nend_of_list.\n")
+        (misused 26 UnfitRule) }
     // The interpretation lacks p.
     ensures lacking { Says Tester (codes "interpretation(2,[],[]).\nformulas(sos).\np.\nend_of_list.\n") (misused 40 Uncovered) }
     // q can't stand behind p(a).

@@ -12,7 +12,8 @@ use std::alloc::Global;
 
 /// The item of a list that the tokens are, which are one item with its full stop, or all that is left of a text.
 pub fn read_list_item(alloc: Global, ops: &Ops, tokens: &[Token]) -> Result<ListItem, TermFault>
-    ensures read { IfOk result (λ item. IsListItem (table_of ops.now) (lexemes_of tokens.now) (item_of item)) }
+    ensures read { IfOk result (λ item. IsListItem (table_of ops.now) (lexemes_of tokens.now)
+        (item_of item)) }
     ensures shallow { IfOk result (λ item. IsShallow (lexemes_of tokens.now) (item_of item)) }
     ensures fault { IfErr result (IsItemFault (table_of ops.now) (lexemes_of tokens.now)) }
 {
@@ -32,7 +33,8 @@ pub fn read_list_item(alloc: Global, ops: &Ops, tokens: &[Token]) -> Result<List
 
 // Whether the first tokens are `end_of_list.`
 fn begins_with_closing(tokens: &[Token]) -> bool
-    ensures { MatchBool result (take 2 (lexemes_of tokens.now) ≡ closing_tokens) (¬ take 2 (lexemes_of tokens.now) ≡ closing_tokens) }
+    ensures { MatchBool result (take 2 (lexemes_of tokens.now) ≡ closing_tokens)
+        (¬ take 2 (lexemes_of tokens.now) ≡ closing_tokens) }
 {
     match tokens {
         [word, stop, ..] => is_end_word(word) && stop.kind == TokenKind::Stop,
@@ -41,7 +43,8 @@ fn begins_with_closing(tokens: &[Token]) -> bool
 }
 
 fn is_end_word(token: &Token) -> bool
-    ensures { MatchBool result (lexeme_of token.now ≡ symbol ordinary (codes "end_of_list")) (¬ lexeme_of token.now ≡ symbol ordinary (codes "end_of_list")) }
+    ensures { MatchBool result (lexeme_of token.now ≡ symbol ordinary (codes "end_of_list"))
+        (¬ lexeme_of token.now ≡ symbol ordinary (codes "end_of_list")) }
 {
     token.kind == TokenKind::Ordinary && token.text == b"end_of_list".as_slice()
 }

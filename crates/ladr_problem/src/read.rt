@@ -51,7 +51,8 @@ fn first_lacking(tables: &Tables, inputs: &[Input]) -> Option<u64>
 
 // Looks for a formula that the interpretation doesn't cover.
 fn test(alloc: Global, end: usize, draft: &Draft) -> Result<(), Stop>
-    ensures ok { OnOk result (tested end (problem (sofar_of draft.now)) ≡ problem (sofar_of draft.now)) }
+    ensures ok { OnOk result (tested end (problem (sofar_of draft.now))
+        ≡ problem (sofar_of draft.now)) }
     ensures stop { IfErr result (IsStop (λ o. tested end (problem (sofar_of draft.now)) ≡ o)) }
 {
     let Some(named) = &draft.settings.interpretation else {
@@ -75,8 +76,10 @@ fn take_file(
     tokens: &[Token],
     draft: &mut Draft,
 ) -> Result<(), Stop>
-    ensures ok { OnOk result (IsFinished program end (sofar_of draft.old) (items_of (pieces_of tokens.now)) (problem (sofar_of draft.new))) }
-    ensures stop { IfErr result (IsStop (IsFinished program end (sofar_of draft.old) (items_of (pieces_of tokens.now)))) }
+    ensures ok { OnOk result (IsFinished program end (sofar_of draft.old)
+        (items_of (pieces_of tokens.now)) (problem (sofar_of draft.new))) }
+    ensures stop { IfErr result (IsStop (IsFinished program end (sofar_of draft.old)
+        (items_of (pieces_of tokens.now)))) }
 {
     match take_all(alloc, program, end, tokens, draft) {
         Ok(()) => {}

@@ -16,8 +16,10 @@ use std::alloc::Global;
 impl Draft {
     /// Takes a rule of the list of weights.
     pub fn take_weight(&mut self, alloc: Global, program: Mode, raw: &Raw) -> Result<(), Refusal>
-        ensures ok { OnOk result (after_weight program (sofar_of self.old) (raw_of raw.now) ≡ Ok (sofar_of self.new)) }
-        ensures refused { IfErr result (IsNo (after_weight program (sofar_of self.old) (raw_of raw.now))) }
+        ensures ok { OnOk result (after_weight program (sofar_of self.old) (raw_of raw.now)
+            ≡ Ok (sofar_of self.new)) }
+        ensures refused { IfErr result (IsNo (after_weight program (sofar_of self.old)
+            (raw_of raw.now))) }
     {
         let before = self.symbols.len();
         let prolog = self.settings.options.prolog_style_variables;
@@ -35,8 +37,10 @@ impl Draft {
 
     // Takes a rule that was read behind so many symbols.
     fn settle_rule(&mut self, program: Mode, before: usize, read: RuleRead) -> Result<(), Refusal>
-        ensures ok { OnOk result (after_rule_read program before (sofar_of self.old) read ≡ Ok (sofar_of self.new)) }
-        ensures refused { IfErr result (IsNo (after_rule_read program before (sofar_of self.old) read)) }
+        ensures ok { OnOk result (after_rule_read program before (sofar_of self.old) read
+            ≡ Ok (sofar_of self.new)) }
+        ensures refused { IfErr result (IsNo (after_rule_read program before
+            (sofar_of self.old) read)) }
     {
         if self.symbols.len() > MOST_SYMBOLS {
             return Err(Refusal::Symbols);
@@ -64,8 +68,10 @@ impl Draft {
         program: Mode,
         raw: &Raw,
     ) -> Result<(), Refusal>
-        ensures ok { OnOk result (after_kbo program (sofar_of self.old) (raw_of raw.now) ≡ Ok (sofar_of self.new)) }
-        ensures refused { IfErr result (IsNo (after_kbo program (sofar_of self.old) (raw_of raw.now))) }
+        ensures ok { OnOk result (after_kbo program (sofar_of self.old) (raw_of raw.now)
+            ≡ Ok (sofar_of self.new)) }
+        ensures refused { IfErr result (IsNo (after_kbo program (sofar_of self.old)
+            (raw_of raw.now))) }
     {
         if !self.settings.is_meant(program) {
             return Ok(());

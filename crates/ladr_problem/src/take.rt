@@ -35,8 +35,10 @@ impl Draft {
         byte: u64,
         tokens: &[Token],
     ) -> Result<(), Refusal>
-        ensures ok { OnOk result (IsTaken program byte (sofar_of self.old) (lexemes_of tokens.now) (sofar_of self.new)) }
-        ensures refused { IfErr result (IsRefused program byte (sofar_of self.old) (lexemes_of tokens.now)) }
+        ensures ok { OnOk result (IsTaken program byte (sofar_of self.old) (lexemes_of tokens.now)
+            (sofar_of self.new)) }
+        ensures refused { IfErr result (IsRefused program byte (sofar_of self.old)
+            (lexemes_of tokens.now)) }
     {
         match self.settings.list {
             None => self.take_command(alloc, program, byte, tokens),
@@ -53,8 +55,10 @@ impl Draft {
         tokens: &[Token],
     ) -> Result<(), Refusal>
         requires { self.old.settings.list ≡ None }
-        ensures ok { OnOk result (IsTaken program byte (sofar_of self.old) (lexemes_of tokens.now) (sofar_of self.new)) }
-        ensures refused { IfErr result (IsRefused program byte (sofar_of self.old) (lexemes_of tokens.now)) }
+        ensures ok { OnOk result (IsTaken program byte (sofar_of self.old) (lexemes_of tokens.now)
+            (sofar_of self.new)) }
+        ensures refused { IfErr result (IsRefused program byte (sofar_of self.old)
+            (lexemes_of tokens.now)) }
     {
         match read_command(alloc, is_tester(program), tokens) {
             Ok(command) => match self.settings.take(alloc, program, command) {
@@ -75,8 +79,10 @@ impl Draft {
         tokens: &[Token],
     ) -> Result<(), Refusal>
         requires { self.old.settings.list ≡ Some list }
-        ensures ok { OnOk result (IsTaken program byte (sofar_of self.old) (lexemes_of tokens.now) (sofar_of self.new)) }
-        ensures refused { IfErr result (IsRefused program byte (sofar_of self.old) (lexemes_of tokens.now)) }
+        ensures ok { OnOk result (IsTaken program byte (sofar_of self.old) (lexemes_of tokens.now)
+            (sofar_of self.new)) }
+        ensures refused { IfErr result (IsRefused program byte (sofar_of self.old)
+            (lexemes_of tokens.now)) }
     {
         match read_list_item(alloc, &self.settings.operators, tokens) {
             Ok(ListItem::End) => {
@@ -97,8 +103,10 @@ impl Draft {
         byte: u64,
         raw: Raw,
     ) -> Result<(), Refusal>
-        ensures ok { OnOk result (after_term program list byte (sofar_of self.old) (raw_of raw) ≡ Ok (sofar_of self.new)) }
-        ensures refused { IfErr result (IsNo (after_term program list byte (sofar_of self.old) (raw_of raw))) }
+        ensures ok { OnOk result (after_term program list byte (sofar_of self.old) (raw_of raw)
+            ≡ Ok (sofar_of self.new)) }
+        ensures refused { IfErr result (IsNo (after_term program list byte (sofar_of self.old)
+            (raw_of raw))) }
     {
         match list {
             OpenList::Formulas(list) => self.take_formula(alloc, program, Some(list), byte, raw),

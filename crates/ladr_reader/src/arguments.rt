@@ -33,7 +33,11 @@ pub fn terms_of(
 ) -> Result<TermsRead, AllocError>
     // What is read goes on where something is misused or too large.
     ensures read { IfOk result (λ r. terms_of style [] (unread symbols.old) (raws_of raws.now)
-        ≡ record { tree = trees_of r.terms; reading = record { symbols = symbols.new; variables = r.variables; least = r.least; large = r.large } }) }
+        ≡ record {
+          tree = trees_of r.terms;
+          reading = record
+              { symbols = symbols.new; variables = r.variables; least = r.least; large = r.large };
+        }) }
     // The symbols are of the table.
     ensures symbols { IfOk result (λ r. HaveSymbolsBelow (length symbols.new) (trees_of r.terms)) }
     // Whatever the answer, the old symbols keep their numbers.

@@ -58,7 +58,8 @@ fn whole_clause(
     style: Style,
     reader: &mut Reader,
 ) -> Result<ClauseRead, AllocError>
-    ensures read { IfOk result (λ r. (t : RawTree) → raw_list literals.now ≡ disjuncts t → reader.old.scope ≡ [] →
+    ensures read { IfOk result (λ r. (t : RawTree) → raw_list literals.now ≡ disjuncts t
+        → reader.old.scope ≡ [] →
         IsClauseRead (formula_in style [] reader.old.reading t) r reader.new.reading.symbols) }
     ensures kept { KeepsNumbers reader.old.reading.symbols reader.new.reading.symbols }
 {
@@ -79,8 +80,10 @@ fn clause(
     style: Style,
     reader: &mut Reader,
 ) -> Result<Option<Clause>, AllocError>
-    ensures clause { IfOk result (λ c. c ≡ clause_from (formulas_in style reader.old.scope reader.old.reading (raw_list literals.now)).tree) }
-    ensures reading { OnOk result (reader.new.reading ≡ (formulas_in style reader.old.scope reader.old.reading (raw_list literals.now)).reading) }
+    ensures clause { IfOk result (λ c. c ≡ clause_from
+        (formulas_in style reader.old.scope reader.old.reading (raw_list literals.now)).tree) }
+    ensures reading { OnOk result (reader.new.reading
+        ≡ (formulas_in style reader.old.scope reader.old.reading (raw_list literals.now)).reading) }
     ensures kept { KeepsNumbers reader.old.reading.symbols reader.new.reading.symbols }
 {
     match literals {
@@ -104,8 +107,10 @@ fn all_literals(
     style: Style,
     reader: &mut Reader,
 ) -> Result<Option<Clause>, AllocError>
-    ensures clause { IfOk result (λ c. c ≡ all_literals (formulas_in style reader.old.scope reader.old.reading (raw_list literals.now)).tree) }
-    ensures reading { OnOk result (reader.new.reading ≡ (formulas_in style reader.old.scope reader.old.reading (raw_list literals.now)).reading) }
+    ensures clause { IfOk result (λ c. c ≡ all_literals
+        (formulas_in style reader.old.scope reader.old.reading (raw_list literals.now)).tree) }
+    ensures reading { OnOk result (reader.new.reading
+        ≡ (formulas_in style reader.old.scope reader.old.reading (raw_list literals.now)).reading) }
     ensures kept { KeepsNumbers reader.old.reading.symbols reader.new.reading.symbols }
 {
     let mut clause = Some(Clause::new(alloc));

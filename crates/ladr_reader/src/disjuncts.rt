@@ -88,7 +88,8 @@ impl Disjuncts {
         body: Disjuncts,
     ) -> Result<Disjuncts, AllocError>
         ensures { IfOk result (λ term.
-            term ≡ single (quantification build.most quantifier variable (whole_of build.most body))) }
+            term ≡ single (quantification build.most quantifier variable
+            (whole_of build.most body))) }
     {
         let body = body.into_whole(build)?;
         let tree = Capped::quantification(build, quantifier, variable, body)?;
@@ -148,7 +149,8 @@ impl Disjuncts {
 
     /// The disjuncts, if they are there.
     pub fn into_literals(self) -> Result<Option<Vec<Raw>>, AllocError>
-        ensures { IfOk result (λ found. option_map (λ literals. raw_list literals.items) found ≡ self) }
+        ensures { IfOk result (λ found. option_map (λ literals. raw_list literals.items) found
+            ≡ self) }
     {
         let Disjuncts {
             last,
@@ -179,7 +181,8 @@ impl Disjuncts {
 
 // The tree of disjuncts: the last, and those before it, the last of them first.
 fn nested(build: Build, before: Vec<Raw>, last: Raw) -> Result<Raw, AllocError>
-    ensures { IfOk result (λ tree. disjunction (in_order (raw_list before.items) (raw_of last)) ≡ Some (raw_of tree)) }
+    ensures { IfOk result (λ tree. disjunction (in_order (raw_list before.items) (raw_of last))
+        ≡ Some (raw_of tree)) }
 {
     let mut tree = last;
     for disjunct in before {

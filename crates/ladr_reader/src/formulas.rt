@@ -39,7 +39,8 @@ fn constant(
     style: Style,
     reader: &mut Reader,
 ) -> Result<Term, AllocError>
-    ensures read { IfOk result (λ term. constant style reader.old.scope name.now reader.old.reading ≡ record { tree = tree_of term; reading = reader.new.reading }) }
+    ensures read { IfOk result (λ term. constant style reader.old.scope name.now reader.old.reading
+        ≡ record { tree = tree_of term; reading = reader.new.reading }) }
     ensures scope { OnOk result (reader.new.scope ≡ reader.old.scope) }
     ensures kept { KeepsNumbers reader.old.reading.symbols reader.new.reading.symbols }
 {
@@ -57,8 +58,11 @@ fn constant(
 #[tactic(auto, using(crate::proofs::TermLemmas::arity_is_length))]
 // The symbol of an application below a relation.
 fn function(name: &[u8], args: &Raws, style: Style, reader: &mut Reader) -> Result<Sym, AllocError>
-    ensures read { OnOk result (reader.new.reading ≡ with_symbol name.now (arity_of (raws_of args.now)) Function (meets (is_too_great style name.now) Misuse.UnfitNumeral reader.old.reading)) }
-    ensures number { IfOk result (λ s. s.0 ≡ symbol_number name.now (arity_of (raws_of args.now)) reader.new.reading) }
+    ensures read { OnOk result (reader.new.reading
+        ≡ with_symbol name.now (arity_of (raws_of args.now)) Function
+        (meets (is_too_great style name.now) Misuse.UnfitNumeral reader.old.reading)) }
+    ensures number { IfOk result (λ s. s.0 ≡ symbol_number name.now
+        (arity_of (raws_of args.now)) reader.new.reading) }
     ensures scope { OnOk result (reader.new.scope ≡ reader.old.scope) }
     ensures kept { KeepsNumbers reader.old.reading.symbols reader.new.reading.symbols }
 {
@@ -69,7 +73,8 @@ fn function(name: &[u8], args: &Raws, style: Style, reader: &mut Reader) -> Resu
 #[tactic(auto, using(crate::proofs::TermLemmas::kept_both))]
 // The term that is read below a relation.
 fn term(alloc: Global, raw: &Raw, style: Style, reader: &mut Reader) -> Result<Term, AllocError>
-    ensures read { IfOk result (λ term. term_of style reader.old.scope reader.old.reading (raw_of raw.now) ≡ record { tree = tree_of term; reading = reader.new.reading }) }
+    ensures read { IfOk result (λ term. term_of style reader.old.scope reader.old.reading
+        (raw_of raw.now) ≡ record { tree = tree_of term; reading = reader.new.reading }) }
     ensures scope { OnOk result (reader.new.scope ≡ reader.old.scope) }
     ensures kept { KeepsNumbers reader.old.reading.symbols reader.new.reading.symbols }
 {
@@ -103,7 +108,8 @@ pub fn terms(
     style: Style,
     reader: &mut Reader,
 ) -> Result<Terms, AllocError>
-    ensures read { IfOk result (λ terms. terms_of style reader.old.scope reader.old.reading (raws_of raws.now) ≡ record { tree = trees_of terms; reading = reader.new.reading }) }
+    ensures read { IfOk result (λ terms. terms_of style reader.old.scope reader.old.reading
+        (raws_of raws.now) ≡ record { tree = trees_of terms; reading = reader.new.reading }) }
     ensures scope { OnOk result (reader.new.scope ≡ reader.old.scope) }
     ensures kept { KeepsNumbers reader.old.reading.symbols reader.new.reading.symbols }
 {
@@ -123,7 +129,9 @@ fn relation(
     style: Style,
     reader: &mut Reader,
 ) -> Result<Shape, AllocError>
-    ensures read { IfOk result (λ shape. relation_of style reader.old.scope name.now (raws_of args.now) reader.old.reading ≡ record { tree = fol_of shape; reading = reader.new.reading }) }
+    ensures read { IfOk result (λ shape. relation_of style reader.old.scope name.now
+        (raws_of args.now) reader.old.reading
+        ≡ record { tree = fol_of shape; reading = reader.new.reading }) }
     ensures scope { OnOk result (reader.new.scope ≡ reader.old.scope) }
     ensures kept { KeepsNumbers reader.old.reading.symbols reader.new.reading.symbols }
 {
@@ -142,7 +150,9 @@ fn equation(
     style: Style,
     reader: &mut Reader,
 ) -> Result<Shape, AllocError>
-    ensures read { IfOk result (λ shape. equation style reader.old.scope (raw_of left.now) (raw_of right.now) reader.old.reading ≡ record { tree = fol_of shape; reading = reader.new.reading }) }
+    ensures read { IfOk result (λ shape. equation style reader.old.scope (raw_of left.now)
+        (raw_of right.now) reader.old.reading
+        ≡ record { tree = fol_of shape; reading = reader.new.reading }) }
     ensures scope { OnOk result (reader.new.scope ≡ reader.old.scope) }
     ensures kept { KeepsNumbers reader.old.reading.symbols reader.new.reading.symbols }
 {
@@ -161,7 +171,8 @@ fn sentence(
     reader: &mut Reader,
 ) -> Result<Shape, AllocError>
     requires { args.now ≡ [] }
-    ensures read { IfOk result (λ shape. sentence style reader.old.scope name.now reader.old.reading ≡ record { tree = fol_of shape; reading = reader.new.reading }) }
+    ensures read { IfOk result (λ shape. sentence style reader.old.scope name.now reader.old.reading
+        ≡ record { tree = fol_of shape; reading = reader.new.reading }) }
     ensures scope { OnOk result (reader.new.scope ≡ reader.old.scope) }
     ensures kept { KeepsNumbers reader.old.reading.symbols reader.new.reading.symbols }
 {
@@ -189,7 +200,9 @@ fn comparison(
     reader: &mut Reader,
 ) -> Result<Shape, AllocError>
     requires { args.now ≡ raw_of left.now ∷ raw_of right.now ∷ [] }
-    ensures read { IfOk result (λ shape. comparison style reader.old.scope name.now (raw_of left.now) (raw_of right.now) reader.old.reading ≡ record { tree = fol_of shape; reading = reader.new.reading }) }
+    ensures read { IfOk result (λ shape. comparison style reader.old.scope name.now
+        (raw_of left.now) (raw_of right.now) reader.old.reading
+        ≡ record { tree = fol_of shape; reading = reader.new.reading }) }
     ensures scope { OnOk result (reader.new.scope ≡ reader.old.scope) }
     ensures kept { KeepsNumbers reader.old.reading.symbols reader.new.reading.symbols }
 {
@@ -222,7 +235,8 @@ pub fn formula(
     style: Style,
     reader: &mut Reader,
 ) -> Result<Shape, AllocError>
-    ensures read { IfOk result (λ shape. formula_in style reader.old.scope reader.old.reading (raw_of raw.now) ≡ record { tree = fol_of shape; reading = reader.new.reading }) }
+    ensures read { IfOk result (λ shape. formula_in style reader.old.scope reader.old.reading
+        (raw_of raw.now) ≡ record { tree = fol_of shape; reading = reader.new.reading }) }
     ensures scope { OnOk result (reader.new.scope ≡ reader.old.scope) }
     ensures kept { KeepsNumbers reader.old.reading.symbols reader.new.reading.symbols }
 {
@@ -272,7 +286,8 @@ fn joined(
     first: Shape,
     second: Shape,
 ) -> Result<Shape, AllocError>
-    ensures { IfOk result (λ shape. fol_of shape ≡ joined_by connective (fol_of first) (fol_of second)) }
+    ensures { IfOk result (λ shape. fol_of shape
+        ≡ joined_by connective (fol_of first) (fol_of second)) }
 {
     let first = Sub::new(alloc, first)?;
     let second = Sub::new(alloc, second)?;
@@ -299,7 +314,9 @@ fn whole_formula(
     style: Style,
     reader: &mut Reader,
 ) -> Result<FormulaRead, AllocError>
-    ensures read { IfOk result (λ r. IsWhole (formula_in style reader.old.scope reader.old.reading (raw_of raw.now)) r reader.new.reading.symbols) }
+    ensures read { IfOk result (λ r. IsWhole
+        (formula_in style reader.old.scope reader.old.reading
+        (raw_of raw.now)) r reader.new.reading.symbols) }
     ensures kept { KeepsNumbers reader.old.reading.symbols reader.new.reading.symbols }
 {
     let shape = formula(alloc, raw, style, reader)?;
@@ -320,10 +337,12 @@ pub fn read_formula(
     mode: Mode,
     prolog: bool,
 ) -> Result<FormulaRead, AllocError>
-    ensures read { IfOk result (λ r. IsWhole (formula_reading (style_of mode prolog) symbols.old (raw_of raw.now)) r symbols.new) }
+    ensures read { IfOk result (λ r. IsWhole
+        (formula_reading (style_of mode prolog) symbols.old (raw_of raw.now)) r symbols.new) }
     // Where no row was met no variable is bound twice, and none is both bound and free; the symbols are of the table.
     ensures once { IfOk result (λ r. r.least ≡ None → BindsOnce (fol_of r.formula.shape)) }
-    ensures symbols { IfOk result (λ r. HasSymbolsBelow (length symbols.new) (fol_of r.formula.shape)) }
+    ensures symbols { IfOk result (λ r. HasSymbolsBelow (length symbols.new)
+        (fol_of r.formula.shape)) }
     // Whatever the answer, the old symbols keep their numbers.
     ensures kept { KeepsNumbers symbols.old symbols.new }
 {
@@ -341,8 +360,11 @@ fn sound_formula(
     style: Style,
     reader: &mut Reader,
 ) -> Result<Formula, FormulaError>
-    ensures read { IfOk result (λ f. IsReadAs (formula_in style reader.old.scope reader.old.reading (raw_of raw.now)) (fol_of f.shape) f.names reader.new.reading.symbols) }
-    ensures fault { IfErr result (IsFault (formula_in style reader.old.scope reader.old.reading (raw_of raw.now)).reading) }
+    ensures read { IfOk result (λ f. IsReadAs
+        (formula_in style reader.old.scope reader.old.reading (raw_of raw.now))
+        (fol_of f.shape) f.names reader.new.reading.symbols) }
+    ensures fault { IfErr result (IsFault (formula_in style reader.old.scope reader.old.reading
+        (raw_of raw.now)).reading) }
     ensures kept { KeepsNumbers reader.old.reading.symbols reader.new.reading.symbols }
 {
     let shape = formula(alloc, raw, style, reader)?;
@@ -364,12 +386,15 @@ pub fn formula_of(
     prolog: bool,
 ) -> Result<Formula, FormulaError>
     // A formula comes exactly where nothing is misused and nothing is too large, unless memory is lacking.
-    ensures read { IfOk result (λ f. IsReadAs (formula_reading (style_of mode prolog) symbols.old (raw_of raw.now)) (fol_of f.shape) f.names symbols.new) }
+    ensures read { IfOk result (λ f. IsReadAs
+        (formula_reading (style_of mode prolog) symbols.old (raw_of raw.now))
+        (fol_of f.shape) f.names symbols.new) }
     // No variable is bound twice, and none is both bound and free; the symbols are of the table.
     ensures once { IfOk result (λ f. BindsOnce (fol_of f.shape)) }
     ensures symbols { IfOk result (λ f. HasSymbolsBelow (length symbols.new) (fol_of f.shape)) }
     // Else the error is the one that the reading tells.
-    ensures fault { IfErr result (IsFault (formula_reading (style_of mode prolog) symbols.old (raw_of raw.now)).reading) }
+    ensures fault { IfErr result (IsFault (formula_reading (style_of mode prolog) symbols.old
+        (raw_of raw.now)).reading) }
     // Whatever the answer, the old symbols keep their numbers.
     ensures kept { KeepsNumbers symbols.old symbols.new }
 {

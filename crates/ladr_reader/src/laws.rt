@@ -20,15 +20,20 @@ use crate::styles::Mode;
 pub fn one_reading()
     ensures terms { (g : Table) (ts : List Lexeme) (t u : RawTree) (p q : ℕ) →
         Reads g ts t p → Reads g ts u q → (t ≡ u) × (p ≡ q) }
-    ensures items { (g : Table) (ts : List Lexeme) (t u : RawTree) → Item g ts t → Item g ts u → t ≡ u }
+    ensures items { (g : Table) (ts : List Lexeme) (t u : RawTree) → Item g ts t → Item g ts u
+        → t ≡ u }
 {}
 
 /// What a quoted symbol is whatever is declared: no operator, no word of a quantifier, no variable, and no numeral.
 pub fn quoted_symbols()
-    ensures operator { (rows : List OperatorRow) (text : List ℕ) → IsTrue (are_lawful rows) → is_quoted text ≡ true → (table_of rows).op text ≡ None }
-    ensures word { (rows : List OperatorRow) (text : List ℕ) → is_quoted text ≡ true → (table_of rows).word text ≡ None }
-    ensures bound { (rows : List OperatorRow) (text : List ℕ) → (table_of rows).variable quoted text ≡ false }
-    ensures free { (st : Style) (text : List ℕ) → is_quoted text ≡ true → is_free_name st text ≡ false }
+    ensures operator { (rows : List OperatorRow) (text : List ℕ) → IsTrue (are_lawful rows)
+        → is_quoted text ≡ true → (table_of rows).op text ≡ None }
+    ensures word { (rows : List OperatorRow) (text : List ℕ) → is_quoted text ≡ true
+        → (table_of rows).word text ≡ None }
+    ensures bound { (rows : List OperatorRow) (text : List ℕ)
+        → (table_of rows).variable quoted text ≡ false }
+    ensures free { (st : Style) (text : List ℕ) → is_quoted text ≡ true
+        → is_free_name st text ≡ false }
     ensures numeral { (text : List ℕ) → is_quoted text ≡ true → is_numeral text ≡ false }
 {}
 
@@ -63,17 +68,24 @@ pub fn worked_disjuncts()
 /// Items with the operators at the start.
 pub fn worked_terms()
     ensures quantified { Item standard (line "all x p(x,f(y)) = a.")
-        (binder All "x" (binary "=" (binary "p" (constant "x") (unary "f" (constant "y"))) (constant "a"))) }
-    ensures in_parentheses { Item standard (line "(exists x p(x)).") (binder Exists "x" (unary "p" (constant "x"))) }
+        (binder All "x" (binary "=" (binary "p" (constant "x") (unary "f" (constant "y")))
+        (constant "a"))) }
+    ensures in_parentheses { Item standard (line "(exists x p(x)).")
+        (binder Exists "x" (unary "p" (constant "x"))) }
     ensures head { Item standard (line "=(a,b).") (binary "=" (constant "a") (constant "b")) }
-    ensures argument { Item standard (line "p(=,\"=\").") (binary "p" (constant "=") (constant "\"=\"")) }
+    ensures argument { Item standard (line "p(=,\"=\").")
+        (binary "p" (constant "=") (constant "\"=\"")) }
     ensures body { Item standard (line "all x p(x) | q(x).")
         (binary "|" (binder All "x" (unary "p" (constant "x"))) (unary "q" (constant "x"))) }
-    ensures denied { Item standard (line "-(all x p(x)).") (unary "-" (binder All "x" (unary "p" (constant "x")))) }
+    ensures denied { Item standard (line "-(all x p(x)).")
+        (unary "-" (binder All "x" (unary "p" (constant "x")))) }
     ensures twice { Item standard (line "- -p.") (unary "-" (unary "-" (constant "p"))) }
-    ensures dashes { Item standard (line "p|--q.") (binary "|" (constant "p") (unary "-" (unary "-" (constant "q")))) }
-    ensures arrows { Item standard (line "a<->(b<-c).") (binary "<->" (constant "a") (binary "<-" (constant "b") (constant "c"))) }
-    ensures apostrophes { Item standard (line "-f''.") (unary "-" (unary "'" (unary "'" (constant "f")))) }
+    ensures dashes { Item standard (line "p|--q.")
+        (binary "|" (constant "p") (unary "-" (unary "-" (constant "q")))) }
+    ensures arrows { Item standard (line "a<->(b<-c).")
+        (binary "<->" (constant "a") (binary "<-" (constant "b") (constant "c"))) }
+    ensures apostrophes { Item standard (line "-f''.")
+        (unary "-" (unary "'" (unary "'" (constant "f")))) }
     ensures to_the_right { Item standard (line "a | b | c.")
         (binary "|" (constant "a") (binary "|" (constant "b") (constant "c"))) }
 {}
@@ -83,7 +95,8 @@ pub fn worked_terms()
 pub fn worked_declared()
     ensures to_the_left { Item with_declared (line "a @@ b @@ c.")
         (binary "@@" (binary "@@" (constant "a") (constant "b")) (constant "c")) }
-    ensures body { Item with_declared (line "all x p @@ q.") (binary "@@" (binder All "x" (constant "p")) (constant "q")) }
+    ensures body { Item with_declared (line "all x p @@ q.")
+        (binary "@@" (binder All "x" (constant "p")) (constant "q")) }
     ensures postfix { Item with_declared (line "- a !.") (unary "!" (unary "-" (constant "a"))) }
     ensures below { Item with_declared (line "~ - a.") (unary "~" (unary "-" (constant "a"))) }
     ensures not_below { IsBadAt with_declared "~ ~ a." 1 }

@@ -72,7 +72,8 @@ impl Variables {
     /// One more variable, which is free.
     pub fn push_free(&mut self, alloc: Global, name: &[u8]) -> Result<(), AllocError>
         requires { free_number 0 self.old name.now ≡ None }
-        ensures { OnOk result (self.new ≡ self.old ++ record { name = name.now; free = true } ∷ []) }
+        ensures { OnOk result (self.new ≡ self.old
+            ++ record { name = name.now; free = true } ∷ []) }
     {
         let number = self.items.len() as u64;
         let key = Vec::from_slice(alloc, name)?;

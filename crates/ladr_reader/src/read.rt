@@ -24,8 +24,10 @@ use std::alloc::Global;
 ///
 /// The tokens are read once, from left to right, also where the item turns out to be nested too deep.
 pub fn read_term(alloc: Global, ops: &Ops, tokens: &[Token]) -> Result<Raw, TermFault>
-    ensures read { IfOk result (λ raw. Item (table_of ops.now) (lexemes_of tokens.now) (raw_of raw)) }
-    ensures shallow { IfOk result (λ raw. nesting (lexemes_of tokens.now) (raw_of raw) ≤ MOST_LEVELS) }
+    ensures read { IfOk result (λ raw. Item (table_of ops.now) (lexemes_of tokens.now)
+        (raw_of raw)) }
+    ensures shallow { IfOk result (λ raw. nesting (lexemes_of tokens.now) (raw_of raw)
+        ≤ MOST_LEVELS) }
     ensures fault { IfErr result (IsTermFault (table_of ops.now) (lexemes_of tokens.now)) }
 {
     let build = Build {
@@ -39,7 +41,8 @@ pub fn read_term(alloc: Global, ops: &Ops, tokens: &[Token]) -> Result<Raw, Term
 
 /// The term that the tokens are, unless it has more levels than this; parentheses don't count.
 pub fn read_tree(alloc: Global, ops: &Ops, tokens: &[Token], most: u16) -> Result<Raw, TermFault>
-    ensures read { IfOk result (λ raw. Item (table_of ops.now) (lexemes_of tokens.now) (raw_of raw)) }
+    ensures read { IfOk result (λ raw. Item (table_of ops.now) (lexemes_of tokens.now)
+        (raw_of raw)) }
     ensures shallow { IfOk result (λ raw. depth (raw_of raw) ≤ most) }
     ensures fault { IfErr result
         (IsFaultWhere (λ t. most < depth t) (table_of ops.now) (lexemes_of tokens.now)) }
@@ -61,11 +64,13 @@ pub fn read_literals(
     tokens: &[Token],
     most: u16,
 ) -> Result<Vec<Raw>, TermFault>
-    ensures read { IfOk result (λ literals. (t : RawTree) × Item (table_of ops.now) (lexemes_of tokens.now) t
+    ensures read { IfOk result (λ literals. (t : RawTree)
+        × Item (table_of ops.now) (lexemes_of tokens.now) t
         × (raw_list literals.items ≡ disjuncts t)) }
     ensures shallow { IfOk result (λ literals. all_within most (raw_list literals.items) ≡ true) }
     ensures fault { IfErr result
-        (IsFaultWhere (λ t. all_within most (disjuncts t) ≡ false) (table_of ops.now) (lexemes_of tokens.now)) }
+        (IsFaultWhere (λ t. all_within most (disjuncts t) ≡ false) (table_of ops.now)
+        (lexemes_of tokens.now)) }
 {
     let build = Build { alloc, most };
     let (term, _) = read_disjuncts(build, ops, tokens)?;
@@ -83,7 +88,8 @@ fn read_disjuncts(
 ) -> Result<(Disjuncts, usize), TermFault>
     ensures read { IfOk result (λ r.
         IsRead build.most (table_of ops.now) (lexemes_of tokens.now) r.0 r.1) }
-    ensures fault { IfErr result (IsFaultWhere (λ _. ⊥) (table_of ops.now) (lexemes_of tokens.now)) }
+    ensures fault { IfErr result (IsFaultWhere (λ _. ⊥) (table_of ops.now)
+        (lexemes_of tokens.now)) }
 {
     ops.rows_are_lawful();
     let mut stack = Stack::new(build.alloc);

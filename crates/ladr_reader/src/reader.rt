@@ -91,7 +91,8 @@ impl Reader {
 
     /// The symbol of a name, an arity and a kind.
     pub fn enter(&mut self, name: &[u8], arity: usize, kind: Kind) -> Result<Sym, AllocError>
-        ensures read { OnOk result (self.new ≡ record self.old { reading = with_symbol name.now arity kind self.old.reading }) }
+        ensures read { OnOk result (self.new ≡ record self.old
+            { reading = with_symbol name.now arity kind self.old.reading }) }
         ensures number { IfOk result (λ s. s.0 ≡ symbol_number name.now arity self.new.reading) }
         ensures kept { KeepsNumbers self.old.reading.symbols self.new.reading.symbols }
     {
@@ -110,7 +111,8 @@ impl Reader {
         style: Style,
         name: &[u8],
     ) -> Result<Option<u64>, AllocError>
-        ensures read { IfOk result (λ n. named_variable style self.old.scope name.now self.old.reading ≡ record { tree = n; reading = self.new.reading }) }
+        ensures read { IfOk result (λ n. named_variable style self.old.scope name.now
+            self.old.reading ≡ record { tree = n; reading = self.new.reading }) }
         ensures scope { OnOk result (self.new.scope ≡ self.old.scope) }
         ensures symbols { self.new.reading.symbols ≡ self.old.reading.symbols }
     {
@@ -133,8 +135,11 @@ impl Reader {
     /// A quantifier brings a variable; its number is answered, and its name stands for it from now on.
     pub fn bind(&mut self, alloc: Global, name: &[u8]) -> Result<u64, AllocError>
         ensures number { IfOk result (λ n. n ≡ length self.old.reading.variables) }
-        ensures read { OnOk result (self.new.reading ≡ with_variable name.now false self.old.reading) }
-        ensures scope { OnOk result (self.new.scope ≡ record { name = name.now; number = length self.old.reading.variables } ∷ self.old.scope) }
+        ensures read { OnOk result (self.new.reading
+            ≡ with_variable name.now false self.old.reading) }
+        ensures scope { OnOk result (self.new.scope
+            ≡ record { name = name.now; number = length self.old.reading.variables } ∷
+            self.old.scope) }
         ensures symbols { self.new.reading.symbols ≡ self.old.reading.symbols }
     {
         let number = self.variables.len() as u64;
@@ -188,7 +193,13 @@ impl Reader {
 
     /// The symbols, the variables, the least row that was met, and whether an arity was too large.
     pub fn into_read(self) -> (Symbols, Variables, Option<Misuse>, bool)
-        ensures { self.reading ≡ record { symbols = result.0; variables = result.1; least = result.2; large = result.3 } }
+        ensures { self.reading ≡ record {
+          symbols = result.0;
+          variables = result.1;
+          least =
+              result.2;
+          large = result.3;
+        } }
     {
         let Reader {
             symbols,

@@ -49,7 +49,8 @@ impl Start {
 
     fn of_symbol(alloc: Global, ops: &Ops, text: &[u8]) -> Result<Start, AllocError>
         ensures { IfOk result (λ start.
-            start ≡ start_of_symbol (quantifier_of text.now) (if_prefix (operator_of ops.now text.now)) text.now) }
+            start ≡ start_of_symbol (quantifier_of text.now)
+            (if_prefix (operator_of ops.now text.now)) text.now) }
     {
         if let Some(quantifier) = quantifier_of(text) {
             return Ok(Start::Quantifies(quantifier));
@@ -65,7 +66,8 @@ impl Start {
 impl Follow {
     /// What the token is behind a term.
     pub fn of(alloc: Global, ops: &Ops, token: &Token) -> Result<Follow, AllocError>
-        ensures { IfOk result (λ follow. follow ≡ follow_of (table_of ops.now) (lexeme_of token.now)) }
+        ensures { IfOk result (λ follow. follow ≡ follow_of (table_of ops.now)
+            (lexeme_of token.now)) }
     {
         match token.kind {
             TokenKind::Open => Ok(Follow::Applies),
@@ -80,7 +82,8 @@ impl Follow {
     }
 
     fn of_symbol(alloc: Global, ops: &Ops, text: &[u8]) -> Result<Follow, AllocError>
-        ensures { IfOk result (λ follow. follow ≡ follow_of_symbol (if_after (operator_of ops.now text.now)) text.now) }
+        ensures { IfOk result (λ follow. follow ≡ follow_of_symbol
+            (if_after (operator_of ops.now text.now)) text.now) }
     {
         match ops.after_of(text) {
             Some(operator) => Ok(Follow::Operates(Name::from_slice(alloc, text)?, operator)),

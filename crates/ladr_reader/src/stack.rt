@@ -94,7 +94,8 @@ impl Stack {
 
     /// The innermost frame, taken off.
     pub fn pop(&mut self) -> Option<Frame>
-        ensures { MatchOption result ((self.old ≡ []) × (self.new ≡ [])) (λ frame. self.old ≡ frame ∷ self.new) }
+        ensures { MatchOption result ((self.old ≡ []) × (self.new ≡ []))
+            (λ frame. self.old ≡ frame ∷ self.new) }
     {
         self.frames.pop()
     }

@@ -27,7 +27,8 @@ pub fn step(
     token: &Token,
 ) -> Result<Option<Place>, AllocError>
     ensures { IfOk result (λ next.
-        standing next stack.new ≡ step build.most (table_of ops.now) place stack.old (lexeme_of token.now)) }
+        standing next stack.new ≡ step build.most (table_of ops.now) place stack.old
+        (lexeme_of token.now)) }
 {
     let alloc = build.alloc;
     match place {
@@ -108,7 +109,8 @@ fn behind_name(
     follow: Follow,
     name: Name,
 ) -> Result<Option<Place>, AllocError>
-    ensures { IfOk result (λ place. standing place stack.new ≡ behind_name build.most follow name stack.old) }
+    ensures { IfOk result (λ place. standing place stack.new
+        ≡ behind_name build.most follow name stack.old) }
 {
     match follow {
         Follow::Applies => {
@@ -130,7 +132,8 @@ fn after(
     mut term: Disjuncts,
     mut precedence: u16,
 ) -> Result<Option<Place>, AllocError>
-    ensures { IfOk result (λ place. standing place stack.new ≡ after build.most follow term precedence stack.old) }
+    ensures { IfOk result (λ place. standing place stack.new
+        ≡ after build.most follow term precedence stack.old) }
 {
     while let Some((part, own)) = take_closed(build, stack, &follow) {
         term = whole(build, part, term)?;
@@ -143,9 +146,11 @@ fn after(
 fn take_closed(build: Build, stack: &mut Stack, follow: &Follow) -> Option<(Part, u16)>
     ensures shorter { IfSome result (λ _. length stack.new < length stack.old) }
     ensures same { MatchOption result
-        ((t : Option (List RawTree)) (q : ℕ) → after build.most follow.now t q stack.old ≡ act build.most follow.now t q stack.new)
+        ((t : Option (List RawTree)) (q : ℕ) → after build.most follow.now t q stack.old
+        ≡ act build.most follow.now t q stack.new)
         (λ r. (t : Option (List RawTree)) (q : ℕ) →
-        after build.most follow.now t q stack.old ≡ after build.most follow.now (whole build.most r.0 t) r.1 stack.new) }
+        after build.most follow.now t q stack.old
+        ≡ after build.most follow.now (whole build.most r.0 t) r.1 stack.new) }
 {
     if !stack.is_closed_by(follow) {
         return None;
@@ -166,7 +171,8 @@ fn act(
     term: Disjuncts,
     precedence: u16,
 ) -> Result<Option<Place>, AllocError>
-    ensures { IfOk result (λ place. standing place stack.new ≡ act build.most follow term precedence stack.old) }
+    ensures { IfOk result (λ place. standing place stack.new
+        ≡ act build.most follow term precedence stack.old) }
 {
     match follow {
         Follow::Closes => behind_close(build, stack, term),
@@ -194,7 +200,8 @@ fn behind_operator(
     term: Disjuncts,
 ) -> Result<Option<Place>, AllocError>
     ensures { IfOk result (λ place.
-        standing place stack.new ≡ behind_operator build.most (right operator.kind) name operator term stack.old) }
+        standing place stack.new ≡ behind_operator build.most
+        (right operator.kind) name operator term stack.old) }
 {
     match right(operator.kind) {
         Side::Nothing => {
@@ -216,7 +223,8 @@ fn behind_close(
     stack: &mut Stack,
     term: Disjuncts,
 ) -> Result<Option<Place>, AllocError>
-    ensures { IfOk result (λ place. standing place stack.new ≡ behind_close build.most term stack.old) }
+    ensures { IfOk result (λ place. standing place stack.new
+        ≡ behind_close build.most term stack.old) }
 {
     match stack.pop() {
         Some(Frame::Group) => Ok(Some(Place::Term(term, 0))),
@@ -235,7 +243,8 @@ fn behind_comma(
     stack: &mut Stack,
     term: Disjuncts,
 ) -> Result<Option<Place>, AllocError>
-    ensures { IfOk result (λ place. standing place stack.new ≡ behind_comma build.most term stack.old) }
+    ensures { IfOk result (λ place. standing place stack.new
+        ≡ behind_comma build.most term stack.old) }
 {
     match stack.pop() {
         Some(Frame::Applied(name, arguments)) => {
@@ -255,7 +264,8 @@ fn behind_stop(
     term: Disjuncts,
     precedence: u16,
 ) -> Result<Option<Place>, AllocError>
-    ensures { IfOk result (λ place. standing place stack.new ≡ behind_stop term precedence stack.old) }
+    ensures { IfOk result (λ place. standing place stack.new
+        ≡ behind_stop term precedence stack.old) }
 {
     match stack.pop() {
         None => Ok(Some(Place::Done(term, precedence))),

@@ -26,9 +26,11 @@ impl Stated {
     /// The term taken apart.
     pub fn of(raw: Raw) -> Stated
         ensures formula { raw_of result.formula ≡ (attributed (raw_of raw)).formula }
-        ensures label { option_map raw_of result.label ≡ label_of (attributed (raw_of raw)).attributes }
+        ensures label { option_map raw_of result.label
+            ≡ label_of (attributed (raw_of raw)).attributes }
         ensures misused { result.misused ≡ has_unfit_weight (attributed (raw_of raw)).attributes }
-        ensures hint_weight { result.hint_weight ≡ hint_weight_of (attributed (raw_of raw)).attributes }
+        ensures hint_weight { result.hint_weight
+            ≡ hint_weight_of (attributed (raw_of raw)).attributes }
     {
         match Split::of(raw) {
             Split::Joined(formula, rest) => {
@@ -88,9 +90,13 @@ impl Notes {
 
     // With one attribute before these.
     fn behind(self, first: Raw) -> Notes
-        ensures label { option_map raw_of result.label ≡ (if is_label (raw_of first) then Some (raw_of first) else option_map raw_of self.label) }
+        ensures label { option_map raw_of result.label
+            ≡ (if is_label (raw_of first) then Some
+            (raw_of first) else option_map raw_of self.label) }
         ensures misused { result.misused ≡ (has_unfit_weight (raw_of first ∷ []) || self.misused) }
-        ensures hint_weight { result.hint_weight ≡ (if is_hint_weight (raw_of first) then hint_weight (raw_of first) else self.hint_weight) }
+        ensures hint_weight { result.hint_weight
+            ≡ (if is_hint_weight (raw_of first) then hint_weight
+            (raw_of first) else self.hint_weight) }
     {
         if is_hint_weight(&first) {
             let number = hint_weight(&first);

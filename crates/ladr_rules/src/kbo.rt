@@ -33,7 +33,8 @@ fn kbo_sides(
     left: &Raw,
     right: &Raw,
 ) -> Result<Option<KboWeight>, AllocError>
-    ensures { IfOk result (λ r. option_map kbo_of r ≡ kbo_sides name.now (raw_of left.now) (raw_of right.now)) }
+    ensures { IfOk result (λ r. option_map kbo_of r
+        ≡ kbo_sides name.now (raw_of left.now) (raw_of right.now)) }
 {
     match left {
         Raw::App(symbol, args) => {
@@ -53,7 +54,8 @@ fn symbol_weight(
     symbol: &[u8],
     right: &Raw,
 ) -> Result<Option<KboWeight>, AllocError>
-    ensures { IfOk result (λ r. option_map kbo_of r ≡ kbo_sides name.now (named symbol.now no_raws) (raw_of right.now)) }
+    ensures { IfOk result (λ r. option_map kbo_of r
+        ≡ kbo_sides name.now (named symbol.now no_raws) (raw_of right.now)) }
 {
     let weight = whole_number(MOST, right).unwrap_or(0);
     if name == b"=".as_slice() && weight != 0 {

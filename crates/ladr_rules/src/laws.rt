@@ -17,11 +17,14 @@ ghost use Rattle.ladr_rules.specs.Worked.{p, q, a, b, x, y, f, weighing, weight,
 pub fn worked()
     // p # a # b
     ensures text { Item standard (line "p # a # b.") (binary "#" p (binary "#" a b)) }
-    ensures attributes { attributed (binary "#" p (binary "#" a b)) ≡ record { formula = p; attributes = a ∷ b ∷ [] } }
+    ensures attributes { attributed (binary "#" p (binary "#" a b))
+        ≡ record { formula = p; attributes = a ∷ b ∷ [] } }
     // (p # a) # b: the inner `#` stays in the formula.
-    ensures inner { attributed (binary "#" (binary "#" p a) b) ≡ record { formula = binary "#" p a; attributes = b ∷ [] } }
+    ensures inner { attributed (binary "#" (binary "#" p a) b)
+        ≡ record { formula = binary "#" p a; attributes = b ∷ [] } }
     // The first label is kept; label(b,b) is none.
-    ensures label { label_of (binary "label" b b ∷ unary "label" a ∷ unary "label" b ∷ []) ≡ Some (unary "label" a) }
+    ensures label { label_of (binary "label" b b ∷ unary "label" a ∷ unary "label" b ∷ [])
+        ≡ Some (unary "label" a) }
     // The first weight counts, and each has to be right.
     ensures hint_weight { hint_weight_of (weighing "5" ∷ weighing "6" ∷ []) ≡ Some 5 }
     ensures greatest { has_unfit_weight (weighing "2147483647" ∷ []) ≡ false }
@@ -43,20 +46,34 @@ pub fn worked_rules()
     // weight(g(y,x)) = 1 + (2 * weight(x)), where y is variable 0 and x is variable 1
     ensures text { Item standard (line "weight(g(y,x)) = 1 + (2 * weight(x)).") one_and_twice }
     ensures rule { rule_of for_prover one_and_twice
-        ≡ Some (record { head = codes "g"; arguments = more (var 0) (more (var 1) none); weight = plus (number 1) (times (number 2) (of_variable 1)) }) }
+        ≡ Some (record {
+          head = codes "g";
+          arguments = more (var 0)
+              (more (var 1) none);
+          weight = plus (number 1) (times (number 2) (of_variable 1));
+        }) }
     // weight(g(x,X)) = weight(X) and weight(f(x)) = weight(x), with the variables of Prolog
-    ensures prolog { rule_of in_prolog (weight_is (binary "g" x (constant "X")) (weight (constant "X")))
-        ≡ Some (record { head = codes "g"; arguments = more (app 0 none) (more (var 0) none); weight = of_variable 0 }) }
+    ensures prolog { rule_of in_prolog (weight_is (binary "g" x (constant "X"))
+        (weight (constant "X")))
+        ≡ Some (record {
+          head = codes "g";
+          arguments = more (app 0 none)
+              (more (var 0) none);
+          weight = of_variable 0;
+        }) }
     ensures no_variable { rule_of in_prolog (weight_is (f x) (weight x)) ≡ None }
     // weight(x) = 1, weight(f(x)) = weight(y) and weight(f(x)) = 2147483648
     ensures variable_pattern { rule_of for_prover (weight_is x (constant "1")) ≡ None }
     ensures other_variable { rule_of for_prover (weight_is (f x) (weight y)) ≡ None }
     ensures great_value { rule_of for_prover (weight_is (f x) (constant "2147483648")) ≡ None }
     // weight(f(1000000000)) = 1: for the prover the numeral is a constant. The head of the pattern isn't entered.
-    ensures numeral { misuse_of for_tester (weight_is (f (constant "1000000000")) (constant "1")) ≡ Some UnfitNumeral }
-    ensures symbols { symbols_of for_prover (weight_is (f (constant "1000000000")) (constant "1")) ≡ Some (symbol (codes "1000000000") 0 Function ∷ []) }
+    ensures numeral { misuse_of for_tester (weight_is (f (constant "1000000000")) (constant "1"))
+        ≡ Some UnfitNumeral }
+    ensures symbols { symbols_of for_prover (weight_is (f (constant "1000000000")) (constant "1"))
+        ≡ Some (symbol (codes "1000000000") 0 Function ∷ []) }
     // KBO: f = 65535, f = 0, f = 65536 and f(x) = 3
-    ensures kbo { kbo_rule (binary "=" (constant "f") (constant "65535")) ≡ Some (codes "f", 65535) }
+    ensures kbo { kbo_rule (binary "=" (constant "f") (constant "65535"))
+        ≡ Some (codes "f", 65535) }
     ensures kbo_zero { kbo_rule (binary "=" (constant "f") (constant "0")) ≡ None }
     ensures kbo_too_great { kbo_rule (binary "=" (constant "f") (constant "65536")) ≡ None }
     ensures kbo_of_term { kbo_rule (binary "=" (f x) (constant "3")) ≡ None }

@@ -32,7 +32,8 @@ pub fn is_shaped(alloc: Global, style: Style, sides: &Sides<'_>) -> Result<bool,
 
 // Whether a term is a value, with the variables of these parts of a pattern.
 fn has_value(alloc: Global, style: Style, parts: &Raws, value: &Raw) -> Result<bool, AllocError>
-    ensures { IfOk result (λ b. b ≡ is_value (all_names style (raws_of parts.now)) (raw_of value.now)) }
+    ensures { IfOk result (λ b. b ≡ is_value (all_names style (raws_of parts.now))
+        (raw_of value.now)) }
 {
     let mut names = IndexSet::new(alloc);
     add_names(alloc, style, parts, &mut names)?;
@@ -89,7 +90,8 @@ fn add_names(
     raws: &Raws,
     found: &mut IndexSet<Vec<u8>>,
 ) -> Result<(), AllocError>
-    ensures { OnOk result (names_of found.new.keys ≡ with_names (names_of found.old.keys) (all_names style (raws_of raws.now))) }
+    ensures { OnOk result (names_of found.new.keys
+        ≡ with_names (names_of found.old.keys) (all_names style (raws_of raws.now))) }
 {
     for raw in &raws.items {
         add_names_of(alloc, style, raw, found)?;
@@ -106,7 +108,8 @@ fn add_names_of(
     raw: &Raw,
     found: &mut IndexSet<Vec<u8>>,
 ) -> Result<(), AllocError>
-    ensures { OnOk result (names_of found.new.keys ≡ with_names (names_of found.old.keys) (variable_names style (raw_of raw.now))) }
+    ensures { OnOk result (names_of found.new.keys
+        ≡ with_names (names_of found.old.keys) (variable_names style (raw_of raw.now))) }
 {
     match raw {
         Raw::App(symbol, args) => {
@@ -127,7 +130,8 @@ fn add_variable(
     symbol: &[u8],
     found: &mut IndexSet<Vec<u8>>,
 ) -> Result<(), AllocError>
-    ensures { OnOk result (names_of found.new.keys ≡ with_names (names_of found.old.keys) (variable_names style (named symbol.now no_raws))) }
+    ensures { OnOk result (names_of found.new.keys
+        ≡ with_names (names_of found.old.keys) (variable_names style (named symbol.now no_raws))) }
 {
     if is_free_name(style, symbol) {
         add_name(alloc, symbol, found)

@@ -35,9 +35,11 @@ pub fn weight_rule(
     mode: Mode,
     prolog: bool,
 ) -> Result<Option<RuleRead>, AllocError>
-    ensures read { IfOk result (λ r. IsRuleIn (rule_in (style_of mode prolog) symbols.old (raw_of raw.now)) r symbols.old symbols.new) }
+    ensures read { IfOk result (λ r. IsRuleIn
+        (rule_in (style_of mode prolog) symbols.old (raw_of raw.now)) r symbols.old symbols.new) }
     // The symbols of its pattern are of the table.
-    ensures symbols { IfOk result (λ r. ForSome r (λ x. HaveSymbolsBelow (length symbols.new) (trees_of x.rule.arguments))) }
+    ensures symbols { IfOk result (λ r. ForSome r
+        (λ x. HaveSymbolsBelow (length symbols.new) (trees_of x.rule.arguments))) }
     // Whatever the answer, the old symbols keep their numbers.
     ensures kept { KeepsNumbers symbols.old symbols.new }
 {
@@ -50,7 +52,8 @@ pub fn weight_rule(
 
 // The sides of a term that is a rule.
 fn shaped_sides(alloc: Global, style: Style, raw: &Raw) -> Result<Option<Sides<'_>>, AllocError>
-    ensures { IfOk result (λ sides. option_map sides_view sides ≡ shaped_sides style (raw_of raw.now)) }
+    ensures { IfOk result (λ sides. option_map sides_view sides
+        ≡ shaped_sides style (raw_of raw.now)) }
 {
     match sides_of(raw) {
         Some(sides) => {
@@ -71,8 +74,10 @@ fn shaped_rule(
     symbols: &mut Symbols,
     style: Style,
 ) -> Result<RuleRead, AllocError>
-    ensures read { IfOk result (λ r. IsRule (rule_made style symbols.old (sides_view sides.now)) r symbols.new) }
-    ensures symbols { IfOk result (λ r. HaveSymbolsBelow (length symbols.new) (trees_of r.rule.arguments)) }
+    ensures read { IfOk result (λ r. IsRule (rule_made style symbols.old
+        (sides_view sides.now)) r symbols.new) }
+    ensures symbols { IfOk result (λ r. HaveSymbolsBelow (length symbols.new)
+        (trees_of r.rule.arguments)) }
     ensures kept { KeepsNumbers symbols.old symbols.new }
 {
     let TermsRead {

@@ -58,7 +58,8 @@ fn is_variable(term: &Term) -> bool
 
 // Whether a term has each variable of another.
 fn has_variables(alloc: Global, term: &Term, other: &Term) -> Result<bool, AllocError>
-    ensures { IfOk result (λ b. b ≡ list_all (λ x. is_in x (variables_of (tree_of term.now))) (variables_of (tree_of other.now))) }
+    ensures { IfOk result (λ b. b ≡ list_all (λ x. is_in x (variables_of (tree_of term.now)))
+        (variables_of (tree_of other.now))) }
 {
     let mut found = IndexSet::new(alloc);
     add_variables(term, &mut found)?;
@@ -68,7 +69,8 @@ fn has_variables(alloc: Global, term: &Term, other: &Term) -> Result<bool, Alloc
 #[tactic(auto, using(crate::proofs::Variables::joined_next, crate::proofs::Variables::joined_end))]
 // Adds the variables of a term to a set.
 fn add_variables(term: &Term, found: &mut IndexSet<u64>) -> Result<(), AllocError>
-    ensures { OnOk result (found.new.keys ≡ joined found.old.keys (variables_of (tree_of term.now))) }
+    ensures { OnOk result (found.new.keys ≡ joined found.old.keys
+        (variables_of (tree_of term.now))) }
 {
     match term {
         Term::Var(x) => {

@@ -31,7 +31,8 @@ pub fn sides_of(raw: &Raw) -> Option<Sides<'_>>
 
 #[tactic(auto, using(crate::proofs::Arities::no_equation))]
 fn equation_sides<'a>(name: &[u8], left: &'a Raw, value: &'a Raw) -> Option<Sides<'a>>
-    ensures { option_map sides_view result ≡ equation_sides name.now (raw_of left.now) (raw_of value.now) }
+    ensures { option_map sides_view result ≡ equation_sides name.now (raw_of left.now)
+        (raw_of value.now) }
 {
     match left {
         Raw::App(word, args) => match args.as_slice() {
@@ -49,7 +50,8 @@ fn equation_sides<'a>(name: &[u8], left: &'a Raw, value: &'a Raw) -> Option<Side
 }
 
 fn pattern_sides<'a>(word: &[u8], pattern: &'a Raw, value: &'a Raw) -> Option<Sides<'a>>
-    ensures { option_map sides_view result ≡ pattern_sides word.now (raw_of pattern.now) (raw_of value.now) }
+    ensures { option_map sides_view result ≡ pattern_sides word.now (raw_of pattern.now)
+        (raw_of value.now) }
 {
     match pattern {
         Raw::App(head, parts) => {

@@ -52,7 +52,8 @@ fn is_single(names: &IndexSet<Vec<u8>>, name: &[u8], part: &Raw) -> bool
 }
 
 fn is_weight_of(names: &IndexSet<Vec<u8>>, name: &[u8], variable: &[u8]) -> bool
-    ensures { result ≡ (bytes_eq name.now (codes "weight") && is_in variable.now (names_of names.now.keys)) }
+    ensures { result ≡ (bytes_eq name.now (codes "weight")
+        && is_in variable.now (names_of names.now.keys)) }
 {
     name == b"weight".as_slice() && has_name(names, variable)
 }
@@ -95,7 +96,8 @@ fn single(variables: &Variables, part: &Raw) -> Weight
 
 // A sum or a product.
 fn combined(alloc: Global, name: &[u8], left: Weight, right: Weight) -> Result<Weight, AllocError>
-    ensures { IfOk result (λ w. weight_of w ≡ combined name.now (weight_of left) (weight_of right)) }
+    ensures { IfOk result (λ w. weight_of w ≡ combined name.now (weight_of left)
+        (weight_of right)) }
 {
     let left = WeightSub::new(alloc, left)?;
     let right = WeightSub::new(alloc, right)?;

@@ -79,7 +79,8 @@ impl Settings {
         command: Command,
     ) -> Result<(), SettingsError>
         ensures ok { OnOk result (after program command self.old ≡ Ok self.new) }
-        ensures row { (m : Misuse) → result ≡ Err (Misused m) → after program command self.old ≡ Err m }
+        ensures row { (m : Misuse) → result ≡ Err (Misused m)
+            → after program command self.old ≡ Err m }
     {
         if self.is_meant(program) {
             self.take_meant(alloc, command)
@@ -92,7 +93,8 @@ impl Settings {
     // A command that is meant for the program.
     fn take_meant(&mut self, alloc: Global, command: Command) -> Result<(), SettingsError>
         ensures ok { OnOk result (after_meant command self.old ≡ Ok self.new) }
-        ensures row { (m : Misuse) → result ≡ Err (Misused m) → after_meant command self.old ≡ Err m }
+        ensures row { (m : Misuse) → result ≡ Err (Misused m)
+            → after_meant command self.old ≡ Err m }
     {
         match command {
             Command::Flag(on, name) => self.change_flag(on, name.bytes()),
@@ -124,7 +126,8 @@ impl Settings {
 
     fn change_flag(&mut self, on: bool, name: &[u8]) -> Result<(), SettingsError>
         ensures ok { OnOk result (after_flag on name.now self.old ≡ Ok self.new) }
-        ensures row { (m : Misuse) → result ≡ Err (Misused m) → after_flag on name.now self.old ≡ Err m }
+        ensures row { (m : Misuse) → result ≡ Err (Misused m)
+            → after_flag on name.now self.old ≡ Err m }
     {
         if name == b"prolog_style_variables".as_slice() && self.listed {
             return Err(SettingsError::Misused(Misuse::TooLate));
@@ -137,7 +140,8 @@ impl Settings {
 
     fn assign(&mut self, name: &[u8], value: &Value) -> Result<(), SettingsError>
         ensures ok { OnOk result (after_value name.now value.now self.old ≡ Ok self.new) }
-        ensures row { (m : Misuse) → result ≡ Err (Misused m) → after_value name.now value.now self.old ≡ Err m }
+        ensures row { (m : Misuse) → result ≡ Err (Misused m)
+            → after_value name.now value.now self.old ≡ Err m }
     {
         let assigned = match value {
             Value::Symbol(text) => self.options.assign_symbol(name, text.bytes()),
@@ -155,8 +159,10 @@ impl Settings {
         type_name: &[u8],
         names: &Names,
     ) -> Result<(), SettingsError>
-        ensures ok { OnOk result (after_operators precedence type_name.now names.now self.old ≡ Ok self.new) }
-        ensures row { (m : Misuse) → result ≡ Err (Misused m) → after_operators precedence type_name.now names.now self.old ≡ Err m }
+        ensures ok { OnOk result (after_operators precedence type_name.now names.now self.old
+            ≡ Ok self.new) }
+        ensures row { (m : Misuse) → result ≡ Err (Misused m)
+            → after_operators precedence type_name.now names.now self.old ≡ Err m }
     {
         match declare_all(&mut self.operators, precedence, type_name, names.as_slice()) {
             Ok(()) => {}
@@ -176,7 +182,8 @@ impl Settings {
 
     fn order(&mut self, alloc: Global, names: &Names) -> Result<(), SettingsError>
         ensures ok { OnOk result (after_order names.now self.old ≡ Ok self.new) }
-        ensures row { (m : Misuse) → result ≡ Err (Misused m) → after_order names.now self.old ≡ Err m }
+        ensures row { (m : Misuse) → result ≡ Err (Misused m)
+            → after_order names.now self.old ≡ Err m }
     {
         match order_of(alloc, names.as_slice())? {
             Some(order) => {
@@ -189,7 +196,8 @@ impl Settings {
 
     fn open(&mut self, list: OpenList) -> Result<(), SettingsError>
         ensures ok { OnOk result (after_opening list self.old ≡ Ok self.new) }
-        ensures row { (m : Misuse) → result ≡ Err (Misused m) → after_opening list self.old ≡ Err m }
+        ensures row { (m : Misuse) → result ≡ Err (Misused m)
+            → after_opening list self.old ≡ Err m }
     {
         if list.is_other() {
             return Err(SettingsError::Misused(Misuse::UnknownList));
@@ -223,7 +231,8 @@ impl Settings {
 
     fn interpret(&mut self, alloc: Global, read: ByName) -> Result<(), SettingsError>
         ensures ok { OnOk result (after_interpretation read self.old ≡ Ok self.new) }
-        ensures row { (m : Misuse) → result ≡ Err (Misused m) → after_interpretation read self.old ≡ Err m }
+        ensures row { (m : Misuse) → result ≡ Err (Misused m)
+            → after_interpretation read self.old ≡ Err m }
     {
         if self.interpretation.is_some() {
             return Err(SettingsError::Misused(Misuse::UnfitInterpretation));

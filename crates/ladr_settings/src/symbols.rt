@@ -12,7 +12,8 @@ use std::alloc::{AllocError, Global};
 
 /// The names as an order, unless one stands twice.
 pub fn order_of(alloc: Global, names: &[Name]) -> Result<Option<NameOrder>, AllocError>
-    ensures { IfOk result (λ order. order ≡ (if are_apart names.now then Some names.now else None)) }
+    ensures { IfOk result (λ order. order ≡ (if are_apart names.now then Some names.now else
+        None)) }
 {
     let mut order = NameOrder::new(alloc);
     for name in names {
@@ -30,11 +31,15 @@ pub fn declare_all(
     type_name: &[u8],
     symbols: &[Name],
 ) -> Result<(), DeclareError>
-    ensures ok { OnOk result (operators.new ≡ all_declared precedence type_name.now symbols.now operators.old) }
-    ensures no_operator { OnOk result ((nat_lt 0 (length symbols.now) && is_unfit_operator precedence type_name.now) ≡ false) }
+    ensures ok { OnOk result (operators.new ≡ all_declared precedence type_name.now symbols.now
+        operators.old) }
+    ensures no_operator { OnOk result ((nat_lt 0 (length symbols.now)
+        && is_unfit_operator precedence type_name.now) ≡ false) }
     ensures no_symbol { OnOk result (list_any is_unfit_symbol symbols.now ≡ false) }
-    ensures operator { result ≡ Err UnfitOperator → (nat_lt 0 (length symbols.now) && is_unfit_operator precedence type_name.now) ≡ true }
-    ensures not_operator { result ≡ Err UnfitSymbol → is_unfit_operator precedence type_name.now ≡ false }
+    ensures operator { result ≡ Err UnfitOperator
+        → (nat_lt 0 (length symbols.now) && is_unfit_operator precedence type_name.now) ≡ true }
+    ensures not_operator { result ≡ Err UnfitSymbol
+        → is_unfit_operator precedence type_name.now ≡ false }
     ensures symbol { result ≡ Err UnfitSymbol → list_any is_unfit_symbol symbols.now ≡ true }
 {
     for symbol in symbols {
@@ -53,11 +58,14 @@ fn declare(
     type_name: &[u8],
     symbol: &[u8],
 ) -> Result<(), DeclareError>
-    ensures ok { OnOk result (operators.new ≡ declared precedence type_name.now symbol.now operators.old) }
+    ensures ok { OnOk result (operators.new ≡ declared precedence type_name.now symbol.now
+        operators.old) }
     ensures no_operator { OnOk result (is_unfit_operator precedence type_name.now ≡ false) }
     ensures no_symbol { OnOk result (is_unfit_symbol symbol.now ≡ false) }
-    ensures operator { result ≡ Err UnfitOperator → is_unfit_operator precedence type_name.now ≡ true }
-    ensures not_operator { result ≡ Err UnfitSymbol → is_unfit_operator precedence type_name.now ≡ false }
+    ensures operator { result ≡ Err UnfitOperator
+        → is_unfit_operator precedence type_name.now ≡ true }
+    ensures not_operator { result ≡ Err UnfitSymbol
+        → is_unfit_operator precedence type_name.now ≡ false }
     ensures symbol { result ≡ Err UnfitSymbol → is_unfit_symbol symbol.now ≡ true }
 {
     match operators.declare(precedence, type_name, symbol) {

@@ -12,7 +12,11 @@ fn terms_are_read_as_formulas(rt: HostRuntime) -> Result<(), Fail> {
     for (text, mode, wanted) in [
         (b"all x p(x,f(y)).".as_slice(), Mode::Tester, Ok(2)),
         (b"exists x f(1) != x.", Mode::Mace, Ok(1)),
-        (b"f(a).", Mode::Tester, Err(FormulaError::Misused(Misuse::TwoKinds))),
+        (
+            b"f(a).",
+            Mode::Tester,
+            Err(FormulaError::Misused(Misuse::TwoKinds)),
+        ),
         (b"<->(q,&($T,p(X,2))).", Mode::Prover, Ok(0)),
     ] {
         let answer = variables(rt.alloc(), &ops, text, mode, &mut symbols)?;

@@ -22,7 +22,7 @@ returns-in-Misuse-clause-printed g c = λ m given read h.
     let misuse = c.in-Misuse.misuse in
     let x = subst (λ (e : ReadError). IsReadError m given.bytes e) c.in-Misuse.is h in
     let ends : IsRefused m given (Misuse place misuse) (misuse_line (row_of misuse) place.byte place.line place.column) = (read, x.0, x.1, refl) in
-    Printed-weaker _ (IsRefused m given) (made_text c.misuse-text.result (Misuse place misuse) _ (IsRefused m given) (subst (λ (k : ℕ). IfOk c.misuse-text.result (λ v. v.items ≡ misuse_line k place.byte place.line place.column)) c.row.ensures c.misuse-text.ensures) ends) _ _ _ c.conclude-in-Misuse.ensures.printed
+    Printed-weaker _ (IsRefused m given) (made_text c.misuse-text.result (Misuse place misuse) _ (IsRefused m given) (subst (λ (k : ℕ). IfOk c.misuse-text.result (λ v. v.items ≡ misuse_line k place.byte place.line place.column)) c.row-row.ensures c.misuse-text.ensures) ends) _ _ _ c.conclude-in-Misuse.ensures.printed
 
 pub returns-in-TooLarge-clause-printed : goal.returns-in-TooLarge-clause-printed
 returns-in-TooLarge-clause-printed g c = λ m given read h.
