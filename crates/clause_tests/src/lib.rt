@@ -7,6 +7,8 @@ mod clauses;
 #[cfg(test)]
 mod searches;
 #[cfg(test)]
+mod substitutions;
+#[cfg(test)]
 mod symbols;
 #[cfg(test)]
 mod tables;

@@ -8,3 +8,4 @@ pub mod Rows
 pub mod RuleSound
 pub mod Values
 mod WorkedLemmas
+pub mod Spread

@@ -10,6 +10,7 @@ use Rattle.derivation.specs.Later.{LaterWord, later_parents, later_fits, Leads}
 use Rattle.derivation.specs.Lines.{FirstWord, assumed, wanted, clausified, denied, copied, resolved, factored, paramodulated, xx_resolved, Inference, inference_of, copy_inference, clash_inference, factor_inference, para_inference, xx_inference, ContentTree, is_formula, is_formula_at, LineTree, clause_at, AreClauses, After, IsInferred, Row, IsStated, IsFormulaAt, IsInputOf, IsLine, AreLines, is_empty_clause, ends_empty, IsRefutation}
 use Rattle.derivation.specs.Refused.{Fails, StepFails, all_parents, are_there, InferenceFails, StatedFails, InputFails, LineFails, IsRefused, IsAccepted, HasFault, IsFault}
 use Rattle.derivation.specs.Rule.{Own, Unifies, Concludes}
+use Rattle.derivation.specs.Words.{Clash}
 use Rattle.derivation.proofs.Conclusions.{IsNatural, copy_natural, clash_natural, factor_natural, xx_natural, para_natural, one_conclusion, one_lead}
 use Rattle.derivation.proofs.Lawful.{IsLawfulRule, copy_lawful, clash_lawful, factor_lawful, xx_lawful, para_lawful}
 
@@ -217,7 +218,7 @@ word_lawful (clausified n) i h = cc
 word_lawful (denied n) i h = cc
 word_lawful (copied n) i h = let same : copy_inference n ≡ i = cc in subst (λ i. IsLawfulRule i.rule × IsNatural i.rule) same (copy_lawful, copy_natural)
 word_lawful (resolved n k) i h =
-    let ks = map (λ s. (s.place, s.literal)) k in
+    let ks : List Clash = map (λ s. (s.place, s.literal)) k in
     let same : clash_inference n k ≡ i = cc in
     subst (λ i. IsLawfulRule i.rule × IsNatural i.rule) same (clash_lawful ks, clash_natural ks)
 word_lawful (factored n a b) i h = let same : factor_inference n a b ≡ i = cc in subst (λ i. IsLawfulRule i.rule × IsNatural i.rule) same (factor_lawful a b, factor_natural a b)

@@ -1,3 +1,4 @@
+pub mod Apart
 pub mod Equations
 pub mod Later
 pub mod Laws

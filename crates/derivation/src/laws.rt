@@ -1,4 +1,5 @@
 // Laws of derivations: the functions do nothing, and their contracts are the laws.
+ghost use Rattle.derivation.specs.Apart.{UnifierConcludes, NoneConcludes};
 ghost use Rattle.derivation.specs.Laws.{RefutationIsSound, OneConclusion, FaultIsNone, FaultIsOne};
 ghost use Rattle.derivation.specs.Worked.{WorkedCopy, WorkedClash, WorkedFactor, WorkedReflexivity, WorkedParamodulation, WorkedLater, WorkedMisfits, WorkedRefutation, WorkedFaults};
 
@@ -12,6 +13,12 @@ pub fn refutation_is_sound<I: Interpretation>(any: &I)
 /// A rule has one conclusion, whatever most general unifier it is made by.
 pub fn conclusion_is_one()
     ensures { OneConclusion }
+{}
+
+/// A most general unifier of parents that are renamed apart, in whatever way, makes the conclusion.
+pub fn unifier_concludes()
+    ensures made { UnifierConcludes }
+    ensures none { NoneConcludes }
 {}
 
 /// Lines that have a fault are no refutation, and the fault is one: a line and a row.

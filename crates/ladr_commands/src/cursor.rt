@@ -51,8 +51,10 @@ impl<'a> Cursor<'a> {
     pub fn take(&mut self, wanted: Wanted) -> Result<Token<'a>, Fault>
         ensures passed { IfOk result (λ t. self.old ≡ lexeme_of t ∷ self.new) }
         ensures fits { IfOk result (λ t. fits wanted (lexeme_of t) ≡ true) }
-        ensures ok { IfOk result (λ t. (onward : Lexeme → Form) → outcome (token wanted onward) self.old ≡ outcome (onward (lexeme_of t)) self.new) }
-        ensures bad { result ≡ Err fault.Bad → (onward : Lexeme → Form) → outcome (token wanted onward) self.old ≡ stops self.new }
+        ensures ok { IfOk result (λ t. (onward : Lexeme → Form)
+            → outcome (token wanted onward) self.old ≡ outcome (onward (lexeme_of t)) self.new) }
+        ensures bad { result ≡ Err fault.Bad → (onward : Lexeme → Form)
+            → outcome (token wanted onward) self.old ≡ stops self.new }
     {
         let Some(token) = self.tokens.get(self.at) else {
             return Err(Fault::Bad);
@@ -67,7 +69,8 @@ impl<'a> Cursor<'a> {
     /// There is no further token.
     pub fn end(&mut self) -> Result<(), Fault>
         ensures ok { OnOk result ((c : Command) → outcome (ends c) self.old ≡ reads c) }
-        ensures bad { result ≡ Err fault.Bad → (c : Command) → outcome (ends c) self.old ≡ stops self.new }
+        ensures bad { result ≡ Err fault.Bad → (c : Command)
+            → outcome (ends c) self.old ≡ stops self.new }
     {
         match self.tokens.get(self.at) {
             None => Ok(()),

@@ -35,8 +35,10 @@ pub fn opened_interpretation(alloc: Global, cursor: &mut Cursor) -> Result<ByNam
 
 // `[name = number, ..]`
 fn comment_list(cursor: &mut Cursor) -> Result<(), Fault>
-    ensures ok { OnOk result ((n : ℕ) → outcome (comment_list n) cursor.old ≡ outcome (behind_comments n) cursor.new) }
-    ensures bad { result ≡ Err Bad → (n : ℕ) → outcome (comment_list n) cursor.old ≡ stops cursor.new }
+    ensures ok { OnOk result ((n : ℕ) → outcome (comment_list n) cursor.old
+        ≡ outcome (behind_comments n) cursor.new) }
+    ensures bad { result ≡ Err Bad → (n : ℕ)
+        → outcome (comment_list n) cursor.old ≡ stops cursor.new }
 {
     cursor.take(Wanted::OpenSquare)?;
     let first = cursor.take(Wanted::SymbolOrCloseSquare)?;
@@ -49,7 +51,8 @@ fn comment_list(cursor: &mut Cursor) -> Result<(), Fault>
 // `= number`, and then further comments up to `]`.
 fn comments(cursor: &mut Cursor) -> Result<(), Fault>
     ensures ok { OnOk result ((f : Form) → outcome (comment f) cursor.old ≡ outcome f cursor.new) }
-    ensures bad { result ≡ Err Bad → (f : Form) → outcome (comment f) cursor.old ≡ stops cursor.new }
+    ensures bad { result ≡ Err Bad → (f : Form)
+        → outcome (comment f) cursor.old ≡ stops cursor.new }
 {
     while comment(cursor)? {
         name(cursor)?;
@@ -59,8 +62,10 @@ fn comments(cursor: &mut Cursor) -> Result<(), Fault>
 
 // `= number`, and whether a comma stands behind it, or else `]`.
 fn comment(cursor: &mut Cursor) -> Result<bool, Fault>
-    ensures ok { IfOk result (λ more. (f : Form) → outcome (comment f) cursor.old ≡ outcome (if more then comments f else f) cursor.new) }
-    ensures bad { result ≡ Err Bad → (f : Form) → outcome (comment f) cursor.old ≡ stops cursor.new }
+    ensures ok { IfOk result (λ more. (f : Form)
+        → outcome (comment f) cursor.old ≡ outcome (if more then comments f else f) cursor.new) }
+    ensures bad { result ≡ Err Bad → (f : Form)
+        → outcome (comment f) cursor.old ≡ stops cursor.new }
     ensures shorter { OnOk result (length cursor.new < length cursor.old) }
 {
     cursor.take(Wanted::Equality)?;
@@ -71,8 +76,10 @@ fn comment(cursor: &mut Cursor) -> Result<bool, Fault>
 
 // The name of a further comment.
 fn name<'a>(cursor: &mut Cursor<'a>) -> Result<Token<'a>, Fault>
-    ensures ok { OnOk result ((f : Form) → outcome (comments f) cursor.old ≡ outcome (comment f) cursor.new) }
-    ensures bad { result ≡ Err Bad → (f : Form) → outcome (comments f) cursor.old ≡ stops cursor.new }
+    ensures ok { OnOk result ((f : Form) → outcome (comments f) cursor.old
+        ≡ outcome (comment f) cursor.new) }
+    ensures bad { result ≡ Err Bad → (f : Form)
+        → outcome (comments f) cursor.old ≡ stops cursor.new }
     ensures shorter { OnOk result (length cursor.new < length cursor.old) }
 {
     cursor.take(Wanted::Symbol)
@@ -80,7 +87,8 @@ fn name<'a>(cursor: &mut Cursor<'a>) -> Result<Token<'a>, Fault>
 
 // `[entry, .., entry]).`
 fn entry_list(alloc: Global, cursor: &mut Cursor, size: u32) -> Result<Vec<Entry>, Fault>
-    ensures ok { IfOk result (λ es. outcome (entry_list size) cursor.old ≡ reads (Interpretation (by_name size es.items))) }
+    ensures ok { IfOk result (λ es. outcome (entry_list size) cursor.old
+        ≡ reads (Interpretation (by_name size es.items))) }
     ensures bad { result ≡ Err Bad → outcome (entry_list size) cursor.old ≡ stops cursor.new }
 {
     cursor.take(Wanted::OpenSquare)?;
@@ -96,7 +104,8 @@ fn entry_list(alloc: Global, cursor: &mut Cursor, size: u32) -> Result<Vec<Entry
 
 // Entries up to `]`, the kind of the first being told.
 fn entries(alloc: Global, cursor: &mut Cursor, size: u32, kind: Kind) -> Result<Vec<Entry>, Fault>
-    ensures ok { IfOk result (λ es. outcome (entry size [] kind) cursor.old ≡ outcome (closed (Interpretation (by_name size es.items))) cursor.new) }
+    ensures ok { IfOk result (λ es. outcome (entry size [] kind) cursor.old
+        ≡ outcome (closed (Interpretation (by_name size es.items))) cursor.new) }
     ensures bad { result ≡ Err Bad → outcome (entry size [] kind) cursor.old ≡ stops cursor.new }
 {
     let mut entries = Vec::new(alloc);
@@ -113,8 +122,10 @@ fn entries(alloc: Global, cursor: &mut Cursor, size: u32, kind: Kind) -> Result<
 
 // The kind of a further entry.
 fn kind_word(cursor: &mut Cursor) -> Result<Kind, Fault>
-    ensures ok { IfOk result (λ kind. (n : ℕ) (es : List Table) → outcome (entries n es) cursor.old ≡ outcome (entry n es kind) cursor.new) }
-    ensures bad { result ≡ Err Bad → (n : ℕ) (es : List Table) → outcome (entries n es) cursor.old ≡ stops cursor.new }
+    ensures ok { IfOk result (λ kind. (n : ℕ) (es : List Table)
+        → outcome (entries n es) cursor.old ≡ outcome (entry n es kind) cursor.new) }
+    ensures bad { result ≡ Err Bad → (n : ℕ) (es : List Table)
+        → outcome (entries n es) cursor.old ≡ stops cursor.new }
     ensures shorter { OnOk result (length cursor.new < length cursor.old) }
 {
     match cursor.take(Wanted::KindWord) {
@@ -126,7 +137,8 @@ fn kind_word(cursor: &mut Cursor) -> Result<Kind, Fault>
 // An entry behind its kind's word, and whether it is the last one.
 fn entry(alloc: Global, cursor: &mut Cursor, kind: Kind) -> Result<(Entry, bool), Fault>
     ensures ok { IfOk result (λ r. IsEntry cursor.old kind r.0 r.1 cursor.new) }
-    ensures bad { result ≡ Err Bad → (n : ℕ) (es : List Table) → outcome (entry n es kind) cursor.old ≡ stops cursor.new }
+    ensures bad { result ≡ Err Bad → (n : ℕ) (es : List Table)
+        → outcome (entry n es kind) cursor.old ≡ stops cursor.new }
     ensures shorter { OnOk result (length cursor.new < length cursor.old) }
 {
     cursor.take(Wanted::Open)?;
@@ -142,8 +154,11 @@ fn entry(alloc: Global, cursor: &mut Cursor, kind: Kind) -> Result<(Entry, bool)
 
 // What stands between a name and its values: a comma, or places for arguments before it.
 fn arity(cursor: &mut Cursor) -> Result<u64, Fault>
-    ensures ok { IfOk result (λ arity. (n : ℕ) (es : List Table) (kind : Kind) (name : List ℕ) → outcome (token CommaOrOpen (behind_name n es kind name)) cursor.old ≡ outcome (listed n es kind name arity) cursor.new) }
-    ensures bad { result ≡ Err Bad → (n : ℕ) (es : List Table) (kind : Kind) (name : List ℕ) → outcome (token CommaOrOpen (behind_name n es kind name)) cursor.old ≡ stops cursor.new }
+    ensures ok { IfOk result (λ arity. (n : ℕ) (es : List Table) (kind : Kind) (name : List ℕ)
+        → outcome (token CommaOrOpen (behind_name n es kind name)) cursor.old
+        ≡ outcome (listed n es kind name arity) cursor.new) }
+    ensures bad { result ≡ Err Bad → (n : ℕ) (es : List Table) (kind : Kind) (name : List ℕ)
+        → outcome (token CommaOrOpen (behind_name n es kind name)) cursor.old ≡ stops cursor.new }
     ensures shorter { OnOk result (length cursor.new ≤ length cursor.old) }
 {
     let mark = cursor.take(Wanted::CommaOrOpen)?;
@@ -157,8 +172,10 @@ fn arity(cursor: &mut Cursor) -> Result<u64, Fault>
 
 // `_, .., _)`: how many there are.
 fn places(cursor: &mut Cursor) -> Result<u64, Fault>
-    ensures ok { IfOk result (λ n. (onward : ℕ → Form) → outcome (places 0 onward) cursor.old ≡ outcome (onward n) cursor.new) }
-    ensures bad { result ≡ Err Bad → (onward : ℕ → Form) → outcome (places 0 onward) cursor.old ≡ stops cursor.new }
+    ensures ok { IfOk result (λ n. (onward : ℕ → Form)
+        → outcome (places 0 onward) cursor.old ≡ outcome (onward n) cursor.new) }
+    ensures bad { result ≡ Err Bad → (onward : ℕ → Form)
+        → outcome (places 0 onward) cursor.old ≡ stops cursor.new }
     ensures shorter { OnOk result (length cursor.new ≤ length cursor.old) }
 {
     for before in 0..cursor.left() {
@@ -172,7 +189,8 @@ fn places(cursor: &mut Cursor) -> Result<u64, Fault>
 // A place for an argument, and whether it is the last one.
 fn place(cursor: &mut Cursor) -> Result<bool, Fault>
     ensures ok { IfOk result (λ last. IsPlace cursor.old last cursor.new) }
-    ensures bad { result ≡ Err Bad → (n : ℕ) (onward : ℕ → Form) → outcome (places n onward) cursor.old ≡ stops cursor.new }
+    ensures bad { result ≡ Err Bad → (n : ℕ) (onward : ℕ → Form)
+        → outcome (places n onward) cursor.old ≡ stops cursor.new }
     ensures shorter { OnOk result (length cursor.new < length cursor.old) }
 {
     blank(cursor)?;
@@ -182,8 +200,11 @@ fn place(cursor: &mut Cursor) -> Result<bool, Fault>
 
 // `_`
 fn blank<'a>(cursor: &mut Cursor<'a>) -> Result<Token<'a>, Fault>
-    ensures ok { OnOk result ((n : ℕ) (onward : ℕ → Form) → outcome (places n onward) cursor.old ≡ outcome (token CommaOrClose (behind_place (n + 1) onward)) cursor.new) }
-    ensures bad { result ≡ Err Bad → (n : ℕ) (onward : ℕ → Form) → outcome (places n onward) cursor.old ≡ stops cursor.new }
+    ensures ok { OnOk result ((n : ℕ) (onward : ℕ → Form)
+        → outcome (places n onward) cursor.old
+        ≡ outcome (token CommaOrClose (behind_place (n + 1) onward)) cursor.new) }
+    ensures bad { result ≡ Err Bad → (n : ℕ) (onward : ℕ → Form)
+        → outcome (places n onward) cursor.old ≡ stops cursor.new }
     ensures shorter { OnOk result (length cursor.new < length cursor.old) }
 {
     cursor.take(Wanted::Place)
@@ -191,8 +212,10 @@ fn blank<'a>(cursor: &mut Cursor<'a>) -> Result<Token<'a>, Fault>
 
 // `v, .., v]`
 fn values(alloc: Global, cursor: &mut Cursor) -> Result<Vec<u32>, Fault>
-    ensures ok { IfOk result (λ vs. (onward : List ℕ → Form) → outcome (values [] onward) cursor.old ≡ outcome (onward vs.items) cursor.new) }
-    ensures bad { result ≡ Err Bad → (onward : List ℕ → Form) → outcome (values [] onward) cursor.old ≡ stops cursor.new }
+    ensures ok { IfOk result (λ vs. (onward : List ℕ → Form)
+        → outcome (values [] onward) cursor.old ≡ outcome (onward vs.items) cursor.new) }
+    ensures bad { result ≡ Err Bad → (onward : List ℕ → Form)
+        → outcome (values [] onward) cursor.old ≡ stops cursor.new }
     ensures shorter { OnOk result (length cursor.new < length cursor.old) }
 {
     let mut values = Vec::new(alloc);
@@ -208,7 +231,8 @@ fn values(alloc: Global, cursor: &mut Cursor) -> Result<Vec<u32>, Fault>
 // A value, and whether it is the last one.
 fn value(cursor: &mut Cursor) -> Result<(u32, bool), Fault>
     ensures ok { IfOk result (λ r. IsValue cursor.old r.0 r.1 cursor.new) }
-    ensures bad { result ≡ Err Bad → (read : List ℕ) (onward : List ℕ → Form) → outcome (values read onward) cursor.old ≡ stops cursor.new }
+    ensures bad { result ≡ Err Bad → (read : List ℕ) (onward : List ℕ → Form)
+        → outcome (values read onward) cursor.old ≡ stops cursor.new }
     ensures shorter { OnOk result (length cursor.new < length cursor.old) }
 {
     let token = numeral(cursor)?;
@@ -218,8 +242,12 @@ fn value(cursor: &mut Cursor) -> Result<(u32, bool), Fault>
 
 // The numeral of a value.
 fn numeral<'a>(cursor: &mut Cursor<'a>) -> Result<Token<'a>, Fault>
-    ensures ok { IfOk result (λ t. (read : List ℕ) (onward : List ℕ → Form) → outcome (values read onward) cursor.old ≡ outcome (token CommaOrCloseSquare (behind_number (read ++ number_in (lexeme_of t) ∷ []) onward)) cursor.new) }
-    ensures bad { result ≡ Err Bad → (read : List ℕ) (onward : List ℕ → Form) → outcome (values read onward) cursor.old ≡ stops cursor.new }
+    ensures ok { IfOk result (λ t. (read : List ℕ) (onward : List ℕ → Form)
+        → outcome (values read onward) cursor.old
+        ≡ outcome (token CommaOrCloseSquare
+        (behind_number (read ++ number_in (lexeme_of t) ∷ []) onward)) cursor.new) }
+    ensures bad { result ≡ Err Bad → (read : List ℕ) (onward : List ℕ → Form)
+        → outcome (values read onward) cursor.old ≡ stops cursor.new }
     ensures shorter { OnOk result (length cursor.new < length cursor.old) }
 {
     cursor.take(Wanted::Numeral)

@@ -21,11 +21,13 @@ pub fn worked()
     ensures flag { Says commands flag (Flag true (codes "auto")) }
     ensures negative { Says commands negative (Assign (codes "max_weight") (value.Number true 1)) }
     ensures sign { Says commands sign (Assign (codes "order") (value.Symbol (codes "-"))) }
-    ensures operators { Says commands operators (Op 700 (codes "infix_left") (codes "\"@@\"" ∷ codes "f" ∷ [])) }
+    ensures operators { Says commands operators
+        (Op 700 (codes "infix_left") (codes "\"@@\"" ∷ codes "f" ∷ [])) }
     ensures zeros { IsBadToken commands zeros 5 }
     ensures empty_list { IsBadToken commands empty_list 3 }
     ensures unknown { IsBadToken commands unknown 0 }
-    ensures entries { Says tester_commands exchange (Interpretation (by_name 2 (table Function (codes "f") 1 (1 ∷ 0 ∷ []) ∷ []))) }
+    ensures entries { Says tester_commands exchange
+        (Interpretation (by_name 2 (table Function (codes "f") 1 (1 ∷ 0 ∷ []) ∷ []))) }
     ensures other_program { IsBadToken commands exchange 0 }
     ensures cut_off { IsBadToken commands cut_off 1 }
 {}

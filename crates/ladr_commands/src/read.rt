@@ -39,7 +39,8 @@ pub fn read_command(alloc: Global, tester: bool, tokens: &[Token]) -> Result<Com
 
 /// The interpretation that the tokens of an item are.
 pub fn read_interpretation(alloc: Global, tokens: &[Token]) -> Result<ByName, CommandFault>
-    ensures read { IfOk result (λ it. Says interpretation_item (lexemes_of tokens.now) (Interpretation it)) }
+    ensures read { IfOk result (λ it. Says interpretation_item (lexemes_of tokens.now)
+        (Interpretation it)) }
     ensures fault { IfErr result (IsCommandFault interpretation_item (lexemes_of tokens.now)) }
 {
     let mut cursor = Cursor::new(tokens);
@@ -51,7 +52,8 @@ pub fn read_interpretation(alloc: Global, tokens: &[Token]) -> Result<ByName, Co
 }
 
 fn worded_interpretation(alloc: Global, cursor: &mut Cursor) -> Result<ByName, Fault>
-    ensures ok { IfOk result (λ it. outcome interpretation_item cursor.old ≡ reads (Interpretation it)) }
+    ensures ok { IfOk result (λ it. outcome interpretation_item cursor.old
+        ≡ reads (Interpretation it)) }
     ensures bad { result ≡ Err Bad → outcome interpretation_item cursor.old ≡ stops cursor.new }
 {
     cursor.take(Wanted::InterpretationWord)?;
@@ -69,7 +71,8 @@ fn command(alloc: Global, tester: bool, cursor: &mut Cursor) -> Result<Command, 
 
 // The word that a command begins with.
 fn first_word<'a>(tester: bool, cursor: &mut Cursor<'a>) -> Result<Token<'a>, Fault>
-    ensures ok { IfOk result (λ t. outcome (commands_of tester) cursor.old ≡ outcome (behind_first (lexeme_of t)) cursor.new) }
+    ensures ok { IfOk result (λ t. outcome (commands_of tester) cursor.old
+        ≡ outcome (behind_first (lexeme_of t)) cursor.new) }
     ensures bad { result ≡ Err Bad → outcome (commands_of tester) cursor.old ≡ stops cursor.new }
 {
     if tester {
@@ -81,8 +84,10 @@ fn first_word<'a>(tester: bool, cursor: &mut Cursor<'a>) -> Result<Token<'a>, Fa
 
 // What stands behind the first token.
 fn behind_first(alloc: Global, cursor: &mut Cursor, first: &Token) -> Result<Command, Fault>
-    ensures ok { IfOk result (λ c. outcome (behind_first (lexeme_of first.now)) cursor.old ≡ reads c) }
-    ensures bad { result ≡ Err Bad → outcome (behind_first (lexeme_of first.now)) cursor.old ≡ stops cursor.new }
+    ensures ok { IfOk result (λ c. outcome (behind_first (lexeme_of first.now)) cursor.old
+        ≡ reads c) }
+    ensures bad { result ≡ Err Bad → outcome (behind_first (lexeme_of first.now)) cursor.old
+        ≡ stops cursor.new }
 {
     if is_interpretation(first) {
         return Ok(Command::Interpretation(opened_interpretation(alloc, cursor)?));
@@ -116,7 +121,8 @@ fn behind_word(alloc: Global, cursor: &mut Cursor, word: Word) -> Result<Command
 // `.`, and nothing more.
 pub fn stopped(cursor: &mut Cursor) -> Result<(), Fault>
     ensures ok { OnOk result ((c : Command) → outcome (stopped c) cursor.old ≡ reads c) }
-    ensures bad { result ≡ Err Bad → (c : Command) → outcome (stopped c) cursor.old ≡ stops cursor.new }
+    ensures bad { result ≡ Err Bad → (c : Command)
+        → outcome (stopped c) cursor.old ≡ stops cursor.new }
 {
     cursor.take(Wanted::Stop)?;
     cursor.end()
@@ -125,7 +131,8 @@ pub fn stopped(cursor: &mut Cursor) -> Result<(), Fault>
 // `).`, and nothing more.
 pub fn closed(cursor: &mut Cursor) -> Result<(), Fault>
     ensures ok { OnOk result ((c : Command) → outcome (closed c) cursor.old ≡ reads c) }
-    ensures bad { result ≡ Err Bad → (c : Command) → outcome (closed c) cursor.old ≡ stops cursor.new }
+    ensures bad { result ≡ Err Bad → (c : Command)
+        → outcome (closed c) cursor.old ≡ stops cursor.new }
 {
     cursor.take(Wanted::Close)?;
     stopped(cursor)
@@ -133,8 +140,10 @@ pub fn closed(cursor: &mut Cursor) -> Result<(), Fault>
 
 // `(name).`
 fn opened_name(alloc: Global, cursor: &mut Cursor) -> Result<Name, Fault>
-    ensures ok { IfOk result (λ name. (command : List ℕ → Command) → outcome (opened (with_name command)) cursor.old ≡ reads (command name)) }
-    ensures bad { result ≡ Err Bad → (command : List ℕ → Command) → outcome (opened (with_name command)) cursor.old ≡ stops cursor.new }
+    ensures ok { IfOk result (λ name. (command : List ℕ → Command)
+        → outcome (opened (with_name command)) cursor.old ≡ reads (command name)) }
+    ensures bad { result ≡ Err Bad → (command : List ℕ → Command)
+        → outcome (opened (with_name command)) cursor.old ≡ stops cursor.new }
 {
     cursor.take(Wanted::Open)?;
     let token = cursor.take(Wanted::Symbol)?;
@@ -144,8 +153,11 @@ fn opened_name(alloc: Global, cursor: &mut Cursor) -> Result<Name, Fault>
 
 // The symbol of a member of a list.
 fn member_symbol<'a>(cursor: &mut Cursor<'a>) -> Result<Token<'a>, Fault>
-    ensures ok { IfOk result (λ t. (read : List (List ℕ)) (onward : List (List ℕ) → Form) → outcome (members Symbol read onward) cursor.old ≡ outcome (behind_text read (lexeme_of t) onward) cursor.new) }
-    ensures bad { result ≡ Err Bad → (read : List (List ℕ)) (onward : List (List ℕ) → Form) → outcome (members Symbol read onward) cursor.old ≡ stops cursor.new }
+    ensures ok { IfOk result (λ t. (read : List (List ℕ)) (onward : List (List ℕ) → Form)
+        → outcome (members Symbol read onward) cursor.old
+        ≡ outcome (behind_text read (lexeme_of t) onward) cursor.new) }
+    ensures bad { result ≡ Err Bad → (read : List (List ℕ)) (onward : List (List ℕ) → Form)
+        → outcome (members Symbol read onward) cursor.old ≡ stops cursor.new }
     ensures shorter { OnOk result (length cursor.new < length cursor.old) }
 {
     cursor.take(Wanted::Symbol)
@@ -154,7 +166,8 @@ fn member_symbol<'a>(cursor: &mut Cursor<'a>) -> Result<Token<'a>, Fault>
 // A member of a list, and whether it is the last one.
 fn member(alloc: Global, cursor: &mut Cursor) -> Result<(Name, bool), Fault>
     ensures ok { IfOk result (λ r. IsMember cursor.old r.0 r.1 cursor.new) }
-    ensures bad { result ≡ Err Bad → (read : List (List ℕ)) (onward : List (List ℕ) → Form) → outcome (members Symbol read onward) cursor.old ≡ stops cursor.new }
+    ensures bad { result ≡ Err Bad → (read : List (List ℕ)) (onward : List (List ℕ) → Form)
+        → outcome (members Symbol read onward) cursor.old ≡ stops cursor.new }
     ensures shorter { OnOk result (length cursor.new < length cursor.old) }
 {
     let token = member_symbol(cursor)?;
@@ -165,8 +178,10 @@ fn member(alloc: Global, cursor: &mut Cursor) -> Result<(Name, bool), Fault>
 
 // `name, .., name]`
 fn names(alloc: Global, cursor: &mut Cursor) -> Result<Names, Fault>
-    ensures ok { IfOk result (λ names. (onward : List (List ℕ) → Form) → outcome (members Symbol [] onward) cursor.old ≡ outcome (onward names) cursor.new) }
-    ensures bad { result ≡ Err Bad → (onward : List (List ℕ) → Form) → outcome (members Symbol [] onward) cursor.old ≡ stops cursor.new }
+    ensures ok { IfOk result (λ names. (onward : List (List ℕ) → Form)
+        → outcome (members Symbol [] onward) cursor.old ≡ outcome (onward names) cursor.new) }
+    ensures bad { result ≡ Err Bad → (onward : List (List ℕ) → Form)
+        → outcome (members Symbol [] onward) cursor.old ≡ stops cursor.new }
 {
     let mut names = Names::new(alloc);
     loop {
@@ -180,8 +195,10 @@ fn names(alloc: Global, cursor: &mut Cursor) -> Result<Names, Fault>
 
 // `([name, .., name]).`
 fn opened_names(alloc: Global, cursor: &mut Cursor) -> Result<Names, Fault>
-    ensures ok { IfOk result (λ names. (command : List (List ℕ) → Command) → outcome (opened (with_names command)) cursor.old ≡ reads (command names)) }
-    ensures bad { result ≡ Err Bad → (command : List (List ℕ) → Command) → outcome (opened (with_names command)) cursor.old ≡ stops cursor.new }
+    ensures ok { IfOk result (λ names. (command : List (List ℕ) → Command)
+        → outcome (opened (with_names command)) cursor.old ≡ reads (command names)) }
+    ensures bad { result ≡ Err Bad → (command : List (List ℕ) → Command)
+        → outcome (opened (with_names command)) cursor.old ≡ stops cursor.new }
 {
     cursor.take(Wanted::Open)?;
     cursor.take(Wanted::OpenSquare)?;
@@ -206,8 +223,11 @@ fn opened_assignment(alloc: Global, cursor: &mut Cursor) -> Result<Command, Faul
 
 // What stands behind the first token of a value.
 fn closed_value(alloc: Global, cursor: &mut Cursor, first: &Token) -> Result<Value, Fault>
-    ensures ok { IfOk result (λ v. (name : List ℕ) → outcome (behind_value name (lexeme_of first.now)) cursor.old ≡ reads (command.Assign name v)) }
-    ensures bad { result ≡ Err Bad → (name : List ℕ) → outcome (behind_value name (lexeme_of first.now)) cursor.old ≡ stops cursor.new }
+    ensures ok { IfOk result (λ v. (name : List ℕ)
+        → outcome (behind_value name (lexeme_of first.now)) cursor.old
+        ≡ reads (command.Assign name v)) }
+    ensures bad { result ≡ Err Bad → (name : List ℕ)
+        → outcome (behind_value name (lexeme_of first.now)) cursor.old ≡ stops cursor.new }
 {
     if text_of(first) == b"-".as_slice() {
         return dashed_value(alloc, cursor);
@@ -221,8 +241,11 @@ fn closed_value(alloc: Global, cursor: &mut Cursor, first: &Token) -> Result<Val
 
 // What stands behind `-`: a number, or the end of the value.
 fn dashed_value(alloc: Global, cursor: &mut Cursor) -> Result<Value, Fault>
-    ensures ok { IfOk result (λ v. (name : List ℕ) → outcome (token NumeralOrClose (behind_dash name)) cursor.old ≡ reads (command.Assign name v)) }
-    ensures bad { result ≡ Err Bad → (name : List ℕ) → outcome (token NumeralOrClose (behind_dash name)) cursor.old ≡ stops cursor.new }
+    ensures ok { IfOk result (λ v. (name : List ℕ)
+        → outcome (token NumeralOrClose (behind_dash name)) cursor.old
+        ≡ reads (command.Assign name v)) }
+    ensures bad { result ≡ Err Bad → (name : List ℕ)
+        → outcome (token NumeralOrClose (behind_dash name)) cursor.old ≡ stops cursor.new }
 {
     let token = cursor.take(Wanted::NumeralOrClose)?;
     if is_close(&token) {
@@ -250,8 +273,11 @@ fn opened_declaration(alloc: Global, cursor: &mut Cursor) -> Result<Command, Fau
 
 // `symbol).` or `[symbol, .., symbol]).`
 fn closed_symbols(alloc: Global, cursor: &mut Cursor) -> Result<Names, Fault>
-    ensures ok { IfOk result (λ names. (p : ℕ) (type : List ℕ) → outcome (token SymbolOrOpenSquare (behind_type p type)) cursor.old ≡ reads (command.Op p type names)) }
-    ensures bad { result ≡ Err Bad → (p : ℕ) (type : List ℕ) → outcome (token SymbolOrOpenSquare (behind_type p type)) cursor.old ≡ stops cursor.new }
+    ensures ok { IfOk result (λ names. (p : ℕ) (type : List ℕ)
+        → outcome (token SymbolOrOpenSquare (behind_type p type)) cursor.old
+        ≡ reads (command.Op p type names)) }
+    ensures bad { result ≡ Err Bad → (p : ℕ) (type : List ℕ)
+        → outcome (token SymbolOrOpenSquare (behind_type p type)) cursor.old ≡ stops cursor.new }
 {
     let token = cursor.take(Wanted::SymbolOrOpenSquare)?;
     if is_open_square(&token) {

@@ -18,9 +18,13 @@ pub fn worked()
     ensures no_element { is_good (by_name 2 (table Function (codes "c") 0 (2 ∷ []) ∷ [])) ≡ false }
     ensures one_element { is_good (by_name 1 (table Relation (codes "p") 0 (1 ∷ []) ∷ [])) ≡ true }
     ensures no_truth { is_good (by_name 3 (table Relation (codes "p") 0 (2 ∷ []) ∷ [])) ≡ false }
-    ensures twice { is_good (by_name 2 (table Function (codes "c") 0 (0 ∷ []) ∷ table Relation (codes "c") 0 (0 ∷ []) ∷ [])) ≡ false }
-    ensures other_arity { is_good (by_name 2 (table Function (codes "c") 0 (0 ∷ []) ∷ table Relation (codes "c") 1 (0 ∷ 1 ∷ []) ∷ [])) ≡ true }
-    ensures tables { tables_for (by_name 2 (table Function (codes "f") 1 (1 ∷ 0 ∷ []) ∷ [])) (symbol (codes "p") 0 Relation ∷ symbol (codes "f") 1 Function ∷ [])
+    ensures twice { is_good (by_name 2 (table Function (codes "c") 0 (0 ∷ []) ∷ table Relation
+        (codes "c") 0 (0 ∷ []) ∷ [])) ≡ false }
+    ensures other_arity { is_good (by_name 2
+        (table Function (codes "c") 0 (0 ∷ []) ∷ table Relation (codes "c") 1 (0 ∷ 1 ∷ []) ∷ []))
+        ≡ true }
+    ensures tables { tables_for (by_name 2 (table Function (codes "f") 1 (1 ∷ 0 ∷ []) ∷ []))
+        (symbol (codes "p") 0 Relation ∷ symbol (codes "f") 1 Function ∷ [])
         ≡ record { top = 1; rows = listing Relation [] ∷ listing Function (1 ∷ 0 ∷ []) ∷ [] } }
 {}
 

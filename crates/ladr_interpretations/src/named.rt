@@ -135,14 +135,16 @@ fn are_filled(size: u32, entries: &[Entry]) -> bool
 
 // Whether the entry's name and arity aren't in the table.
 fn is_new(heads: &Symbols, entry: &Entry) -> bool
-    ensures { result ≡ not (is_some (number_of heads.now entry.now.head.name entry.now.head.arity)) }
+    ensures { result ≡ not (is_some (number_of heads.now entry.now.head.name
+        entry.now.head.arity)) }
 {
     heads.find(entry.name(), entry.arity()).is_none()
 }
 
 // The table of the entries' symbols, unless one stands twice.
 fn heads(alloc: Global, entries: &[Entry]) -> Result<Symbols, NamedError>
-    ensures ok { IfOk result (λ t. (t ≡ heads_of entries.now) × IsTrue (are_new [] (heads_of entries.now))) }
+    ensures ok { IfOk result (λ t. (t ≡ heads_of entries.now)
+        × IsTrue (are_new [] (heads_of entries.now))) }
     ensures bad { result ≡ Err Bad → are_new [] (heads_of entries.now) ≡ false }
 {
     let mut heads = Symbols::new(alloc);

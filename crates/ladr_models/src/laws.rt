@@ -17,9 +17,11 @@ ghost use Rattle.model_tables.specs.Tables.{Finite};
 
 /// What is printed of an interpretation reads back as its tables.
 pub fn texts_read_back()
-    ensures text { (n k : ℕ) (p : Stated) (t : Finite) → IsPrintable n k p t → ReadsBack (model_text p.symbols k t) p.symbols t }
+    ensures text { (n k : ℕ) (p : Stated) (t : Finite) → IsPrintable n k p t
+        → ReadsBack (model_text p.symbols k t) p.symbols t }
     // So do tokens with their places, such as the code makes of the text.
-    ensures tokens { (n k : ℕ) (p : Stated) (t : Finite) (ts : List Token) → IsPrintable n k p t → Cuts 0 (model_text p.symbols k t) (pieces_of ts) →
+    ensures tokens { (n k : ℕ) (p : Stated) (t : Finite) (ts : List Token) → IsPrintable n k p t
+        → Cuts 0 (model_text p.symbols k t) (pieces_of ts) →
         SayTables (lexemes_of ts) p.symbols t }
 {}
 
@@ -29,7 +31,8 @@ pub fn worked()
     ensures printable { IsPrintable 2 1 pair pair_tables }
     ensures text { model_text pair.symbols 1 pair_tables ≡ pair_text }
     ensures tokens { Cuts 0 pair_text pair_tokens }
-    ensures says { Says interpretation_item (lexemes_in pair_tokens) (Interpretation (by_name 2 pair_entries)) }
+    ensures says { Says interpretation_item (lexemes_in pair_tokens)
+        (Interpretation (by_name 2 pair_entries)) }
     ensures good { IsTrue (is_good (by_name 2 pair_entries)) }
     ensures tables { tables_for (by_name 2 pair_entries) pair.symbols ≡ pair_tables }
 {}

@@ -9,6 +9,8 @@ mod formulas;
 #[cfg(test)]
 mod interpretations;
 #[cfg(test)]
+mod literals;
+#[cfg(test)]
 mod options;
 #[cfg(test)]
 mod problems;

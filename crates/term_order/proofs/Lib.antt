@@ -1,0 +1,4 @@
+pub mod LpoOrder
+pub mod LpoParts
+pub mod LpoStable
+pub mod Tests

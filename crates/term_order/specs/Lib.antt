@@ -1,0 +1,3 @@
+pub mod Laws
+pub mod Lpo
+pub mod Worked

@@ -1,0 +1,34 @@
+-- Terms compared by hand.
+use Rattle.std.specs.Prelude.{ℕ, ◌≡◌, Bool, true, false, nat_lt}
+use Rattle.fol_core.specs.Tree.{Tree, var, app, none, more}
+use Rattle.term_order.specs.Lpo.{lpo_greater}
+
+-- a symbol with a greater number stands above
+abbrev later : ℕ → ℕ → Bool
+later f g = nat_lt g f
+
+abbrev earlier : ℕ → ℕ → Bool
+earlier f g = nat_lt f g
+
+-- a constant e, an inverse above it, and a product above both
+abbrev e : Tree
+e = app 0 none
+
+abbrev inverse : Tree → Tree
+inverse t = app 1 (more t none)
+
+abbrev product : Tree → Tree → Tree
+product s t = app 2 (more s (more t none))
+
+-- The equations of groups from left to right. The inverse of a product and the product of inverses aren't comparable where
+-- products stand above inverses, and else the first is greater. Sides that differ by an exchange of variables are not comparable.
+abbrev pub WorkedPathOrder : Type 0
+WorkedPathOrder =
+    (lpo_greater later (product e (var 0)) (var 0) ≡ true)
+    × (lpo_greater later (product (inverse (var 0)) (var 0)) e ≡ true)
+    × (lpo_greater later (product (product (var 0) (var 1)) (var 2)) (product (var 0) (product (var 1) (var 2))) ≡ true)
+    × (lpo_greater later (inverse (product (var 0) (var 1))) (product (inverse (var 1)) (inverse (var 0))) ≡ false)
+    × (lpo_greater later (product (inverse (var 1)) (inverse (var 0))) (inverse (product (var 0) (var 1))) ≡ false)
+    × (lpo_greater earlier (inverse (product (var 0) (var 1))) (product (inverse (var 1)) (inverse (var 0))) ≡ true)
+    × (lpo_greater later (product (var 0) (var 1)) (product (var 1) (var 0)) ≡ false)
+    × (lpo_greater later (var 0) (var 1) ≡ false)

@@ -1,0 +1,16 @@
+// Laws of orders of terms, and terms compared by hand.
+ghost use Rattle.std.specs.Prelude.{ℕ, Bool};
+ghost use Rattle.term_order.specs.Laws.{IsSymbolOrder, IsTermOrder};
+ghost use Rattle.term_order.specs.Lpo.{lpo_greater};
+ghost use Rattle.term_order.specs.Worked.{WorkedPathOrder};
+
+/// Whatever the order of symbols, no term is above itself by the path order, what is above a term is above all below it, and
+/// instances are ordered as their terms are.
+pub fn lpo_is_order()
+    ensures { (above : ℕ → ℕ → Bool) → IsSymbolOrder above → IsTermOrder (lpo_greater above) }
+{}
+
+/// Terms compared.
+pub fn worked()
+    ensures path_order { WorkedPathOrder }
+{}

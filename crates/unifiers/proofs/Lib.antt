@@ -1,0 +1,4 @@
+pub mod Agreement
+pub mod Differences
+pub mod Found
+pub mod Matches

@@ -1,0 +1,4 @@
+pub mod Laws
+pub mod Matching
+pub mod Unifier
+pub mod Worked
