@@ -11,7 +11,7 @@ use Rattle.std.proofs.lemmas.Slice.Eq.{bytes_eq-Decides}
 use Rattle.indexmap.specs.IndexMap.{insert_entry}
 use Rattle.ladr_lex.specs.Cuts.{is_symbol, is_quoted}
 use Rattle.ladr_lex.specs.OperatorView.{row_list, with_rows, may_be_put}
-use Rattle.ladr_lex.specs.Operators.{OperatorRow, operator_of, is_word, is_precedence, has_precedence, are_lawful, is_fixed, unquoted, breaks_row_6, declared, with_row}
+use Rattle.ladr_lex.specs.Operators.{OperatorRow, operator_of, is_word, is_precedence, has_precedence, are_lawful, is_fixed, unquoted, is_unfit_symbol, declared, with_row}
 use Rattle.ladr_lex.specs.declared.operators.Operator.{Operator}
 use Rattle.ladr_lex.specs.declared.operators.OperatorKind.{OperatorKind}
 use Rattle.ladr_lex.specs.declared.token.TokenKind.{TokenKind}
@@ -147,7 +147,7 @@ put_next rows i d o rs new whole h good e made all =
     (ap (with_rows (drop (i + 1) rows)) (made ∙ ap (λ (p : Option Operator). with_row (get_or rows i d).0.now p rs) e) ∙ sym next.rest ∙ all, next.good)
 
 -- a fixed symbol can't be declared
-pub fixed_kept : (rs : List OperatorRow) (p : ℕ) (type symbol name : List ℕ) → breaks_row_6 symbol ≡ false → is_fixed name ≡ true → operator_of (declared p type symbol rs) name ≡ operator_of rs name
+pub fixed_kept : (rs : List OperatorRow) (p : ℕ) (type symbol name : List ℕ) → is_unfit_symbol symbol ≡ false → is_fixed name ≡ true → operator_of (declared p type symbol rs) name ≡ operator_of rs name
 fixed_kept rs p type symbol name free fixed =
     let n = unquoted symbol in
     let other : bytes_eq name n ≡ false = elim (cases_Bool (bytes_eq name n)) [

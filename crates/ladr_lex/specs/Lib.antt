@@ -4,6 +4,7 @@ pub mod Comments
 pub mod Cuts
 pub mod Lexed
 pub mod Lexeme
+pub mod Misuses
 pub mod Numeral
 pub mod OperatorView
 pub mod Operators

@@ -114,11 +114,11 @@ unquoted symbol = if is_quoted symbol then take (length symbol - 1 - 1) (drop 1 
 
 -- what may not be declared: a precedence below 1 or above 998 or an unknown type (row 5); a fixed symbol, or quotes round
 -- what is no ordinary or special symbol (row 6)
-abbrev pub breaks_row_5 : ℕ → List ℕ → Bool
-breaks_row_5 p type = not (is_precedence p) || is_none (type_named type)
+abbrev pub is_unfit_operator : ℕ → List ℕ → Bool
+is_unfit_operator p type = not (is_precedence p) || is_none (type_named type)
 
-abbrev pub breaks_row_6 : List ℕ → Bool
-breaks_row_6 symbol = is_fixed (unquoted symbol) || not (is_symbol (unquoted symbol))
+abbrev pub is_unfit_symbol : List ℕ → Bool
+is_unfit_symbol symbol = is_fixed (unquoted symbol) || not (is_symbol (unquoted symbol))
 
 -- the table once a symbol is declared
 abbrev pub declared : ℕ → List ℕ → List ℕ → List OperatorRow → List OperatorRow

@@ -6,7 +6,7 @@ ghost use Rattle.ladr_lex.specs.ClauseNames.{clause_variable, is_clause_name, cl
 ghost use Rattle.ladr_lex.specs.Numeral.{whole_number};
 ghost use Rattle.ladr_lex.specs.Cuts.{Piece, is_quoted, Cuts};
 ghost use Rattle.ladr_lex.specs.Lexed.{lexed};
-ghost use Rattle.ladr_lex.specs.Operators.{OperatorRow, operator_of, are_lawful, is_fixed, standard_rows, unquoted, breaks_row_5, breaks_row_6, declared, with_row};
+ghost use Rattle.ladr_lex.specs.Operators.{OperatorRow, operator_of, are_lawful, is_fixed, standard_rows, unquoted, is_unfit_operator, is_unfit_symbol, declared, with_row};
 ghost use Rattle.ladr_lex.specs.Places.{line_of, column_of};
 ghost use Rattle.ladr_lex.specs.declared.operators.Operator.{Operator};
 ghost use Rattle.ladr_lex.specs.declared.operators.OperatorKind.TheVariants.{InfixLeft, Prefix};
@@ -58,7 +58,7 @@ pub fn one_operator()
         ≡ (if bytes_eq other name then o else operator_of rows other) }
     // A fixed symbol has what it had, whatever is declared.
     ensures kept { (rows : List OperatorRow) (p : ℕ) (type symbol name : List ℕ)
-        → breaks_row_6 symbol ≡ false → is_fixed name ≡ true →
+        → is_unfit_symbol symbol ≡ false → is_fixed name ≡ true →
         operator_of (declared p type symbol rows) name ≡ operator_of rows name }
     // A quoted symbol is never an operator.
     ensures quotes { (rows : List OperatorRow) (text : List ℕ) → IsTrue (are_lawful rows)
@@ -75,11 +75,12 @@ pub fn worked_operators()
         (codes "v") ≡ Some (record { precedence = 400; kind = Prefix }) }
     ensures taken_away { operator_of (declared 1 (codes "ordinary") (codes "+") standard_rows)
         (codes "+") ≡ None }
-    ensures precedences { (breaks_row_5 0 (codes "infix") ≡ true)
-        × (breaks_row_5 998 (codes "infix") ≡ false) × (breaks_row_5 999 (codes "infix") ≡ true) }
-    ensures types { breaks_row_5 500 (codes "\"infix\"") ≡ true }
-    ensures fixed_symbols { (breaks_row_6 (codes "->") ≡ true)
-        × (breaks_row_6 (codes "\"$T\"") ≡ true) × (breaks_row_6 (codes "exists") ≡ true) }
-    ensures symbols { (breaks_row_6 (codes "\"a b\"") ≡ true)
-        × (breaks_row_6 (codes "\"--\"") ≡ true) × (breaks_row_6 (codes "\"'\"") ≡ false) }
+    ensures precedences { (is_unfit_operator 0 (codes "infix") ≡ true)
+        × (is_unfit_operator 998 (codes "infix") ≡ false)
+        × (is_unfit_operator 999 (codes "infix") ≡ true) }
+    ensures types { is_unfit_operator 500 (codes "\"infix\"") ≡ true }
+    ensures fixed_symbols { (is_unfit_symbol (codes "->") ≡ true)
+        × (is_unfit_symbol (codes "\"$T\"") ≡ true) × (is_unfit_symbol (codes "exists") ≡ true) }
+    ensures symbols { (is_unfit_symbol (codes "\"a b\"") ≡ true)
+        × (is_unfit_symbol (codes "\"--\"") ≡ true) × (is_unfit_symbol (codes "\"'\"") ≡ false) }
 {}

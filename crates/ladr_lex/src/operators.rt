@@ -3,7 +3,7 @@ ghost use Rattle.std.specs.Prelude.{◌≡◌, ◌↔◌, ◌&&◌, not, ℕ, If
 ghost use Rattle.ladr_lex.specs.ClauseNames.{clause_operator, FreesVariables};
 ghost use Rattle.ladr_lex.specs.Cuts.{is_symbol};
 ghost use Rattle.ladr_lex.specs.OperatorView.{row_list, with_rows, may_be_put};
-ghost use Rattle.ladr_lex.specs.Operators.{OperatorRow, operator_of, if_prefix, if_after, is_prefix, is_word, has_precedence, are_lawful, standard_rows, with_row, is_precedence, is_fixed, type_named, operator_with, unquoted, breaks_row_5, breaks_row_6, declared};
+ghost use Rattle.ladr_lex.specs.Operators.{OperatorRow, operator_of, if_prefix, if_after, is_prefix, is_word, has_precedence, are_lawful, standard_rows, with_row, is_precedence, is_fixed, type_named, operator_with, unquoted, is_unfit_operator, is_unfit_symbol, declared};
 
 use crate::clause_names::clause_operator;
 use crate::scan::{is_quoted, is_symbol};
@@ -43,8 +43,8 @@ pub struct Operator {
 /// Why a symbol isn't declared: by the rows of misuse for precedences and types, and for symbols; or memory is lacking.
 #[derive(Clone, Copy, Debug, PartialEq, Eq)]
 pub enum DeclareError {
-    Row5,
-    Row6,
+    UnfitOperator,
+    UnfitSymbol,
     Memory,
 }
 
@@ -138,21 +138,22 @@ impl Ops {
     ) -> Result<(), DeclareError>
         ensures declared { OnOk result (self.new
             ≡ declared precedence type_name.now symbol.now self.old) }
-        ensures row5 { (result ≡ Err DeclareError.Row5)
-            ↔ IsTrue (breaks_row_5 precedence type_name.now) }
-        ensures row6 { (result ≡ Err DeclareError.Row6)
-            ↔ IsTrue (not (breaks_row_5 precedence type_name.now) && breaks_row_6 symbol.now) }
+        ensures operator { (result ≡ Err DeclareError.UnfitOperator)
+            ↔ IsTrue (is_unfit_operator precedence type_name.now) }
+        ensures symbol { (result ≡ Err DeclareError.UnfitSymbol)
+            ↔ IsTrue (not (is_unfit_operator precedence type_name.now)
+            && is_unfit_symbol symbol.now) }
         ensures err { OnErr result (self.new ≡ self.old) }
     {
         if precedence < 1 || precedence > 998 {
-            return Err(DeclareError::Row5);
+            return Err(DeclareError::UnfitOperator);
         }
         let Some(symbol_type) = type_named(type_name) else {
-            return Err(DeclareError::Row5);
+            return Err(DeclareError::UnfitOperator);
         };
         let name = unquoted(symbol);
         if is_fixed(name) || !is_symbol(name) {
-            return Err(DeclareError::Row6);
+            return Err(DeclareError::UnfitSymbol);
         }
         match self.put(name, symbol_type.with(precedence as u16)) {
             Ok(()) => Ok(()),

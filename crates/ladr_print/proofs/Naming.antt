@@ -20,6 +20,8 @@ use Rattle.fol_core.specs.declared.symbols.Kind.TheVariants.{Function, Relation}
 use Rattle.fol_core.proofs.Places.{slice_get_last}
 use Rattle.fol_core.proofs.SymbolLemmas.{symbol_there, number_of_push}
 use Rattle.ladr_lex.specs.Numeral.{is_numeral, number}
+use Rattle.ladr_lex.specs.declared.misuse.Misuse.{Misuse}
+use Rattle.ladr_lex.specs.declared.misuse.Misuse.TheVariants.{VariableAsFormula, QuantifierInTerm, UnfitNumeral}
 use Rattle.ladr_reader.specs.Formulas.{Variable, Reading, Made, Bound, meets, bound_number, free_number, is_variable, with_variable, variable_number, with_name, named_variable, with_symbol, symbol_number, arity_of, is_too_great, is_element, constant_as, constant, term_of, terms_of, relation_of, sentence_as, sentence, equation, bound_by, is_denial, connective_of, joined, by_connective, comparison, formula_in}
 use Rattle.ladr_reader.specs.declared.connectives.Connective.{Connective}
 use Rattle.ladr_reader.specs.declared.connectives.Connective.TheVariants.{And, Or, IfThen, ThenIf, IfAndOnlyIf}
@@ -52,10 +54,10 @@ module _ (T : List Symbol) (v : Naming) where
       by false f = k name m (rw f at e)
 
   -- a misuse that was met is known
-  pub unmet : (row : ℕ) (s : Reading) → Reaches (meets true row s) → ⊥
+  pub unmet : (row : Misuse) (s : Reading) → Reaches (meets true row s) → ⊥
   unmet row s r = let e = r.sound in cc
 
-  pub clear : (test : Bool) (row : ℕ) (s : Reading) → Reaches (meets test row s) → test ≡ false
+  pub clear : (test : Bool) (row : Misuse) (s : Reading) → Reaches (meets test row s) → test ≡ false
   clear true row s r = absurd (unmet row s r)
   clear false row s r = refl
 
@@ -121,9 +123,9 @@ module _ (T : List Symbol) (v : Naming) where
     none_back : (st : Style) (name : List ℕ) (s : Reading) → Reaches (constant_as st name None s).reading → term_raw T v (constant_as st name None s).tree ≡ named name no_raws
     none_back st name s r =
         elim (cases_Bool (is_element st name)) [
-          | inl y ↦ (let e : constant_as st name None s ≡ record { tree = elem (number name); reading = meets (is_too_great st name) 16 s } = cond-true (is_element st name) _ _ y in
-              let met : Reaches (meets (is_too_great st name) 16 s) = subst (λ (m : Made Tree). Reaches m.reading) e r in
-              ap (λ (m : Made Tree). term_raw T v m.tree) e ∙ ap (λ (l : List ℕ). named l no_raws) (element_back st name y (clear (is_too_great st name) 16 s met)))
+          | inl y ↦ (let e : constant_as st name None s ≡ record { tree = elem (number name); reading = meets (is_too_great st name) UnfitNumeral s } = cond-true (is_element st name) _ _ y in
+              let met : Reaches (meets (is_too_great st name) UnfitNumeral s) = subst (λ (m : Made Tree). Reaches m.reading) e r in
+              ap (λ (m : Made Tree). term_raw T v m.tree) e ∙ ap (λ (l : List ℕ). named l no_raws) (element_back st name y (clear (is_too_great st name) UnfitNumeral s met)))
           | inr k ↦ (let after = with_symbol name 0 Function s in
               let e : constant_as st name None s ≡ record { tree = app (symbol_number name 0 after) none; reading = after } = cond-false (is_element st name) _ _ k in
               let met : Reaches after = subst (λ (m : Made Tree). Reaches m.reading) e r in
@@ -146,12 +148,12 @@ module _ (T : List Symbol) (v : Naming) where
     mutual
       pub term_back : (st : Style) (scope : List Bound) (s : Reading) (t : RawTree) → Scoped scope → Reaches (term_of st scope s t).reading → term_raw T v (term_of st scope s t).tree ≡ t
       term_back st scope s (quantified q x t) c r =
-          let met = meets true 11 s in
+          let met = meets true QuantifierInTerm s in
           let inner = with_variable x false met in
-          absurd (unmet 11 s (before met _ (beyond met inner _ (grows_variable x false met) (grows_term st (record { name = x; number = length s.variables } ∷ scope) inner t)) r))
+          absurd (unmet QuantifierInTerm s (before met _ (beyond met inner _ (grows_variable x false met) (grows_term st (record { name = x; number = length s.variables } ∷ scope) inner t)) r))
       term_back st scope s (named name no_raws) c r = constant_back st scope name s c r
       term_back st scope s (named name (more_raws t ts)) c r =
-          let met = meets (is_too_great st name) 16 s in
+          let met = meets (is_too_great st name) UnfitNumeral s in
           let after = with_symbol name (suc (arity_of ts)) Function met in
           ap₂ named (symbol_back name (suc (arity_of ts)) Function met (before after _ (grows_terms st scope after (more_raws t ts)) r)) (terms_back st scope after (more_raws t ts) c r)
 
@@ -164,7 +166,7 @@ module _ (T : List Symbol) (v : Naming) where
     relation_back : (st : Style) (scope : List Bound) (name : List ℕ) (ts : RawTrees) (s : Reading) → Scoped scope → Reaches (relation_of st scope name ts s).reading →
         formula_raw T v (relation_of st scope name ts s).tree ≡ named name ts
     relation_back st scope name ts s c r =
-        let met = meets (is_element st name) 16 s in
+        let met = meets (is_element st name) UnfitNumeral s in
         let after = with_symbol name (arity_of ts) Relation met in
         ap₂ named (symbol_back name (arity_of ts) Relation met (before after _ (grows_terms st scope after ts) r)) (terms_back st scope after ts c r)
 
@@ -190,7 +192,7 @@ module _ (T : List Symbol) (v : Naming) where
     sentence_back st scope name s c = at (named_variable st scope name s).tree (named_variable st scope name s).reading
       where
         at : (o : Option ℕ) (z : Reading) → Backs (sentence_as st scope name o z) (named name no_raws)
-        at (Some n) z = λ r. absurd (unmet 10 z r)
+        at (Some n) z = λ r. absurd (unmet VariableAsFormula z r)
         at None z = sentence_none st scope name z c
 
     comparison_back : (st : Style) (scope : List Bound) (name : List ℕ) (t u : RawTree) (s : Reading) → Scoped scope → Backs (comparison st scope name t u s) (two name t u)

@@ -16,6 +16,8 @@ use Rattle.fol_core.specs.declared.raw.Quantifier.TheVariants.{All, Exists}
 use Rattle.fol_core.specs.declared.symbols.Kind.{Kind}
 use Rattle.fol_core.specs.declared.symbols.Kind.TheVariants.{Function, Relation}
 use Rattle.ladr_lex.specs.Numeral.{number}
+use Rattle.ladr_lex.specs.declared.misuse.Misuse.{Misuse}
+use Rattle.ladr_lex.specs.declared.misuse.Misuse.TheVariants.{TwoKinds, QuantifierInTerm, UnfitAttribute, UnfitNumeral}
 use Rattle.ladr_reader.specs.Formulas.{Variable, Reading, Made, meets, free_number, is_variable, with_variable, variable_number, with_name, named_variable, with_symbol, symbol_number, arity_of, is_too_great, is_element, constant_as, constant, term_of, terms_of, relation_of, sentence_as, sentence, equation, under, is_denial, connective_of, joined, by_connective, comparison, formula_in}
 use Rattle.ladr_reader.specs.declared.connectives.Connective.{Connective}
 use Rattle.ladr_reader.specs.declared.connectives.Connective.TheVariants.{And, Or, IfThen, ThenIf, IfAndOnlyIf}
@@ -53,12 +55,12 @@ module _ (st : Style) where
   abbrev ren : Reading → Reading
   ren s = record s { variables = first_variables st.prolog (length s.variables) }
 
-  ren_meets : (b : Bool) (row : ℕ) (s : Reading) → meets b row (ren s) ≡ ren (meets b row s)
+  ren_meets : (b : Bool) (row : Misuse) (s : Reading) → meets b row (ren s) ≡ ren (meets b row s)
   ren_meets true row s = refl
   ren_meets false row s = refl
 
   ren_met : (a b : Bool) (table : List Symbol) (large : Bool) (s : Reading) →
-      record (meets b 12 (meets a 9 (ren s))) { symbols = table; large = large } ≡ ren (record (meets b 12 (meets a 9 s)) { symbols = table; large = large })
+      record (meets b UnfitAttribute (meets a TwoKinds (ren s))) { symbols = table; large = large } ≡ ren (record (meets b UnfitAttribute (meets a TwoKinds s)) { symbols = table; large = large })
   ren_met true true table large s = refl
   ren_met true false table large s = refl
   ren_met false true table large s = refl
@@ -141,13 +143,13 @@ module _ (st : Style) where
             let gone = named_none name (ren s) n in
             let whole : constant st [] name (ren s) ≡ constant_as st name None (ren s) = ap (λ (m : Made (Option ℕ)). constant_as st name m.tree m.reading) gone in
             elim (cases_Bool (is_element st name)) [
-              | inl y ↦ (let f : (z : Reading) → constant_as st name None z ≡ record { tree = elem (number name); reading = meets (is_too_great st name) 16 z } = λ z. cond-true (is_element st name) _ _ y in
+              | inl y ↦ (let f : (z : Reading) → constant_as st name None z ≡ record { tree = elem (number name); reading = meets (is_too_great st name) UnfitNumeral z } = λ z. cond-true (is_element st name) _ _ y in
                   let all = made ∙ f s in
-                  let met : Reaches T v (meets (is_too_great st name) 16 s) = subst (λ (m : Made Tree). Reaches T v m.reading) all k.0 in
-                  let name_is : decimal (number name) ≡ name = element_back T v fewer st name y (clear T v (is_too_great st name) 16 s met) in
+                  let met : Reaches T v (meets (is_too_great st name) UnfitNumeral s) = subst (λ (m : Made Tree). Reaches T v m.reading) all k.0 in
+                  let name_is : decimal (number name) ≡ name = element_back T v fewer st name y (clear T v (is_too_great st name) UnfitNumeral s met) in
                   ap (λ (m : Made Tree). term_of st [] (ren s) (term_raw T canon m.tree)) all
                   ∙ ap (λ (l : List ℕ). constant st [] l (ren s)) name_is ∙ whole ∙ f (ren s)
-                  ∙ ap (λ (z : Reading). record { tree = elem (number name); reading = z }) (ren_meets (is_too_great st name) 16 s)
+                  ∙ ap (λ (z : Reading). record { tree = elem (number name); reading = z }) (ren_meets (is_too_great st name) UnfitNumeral s)
                   ∙ sym (ap again all))
               | inr j ↦ (let f : (z : Reading) → constant_as st name None z ≡ record { tree = app (symbol_number name 0 (with_symbol name 0 Function z)) none; reading = with_symbol name 0 Function z } = λ z. cond-false (is_element st name) _ _ j in
                   let all = made ∙ f s in
@@ -169,12 +171,12 @@ module _ (st : Style) where
     mutual
       pub term_ren : (t : RawTree) (s : Reading) → Keeps (term_of st [] s t).reading → term_of st [] (ren s) (term_raw T canon (term_of st [] s t).tree) ≡ again (term_of st [] s t)
       term_ren (quantified q x t) s k =
-          let met = meets true 11 s in
+          let met = meets true QuantifierInTerm s in
           let inner = with_variable x false met in
-          absurd (unmet T v 11 s (before T v met _ (beyond met inner _ (grows_variable x false met) (grows_term st (record { name = x; number = length s.variables } ∷ []) inner t)) k.0))
+          absurd (unmet T v QuantifierInTerm s (before T v met _ (beyond met inner _ (grows_variable x false met) (grows_term st (record { name = x; number = length s.variables } ∷ []) inner t)) k.0))
       term_ren (named name no_raws) s k = constant_ren name s k
       term_ren (named name (more_raws t ts)) s k =
-          let met = meets (is_too_great st name) 16 s in
+          let met = meets (is_too_great st name) UnfitNumeral s in
           let ar = suc (arity_of ts) in
           let after = with_symbol name ar Function met in
           let args = terms_of st [] after (more_raws t ts) in
@@ -183,8 +185,8 @@ module _ (st : Style) where
           let xs = terms_raw T canon args.tree in
           let count : arity_of xs ≡ ar = arity_same (more_raws t ts) after in
           let F : ℕ → Reading → Made Tree = λ n z. let al = terms_of st [] z xs in record { tree = app (symbol_number name n z) al.tree; reading = al.reading } in
-          let begun : with_symbol name (arity_of xs) Function (meets (is_too_great st name) 16 (ren s)) ≡ ren after =
-          ap (λ (n : ℕ). with_symbol name n Function (meets (is_too_great st name) 16 (ren s))) count ∙ ap (with_symbol name ar Function) (ren_meets (is_too_great st name) 16 s) ∙ ren_symbol name ar Function met
+          let begun : with_symbol name (arity_of xs) Function (meets (is_too_great st name) UnfitNumeral (ren s)) ≡ ren after =
+          ap (λ (n : ℕ). with_symbol name n Function (meets (is_too_great st name) UnfitNumeral (ren s))) count ∙ ap (with_symbol name ar Function) (ren_meets (is_too_great st name) UnfitNumeral s) ∙ ren_symbol name ar Function met
           in
           ap (λ (l : List ℕ). term_of st [] (ren s) (named l xs)) name_is
           ∙ (λ i. F (count i) (begun i))
@@ -204,10 +206,10 @@ module _ (st : Style) where
     made_again m = record { tree = m.tree; reading = ren m.reading }
 
     relation_ren : (name : List ℕ) (ts : RawTrees) (s : Reading) → Keeps (relation_of st [] name ts s).reading →
-        relation_of st [] (symbol_name T (symbol_number name (arity_of ts) (with_symbol name (arity_of ts) Relation (meets (is_element st name) 16 s))))
-        (terms_raw T canon (terms_of st [] (with_symbol name (arity_of ts) Relation (meets (is_element st name) 16 s)) ts).tree) (ren s) ≡ made_again (relation_of st [] name ts s)
+        relation_of st [] (symbol_name T (symbol_number name (arity_of ts) (with_symbol name (arity_of ts) Relation (meets (is_element st name) UnfitNumeral s))))
+        (terms_raw T canon (terms_of st [] (with_symbol name (arity_of ts) Relation (meets (is_element st name) UnfitNumeral s)) ts).tree) (ren s) ≡ made_again (relation_of st [] name ts s)
     relation_ren name ts s k =
-        let met = meets (is_element st name) 16 s in
+        let met = meets (is_element st name) UnfitNumeral s in
         let ar = arity_of ts in
         let after = with_symbol name ar Relation met in
         let args = terms_of st [] after ts in
@@ -216,17 +218,17 @@ module _ (st : Style) where
         let xs = terms_raw T canon args.tree in
         let count : arity_of xs ≡ ar = arity_same ts after in
         let F : ℕ → Reading → Made Fol = λ n z. let al = terms_of st [] z xs in record { tree = atom (symbol_number name n z) al.tree; reading = al.reading } in
-        let begun : with_symbol name (arity_of xs) Relation (meets (is_element st name) 16 (ren s)) ≡ ren after =
-        ap (λ (n : ℕ). with_symbol name n Relation (meets (is_element st name) 16 (ren s))) count ∙ ap (with_symbol name ar Relation) (ren_meets (is_element st name) 16 s) ∙ ren_symbol name ar Relation met
+        let begun : with_symbol name (arity_of xs) Relation (meets (is_element st name) UnfitNumeral (ren s)) ≡ ren after =
+        ap (λ (n : ℕ). with_symbol name n Relation (meets (is_element st name) UnfitNumeral (ren s))) count ∙ ap (with_symbol name ar Relation) (ren_meets (is_element st name) UnfitNumeral s) ∙ ren_symbol name ar Relation met
         in
         ap (λ (l : List ℕ). relation_of st [] l xs (ren s)) name_is
         ∙ (λ i. F (count i) (begun i))
         ∙ ap (λ (m : Made Trees). record { tree = atom (symbol_number name ar after) m.tree; reading = m.reading }) (terms_ren ts after k)
 
     relation_name : (name : List ℕ) (ts : RawTrees) (s : Reading) → Keeps (relation_of st [] name ts s).reading →
-        symbol_name T (symbol_number name (arity_of ts) (with_symbol name (arity_of ts) Relation (meets (is_element st name) 16 s))) ≡ name
+        symbol_name T (symbol_number name (arity_of ts) (with_symbol name (arity_of ts) Relation (meets (is_element st name) UnfitNumeral s))) ≡ name
     relation_name name ts s k =
-        let met = meets (is_element st name) 16 s in
+        let met = meets (is_element st name) UnfitNumeral s in
         let after = with_symbol name (arity_of ts) Relation met in
         symbol_back T v fewer name (arity_of ts) Relation met (keeps_before after _ (grows_terms st [] after ts) k).0
 
@@ -240,14 +242,14 @@ module _ (st : Style) where
         ∙ ap (λ (m : Made Tree). record { tree = equal left.tree m.tree; reading = m.reading }) (term_ren u left.reading k)
 
     -- and its variables are those met first
-    meets_variables : (b : Bool) (row : ℕ) (s : Reading) → (meets b row s).variables ≡ s.variables
+    meets_variables : (b : Bool) (row : Misuse) (s : Reading) → (meets b row s).variables ≡ s.variables
     meets_variables true row s = refl
     meets_variables false row s = refl
 
     symbol_variables : (name : List ℕ) (arity : ℕ) (kind : Kind) (s : Reading) → (with_symbol name arity kind s).variables ≡ s.variables
     symbol_variables name arity kind s =
         let x : Symbol = record { name = name; arity = arity; kind = kind } in
-        meets_variables (bytes_eq name (codes "#")) 12 (meets (is_clash s.symbols x) 9 s) ∙ meets_variables (is_clash s.symbols x) 9 s
+        meets_variables (bytes_eq name (codes "#")) UnfitAttribute (meets (is_clash s.symbols x) TwoKinds s) ∙ meets_variables (is_clash s.symbols x) TwoKinds s
 
     abbrev so_far : Reading → List ℕ
     so_far s = upto (length s.variables)
@@ -275,21 +277,21 @@ module _ (st : Style) where
         none_noted : (name : List ℕ) (s : Reading) → free.joined (so_far s) (variables_of (constant_as st name None s).tree) ≡ so_far (constant_as st name None s).reading
         none_noted name s =
             cond_both (is_element st name) _ _ (λ (m : Made Tree). free.joined (so_far s) (variables_of m.tree) ≡ so_far m.reading)
-            (λ e. ap (λ (vs : List Variable). upto (length vs)) (sym (meets_variables (is_too_great st name) 16 s)))
+            (λ e. ap (λ (vs : List Variable). upto (length vs)) (sym (meets_variables (is_too_great st name) UnfitNumeral s)))
             (λ e. ap (λ (vs : List Variable). upto (length vs)) (sym (symbol_variables name 0 Function s)))
 
     mutual
       pub term_noted : (t : RawTree) (s : Reading) → Keeps (term_of st [] s t).reading → free.joined (so_far s) (variables_of (term_of st [] s t).tree) ≡ so_far (term_of st [] s t).reading
       term_noted (quantified q x t) s k =
-          let met = meets true 11 s in
+          let met = meets true QuantifierInTerm s in
           let inner = with_variable x false met in
-          absurd (unmet T v 11 s (before T v met _ (beyond met inner _ (grows_variable x false met) (grows_term st (record { name = x; number = length s.variables } ∷ []) inner t)) k.0))
+          absurd (unmet T v QuantifierInTerm s (before T v met _ (beyond met inner _ (grows_variable x false met) (grows_term st (record { name = x; number = length s.variables } ∷ []) inner t)) k.0))
       term_noted (named name no_raws) s k = constant_noted name s
       term_noted (named name (more_raws t ts)) s k =
-          let met = meets (is_too_great st name) 16 s in
+          let met = meets (is_too_great st name) UnfitNumeral s in
           let after = with_symbol name (suc (arity_of ts)) Function met in
           ap (λ (vs : List Variable). free.joined (upto (length vs)) (variables_of_all (terms_of st [] after (more_raws t ts)).tree))
-          (sym (symbol_variables name (suc (arity_of ts)) Function met ∙ meets_variables (is_too_great st name) 16 s))
+          (sym (symbol_variables name (suc (arity_of ts)) Function met ∙ meets_variables (is_too_great st name) UnfitNumeral s))
           ∙ terms_noted (more_raws t ts) after k
 
       terms_noted : (ts : RawTrees) (s : Reading) → Keeps (terms_of st [] s ts).reading → free.joined (so_far s) (variables_of_all (terms_of st [] s ts).tree) ≡ so_far (terms_of st [] s ts).reading
@@ -302,12 +304,12 @@ module _ (st : Style) where
           ∙ terms_noted ts first.reading k
 
     relation_noted : (name : List ℕ) (ts : RawTrees) (s : Reading) → Keeps (relation_of st [] name ts s).reading →
-        free.joined (so_far s) (variables_of_all (terms_of st [] (with_symbol name (arity_of ts) Relation (meets (is_element st name) 16 s)) ts).tree) ≡ so_far (relation_of st [] name ts s).reading
+        free.joined (so_far s) (variables_of_all (terms_of st [] (with_symbol name (arity_of ts) Relation (meets (is_element st name) UnfitNumeral s)) ts).tree) ≡ so_far (relation_of st [] name ts s).reading
     relation_noted name ts s k =
-        let met = meets (is_element st name) 16 s in
+        let met = meets (is_element st name) UnfitNumeral s in
         let after = with_symbol name (arity_of ts) Relation met in
         ap (λ (vs : List Variable). free.joined (upto (length vs)) (variables_of_all (terms_of st [] after ts).tree))
-        (sym (symbol_variables name (arity_of ts) Relation met ∙ meets_variables (is_element st name) 16 s))
+        (sym (symbol_variables name (arity_of ts) Relation met ∙ meets_variables (is_element st name) UnfitNumeral s))
         ∙ terms_noted ts after k
 
     equation_noted : (t u : RawTree) (s : Reading) → Keeps (equation st [] t u s).reading →
@@ -324,10 +326,10 @@ module _ (st : Style) where
     Again c t s = (formula_in st [] (ren s) (clause_raw T canon c) ≡ made_again (formula_in st [] s t)) × (free.joined (so_far s) (clause_variables c) ≡ so_far (formula_in st [] s t).reading)
 
     by_relation : (name : List ℕ) (ts : RawTrees) (s : Reading) (c : ClauseTree) → formula_in st [] s (named name ts) ≡ relation_of st [] name ts s →
-        ((us : RawTrees) → us ≡ terms_raw T canon (terms_of st [] (with_symbol name (arity_of ts) Relation (meets (is_element st name) 16 s)) ts).tree → formula_in st [] (ren s) (named name us) ≡ relation_of st [] name us (ren s)) →
+        ((us : RawTrees) → us ≡ terms_raw T canon (terms_of st [] (with_symbol name (arity_of ts) Relation (meets (is_element st name) UnfitNumeral s)) ts).tree → formula_in st [] (ren s) (named name us) ≡ relation_of st [] name us (ren s)) →
         literals_in (formula_in st [] s (named name ts)).tree ≡ Some c → Keeps (formula_in st [] s (named name ts)).reading → Again c (named name ts) s
     by_relation name ts s c r r' h k =
-        let after = with_symbol name (arity_of ts) Relation (meets (is_element st name) 16 s) in
+        let after = with_symbol name (arity_of ts) Relation (meets (is_element st name) UnfitNumeral s) in
         let args = terms_of st [] after ts in
         let n = symbol_number name (arity_of ts) after in
         let xs = terms_raw T canon args.tree in
@@ -444,7 +446,7 @@ module _ (st : Style) where
         (denial_read st [] (ren s) (term_raw T canon p.atom_is) ∙ ap (under negation) one.0 ∙ sym (ap made_again d), one.1 ∙ ap (λ (m : Made Fol). so_far m.reading) (sym d)))
     one_ren false name t s c e ih h k =
         let d : (z : Reading) (x : RawTree) → formula_in st [] z (named name (more_raws x no_raws)) ≡ relation_of st [] name (more_raws x no_raws) z = λ z x. cond-false (is_denial name) _ _ e in
-        by_relation name (more_raws t no_raws) s c (d s t) (λ us f. subst (λ (xs : RawTrees). formula_in st [] (ren s) (named name xs) ≡ relation_of st [] name xs (ren s)) (sym f) (d (ren s) (term_raw T canon (term_of st [] (with_symbol name (arity_of (more_raws t no_raws)) Relation (meets (is_element st name) 16 s)) t).tree))) h k
+        by_relation name (more_raws t no_raws) s c (d s t) (λ us f. subst (λ (xs : RawTrees). formula_in st [] (ren s) (named name xs) ≡ relation_of st [] name xs (ren s)) (sym f) (d (ren s) (term_raw T canon (term_of st [] (with_symbol name (arity_of (more_raws t no_raws)) Relation (meets (is_element st name) UnfitNumeral s)) t).tree))) h k
 
     comparison_ren : (name : List ℕ) (t u : RawTree) (s : Reading) (c : ClauseTree) → connective_of name ≡ None →
         literals_in (formula_in st [] s (two name t u)).tree ≡ Some c → Keeps (formula_in st [] s (two name t u)).reading → Again c (two name t u) s
@@ -467,7 +469,7 @@ module _ (st : Style) where
                 let e : literal false a ∷ [] ≡ c = cc in
                 let kept = subst (λ (m : Made Fol). Keeps m.reading) d k in
                 subst (λ (x : ClauseTree). Again x (two name t u) s) e (ap (under negation) (equation_ren t u s kept) ∙ sym (ap made_again d), equation_noted t u s kept ∙ ap (λ (m : Made Fol). so_far m.reading) (sym d)))
-            | inr m ↦ by_relation name (more_raws t (more_raws u no_raws)) s c (plain n m s t u) (λ us f. subst (λ (xs : RawTrees). formula_in st [] (ren s) (named name xs) ≡ relation_of st [] name xs (ren s)) (sym f) (plain n m (ren s) (term_raw T canon (term_of st [] (with_symbol name (arity_of (more_raws t (more_raws u no_raws))) Relation (meets (is_element st name) 16 s)) t).tree) (term_raw T canon (term_of st [] (term_of st [] (with_symbol name (arity_of (more_raws t (more_raws u no_raws))) Relation (meets (is_element st name) 16 s)) t).reading u).tree))) h k
+            | inr m ↦ by_relation name (more_raws t (more_raws u no_raws)) s c (plain n m s t u) (λ us f. subst (λ (xs : RawTrees). formula_in st [] (ren s) (named name xs) ≡ relation_of st [] name xs (ren s)) (sym f) (plain n m (ren s) (term_raw T canon (term_of st [] (with_symbol name (arity_of (more_raws t (more_raws u no_raws))) Relation (meets (is_element st name) UnfitNumeral s)) t).tree) (term_raw T canon (term_of st [] (term_of st [] (with_symbol name (arity_of (more_raws t (more_raws u no_raws))) Relation (meets (is_element st name) UnfitNumeral s)) t).reading u).tree))) h k
           ]
         ]
       where

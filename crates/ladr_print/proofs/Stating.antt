@@ -13,11 +13,12 @@ use Rattle.ladr_lex.specs.Lexeme.{special}
 use Rattle.ladr_lex.specs.Operators.{OperatorRow, operator_of, are_lawful, is_fixed, standard_rows}
 use Rattle.ladr_lex.specs.declared.operators.Operator.{Operator}
 use Rattle.ladr_lex.specs.declared.operators.OperatorKind.TheVariants.{Infix, InfixRight, Prefix}
+use Rattle.ladr_lex.specs.declared.misuse.Misuse.{Misuse}
 use Rattle.ladr_reader.specs.Formulas.{Variable, Reading, Made, unread, names_of, is_sound, is_denial, connective_of, formula_reading, IsReadAs}
 use Rattle.ladr_reader.specs.Table.{table_of}
 use Rattle.ladr_reader.specs.declared.connectives.Connective.{Connective}
 use Rattle.ladr_reader.specs.declared.connectives.Connective.TheVariants.{And, Or, IfThen, ThenIf, IfAndOnlyIf}
-use Rattle.ladr_reader.specs.declared.styles.FormulaError.TheVariants.{Row}
+use Rattle.ladr_reader.specs.declared.styles.FormulaError.TheVariants.{Misused}
 use Rattle.ladr_reader.specs.declared.styles.Style.{Style}
 use Rattle.ladr_print.specs.FormulaText.{two, denial, formula_raw, attributed}
 use Rattle.ladr_print.specs.Precedences.{is_infix, precedence}
@@ -100,7 +101,7 @@ module _ (rows : List OperatorRow) (b : Brings rows) where
   attributed_printable (Some l) t u f p = (p.0, (f p.1.0, p.1.1))
 
 -- a sound reading
-no_row : (o : Option ℕ) → is_none (option_map Row o) ≡ true → o ≡ None
+no_row : (o : Option Misuse) → is_none (option_map Misused o) ≡ true → o ≡ None
 no_row None h = refl
 no_row (Some n) h = cc
 

@@ -6,7 +6,7 @@ ghost use Rattle.fol_core.specs.SymbolTable.{Symbol, KeepsNumbers};
 ghost use Rattle.fol_core.specs.Tree.{Tree};
 ghost use Rattle.ladr_print.specs.ReadsAgain.{IsAmong, behind, ReadsFormula, ReadsClause, ReadsTerm};
 ghost use Rattle.ladr_reader.specs.Formulas.{Made, names_of};
-ghost use Rattle.ladr_lex.specs.Operators.{OperatorRow, are_lawful, standard_rows, breaks_row_6, declared};
+ghost use Rattle.ladr_lex.specs.Operators.{OperatorRow, are_lawful, standard_rows, is_unfit_symbol, declared};
 ghost use Rattle.ladr_print.specs.FormulaText.{attributed, formula_raw};
 ghost use Rattle.fol_core.specs.Literals.{ClauseTree};
 ghost use Rattle.fol_core.specs.Renumbered.{renumbered};
@@ -86,7 +86,8 @@ pub fn printed_states_again()
         (attributed label (formula_raw after (name_in names) f))) label f names after }
     ensures start { KeepsFixed standard_rows }
     ensures declared { (rows : List OperatorRow) (p : ℕ) (type symbol : List ℕ)
-        → breaks_row_6 symbol ≡ false → KeepsFixed rows → KeepsFixed (declared p type symbol rows) }
+        → is_unfit_symbol symbol ≡ false → KeepsFixed rows
+        → KeepsFixed (declared p type symbol rows) }
 {}
 
 /// Where any text states a clause, the printed one does too.

@@ -1,6 +1,7 @@
 -- Items taken one behind the other say what the file says.
 use Rattle.std.proofs.Common.{◌≡◌, ℕ, false, List, ◌∷◌, Option, Some, None, refl, sym, subst}
 use Rattle.std.specs.Prelude.{is_some}
+use Rattle.ladr_lex.specs.declared.misuse.Misuse as misuses
 use Rattle.ladr_problem.proofs.CutLemmas.{lexemes_pieces}
 use Rattle.ladr_problem.specs.Items.{lexemes}
 use Rattle.ladr_lex.specs.Cuts.{Piece, pieces_of}
@@ -42,7 +43,7 @@ module _ (m : Mode) (end : ℕ) (s : Sofar) (ts : List Token) (items : List (Lis
   stops refusal.Nesting h = breaks h.0 refusal.Nesting h.1 h.2
   stops refusal.Symbols h = breaks h.0 refusal.Symbols h.1 h.2
   stops refusal.Arity h = breaks h.0 refusal.Arity h.1 h.2
-  stops (refusal.Row k) h = breaks h.0 (refusal.Row k) h.1 h.2
+  stops (refusal.Misused k) h = breaks h.0 (refusal.Misused k) h.1 h.2
   stops refusal.Memory h = tt
 
   pub refused_stops : (why : Refusal) → IsRefused m (start_at end (pieces_of ts) 0) s (lexemes_of ts) why → IsStop (File m end s (pieces_of ts ∷ items)) (by_refusal end (pieces_of ts) why)
@@ -53,7 +54,7 @@ unreadable_stays Prover end byte = refl
 unreadable_stays Mace end byte = refl
 unreadable_stays Tester end byte = refl
 
-misused_stays : (m : Mode) (end byte row : ℕ) → finished m end (misused byte row) ≡ misused byte row
+misused_stays : (m : Mode) (end byte : ℕ) (row : misuses.Misuse) → finished m end (misused byte row) ≡ misused byte row
 misused_stays Prover end byte row = refl
 misused_stays Mace end byte row = refl
 misused_stays Tester end byte row = refl

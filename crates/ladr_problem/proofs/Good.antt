@@ -14,6 +14,8 @@ use Rattle.fol_core.specs.SymbolTable.{Symbol}
 use Rattle.fol_core.specs.declared.problem.Input.{Input}
 use Rattle.fol_core.specs.declared.problem.Role.{Role}
 use Rattle.fol_core.specs.declared.problem.Role.TheVariants.{Assumption, Usable, Demodulator, Goal}
+use Rattle.ladr_lex.specs.declared.misuse.Misuse.{Misuse}
+use Rattle.ladr_lex.specs.declared.misuse.Misuse.TheVariants.{UnfitAttribute, UnfitHint, UnfitDemodulator, UnfitRule, Uncovered}
 use Rattle.ladr_commands.specs.ByName.{ByName}
 use Rattle.ladr_commands.specs.declared.command.Command.{Command}
 use Rattle.ladr_problem.specs.Items.{lexemes}
@@ -22,18 +24,18 @@ use Rattle.ladr_lex.specs.Cuts.{Piece}
 use Rattle.ladr_lex.specs.Lexeme.{Lexeme}
 use Rattle.ladr_interpretations.specs.Good as named
 use Rattle.ladr_options.specs.Ranges.{AreInRange}
-use Rattle.ladr_problem.specs.Adding.{Item, command, within, after_item, after_term, after_formula, after_list, after_rule, after_kbo, added_kbo, unshaped, formula_made, style_in, with_settings, with_listed, with_formula, least_row, met, is_hints, is_demodulators}
+use Rattle.ladr_problem.specs.Adding.{Item, command, within, after_item, after_term, after_formula, after_list, after_rule, after_kbo, added_kbo, unshaped, formula_made, style_in, with_settings, with_listed, with_formula, least_misuse, met, is_hints, is_demodulators}
 use Rattle.ladr_problem.specs.File.{Outcome, problem, unreadable, misused, too_large, File, ends, open_list, open_block, bad, breaks, goes_on, covered, finished, first_lacking, start_at, refused_at}
 use Rattle.ladr_problem.specs.Sofar.{Sofar, Listed, said_in, input_of, nothing_read}
 use Rattle.ladr_problem.specs.declared.refusal.Refusal.{Refusal}
-use Rattle.ladr_problem.specs.declared.refusal.Refusal.TheVariants.{Bad, Nesting, Symbols, Arity, Row, Memory}
+use Rattle.ladr_problem.specs.declared.refusal.Refusal.TheVariants.{Bad, Nesting, Symbols, Arity, Misused, Memory}
 use Rattle.ladr_reader.proofs.OwnFormulas.{binds_once, symbols_below, table_grows}
 use Rattle.ladr_reader.proofs.OwnTerms.{terms_good}
 use Rattle.ladr_reader.specs.Formulas.{unread}
 use Rattle.ladr_reader.specs.Nesting.{nesting}
 use Rattle.ladr_reader.specs.declared.styles.Mode.{Mode}
 use Rattle.ladr_reader.specs.declared.styles.Mode.TheVariants.{Prover, Mace, Tester}
-use Rattle.ladr_rules.specs.Attributes.{attributed, breaks_row_12, hint_weight_of}
+use Rattle.ladr_rules.specs.Attributes.{attributed, has_unfit_weight, hint_weight_of}
 use Rattle.fol_core.specs.KboRows.{is_weighed}
 use Rattle.ladr_rules.specs.Rules.{Sides, rule_made, shaped_sides, kbo_rule}
 use Rattle.ladr_rules.specs.Shapes.{is_hint, is_demodulator}
@@ -59,8 +61,8 @@ by_option : {A : Type 0} (f : A → Result Sofar Refusal) (o : Option A) (x : Re
 by_option f (Some a) x h k = h a refl
 by_option f None x h k = k refl
 
--- where a row was met there is a least one
-unmet : (test : Bool) (row : ℕ) (least : Option ℕ) → met test row least ≡ None → least ≡ None
+-- where a misuse was met there is one of the least row
+unmet : (test : Bool) (row : Misuse) (least : Option Misuse) → met test row least ≡ None → least ≡ None
 unmet true row least h = cc
 unmet false row least h = h
 
@@ -91,9 +93,9 @@ module _ (m : Mode) (byte : ℕ) (s : Sofar) (good : IsGood s) where
       (by_test made.reading.large _ _ tt
       (by_test (not (is_meant m s.settings)) _ _ good
       (by_option (λ l. after_list l byte s t made) list (Ok s)
-      (λ l e. by_option (λ k. Err (Row k)) (least_row l (breaks_row_12 a.attributes) made.tree made.reading.least) (Ok (with_formula l byte t made s)) (λ k d. tt)
+      (λ l e. by_option (λ k. Err (Misused k)) (least_misuse l (has_unfit_weight a.attributes) made.tree made.reading.least) (Ok (with_formula l byte t made s)) (λ k d. tt)
       (λ none. listed_good l made.reading.symbols _ (hint_weight_of a.attributes) (table_grows (style_in m s) s.symbols a.formula)
-      (binds_once (style_in m s) s.symbols a.formula (unmet (breaks_row_12 a.attributes) 12 _ (unmet (is_demodulators l && not (is_demodulator made.tree)) 14 _ (unmet (is_hints l && not (is_hint made.tree)) 13 _ none)))) (symbols_below (style_in m s) s.symbols a.formula)))
+      (binds_once (style_in m s) s.symbols a.formula (unmet (has_unfit_weight a.attributes) UnfitAttribute _ (unmet (is_demodulators l && not (is_demodulator made.tree)) UnfitDemodulator _ (unmet (is_hints l && not (is_hint made.tree)) UnfitHint _ none)))) (symbols_below (style_in m s) s.symbols a.formula)))
       (λ e. good))))
 
   unshaped_good : IfOk (unshaped m s) IsGood
@@ -106,13 +108,13 @@ module _ (m : Mode) (byte : ℕ) (s : Sofar) (good : IsGood s) where
       by_test (nat_lt 65535 (length made.reading.symbols)) _ _ tt
       (by_test made.reading.large _ _ tt
       (by_test (not (is_meant m s.settings)) _ _ good
-      (by_option (λ k. Err (Row k)) made.reading.least _ (λ k e. tt)
+      (by_option (λ k. Err (Misused k)) made.reading.least _ (λ k e. tt)
       (λ e. record { well_formed = grown made.reading.symbols (terms_good (style_in m s) [] (unread s.symbols) r.parts).grows.table; ranged = good.ranged }))))
 
   kbo_good : (t : RawTree) → IfOk (after_kbo m s t) IsGood
   kbo_good t =
       by_test (is_meant m s.settings) _ _
-      (by_option (added_kbo s) (kbo_rule t) (Err (Row 15))
+      (by_option (added_kbo s) (kbo_rule t) (Err (Misused UnfitRule))
       (λ r e. by_test (is_weighed r.0 s.kbo_weights) _ _ tt (record { well_formed = good.well_formed; ranged = good.ranged })) (λ e. tt))
       good
 
@@ -123,7 +125,7 @@ module _ (m : Mode) (byte : ℕ) (s : Sofar) (good : IsGood s) where
   term_is_good OtherFormulas t = formula_good None t
   term_is_good (Formulas list) t = formula_good (Some list) t
 
-  settings_good : (c : Command) (r : Result Settings ℕ) → after m c s.settings ≡ r → IfOk (with_settings s r) IsGood
+  settings_good : (c : Command) (r : Result Settings Misuse) → after m c s.settings ≡ r → IfOk (with_settings s r) IsGood
   settings_good c (Ok t) e = record { well_formed = good.well_formed; ranged = after_in_range m c s.settings t e good.ranged }
   settings_good c (Err k) e = tt
 
@@ -143,7 +145,7 @@ refused_good byte (Bad k) = tt
 refused_good byte Nesting = tt
 refused_good byte Symbols = tt
 refused_good byte Arity = tt
-refused_good byte (Row k) = tt
+refused_good byte (Misused k) = tt
 refused_good byte Memory = tt
 
 file_is_good : (m : Mode) (end : ℕ) (s : Sofar) (items : List (List Piece)) (o : Outcome) → IsGood s → File m end s items o → IfProblem o
@@ -176,15 +178,15 @@ problem_before Tester end (misused byte row) s h = h
 problem_before Tester end (too_large byte what) s h = h
 problem_before Tester end (problem t) s h = by_interpretation t.settings.interpretation h
   where
-    refuses : (byte row : ℕ) → misused byte row ≡ problem s → problem t ≡ problem s
+    refuses : (byte : ℕ) (row : Misuse) → misused byte row ≡ problem s → problem t ≡ problem s
     refuses byte row e = let d : false ≡ true = ap is_problem e in cc
 
-    by_formula : (o : Option ℕ) → option_map_or (λ byte. misused byte 18) o (problem t) ≡ problem s → problem t ≡ problem s
+    by_formula : (o : Option ℕ) → option_map_or (λ byte. misused byte Uncovered) o (problem t) ≡ problem s → problem t ≡ problem s
     by_formula None e = e
-    by_formula (Some byte) e = refuses byte 18 e
+    by_formula (Some byte) e = refuses byte Uncovered e
 
-    by_interpretation : (i : Option ByName) → option_map_or (covered t) i (misused end 18) ≡ problem s → problem t ≡ problem s
-    by_interpretation None e = refuses end 18 e
+    by_interpretation : (i : Option ByName) → option_map_or (covered t) i (misused end Uncovered) ≡ problem s → problem t ≡ problem s
+    by_interpretation None e = refuses end Uncovered e
     by_interpretation (Some it) e = by_formula (first_lacking (named.tables_for it t.symbols) t.formulas) e
 
 -- the formulas of the code are those that were read
@@ -211,5 +213,5 @@ has_interpretation end (problem t) s h = by_interpretation t.settings.interpreta
     by_interpretation : (i : Option ByName) → t.settings.interpretation ≡ i → IsTrue (is_some s.settings.interpretation)
     by_interpretation (Some it) e = ap is_some (sym (ap of same) ∙ e)
     by_interpretation None e =
-        let refused : misused end 18 ≡ problem s = subst (λ (i : Option ByName). option_map_or (covered t) i (misused end 18) ≡ problem s) e h in
+        let refused : misused end Uncovered ≡ problem s = subst (λ (i : Option ByName). option_map_or (covered t) i (misused end Uncovered) ≡ problem s) e h in
         let d : false ≡ true = ap is_problem refused in cc

@@ -1,5 +1,6 @@
 -- What the items of a file say is what the file says.
 use Rattle.std.proofs.Common.{ℕ, ◌≤◌, List, length, sym, subst}
+use Rattle.ladr_lex.specs.declared.misuse.Misuse as misuses
 use Rattle.ladr_problem.specs.Items.{items_of}
 use Rattle.ladr_lex.specs.Cuts.{Piece, Cuts}
 use Rattle.ladr_problem.specs.File.{Outcome, unreadable, misused, Says, items, most_bytes}
@@ -25,7 +26,7 @@ module _ (m : Mode) (bytes : List ℕ) where
   placed_error (Unreadable byte) (refusal.TooLarge b w) says h = absurd h
   placed_error (Unreadable byte) refusal.Memory says h = tt
   placed_error (Misuse byte row) (refusal.Unreadable p) says h = absurd h
-  placed_error (Misuse byte row) (refusal.Misuse p r) says h = (subst (λ (k : ℕ). Says m bytes (misused p.byte k)) (sym h.1) (subst (λ (b : ℕ). Says m bytes (misused b row)) (sym h.0) says), h.2)
+  placed_error (Misuse byte row) (refusal.Misuse p r) says h = (subst (λ (k : misuses.Misuse). Says m bytes (misused p.byte k)) (sym h.1) (subst (λ (b : ℕ). Says m bytes (misused b row)) (sym h.0) says), h.2)
   placed_error (Misuse byte row) (refusal.TooLarge b w) says h = absurd h
   placed_error (Misuse byte row) refusal.Memory says h = tt
   placed_error (TooLarge byte what) (refusal.Unreadable p) says h = absurd h

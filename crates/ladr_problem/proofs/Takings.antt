@@ -8,15 +8,16 @@ use Rattle.fol_core.specs.RawTree.{RawTree}
 use Rattle.fol_core.specs.RawView.{raw_of}
 use Rattle.fol_core.specs.SymbolTable.{Symbol, KeepsNumbers}
 use Rattle.fol_core.specs.Weights.{Rule}
+use Rattle.ladr_lex.specs.declared.misuse.Misuse.{Misuse}
 use Rattle.ladr_commands.specs.declared.command.Command.{Command}
 use Rattle.ladr_problem.specs.ListItem.{term, IsListItem, IsItemFault}
 use Rattle.ladr_lex.specs.Lexeme.{Lexeme}
-use Rattle.ladr_problem.specs.Adding.{command, within, IsRead, IsRefused, after_item, after_term, after_formula, after_rule, after_weight, unshaped, formula_made, style_in, with_settings, with_listed, least_row}
+use Rattle.ladr_problem.specs.Adding.{command, within, IsRead, IsRefused, after_item, after_term, after_formula, after_rule, after_weight, unshaped, formula_made, style_in, with_settings, with_listed, least_misuse}
 use Rattle.ladr_problem.specs.Reading.{IsNo, IsTaken, after_read, after_rule_read}
 use Rattle.ladr_problem.specs.Refusals.{by_misuse, by_term}
 use Rattle.ladr_problem.specs.Sofar.{Sofar}
 use Rattle.ladr_problem.specs.declared.refusal.Refusal.{Refusal}
-use Rattle.ladr_problem.specs.declared.refusal.Refusal.TheVariants.{Bad, Nesting, Symbols, Arity, Row, Memory}
+use Rattle.ladr_problem.specs.declared.refusal.Refusal.TheVariants.{Bad, Nesting, Symbols, Arity, Misused, Memory}
 use Rattle.ladr_reader.specs.Formulas.{Made, formula_reading}
 use Rattle.ladr_reader.specs.Nesting.{nesting}
 use Rattle.ladr_reader.specs.Table.{table_of}
@@ -25,7 +26,7 @@ use Rattle.ladr_reader.specs.declared.fault.TermFault.{TermFault}
 use Rattle.ladr_reader.specs.declared.fault.TermFault.TheVariants as term_fault
 use Rattle.ladr_reader.specs.declared.formulas.FormulaRead.{FormulaRead}
 use Rattle.ladr_reader.specs.declared.styles.Mode.{Mode}
-use Rattle.ladr_rules.specs.Attributes.{attributed, breaks_row_12, label_of, hint_weight_of}
+use Rattle.ladr_rules.specs.Attributes.{attributed, has_unfit_weight, label_of, hint_weight_of}
 use Rattle.ladr_rules.specs.RuleSeen.{IsRuleIn}
 use Rattle.ladr_rules.specs.Rules.{rule_in}
 use Rattle.ladr_rules.specs.declared.attributes.Stated.{Stated}
@@ -33,8 +34,8 @@ use Rattle.ladr_rules.specs.declared.rules.RuleRead.{RuleRead}
 use Rattle.ladr_settings.specs.Settings.{after, is_meant}
 use Rattle.ladr_settings.specs.declared.lists.FormulaList.{FormulaList}
 use Rattle.ladr_settings.specs.declared.lists.OpenList.{OpenList}
-use Rattle.ladr_settings.specs.declared.settings.Misuse.{Misuse}
-use Rattle.ladr_settings.specs.declared.settings.Misuse.TheVariants as misuse
+use Rattle.ladr_settings.specs.declared.settings.SettingsError.{SettingsError}
+use Rattle.ladr_settings.specs.declared.settings.SettingsError.TheVariants as misuse
 
 -- a table that kept its numbers begins with the old one
 pub take_kept : (old new : List Symbol) → KeepsNumbers old new → take (length old) new ≡ old
@@ -47,8 +48,8 @@ take_kept (x ∷ xs) (y ∷ ys) h = ap₂ (λ z zs. z ∷ zs) (ap (λ o. unwrap_
 
 module _ (m : Mode) (byte : ℕ) (s : Sofar) where
   -- a command that is misused
-  pub misused : (ts : List Lexeme) (c : Command) → IsRead m s ts (command c) → (why : Misuse) → ((k : ℕ) → why ≡ misuse.Row k → after m c s.settings ≡ Err k) → IsRefused m byte s ts (by_misuse why)
-  misused ts c read (misuse.Row k) h = (command c, read, ap (with_settings s) (h k refl))
+  pub misused : (ts : List Lexeme) (c : Command) → IsRead m s ts (command c) → (why : SettingsError) → ((k : Misuse) → why ≡ misuse.Misused k → after m c s.settings ≡ Err k) → IsRefused m byte s ts (by_misuse why)
+  misused ts c read (misuse.Misused k) h = (command c, read, ap (with_settings s) (h k refl))
   misused ts c read misuse.Memory h = tt
 
   module _ (l : OpenList) (opened : s.settings.list ≡ Some l) where
@@ -68,7 +69,7 @@ module _ (m : Mode) (byte : ℕ) (s : Sofar) where
     term_refused ts t read shallow Nesting refuses = absurd refuses
     term_refused ts t read shallow Symbols refuses = (within (term t), (ap is_some opened, read), shallow_term ts t shallow ∙ refuses)
     term_refused ts t read shallow Arity refuses = (within (term t), (ap is_some opened, read), shallow_term ts t shallow ∙ refuses)
-    term_refused ts t read shallow (Row k) refuses = (within (term t), (ap is_some opened, read), shallow_term ts t shallow ∙ refuses)
+    term_refused ts t read shallow (Misused k) refuses = (within (term t), (ap is_some opened, read), shallow_term ts t shallow ∙ refuses)
     term_refused ts t read shallow Memory refuses = tt
 
     pub item_refused : (ts : List Lexeme) (fault : TermFault) → IsItemFault (table_of s.settings.operators) ts fault → IsRefused m byte s ts (by_term fault)
@@ -79,7 +80,7 @@ module _ (m : Mode) (byte : ℕ) (s : Sofar) where
   -- a formula as the code has read it is the one of the item
   pub same_formula : (list : Option FormulaList) (t : RawTree) (a : Stated) (r : FormulaRead) (table : List Symbol)
       → raw_of a.formula ≡ (attributed t).formula → option_map raw_of a.label ≡ label_of (attributed t).attributes
-      → a.misused ≡ breaks_row_12 (attributed t).attributes → a.hint_weight ≡ hint_weight_of (attributed t).attributes
+      → a.misused ≡ has_unfit_weight (attributed t).attributes → a.hint_weight ≡ hint_weight_of (attributed t).attributes
       → IsWhole (formula_reading (style_in m s) s.symbols (raw_of a.formula)) r table → KeepsNumbers s.symbols table
       → after_read m list byte (length s.symbols) (record s { symbols = table }) a r ≡ after_formula m list byte s t
   same_formula list t a r table formula label misused weight whole kept =
@@ -89,7 +90,7 @@ module _ (m : Mode) (byte : ℕ) (s : Sofar) where
       if nat_lt 65535 (length (w.symbols i)) then Err Symbols
       else (if w.large i then Err Arity
       else (if not (is_meant m s.settings) then Ok (record s { symbols = old i })
-      else option_map_or (λ l. option_map_or (λ k. Err (Row k)) (least_row l (misused i) (w.formula i) (w.least i))
+      else option_map_or (λ l. option_map_or (λ k. Err (Misused k)) (least_misuse l (misused i) (w.formula i) (w.least i))
       (Ok (with_listed l (record { formula = w.formula i; names = w.named i; label = label i; byte = byte }) (weight i) (record s { symbols = w.symbols i }))))
       list (Ok (record s { symbols = old i }))))
 
@@ -103,7 +104,7 @@ module _ (m : Mode) (byte : ℕ) (s : Sofar) where
       if nat_lt 65535 (length (is.symbols i)) then Err Symbols
       else (if is.large i then Err Arity
       else (if not (is_meant m s.settings) then Ok (record s { symbols = old i })
-      else option_map_or (λ k. Err (Row k)) (is.least i) (Ok (record s { symbols = is.symbols i; weights = s.weights ++ is.rule i ∷ [] })))) in
+      else option_map_or (λ k. Err (Misused k)) (is.least i) (Ok (record s { symbols = is.symbols i; weights = s.weights ++ is.rule i ∷ [] })))) in
       same ∙ ap (λ o. option_map_or (after_rule m s) o (unshaped m s)) (sym e)
 
   pub same_rule : (t : RawTree) (r : RuleRead) (table : List Symbol) → IsRuleIn (rule_in (style_in m s) s.symbols t) (Some r) s.symbols table → KeepsNumbers s.symbols table

@@ -1,5 +1,5 @@
 -- What an item makes of what was read so far.
-use Rattle.std.specs.Prelude.{◌≡◌, ℕ, nat_lt, Bool, true, false, not, ◌&&◌, if◌then◌else◌, List, [], ◌∷◌, ◌++◌, length, min, Option, Some, None, is_some, unwrap_or, IsTrue, MatchOption}
+use Rattle.std.specs.Prelude.{◌≡◌, ℕ, nat_lt, Bool, true, false, not, ◌&&◌, if◌then◌else◌, List, [], ◌∷◌, ◌++◌, length, Option, Some, None, is_some, IsTrue, MatchOption}
 use Rattle.std.specs.Option.{option_map_or}
 use Rattle.std.specs.declared.result.Result.{Result}
 use Rattle.std.specs.declared.result.Result.TheVariants.{Ok, Err}
@@ -7,21 +7,24 @@ use Rattle.fol_core.specs.Fol.{Fol}
 use Rattle.fol_core.specs.KboRows.{is_weighed}
 use Rattle.fol_core.specs.RawTree.{RawTree}
 use Rattle.fol_core.specs.declared.problem.Role.TheVariants.{Assumption, Usable, Demodulator, Goal}
+use Rattle.ladr_lex.specs.declared.misuse.Misuse.{Misuse}
+use Rattle.ladr_lex.specs.declared.misuse.Misuse.TheVariants.{UnfitAttribute, UnfitHint, UnfitDemodulator, UnfitRule}
 use Rattle.ladr_commands.specs.Commands.{commands_of}
 use Rattle.ladr_commands.specs.Faults.{IsCommandFault}
 use Rattle.ladr_commands.specs.Form.{Says}
 use Rattle.ladr_commands.specs.declared.command.Command.{Command}
 use Rattle.ladr_commands.specs.declared.fault.CommandFault.TheVariants as command_fault
 use Rattle.ladr_problem.specs.ListItem.{ListItem, closing, term, IsListItem, IsItemFault}
+use Rattle.ladr_lex.specs.Misuses.{earlier}
 use Rattle.ladr_lex.specs.declared.limits.TheConstants.{MOST_LEVELS, MOST_SYMBOLS}
 use Rattle.ladr_lex.specs.Lexeme.{Lexeme}
-use Rattle.ladr_rules.specs.Attributes.{attributed, breaks_row_12, label_of, hint_weight_of}
+use Rattle.ladr_rules.specs.Attributes.{attributed, has_unfit_weight, label_of, hint_weight_of}
 use Rattle.fol_core.specs.Weights.{Rule}
 use Rattle.ladr_rules.specs.Rules.{rule_in, kbo_rule}
 use Rattle.ladr_rules.specs.Shapes.{is_hint, is_demodulator}
 use Rattle.ladr_problem.specs.Sofar.{Sofar, Listed}
 use Rattle.ladr_problem.specs.declared.refusal.Refusal.{Refusal}
-use Rattle.ladr_problem.specs.declared.refusal.Refusal.TheVariants.{Bad, Nesting, Symbols, Arity, Row, Memory}
+use Rattle.ladr_problem.specs.declared.refusal.Refusal.TheVariants.{Bad, Nesting, Symbols, Arity, Misused, Memory}
 use Rattle.ladr_reader.specs.Formulas.{Made, formula_reading, style_of, names_of}
 use Rattle.ladr_reader.specs.Nesting.{nesting}
 use Rattle.ladr_reader.specs.Table.{table_of}
@@ -78,13 +81,15 @@ is_demodulators Demodulators = true
 is_demodulators Goals = false
 is_demodulators Hints = false
 
--- the least row, where one more is met
-abbrev pub met : Bool → ℕ → Option ℕ → Option ℕ
-met test row least = if test then Some (min row (unwrap_or least row)) else least
+-- the misuse of the least row, where one more is met
+abbrev pub met : Bool → Misuse → Option Misuse → Option Misuse
+met test misuse least = if test then Some (earlier misuse least) else least
 
--- The rows of a formula's attributes and shape are met besides those of the formula: 12, 14 and 13.
-abbrev pub least_row : FormulaList → Bool → Fol → Option ℕ → Option ℕ
-least_row list misused f least = met (is_hints list && not (is_hint f)) 13 (met (is_demodulators list && not (is_demodulator f)) 14 (met misused 12 least))
+-- Misuses of a formula's attributes and shape are met besides those of the formula.
+abbrev pub least_misuse : FormulaList → Bool → Fol → Option Misuse → Option Misuse
+least_misuse list unfit f least =
+    met (is_hints list && not (is_hint f)) UnfitHint
+    (met (is_demodulators list && not (is_demodulator f)) UnfitDemodulator (met unfit UnfitAttribute least))
 
 -- the formula is added to those of its list
 abbrev pub with_listed : FormulaList → Listed → Option ℕ → Sofar → Sofar
@@ -100,11 +105,11 @@ with_formula list byte t made s =
     let l : Listed = record { formula = made.tree; names = names_of made.reading.variables; label = label_of (attributed t).attributes; byte = byte } in
     with_listed list l (hint_weight_of (attributed t).attributes) (record s { symbols = made.reading.symbols })
 
--- the formula breaks a row, or is added
+-- the formula is misused, or added
 abbrev pub after_list : FormulaList → ℕ → Sofar → RawTree → Made Fol → Result Sofar Refusal
-after_list list byte s t made = option_map_or (λ k. Err (Row k)) (least_row list (breaks_row_12 (attributed t).attributes) made.tree made.reading.least) (Ok (with_formula list byte t made s))
+after_list list byte s t made = option_map_or (λ k. Err (Misused k)) (least_misuse list (has_unfit_weight (attributed t).attributes) made.tree made.reading.least) (Ok (with_formula list byte t made s))
 
--- Too many symbols, then too large an arity; rows are looked for in items that are meant alone, and these alone add anything.
+-- Too many symbols, then too large an arity; misuses are looked for in items that are meant alone, and these alone add anything.
 abbrev pub after_formula : Mode → Option FormulaList → ℕ → Sofar → RawTree → Result Sofar Refusal
 after_formula m list byte s t =
     let made = formula_made m s t in
@@ -113,13 +118,13 @@ after_formula m list byte s t =
     else (if not (is_meant m s.settings) then Ok s
     else option_map_or (λ l. after_list l byte s t made) list (Ok s)))
 
-abbrev pub with_settings : Sofar → Result Settings ℕ → Result Sofar Refusal
+abbrev pub with_settings : Sofar → Result Settings Misuse → Result Sofar Refusal
 with_settings s (Ok settings) = Ok (record s { settings = settings })
-with_settings s (Err k) = Err (Row k)
+with_settings s (Err k) = Err (Misused k)
 
--- another shape is row 15
+-- another shape is misuse
 abbrev pub unshaped : Mode → Sofar → Result Sofar Refusal
-unshaped m s = if is_meant m s.settings then Err (Row 15) else Ok s
+unshaped m s = if is_meant m s.settings then Err (Misused UnfitRule) else Ok s
 
 -- a rule of weights, of the right shape: its symbols count, as those of formulas do
 abbrev pub after_rule : Mode → Sofar → Made Rule → Result Sofar Refusal
@@ -127,17 +132,17 @@ after_rule m s made =
     if nat_lt MOST_SYMBOLS (length made.reading.symbols) then Err Symbols
     else (if made.reading.large then Err Arity
     else (if not (is_meant m s.settings) then Ok s
-    else option_map_or (λ k. Err (Row k)) made.reading.least (Ok (record s { symbols = made.reading.symbols; weights = s.weights ++ made.tree ∷ [] }))))
+    else option_map_or (λ k. Err (Misused k)) made.reading.least (Ok (record s { symbols = made.reading.symbols; weights = s.weights ++ made.tree ∷ [] }))))
 
 abbrev pub after_weight : Mode → Sofar → RawTree → Result Sofar Refusal
 after_weight m s t = option_map_or (after_rule m s) (rule_in (style_in m s) s.symbols t) (unshaped m s)
 
 abbrev pub added_kbo : Sofar → List ℕ × ℕ → Result Sofar Refusal
-added_kbo s r = if is_weighed r.0 s.kbo_weights then Err (Row 15) else Ok (record s { kbo_weights = s.kbo_weights ++ r ∷ [] })
+added_kbo s r = if is_weighed r.0 s.kbo_weights then Err (Misused UnfitRule) else Ok (record s { kbo_weights = s.kbo_weights ++ r ∷ [] })
 
 -- a KBO weight enters no symbol, and each name has one
 abbrev pub after_kbo : Mode → Sofar → RawTree → Result Sofar Refusal
-after_kbo m s t = if is_meant m s.settings then option_map_or (added_kbo s) (kbo_rule t) (Err (Row 15)) else Ok s
+after_kbo m s t = if is_meant m s.settings then option_map_or (added_kbo s) (kbo_rule t) (Err (Misused UnfitRule)) else Ok s
 
 -- a term in the list that is open
 abbrev pub after_term : Mode → OpenList → ℕ → Sofar → RawTree → Result Sofar Refusal
@@ -154,11 +159,11 @@ after_item m byte s ts (within closing) = Ok (record s { settings = record s.set
 after_item m byte s ts (within (term t)) =
     if nat_lt MOST_LEVELS (nesting ts t) then Err Nesting else option_map_or (λ l. after_term m l byte s t) s.settings.list (Ok s)
 
--- The item is refused so: it can't be read, or is read and passes a limit or breaks a row. Nothing is said of memory.
+-- The item is refused so: it can't be read, or is read and passes a limit or is misused. Nothing is said of memory.
 abbrev pub IsRefused : Mode → ℕ → Sofar → List Lexeme → Refusal → Type 0
 IsRefused m byte s ts (Bad k) = IsUnreadable m s ts k
 IsRefused m byte s ts Nesting = (i : Item) × IsRead m s ts i × (after_item m byte s ts i ≡ Err Nesting)
 IsRefused m byte s ts Symbols = (i : Item) × IsRead m s ts i × (after_item m byte s ts i ≡ Err Symbols)
 IsRefused m byte s ts Arity = (i : Item) × IsRead m s ts i × (after_item m byte s ts i ≡ Err Arity)
-IsRefused m byte s ts (Row k) = (i : Item) × IsRead m s ts i × (after_item m byte s ts i ≡ Err (Row k))
+IsRefused m byte s ts (Misused k) = (i : Item) × IsRead m s ts i × (after_item m byte s ts i ≡ Err (Misused k))
 IsRefused m byte s ts Memory = Unit {0}

@@ -4,6 +4,8 @@ use Rattle.std.specs.Option.{option_map_or}
 use Rattle.std.specs.List.{slice_get}
 use Rattle.std.specs.declared.result.Result.TheVariants.{Ok, Err}
 use Rattle.fol_core.specs.declared.problem.Role.{Role}
+use Rattle.ladr_lex.specs.declared.misuse.Misuse.{Misuse}
+use Rattle.ladr_lex.specs.declared.misuse.Misuse.TheVariants.{Uncovered}
 use Rattle.ladr_commands.specs.ByName.{ByName}
 use Rattle.ladr_interpretations.specs.Covers.{covers}
 use Rattle.ladr_problem.specs.Items.{items_of, lexemes}
@@ -15,7 +17,7 @@ use Rattle.ladr_problem.specs.Sofar.{Sofar, Listed, nothing_read}
 use Rattle.ladr_problem.specs.declared.refusal.Limit.{Limit}
 use Rattle.ladr_problem.specs.declared.refusal.Limit.TheVariants as limit
 use Rattle.ladr_problem.specs.declared.refusal.Refusal.{Refusal}
-use Rattle.ladr_problem.specs.declared.refusal.Refusal.TheVariants.{Bad, Nesting, Symbols, Arity, Row, Memory}
+use Rattle.ladr_problem.specs.declared.refusal.Refusal.TheVariants.{Bad, Nesting, Symbols, Arity, Misused, Memory}
 use Rattle.ladr_reader.specs.declared.styles.Mode.{Mode}
 use Rattle.model_tables.specs.Tables.{Finite}
 use Rattle.ladr_reader.specs.declared.styles.Mode.TheVariants.{Prover, Mace, Tester}
@@ -25,7 +27,7 @@ use Rattle.ladr_reader.specs.declared.styles.Mode.TheVariants.{Prover, Mace, Tes
 pub data Outcome : Type 0 where
   problem : Sofar → Outcome
   unreadable : ℕ → Outcome
-  misused : ℕ → ℕ → Outcome
+  misused : ℕ → Misuse → Outcome
   too_large : ℕ → Limit → Outcome
 
 -- where token k of an item begins; behind the last one the input ends
@@ -38,7 +40,7 @@ refused_at byte (Bad k) = unreadable byte
 refused_at byte Nesting = too_large byte limit.Nesting
 refused_at byte Symbols = too_large byte limit.Symbols
 refused_at byte Arity = too_large byte limit.Arity
-refused_at byte (Row k) = misused byte k
+refused_at byte (Misused k) = misused byte k
 refused_at byte Memory = unreadable byte
 
 -- The fold of the items of an input that ends at a byte: they are taken up to the first that is refused. A list or a block that is
@@ -66,11 +68,11 @@ first_lacking t (f ∷ fs) = if covers t f.1.formula then first_lacking t fs els
 
 -- a formula that isn't covered is row 18
 abbrev pub covered : Sofar → ByName → Outcome
-covered s it = option_map_or (λ byte. misused byte 18) (first_lacking (tables_for it s.symbols) s.formulas) (problem s)
+covered s it = option_map_or (λ byte. misused byte Uncovered) (first_lacking (tables_for it s.symbols) s.formulas) (problem s)
 
 -- for a program that tests interpretations: no interpretation is row 18 at the end
 abbrev pub tested : ℕ → Outcome → Outcome
-tested end (problem s) = option_map_or (covered s) s.settings.interpretation (misused end 18)
+tested end (problem s) = option_map_or (covered s) s.settings.interpretation (misused end Uncovered)
 tested end (unreadable byte) = unreadable byte
 tested end (misused byte row) = misused byte row
 tested end (too_large byte what) = too_large byte what

@@ -7,10 +7,10 @@ use Rattle.fol_core.specs.FormulaView.{fol_of}
 use Rattle.fol_core.specs.RuleView.{rule_of}
 use Rattle.ladr_lex.specs.declared.limits.TheConstants.{MOST_SYMBOLS}
 use Rattle.ladr_lex.specs.Lexeme.{Lexeme}
-use Rattle.ladr_problem.specs.Adding.{Item, IsRead, after_item, least_row, with_listed}
+use Rattle.ladr_problem.specs.Adding.{Item, IsRead, after_item, least_misuse, with_listed}
 use Rattle.ladr_problem.specs.Sofar.{Sofar, listed_of}
 use Rattle.ladr_problem.specs.declared.refusal.Refusal.{Refusal}
-use Rattle.ladr_problem.specs.declared.refusal.Refusal.TheVariants.{Bad, Nesting, Symbols, Arity, Row, Memory}
+use Rattle.ladr_problem.specs.declared.refusal.Refusal.TheVariants.{Bad, Nesting, Symbols, Arity, Misused, Memory}
 use Rattle.ladr_reader.specs.declared.formulas.FormulaRead.{FormulaRead}
 use Rattle.ladr_reader.specs.declared.styles.Mode.{Mode}
 use Rattle.ladr_rules.specs.declared.attributes.Stated.{Stated}
@@ -24,13 +24,13 @@ IsNo r (Bad k) = ⊥
 IsNo r Nesting = ⊥
 IsNo r Symbols = r ≡ Err Symbols
 IsNo r Arity = r ≡ Err Arity
-IsNo r (Row k) = r ≡ Err (Row k)
+IsNo r (Misused k) = r ≡ Err (Misused k)
 IsNo r Memory = Unit {0}
 
 -- what was read with the formula's symbols, and then the formula
 abbrev pub with_read : FormulaList → ℕ → Sofar → Stated → FormulaRead → Result Sofar Refusal
 with_read list byte s a r =
-    option_map_or (λ k. Err (Row k)) (least_row list a.misused (fol_of r.formula.shape) r.least) (Ok (with_listed list (listed_of r.formula a.label byte) a.hint_weight s))
+    option_map_or (λ k. Err (Misused k)) (least_misuse list a.misused (fol_of r.formula.shape) r.least) (Ok (with_listed list (listed_of r.formula a.label byte) a.hint_weight s))
 
 -- the table has the formula's symbols behind so many
 abbrev pub after_read : Mode → Option FormulaList → ℕ → ℕ → Sofar → Stated → FormulaRead → Result Sofar Refusal
@@ -50,4 +50,4 @@ after_rule_read m before s r =
     if nat_lt MOST_SYMBOLS (length s.symbols) then Err Symbols
     else (if r.large then Err Arity
     else (if not (is_meant m s.settings) then Ok (record s { symbols = take before s.symbols })
-    else option_map_or (λ k. Err (Row k)) r.least (Ok (record s { weights = s.weights ++ rule_of r.rule ∷ [] }))))
+    else option_map_or (λ k. Err (Misused k)) r.least (Ok (record s { weights = s.weights ++ rule_of r.rule ∷ [] }))))

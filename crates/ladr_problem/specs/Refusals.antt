@@ -2,11 +2,11 @@
 use Rattle.ladr_commands.specs.declared.fault.CommandFault.{CommandFault}
 use Rattle.ladr_commands.specs.declared.fault.CommandFault.TheVariants as command_fault
 use Rattle.ladr_problem.specs.declared.refusal.Refusal.{Refusal}
-use Rattle.ladr_problem.specs.declared.refusal.Refusal.TheVariants.{Bad, Nesting, Row, Memory}
+use Rattle.ladr_problem.specs.declared.refusal.Refusal.TheVariants.{Bad, Nesting, Misused, Memory}
 use Rattle.ladr_reader.specs.declared.fault.TermFault.{TermFault}
 use Rattle.ladr_reader.specs.declared.fault.TermFault.TheVariants as term_fault
-use Rattle.ladr_settings.specs.declared.settings.Misuse.{Misuse}
-use Rattle.ladr_settings.specs.declared.settings.Misuse.TheVariants as misuse
+use Rattle.ladr_settings.specs.declared.settings.SettingsError.{SettingsError}
+use Rattle.ladr_settings.specs.declared.settings.SettingsError.TheVariants as misuse
 
 abbrev pub by_command : CommandFault → Refusal
 by_command (command_fault.Bad k) = Bad k
@@ -17,6 +17,6 @@ by_term (term_fault.Bad k) = Bad k
 by_term term_fault.Deep = Nesting
 by_term term_fault.Memory = Memory
 
-abbrev pub by_misuse : Misuse → Refusal
-by_misuse (misuse.Row k) = Row k
+abbrev pub by_misuse : SettingsError → Refusal
+by_misuse (misuse.Misused k) = Misused k
 by_misuse misuse.Memory = Memory

@@ -21,5 +21,5 @@ by_refusal end ts (refusal.Bad k) = Unreadable (start_at end ts k)
 by_refusal end ts refusal.Nesting = TooLarge (start_at end ts 0) limit.Nesting
 by_refusal end ts refusal.Symbols = TooLarge (start_at end ts 0) limit.Symbols
 by_refusal end ts refusal.Arity = TooLarge (start_at end ts 0) limit.Arity
-by_refusal end ts (refusal.Row row) = Misuse (start_at end ts 0) row
+by_refusal end ts (refusal.Misused row) = Misuse (start_at end ts 0) row
 by_refusal end ts refusal.Memory = Memory

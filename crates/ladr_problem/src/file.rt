@@ -34,7 +34,7 @@ fn by_refusal(end: usize, tokens: &[Token], why: Refusal) -> Stop
         Refusal::Nesting => Stop::TooLarge(byte, Limit::Nesting),
         Refusal::Symbols => Stop::TooLarge(byte, Limit::Symbols),
         Refusal::Arity => Stop::TooLarge(byte, Limit::Arity),
-        Refusal::Row(row) => Stop::Misuse(byte, row),
+        Refusal::Misused(misuse) => Stop::Misuse(byte, misuse),
         Refusal::Memory => Stop::Memory,
     }
 }

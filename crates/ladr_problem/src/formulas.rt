@@ -2,14 +2,14 @@
 ghost use Rattle.std.specs.Prelude.{◌≡◌, ◌&&◌, not, OnOk, IfErr, IfOk, Option, None, Some, List, nat_lt, length};
 ghost use Rattle.fol_core.specs.FormulaView.{fol_of};
 ghost use Rattle.fol_core.specs.RawView.{raw_of};
-ghost use Rattle.ladr_problem.specs.Adding.{after_formula, is_hints, is_demodulators, met, least_row};
+ghost use Rattle.ladr_problem.specs.Adding.{after_formula, is_hints, is_demodulators, met, least_misuse};
 ghost use Rattle.ladr_problem.specs.Draft.{sofar_of};
 ghost use Rattle.ladr_problem.specs.Reading.{after_read, with_read, IsNo};
 
 use crate::draft::Draft;
 use crate::refusal::Refusal;
 use fol_core::Raw;
-use ladr_lex::MOST_SYMBOLS;
+use ladr_lex::{MOST_SYMBOLS, Misuse};
 use ladr_reader::{FormulaRead, Mode, read_formula};
 use ladr_rules::{Stated, is_demodulator, is_hint};
 use ladr_settings::FormulaList;
@@ -37,31 +37,35 @@ fn is_demodulators(list: FormulaList) -> bool
     }
 }
 
-// The least row, where one more is met.
-fn meet(test: bool, row: u8, least: Option<u8>) -> Option<u8>
-    ensures { result ≡ met test row least }
+// The misuse of the least row, where one more is met.
+fn meet(test: bool, misuse: Misuse, least: Option<Misuse>) -> Option<Misuse>
+    ensures { result ≡ met test misuse least }
 {
     if test {
-        Some(row.min(least.unwrap_or(row)))
+        Some(misuse.earlier(least))
     } else {
         least
     }
 }
 
-// The least row that a formula breaks in its list.
-fn least_row(
+// How a formula is misused in its list, by the least row.
+fn least_misuse(
     alloc: Global,
     list: FormulaList,
     misused: bool,
     read: &FormulaRead,
-) -> Result<Option<u8>, AllocError>
-    ensures { IfOk result (λ row. row ≡ least_row list misused
+) -> Result<Option<Misuse>, AllocError>
+    ensures { IfOk result (λ row. row ≡ least_misuse list misused
         (fol_of read.now.formula.shape) read.now.least) }
 {
-    let least = meet(misused, 12, read.least);
+    let least = meet(misused, Misuse::UnfitAttribute, read.least);
     let is_lost = is_demodulators(list) && !is_demodulator(alloc, &read.formula)?;
-    let least = meet(is_lost, 14, least);
-    Ok(meet(is_hints(list) && !is_hint(&read.formula), 13, least))
+    let least = meet(is_lost, Misuse::UnfitDemodulator, least);
+    Ok(meet(
+        is_hints(list) && !is_hint(&read.formula),
+        Misuse::UnfitHint,
+        least,
+    ))
 }
 
 impl Draft {
@@ -133,8 +137,8 @@ impl Draft {
         ensures refused { IfErr result (IsNo (with_read list byte
             (sofar_of self.old) stated read)) }
     {
-        match least_row(alloc, list, stated.misused, &read)? {
-            Some(row) => Err(Refusal::Row(row)),
+        match least_misuse(alloc, list, stated.misused, &read)? {
+            Some(misuse) => Err(Refusal::Misused(misuse)),
             None => {
                 self.add(list, read.formula, stated.label, stated.hint_weight, byte)?;
                 Ok(())

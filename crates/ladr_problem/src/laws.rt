@@ -1,5 +1,6 @@
 // What the definition of a file amounts to, and files worked out.
 ghost use Rattle.std.specs.Prelude.{◌≡◌, ℕ, List, [], codes};
+ghost use Rattle.ladr_lex.specs.declared.misuse.Misuse.TheVariants.{UnknownFlag, TwoKinds, UnfitHint, UnfitDemodulator, UnfitRule, Uncovered};
 ghost use Rattle.ladr_problem.specs.File.{Outcome, Says, problem, unreadable, misused};
 ghost use Rattle.ladr_problem.specs.Sofar.{nothing_read};
 ghost use Rattle.ladr_problem.specs.Worked.{labelled_and_goal, one_equation, weighed};
@@ -16,12 +17,12 @@ pub fn one_outcome()
 pub fn worked()
     ensures nothing { Says Prover [] (problem nothing_read) }
     // A program that tests interpretations is to have one.
-    ensures untested { Says Tester [] (misused 0 18) }
-    ensures unknown_flag { Says Prover (codes "% a\nset(b).\n") (misused 4 1) }
+    ensures untested { Says Tester [] (misused 0 Uncovered) }
+    ensures unknown_flag { Says Prover (codes "% a\nset(b).\n") (misused 4 UnknownFlag) }
     ensures for_another { Says Mace (codes "if(Prover9).\nset(b).\nend_if.\n")
         (problem nothing_read) }
     ensures not_for_another { Says Prover (codes "if(Prover9).\nset(b).\nend_if.\n")
-        (misused 13 1) }
+        (misused 13 UnknownFlag) }
     ensures open_list { Says Mace (codes "formulas(goals).\n") (unreadable 17) }
 {}
 
@@ -31,22 +32,23 @@ pub fn worked_formulas()
     ensures listed { Says Prover (codes "formulas(assumptions).\np(a) # label(b).\nend_of_list.\nformulas(goals).\nq(x).\nend_of_list.\n") (problem labelled_and_goal) }
     // f stands for a relation, and then for a function.
     ensures clash { Says Prover (codes "formulas(sos).\nf(a).\nf(a) = b.\nend_of_list.\n")
-        (misused 21 9) }
+        (misused 21 TwoKinds) }
     // A formula for another program enters no symbol.
     ensures for_another { Says Prover (codes
         "if(Mace4).\nformulas(sos).\nf(a).\nend_of_list.\nend_if.\nformulas(sos).\nf(a) = b.\nend_of_list.\n") (problem one_equation) }
     // p & q is no clause, and x = f(x) no demodulator.
     ensures hint { Says Prover (codes "formulas(hints).\np | -q.\np & q.\nend_of_list.\n")
-        (misused 25 13) }
+        (misused 25 UnfitHint) }
     ensures demodulator { Says Prover (codes
-        "formulas(demodulators).\nf(x) = x.\nx = f(x).\nend_of_list.\n") (misused 34 14) }
+        "formulas(demodulators).\nf(x) = x.\nx = f(x).\nend_of_list.\n")
+        (misused 34 UnfitDemodulator) }
     // Each name has one weight for KBO.
     ensures weights { Says Prover (codes "list(kbo_weights).\nf = 2.\ng = 3.\nend_of_list.\n")
         (problem weighed) }
     ensures weighed_twice { Says Prover (codes "list(kbo_weights).\nf = 2.\nf = 3.\nend_of_list.\n")
-        (misused 26 15) }
+        (misused 26 UnfitRule) }
     // The interpretation lacks p.
-    ensures lacking { Says Tester (codes "interpretation(2,[],[]).\nformulas(sos).\np.\nend_of_list.\n") (misused 40 18) }
+    ensures lacking { Says Tester (codes "interpretation(2,[],[]).\nformulas(sos).\np.\nend_of_list.\n") (misused 40 Uncovered) }
     // q can't stand behind p(a).
     ensures not_read { Says Mace (codes "formulas(sos).\np(a) q.\nend_of_list.\n") (unreadable 20) }
 {}

@@ -20,7 +20,7 @@ use crate::refusal::{Limit, Place, ReadError};
 use crate::stop::Stop;
 use fol_core::{Input, Name, Problem};
 use ladr_interpretations::{Named, bind, covers};
-use ladr_lex::{Lex, Ops, Token, TokenKind, place_of, tokens};
+use ladr_lex::{Lex, Misuse, Ops, Token, TokenKind, place_of, tokens};
 use ladr_reader::Mode;
 use ladr_settings::Settings;
 use model_tables::Tables;
@@ -56,14 +56,14 @@ fn test(alloc: Global, end: usize, draft: &Draft) -> Result<(), Stop>
     ensures stop { IfErr result (IsStop (λ o. tested end (problem (sofar_of draft.now)) ≡ o)) }
 {
     let Some(named) = &draft.settings.interpretation else {
-        return Err(Stop::Misuse(end as u64, 18));
+        return Err(Stop::Misuse(end as u64, Misuse::Uncovered));
     };
     let tables = match bind(alloc, named, &draft.symbols) {
         Ok(tables) => tables,
         Err(_) => return Err(Stop::Memory),
     };
     match first_lacking(&tables, &draft.inputs) {
-        Some(byte) => Err(Stop::Misuse(byte, 18)),
+        Some(byte) => Err(Stop::Misuse(byte, Misuse::Uncovered)),
         None => Ok(()),
     }
 }
@@ -172,8 +172,8 @@ fn placed(alloc: Global, bytes: &[u8], tokens: &[Token], stop: Stop) -> ReadErro
             Ok(place) => ReadError::Unreadable(place),
             Err(_) => ReadError::Memory,
         },
-        Stop::Misuse(byte, row) => match place(alloc, bytes, tokens, byte) {
-            Ok(place) => ReadError::Misuse(place, row),
+        Stop::Misuse(byte, misuse) => match place(alloc, bytes, tokens, byte) {
+            Ok(place) => ReadError::Misuse(place, misuse),
             Err(_) => ReadError::Memory,
         },
         Stop::TooLarge(byte, what) => ReadError::TooLarge { byte, what },

@@ -5,8 +5,9 @@ ghost use Rattle.ladr_problem.specs.declared.refusal.Refusal.TheVariants.{Memory
 
 use fol_core::Name;
 use ladr_commands::CommandFault;
+use ladr_lex::Misuse;
 use ladr_reader::TermFault;
-use ladr_settings::Misuse;
+use ladr_settings::SettingsError;
 use std::alloc::{AllocError, AllocFailed};
 
 /// What an input may be too large in.
@@ -27,24 +28,24 @@ pub struct Place {
     pub token: Name,
 }
 
-/// Why an input states no problem: something can't be read; a row of misuse is broken; a limit is passed by the item that begins
+/// Why an input states no problem: something can't be read; an item is misused; a limit is passed by the item that begins
 /// at a byte, or by the input, behind whose last byte the byte is then; or memory is lacking.
 #[derive(Drop)]
 pub enum ReadError {
     Unreadable(Place),
-    Misuse(Place, u8),
+    Misuse(Place, Misuse),
     TooLarge { byte: u64, what: Limit },
     Memory,
 }
 
-/// Why an item is refused: a token of it is bad, it passes a limit, or it breaks a row of misuse; or memory is lacking.
+/// Why an item is refused: a token of it is bad, it passes a limit, or it is misused; or memory is lacking.
 #[derive(Clone, Copy, Debug, PartialEq, Eq)]
 pub enum Refusal {
     Bad(usize),
     Nesting,
     Symbols,
     Arity,
-    Row(u8),
+    Misused(Misuse),
     Memory,
 }
 
@@ -86,11 +87,11 @@ pub fn by_term(fault: TermFault) -> Refusal
 }
 
 /// The refusal of a command that is misused.
-pub fn by_misuse(misuse: Misuse) -> Refusal
-    ensures { result ≡ by_misuse misuse }
+pub fn by_misuse(error: SettingsError) -> Refusal
+    ensures { result ≡ by_misuse error }
 {
-    match misuse {
-        Misuse::Row(row) => Refusal::Row(row),
-        Misuse::Memory => Refusal::Memory,
+    match error {
+        SettingsError::Misused(misuse) => Refusal::Misused(misuse),
+        SettingsError::Memory => Refusal::Memory,
     }
 }

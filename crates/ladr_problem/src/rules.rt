@@ -8,7 +8,7 @@ ghost use Rattle.ladr_problem.specs.Reading.{IsNo, after_rule_read};
 use crate::draft::Draft;
 use crate::refusal::Refusal;
 use fol_core::Raw;
-use ladr_lex::MOST_SYMBOLS;
+use ladr_lex::{MOST_SYMBOLS, Misuse};
 use ladr_reader::Mode;
 use ladr_rules::{RuleRead, kbo_rule, weight_rule};
 use std::alloc::Global;
@@ -27,7 +27,7 @@ impl Draft {
             Ok(Some(read)) => self.settle_rule(program, before, read),
             Ok(None) => {
                 if self.settings.is_meant(program) {
-                    return Err(Refusal::Row(15));
+                    return Err(Refusal::Misused(Misuse::UnfitRule));
                 }
                 Ok(())
             }
@@ -53,7 +53,7 @@ impl Draft {
             return Ok(());
         }
         match read.least {
-            Some(row) => Err(Refusal::Row(row)),
+            Some(misuse) => Err(Refusal::Misused(misuse)),
             None => {
                 self.weights.push(read.rule)?;
                 Ok(())
@@ -79,11 +79,11 @@ impl Draft {
         match kbo_rule(alloc, raw) {
             Ok(Some(rule)) => {
                 if !self.kbo_weights.push(rule.name.bytes(), rule.weight)? {
-                    return Err(Refusal::Row(15));
+                    return Err(Refusal::Misused(Misuse::UnfitRule));
                 }
                 Ok(())
             }
-            Ok(None) => Err(Refusal::Row(15)),
+            Ok(None) => Err(Refusal::Misused(Misuse::UnfitRule)),
             Err(_) => Err(Refusal::Memory),
         }
     }

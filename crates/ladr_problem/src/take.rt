@@ -63,7 +63,7 @@ impl Draft {
         match read_command(alloc, is_tester(program), tokens) {
             Ok(command) => match self.settings.take(alloc, program, command) {
                 Ok(()) => Ok(()),
-                Err(misuse) => Err(by_misuse(misuse)),
+                Err(error) => Err(by_misuse(error)),
             },
             Err(fault) => Err(by_command(fault)),
         }

@@ -13,6 +13,8 @@ use Rattle.fol_core.specs.declared.symbols.Kind.TheVariants.{Function, Relation}
 use Rattle.fol_core.proofs.Places.{first_place-append, slice_get_last}
 use Rattle.fol_core.proofs.SymbolLemmas.{symbol_there, number_of_push}
 use Rattle.ladr_lex.specs.Numeral.{number}
+use Rattle.ladr_lex.specs.declared.misuse.Misuse.{Misuse}
+use Rattle.ladr_lex.specs.declared.misuse.Misuse.TheVariants.{TwoKinds, QuantifierInTerm, UnfitAttribute, UnfitNumeral}
 use Rattle.ladr_reader.specs.Formulas.{Reading, Made, Bound, meets, bound_number, free_number, is_variable, with_variable, variable_number, with_name, named_variable, with_symbol, symbol_number, arity_of, is_too_great, is_element, constant_as, constant, term_of, terms_of, relation_of, sentence_as, sentence, equation, under, bound_by, is_denial, connective_of, joined, joined_by, by_connective, comparison, formula_in, unread, formula_reading}
 use Rattle.ladr_reader.specs.declared.connectives.Connective.{Connective}
 use Rattle.ladr_reader.specs.declared.connectives.Connective.TheVariants.{And, Or, IfThen, ThenIf, IfAndOnlyIf}
@@ -93,12 +95,12 @@ module _ (T : List Symbol) where
   kept_before : (a b : Reading) → Grows a b → Keeps b → Keeps a
   kept_before a b g k n s h = k n s (g.symbols n s h)
 
-  meets_into : (b : Bool) (row : ℕ) (s : Reading) → meets b row (into s) ≡ into (meets b row s)
+  meets_into : (b : Bool) (row : Misuse) (s : Reading) → meets b row (into s) ≡ into (meets b row s)
   meets_into true row s = refl
   meets_into false row s = refl
 
   met_into : (a b : Bool) (table : List Symbol) (large : Bool) (s : Reading) →
-      record (meets b 12 (meets a 9 (into s))) { symbols = T; large = large } ≡ into (record (meets b 12 (meets a 9 s)) { symbols = table; large = large })
+      record (meets b UnfitAttribute (meets a TwoKinds (into s))) { symbols = T; large = large } ≡ into (record (meets b UnfitAttribute (meets a TwoKinds s)) { symbols = table; large = large })
   met_into true true table large s = refl
   met_into true false table large s = refl
   met_into false true table large s = refl
@@ -108,7 +110,7 @@ module _ (T : List Symbol) where
   symbol_into name arity kind s k =
       let x : Symbol = symbol name arity kind in
       let is = stands s.symbols T x k in
-      (λ i. record (meets (bytes_eq name (codes "#")) 12 (meets (is.clash i) 9 (into s))) { symbols = is.table i; large = s.large || nat_lt 255 arity })
+      (λ i. record (meets (bytes_eq name (codes "#")) UnfitAttribute (meets (is.clash i) TwoKinds (into s))) { symbols = is.table i; large = s.large || nat_lt 255 arity })
       ∙ met_into (is_clash s.symbols x) (bytes_eq name (codes "#")) (entered s.symbols x) (s.large || nat_lt 255 arity) s
 
   number_into : (name : List ℕ) (arity : ℕ) (kind : Kind) (s : Reading) → Keeps (with_symbol name arity kind s) → symbol_number name arity (into (with_symbol name arity kind s)) ≡ symbol_number name arity (with_symbol name arity kind s)
@@ -136,9 +138,9 @@ module _ (T : List Symbol) where
   constant_as_into : (st : Style) (name : List ℕ) (o : Option ℕ) → Alike (constant_as st name o)
   constant_as_into st name (Some n) s k = refl
   constant_as_into st name None s k =
-      either_into (is_element st name) (λ (r : Reading). record { tree = elem (number name); reading = meets (is_too_great st name) 16 r })
+      either_into (is_element st name) (λ (r : Reading). record { tree = elem (number name); reading = meets (is_too_great st name) UnfitNumeral r })
       (λ (r : Reading). record { tree = app (symbol_number name 0 (with_symbol name 0 Function r)) none; reading = with_symbol name 0 Function r })
-      (λ r h i. record { tree = elem (number name); reading = meets_into (is_too_great st name) 16 r i })
+      (λ r h i. record { tree = elem (number name); reading = meets_into (is_too_great st name) UnfitNumeral r i })
       (λ r h. let w = symbol_into name 0 Function r h in
       let n = ap (symbol_number name 0) w ∙ number_into name 0 Function r h in
       λ i. record { tree = app (n i) none; reading = w i })
@@ -151,14 +153,14 @@ module _ (T : List Symbol) where
 
   mutual
     pub term_into : (st : Style) (scope : List Bound) (t : RawTree) → Alike (λ s. term_of st scope s t)
-    term_into st scope (quantified q x t) s k = term_into st (record { name = x; number = length s.variables } ∷ scope) t (with_variable x false (meets true 11 s)) k
+    term_into st scope (quantified q x t) s k = term_into st (record { name = x; number = length s.variables } ∷ scope) t (with_variable x false (meets true QuantifierInTerm s)) k
     term_into st scope (named name no_raws) s k = constant_into st scope name s k
     term_into st scope (named name (more_raws t ts)) s k =
         let arity = suc (arity_of ts) in
-        let met = meets (is_too_great st name) 16 s in
+        let met = meets (is_too_great st name) UnfitNumeral s in
         let after = with_symbol name arity Function met in
         let keeps = kept_before after _ (grows_terms st scope after (more_raws t ts)) k in
-        let w = ap (with_symbol name arity Function) (meets_into (is_too_great st name) 16 s) ∙ symbol_into name arity Function met keeps in
+        let w = ap (with_symbol name arity Function) (meets_into (is_too_great st name) UnfitNumeral s) ∙ symbol_into name arity Function met keeps in
         let n = ap (symbol_number name arity) w ∙ number_into name arity Function met keeps in
         let all = ap (λ (r : Reading). terms_of st scope r (more_raws t ts)) w ∙ terms_into st scope (more_raws t ts) after k in
         (λ i. record { tree = app (n i) (all i).tree; reading = (all i).reading })
@@ -174,10 +176,10 @@ module _ (T : List Symbol) where
   relation_into : (st : Style) (scope : List Bound) (name : List ℕ) (ts : RawTrees) → Alike (relation_of st scope name ts)
   relation_into st scope name ts s k =
       let arity = arity_of ts in
-      let met = meets (is_element st name) 16 s in
+      let met = meets (is_element st name) UnfitNumeral s in
       let after = with_symbol name arity Relation met in
       let keeps = kept_before after _ (grows_terms st scope after ts) k in
-      let w = ap (with_symbol name arity Relation) (meets_into (is_element st name) 16 s) ∙ symbol_into name arity Relation met keeps in
+      let w = ap (with_symbol name arity Relation) (meets_into (is_element st name) UnfitNumeral s) ∙ symbol_into name arity Relation met keeps in
       let n = ap (symbol_number name arity) w ∙ number_into name arity Relation met keeps in
       let all = ap (λ (r : Reading). terms_of st scope r ts) w ∙ terms_into st scope ts after k in
       (λ i. record { tree = atom (n i) (all i).tree; reading = (all i).reading })

@@ -10,6 +10,8 @@ use Rattle.fol_core.specs.Tree.{Tree}
 use Rattle.fol_core.specs.declared.symbols.Kind.{Kind}
 use Rattle.fol_core.specs.declared.symbols.Kind.TheVariants.{Function, Relation}
 use Rattle.fol_core.proofs.Places.{slice_get_more}
+use Rattle.ladr_lex.specs.declared.misuse.Misuse.{Misuse}
+use Rattle.ladr_lex.specs.declared.misuse.Misuse.TheVariants.{TwoKinds, VariableAsFormula, QuantifierInTerm, UnfitAttribute, UnfitNumeral}
 use Rattle.ladr_reader.specs.Formulas.{Variable, Reading, Made, Bound, meets, bound_number, free_number, is_variable, with_variable, with_name, named_variable, with_symbol, arity_of, is_too_great, is_element, constant_as, constant, term_of, terms_of, relation_of, sentence_as, equation, is_denial, connective_of, joined, by_connective, comparison, formula_in}
 use Rattle.ladr_reader.specs.declared.connectives.Connective.{Connective}
 use Rattle.ladr_reader.specs.declared.connectives.Connective.TheVariants.{And, Or, IfThen, ThenIf, IfAndOnlyIf}
@@ -27,7 +29,7 @@ same a = record { sound = λ e. e; symbols = λ n s e. e; variables = λ n x e. 
 pub beyond : (a b c : Reading) → Grows a b → Grows b c → Grows a c
 beyond a b c h k = record { sound = λ e. h.sound (k.sound e); symbols = λ n s e. k.symbols n s (h.symbols n s e); variables = λ n x e. k.variables n x (h.variables n x e) }
 
-pub grows_meets : (test : Bool) (row : ℕ) (s : Reading) → Grows s (meets test row s)
+pub grows_meets : (test : Bool) (row : Misuse) (s : Reading) → Grows s (meets test row s)
 grows_meets true row s = record { sound = λ e. absurd (cc); symbols = λ n x e. e; variables = λ n x e. e }
 grows_meets false row s = same s
 
@@ -41,8 +43,8 @@ entered_keeps table x n s e =
 pub grows_symbol : (name : List ℕ) (arity : ℕ) (kind : Kind) (s : Reading) → Grows s (with_symbol name arity kind s)
 grows_symbol name arity kind s =
     let x : Symbol = record { name = name; arity = arity; kind = kind } in
-    let one = grows_meets (is_clash s.symbols x) 9 s in
-    let met = grows_meets (bytes_eq name (codes "#")) 12 (meets (is_clash s.symbols x) 9 s) in
+    let one = grows_meets (is_clash s.symbols x) TwoKinds s in
+    let met = grows_meets (bytes_eq name (codes "#")) UnfitAttribute (meets (is_clash s.symbols x) TwoKinds s) in
     record {
       sound = λ e. one.sound (met.sound e);
       symbols = λ n y e. entered_keeps s.symbols x n y e;
@@ -71,7 +73,7 @@ grows_named st scope name s =
 pub grows_constant_as : (st : Style) (name : List ℕ) (o : Option ℕ) (s : Reading) → Grows s (constant_as st name o s).reading
 grows_constant_as st name (Some n) s = same s
 grows_constant_as st name None s =
-    cond_both (is_element st name) _ _ (λ (m : Made Tree). Grows s m.reading) (λ e. grows_meets (is_too_great st name) 16 s) (λ e. grows_symbol name 0 Function s)
+    cond_both (is_element st name) _ _ (λ (m : Made Tree). Grows s m.reading) (λ e. grows_meets (is_too_great st name) UnfitNumeral s) (λ e. grows_symbol name 0 Function s)
 
 pub grows_constant : (st : Style) (scope : List Bound) (name : List ℕ) (s : Reading) → Grows s (constant st scope name s).reading
 grows_constant st scope name s =
@@ -81,14 +83,14 @@ grows_constant st scope name s =
 mutual
   pub grows_term : (st : Style) (scope : List Bound) (s : Reading) (t : RawTree) → Grows s (term_of st scope s t).reading
   grows_term st scope s (quantified q x t) =
-      let met = meets true 11 s in
+      let met = meets true QuantifierInTerm s in
       let inner = with_variable x false met in
-      beyond s met _ (grows_meets true 11 s) (beyond met inner _ (grows_variable x false met) (grows_term st _ inner t))
+      beyond s met _ (grows_meets true QuantifierInTerm s) (beyond met inner _ (grows_variable x false met) (grows_term st _ inner t))
   grows_term st scope s (named name no_raws) = grows_constant st scope name s
   grows_term st scope s (named name (more_raws t ts)) =
-      let met = meets (is_too_great st name) 16 s in
+      let met = meets (is_too_great st name) UnfitNumeral s in
       let after = with_symbol name (suc (arity_of ts)) Function met in
-      beyond s met _ (grows_meets (is_too_great st name) 16 s) (beyond met after _ (grows_symbol name (suc (arity_of ts)) Function met) (grows_terms st scope after (more_raws t ts)))
+      beyond s met _ (grows_meets (is_too_great st name) UnfitNumeral s) (beyond met after _ (grows_symbol name (suc (arity_of ts)) Function met) (grows_terms st scope after (more_raws t ts)))
 
   pub grows_terms : (st : Style) (scope : List Bound) (s : Reading) (ts : RawTrees) → Grows s (terms_of st scope s ts).reading
   grows_terms st scope s no_raws = same s
@@ -98,9 +100,9 @@ mutual
 
 pub grows_relation : (st : Style) (scope : List Bound) (name : List ℕ) (ts : RawTrees) (s : Reading) → Grows s (relation_of st scope name ts s).reading
 grows_relation st scope name ts s =
-    let met = meets (is_element st name) 16 s in
+    let met = meets (is_element st name) UnfitNumeral s in
     let after = with_symbol name (arity_of ts) Relation met in
-    beyond s met _ (grows_meets (is_element st name) 16 s) (beyond met after _ (grows_symbol name (arity_of ts) Relation met) (grows_terms st scope after ts))
+    beyond s met _ (grows_meets (is_element st name) UnfitNumeral s) (beyond met after _ (grows_symbol name (arity_of ts) Relation met) (grows_terms st scope after ts))
 
 pub grows_equation : (st : Style) (scope : List Bound) (t u : RawTree) (s : Reading) → Grows s (equation st scope t u s).reading
 grows_equation st scope t u s =
@@ -108,7 +110,7 @@ grows_equation st scope t u s =
     beyond s left.reading _ (grows_term st scope s t) (grows_term st scope left.reading u)
 
 pub grows_sentence_as : (st : Style) (scope : List Bound) (name : List ℕ) (o : Option ℕ) (s : Reading) → Grows s (sentence_as st scope name o s).reading
-grows_sentence_as st scope name (Some n) s = grows_meets true 10 s
+grows_sentence_as st scope name (Some n) s = grows_meets true VariableAsFormula s
 grows_sentence_as st scope name None s =
     elim (cases_Bool (bytes_eq name (codes "$T"))) [
       | inl y ↦ rw y (same s)

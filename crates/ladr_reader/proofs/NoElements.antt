@@ -9,6 +9,7 @@ use Rattle.fol_core.specs.Tree.{Tree}
 use Rattle.fol_core.specs.declared.raw.Quantifier.{Quantifier}
 use Rattle.fol_core.specs.declared.raw.Quantifier.TheVariants.{All, Exists}
 use Rattle.fol_core.specs.declared.symbols.Kind.TheVariants.{Function, Relation}
+use Rattle.ladr_lex.specs.declared.misuse.Misuse.TheVariants.{QuantifierInTerm, UnfitNumeral}
 use Rattle.ladr_reader.specs.Formulas.{Reading, Made, Bound, meets, with_variable, named_variable, with_symbol, arity_of, is_too_great, is_element, constant_as, term_of, terms_of, relation_of, sentence_as, equation, under, bound_by, is_denial, connective_of, joined, joined_by, by_connective, comparison, formula_in}
 use Rattle.ladr_reader.specs.declared.connectives.Connective.{Connective}
 use Rattle.ladr_reader.specs.declared.connectives.Connective.TheVariants.{And, Or, IfThen, ThenIf, IfAndOnlyIf}
@@ -35,18 +36,18 @@ module _ (k : ℕ) (st : Style) (e : st.elements ≡ false) where
 
   mutual
     pub term_none : (scope : List Bound) (s : Reading) (t : RawTree) → names_in k (term_of st scope s t).tree ≡ false
-    term_none scope s (quantified q x t) = term_none (record { name = x; number = length s.variables } ∷ scope) (with_variable x false (meets true 11 s)) t
+    term_none scope s (quantified q x t) = term_none (record { name = x; number = length s.variables } ∷ scope) (with_variable x false (meets true QuantifierInTerm s)) t
     term_none scope s (named name no_raws) = let v = named_variable st scope name s in constant_as_none name v.tree v.reading
     term_none scope s (named name (more_raws t ts)) =
         let arity = suc (arity_of ts) in
-        terms_none scope (with_symbol name arity Function (meets (is_too_great st name) 16 s)) (more_raws t ts)
+        terms_none scope (with_symbol name arity Function (meets (is_too_great st name) UnfitNumeral s)) (more_raws t ts)
 
     pub terms_none : (scope : List Bound) (s : Reading) (ts : RawTrees) → names_in_any k (terms_of st scope s ts).tree ≡ false
     terms_none scope s no_raws = refl
     terms_none scope s (more_raws t ts) = neither _ _ (term_none scope s t) (terms_none scope (term_of st scope s t).reading ts)
 
   relation_none : (scope : List Bound) (name : List ℕ) (ts : RawTrees) (s : Reading) → NoFormula (relation_of st scope name ts s)
-  relation_none scope name ts s = terms_none scope (with_symbol name (arity_of ts) Relation (meets (is_element st name) 16 s)) ts
+  relation_none scope name ts s = terms_none scope (with_symbol name (arity_of ts) Relation (meets (is_element st name) UnfitNumeral s)) ts
 
   sentence_as_none : (scope : List Bound) (name : List ℕ) (o : Option ℕ) (s : Reading) → NoFormula (sentence_as st scope name o s)
   sentence_as_none scope name (Some n) s = refl

@@ -16,13 +16,15 @@ use Rattle.fol_core.specs.declared.raw.Quantifier.{Quantifier}
 use Rattle.fol_core.specs.declared.raw.Quantifier.TheVariants.{All, Exists}
 use Rattle.fol_core.specs.declared.symbols.Kind.TheVariants.{Relation}
 use Rattle.fol_core.proofs.Variables.{is_in_joined, is_in_without, free_vars_once}
+use Rattle.ladr_lex.specs.declared.misuse.Misuse.{Misuse}
+use Rattle.ladr_lex.specs.declared.misuse.Misuse.TheVariants.{VariableAsFormula, UnfitNumeral}
 use Rattle.ladr_reader.specs.Whole.{IsWhole}
 use Rattle.ladr_reader.specs.declared.formulas.FormulaRead.{FormulaRead}
 use Rattle.ladr_reader.specs.Formulas.{Variable, Reading, Bound, Style, Made, meets, with_variable, with_symbol, is_element, named_variable, arity_of, term_of, terms_of, relation_of, sentence_as, sentence, equation, under, bound_by, is_denial, connective_of, joined_by, by_connective, comparison, formula_in, unread, formula_reading, is_sound, IsReadAs}
 use Rattle.ladr_reader.specs.declared.styles.What.TheVariants as what
 use Rattle.ladr_reader.specs.declared.connectives.Connective.{Connective}
 use Rattle.ladr_reader.specs.declared.connectives.Connective.TheVariants.{And, Or, IfThen, ThenIf, IfAndOnlyIf}
-use Rattle.ladr_reader.specs.declared.styles.FormulaError.TheVariants.{Row, Large}
+use Rattle.ladr_reader.specs.declared.styles.FormulaError.TheVariants.{Misused, Large}
 use Rattle.ladr_reader.proofs.OwnVariables.{is_free, is_bound, is_free_last, count_variable, Grows, grows_on, grows_met, grows_variable, grows_symbol, IsKnown, known_still, variable_good}
 use Rattle.ladr_reader.proofs.OwnTerms.{applied_below, term_good, terms_good}
 
@@ -65,11 +67,11 @@ record FormulaGood (scope : List Bound) (s : Reading) (m : Made Fol) : Type 0 wh
 
 relation_good : (st : Style) (scope : List Bound) (name : List ℕ) (ts : RawTrees) (s : Reading) → FormulaGood scope s (relation_of st scope name ts s)
 relation_good st scope name ts s =
-    let element = meets (is_element st name) 16 s in
+    let element = meets (is_element st name) UnfitNumeral s in
     let after = with_symbol name (arity_of ts) Relation element in
     let arguments = terms_of st scope after ts in
     let all = terms_good st scope after ts in
-    let grown = grows_on s after arguments.reading (grows_on s element after (grows_met (is_element st name) 16 s) (grows_symbol name (arity_of ts) Relation element)) all.grows in
+    let grown = grows_on s after arguments.reading (grows_on s element after (grows_met (is_element st name) UnfitNumeral s) (grows_symbol name (arity_of ts) Relation element)) all.grows in
     record {
       grows = grown;
       known = all.known;
@@ -97,7 +99,7 @@ later scope s r m g h = record {
 }
 
 sentence_of : (st : Style) (scope : List Bound) (name : List ℕ) (s : Reading) (o : Option ℕ) (r : Reading) → Grows s r → FormulaGood scope s (sentence_as st scope name o r)
-sentence_of st scope name s (Some n) r g = constant_good scope s (meets true 10 r) verum (grows_on s r (meets true 10 r) g (grows_met true 10 r)) refl refl (λ n. refl)
+sentence_of st scope name s (Some n) r g = constant_good scope s (meets true VariableAsFormula r) verum (grows_on s r (meets true VariableAsFormula r) g (grows_met true VariableAsFormula r)) refl refl (λ n. refl)
 sentence_of st scope name s None r g = by (bytes_eq name (codes "$T")) (bytes_eq name (codes "$F"))
   where
     by : (a b : Bool) → FormulaGood scope s (if a then record { tree = verum; reading = r } else (if b then record { tree = falsum; reading = r } else relation_of st scope name no_raws r))
@@ -244,7 +246,7 @@ symbols_below st table t = (formula_good st [] (unread table) t).below
 nothing_met : (s : Reading) → IsTrue (is_sound s) → s.least ≡ None
 nothing_met s h = by (nat_lt 65535 (length s.symbols)) s.large s.least h
   where
-    by : (a b : Bool) (o : Option ℕ) → IsTrue (is_none (if a then Some (Large what.Symbols) else (if b then Some (Large what.Arity) else option_map Row o))) → o ≡ None
+    by : (a b : Bool) (o : Option Misuse) → IsTrue (is_none (if a then Some (Large what.Symbols) else (if b then Some (Large what.Arity) else option_map Misused o))) → o ≡ None
     by true b o i = absurd (false≢true i)
     by false true o i = absurd (false≢true i)
     by false false (Some n) i = absurd (false≢true i)

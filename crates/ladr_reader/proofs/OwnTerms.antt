@@ -9,6 +9,7 @@ use Rattle.fol_core.specs.declared.symbols.Kind.{Kind}
 use Rattle.fol_core.specs.declared.symbols.Kind.TheVariants.{Function}
 use Rattle.fol_core.proofs.Variables.{is_in_joined}
 use Rattle.ladr_lex.specs.Numeral.{number}
+use Rattle.ladr_lex.specs.declared.misuse.Misuse.TheVariants.{QuantifierInTerm, UnfitNumeral}
 use Rattle.ladr_reader.specs.Formulas.{Reading, Bound, Style, Made, meets, with_variable, with_symbol, symbol_number, is_too_great, is_element, named_variable, constant_as, constant, arity_of, term_of, terms_of}
 use Rattle.ladr_reader.proofs.OwnVariables.{Grows, grows_not, grows_on, grows_met, met, grows_variable, grows_symbol, number_below, IsKnown, known_still, variable_good}
 
@@ -43,9 +44,9 @@ constant_of st scope name s None r g known = by (is_element st name)
     after : Reading
     after = with_symbol name 0 Function r
 
-    by : (b : Bool) → TermGood scope s (if b then record { tree = elem (number name); reading = meets (is_too_great st name) 16 r } else record { tree = app (symbol_number name 0 after) none; reading = after })
+    by : (b : Bool) → TermGood scope s (if b then record { tree = elem (number name); reading = meets (is_too_great st name) UnfitNumeral r } else record { tree = app (symbol_number name 0 after) none; reading = after })
     by true = record {
-      grows = grows_on s r (meets (is_too_great st name) 16 r) g (grows_met (is_too_great st name) 16 r);
+      grows = grows_on s r (meets (is_too_great st name) UnfitNumeral r) g (grows_met (is_too_great st name) UnfitNumeral r);
       known = λ least x i. absurd (false≢true i);
       below = λ n i. absurd (false≢true i);
     }
@@ -75,25 +76,25 @@ more_good scope s first others f o = record {
 mutual
   pub term_good : (st : Style) (scope : List Bound) (s : Reading) (t : RawTree) → TermGood scope s (term_of st scope s t)
   term_good st scope s (quantified q x t) =
-      let bad = meets true 11 s in
+      let bad = meets true QuantifierInTerm s in
       let after = with_variable x false bad in
       let body = term_good st (record { name = x; number = length s.variables } ∷ scope) after t in
-      let grown = grows_on s bad after (grows_met true 11 s) (grows_variable x false bad) in
+      let grown = grows_on s bad after (grows_met true QuantifierInTerm s) (grows_variable x false bad) in
       record {
         grows = grows_on s after (term_of st (record { name = x; number = length s.variables } ∷ scope) after t).reading grown body.grows;
-        known = λ least y i. absurd (met 11 s (body.grows.least least));
+        known = λ least y i. absurd (met QuantifierInTerm s (body.grows.least least));
         below = body.below;
       }
   term_good st scope s (named name no_raws) = constant_good st scope name s
   term_good st scope s (named name (more_raws t ts)) =
       let arity = suc (arity_of ts) in
-      let great = meets (is_too_great st name) 16 s in
+      let great = meets (is_too_great st name) UnfitNumeral s in
       let after = with_symbol name arity Function great in
       let first = term_of st scope after t in
       let others = terms_of st scope first.reading ts in
       let all = more_good scope after first others (term_good st scope after t) (terms_good st scope first.reading ts) in
       record {
-        grows = grows_on s after others.reading (grows_on s great after (grows_met (is_too_great st name) 16 s) (grows_symbol name arity Function great)) all.grows;
+        grows = grows_on s after others.reading (grows_on s great after (grows_met (is_too_great st name) UnfitNumeral s) (grows_symbol name arity Function great)) all.grows;
         known = all.known;
         below = applied_below name arity Function great others.reading (more first.tree others.tree) all.grows all.below;
       }

@@ -7,6 +7,8 @@ use Rattle.std.proofs.lemmas.Option.{slice_get_within}
 use Rattle.fol_core.specs.SymbolTable.{Symbol, symbol, number_of, entered, is_clash}
 use Rattle.fol_core.specs.declared.symbols.Kind.{Kind}
 use Rattle.fol_core.proofs.SymbolLemmas.{symbol_there, number_of_push}
+use Rattle.ladr_lex.specs.declared.misuse.Misuse.{Misuse}
+use Rattle.ladr_lex.specs.declared.misuse.Misuse.TheVariants.{TwoKinds, UnfitAttribute}
 use Rattle.ladr_reader.specs.Formulas.{Variable, Reading, Bound, Style, Made, meets, bound_number, free_number, with_variable, with_name, variable_number, is_variable, named_variable, with_symbol, symbol_number}
 
 -- whether a variable is free
@@ -56,15 +58,15 @@ grows_on s t u g h = record {
 pub free_still : (s u : Reading) → Grows s u → (x : ℕ) → IsTrue (is_free s.variables x) → IsTrue (is_free u.variables x)
 free_still s u g x h = g.flags x (is_free_within s.variables x h) ∙ h
 
-some_not_none : (n : ℕ) → Some n ≡ None → ⊥
+some_not_none : {A : Type 0} (n : A) → Some n ≡ None → ⊥
 some_not_none n e = true≢false (ap is_some e)
 
-pub grows_met : (test : Bool) (row : ℕ) (s : Reading) → Grows s (meets test row s)
+pub grows_met : (test : Bool) (row : Misuse) (s : Reading) → Grows s (meets test row s)
 grows_met true row s = record { table = omega arith; count = omega arith; flags = λ x h. refl; least = λ e. absurd (some_not_none _ e) }
 grows_met false row s = grows_not s
 
 -- where a row of misuse is met there is a least one
-pub met : (row : ℕ) (s : Reading) → (meets true row s).least ≡ None → ⊥
+pub met : (row : Misuse) (s : Reading) → (meets true row s).least ≡ None → ⊥
 met row s e = some_not_none _ e
 
 pub count_variable : (vs : List Variable) (v : Variable) → length (vs ++ v ∷ []) ≡ suc (length vs)
@@ -92,8 +94,8 @@ entered_longer table t = by (is_some (number_of table t.name t.arity))
 
 pub grows_symbol : (name : List ℕ) (arity : ℕ) (kind : Kind) (s : Reading) → Grows s (with_symbol name arity kind s)
 grows_symbol name arity kind s =
-    let clash = meets (is_clash s.symbols (symbol name arity kind)) 9 s in
-    let g = grows_on s clash (meets (bytes_eq name (codes "#")) 12 clash) (grows_met (is_clash s.symbols (symbol name arity kind)) 9 s) (grows_met (bytes_eq name (codes "#")) 12 clash) in
+    let clash = meets (is_clash s.symbols (symbol name arity kind)) TwoKinds s in
+    let g = grows_on s clash (meets (bytes_eq name (codes "#")) UnfitAttribute clash) (grows_met (is_clash s.symbols (symbol name arity kind)) TwoKinds s) (grows_met (bytes_eq name (codes "#")) UnfitAttribute clash) in
     record { table = entered_longer s.symbols (symbol name arity kind); count = g.count; flags = g.flags; least = g.least }
 
 -- a symbol that was entered has a number of the table

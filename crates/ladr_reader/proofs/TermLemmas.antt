@@ -7,6 +7,7 @@ use Rattle.fol_core.specs.Tree.{Tree, app, Trees, none, more, trees_of}
 use Rattle.fol_core.specs.declared.symbols.Kind.TheVariants.{Function}
 use Rattle.std.proofs.lemmas.List.{drop_more, drop_all}
 use Rattle.fol_core.specs.declared.raw.Raw.{Raw}
+use Rattle.ladr_lex.specs.declared.misuse.Misuse.TheVariants.{UnfitNumeral}
 use Rattle.ladr_reader.specs.Formulas.{Style, Bound, Reading, Made, arity_of, meets, is_too_great, with_symbol, symbol_number, term_of, terms_of}
 
 -- trees in front of those that are read
@@ -55,7 +56,7 @@ arity_is_length (a ∷ others) = ap suc (arity_is_length others)
 
 -- an application is its symbol and the terms that are read from all arguments
 pub term_applied : (st : Style) (scope : List Bound) (s after last : Reading) (name : List ℕ) (args : List RawTree) (n : ℕ) (terms : List Tree) → 0 < length args →
-    after ≡ with_symbol name (arity_of (raws_of args)) Function (meets (is_too_great st name) 16 s) → n ≡ symbol_number name (arity_of (raws_of args)) after →
+    after ≡ with_symbol name (arity_of (raws_of args)) Function (meets (is_too_great st name) UnfitNumeral s) → n ≡ symbol_number name (arity_of (raws_of args)) after →
     read_onto terms (record { tree = none; reading = last }) ≡ terms_of st scope after (raws_of args) →
     term_of st scope s (named name (raws_of args)) ≡ record { tree = app n (trees_of terms); reading = last }
 term_applied st scope s after last name [] n terms h f g r = absurd (omega arith)

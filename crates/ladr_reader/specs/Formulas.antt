@@ -1,5 +1,5 @@
 -- How a term as read is a formula.
-use Rattle.std.specs.Prelude.{◌≡◌, IsTrue, ℕ, suc, ◌==◌, nat_le, nat_lt, min, Bool, true, false, ◌&&◌, ◌||◌, List, [], ◌∷◌, ◌++◌, length, Option, Some, None, is_some, is_none, unwrap_or, if◌then◌else◌, codes}
+use Rattle.std.specs.Prelude.{◌≡◌, IsTrue, ℕ, suc, ◌==◌, nat_le, nat_lt, Bool, true, false, ◌&&◌, ◌||◌, List, [], ◌∷◌, ◌++◌, length, Option, Some, None, is_some, is_none, unwrap_or, if◌then◌else◌, codes}
 use Rattle.std.specs.Option.{option_map}
 use Rattle.std.specs.Str.{bytes_eq}
 use Rattle.fol_core.specs.Fol.{Fol, verum, falsum, equal, atom, negation, conjunction, disjunction, implication, equivalence, forall, exists}
@@ -10,14 +10,17 @@ use Rattle.fol_core.specs.declared.raw.Quantifier.{Quantifier}
 use Rattle.fol_core.specs.declared.raw.Quantifier.TheVariants.{All, Exists}
 use Rattle.fol_core.specs.declared.symbols.Kind.{Kind}
 use Rattle.fol_core.specs.declared.symbols.Kind.TheVariants.{Function, Relation}
+use Rattle.ladr_lex.specs.Misuses.{earlier}
 use Rattle.ladr_lex.specs.declared.limits.TheConstants.{MOST_ARGUMENTS, MOST_ELEMENT, MOST_SYMBOLS}
 use Rattle.ladr_lex.specs.Numeral.{is_numeral, number}
+use Rattle.ladr_lex.specs.declared.misuse.Misuse.{Misuse}
+use Rattle.ladr_lex.specs.declared.misuse.Misuse.TheVariants.{TwoKinds, VariableAsFormula, QuantifierInTerm, UnfitAttribute, UnfitNumeral}
 use Rattle.ladr_reader.specs.declared.connectives.Connective.{Connective}
 use Rattle.ladr_reader.specs.declared.connectives.Connective.TheVariants.{And, Or, IfThen, ThenIf, IfAndOnlyIf}
 use Rattle.ladr_reader.specs.declared.styles.Mode.{Mode}
 use Rattle.ladr_reader.specs.declared.styles.Mode.TheVariants.{Prover, Mace, Tester}
 use Rattle.ladr_reader.specs.declared.styles.FormulaError.{FormulaError}
-use Rattle.ladr_reader.specs.declared.styles.FormulaError.TheVariants.{Row, Large, Memory}
+use Rattle.ladr_reader.specs.declared.styles.FormulaError.TheVariants.{Misused, Large, Memory}
 use Rattle.ladr_reader.specs.declared.styles.What.TheVariants as what
 pub use Rattle.ladr_reader.specs.declared.styles.Style.{Style}
 
@@ -26,12 +29,12 @@ pub record Variable : Type 0 where
   pub name : List ℕ
   pub free : Bool
 
--- what has been read so far: the symbols, the variables by number, the least row of misuse that was met, and whether an
+-- what has been read so far: the symbols, the variables by number, the misuse of the least row that was met, and whether an
 -- arity was too large
 pub record Reading : Type 0 where
   pub symbols : List Symbol
   pub variables : List Variable
-  pub least : Option ℕ
+  pub least : Option Misuse
   pub large : Bool
 
 -- a tree, and what has been read with it
@@ -44,9 +47,9 @@ pub record Bound : Type 0 where
   pub name : List ℕ
   pub number : ℕ
 
--- a row of misuse is met, if the test says so
-abbrev pub meets : Bool → ℕ → Reading → Reading
-meets test row s = if test then record s { least = Some (min row (unwrap_or s.least row)) } else s
+-- a misuse is met, if the test says so
+abbrev pub meets : Bool → Misuse → Reading → Reading
+meets test misuse s = if test then record s { least = Some (earlier misuse s.least) } else s
 
 -- the number under which a name is bound
 abbrev pub bound_number : List Bound → List ℕ → Option ℕ
@@ -84,11 +87,11 @@ named_variable st scope name s =
     if is_variable st scope name then record { tree = Some (variable_number scope name s); reading = with_name scope name s }
     else record { tree = None; reading = s }
 
--- a symbol is entered; a clash of kinds is row 9, `#` is row 12, more than 255 arguments are too many
+-- a symbol is entered; a clash of kinds is misuse, and so is `#`; there may be too many arguments
 abbrev pub with_symbol : List ℕ → ℕ → Kind → Reading → Reading
 with_symbol name arity kind s =
     let symbol : Symbol = record { name = name; arity = arity; kind = kind } in
-    let met = meets (bytes_eq name (codes "#")) 12 (meets (is_clash s.symbols symbol) 9 s) in
+    let met = meets (bytes_eq name (codes "#")) UnfitAttribute (meets (is_clash s.symbols symbol) TwoKinds s) in
     record met { symbols = entered s.symbols symbol; large = s.large || nat_lt MOST_ARGUMENTS arity }
 
 abbrev pub symbol_number : List ℕ → ℕ → Reading → ℕ
@@ -109,7 +112,7 @@ is_element st name = st.elements && is_numeral name
 abbrev pub constant_as : Style → List ℕ → Option ℕ → Reading → Made Tree
 constant_as st name (Some n) s = record { tree = var n; reading = s }
 constant_as st name None s =
-    if is_element st name then record { tree = elem (number name); reading = meets (is_too_great st name) 16 s }
+    if is_element st name then record { tree = elem (number name); reading = meets (is_too_great st name) UnfitNumeral s }
     else (let after = with_symbol name 0 Function s in record { tree = app (symbol_number name 0 after) none; reading = after })
 
 abbrev pub constant : Style → List Bound → List ℕ → Reading → Made Tree
@@ -118,13 +121,13 @@ constant st scope name s =
     constant_as st name v.tree v.reading
 
 abbrev mutual
-  -- a term below a relation, in which every symbol is a function; a quantifier there is row 11, and its body is read on
+  -- a term below a relation, in which every symbol is a function; a quantifier there is misuse, and its body is read on
   pub term_of : Style → List Bound → Reading → RawTree → Made Tree
-  term_of st scope s (quantified q x t) = term_of st (record { name = x; number = length s.variables } ∷ scope) (with_variable x false (meets true 11 s)) t
+  term_of st scope s (quantified q x t) = term_of st (record { name = x; number = length s.variables } ∷ scope) (with_variable x false (meets true QuantifierInTerm s)) t
   term_of st scope s (named name no_raws) = constant st scope name s
   term_of st scope s (named name (more_raws t ts)) =
       let arity = suc (arity_of ts) in
-      let after = with_symbol name arity Function (meets (is_too_great st name) 16 s) in
+      let after = with_symbol name arity Function (meets (is_too_great st name) UnfitNumeral s) in
       let first = term_of st scope after t in
       let others = terms_of st scope first.reading ts in
       record { tree = app (symbol_number name arity after) (more first.tree others.tree); reading = others.reading }
@@ -136,17 +139,17 @@ abbrev mutual
       let others = terms_of st scope first.reading ts in
       record { tree = more first.tree others.tree; reading = others.reading }
 
--- a relation with its arguments; a numeral as relation is row 16
+-- a relation with its arguments; a numeral as relation is misuse
 abbrev pub relation_of : Style → List Bound → List ℕ → RawTrees → Reading → Made Fol
 relation_of st scope name ts s =
     let arity = arity_of ts in
-    let after = with_symbol name arity Relation (meets (is_element st name) 16 s) in
+    let after = with_symbol name arity Relation (meets (is_element st name) UnfitNumeral s) in
     let arguments = terms_of st scope after ts in
     record { tree = atom (symbol_number name arity after) arguments.tree; reading = arguments.reading }
 
--- a formula without arguments: a variable, which is row 10, else a constant or a relation
+-- a formula without arguments: a variable, which is misuse, else a constant or a relation
 abbrev pub sentence_as : Style → List Bound → List ℕ → Option ℕ → Reading → Made Fol
-sentence_as st scope name (Some n) s = record { tree = verum; reading = meets true 10 s }
+sentence_as st scope name (Some n) s = record { tree = verum; reading = meets true VariableAsFormula s }
 sentence_as st scope name None s =
     if bytes_eq name (codes "$T") then record { tree = verum; reading = s }
     else (if bytes_eq name (codes "$F") then record { tree = falsum; reading = s }
@@ -241,9 +244,9 @@ abbrev pub names_of : List Variable → List (List ℕ)
 names_of [] = []
 names_of (v ∷ vs) = v.name ∷ names_of vs
 
--- why what was read is refused, if it is: too many symbols, else too large an arity, else the least row of misuse
+-- why what was read is refused, if it is: too many symbols, else too large an arity, else the misuse of the least row
 abbrev pub fault_of : Reading → Option FormulaError
-fault_of s = if nat_lt MOST_SYMBOLS (length s.symbols) then Some (Large what.Symbols) else (if s.large then Some (Large what.Arity) else option_map Row s.least)
+fault_of s = if nat_lt MOST_SYMBOLS (length s.symbols) then Some (Large what.Symbols) else (if s.large then Some (Large what.Arity) else option_map Misused s.least)
 
 -- nothing is misused, and nothing too large
 abbrev pub is_sound : Reading → Bool
@@ -252,7 +255,7 @@ is_sound s = is_none (fault_of s)
 -- what is answered in place of a formula; want of memory may come at any time
 abbrev pub IsFault : Reading → FormulaError → Type 0
 IsFault s Memory = Unit {0}
-IsFault s (Row k) = fault_of s ≡ Some (Row k)
+IsFault s (Misused m) = fault_of s ≡ Some (Misused m)
 IsFault s (Large w) = fault_of s ≡ Some (Large w)
 
 -- a sound reading is this formula, with these names and behind it this table

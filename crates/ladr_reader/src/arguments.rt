@@ -11,6 +11,7 @@ use crate::numbering::Variables;
 use crate::reader::Reader;
 use crate::styles::Style;
 use fol_core::{Raws, Symbols, Terms};
+use ladr_lex::Misuse;
 use std::alloc::{AllocError, Global};
 use std::mem;
 
@@ -19,7 +20,7 @@ use std::mem;
 pub struct TermsRead {
     pub terms: Terms,
     pub variables: Variables,
-    pub least: Option<u8>,
+    pub least: Option<Misuse>,
     pub large: bool,
 }
 

@@ -15,6 +15,7 @@ use crate::formulas::formula;
 use crate::reader::Reader;
 use crate::styles::{Mode, Style, style_of};
 use fol_core::{Clause, EQ, Literal, Names, Raw, Shape, Symbols, Term, Terms};
+use ladr_lex::Misuse;
 use std::alloc::{AllocError, Global};
 use std::mem;
 
@@ -24,7 +25,7 @@ use std::mem;
 pub struct ClauseRead {
     pub clause: Option<Clause>,
     pub names: Names,
-    pub least: Option<u8>,
+    pub least: Option<Misuse>,
     pub large: bool,
 }
 

@@ -4,9 +4,10 @@ ghost use Rattle.fol_core.specs.Fol.{verum, falsum, equal, atom, negation, conju
 ghost use Rattle.fol_core.specs.SymbolTable.{symbol};
 ghost use Rattle.fol_core.specs.Tree.{var, elem, app, none, more};
 ghost use Rattle.fol_core.specs.declared.symbols.Kind.TheVariants.{Function, Relation};
+ghost use Rattle.ladr_lex.specs.declared.misuse.Misuse.TheVariants.{TwoKinds, VariableAsFormula, QuantifierInTerm, UnfitAttribute, UnfitNumeral};
 ghost use Rattle.ladr_reader.specs.Formulas.{formula_reading, names_of};
 ghost use Rattle.ladr_reader.specs.WorkedFormulas.{for_tester, for_prover, in_prolog, refusal, leaf, one_part, function, bound_and_free, involution, one_name_twice, misuses, numeral, three_arities, constant_bound, denial_of_two, connectives, great_numeral, great_function};
-ghost use Rattle.ladr_reader.specs.declared.styles.FormulaError.TheVariants.{Row};
+ghost use Rattle.ladr_reader.specs.declared.styles.FormulaError.TheVariants.{Misused};
 
 /// Terms and their formulas.
 pub fn worked_formulas()
@@ -46,20 +47,23 @@ pub fn worked_formulas()
 
 /// Terms that aren't read as formulas.
 pub fn worked_refusals()
-    // f is a relation and a function (9), x a variable where a formula is wanted (10), and a numeral too great (16).
-    ensures misuses { refusal for_tester misuses ≡ Some (Row 9) }
+    // f is a relation and a function, x a variable where a formula is wanted, and a numeral too great: the first counts.
+    ensures misuses { refusal for_tester misuses ≡ Some (Misused TwoKinds) }
     // x and, with the variables of Prolog, X
-    ensures variable { refusal for_tester (leaf (codes "x")) ≡ Some (Row 10) }
-    ensures prolog { refusal in_prolog (leaf (codes "X")) ≡ Some (Row 10) }
+    ensures variable { refusal for_tester (leaf (codes "x")) ≡ Some (Misused VariableAsFormula) }
+    ensures prolog { refusal in_prolog (leaf (codes "X")) ≡ Some (Misused VariableAsFormula) }
     ensures no_variable { refusal in_prolog (leaf (codes "x")) ≡ None }
     // p(all x p(x)): a quantifier below a relation
-    ensures quantifier { refusal for_tester (one_part (codes "p") bound_and_free) ≡ Some (Row 11) }
+    ensures quantifier { refusal for_tester (one_part (codes "p") bound_and_free)
+        ≡ Some (Misused QuantifierInTerm) }
     // p(#)
-    ensures hash { refusal for_tester (one_part (codes "p") (leaf (codes "#"))) ≡ Some (Row 12) }
+    ensures hash { refusal for_tester (one_part (codes "p") (leaf (codes "#")))
+        ≡ Some (Misused UnfitAttribute) }
     // 3(a)
-    ensures numeral { refusal for_tester (one_part (codes "3") (leaf (codes "a"))) ≡ Some (Row 16) }
+    ensures numeral { refusal for_tester (one_part (codes "3") (leaf (codes "a")))
+        ≡ Some (Misused UnfitNumeral) }
     // p(1000000000) and p(1000000000(a)): for the prover these are symbols.
-    ensures great { refusal for_tester great_numeral ≡ Some (Row 16) }
-    ensures great_function { refusal for_tester great_function ≡ Some (Row 16) }
+    ensures great { refusal for_tester great_numeral ≡ Some (Misused UnfitNumeral) }
+    ensures great_function { refusal for_tester great_function ≡ Some (Misused UnfitNumeral) }
     ensures symbols { refusal for_prover great_function ≡ None }
 {}

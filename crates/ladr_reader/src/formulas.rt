@@ -15,7 +15,7 @@ use crate::connectives::{Connective, connective_of, is_denial};
 use crate::reader::Reader;
 use crate::styles::{FormulaError, Mode, Style, style_of};
 use fol_core::{Formula, Kind, Quantifier, Raw, Raws, Shape, Sub, Sym, Symbols, Term, Terms};
-use ladr_lex::{MOST_ELEMENT, is_numeral, number};
+use ladr_lex::{MOST_ELEMENT, Misuse, is_numeral, number};
 use std::alloc::{AllocError, Global};
 use std::mem;
 
@@ -48,7 +48,7 @@ fn constant(
         return Ok(Term::Var(x));
     }
     if is_element(style, name) {
-        reader.meet(is_too_great(style, name), 16);
+        reader.meet(is_too_great(style, name), Misuse::UnfitNumeral);
         return Ok(Term::Elem(number(name)));
     }
     let s = reader.enter(name, 0, Kind::Function)?;
@@ -60,13 +60,13 @@ fn constant(
 fn function(name: &[u8], args: &Raws, style: Style, reader: &mut Reader) -> Result<Sym, AllocError>
     ensures read { OnOk result (reader.new.reading
         ≡ with_symbol name.now (arity_of (raws_of args.now)) Function
-        (meets (is_too_great style name.now) 16 reader.old.reading)) }
+        (meets (is_too_great style name.now) Misuse.UnfitNumeral reader.old.reading)) }
     ensures number { IfOk result (λ s. s.0 ≡ symbol_number name.now
         (arity_of (raws_of args.now)) reader.new.reading) }
     ensures scope { OnOk result (reader.new.scope ≡ reader.old.scope) }
     ensures kept { KeepsNumbers reader.old.reading.symbols reader.new.reading.symbols }
 {
-    reader.meet(is_too_great(style, name), 16);
+    reader.meet(is_too_great(style, name), Misuse::UnfitNumeral);
     reader.enter(name, args.len(), Kind::Function)
 }
 
@@ -80,7 +80,7 @@ fn term(alloc: Global, raw: &Raw, style: Style, reader: &mut Reader) -> Result<T
 {
     match raw {
         Raw::Quant(_, name, body) => {
-            reader.meet(true, 11);
+            reader.meet(true, Misuse::QuantifierInTerm);
             reader.bind(alloc, name.bytes())?;
             let read = term(alloc, &body.raw, style, reader)?;
             reader.unbind();
@@ -135,7 +135,7 @@ fn relation(
     ensures scope { OnOk result (reader.new.scope ≡ reader.old.scope) }
     ensures kept { KeepsNumbers reader.old.reading.symbols reader.new.reading.symbols }
 {
-    reader.meet(is_element(style, name), 16);
+    reader.meet(is_element(style, name), Misuse::UnfitNumeral);
     let s = reader.enter(name, args.len(), Kind::Relation)?;
     let terms = terms(alloc, args, style, reader)?;
     Ok(Shape::Atom(s, terms))
@@ -177,7 +177,7 @@ fn sentence(
     ensures kept { KeepsNumbers reader.old.reading.symbols reader.new.reading.symbols }
 {
     if reader.variable(alloc, style, name)?.is_some() {
-        reader.meet(true, 10);
+        reader.meet(true, Misuse::VariableAsFormula);
         return Ok(Shape::True);
     }
     if name == b"$T".as_slice() {
@@ -299,11 +299,11 @@ fn joined(
     })
 }
 
-/// A formula as it is read, whatever it breaks: the least row of misuse that was met, and whether an arity is too large.
+/// A formula as it is read, whatever it breaks: the misuse of the least row that was met, and whether an arity is too large.
 #[derive(Drop)]
 pub struct FormulaRead {
     pub formula: Formula,
-    pub least: Option<u8>,
+    pub least: Option<Misuse>,
     pub large: bool,
 }
 

@@ -8,7 +8,7 @@ use crate::numbering::Variables;
 use crate::scopes::Scope;
 use crate::styles::{FormulaError, Style, What};
 use fol_core::{Clash, Kind, Name, Names, Sym, Symbols};
-use ladr_lex::{MOST_ARGUMENTS, MOST_SYMBOLS};
+use ladr_lex::{MOST_ARGUMENTS, MOST_SYMBOLS, Misuse};
 use std::alloc::{AllocError, Global};
 use std::marker::Model;
 
@@ -19,7 +19,7 @@ pub struct Reader {
     symbols: Symbols,
     variables: Variables,
     scope: Scope,
-    least: Option<u8>,
+    least: Option<Misuse>,
     large: bool,
 }
 
@@ -80,12 +80,12 @@ impl Reader {
         }
     }
 
-    /// A row of misuse is met, if the test says so.
-    pub fn meet(&mut self, test: bool, row: u8)
-        ensures { self.new ≡ record self.old { reading = meets test row self.old.reading } }
+    /// A misuse is met, if the test says so.
+    pub fn meet(&mut self, test: bool, misuse: Misuse)
+        ensures { self.new ≡ record self.old { reading = meets test misuse self.old.reading } }
     {
         if test {
-            self.least = Some(row.min(self.least.unwrap_or(row)));
+            self.least = Some(misuse.earlier(self.least));
         }
     }
 
@@ -97,8 +97,8 @@ impl Reader {
         ensures kept { KeepsNumbers self.old.reading.symbols self.new.reading.symbols }
     {
         let (s, clashes) = enter(&mut self.symbols, name, arity as u64, kind)?;
-        self.meet(clashes, 9);
-        self.meet(name == b"#".as_slice(), 12);
+        self.meet(clashes, Misuse::TwoKinds);
+        self.meet(name == b"#".as_slice(), Misuse::UnfitAttribute);
         self.large = self.large || arity > MOST_ARGUMENTS;
         Ok(s)
     }
@@ -167,11 +167,11 @@ impl Reader {
         if self.large {
             return Some(FormulaError::Large(What::Arity));
         }
-        self.least.map(FormulaError::Row)
+        self.least.map(FormulaError::Misused)
     }
 
     /// The least row of misuse that was met.
-    pub fn least(&self) -> Option<u8>
+    pub fn least(&self) -> Option<Misuse>
         ensures { result ≡ self.now.reading.least }
     {
         self.least
@@ -192,7 +192,7 @@ impl Reader {
     }
 
     /// The symbols, the variables, the least row that was met, and whether an arity was too large.
-    pub fn into_read(self) -> (Symbols, Variables, Option<u8>, bool)
+    pub fn into_read(self) -> (Symbols, Variables, Option<Misuse>, bool)
         ensures { self.reading ≡ record {
           symbols = result.0;
           variables = result.1;

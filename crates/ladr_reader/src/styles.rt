@@ -2,6 +2,7 @@
 ghost use Rattle.std.specs.Prelude.{◌≡◌};
 ghost use Rattle.ladr_reader.specs.Formulas.{style_of};
 
+use ladr_lex::Misuse;
 use std::alloc::AllocError;
 
 /// For whom formulas are read: for the prover numerals are constants, for the model finder and the tester they name elements.
@@ -26,10 +27,10 @@ pub enum What {
     Arity,
 }
 
-/// Why a term isn't read as a formula: it breaks this row of misuse, something is too large, or memory is lacking.
+/// Why a term isn't read as a formula: it is misused so, something is too large, or memory is lacking.
 #[derive(Clone, Copy, Debug, PartialEq, Eq)]
 pub enum FormulaError {
-    Row(u8),
+    Misused(Misuse),
     Large(What),
     Memory,
 }

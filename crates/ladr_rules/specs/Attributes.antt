@@ -60,8 +60,8 @@ is_lost None = true
 is_lost (Some n) = false
 
 -- one of another shape is row 12, on a formula of any list
-abbrev pub breaks_row_12 : List RawTree → Bool
-breaks_row_12 ts = list_any (λ t. is_hint_weight t && is_lost (hint_weight t)) ts
+abbrev pub has_unfit_weight : List RawTree → Bool
+has_unfit_weight ts = list_any (λ t. is_hint_weight t && is_lost (hint_weight t)) ts
 
 -- the number of the first, for a hint
 abbrev pub hint_weight_of : List RawTree → Option ℕ

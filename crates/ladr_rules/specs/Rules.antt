@@ -6,6 +6,9 @@ use Rattle.fol_core.specs.NamesOnce.{is_in}
 use Rattle.fol_core.specs.RawTree.{RawTree, RawTrees, named, quantified, no_raws, more_raws}
 use Rattle.fol_core.specs.Weights.{WeightTree, Rule, number, of_variable, plus, times}
 use Rattle.fol_core.specs.SymbolTable.{Symbol}
+use Rattle.ladr_lex.specs.Misuses.{row_of}
+use Rattle.ladr_lex.specs.declared.misuse.Misuse.{Misuse}
+use Rattle.ladr_lex.specs.declared.misuse.Misuse.TheVariants.{TwoKinds, UnfitNumeral}
 use Rattle.ladr_reader.specs.Formulas.{Made, Variable, is_free_name, is_too_great, terms_of, unread, free_number}
 use Rattle.ladr_reader.specs.declared.styles.Style.{Style}
 use Rattle.ladr_rules.specs.Attributes.{whole_number}
@@ -84,7 +87,7 @@ abbrev pub is_bare : RawTrees → Bool
 is_bare no_raws = true
 is_bare (more_raws t ts) = false
 
--- the shape of a rule: another one is row 15, and no symbol of it is entered
+-- the shape of a rule: of another one no symbol is entered
 abbrev pub is_shaped : Style → Sides → Bool
 is_shaped st r =
     not (some_quantifies r.parts || quantifies r.value || (is_bare r.parts && is_free_name st r.head)) && is_value (all_names st r.parts) r.value
@@ -99,13 +102,15 @@ abbrev mutual
   some_too_great st no_raws = false
   some_too_great st (more_raws t ts) = too_great st t || some_too_great st ts
 
-abbrev pub is_clash_row : Option ℕ → Bool
-is_clash_row None = false
-is_clash_row (Some k) = k == 9
+abbrev pub is_clash_met : Option Misuse → Bool
+is_clash_met None = false
+is_clash_met (Some m) = row_of m == row_of TwoKinds
 
--- the rows that are looked for in a pattern: 9, then 16; `#` is a symbol of patterns like others
-abbrev pub pattern_row : Style → Sides → Option ℕ → Option ℕ
-pattern_row st r met = if is_clash_row met then met else (if is_too_great st r.head || some_too_great st r.parts then Some 16 else None)
+-- how a pattern is misused, where this was met in it: a clash of kinds counts, then too great a numeral; `#` is a symbol of
+-- patterns like others
+abbrev pub pattern_misuse : Style → Sides → Option Misuse → Option Misuse
+pattern_misuse st r met =
+    if is_clash_met met then met else (if is_too_great st r.head || some_too_great st r.parts then Some UnfitNumeral else None)
 
 -- a rule behind these symbols; the head of its pattern is a name alone
 abbrev pub rule_made : Style → List Symbol → Sides → Made Rule
@@ -113,7 +118,7 @@ rule_made st table r =
     let arguments = terms_of st [] (unread table) r.parts in
     record {
       tree = record { head = r.head; arguments = arguments.tree; weight = value_of arguments.reading.variables r.value };
-      reading = record arguments.reading { least = pattern_row st r arguments.reading.least };
+      reading = record arguments.reading { least = pattern_misuse st r arguments.reading.least };
     }
 
 -- the sides of a term that is a rule

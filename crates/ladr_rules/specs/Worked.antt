@@ -6,6 +6,7 @@ use Rattle.fol_core.specs.Fol.{Fol}
 use Rattle.fol_core.specs.RawTree.{RawTree}
 use Rattle.fol_core.specs.SymbolTable.{Symbol}
 use Rattle.fol_core.specs.Weights.{Rule}
+use Rattle.ladr_lex.specs.declared.misuse.Misuse.{Misuse}
 use Rattle.ladr_reader.specs.Formulas.{formula_reading}
 use Rattle.ladr_reader.specs.Worked.{constant, unary, binary}
 use Rattle.ladr_reader.specs.WorkedFormulas.{for_prover}
@@ -54,12 +55,12 @@ one_and_twice = weight_is (binary "g" y x) (binary "+" (constant "1") (binary "*
 abbrev pub formula : RawTree → Fol
 formula t = (formula_reading for_prover [] t).tree
 
--- the rule that a term is; the row that its pattern breaks, and the symbols that it enters
+-- the rule that a term is; how its pattern is misused, and the symbols that it enters
 abbrev pub rule_of : Style → RawTree → Option Rule
 rule_of style t = option_map (λ m. m.tree) (rule_in style [] t)
 
-abbrev pub row_of : Style → RawTree → Option ℕ
-row_of style t = option_map_or (λ m. m.reading.least) (rule_in style [] t) None
+abbrev pub misuse_of : Style → RawTree → Option Misuse
+misuse_of style t = option_map_or (λ m. m.reading.least) (rule_in style [] t) None
 
 abbrev pub symbols_of : Style → RawTree → Option (List Symbol)
 symbols_of style t = option_map (λ m. m.reading.symbols) (rule_in style [] t)

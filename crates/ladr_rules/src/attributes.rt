@@ -3,7 +3,7 @@ ghost use Rattle.std.specs.Prelude.{◌≡◌, [], ◌∷◌, length, None, Some
 ghost use Rattle.std.specs.Option.{option_map};
 ghost use Rattle.fol_core.specs.RawTree.{named, no_raws, raws_of};
 ghost use Rattle.fol_core.specs.RawView.{raw_of};
-ghost use Rattle.ladr_rules.specs.Attributes.{attributed, attributes_in, is_label, label_of, whole_number, is_hint_weight, hint_weight, breaks_row_12, hint_weight_of};
+ghost use Rattle.ladr_rules.specs.Attributes.{attributed, attributes_in, is_label, label_of, whole_number, is_hint_weight, hint_weight, has_unfit_weight, hint_weight_of};
 ghost use Rattle.ladr_rules.specs.Seen.{is_joined, IsSplit};
 
 use fol_core::{Raw, Raws};
@@ -28,7 +28,7 @@ impl Stated {
         ensures formula { raw_of result.formula ≡ (attributed (raw_of raw)).formula }
         ensures label { option_map raw_of result.label
             ≡ label_of (attributed (raw_of raw)).attributes }
-        ensures misused { result.misused ≡ breaks_row_12 (attributed (raw_of raw)).attributes }
+        ensures misused { result.misused ≡ has_unfit_weight (attributed (raw_of raw)).attributes }
         ensures hint_weight { result.hint_weight
             ≡ hint_weight_of (attributed (raw_of raw)).attributes }
     {
@@ -68,7 +68,7 @@ impl Notes {
     // Of the attributes behind a formula's `#`.
     fn of(raw: Raw) -> Notes
         ensures label { option_map raw_of result.label ≡ label_of (attributes_in (raw_of raw)) }
-        ensures misused { result.misused ≡ breaks_row_12 (attributes_in (raw_of raw)) }
+        ensures misused { result.misused ≡ has_unfit_weight (attributes_in (raw_of raw)) }
         ensures hint_weight { result.hint_weight ≡ hint_weight_of (attributes_in (raw_of raw)) }
     {
         match Split::of(raw) {
@@ -93,7 +93,7 @@ impl Notes {
         ensures label { option_map raw_of result.label
             ≡ (if is_label (raw_of first) then Some
             (raw_of first) else option_map raw_of self.label) }
-        ensures misused { result.misused ≡ (breaks_row_12 (raw_of first ∷ []) || self.misused) }
+        ensures misused { result.misused ≡ (has_unfit_weight (raw_of first ∷ []) || self.misused) }
         ensures hint_weight { result.hint_weight
             ≡ (if is_hint_weight (raw_of first) then hint_weight
             (raw_of first) else self.hint_weight) }

@@ -4,13 +4,14 @@ ghost use Rattle.fol_core.specs.SymbolTable.{symbol};
 ghost use Rattle.fol_core.specs.Tree.{var, app, none, more};
 ghost use Rattle.fol_core.specs.Weights.{number, of_variable, plus, times};
 ghost use Rattle.fol_core.specs.declared.symbols.Kind.TheVariants.{Function};
+ghost use Rattle.ladr_lex.specs.declared.misuse.Misuse.TheVariants.{UnfitNumeral};
 ghost use Rattle.ladr_reader.specs.Reads.{Item};
 ghost use Rattle.ladr_reader.specs.Worked.{line, constant, unary, binary, standard};
 ghost use Rattle.ladr_reader.specs.WorkedFormulas.{for_tester, for_prover, in_prolog};
-ghost use Rattle.ladr_rules.specs.Attributes.{attributed, label_of, breaks_row_12, hint_weight_of};
+ghost use Rattle.ladr_rules.specs.Attributes.{attributed, label_of, has_unfit_weight, hint_weight_of};
 ghost use Rattle.ladr_rules.specs.Rules.{kbo_rule};
 ghost use Rattle.ladr_rules.specs.Shapes.{is_hint, is_demodulator};
-ghost use Rattle.ladr_rules.specs.Worked.{p, q, a, b, x, y, f, weighing, weight, weight_is, one_and_twice, formula, rule_of, row_of, symbols_of};
+ghost use Rattle.ladr_rules.specs.Worked.{p, q, a, b, x, y, f, weighing, weight, weight_is, one_and_twice, formula, rule_of, misuse_of, symbols_of};
 
 /// What attributes say, and which formulas hints and demodulators may be.
 pub fn worked()
@@ -26,10 +27,10 @@ pub fn worked()
         ≡ Some (unary "label" a) }
     // The first weight counts, and each has to be right.
     ensures hint_weight { hint_weight_of (weighing "5" ∷ weighing "6" ∷ []) ≡ Some 5 }
-    ensures greatest { breaks_row_12 (weighing "2147483647" ∷ []) ≡ false }
-    ensures too_great { breaks_row_12 (weighing "2147483648" ∷ []) ≡ true }
-    ensures no_number { breaks_row_12 (weighing "5" ∷ weighing "x" ∷ []) ≡ true }
-    ensures alone { breaks_row_12 (constant "bsub_hint_wt" ∷ []) ≡ true }
+    ensures greatest { has_unfit_weight (weighing "2147483647" ∷ []) ≡ false }
+    ensures too_great { has_unfit_weight (weighing "2147483648" ∷ []) ≡ true }
+    ensures no_number { has_unfit_weight (weighing "5" ∷ weighing "x" ∷ []) ≡ true }
+    ensures alone { has_unfit_weight (constant "bsub_hint_wt" ∷ []) ≡ true }
     // p | -q, -(-p) and p & q
     ensures hint { is_hint (formula (binary "|" p (unary "-" q))) ≡ true }
     ensures denied_twice { is_hint (formula (unary "-" (unary "-" p))) ≡ false }
@@ -66,8 +67,8 @@ pub fn worked_rules()
     ensures other_variable { rule_of for_prover (weight_is (f x) (weight y)) ≡ None }
     ensures great_value { rule_of for_prover (weight_is (f x) (constant "2147483648")) ≡ None }
     // weight(f(1000000000)) = 1: for the prover the numeral is a constant. The head of the pattern isn't entered.
-    ensures numeral { row_of for_tester (weight_is (f (constant "1000000000")) (constant "1"))
-        ≡ Some 16 }
+    ensures numeral { misuse_of for_tester (weight_is (f (constant "1000000000")) (constant "1"))
+        ≡ Some UnfitNumeral }
     ensures symbols { symbols_of for_prover (weight_is (f (constant "1000000000")) (constant "1"))
         ≡ Some (symbol (codes "1000000000") 0 Function ∷ []) }
     // KBO: f = 65535, f = 0, f = 65536 and f(x) = 3

@@ -3,7 +3,7 @@ ghost use Rattle.std.specs.Prelude.{◌≡◌, IfOk, OnOk};
 ghost use Rattle.fol_core.specs.RawTree.{named, no_raws, raws_of};
 ghost use Rattle.fol_core.specs.RawView.{raw_of};
 ghost use Rattle.fol_core.specs.NamesOnce.{names_of, with_name};
-ghost use Rattle.ladr_rules.specs.Rules.{quantifies, some_quantifies, variable_names, all_names, too_great, some_too_great, pattern_row, is_shaped, is_value};
+ghost use Rattle.ladr_rules.specs.Rules.{quantifies, some_quantifies, variable_names, all_names, too_great, some_too_great, pattern_misuse, is_shaped, is_value};
 ghost use Rattle.ladr_rules.specs.Seen.{with_names};
 ghost use Rattle.ladr_rules.specs.SidesView.{sides_view};
 
@@ -11,6 +11,7 @@ use crate::sides::Sides;
 use crate::values::is_value;
 use fol_core::{Raw, Raws};
 use indexmap::IndexSet;
+use ladr_lex::Misuse;
 use ladr_reader::{Style, is_free_name, is_too_great};
 use std::alloc::{AllocError, Global};
 
@@ -39,15 +40,15 @@ fn has_value(alloc: Global, style: Style, parts: &Raws, value: &Raw) -> Result<b
     Ok(is_value(&names, value))
 }
 
-/// The row that a pattern breaks, given the least one that was met as it was read.
-pub fn pattern_row(style: Style, sides: &Sides<'_>, met: Option<u8>) -> Option<u8>
-    ensures { result ≡ pattern_row style (sides_view sides.now) met }
+/// How a pattern is misused, where this was met as it was read.
+pub fn pattern_misuse(style: Style, sides: &Sides<'_>, met: Option<Misuse>) -> Option<Misuse>
+    ensures { result ≡ pattern_misuse style (sides_view sides.now) met }
 {
     match met {
-        Some(9) => Some(9),
+        Some(Misuse::TwoKinds) => Some(Misuse::TwoKinds),
         _ => {
             if is_too_great(style, sides.head.bytes()) || some_too_great(style, sides.parts) {
-                Some(16)
+                Some(Misuse::UnfitNumeral)
             } else {
                 None
             }

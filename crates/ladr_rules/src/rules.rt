@@ -10,18 +10,19 @@ ghost use Rattle.ladr_rules.specs.RuleSeen.{IsRule, IsRuleIn};
 ghost use Rattle.ladr_rules.specs.Rules.{shaped_sides, rule_made, rule_in};
 ghost use Rattle.ladr_rules.specs.SidesView.{sides_view};
 
-use crate::patterns::{is_shaped, pattern_row};
+use crate::patterns::{is_shaped, pattern_misuse};
 use crate::sides::{Sides, sides_of};
 use crate::values::value_of;
 use fol_core::{Name, Raw, Symbols, WeightRule};
+use ladr_lex::Misuse;
 use ladr_reader::{Mode, Style, TermsRead, style_of, terms_of};
 use std::alloc::{AllocError, Global};
 
-/// A rule that was read, the least row of misuse that was met in it, and whether an arity was too large.
+/// A rule that was read, the misuse of the least row that was met in it, and whether an arity was too large.
 #[derive(Drop)]
 pub struct RuleRead {
     pub rule: WeightRule,
-    pub least: Option<u8>,
+    pub least: Option<Misuse>,
     pub large: bool,
 }
 
@@ -92,6 +93,6 @@ fn shaped_rule(
         arguments: terms,
         weight,
     };
-    let least = pattern_row(style, sides, least);
+    let least = pattern_misuse(style, sides, least);
     Ok(RuleRead { rule, least, large })
 }

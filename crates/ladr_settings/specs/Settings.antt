@@ -1,4 +1,4 @@
--- What the commands of a file set, and which rows of misuse they break.
+-- What the commands of a file set, and how they are misused.
 use Rattle.std.specs.Prelude.{ℕ, Bool, true, false, not, ◌&&◌, ◌||◌, if◌then◌else◌, List, [], ◌∷◌, Option, Some, None, is_some, length, nat_lt, codes}
 use Rattle.std.specs.List.{list_any}
 use Rattle.std.specs.Option.{option_map_or}
@@ -11,7 +11,9 @@ use Rattle.ladr_commands.specs.declared.command.Command.{Command}
 use Rattle.ladr_commands.specs.declared.command.Command.TheVariants as command
 use Rattle.ladr_commands.specs.declared.command.Value.{Value}
 use Rattle.ladr_commands.specs.declared.command.Value.TheVariants as value
-use Rattle.ladr_lex.specs.Operators.{OperatorRow, standard_rows, breaks_row_5, breaks_row_6, declared}
+use Rattle.ladr_lex.specs.Operators.{OperatorRow, standard_rows, is_unfit_operator, is_unfit_symbol, declared}
+use Rattle.ladr_lex.specs.declared.misuse.Misuse.{Misuse}
+use Rattle.ladr_lex.specs.declared.misuse.Misuse.TheVariants.{UnknownFlag, UnknownParameter, UnfitValue, UnknownList, UnfitOperator, UnfitSymbol, TooLate, UnmatchedIf, UnfitRule, UnfitInterpretation}
 use Rattle.ladr_interpretations.specs.Good.{is_good}
 use Rattle.ladr_options.specs.Options.{start, flagged, numbered, symbolized}
 use Rattle.ladr_options.specs.declared.options.Options.{Options}
@@ -62,64 +64,64 @@ is_for Tester name = false
 abbrev pub is_meant : Mode → Settings → Bool
 is_meant p s = option_map_or (is_for p) s.block true
 
--- an unknown flag is row 1, an unknown parameter row 2, and another value than those of a parameter row 3
-abbrev pub flag_row : OptionError → ℕ
-flag_row e = 1
+-- how unknown flags, unknown parameters, and other values than those of a parameter are misused
+abbrev pub flag_misuse : OptionError → Misuse
+flag_misuse e = UnknownFlag
 
-abbrev pub parameter_row : OptionError → ℕ
-parameter_row Unknown = 2
-parameter_row NotAValue = 3
+abbrev pub parameter_misuse : OptionError → Misuse
+parameter_misuse Unknown = UnknownParameter
+parameter_misuse NotAValue = UnfitValue
 
--- the settings with other options, or the row
-abbrev pub with_options : Settings → (OptionError → ℕ) → Result Options OptionError → Result Settings ℕ
-with_options s row (Ok o) = Ok (record s { options = o })
-with_options s row (Err e) = Err (row e)
+-- the settings with other options, or the misuse
+abbrev pub with_options : Settings → (OptionError → Misuse) → Result Options OptionError → Result Settings Misuse
+with_options s misuse (Ok o) = Ok (record s { options = o })
+with_options s misuse (Err e) = Err (misuse e)
 
--- the style of variables can't be changed once a list was opened: row 7
+-- the style of variables can't be changed once a list was opened
 abbrev pub is_late_style : List ℕ → Settings → Bool
 is_late_style name s = bytes_eq name (codes "prolog_style_variables") && s.listed
 
-abbrev pub after_flag : Bool → List ℕ → Settings → Result Settings ℕ
-after_flag on name s = if is_late_style name s then Err 7 else with_options s flag_row (flagged name on s.options)
+abbrev pub after_flag : Bool → List ℕ → Settings → Result Settings Misuse
+after_flag on name s = if is_late_style name s then Err TooLate else with_options s flag_misuse (flagged name on s.options)
 
-abbrev pub after_value : List ℕ → Value → Settings → Result Settings ℕ
-after_value name (value.Symbol text) s = with_options s parameter_row (symbolized name text s.options)
-after_value name (value.Number negative n) s = with_options s parameter_row (numbered name negative n s.options)
+abbrev pub after_value : List ℕ → Value → Settings → Result Settings Misuse
+after_value name (value.Symbol text) s = with_options s parameter_misuse (symbolized name text s.options)
+after_value name (value.Number negative n) s = with_options s parameter_misuse (numbered name negative n s.options)
 
 -- the table of operators once all these symbols are declared
 abbrev pub all_declared : ℕ → List ℕ → List (List ℕ) → List OperatorRow → List OperatorRow
 all_declared p type [] rows = rows
 all_declared p type (name ∷ names) rows = all_declared p type names (declared p type name rows)
 
--- a wrong precedence or type is row 5, a symbol that can't be declared row 6, and a declaration once a list was opened row 7
-abbrev pub after_operators : ℕ → List ℕ → List (List ℕ) → Settings → Result Settings ℕ
+-- first the precedence and the type count, then the symbols, and then whether a list was opened
+abbrev pub after_operators : ℕ → List ℕ → List (List ℕ) → Settings → Result Settings Misuse
 after_operators p type names s =
-    if nat_lt 0 (length names) && breaks_row_5 p type then Err 5
-    else (if list_any breaks_row_6 names then Err 6
-    else (if s.listed then Err 7
+    if nat_lt 0 (length names) && is_unfit_operator p type then Err UnfitOperator
+    else (if list_any is_unfit_symbol names then Err UnfitSymbol
+    else (if s.listed then Err TooLate
     else Ok (record s { operators = all_declared p type names s.operators })))
 
--- a name that stands twice in an order is row 15
-abbrev pub after_order : List (List ℕ) → Settings → Result Settings ℕ
-after_order names s = if are_apart names then Ok (record s { function_order = names }) else Err 15
+-- no name stands twice in an order
+abbrev pub after_order : List (List ℕ) → Settings → Result Settings Misuse
+after_order names s = if are_apart names then Ok (record s { function_order = names }) else Err UnfitRule
 
--- a list of an unknown name is row 4
-abbrev pub after_opening : OpenList → Settings → Result Settings ℕ
-after_opening list s = if is_other list then Err 4 else Ok (record s { list = Some list; listed = true })
+-- a list of an unknown name is misuse
+abbrev pub after_opening : OpenList → Settings → Result Settings Misuse
+after_opening list s = if is_other list then Err UnknownList else Ok (record s { list = Some list; listed = true })
 
--- `if` inside `if` is row 8, and so is `end_if` without `if`
-abbrev pub after_if : List ℕ → Settings → Result Settings ℕ
-after_if name s = if is_some s.block then Err 8 else Ok (record s { block = Some name })
+-- `if` inside `if` is misuse, and so is `end_if` without `if`
+abbrev pub after_if : List ℕ → Settings → Result Settings Misuse
+after_if name s = if is_some s.block then Err UnmatchedIf else Ok (record s { block = Some name })
 
-abbrev pub after_end_if : Settings → Result Settings ℕ
-after_end_if s = if is_some s.block then Ok (record s { block = None }) else Err 8
+abbrev pub after_end_if : Settings → Result Settings Misuse
+after_end_if s = if is_some s.block then Ok (record s { block = None }) else Err UnmatchedIf
 
--- a second interpretation is row 17, and so is a bad one
-abbrev pub after_interpretation : ByName → Settings → Result Settings ℕ
-after_interpretation it s = if is_some s.interpretation || not (is_good it) then Err 17 else Ok (record s { interpretation = Some it })
+-- a second interpretation is misuse, and so is a bad one
+abbrev pub after_interpretation : ByName → Settings → Result Settings Misuse
+after_interpretation it s = if is_some s.interpretation || not (is_good it) then Err UnfitInterpretation else Ok (record s { interpretation = Some it })
 
--- what a command that is meant for the program makes of the settings, or the least row that it breaks
-abbrev pub after_meant : Command → Settings → Result Settings ℕ
+-- what a command that is meant for the program makes of the settings, or its misuse of the least row
+abbrev pub after_meant : Command → Settings → Result Settings Misuse
 after_meant (command.Flag on name) s = after_flag on name s
 after_meant (command.Assign name v) s = after_value name v s
 after_meant (command.Op p type names) s = after_operators p type names s
@@ -144,8 +146,8 @@ after_other (command.If name) s = s
 after_other command.EndIf s = record s { block = None }
 after_other (command.Interpretation it) s = s
 
--- what a command makes of the settings of a program, or the least row of misuse that it breaks
-abbrev pub after : Mode → Command → Settings → Result Settings ℕ
+-- what a command makes of the settings of a program, or its misuse of the least row
+abbrev pub after : Mode → Command → Settings → Result Settings Misuse
 after p c s = if is_meant p s then after_meant c s else Ok (after_other c s)
 
 -- before the first command

@@ -1,5 +1,6 @@
 // Commands and what they make of settings, worked out.
 ghost use Rattle.std.specs.Prelude.{◌≡◌, true, [], ◌∷◌, Ok, Err, Some, codes};
+ghost use Rattle.ladr_lex.specs.declared.misuse.Misuse.TheVariants.{UnknownFlag, UnknownParameter, UnfitValue, UnknownList, UnfitOperator, UnfitSymbol, TooLate, UnmatchedIf, UnfitRule, UnfitInterpretation};
 ghost use Rattle.ladr_commands.specs.ByName.{by_name};
 ghost use Rattle.ladr_commands.specs.declared.command.Command.{Command};
 ghost use Rattle.ladr_commands.specs.declared.command.Command.TheVariants as command;
@@ -12,29 +13,33 @@ ghost use Rattle.ladr_settings.specs.declared.lists.FormulaList.TheVariants.{Ass
 ghost use Rattle.ladr_settings.specs.declared.lists.OpenList.TheVariants as list;
 ghost use Rattle.ladr_settings.specs.declared.settings.Settings.{Settings};
 
-/// Each row of misuse, and what is none.
+/// Each misuse of a command, and what is none.
 pub fn worked()
-    ensures row1 { after Prover (command.Flag true (codes "nosuchflag")) at_start ≡ Err 1 }
-    ensures row2 { after Prover (command.Assign (codes "max_depth") (value.Number true 1)) at_start
-        ≡ Err 2 }
-    ensures row3 { after Prover (command.Assign (codes "order")
-        (value.Symbol (codes "rpo"))) at_start ≡ Err 3 }
-    ensures row4 { after Prover (command.Formulas (codes "theorems")) at_start ≡ Err 4 }
-    ensures row5 { after Prover (command.Op 999 (codes "infix") (codes "&" ∷ [])) at_start ≡ Err 5 }
-    ensures row6 { after Prover (command.Op 998 (codes "infix")
-        (codes "@@" ∷ codes "&" ∷ [])) at_start ≡ Err 6 }
-    ensures row7 { after Prover (command.Op 998 (codes "infix") (codes "@@" ∷ []))
-        (record at_start { listed = true }) ≡ Err 7 }
-    ensures row7_of_style { after Mace (command.Flag true (codes "prolog_style_variables"))
-        (record at_start { listed = true }) ≡ Err 7 }
-    ensures row8 { after Prover (command.If (codes "Mace4"))
-        (record at_start { block = Some (codes "Prover9") }) ≡ Err 8 }
-    ensures row8_of_end { after Tester command.EndIf at_start ≡ Err 8 }
-    ensures row15 { after Prover (command.FunctionOrder
-        (codes "f" ∷ codes "e" ∷ codes "f" ∷ [])) at_start ≡ Err 15 }
-    ensures row17 { after Tester (command.Interpretation (by_name 0 [])) at_start ≡ Err 17 }
-    ensures row17_of_second { after Tester (command.Interpretation (by_name 1 []))
-        (record at_start { interpretation = Some (by_name 2 []) }) ≡ Err 17 }
+    ensures unknown_flag { after Prover (command.Flag true (codes "nosuchflag")) at_start
+        ≡ Err UnknownFlag }
+    ensures unknown_parameter { after Prover
+        (command.Assign (codes "max_depth") (value.Number true 1)) at_start ≡ Err UnknownParameter }
+    ensures unfit_value { after Prover (command.Assign (codes "order")
+        (value.Symbol (codes "rpo"))) at_start ≡ Err UnfitValue }
+    ensures unknown_list { after Prover (command.Formulas (codes "theorems")) at_start
+        ≡ Err UnknownList }
+    ensures operator { after Prover (command.Op 999 (codes "infix") (codes "&" ∷ [])) at_start
+        ≡ Err UnfitOperator }
+    ensures symbol { after Prover (command.Op 998 (codes "infix")
+        (codes "@@" ∷ codes "&" ∷ [])) at_start ≡ Err UnfitSymbol }
+    ensures too_late { after Prover (command.Op 998 (codes "infix") (codes "@@" ∷ []))
+        (record at_start { listed = true }) ≡ Err TooLate }
+    ensures late_style { after Mace (command.Flag true (codes "prolog_style_variables"))
+        (record at_start { listed = true }) ≡ Err TooLate }
+    ensures nested_if { after Prover (command.If (codes "Mace4"))
+        (record at_start { block = Some (codes "Prover9") }) ≡ Err UnmatchedIf }
+    ensures unmatched_end { after Tester command.EndIf at_start ≡ Err UnmatchedIf }
+    ensures unfit_order { after Prover (command.FunctionOrder
+        (codes "f" ∷ codes "e" ∷ codes "f" ∷ [])) at_start ≡ Err UnfitRule }
+    ensures unfit_interpretation { after Tester (command.Interpretation (by_name 0 [])) at_start
+        ≡ Err UnfitInterpretation }
+    ensures second_interpretation { after Tester (command.Interpretation (by_name 1 []))
+        (record at_start { interpretation = Some (by_name 2 []) }) ≡ Err UnfitInterpretation }
     ensures assumptions { after Prover (command.Formulas (codes "sos")) at_start
         ≡ Ok (record at_start { list = Some (list.Formulas Assumptions); listed = true }) }
     ensures predicates { after Prover (command.PredicateOrder (codes "p" ∷ codes "p" ∷ [])) at_start

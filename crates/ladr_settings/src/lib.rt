@@ -8,4 +8,4 @@ mod symbols;
 
 pub use laws::{options_stay_in_range, worked};
 pub use lists::{FormulaList, OpenList};
-pub use settings::{Misuse, Settings};
+pub use settings::{Settings, SettingsError};

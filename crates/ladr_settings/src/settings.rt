@@ -1,31 +1,32 @@
 // The settings of a program, and what a command makes of them.
 ghost use Rattle.std.specs.Prelude.{◌≡◌, ℕ, OnOk, IfOk, Ok, Err};
 ghost use Rattle.std.specs.Option.{option_map_or};
-ghost use Rattle.ladr_settings.specs.Settings.{is_for, is_meant, after, after_meant, after_other, after_flag, after_value, after_operators, after_order, after_opening, after_if, after_end_if, after_interpretation, parameter_row, at_start};
-ghost use Rattle.ladr_settings.specs.declared.settings.Misuse.TheVariants.{Row, Memory};
+ghost use Rattle.ladr_lex.specs.declared.misuse.Misuse.{Misuse};
+ghost use Rattle.ladr_settings.specs.Settings.{is_for, is_meant, after, after_meant, after_other, after_flag, after_value, after_operators, after_order, after_opening, after_if, after_end_if, after_interpretation, parameter_misuse, at_start};
+ghost use Rattle.ladr_settings.specs.declared.settings.SettingsError.TheVariants.{Misused, Memory};
 
 use crate::lists::OpenList;
 use crate::symbols::{declare_all, order_of};
 use fol_core::{Name, NameOrder, Names};
 use ladr_commands::{ByName, Command, Value};
 use ladr_interpretations::{Named, NamedError};
-use ladr_lex::{DeclareError, Ops};
+use ladr_lex::{DeclareError, Misuse, Ops};
 use ladr_options::{OptionError, Options};
 use ladr_reader::Mode;
 use std::alloc::{AllocError, Global};
 
-/// Why a command changes no settings: the least row of misuse that it breaks, or want of memory.
+/// Why a command changes no settings: how it is misused, by the least row, or want of memory.
 #[derive(Clone, Copy, Debug, PartialEq, Eq)]
-pub enum Misuse {
-    Row(u8),
+pub enum SettingsError {
+    Misused(Misuse),
     Memory,
 }
 
-impl From<AllocError> for Misuse {
+impl From<AllocError> for SettingsError {
     ghost from_gives = { λ _ e. e ≡ Memory };
 
-    fn from(_e: AllocError) -> Misuse {
-        Misuse::Memory
+    fn from(_e: AllocError) -> SettingsError {
+        SettingsError::Memory
     }
 }
 
@@ -71,9 +72,15 @@ impl Settings {
     }
 
     /// Takes a command.
-    pub fn take(&mut self, alloc: Global, program: Mode, command: Command) -> Result<(), Misuse>
+    pub fn take(
+        &mut self,
+        alloc: Global,
+        program: Mode,
+        command: Command,
+    ) -> Result<(), SettingsError>
         ensures ok { OnOk result (after program command self.old ≡ Ok self.new) }
-        ensures row { (k : ℕ) → result ≡ Err (Row k) → after program command self.old ≡ Err k }
+        ensures row { (m : Misuse) → result ≡ Err (Misused m)
+            → after program command self.old ≡ Err m }
     {
         if self.is_meant(program) {
             self.take_meant(alloc, command)
@@ -84,9 +91,10 @@ impl Settings {
     }
 
     // A command that is meant for the program.
-    fn take_meant(&mut self, alloc: Global, command: Command) -> Result<(), Misuse>
+    fn take_meant(&mut self, alloc: Global, command: Command) -> Result<(), SettingsError>
         ensures ok { OnOk result (after_meant command self.old ≡ Ok self.new) }
-        ensures row { (k : ℕ) → result ≡ Err (Row k) → after_meant command self.old ≡ Err k }
+        ensures row { (m : Misuse) → result ≡ Err (Misused m)
+            → after_meant command self.old ≡ Err m }
     {
         match command {
             Command::Flag(on, name) => self.change_flag(on, name.bytes()),
@@ -116,23 +124,24 @@ impl Settings {
         }
     }
 
-    fn change_flag(&mut self, on: bool, name: &[u8]) -> Result<(), Misuse>
+    fn change_flag(&mut self, on: bool, name: &[u8]) -> Result<(), SettingsError>
         ensures ok { OnOk result (after_flag on name.now self.old ≡ Ok self.new) }
-        ensures row { (k : ℕ) → result ≡ Err (Row k) → after_flag on name.now self.old ≡ Err k }
+        ensures row { (m : Misuse) → result ≡ Err (Misused m)
+            → after_flag on name.now self.old ≡ Err m }
     {
         if name == b"prolog_style_variables".as_slice() && self.listed {
-            return Err(Misuse::Row(7));
+            return Err(SettingsError::Misused(Misuse::TooLate));
         }
         match self.options.change_flag(name, on) {
             Ok(()) => Ok(()),
-            Err(_) => Err(Misuse::Row(1)),
+            Err(_) => Err(SettingsError::Misused(Misuse::UnknownFlag)),
         }
     }
 
-    fn assign(&mut self, name: &[u8], value: &Value) -> Result<(), Misuse>
+    fn assign(&mut self, name: &[u8], value: &Value) -> Result<(), SettingsError>
         ensures ok { OnOk result (after_value name.now value.now self.old ≡ Ok self.new) }
-        ensures row { (k : ℕ) → result ≡ Err (Row k)
-            → after_value name.now value.now self.old ≡ Err k }
+        ensures row { (m : Misuse) → result ≡ Err (Misused m)
+            → after_value name.now value.now self.old ≡ Err m }
     {
         let assigned = match value {
             Value::Symbol(text) => self.options.assign_symbol(name, text.bytes()),
@@ -140,89 +149,101 @@ impl Settings {
         };
         match assigned {
             Ok(()) => Ok(()),
-            Err(error) => Err(Misuse::Row(parameter_row(error))),
+            Err(error) => Err(SettingsError::Misused(parameter_misuse(error))),
         }
     }
 
-    fn declare(&mut self, precedence: u32, type_name: &[u8], names: &Names) -> Result<(), Misuse>
+    fn declare(
+        &mut self,
+        precedence: u32,
+        type_name: &[u8],
+        names: &Names,
+    ) -> Result<(), SettingsError>
         ensures ok { OnOk result (after_operators precedence type_name.now names.now self.old
             ≡ Ok self.new) }
-        ensures row { (k : ℕ) → result ≡ Err (Row k)
-            → after_operators precedence type_name.now names.now self.old ≡ Err k }
+        ensures row { (m : Misuse) → result ≡ Err (Misused m)
+            → after_operators precedence type_name.now names.now self.old ≡ Err m }
     {
         match declare_all(&mut self.operators, precedence, type_name, names.as_slice()) {
             Ok(()) => {}
-            Err(DeclareError::Memory) => return Err(Misuse::Memory),
-            Err(DeclareError::Row5) => return Err(Misuse::Row(5)),
-            Err(DeclareError::Row6) => return Err(Misuse::Row(6)),
+            Err(DeclareError::Memory) => return Err(SettingsError::Memory),
+            Err(DeclareError::UnfitOperator) => return Err(SettingsError::Misused(
+                Misuse::UnfitOperator,
+            )),
+            Err(DeclareError::UnfitSymbol) => return Err(SettingsError::Misused(
+                Misuse::UnfitSymbol,
+            )),
         }
         if self.listed {
-            return Err(Misuse::Row(7));
+            return Err(SettingsError::Misused(Misuse::TooLate));
         }
         Ok(())
     }
 
-    fn order(&mut self, alloc: Global, names: &Names) -> Result<(), Misuse>
+    fn order(&mut self, alloc: Global, names: &Names) -> Result<(), SettingsError>
         ensures ok { OnOk result (after_order names.now self.old ≡ Ok self.new) }
-        ensures row { (k : ℕ) → result ≡ Err (Row k) → after_order names.now self.old ≡ Err k }
+        ensures row { (m : Misuse) → result ≡ Err (Misused m)
+            → after_order names.now self.old ≡ Err m }
     {
         match order_of(alloc, names.as_slice())? {
             Some(order) => {
                 self.function_order = order;
                 Ok(())
             }
-            None => Err(Misuse::Row(15)),
+            None => Err(SettingsError::Misused(Misuse::UnfitRule)),
         }
     }
 
-    fn open(&mut self, list: OpenList) -> Result<(), Misuse>
+    fn open(&mut self, list: OpenList) -> Result<(), SettingsError>
         ensures ok { OnOk result (after_opening list self.old ≡ Ok self.new) }
-        ensures row { (k : ℕ) → result ≡ Err (Row k) → after_opening list self.old ≡ Err k }
+        ensures row { (m : Misuse) → result ≡ Err (Misused m)
+            → after_opening list self.old ≡ Err m }
     {
         if list.is_other() {
-            return Err(Misuse::Row(4));
+            return Err(SettingsError::Misused(Misuse::UnknownList));
         }
         self.list = Some(list);
         self.listed = true;
         Ok(())
     }
 
-    fn begin_block(&mut self, name: Name) -> Result<(), Misuse>
+    fn begin_block(&mut self, name: Name) -> Result<(), SettingsError>
         ensures ok { OnOk result (after_if name self.old ≡ Ok self.new) }
-        ensures row { (k : ℕ) → result ≡ Err (Row k) → after_if name self.old ≡ Err k }
+        ensures row { (m : Misuse) → result ≡ Err (Misused m) → after_if name self.old ≡ Err m }
     {
         if self.block.is_some() {
-            return Err(Misuse::Row(8));
+            return Err(SettingsError::Misused(Misuse::UnmatchedIf));
         }
         self.block = Some(name);
         Ok(())
     }
 
-    fn end_block(&mut self) -> Result<(), Misuse>
+    fn end_block(&mut self) -> Result<(), SettingsError>
         ensures ok { OnOk result (after_end_if self.old ≡ Ok self.new) }
-        ensures row { (k : ℕ) → result ≡ Err (Row k) → after_end_if self.old ≡ Err k }
+        ensures row { (m : Misuse) → result ≡ Err (Misused m) → after_end_if self.old ≡ Err m }
     {
         if self.block.is_none() {
-            return Err(Misuse::Row(8));
+            return Err(SettingsError::Misused(Misuse::UnmatchedIf));
         }
         self.block = None;
         Ok(())
     }
 
-    fn interpret(&mut self, alloc: Global, read: ByName) -> Result<(), Misuse>
+    fn interpret(&mut self, alloc: Global, read: ByName) -> Result<(), SettingsError>
         ensures ok { OnOk result (after_interpretation read self.old ≡ Ok self.new) }
-        ensures row { (k : ℕ) → result ≡ Err (Row k) → after_interpretation read self.old ≡ Err k }
+        ensures row { (m : Misuse) → result ≡ Err (Misused m)
+            → after_interpretation read self.old ≡ Err m }
     {
         if self.interpretation.is_some() {
-            return Err(Misuse::Row(17));
+            return Err(SettingsError::Misused(Misuse::UnfitInterpretation));
         }
         match Named::new(alloc, read) {
             Ok(named) => {
                 self.interpretation = Some(named);
                 Ok(())
             }
-            Err(NamedError::Bad) => Err(Misuse::Row(17)),
-            Err(NamedError::Memory) => Err(Misuse::Memory),
+            Err(NamedError::Bad) => Err(SettingsError::Misused(Misuse::UnfitInterpretation)),
+            Err(NamedError::Memory) => Err(SettingsError::Memory),
         }
     }
 }
@@ -238,11 +259,11 @@ fn is_for(program: Mode, name: &[u8]) -> bool
     }
 }
 
-fn parameter_row(error: OptionError) -> u8
-    ensures { result ≡ parameter_row error }
+fn parameter_misuse(error: OptionError) -> Misuse
+    ensures { result ≡ parameter_misuse error }
 {
     match error {
-        OptionError::Unknown => 2,
-        OptionError::NotAValue => 3,
+        OptionError::Unknown => Misuse::UnknownParameter,
+        OptionError::NotAValue => Misuse::UnfitValue,
     }
 }

@@ -2,9 +2,9 @@
 ghost use Rattle.std.specs.Prelude.{◌≡◌, nat_lt, length, ◌&&◌, true, false, if◌then◌else◌, OnOk, IfOk, Err, Some, None};
 ghost use Rattle.std.specs.List.{list_any};
 ghost use Rattle.fol_core.specs.NamesOnce.{are_apart};
-ghost use Rattle.ladr_lex.specs.Operators.{breaks_row_5, breaks_row_6, declared};
+ghost use Rattle.ladr_lex.specs.Operators.{is_unfit_operator, is_unfit_symbol, declared};
 ghost use Rattle.ladr_settings.specs.Settings.{all_declared};
-ghost use Rattle.ladr_lex.specs.declared.operators.DeclareError.TheVariants.{Row5, Row6};
+ghost use Rattle.ladr_lex.specs.declared.operators.DeclareError.TheVariants.{UnfitOperator, UnfitSymbol};
 
 use fol_core::{Name, NameOrder};
 use ladr_lex::{DeclareError, Ops};
@@ -33,13 +33,14 @@ pub fn declare_all(
 ) -> Result<(), DeclareError>
     ensures ok { OnOk result (operators.new ≡ all_declared precedence type_name.now symbols.now
         operators.old) }
-    ensures no_row5 { OnOk result ((nat_lt 0 (length symbols.now)
-        && breaks_row_5 precedence type_name.now) ≡ false) }
-    ensures no_row6 { OnOk result (list_any breaks_row_6 symbols.now ≡ false) }
-    ensures row5 { result ≡ Err Row5 → (nat_lt 0 (length symbols.now)
-        && breaks_row_5 precedence type_name.now) ≡ true }
-    ensures not_row5 { result ≡ Err Row6 → breaks_row_5 precedence type_name.now ≡ false }
-    ensures row6 { result ≡ Err Row6 → list_any breaks_row_6 symbols.now ≡ true }
+    ensures no_operator { OnOk result ((nat_lt 0 (length symbols.now)
+        && is_unfit_operator precedence type_name.now) ≡ false) }
+    ensures no_symbol { OnOk result (list_any is_unfit_symbol symbols.now ≡ false) }
+    ensures operator { result ≡ Err UnfitOperator
+        → (nat_lt 0 (length symbols.now) && is_unfit_operator precedence type_name.now) ≡ true }
+    ensures not_operator { result ≡ Err UnfitSymbol
+        → is_unfit_operator precedence type_name.now ≡ false }
+    ensures symbol { result ≡ Err UnfitSymbol → list_any is_unfit_symbol symbols.now ≡ true }
 {
     for symbol in symbols {
         match declare(operators, precedence, type_name, symbol.bytes()) {
@@ -59,11 +60,13 @@ fn declare(
 ) -> Result<(), DeclareError>
     ensures ok { OnOk result (operators.new ≡ declared precedence type_name.now symbol.now
         operators.old) }
-    ensures no_row5 { OnOk result (breaks_row_5 precedence type_name.now ≡ false) }
-    ensures no_row6 { OnOk result (breaks_row_6 symbol.now ≡ false) }
-    ensures row5 { result ≡ Err Row5 → breaks_row_5 precedence type_name.now ≡ true }
-    ensures not_row5 { result ≡ Err Row6 → breaks_row_5 precedence type_name.now ≡ false }
-    ensures row6 { result ≡ Err Row6 → breaks_row_6 symbol.now ≡ true }
+    ensures no_operator { OnOk result (is_unfit_operator precedence type_name.now ≡ false) }
+    ensures no_symbol { OnOk result (is_unfit_symbol symbol.now ≡ false) }
+    ensures operator { result ≡ Err UnfitOperator
+        → is_unfit_operator precedence type_name.now ≡ true }
+    ensures not_operator { result ≡ Err UnfitSymbol
+        → is_unfit_operator precedence type_name.now ≡ false }
+    ensures symbol { result ≡ Err UnfitSymbol → is_unfit_symbol symbol.now ≡ true }
 {
     match operators.declare(precedence, type_name, symbol) {
         Ok(()) => Ok(()),

@@ -12,17 +12,19 @@ use Rattle.ladr_problem.specs.Items.{lexemes, items_of}
 use Rattle.ladr_problem.specs.ListItem.{closing, term}
 use Rattle.ladr_lex.specs.Cuts.{Piece}
 use Rattle.ladr_lex.specs.Lexeme.{Lexeme}
+use Rattle.ladr_lex.specs.declared.misuse.Misuse.{Misuse}
+use Rattle.ladr_lex.specs.declared.misuse.Misuse.TheVariants.{UnfitRule}
 use Rattle.ladr_problem.proofs.Good.{problem_good}
-use Rattle.ladr_problem.specs.Adding.{Item, command, within, after_item, after_term, after_formula, after_list, after_rule, after_kbo, added_kbo, unshaped, formula_made, style_in, with_settings, with_listed, with_formula, least_row}
+use Rattle.ladr_problem.specs.Adding.{Item, command, within, after_item, after_term, after_formula, after_list, after_rule, after_kbo, added_kbo, unshaped, formula_made, style_in, with_settings, with_listed, with_formula, least_misuse}
 use Rattle.ladr_problem.specs.File as file
 use Rattle.ladr_problem.specs.File.{Outcome, problem, unreadable, misused, too_large, File, ends, open_list, open_block, bad, breaks, goes_on, Says, start_at, refused_at}
 use Rattle.ladr_problem.specs.Sofar.{Sofar, Listed, stated_in, nothing_read}
 use Rattle.ladr_problem.specs.declared.refusal.Refusal.{Refusal}
-use Rattle.ladr_problem.specs.declared.refusal.Refusal.TheVariants.{Bad, Nesting, Symbols, Arity, Row, Memory}
+use Rattle.ladr_problem.specs.declared.refusal.Refusal.TheVariants.{Bad, Nesting, Symbols, Arity, Misused, Memory}
 use Rattle.ladr_reader.specs.Nesting.{nesting}
 use Rattle.ladr_reader.specs.declared.styles.Mode.{Mode}
 use Rattle.ladr_reader.specs.declared.styles.Mode.TheVariants.{Mace}
-use Rattle.ladr_rules.specs.Attributes.{attributed, breaks_row_12, hint_weight_of}
+use Rattle.ladr_rules.specs.Attributes.{attributed, has_unfit_weight, hint_weight_of}
 use Rattle.ladr_rules.specs.Rules.{Sides, rule_made, shaped_sides, kbo_rule}
 use Rattle.ladr_settings.specs.Settings.{after, is_meant}
 use Rattle.ladr_settings.specs.declared.lists.FormulaList.{FormulaList}
@@ -67,7 +69,7 @@ module _ (m : Mode) (byte : ℕ) (s : Sofar) (few : HasFew s) where
       by_test made.reading.large _ _ tt
       (by_test (not (is_meant m s.settings)) _ _ few
       (by_option (λ l. after_list l byte s t made) list (Ok s)
-      (λ l. by_option (λ k. Err (Row k)) (least_row l (breaks_row_12 a.attributes) made.tree made.reading.least) (Ok (with_formula l byte t made s)) (λ k. tt)
+      (λ l. by_option (λ k. Err (Misused k)) (least_misuse l (has_unfit_weight a.attributes) made.tree made.reading.least) (Ok (with_formula l byte t made s)) (λ k. tt)
       (listed_few l _ (hint_weight_of a.attributes) (record s { symbols = made.reading.symbols }) within))
       few)))
 
@@ -81,10 +83,10 @@ module _ (m : Mode) (byte : ℕ) (s : Sofar) (few : HasFew s) where
       by_limit (length made.reading.symbols) _ (λ within.
       by_test made.reading.large _ _ tt
       (by_test (not (is_meant m s.settings)) _ _ few
-      (by_option (λ k. Err (Row k)) made.reading.least _ (λ k. tt) within)))
+      (by_option (λ k. Err (Misused k)) made.reading.least _ (λ k. tt) within)))
 
   kbo_few : (t : RawTree) → IfOk (after_kbo m s t) HasFew
-  kbo_few t = by_test (is_meant m s.settings) _ _ (by_option (added_kbo s) (kbo_rule t) (Err (Row 15)) (λ r. by_test (is_weighed r.0 s.kbo_weights) _ _ tt few) tt) few
+  kbo_few t = by_test (is_meant m s.settings) _ _ (by_option (added_kbo s) (kbo_rule t) (Err (Misused UnfitRule)) (λ r. by_test (is_weighed r.0 s.kbo_weights) _ _ tt few) tt) few
 
   term_few : (list : OpenList) (t : RawTree) → IfOk (after_term m list byte s t) HasFew
   term_few Weights t = rule_few (shaped_sides (style_in m s) t)
@@ -93,7 +95,7 @@ module _ (m : Mode) (byte : ℕ) (s : Sofar) (few : HasFew s) where
   term_few OtherFormulas t = formula_few None t
   term_few (Formulas list) t = formula_few (Some list) t
 
-  settings_few : (r : Result Settings ℕ) → IfOk (with_settings s r) HasFew
+  settings_few : (r : Result Settings Misuse) → IfOk (with_settings s r) HasFew
   settings_few (Ok t) = few
   settings_few (Err k) = tt
 
@@ -113,7 +115,7 @@ refused_few byte (Bad k) = tt
 refused_few byte Nesting = tt
 refused_few byte Symbols = tt
 refused_few byte Arity = tt
-refused_few byte (Row k) = tt
+refused_few byte (Misused k) = tt
 refused_few byte Memory = tt
 
 file_few : (m : Mode) (end : ℕ) (s : Sofar) (items : List (List Piece)) (o : Outcome) → HasFew s → File m end s items o → IfProblem o

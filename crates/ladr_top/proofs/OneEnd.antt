@@ -8,6 +8,7 @@ use Rattle.ladr_io.specs.Streams.{greatest}
 use Rattle.ladr_lex.proofs.Unique.{cut_once}
 use Rattle.ladr_lex.specs.Places.{line_of, column_of}
 use Rattle.ladr_interpretations.specs.Good.{tables_for}
+use Rattle.ladr_lex.specs.Misuses.{row_of}
 use Rattle.ladr_problem.proofs.Once.{says_once}
 use Rattle.ladr_problem.specs.File as file
 use Rattle.ladr_problem.specs.File.{Outcome, Says, most_bytes}
@@ -61,7 +62,7 @@ Comes F bytes (file.problem s) c t = F s
 Comes F bytes (file.unreadable byte) c t =
     (place : Place) × (place.byte ≡ byte) × IsPlace bytes place × (c ≡ Unreadable place) × (t ≡ unreadable_line place.byte place.line place.column place.token)
 Comes F bytes (file.misused byte row) c t =
-    (place : Place) × (place.byte ≡ byte) × IsPlace bytes place × (c ≡ Misuse place row) × (t ≡ misuse_line row place.byte place.line place.column)
+    (place : Place) × (place.byte ≡ byte) × IsPlace bytes place × (c ≡ Misuse place row) × (t ≡ misuse_line (row_of row) place.byte place.line place.column)
 Comes F bytes (file.too_large byte what) c t = (c ≡ TooLarge byte what) × (t ≡ too_large_line byte (limit_text what))
 
 -- and so does what the source gave, where no read failed
@@ -85,7 +86,7 @@ comes_once F G bytes (file.unreadable byte) c d t u once h k =
     (h.3 ∙ ap Unreadable e ∙ sym k.3, h.4 ∙ ap (λ (p : Place). unreadable_line p.byte p.line p.column p.token) e ∙ sym k.4)
 comes_once F G bytes (file.misused byte row) c d t u once h k =
     let e = place_once bytes h.0 k.0 (h.1 ∙ sym k.1) h.2 k.2 in
-    (h.3 ∙ ap (λ (p : Place). Misuse p row) e ∙ sym k.3, h.4 ∙ ap (λ (p : Place). misuse_line row p.byte p.line p.column) e ∙ sym k.4)
+    (h.3 ∙ ap (λ (p : Place). Misuse p row) e ∙ sym k.3, h.4 ∙ ap (λ (p : Place). misuse_line (row_of row) p.byte p.line p.column) e ∙ sym k.4)
 comes_once F G bytes (file.too_large byte what) c d t u once h k = (h.0 ∙ sym k.0, h.1 ∙ sym k.1)
 
 -- where a failed read is told from one that didn't, and problems have one end, so has what the source gave

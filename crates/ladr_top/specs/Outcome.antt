@@ -3,6 +3,7 @@ use Rattle.std.specs.Prelude.{◌≡◌, ℕ, ◌+◌, ◌≤◌, Bool, true, fa
 use Rattle.std.specs.Global.{Vec}
 use Rattle.std.specs.declared.alloc.AllocError.{AllocError}
 use Rattle.ladr_io.specs.Streams.{Gives, Takes, TakesFront, IsDrained, Rose}
+use Rattle.ladr_lex.specs.Misuses.{row_of}
 use Rattle.ladr_problem.specs.File.{Says, problem, unreadable, misused, too_large, most_bytes}
 use Rattle.ladr_problem.specs.Places.{IsPlace}
 use Rattle.ladr_problem.specs.Sofar.{Sofar}
@@ -83,8 +84,8 @@ IsUnread g (ClauseLimit formula) text = ⊥
 abbrev pub IsRefused : Mode → Given → Cause → List ℕ → Type 0
 IsRefused m g (Unreadable place) text =
     IsRead g × Says m g.bytes (unreadable place.byte) × IsPlace g.bytes place × (text ≡ unreadable_line place.byte place.line place.column place.token)
-IsRefused m g (Misuse place row) text =
-    IsRead g × Says m g.bytes (misused place.byte row) × IsPlace g.bytes place × (text ≡ misuse_line row place.byte place.line place.column)
+IsRefused m g (Misuse place misuse) text =
+    IsRead g × Says m g.bytes (misused place.byte misuse) × IsPlace g.bytes place × (text ≡ misuse_line (row_of misuse) place.byte place.line place.column)
 IsRefused m g (TooLarge byte what) text =
     IsUnread g (TooLarge byte what) text ⊎ (IsRead g × Says m g.bytes (too_large byte what) × (text ≡ too_large_line byte (limit_text what)))
 IsRefused m g ReadFault text = IsUnread g ReadFault text

@@ -47,7 +47,8 @@ impl<'a> Asked<'a> {
     ) -> Result<Asked<'a>, ClauseError>
         requires { IsWellFormed (stated_of problem.now) }
         ensures asked { IfOk result (λ a. a ≡ stated_of problem.now) }
-        ensures limit { (n : ℕ) → result ≡ Err (ClauseError.ClauseLimit n) → first_over 1 (stated_of problem.now).formulas ≡ Some n }
+        ensures limit { (n : ℕ) → result ≡ Err (ClauseError.ClauseLimit n)
+            → first_over 1 (stated_of problem.now).formulas ≡ Some n }
         ensures within { OnOk result (first_over 1 (stated_of problem.now).formulas ≡ None) }
     {
         let mut symbols = problem.symbols.copy(alloc)?;
@@ -70,7 +71,8 @@ impl<'a> Asked<'a> {
 
     /// The text of a model with the values of the Skolem symbols.
     pub fn text(&self, alloc: Global, tables: &Tables, k: u64) -> Result<Vec<u8>, AllocError>
-        ensures { IfOk result (λ v. (u : Finite) × IsExpansion tables.now (all_witnesses self.now) u × (v.items ≡ model_text (all_symbols self.now) k u)) }
+        ensures { IfOk result (λ v. (u : Finite) × IsExpansion tables.now (all_witnesses self.now) u
+            × (v.items ≡ model_text (all_symbols self.now) k u)) }
     {
         let expanded = expand(alloc, tables, &self.clauses)?;
         interpretation_text(alloc, &expanded, &self.symbols, k)

@@ -44,8 +44,11 @@ pub fn begin<K: Sink, C: Clock>(
     ensures looked { OnOk result (HasBegun watch.new (C.times clock.new)) }
     ensures untimed { settings.seconds ≡ None → C.times clock.new ≡ C.times clock.old }
     ensures no_fault { OnOk result (K.faults sink.new ≡ K.faults sink.old) }
-    ensures told { IfErr result (λ why. Told (Proceeds asked.now settings n k) (Stops asked.now settings (C.times clock.new) n k) (K.held sink.old) (K.held sink.new) why) }
-    ensures rose { IfErr result (λ why. why ≡ WriteFault → Rose (K.faults sink.old) (K.faults sink.new)) }
+    ensures told { IfErr result (λ why. Told (Proceeds asked.now settings n k)
+        (Stops asked.now settings (C.times clock.new) n k) (K.held sink.old)
+        (K.held sink.new) why) }
+    ensures rose { IfErr result (λ why. why ≡ WriteFault
+        → Rose (K.faults sink.old) (K.faults sink.new)) }
     ensures none { IfErr result (λ why. why ≢ WriteFault → K.faults sink.new ≡ K.faults sink.old) }
 {
     let cells = match asked.cells(alloc, n) {
@@ -73,8 +76,10 @@ fn room<K: Sink>(
     ensures cells { OnOk result (HasRoom settings cells) }
     ensures took { OnOk result (Takes (K.held sink.old) (K.held sink.new) []) }
     ensures no_fault { OnOk result (K.faults sink.new ≡ K.faults sink.old) }
-    ensures told { IfErr result (λ why. Told (λ text. text ≡ []) (StopsForRoom settings n k cells) (K.held sink.old) (K.held sink.new) why) }
-    ensures rose { IfErr result (λ why. why ≡ WriteFault → Rose (K.faults sink.old) (K.faults sink.new)) }
+    ensures told { IfErr result (λ why. Told (λ text. text ≡ []) (StopsForRoom settings n k cells)
+        (K.held sink.old) (K.held sink.new) why) }
+    ensures rose { IfErr result (λ why. why ≡ WriteFault
+        → Rose (K.faults sink.old) (K.faults sink.new)) }
     ensures none { IfErr result (λ why. why ≢ WriteFault → K.faults sink.new ≡ K.faults sink.old) }
 {
     if cells >= REFUSED_CELLS {

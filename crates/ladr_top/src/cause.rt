@@ -1,4 +1,5 @@
 // Why a run ended.
+use ladr_lex::Misuse;
 pub use ladr_problem::{Limit, Place};
 
 /// Why a run ended.
@@ -22,8 +23,8 @@ pub enum Cause {
     Words,
     /// Something of the input can't be read.
     Unreadable(Place),
-    /// An item of the input breaks a row of misuse; the place is its beginning, or the end of the input.
-    Misuse(Place, u8),
+    /// An item of the input is misused; the place is its beginning, or the end of the input.
+    Misuse(Place, Misuse),
     /// A limit is passed, by the item that begins at the byte, or by the input.
     TooLarge { byte: u64, what: Limit },
     /// A read of the source failed.

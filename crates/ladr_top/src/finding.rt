@@ -38,7 +38,9 @@ fn seek<I: Interpretation, K: Sink, C: Clock>(
     requires step { IsSize settings.step }
     requires wanted { 1 ≤ settings.wanted }
     requires unread { (C.times clock.old).count ≡ 0 }
-    ensures told { Told (Seeks (stated_of problem.now) settings) (Sought (stated_of problem.now) settings (C.times clock.new)) (K.held sink.old) (K.held sink.new) result }
+    ensures told { Told (Seeks (stated_of problem.now) settings)
+        (Sought (stated_of problem.now) settings (C.times clock.new)) (K.held sink.old)
+        (K.held sink.new) result }
     ensures untimed { settings.seconds ≡ None → C.times clock.new ≡ C.times clock.old }
     ensures write_fault { result ≡ Cause.WriteFault → Rose (K.faults sink.old) (K.faults sink.new) }
     ensures no_write_fault { result ≢ Cause.WriteFault → K.faults sink.new ≡ K.faults sink.old }
@@ -65,7 +67,9 @@ fn find<I: Interpretation, K: Sink, C: Clock>(
 ) -> Cause
     requires words { HasRanges (Task.Mace4 words) }
     requires unread { (C.times clock.old).count ≡ 0 }
-    ensures told { (g : Given) → g.bytes ≡ bytes.now → IsRead g → Told (GoesOn g words) (Finds g words (C.times clock.new)) (K.held sink.old) (K.held sink.new) result }
+    ensures told { (g : Given) → g.bytes ≡ bytes.now → IsRead g
+        → Told (GoesOn g words) (Finds g words (C.times clock.new)) (K.held sink.old)
+        (K.held sink.new) result }
     ensures unasked { IsUntimed bytes.now words → C.times clock.new ≡ C.times clock.old }
     ensures never { result ≢ Cause.ReadFault }
     ensures write_fault { result ≡ Cause.WriteFault → Rose (K.faults sink.old) (K.faults sink.new) }
@@ -91,8 +95,11 @@ pub fn mace4<I: Interpretation, S: Source, K: Sink, C: Clock>(
 ) -> Cause
     requires words { HasRanges (Task.Mace4 words) }
     requires unread { (C.times clock.old).count ≡ 0 }
-    ensures searches { Searches words (S.left source.old) (S.left source.new) (S.faults source.old) (S.faults source.new) (K.held sink.old) (K.held sink.new) (C.times clock.old) (C.times clock.new) result }
-    ensures read_fault { result ≡ Cause.ReadFault → Rose (S.faults source.old) (S.faults source.new) }
+    ensures searches { Searches words (S.left source.old) (S.left source.new) (S.faults source.old)
+        (S.faults source.new) (K.held sink.old) (K.held sink.new) (C.times clock.old)
+        (C.times clock.new) result }
+    ensures read_fault { result ≡ Cause.ReadFault
+        → Rose (S.faults source.old) (S.faults source.new) }
     ensures never_falls { S.faults source.old ≤ S.faults source.new }
     ensures write_fault { result ≡ Cause.WriteFault → Rose (K.faults sink.old) (K.faults sink.new) }
     ensures no_write_fault { result ≢ Cause.WriteFault → K.faults sink.new ≡ K.faults sink.old }

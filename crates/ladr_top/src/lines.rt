@@ -92,7 +92,8 @@ pub fn ending(alloc: Global, k: u64, reason: &[u8]) -> Result<Vec<u8>, AllocErro
 
 // The clock's first reading.
 fn first_reading(out: &mut Vec<u8>, first: u64) -> Result<(), AllocError>
-    ensures { OnOk result (out.new.items ≡ out.old.items ++ (codes "% Exit max_seconds " ++ decimal first)) }
+    ensures { OnOk result (out.new.items ≡ out.old.items
+        ++ (codes "% Exit max_seconds " ++ decimal first)) }
 {
     text(out, b"% Exit max_seconds ")?;
     number(out, first)?;

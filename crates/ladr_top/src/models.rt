@@ -38,14 +38,21 @@ pub fn models<K: Sink, C: Clock>(
     requires seconds { watch.seconds ≡ settings.seconds }
     requires watched { IsWatched watch (C.times clock.old) }
     requires looked { HasBegun watch (C.times clock.old) }
-    ensures all { IfOk result (λ j. (ts : List Finite) × AreAllExpanded asked.now n ts × (j ≡ k + length ts) × Takes (K.held sink.old) (K.held sink.new) (models_text asked.now k ts ++ exhausted_line n)) }
+    ensures all { IfOk result (λ j. (ts : List Finite) × AreAllExpanded asked.now n ts
+        × (j ≡ k + length ts)
+        × Takes (K.held sink.old) (K.held sink.new)
+        (models_text asked.now k ts ++ exhausted_line n)) }
     ensures fewer { IfOk result (λ j. j < settings.wanted) }
     ensures watched { OnOk result (IsWatched watch (C.times clock.new)) }
     ensures looked { OnOk result (HasBegun watch (C.times clock.new)) }
     ensures untimed { settings.seconds ≡ None → C.times clock.new ≡ C.times clock.old }
     ensures no_fault { OnOk result (K.faults sink.new ≡ K.faults sink.old) }
-    ensures told { IfErr result (λ why. Told (λ text. Proceeds asked.now settings n k (size_line n ++ text)) (λ c text. Stops asked.now settings (C.times clock.new) n k c (size_line n ++ text)) (K.held sink.old) (K.held sink.new) why) }
-    ensures rose { IfErr result (λ why. why ≡ WriteFault → Rose (K.faults sink.old) (K.faults sink.new)) }
+    ensures told { IfErr result (λ why. Told
+        (λ text. Proceeds asked.now settings n k (size_line n ++ text))
+        (λ c text. Stops asked.now settings (C.times clock.new) n k c (size_line n ++ text))
+        (K.held sink.old) (K.held sink.new) why) }
+    ensures rose { IfErr result (λ why. why ≡ WriteFault
+        → Rose (K.faults sink.old) (K.faults sink.new)) }
     ensures none { IfErr result (λ why. why ≢ WriteFault → K.faults sink.new ≡ K.faults sink.old) }
 {
     let mut search = match PlainSearch::new(alloc, asked.problem, n, watch.stop()) {

@@ -38,14 +38,19 @@ pub fn one_size<K: Sink, C: Clock>(
     requires fewer { k < settings.wanted }
     requires seconds { watch.old.seconds ≡ settings.seconds }
     requires watched { IsWatched watch.old (C.times clock.old) }
-    ensures ended { IfOk result (λ j. (size : Size) × HasEnded asked.now settings n size × (j ≡ k + models_in size) × Takes (K.held sink.old) (K.held sink.new) (size_text asked.now n k size)) }
+    ensures ended { IfOk result (λ j. (size : Size) × HasEnded asked.now settings n size
+        × (j ≡ k + models_in size)
+        × Takes (K.held sink.old) (K.held sink.new) (size_text asked.now n k size)) }
     ensures fewer { IfOk result (λ j. j < settings.wanted) }
     ensures seconds { watch.new.seconds ≡ watch.old.seconds }
     ensures watched { OnOk result (IsWatched watch.new (C.times clock.new)) }
     ensures untimed { settings.seconds ≡ None → C.times clock.new ≡ C.times clock.old }
     ensures no_fault { OnOk result (K.faults sink.new ≡ K.faults sink.old) }
-    ensures told { IfErr result (λ why. Told (Proceeds asked.now settings n k) (Stops asked.now settings (C.times clock.new) n k) (K.held sink.old) (K.held sink.new) why) }
-    ensures rose { IfErr result (λ why. why ≡ WriteFault → Rose (K.faults sink.old) (K.faults sink.new)) }
+    ensures told { IfErr result (λ why. Told (Proceeds asked.now settings n k)
+        (Stops asked.now settings (C.times clock.new) n k) (K.held sink.old)
+        (K.held sink.new) why) }
+    ensures rose { IfErr result (λ why. why ≡ WriteFault
+        → Rose (K.faults sink.old) (K.faults sink.new)) }
     ensures none { IfErr result (λ why. why ≢ WriteFault → K.faults sink.new ≡ K.faults sink.old) }
 {
     if u64::from(n) < needed {

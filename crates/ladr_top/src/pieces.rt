@@ -11,10 +11,13 @@ use std::alloc::AllocError;
 
 /// Prints a text behind which the run goes on, if memory sufficed for it.
 pub fn piece<K: Sink>(text: Result<Vec<u8>, AllocError>, sink: &mut K) -> Result<(), Cause>
-    ensures done { OnOk result (IsOkAnd text (λ v. Takes (K.held sink.old) (K.held sink.new) v.items)) }
-    ensures told { IfErr result (λ why. Told (IsNothingOr text) (λ c t. ⊥) (K.held sink.old) (K.held sink.new) why) }
+    ensures done { OnOk result (IsOkAnd text
+        (λ v. Takes (K.held sink.old) (K.held sink.new) v.items)) }
+    ensures told { IfErr result (λ why. Told (IsNothingOr text) (λ c t. ⊥) (K.held sink.old)
+        (K.held sink.new) why) }
     ensures no_fault { OnOk result (K.faults sink.new ≡ K.faults sink.old) }
-    ensures rose { IfErr result (λ why. why ≡ WriteFault → Rose (K.faults sink.old) (K.faults sink.new)) }
+    ensures rose { IfErr result (λ why. why ≡ WriteFault
+        → Rose (K.faults sink.old) (K.faults sink.new)) }
     ensures none { IfErr result (λ why. why ≢ WriteFault → K.faults sink.new ≡ K.faults sink.old) }
 {
     match text {

@@ -18,14 +18,30 @@ pub fn read_input<S: Source, K: Sink>(
     sink: &mut K,
 ) -> Result<Vec<u8>, Cause>
     ensures gave { IfOk result (λ v. Gives (S.left source.old) (S.left source.new) v.items) }
-    ensures read { IfOk result (λ v. IsRead (record { bytes = v.items; left = S.left source.new; faults_before = S.faults source.old; faults_after = S.faults source.new })) }
-    ensures unread { IfErr result (λ why. (bytes : List ℕ) × Gives (S.left source.old) (S.left source.new) bytes
-        × Printed (IsUnread (record { bytes = bytes; left = S.left source.new; faults_before = S.faults source.old; faults_after = S.faults source.new })) (K.held sink.old) (K.held sink.new) why) }
+    ensures read { IfOk result (λ v. IsRead (record {
+      bytes = v.items;
+      left = S.left source.new;
+      faults_before = S.faults source.old;
+      faults_after = S.faults source.new;
+    })) }
+    ensures unread { IfErr result (λ why. (bytes : List ℕ)
+        × Gives (S.left source.old) (S.left source.new) bytes
+        × Printed (IsUnread (record {
+          bytes = bytes;
+          left = S.left source.new;
+          faults_before =
+              S.faults source.old;
+          faults_after = S.faults source.new;
+        })) (K.held sink.old)
+        (K.held sink.new) why) }
     ensures untouched { OnOk result (sink.new ≡ sink.old) }
-    ensures read_fault { IfErr result (λ why. why ≡ ReadFault → Rose (S.faults source.old) (S.faults source.new)) }
+    ensures read_fault { IfErr result (λ why. why ≡ ReadFault
+        → Rose (S.faults source.old) (S.faults source.new)) }
     ensures never_falls { S.faults source.old ≤ S.faults source.new }
-    ensures write_fault { IfErr result (λ why. why ≡ WriteFault → Rose (K.faults sink.old) (K.faults sink.new)) }
-    ensures no_write_fault { IfErr result (λ why. why ≢ WriteFault → K.faults sink.new ≡ K.faults sink.old) }
+    ensures write_fault { IfErr result (λ why. why ≡ WriteFault
+        → Rose (K.faults sink.old) (K.faults sink.new)) }
+    ensures no_write_fault { IfErr result (λ why. why ≢ WriteFault
+        → K.faults sink.new ≡ K.faults sink.old) }
 {
     match read_all(alloc, source, MOST_BYTES) {
         Ok(bytes) => Ok(bytes),

@@ -25,7 +25,8 @@ fn limit_text(what: Limit) -> &'static [u8]
 
 /// Prints why an input states no problem to a program.
 pub fn refuse_input<K: Sink>(alloc: Global, error: ReadError, sink: &mut K) -> Cause
-    ensures printed { (m : Mode) (g : Given) → IsRead g → IsReadError m g.bytes error → Printed (IsRefused m g) (K.held sink.old) (K.held sink.new) result }
+    ensures printed { (m : Mode) (g : Given) → IsRead g → IsReadError m g.bytes error
+        → Printed (IsRefused m g) (K.held sink.old) (K.held sink.new) result }
     ensures never { result ≢ Cause.ReadFault }
     ensures write_fault { result ≡ Cause.WriteFault → Rose (K.faults sink.old) (K.faults sink.new) }
     ensures no_write_fault { result ≢ Cause.WriteFault → K.faults sink.new ≡ K.faults sink.old }
@@ -35,9 +36,10 @@ pub fn refuse_input<K: Sink>(alloc: Global, error: ReadError, sink: &mut K) -> C
             let text = text::unreadable(alloc, &place);
             conclude(text, Cause::Unreadable(place), sink)
         }
-        ReadError::Misuse(place, row) => {
+        ReadError::Misuse(place, misuse) => {
+            let row = misuse.row();
             let text = text::misuse(alloc, row, &place);
-            conclude(text, Cause::Misuse(place, row), sink)
+            conclude(text, Cause::Misuse(place, misuse), sink)
         }
         ReadError::TooLarge { byte, what } => {
             let text = text::too_large(alloc, byte, limit_text(what));

@@ -75,29 +75,37 @@ pub fn run<I: Interpretation, S: Source, K: Sink, C: Clock>(
     ensures status { result.status ≡ status_of result.cause }
 
     // Words that are no command are refused, and nothing is read.
-    ensures refused { task_of (map string_bytes words.now) ≡ None → Printed Refuses (K.held sink.old) (K.held sink.new) result.cause }
+    ensures refused { task_of (map string_bytes words.now) ≡ None
+        → Printed Refuses (K.held sink.old) (K.held sink.new) result.cause }
     ensures untouched { task_of (map string_bytes words.now) ≡ None → source.new ≡ source.old }
 
     // The input is tested.
     ensures tests { task_of (map string_bytes words.now) ≡ Some Clausetester
-        → Tests (S.left source.old) (S.left source.new) (S.faults source.old) (S.faults source.new) (K.held sink.old) (K.held sink.new) result.cause }
+        → Tests (S.left source.old) (S.left source.new) (S.faults source.old) (S.faults source.new)
+        (K.held sink.old) (K.held sink.new) result.cause }
 
     // Models of what the input states are searched for.
     ensures searches { (o : ModelOptions) → task_of (map string_bytes words.now) ≡ Some (Mace4 o)
-        → Searches o (S.left source.old) (S.left source.new) (S.faults source.old) (S.faults source.new) (K.held sink.old) (K.held sink.new) (C.times clock.old) (C.times clock.new) result.cause }
+        → Searches o (S.left source.old) (S.left source.new) (S.faults source.old)
+        (S.faults source.new) (K.held sink.old) (K.held sink.new) (C.times clock.old)
+        (C.times clock.new) result.cause }
 
     // What it prints as models of the input makes each assumption true and each goal false, and its Skolem symbols pick witnesses; where
     // a size is exhausted, each model of it is printed.
     ensures models { SearchesShow }
 
     // A fault is told only where the stream counted one, and a failed write is told wherever one was counted.
-    ensures read_fault { result.cause ≡ Cause.ReadFault → Rose (S.faults source.old) (S.faults source.new) }
-    ensures write_fault { result.cause ≡ Cause.WriteFault → Rose (K.faults sink.old) (K.faults sink.new) }
-    ensures no_write_fault { result.cause ≢ Cause.WriteFault → K.faults sink.new ≡ K.faults sink.old }
+    ensures read_fault { result.cause ≡ Cause.ReadFault
+        → Rose (S.faults source.old) (S.faults source.new) }
+    ensures write_fault { result.cause ≡ Cause.WriteFault
+        → Rose (K.faults sink.old) (K.faults sink.new) }
+    ensures no_write_fault { result.cause ≢ Cause.WriteFault
+        → K.faults sink.new ≡ K.faults sink.old }
     ensures never_falls { S.faults source.old ≤ S.faults source.new }
 
     // The clock isn't asked but for a search.
-    ensures clock { ((o : ModelOptions) → task_of (map string_bytes words.now) ≢ Some (Mace4 o)) → C.times clock.new ≡ C.times clock.old }
+    ensures clock { ((o : ModelOptions) → task_of (map string_bytes words.now) ≢ Some (Mace4 o))
+        → C.times clock.new ≡ C.times clock.old }
 {
     printed_models();
     match task_of(alloc, words) {

@@ -30,7 +30,9 @@ pub fn search_sizes<K: Sink, C: Clock>(
     requires step { IsSize settings.step }
     requires wanted { 1 ≤ settings.wanted }
     requires unread { (C.times clock.old).count ≡ 0 }
-    ensures told { Told (SearchGoes asked.now settings) (SearchEnds asked.now settings (C.times clock.new)) (K.held sink.old) (K.held sink.new) result }
+    ensures told { Told (SearchGoes asked.now settings)
+        (SearchEnds asked.now settings (C.times clock.new)) (K.held sink.old)
+        (K.held sink.new) result }
     ensures untimed { settings.seconds ≡ None → C.times clock.new ≡ C.times clock.old }
     ensures write_fault { result ≡ Cause.WriteFault → Rose (K.faults sink.old) (K.faults sink.new) }
     ensures no_write_fault { result ≢ Cause.WriteFault → K.faults sink.new ≡ K.faults sink.old }

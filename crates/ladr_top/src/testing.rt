@@ -14,7 +14,8 @@ use std::alloc::Global;
 
 // Prints the truth of each formula of an input, or why it states none.
 fn test<K: Sink>(alloc: Global, bytes: &[u8], sink: &mut K) -> Cause
-    ensures printed { (g : Given) → g.bytes ≡ bytes.now → IsRead g → Printed (Ends g) (K.held sink.old) (K.held sink.new) result }
+    ensures printed { (g : Given) → g.bytes ≡ bytes.now → IsRead g
+        → Printed (Ends g) (K.held sink.old) (K.held sink.new) result }
     ensures never { result ≢ Cause.ReadFault }
     ensures write_fault { result ≡ Cause.WriteFault → Rose (K.faults sink.old) (K.faults sink.new) }
     ensures no_write_fault { result ≢ Cause.WriteFault → K.faults sink.new ≡ K.faults sink.old }
@@ -27,8 +28,10 @@ fn test<K: Sink>(alloc: Global, bytes: &[u8], sink: &mut K) -> Cause
 
 /// Reads the input and tests its formulas.
 pub fn clausetester<S: Source, K: Sink>(alloc: Global, source: &mut S, sink: &mut K) -> Cause
-    ensures tests { Tests (S.left source.old) (S.left source.new) (S.faults source.old) (S.faults source.new) (K.held sink.old) (K.held sink.new) result }
-    ensures read_fault { result ≡ Cause.ReadFault → Rose (S.faults source.old) (S.faults source.new) }
+    ensures tests { Tests (S.left source.old) (S.left source.new) (S.faults source.old)
+        (S.faults source.new) (K.held sink.old) (K.held sink.new) result }
+    ensures read_fault { result ≡ Cause.ReadFault
+        → Rose (S.faults source.old) (S.faults source.new) }
     ensures never_falls { S.faults source.old ≤ S.faults source.new }
     ensures write_fault { result ≡ Cause.WriteFault → Rose (K.faults sink.old) (K.faults sink.new) }
     ensures no_write_fault { result ≢ Cause.WriteFault → K.faults sink.new ≡ K.faults sink.old }

@@ -36,7 +36,9 @@ fn formula(out: &mut Vec<u8>, k: u64, holds: bool) -> Result<(), AllocError>
 
 // Puts the totals and the last line behind the text.
 fn ending(out: &mut Vec<u8>, holding: u64, failing: u64) -> Result<(), AllocError>
-    ensures { OnOk result (out.new.items ≡ out.old.items ++ line (codes "% True=" ++ decimal holding ++ codes ". False=" ++ decimal failing ++ codes ".") ++ line (codes "% Exit tested.")) }
+    ensures { OnOk result (out.new.items ≡ out.old.items
+        ++ line (codes "% True=" ++ decimal holding ++ codes ". False=" ++ decimal failing
+        ++ codes ".") ++ line (codes "% Exit tested.")) }
 {
     text(out, b"% True=")?;
     number(out, holding)?;
@@ -79,7 +81,8 @@ pub fn report(alloc: Global, all: &[bool]) -> Result<Vec<u8>, AllocError>
 
 /// The line for an input that can't be read, with the place and what stands there.
 pub fn unreadable(alloc: Global, place: &Place) -> Result<Vec<u8>, AllocError>
-    ensures { IfOk result (λ v. v.items ≡ unreadable_line place.now.byte place.now.line place.now.column place.now.token) }
+    ensures { IfOk result (λ v. v.items ≡ unreadable_line place.now.byte place.now.line
+        place.now.column place.now.token) }
 {
     let mut out = Vec::new(alloc);
     text(&mut out, b"ladr: unreadable at byte ")?;
@@ -96,7 +99,8 @@ pub fn unreadable(alloc: Global, place: &Place) -> Result<Vec<u8>, AllocError>
 
 /// The line for an input that is misused, with the row that it breaks and the place.
 pub fn misuse(alloc: Global, row: u8, place: &Place) -> Result<Vec<u8>, AllocError>
-    ensures { IfOk result (λ v. v.items ≡ misuse_line row place.now.byte place.now.line place.now.column) }
+    ensures { IfOk result (λ v. v.items ≡ misuse_line row place.now.byte place.now.line
+        place.now.column) }
 {
     let mut out = Vec::new(alloc);
     text(&mut out, b"ladr: misuse ")?;

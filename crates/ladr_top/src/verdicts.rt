@@ -23,7 +23,9 @@ fn holds(
     formula: &Formula,
     env: &mut Env,
 ) -> Result<bool, AllocError>
-    ensures { IfOk result (λ b. MatchBool b (IsTrueIn (meaning_of tables.now) (fol_of formula.now.shape)) (¬ IsTrueIn (meaning_of tables.now) (fol_of formula.now.shape))) }
+    ensures { IfOk result (λ b. MatchBool b (IsTrueIn (meaning_of tables.now)
+        (fol_of formula.now.shape))
+        (¬ IsTrueIn (meaning_of tables.now) (fol_of formula.now.shape))) }
 {
     let variables = free_vars(alloc, formula)?;
     reserve_closure(env, formula, &variables)?;
@@ -32,7 +34,8 @@ fn holds(
 
 // Whether the closure of each formula is true in the tables.
 fn hold(alloc: Global, tables: &Tables, inputs: &[Input]) -> Result<Vec<bool>, AllocError>
-    ensures { IfOk result (λ all. AreTrueAsTold (meaning_of tables.now) (all_said inputs.now) all.items) }
+    ensures { IfOk result (λ all. AreTrueAsTold (meaning_of tables.now)
+        (all_said inputs.now) all.items) }
 {
     let mut env = Env::new(alloc);
     let mut all = Vec::new(alloc);
@@ -47,7 +50,8 @@ fn hold(alloc: Global, tables: &Tables, inputs: &[Input]) -> Result<Vec<bool>, A
 
 /// Whether each formula of an input is true in its interpretation.
 pub fn verdicts(alloc: Global, bytes: &[u8]) -> Result<Vec<bool>, ReadError>
-    ensures found { IfOk result (λ all. (s : Sofar) × Says Tester bytes.now (problem s) × AreToldOf s all.items) }
+    ensures found { IfOk result (λ all. (s : Sofar) × Says Tester bytes.now (problem s)
+        × AreToldOf s all.items) }
     ensures refused { IfErr result (IsReadError Tester bytes.now) }
 {
     let read = match read_problem(alloc, Mode::Tester, bytes) {

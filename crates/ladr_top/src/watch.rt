@@ -21,7 +21,9 @@ impl Watch {
         ensures same { self.new.seconds ≡ self.old.seconds }
         ensures untimed { self.old.seconds ≡ None → C.times clock.new ≡ C.times clock.old }
         ensures begun { HasBegun self.new (C.times clock.new) }
-        ensures late { MatchOption result (IsWatched self.new (C.times clock.new)) (λ last. IsLate (stop_of self.new.seconds (C.times clock.new)) (C.times clock.new) last) }
+        ensures late { MatchOption result (IsWatched self.new (C.times clock.new))
+            (λ last. IsLate (stop_of self.new.seconds (C.times clock.new))
+            (C.times clock.new) last) }
     {
         let Some(seconds) = self.seconds else {
             return None;

@@ -1,5 +1,5 @@
 use fol_core::{Raws, Symbols};
-use ladr_lex::{Ops, tokens};
+use ladr_lex::{Misuse, Ops, tokens};
 use ladr_reader::{FormulaError, Mode, formula_of, read_term, style_of, terms_of};
 use std::alloc::Global;
 use std::test::Fail;
@@ -12,7 +12,11 @@ fn terms_are_read_as_formulas(rt: HostRuntime) -> Result<(), Fail> {
     for (text, mode, wanted) in [
         (b"all x p(x,f(y)).".as_slice(), Mode::Tester, Ok(2)),
         (b"exists x f(1) != x.", Mode::Mace, Ok(1)),
-        (b"f(a).", Mode::Tester, Err(FormulaError::Row(9))),
+        (
+            b"f(a).",
+            Mode::Tester,
+            Err(FormulaError::Misused(Misuse::TwoKinds)),
+        ),
         (b"<->(q,&($T,p(X,2))).", Mode::Prover, Ok(0)),
     ] {
         let answer = variables(rt.alloc(), &ops, text, mode, &mut symbols)?;

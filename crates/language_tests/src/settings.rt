@@ -1,7 +1,7 @@
 use ladr_commands::read_command;
-use ladr_lex::tokens;
+use ladr_lex::{Misuse, tokens};
 use ladr_reader::Mode;
-use ladr_settings::{Misuse, Settings};
+use ladr_settings::{Settings, SettingsError};
 use std::test::Fail;
 
 // Commands that are taken one behind the other.
@@ -18,10 +18,16 @@ fn commands_are_taken(rt: HostRuntime) -> Result<(), Fail> {
         (b"if(Prover9).", Ok(())),
         (b"set(nosuchflag).", Ok(())),
         (b"end_if.", Ok(())),
-        (b"set(nosuchflag).", Err(Misuse::Row(1))),
+        (
+            b"set(nosuchflag).",
+            Err(SettingsError::Misused(Misuse::UnknownFlag)),
+        ),
         (b"formulas(goals).", Ok(())),
         (b"list(weights).", Ok(())),
-        (b"op(700, infix, g).", Err(Misuse::Row(7))),
+        (
+            b"op(700, infix, g).",
+            Err(SettingsError::Misused(Misuse::TooLate)),
+        ),
     ] {
         let tokens = tokens(rt.alloc(), text).map_err(|_| "memory")?;
         let command = read_command(rt.alloc(), true, &tokens).map_err(|_| "not read")?;

@@ -64,8 +64,8 @@ fn symbols_are_declared(rt: HostRuntime) -> Result<(), Fail> {
     for (precedence, type_name, symbol, wanted) in [
         (700, b"infix_left".as_slice(), b"\"@@\"".as_slice(), Ok(())),
         (1, b"ordinary", b"+", Ok(())),
-        (999, b"ordinary", b"#", Err(DeclareError::Row5)),
-        (500, b"infix", b"\"#\"", Err(DeclareError::Row6)),
+        (999, b"ordinary", b"#", Err(DeclareError::UnfitOperator)),
+        (500, b"infix", b"\"#\"", Err(DeclareError::UnfitSymbol)),
     ] {
         let answer = ops.declare(precedence, type_name, symbol);
         assert_eq!(rt; answer, wanted, "{symbol:?}");

@@ -1,4 +1,5 @@
 use Rattle.std.proofs.Common.{[], codes, refl, lit≤}
+use Rattle.ladr_lex.specs.declared.misuse.Misuse.TheVariants.{TwoKinds, UnfitHint, UnfitDemodulator, UnfitRule}
 use Rattle.ladr_commands.specs.ByName.{by_name}
 use Rattle.ladr_commands.specs.declared.command.Command.TheVariants.{Formulas, If, EndIf, Interpretation}
 use Rattle.ladr_commands.specs.declared.command.Command.TheVariants as of_commands
@@ -9,7 +10,7 @@ use Rattle.ladr_lex.specs.Lexed.{start_of}
 use Rattle.ladr_lex.specs.Operators.{standard_rows}
 use Rattle.ladr_problem.specs.Adding.{command, within}
 use Rattle.ladr_problem.specs.File.{ends, bad, breaks, goes_on}
-use Rattle.ladr_problem.specs.declared.refusal.Refusal.TheVariants.{Row}
+use Rattle.ladr_problem.specs.declared.refusal.Refusal.TheVariants.{Misused}
 use Rattle.ladr_problem.proofs.WorkedFiles.{says, read}
 use Rattle.ladr_problem.proofs.laws.worked_formulas.Goals as goal
 use Rattle.ladr_reader.proofs.Lawful.{standard_lawful}
@@ -37,7 +38,7 @@ returns-clause-clash _ =
     says _ (codes "formulas(sos).\nf(a).\nf(a) = b.\nend_of_list.\n") _ refl
     (goes_on (command (Formulas (codes "sos"))) _ (refl, refl) refl
     (goes_on (within (term (unary "f" (constant "a")))) _ (refl, read 0 (λ e. cc) refl) refl
-    (breaks (within (term (binary "=" (unary "f" (constant "a")) (constant "b")))) (Row 9) (refl, read 700 (λ e. cc) refl) refl)))
+    (breaks (within (term (binary "=" (unary "f" (constant "a")) (constant "b")))) (Misused TwoKinds) (refl, read 700 (λ e. cc) refl) refl)))
 
 pub returns-clause-for_another : goal.returns-clause-for_another
 unfolding start_of is_blank is_ordinary is_special named_variable
@@ -59,7 +60,7 @@ returns-clause-hint _ =
     says _ (codes "formulas(hints).\np | -q.\np & q.\nend_of_list.\n") _ refl
     (goes_on (command (Formulas (codes "hints"))) _ (refl, refl) refl
     (goes_on (within (term (binary "|" (constant "p") (unary "-" (constant "q"))))) _ (refl, read 790 (λ e. cc) refl) refl
-    (breaks (within (term (binary "&" (constant "p") (constant "q")))) (Row 13) (refl, read 780 (λ e. cc) refl) refl)))
+    (breaks (within (term (binary "&" (constant "p") (constant "q")))) (Misused UnfitHint) (refl, read 780 (λ e. cc) refl) refl)))
 
 pub returns-clause-demodulator : goal.returns-clause-demodulator
 unfolding start_of is_blank is_ordinary is_special named_variable
@@ -67,7 +68,7 @@ returns-clause-demodulator _ =
     says _ (codes "formulas(demodulators).\nf(x) = x.\nx = f(x).\nend_of_list.\n") _ refl
     (goes_on (command (Formulas (codes "demodulators"))) _ (refl, refl) refl
     (goes_on (within (term (binary "=" (unary "f" (constant "x")) (constant "x")))) _ (refl, read 700 (λ e. cc) refl) refl
-    (breaks (within (term (binary "=" (constant "x") (unary "f" (constant "x"))))) (Row 14) (refl, read 700 (λ e. cc) refl) refl)))
+    (breaks (within (term (binary "=" (constant "x") (unary "f" (constant "x"))))) (Misused UnfitDemodulator) (refl, read 700 (λ e. cc) refl) refl)))
 
 pub returns-clause-weights : goal.returns-clause-weights
 unfolding start_of is_blank is_ordinary is_special named_variable
@@ -85,7 +86,7 @@ returns-clause-weighed_twice _ =
     says _ (codes "list(kbo_weights).\nf = 2.\nf = 3.\nend_of_list.\n") _ refl
     (goes_on (command (of_commands.List (codes "kbo_weights"))) _ (refl, refl) refl
     (goes_on (within (term (binary "=" (constant "f") (constant "2")))) _ (refl, read 700 (λ e. cc) refl) refl
-    (breaks (within (term (binary "=" (constant "f") (constant "3")))) (Row 15) (refl, read 700 (λ e. cc) refl) refl)))
+    (breaks (within (term (binary "=" (constant "f") (constant "3")))) (Misused UnfitRule) (refl, read 700 (λ e. cc) refl) refl)))
 
 pub returns-clause-lacking : goal.returns-clause-lacking
 unfolding start_of is_blank is_ordinary is_special named_variable

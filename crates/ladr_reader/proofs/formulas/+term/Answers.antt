@@ -3,6 +3,7 @@ use Rattle.fol_core.specs.RawView.{raw_of, raw_list}
 use Rattle.fol_core.specs.RawTree.{raws_of}
 use Rattle.fol_core.specs.declared.symbols.Kind.TheVariants.{Function}
 use Rattle.fol_core.specs.declared.raw.Raw.{Raw}
+use Rattle.ladr_lex.specs.declared.misuse.Misuse.TheVariants.{UnfitNumeral}
 use Rattle.ladr_reader.specs.Formulas.{arity_of, is_too_great, meets, with_symbol, symbol_number, term_of}
 use Rattle.ladr_reader.proofs.TermLemmas.{terms_more, terms_end, term_applied, kept_both}
 use Rattle.ladr_reader.proofs.formulas.+term.Goals as goal
@@ -22,6 +23,6 @@ returns-after-loop-arg-clause-read t c =
     let arity = arity_of (raws_of c.in-App.args) in
     ap (λ (r : Raw). term_of st scope before (raw_of r)) c.in-App.is ∙
     term_applied st scope before c.function.new.reader.reading c.loop-arg.reader.reading c.in-App.name c.in-App.args c.in_ok-s-in-App.s.0 c.loop-arg.terms (omega arith)
-    (c.in_ok-s-in-App.ensures.read ∙ ap (λ (name : List ℕ). with_symbol name arity Function (meets (is_too_great st name) 16 before)) c.bytes-in-App.ensures)
+    (c.in_ok-s-in-App.ensures.read ∙ ap (λ (name : List ℕ). with_symbol name arity Function (meets (is_too_great st name) UnfitNumeral before)) c.bytes-in-App.ensures)
     (c.in_ok-s-in-App.ensures.number ∙ ap (λ (name : List ℕ). symbol_number name arity c.function.new.reader.reading) c.bytes-in-App.ensures)
     (terms_end st scope _ _ _ c.deref-arg-items.result.now c.in-App.args c.loop-arg.arg-index c.loop-arg-test.false (ap raw_list c.deref-arg-items.ensures.value ∙ c.args-in-App.view_is) c.loop-arg.invariant.0)

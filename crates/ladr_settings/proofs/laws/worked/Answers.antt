@@ -2,6 +2,6 @@ use Rattle.std.proofs.Common.{refl}
 use Rattle.ladr_lex.specs.Bytes.{is_ordinary, is_special}
 use Rattle.ladr_settings.proofs.laws.worked.Goals as goal
 
-pub returns-clause-row7 : goal.returns-clause-row7
+pub returns-clause-too_late : goal.returns-clause-too_late
 unfolding is_ordinary is_special
-returns-clause-row7 _ = refl
+returns-clause-too_late _ = refl

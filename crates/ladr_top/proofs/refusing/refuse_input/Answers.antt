@@ -1,4 +1,6 @@
-use Rattle.std.proofs.Common.{inr, refl, ap, subst}
+use Rattle.std.proofs.Common.{ℕ, ◌≡◌, inr, refl, ap, subst}
+use Rattle.std.specs.Prelude.{IfOk}
+use Rattle.ladr_lex.specs.Misuses.{row_of}
 use Rattle.ladr_problem.specs.Places.{IsReadError}
 use Rattle.ladr_problem.specs.declared.refusal.ReadError.{ReadError}
 use Rattle.ladr_top.specs.Outcome.{IsRefused}
@@ -17,9 +19,10 @@ returns-in-Unreadable-clause-printed g c = λ m given read h.
 pub returns-in-Misuse-clause-printed : goal.returns-in-Misuse-clause-printed
 returns-in-Misuse-clause-printed g c = λ m given read h.
     let place = c.in-Misuse.place in
+    let misuse = c.in-Misuse.misuse in
     let x = subst (λ (e : ReadError). IsReadError m given.bytes e) c.in-Misuse.is h in
-    let ends : IsRefused m given (Misuse place c.in-Misuse.row) (misuse_line c.in-Misuse.row place.byte place.line place.column) = (read, x.0, x.1, refl) in
-    Printed-weaker _ (IsRefused m given) (made_text c.misuse-text.result (Misuse place c.in-Misuse.row) _ (IsRefused m given) c.misuse-text.ensures ends) _ _ _ c.conclude-in-Misuse.ensures.printed
+    let ends : IsRefused m given (Misuse place misuse) (misuse_line (row_of misuse) place.byte place.line place.column) = (read, x.0, x.1, refl) in
+    Printed-weaker _ (IsRefused m given) (made_text c.misuse-text.result (Misuse place misuse) _ (IsRefused m given) (subst (λ (k : ℕ). IfOk c.misuse-text.result (λ v. v.items ≡ misuse_line k place.byte place.line place.column)) c.row-row.ensures c.misuse-text.ensures) ends) _ _ _ c.conclude-in-Misuse.ensures.printed
 
 pub returns-in-TooLarge-clause-printed : goal.returns-in-TooLarge-clause-printed
 returns-in-TooLarge-clause-printed g c = λ m given read h.

@@ -18,4 +18,4 @@ pub returns-in-Err-take-clause-refused : goal.returns-in-Err-take-clause-refused
 returns-in-Err-take-clause-refused c =
     let says = subst (λ (b : Bool). Says (commands_of b) (lexemes_of c.args.tokens.now) c.in-Ok.command) c.is_tester.ensures c.in-Ok.ensures.read in
     subst (λ (why : Refusal). IsRefused c.args.program c.args.byte (sofar_of c.args.self.now) (lexemes_of c.args.tokens.now) why) (sym c.by_misuse.ensures)
-    (misused c.args.program c.args.byte (sofar_of c.args.self.now) (lexemes_of c.args.tokens.now) c.in-Ok.command (c.requires, says) c.in-Err-take.misuse (λ k e. c.in-Err-take.ensures.row k (ap Err e)))
+    (misused c.args.program c.args.byte (sofar_of c.args.self.now) (lexemes_of c.args.tokens.now) c.in-Ok.command (c.requires, says) c.in-Err-take.error (λ k e. c.in-Err-take.ensures.row k (ap Err e)))
