@@ -1,0 +1,12 @@
+// Cells and ground instances, by which models are searched for.
+#![tactic(auto)]
+
+mod blocks;
+mod counting;
+mod ground;
+mod variables;
+
+pub use blocks::{Block, Blocks, Span};
+pub use counting::count;
+pub use ground::Ground;
+pub use variables::variables_in;
