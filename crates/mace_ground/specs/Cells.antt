@@ -1,5 +1,5 @@
 -- The cells of the interpretations of a size: one for each symbol and list of arguments.
-use Rattle.std.specs.Prelude.{ℕ, zero, suc, ◌+◌, ◌-◌, ◌/◌, ◌%◌, ◌^◌, ◌==◌, nat_lt, if◌then◌else◌, List, [], ◌∷◌, ◌++◌, map, Option, Some, None}
+use Rattle.std.specs.Prelude.{ℕ, zero, suc, ◌+◌, ◌-◌, ◌/◌, ◌%◌, ◌^◌, ◌==◌, nat_lt, if◌then◌else◌, List, [], ◌∷◌, map, Option, Some, None}
 use Rattle.fol_core.specs.Meaning.{Meaning}
 use Rattle.fol_core.specs.SymbolTable.{Symbol, arity_at, kind_at}
 use Rattle.fol_core.specs.declared.symbols.Kind.{Kind}

@@ -4,9 +4,11 @@
 mod blocks;
 mod counting;
 mod ground;
+mod laws;
 mod variables;
 
 pub use blocks::{Block, Blocks, Span};
 pub use counting::count;
 pub use ground::Ground;
+pub use laws::{cells_by_number, instances_suffice};
 pub use variables::variables_in;

@@ -1,4 +1,4 @@
-use Rattle.std.proofs.Common.{◌≡◌, map, arith}
+use Rattle.std.proofs.Common.{map, arith}
 use Rattle.mace_ground.proofs.Sums.{cells_both}
 use Rattle.mace_ground.proofs.counting.count.Goals as goal
 

@@ -1,4 +1,4 @@
-use Rattle.std.proofs.Common.{◌≡◌, ◌^◌, ◌≤◌, min, arith}
+use Rattle.std.proofs.Common.{arith}
 use Rattle.mace_ground.proofs.Sums.{small_base, great_power}
 use Rattle.mace_ground.proofs.counting.power.Goals as goal
 

@@ -1,7 +1,6 @@
 -- the blocks so far, and those to come
-use Rattle.std.proofs.Common.{◌≡◌, ◌+◌, ◌^◌, ◌<◌, ◌++◌, map, take, drop}
+use Rattle.std.proofs.Common.{◌≡◌, ◌+◌, ◌^◌, ◌<◌, ◌++◌, map, drop}
 use Rattle.mace_ground.specs.Cells.{blocks_of, cells_in}
-use Rattle.mace_ground.specs.Spans.{placed}
 use Rattle.mace_ground.proofs.ground.add_skolem.Given as goal
 
 abbrev pub invariant-loop-entry : goal.invariant-loop-entry

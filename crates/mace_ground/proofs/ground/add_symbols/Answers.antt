@@ -1,6 +1,4 @@
-use Rattle.std.proofs.Common.{ℕ, ◌≡◌, ◌+◌, ◌^◌, ◌∷◌, List, map, drop, get_or, refl, ap, ◌∙◌}
-use Rattle.mace_ground.specs.Cells.{Block, blocks_of}
-use Rattle.mace_ground.specs.Spans.{block_of}
+use Rattle.std.proofs.Common.{ℕ, ◌^◌, refl}
 use Rattle.mace_ground.proofs.Placing.{first_left, goes_on}
 use Rattle.fol_core.specs.declared.symbols.Sym.{Sym}
 use Rattle.mace_ground.proofs.ground.add_symbols.Goals as goal

@@ -1,7 +1,7 @@
-use Rattle.std.proofs.Common.{◌≡◌, ◌+◌, ◌^◌, List, ◌∷◌, [], ◌++◌, None, map, get_or, refl, ap, ◌∙◌, arith}
+use Rattle.std.proofs.Common.{◌≡◌, List, ◌∷◌, [], ◌++◌, map, ap, ◌∙◌, arith}
 use Rattle.mace_ground.specs.Cells.{cells_in}
 use Rattle.mace_ground.specs.Cells as cells
-use Rattle.mace_ground.specs.Spans.{Placed, block_of, noted}
+use Rattle.mace_ground.specs.Spans.{block_of, noted}
 use Rattle.mace_ground.specs.declared.blocks.Block.{Block}
 use Rattle.mace_ground.proofs.Placing.{placed_more, cells_more, blocks_more}
 use Rattle.mace_ground.proofs.blocks.Blocks.push.Goals as goal
