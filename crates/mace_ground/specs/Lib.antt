@@ -4,3 +4,4 @@ pub mod GroundCodes
 pub mod GroundLaws
 pub mod Instances
 pub mod Spans
+pub mod Worked

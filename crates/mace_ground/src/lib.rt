@@ -10,5 +10,5 @@ mod variables;
 pub use blocks::{Block, Blocks, Span};
 pub use counting::count;
 pub use ground::Ground;
-pub use laws::{cells_by_number, instances_suffice};
+pub use laws::{cells_by_number, instances_suffice, worked};
 pub use variables::variables_in;
