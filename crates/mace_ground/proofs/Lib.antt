@@ -1,0 +1,4 @@
+pub mod Sums
+pub mod Placing
+pub mod Numbering
+pub mod Grounding
