@@ -5,9 +5,9 @@
 #[cfg(test)]
 mod clauses;
 #[cfg(test)]
-mod searches;
+mod instances;
 #[cfg(test)]
-mod substitutions;
+mod searches;
 #[cfg(test)]
 mod symbols;
 #[cfg(test)]
