@@ -65,7 +65,7 @@ abbrev pub clash_rest : List Clash → List ClauseTree → ClauseTree
 clash_rest ks [] = []
 clash_rest ks (c ∷ ds) = others (λ n. is_in n (map (λ k. k.0) ks)) c ++ satellite_rests ks ds
 
--- A1 | .. | An | C, -A1 | D1, .., -An | Dn / C | D1 | .. | Dn
+-- A1 | .. | An | C, -A1 | C1, .., -An | Cn / C | C1 | .. | Cn
 abbrev pub clash_rule : List Clash → Rule
 clash_rule ks = record { fits = clash_fits ks; pairs = all_clash_pairs ks; rest = clash_rest ks }
 
