@@ -3,21 +3,7 @@
 #![tactic(auto)]
 
 #[cfg(test)]
-mod commands;
-#[cfg(test)]
-mod formulas;
-#[cfg(test)]
-mod interpretations;
-#[cfg(test)]
-mod literals;
-#[cfg(test)]
 mod options;
-#[cfg(test)]
-mod problems;
-#[cfg(test)]
-mod rules;
-#[cfg(test)]
-mod settings;
 #[cfg(test)]
 mod terms;
 #[cfg(test)]
