@@ -22,7 +22,7 @@ fn literals_are_read(rt: HostRuntime) -> Result<(), Fail> {
     assert_eq!(rt; literals.len(), 3);
     let mut symbols = Symbols::new(rt.alloc());
     let read = clause_of(rt.alloc(), &literals, &mut symbols, Mode::Prover, false)?;
-    assert!(rt; matches!(read.clause, Some(clause) if clause.len() == 3));
+    assert!(rt; matches!(&read.clause, Some(clause) if clause.len() == 3));
     assert_eq!(rt; symbols.len(), 3);
     let deep = read_literals(rt.alloc(), &ops, &tokens, 1);
     assert!(rt; matches!(deep, Err(TermFault::Deep)));

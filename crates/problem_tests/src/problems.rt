@@ -20,7 +20,7 @@ fn tells_what_cannot_be_read(rt: HostRuntime) -> Result<(), Fail> {
         b"formulas(assumptions).\na = b = c.\n",
     );
     assert!(rt;
-        matches!(refused, Err(ReadError::Unreadable(place)) if place.byte == 29 && place.column == 7)
+        matches!(&refused, Err(ReadError::Unreadable(place)) if place.byte == 29 && place.column == 7)
     );
     Ok(())
 }
