@@ -1,27 +1,18 @@
 // The clauses of a small problem, with ample memory.
 ghost use Rattle.std.specs.Prelude.{◌≡◌, [], IfOk};
+ghost use Rattle.fol_core.specs.Fol.{equal, forall, exists};
 ghost use Rattle.fol_core.specs.FormulaView.{fol_of};
 ghost use Rattle.fol_core.specs.Stated.{stated_of, IsWellFormed};
-ghost use Rattle.clausify.specs.OneElement.{one_element, one_is_lawful, total};
+ghost use Rattle.fol_core.specs.Tree.{var};
 
 use clausify::{clauses_of, own_table};
-use fol_core::{
-    Formula, Input, Interpretation, Names, Problem, Role, Shape, Sub, Sym, Symbols, Term,
-};
+use fol_core::{Formula, Input, Names, Problem, Role, Shape, Sub, Sym, Symbols, Term};
 use std::alloc::{AllocError, Global};
 use std::test::Fail;
 
-struct OneElement;
-
-impl Interpretation for OneElement {
-    ghost meaning = { λ _. one_element };
-
-    ghost lawful = { λ _. one_is_lawful };
-}
-
 // All x exists y x = y.
 fn total(alloc: Global) -> Result<Shape, AllocError>
-    ensures { IfOk result (λ shape. fol_of shape ≡ total) }
+    ensures { IfOk result (λ shape. fol_of shape ≡ forall 0 (exists 1 (equal (var 0) (var 1)))) }
 {
     let equation = Shape::Eq(Term::Var(0), Term::Var(1));
     let some = Shape::Exists(1, Sub::new(alloc, equation)?);
@@ -59,7 +50,7 @@ fn makes_clauses(rt: HostRuntime) -> Result<(), Fail> {
     let problem = problem(alloc)?;
     let mut table = problem.symbols.copy(alloc)?;
     own_table();
-    let made = clauses_of(alloc, &OneElement, &problem, &mut table).expect(&rt, "clauses");
+    let made = clauses_of(alloc, &problem, &mut table).expect(&rt, "clauses");
     assert_eq!(rt; made.clauses.len(), 2);
     assert_eq!(rt; made.skolem.len(), 2);
     assert_eq!(rt; table.find(b"f1", 1), Some(Sym(0)));

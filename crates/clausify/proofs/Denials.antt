@@ -7,7 +7,7 @@ use Rattle.fol_core.specs.Free.{closed_over}
 use Rattle.fol_core.specs.Substitutions.{Substitution, with_term}
 use Rattle.clausify.specs.Clausal.{clauses_in}
 use Rattle.clausify.specs.Forms.{nnf_of}
-use Rattle.clausify.specs.Made.{witnesses_at, Begins, Leads}
+use Rattle.clausify.specs.Made.{witnesses_at, BeginsWork, LeadsWork}
 use Rattle.clausify.specs.Skolem.{substitute_in, skolem_axioms, skolem_term}
 use Rattle.clausify.specs.View.{terms_of}
 use Rattle.clausify.specs.declared.clausal.Work.{Work}
@@ -24,7 +24,7 @@ abbrev put_at : List ℕ → Work → ℕ → Substitution
 put_at symbols a x = with_term (terms_of a.terms.items) x (skolem_term (slice_index symbols (length a.entries.items)) a.scope.items)
 
 -- where the work stands behind a variable that it began
-moved : {R : Type 0} (P : ℕ → List ℕ → Substitution → R) (symbols : List ℕ) (a b : Work) (x : ℕ) (body : Fol) → Begins symbols a b x body
+moved : {R : Type 0} (P : ℕ → List ℕ → Substitution → R) (symbols : List ℕ) (a b : Work) (x : ℕ) (body : Fol) → BeginsWork symbols a b x body
     → P (length a.entries.items + 1) a.scope.items (put_at symbols a x) ≡ P (length b.entries.items) b.scope.items (terms_of b.terms.items)
 moved P symbols a b x body begun =
     ap (λ k. P k a.scope.items (put_at symbols a x)) (sym begun.1)
@@ -32,7 +32,7 @@ moved P symbols a b x body begun =
     ∙ ap (λ ts. P (length b.entries.items) b.scope.items ts) (sym begun.5)
 
 -- to begin with a variable is to stand in front of its body
-leads_some : (symbols : List ℕ) (a b : Work) (x : ℕ) (g : Fol) → Begins symbols a b x (substitute_in (terms_of a.terms.items) g) → Leads symbols a b (exists x g) g
+leads_some : (symbols : List ℕ) (a b : Work) (x : ℕ) (g : Fol) → BeginsWork symbols a b x (substitute_in (terms_of a.terms.items) g) → LeadsWork symbols a b (exists x g) g
 leads_some symbols a b x g begun =
     let body = substitute_in (terms_of a.terms.items) g in (
       moved (λ k s ts. clauses_in symbols k s ts g) symbols a b x body begun,
@@ -45,20 +45,20 @@ leads_some symbols a b x g begun =
       omega (arith, begun.1),
     )
 
-leads_through : (symbols : List ℕ) (a b c : Work) (f g h : Fol) → Leads symbols a b f g → Leads symbols b c g h → Leads symbols a c f h
+leads_through : (symbols : List ℕ) (a b c : Work) (f g h : Fol) → LeadsWork symbols a b f g → LeadsWork symbols b c g h → LeadsWork symbols a c f h
 leads_through symbols a b c f g h p q = (p.0 ∙ q.0, p.1 ∙ q.1, p.2 ∙ q.2)
 
 -- one more variable
 pub leads_next : (symbols : List ℕ) (start a b : Work) (xs : List ℕ) (f g : Fol) (i : ℕ) → i < length xs
-    → Leads symbols start a g (nnf_of false (closed_over (drop i xs) f))
-    → Begins symbols a b (get_or xs i 0) (substitute_in (terms_of a.terms.items) (nnf_of false (closed_over (drop (i + 1) xs) f)))
-    → Leads symbols start b g (nnf_of false (closed_over (drop (i + 1) xs) f))
+    → LeadsWork symbols start a g (nnf_of false (closed_over (drop i xs) f))
+    → BeginsWork symbols a b (get_or xs i 0) (substitute_in (terms_of a.terms.items) (nnf_of false (closed_over (drop (i + 1) xs) f)))
+    → LeadsWork symbols start b g (nnf_of false (closed_over (drop (i + 1) xs) f))
 leads_next symbols start a b xs f g i lt before begun =
     let rest = nnf_of false (closed_over (drop (i + 1) xs) f) in
-    let there : Leads symbols start a g (exists (get_or xs i 0) rest) = subst (λ ys. Leads symbols start a g (nnf_of false (closed_over ys f))) (front xs i lt) before in
+    let there : LeadsWork symbols start a g (exists (get_or xs i 0) rest) = subst (λ ys. LeadsWork symbols start a g (nnf_of false (closed_over ys f))) (front xs i lt) before in
     leads_through symbols start a b g (exists (get_or xs i 0) rest) rest there (leads_some symbols a b (get_or xs i 0) rest begun)
 
 -- and none
 pub leads_end : (symbols : List ℕ) (start a : Work) (xs : List ℕ) (f g : Fol) (i : ℕ) → length xs ≤ i
-    → Leads symbols start a g (nnf_of false (closed_over (drop i xs) f)) → Leads symbols start a g (nnf_of false f)
-leads_end symbols start a xs f g i end before = subst (λ ys. Leads symbols start a g (nnf_of false (closed_over ys f))) (drop_all i xs end) before
+    → LeadsWork symbols start a g (nnf_of false (closed_over (drop i xs) f)) → LeadsWork symbols start a g (nnf_of false f)
+leads_end symbols start a xs f g i end before = subst (λ ys. LeadsWork symbols start a g (nnf_of false (closed_over ys f))) (drop_all i xs end) before

@@ -17,7 +17,7 @@ use Rattle.fol_core.specs.SkolemAxioms.{SkolemAxiom, AreNotIn, IsApart, AreInOrd
 use Rattle.fol_core.proofs.Soundness.{uses_closed}
 use Rattle.fol_core.proofs.SymbolLemmas.{symbol_there, number_of_push}
 use Rattle.clausify.specs.Input.{form, is_taken, all_arities, witnesses_from}
-use Rattle.clausify.specs.Names.{numbered, is_named, free_from, next_free, next_name, next_constant, next_function, skolem_symbols, all_entered, entered_numbers, IsNew}
+use Rattle.clausify.specs.Names.{numbered, is_named, free_from, next_free, next_name, next_constant, next_function, skolem_symbols, all_entered, entered_numbers, IsNewName}
 use Rattle.clausify.specs.Skolem.{somes, arities, skolem_axioms}
 use Rattle.clausify.proofs.FreeNames.{number_told, next_is_free, next_upto}
 use Rattle.clausify.proofs.Bodies.{form_uses, witnesses_many, many_in_two, around_none, IsAllowed, IsOrdered, ordered_two, ordered}
@@ -81,7 +81,7 @@ all_stand table (s ∷ ss) =
     ((first.0, (keeps_all (entered table s) ss _ first.0 first.1.0, first.1.1)), all_stand (entered table s) ss)
 
 -- names behind the last numbers
-abbrev IsAfter : ℕ → ℕ → List ℕ → Type 0
+abbrev pub IsAfter : ℕ → ℕ → List ℕ → Type 0
 IsAfter c f name = ((n : ℕ) × ((name ≡ numbered 99 n) × ((c < n) × (n < 10 ^ 64)))) ⊎ ((n : ℕ) × ((name ≡ numbered 102 n) × ((f < n) × (n < 10 ^ 64))))
 
 abbrev AllAfter : ℕ → ℕ → List Symbol → Type 0
@@ -103,14 +103,14 @@ from_on table letter (suc most) n = by (is_named table (numbered letter n)) (fro
 free_after : (table : List Symbol) (letter n : ℕ) → n < next_free table letter n
 free_after table letter n = omega (arith, from_on table letter (length table) (n + 1))
 
-constant_after : (input : List Symbol) (c a : ℕ) → c ≤ next_constant input c a
+pub constant_after : (input : List Symbol) (c a : ℕ) → c ≤ next_constant input c a
 constant_after input c a = by (a == 0)
   where
     by : (b : Bool) → c ≤ (if b then next_free input 99 c else c)
     by true = omega (arith, free_after input 99 c)
     by false = omega arith
 
-function_after : (input : List Symbol) (f a : ℕ) → f ≤ next_function input f a
+pub function_after : (input : List Symbol) (f a : ℕ) → f ≤ next_function input f a
 function_after input f a = by (a == 0)
   where
     by : (b : Bool) → f ≤ (if b then f else next_free input 102 f)
@@ -118,7 +118,7 @@ function_after input f a = by (a == 0)
     by false = omega (arith, free_after input 102 f)
 
 -- the name of the next symbol is behind the last numbers, and those behind the next ones are others
-name_after : (input : List Symbol) (c f a : ℕ) → next_constant input c a < 10 ^ 64 → next_function input f a < 10 ^ 64 → IsAfter c f (next_name input c f a)
+pub name_after : (input : List Symbol) (c f a : ℕ) → next_constant input c a < 10 ^ 64 → next_function input f a < 10 ^ 64 → IsAfter c f (next_name input c f a)
 name_after input c f a = by (a == 0)
   where
     by : (b : Bool) → (if b then next_free input 99 c else c) < 10 ^ 64 → (if b then f else next_free input 102 f) < 10 ^ 64
@@ -127,15 +127,15 @@ name_after input c f a = by (a == 0)
     by false h k = inr (next_free input 102 f, (refl, (free_after input 102 f, k)))
 
 -- the names of symbols with these arities are new, and their numbers have as many digits as are written
-abbrev AreNames : List Symbol → ℕ → ℕ → List ℕ → Type 0
+abbrev pub AreNames : List Symbol → ℕ → ℕ → List ℕ → Type 0
 AreNames input c f [] = Unit {0}
 AreNames input c f (a ∷ later) =
-    IsNew input (next_name input c f a) × (next_constant input c a < 10 ^ 64) × (next_function input f a < 10 ^ 64) × AreNames input (next_constant input c a) (next_function input f a) later
+    IsNewName input (next_name input c f a) × (next_constant input c a < 10 ^ 64) × (next_function input f a < 10 ^ 64) × AreNames input (next_constant input c a) (next_function input f a) later
 
-name_new : (input : List Symbol) (c f a : ℕ) → c + (length input + 1) < 10 ^ 64 → f + (length input + 1) < 10 ^ 64 → IsNew input (next_name input c f a)
+name_new : (input : List Symbol) (c f a : ℕ) → c + (length input + 1) < 10 ^ 64 → f + (length input + 1) < 10 ^ 64 → IsNewName input (next_name input c f a)
 name_new input c f a h k = by (a == 0)
   where
-    by : (b : Bool) → IsNew input (if b then numbered 99 (next_free input 99 c) else numbered 102 (next_free input 102 f))
+    by : (b : Bool) → IsNewName input (if b then numbered 99 (next_free input 99 c) else numbered 102 (next_free input 102 f))
     by true = record { letter = 99; number = next_free input 99 c; skolem = inl refl; is = refl; free = next_is_free input 99 c (omega (arith, h)) }
     by false = record { letter = 102; number = next_free input 102 f; skolem = inr refl; is = refl; free = next_is_free input 102 f (omega (arith, k)) }
 
@@ -154,7 +154,7 @@ function_upto input f a = by (a == 0)
     by true = omega arith
     by false = next_upto input 102 f
 
-are_names : (input : List Symbol) (c f : ℕ) (later : List ℕ) → c + length later * (length input + 1) < 10 ^ 64 → f + length later * (length input + 1) < 10 ^ 64 → AreNames input c f later
+pub are_names : (input : List Symbol) (c f : ℕ) (later : List ℕ) → c + length later * (length input + 1) < 10 ^ 64 → f + length later * (length input + 1) < 10 ^ 64 → AreNames input c f later
 are_names input c f [] h k = tt
 are_names input c f (a ∷ later) h k =
     let d = constant_upto input c a in
@@ -176,7 +176,7 @@ names_after input c f (a ∷ later) h = (
 first_of : (x y : ℕ) (xs ys : List ℕ) → x ∷ xs ≡ y ∷ ys → x ≡ y
 first_of x y xs ys e = cc
 
-other_name : (input : List Symbol) (c f a : ℕ) (name : List ℕ) → next_constant input c a < 10 ^ 64 → next_function input f a < 10 ^ 64
+pub other_name : (input : List Symbol) (c f a : ℕ) (name : List ℕ) → next_constant input c a < 10 ^ 64 → next_function input f a < 10 ^ 64
     → IsAfter (next_constant input c a) (next_function input f a) name → next_name input c f a ≡ name → ⊥
 other_name input c f a name = by (a == 0)
   where
@@ -300,7 +300,7 @@ arities_many n (disjunction f g) = omega (arith, many_in_two (arities n f) (arit
 arities_many n (forall x f) = arities_many (n + 1) f
 arities_many n (exists x f) = omega (arith, arities_many n f)
 
-from_many : (S : List ℕ) (k : ℕ) (ss : List Said) → length (witnesses_from S k ss) ≡ length (all_arities ss)
+pub from_many : (S : List ℕ) (k : ℕ) (ss : List Said) → length (witnesses_from S k ss) ≡ length (all_arities ss)
 from_many S k [] = refl
 from_many S k (s ∷ ss) =
     omega (
@@ -312,11 +312,11 @@ from_many S k (s ∷ ss) =
       from_many S (k + somes (form s)) ss,
     )
 
-symbols_many : (input : List Symbol) (c f : ℕ) (later : List ℕ) → length (skolem_symbols input c f later) ≡ length later
+pub symbols_many : (input : List Symbol) (c f : ℕ) (later : List ℕ) → length (skolem_symbols input c f later) ≡ length later
 symbols_many input c f [] = refl
 symbols_many input c f (a ∷ later) = omega (arith, symbols_many input (next_constant input c a) (next_function input f a) later)
 
-numbers_many : (table ss : List Symbol) → length (entered_numbers table ss) ≡ length ss
+pub numbers_many : (table ss : List Symbol) → length (entered_numbers table ss) ≡ length ss
 numbers_many table [] = refl
 numbers_many table (s ∷ ss) = omega (arith, numbers_many (entered table s) ss)
 

@@ -1,3 +1,4 @@
+mod Behind
 mod Bodies
 mod Claims
 mod Clauses

@@ -8,10 +8,10 @@ use Rattle.fol_core.specs.SymbolTable.{Symbol, symbol, is_called, number_of, nam
 use Rattle.fol_core.specs.declared.symbols.Kind.{Kind}
 use Rattle.fol_core.specs.declared.symbols.Kind.TheVariants.{Function, Relation}
 use Rattle.fol_core.proofs.Places.{first_place-found}
-use Rattle.clausify.specs.Names.{is_named, HasNoSkolemRelation, IsNew, skolem_symbols, next_name, next_constant, next_function, all_entered, entered_numbers}
+use Rattle.clausify.specs.Names.{is_named, HasNoSkolemRelation, IsNewName, skolem_symbols, next_name, next_constant, next_function, all_entered, entered_numbers}
 
 -- a new name clashes with no symbol
-pub no_clash : (input table : List Symbol) (name : List ℕ) (arity : ℕ) → HasNoSkolemRelation input table → IsNew input name → is_clash table (symbol name arity Function) ≡ false
+pub no_clash : (input table : List Symbol) (name : List ℕ) (arity : ℕ) → HasNoSkolemRelation input table → IsNewName input name → is_clash table (symbol name arity Function) ≡ false
 no_clash input table name arity none new = by (number_of table name arity) refl
   where
     same : (n : ℕ) → number_of table name arity ≡ Some n → name_at table n ≡ name

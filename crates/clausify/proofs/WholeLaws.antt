@@ -18,7 +18,7 @@ use Rattle.fol_core.proofs.Variables.{is_in_without}
 use Rattle.fol_core.specs.Renumbered.{renumbered}
 use Rattle.clausify.specs.Clausal.{clauses_in}
 use Rattle.clausify.specs.Forms.{nnf_of}
-use Rattle.clausify.specs.Input.{Row, form, is_taken, rows_from, witnesses_from}
+use Rattle.clausify.specs.Input.{ClauseRow, form, is_taken, rows_from, witnesses_from}
 use Rattle.clausify.specs.Laws.{AreTrueRows}
 use Rattle.clausify.specs.Skolem.{somes, skolem_axioms}
 use Rattle.clausify.proofs.Claims.{suffice, follow, picks_left, picks_right}
@@ -64,13 +64,13 @@ module _ (m : Meaning) where
   AllTrue cs = (e : Assignment) → IsWithin m e → all_true m e cs ≡ true
 
   -- numbered clauses in front of others
-  rows_true : (n : ℕ) (cs : List ClauseTree) (rows : List Row) → AreTrueRows m (map (λ c. (n, renumbered c)) cs ++ rows) → AllTrue cs × AreTrueRows m rows
+  rows_true : (n : ℕ) (cs : List ClauseTree) (rows : List ClauseRow) → AreTrueRows m (map (λ c. (n, renumbered c)) cs ++ rows) → AllTrue cs × AreTrueRows m rows
   rows_true n [] rows h = (λ e w. refl, h)
   rows_true n (c ∷ cs) rows h =
       let rest = rows_true n cs rows h.1 in
       (λ e w. and_from (is_true_clause m e c) (all_true m e cs) (true_renumbered m c h.0 e w) (rest.0 e w), rest.1)
 
-  true_rows : (n : ℕ) (cs : List ClauseTree) (rows : List Row) → AllTrue cs → AreTrueRows m rows → AreTrueRows m (map (λ c. (n, renumbered c)) cs ++ rows)
+  true_rows : (n : ℕ) (cs : List ClauseTree) (rows : List ClauseRow) → AllTrue cs → AreTrueRows m rows → AreTrueRows m (map (λ c. (n, renumbered c)) cs ++ rows)
   true_rows n [] rows all h = h
   true_rows n (c ∷ cs) rows all h = (
     renumbered_true m c (λ e w. (and_parts (is_true_clause m e c) (all_true m e cs) (all e w)).0),

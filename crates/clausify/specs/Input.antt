@@ -37,11 +37,11 @@ abbrev pub skolems : List Symbol → List Said → List Symbol
 skolems input ss = skolem_symbols input 0 0 (all_arities ss)
 
 -- a clause with the number of its formula
-abbrev pub Row : Type 0
-Row = ℕ × ClauseTree
+abbrev pub ClauseRow : Type 0
+ClauseRow = ℕ × ClauseTree
 
 -- the clauses of the formulas, of which the first has number n and its first Skolem symbol stands at place k
-abbrev pub rows_from : List ℕ → ℕ → ℕ → List Said → List Row
+abbrev pub rows_from : List ℕ → ℕ → ℕ → List Said → List ClauseRow
 rows_from symbols n k [] = []
 rows_from symbols n k (s ∷ ss) = map (λ c. (n, renumbered c)) (clauses_in symbols k [] var (form s)) ++ rows_from symbols (n + 1) (k + somes (form s)) ss
 
@@ -50,7 +50,7 @@ abbrev pub witnesses_from : List ℕ → ℕ → List Said → List SkolemAxiom
 witnesses_from symbols k [] = []
 witnesses_from symbols k (s ∷ ss) = skolem_axioms symbols k [] var (form s) ++ witnesses_from symbols (k + somes (form s)) ss
 
-abbrev pub all_rows : List ℕ → List Said → List Row
+abbrev pub all_rows : List ℕ → List Said → List ClauseRow
 all_rows symbols ss = rows_from symbols 1 0 ss
 
 abbrev pub all_skolem_axioms : List ℕ → List Said → List SkolemAxiom
@@ -95,7 +95,7 @@ abbrev pub with_skolems : List Symbol → Stated → List Symbol
 with_skolems table p = all_entered table (skolems p.symbols p.formulas)
 
 -- the clauses and the witnesses, with the numbers of that table
-abbrev pub clauses_in_table : List Symbol → Stated → List Row
+abbrev pub clauses_in_table : List Symbol → Stated → List ClauseRow
 clauses_in_table table p = all_rows (skolem_numbers table p) p.formulas
 
 abbrev pub witnesses_in_table : List Symbol → Stated → List SkolemAxiom

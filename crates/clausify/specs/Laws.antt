@@ -4,10 +4,10 @@ use Rattle.fol_core.specs.Literals.{AreTrueClauses, equality}
 use Rattle.fol_core.specs.Meaning.{Meaning}
 use Rattle.fol_core.specs.Stated.{Said, AreWellFormed, IsCountermodel}
 use Rattle.fol_core.specs.SkolemAxioms.{PicksWitnesses}
-use Rattle.clausify.specs.Input.{Row, all_rows, all_skolem_axioms}
+use Rattle.clausify.specs.Input.{ClauseRow, all_rows, all_skolem_axioms}
 
 -- each of the clauses is true
-abbrev pub AreTrueRows : Meaning → List Row → Type 0
+abbrev pub AreTrueRows : Meaning → List ClauseRow → Type 0
 AreTrueRows m rows = AreTrueClauses m (map (λ r. r.1) rows)
 
 -- where all clauses are true, each assumption is true and each goal false, whatever the Skolem symbols are

@@ -1,3 +1,4 @@
+pub mod Behind
 pub mod Capped
 pub mod Clausal
 pub mod Forms
@@ -5,7 +6,6 @@ pub mod Input
 pub mod Laws
 pub mod Made
 pub mod Names
-pub mod OneElement
 pub mod Seen
 pub mod Skolem
 pub mod View

@@ -27,8 +27,8 @@ Works symbols old new f =
     × (new.terms.items ≡ old.terms.items)
 
 -- a Skolem symbol is noted, and its term given for the variable, in front of whose body work stood
-abbrev pub Begins : List ℕ → Work → Work → ℕ → Fol → Type 0
-Begins symbols old new variable body =
+abbrev pub BeginsWork : List ℕ → Work → Work → ℕ → Fol → Type 0
+BeginsWork symbols old new variable body =
     let symbol = slice_index symbols (length old.entries.items) in
     (map skolem_axiom_of new.entries.items ≡ map skolem_axiom_of old.entries.items ++ record { symbol = symbol; variables = old.scope.items; variable = variable; body = body } ∷ [])
     × (length new.entries.items ≡ length old.entries.items + 1)
@@ -38,8 +38,8 @@ Begins symbols old new variable body =
     × (terms_of new.terms.items ≡ with_term (terms_of old.terms.items) variable (skolem_term symbol old.scope.items))
 
 -- what the work in front of one form gives is what the work in front of another gives
-abbrev pub Leads : List ℕ → Work → Work → Fol → Fol → Type 0
-Leads symbols old new f g =
+abbrev pub LeadsWork : List ℕ → Work → Work → Fol → Fol → Type 0
+LeadsWork symbols old new f g =
     (clauses_at symbols old f ≡ clauses_at symbols new g)
     × (map skolem_axiom_of old.entries.items ++ witnesses_at symbols old f ≡ map skolem_axiom_of new.entries.items ++ witnesses_at symbols new g)
     × (length old.entries.items + somes f ≡ length new.entries.items + somes g)

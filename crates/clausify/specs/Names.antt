@@ -61,7 +61,7 @@ HasNoSkolemRelation input table = (r letter n : ℕ) → kind_at table r ≡ Rel
     → is_named input (numbered letter n) ≡ true
 
 -- the name is one of a Skolem symbol, and no name of the input
-pub record IsNew (input : List Symbol) (name : List ℕ) : Type 0 where
+pub record IsNewName (input : List Symbol) (name : List ℕ) : Type 0 where
   pub letter : ℕ
   pub number : ℕ
   pub skolem : (letter ≡ 99) ⊎ (letter ≡ 102)

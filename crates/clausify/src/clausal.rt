@@ -7,7 +7,7 @@ ghost use Rattle.fol_core.specs.Literals.{literal};
 ghost use Rattle.fol_core.specs.TermView.{tree_of};
 ghost use Rattle.clausify.specs.Clausal.{with_each, distributed, literal_clauses};
 ghost use Rattle.clausify.specs.Forms.{nnf_of};
-ghost use Rattle.clausify.specs.Made.{clauses_at, Works, Begins};
+ghost use Rattle.clausify.specs.Made.{clauses_at, Works, BeginsWork};
 ghost use Rattle.clausify.specs.Skolem.{skolem_term};
 ghost use Rattle.clausify.specs.View.{terms_of};
 
@@ -145,7 +145,7 @@ pub fn begin(
     body: Shape,
     work: &mut Work,
 ) -> Result<(), AllocError>
-    ensures { OnOk result (Begins symbols.now work.old work.new variable
+    ensures { OnOk result (BeginsWork symbols.now work.old work.new variable
         (some_over bound.items (fol_of body))) }
 {
     let symbol = symbol_at(symbols, work.entries.len());

@@ -9,7 +9,7 @@ ghost use Rattle.fol_core.specs.Tree.{var};
 ghost use Rattle.clausify.specs.Clausal.{clauses_in};
 ghost use Rattle.clausify.specs.Forms.{nnf_of};
 ghost use Rattle.clausify.specs.Input.{form, all_rows, all_skolem_axioms};
-ghost use Rattle.clausify.specs.Made.{clauses_at, Leads, Notes};
+ghost use Rattle.clausify.specs.Made.{clauses_at, LeadsWork, Notes};
 ghost use Rattle.clausify.specs.Skolem.{somes, skolem_axioms};
 
 use crate::clausal::{Work, begin, clauses};
@@ -25,7 +25,7 @@ fn deny(
     variables: &[u64],
     work: &mut Work,
 ) -> Result<(), AllocError>
-    ensures { OnOk result (Leads symbols.now work.old work.new
+    ensures { OnOk result (LeadsWork symbols.now work.old work.new
         (nnf_of false (closed_over variables.now (fol_of shape.now)))
         (nnf_of false (fol_of shape.now))) }
 {

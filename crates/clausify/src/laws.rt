@@ -1,24 +1,24 @@
 // Laws of clauses, of every interpretation: the functions do nothing, and their contracts are the laws.
 ghost use Rattle.std.specs.Prelude.{List, length, ◌≤◌};
 ghost use Rattle.fol_core.specs.Literals.{equality};
+ghost use Rattle.fol_core.specs.Meaning.{Meaning, IsLawful};
 ghost use Rattle.fol_core.specs.Stated.{Stated, IsWellFormed, AreNewTo};
 ghost use Rattle.fol_core.specs.SymbolTable.{Symbol, KeepsNumbers};
 ghost use Rattle.fol_core.specs.SkolemAxioms.{AreInOrder};
+ghost use Rattle.clausify.specs.Behind.{SkolemsStandBehind};
 ghost use Rattle.clausify.specs.Input.{witnesses_in_table};
 ghost use Rattle.clausify.specs.Laws.{ClausesSuffice, ClausesFollow};
 ghost use Rattle.clausify.specs.Names.{HasNoSkolemRelation};
 ghost use Rattle.clausify.specs.Worked.{WorkedIff, WorkedSingle, WorkedGoal, WorkedNames, WorkedNested, WorkedConstants, WorkedLimit, WorkedSymbols};
 
-use fol_core::Interpretation;
-
 /// Where all clauses are true, each assumption is true and each goal false.
-pub fn clauses_suffice<I: Interpretation>(any: &I)
-    ensures { ClausesSuffice (I.meaning any.now) }
+pub fn clauses_suffice()
+    ensures { (m : Meaning) → IsLawful m → ClausesSuffice m }
 {}
 
 /// In an interpretation that picks witnesses the converse holds.
-pub fn clauses_follow<I: Interpretation>(any: &I)
-    ensures { ClausesFollow (I.meaning any.now) }
+pub fn clauses_follow()
+    ensures { (m : Meaning) → IsLawful m → ClausesFollow m }
 {}
 
 /// A table that has the problem's symbols alone is one that the Skolem symbols can be entered into.
@@ -35,6 +35,11 @@ pub fn witnesses_are_in_order()
     ensures new { (table : List Symbol) (p : Stated) → IsWellFormed p → length p.symbols ≤ equality
         → KeepsNumbers p.symbols table → length (witnesses_in_table table p) ≤ equality
         → AreNewTo p.formulas (witnesses_in_table table p) }
+{}
+
+/// The Skolem symbols stand behind all symbols of the problem, each for its witness, under names of their own.
+pub fn skolems_stand_behind()
+    ensures { SkolemsStandBehind }
 {}
 
 /// Some formulas worked out.

@@ -16,5 +16,8 @@ mod skolem;
 mod substitution;
 
 pub use error::ClauseError;
-pub use laws::{clauses_follow, clauses_suffice, own_table, witnesses_are_in_order, worked};
+pub use laws::{
+    clauses_follow, clauses_suffice, own_table, skolems_stand_behind, witnesses_are_in_order,
+    worked,
+};
 pub use problem::clauses_of;

@@ -2,6 +2,7 @@
 ghost use Rattle.std.specs.Prelude.{◌≡◌, ◌≤◌, ℕ, Some, None, Err, IfOk, OnOk, length, map};
 ghost use Rattle.fol_core.specs.EntryView.{skolem_axiom_of};
 ghost use Rattle.fol_core.specs.Literals.{equality};
+ghost use Rattle.fol_core.specs.Meaning.{Meaning, IsLawful};
 ghost use Rattle.fol_core.specs.Stated.{stated_of, IsWellFormed, IsCountermodel, AreNewTo};
 ghost use Rattle.fol_core.specs.SymbolTable.{KeepsNumbers};
 ghost use Rattle.fol_core.specs.SkolemAxioms.{PicksWitnesses, AreInOrder};
@@ -16,7 +17,7 @@ use crate::laws::{clauses_follow, clauses_suffice};
 use crate::limit::first_over;
 use crate::seen::symbols_and_numeral;
 use crate::skolem::enter_all;
-use fol_core::{Clauses, Interpretation, Problem, Symbols};
+use fol_core::{Clauses, Problem, Symbols};
 use std::alloc::{AllocError, Global};
 
 // A table has fewer symbols than there are numbers, so equality's is none of theirs.
@@ -58,10 +59,8 @@ fn made(alloc: Global, problem: &Problem, symbols: &mut Symbols) -> Result<Claus
 }
 
 /// The clauses of a problem. Its Skolem symbols are entered into a table that has the problem's symbols under their numbers.
-/// `any` is any interpretation: what the clauses say of it holds for every one.
-pub fn clauses_of<I: Interpretation>(
+pub fn clauses_of(
     alloc: Global,
-    any: &I,
     problem: &Problem,
     symbols: &mut Symbols,
 ) -> Result<Clauses, ClauseError>
@@ -88,20 +87,19 @@ pub fn clauses_of<I: Interpretation>(
         → first_over 1 (stated_of problem.now).formulas ≡ Some n }
     ensures within { OnOk result (first_over 1 (stated_of problem.now).formulas ≡ None) }
 
-    // Clauses and formulas say the same.
-    ensures suffice { IfOk result (λ c. AreTrueRows (I.meaning any.now) c.clauses.items
-        → IsCountermodel (I.meaning any.now) (stated_of problem.now).formulas) }
-    ensures follow { IfOk result (λ c. PicksWitnesses (I.meaning any.now)
-        (map skolem_axiom_of c.skolem.items)
-        → IsCountermodel (I.meaning any.now) (stated_of problem.now).formulas
-        → AreTrueRows (I.meaning any.now) c.clauses.items) }
+    // Clauses and formulas say the same, in every interpretation.
+    ensures suffice { IfOk result (λ c. (m : Meaning) → IsLawful m → AreTrueRows m c.clauses.items
+        → IsCountermodel m (stated_of problem.now).formulas) }
+    ensures follow { IfOk result (λ c. (m : Meaning) → IsLawful m
+        → PicksWitnesses m (map skolem_axiom_of c.skolem.items)
+        → IsCountermodel m (stated_of problem.now).formulas → AreTrueRows m c.clauses.items) }
 {
     if let Some(formula) = first_over(&problem.inputs) {
         return Err(ClauseError::ClauseLimit { formula });
     }
     fits(&problem.symbols);
     let clauses = made(alloc, problem, symbols)?;
-    clauses_suffice(any);
-    clauses_follow(any);
+    clauses_suffice();
+    clauses_follow();
     Ok(clauses)
 }

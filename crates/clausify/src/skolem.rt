@@ -2,7 +2,7 @@
 ghost use Rattle.std.specs.Prelude.{◌≡◌, IfOk, OnOk, OnErr, Some, false};
 ghost use Rattle.fol_core.specs.SymbolTable.{symbol, number_of, entered, is_clash, KeepsNumbers};
 ghost use Rattle.fol_core.specs.declared.symbols.Kind.TheVariants.{Function};
-ghost use Rattle.clausify.specs.Names.{next_name, next_constant, next_function, skolem_symbols, all_entered, entered_numbers, HasNoSkolemRelation, HasNames, IsNew};
+ghost use Rattle.clausify.specs.Names.{next_name, next_constant, next_function, skolem_symbols, all_entered, entered_numbers, HasNoSkolemRelation, HasNames, IsNewName};
 
 use crate::names::{names_of, next_free, numbered};
 use fol_core::{Clash, Kind, Symbols};
@@ -32,7 +32,7 @@ impl Last {
             ≡ next_constant input.now self.old.constants arity) }
         ensures functions { OnOk result (self.new.functions
             ≡ next_function input.now self.old.functions arity) }
-        ensures new { OnOk result (IsNew input.now
+        ensures new { OnOk result (IsNewName input.now
             (next_name input.now self.old.constants self.old.functions arity)) }
     {
         if arity == 0 {

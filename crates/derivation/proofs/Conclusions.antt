@@ -15,7 +15,7 @@ use Rattle.substitutions.proofs.Variants.{instances_same}
 use Rattle.derivation.specs.Equations.{is_equation, left_of, right_of, below, is_there, term_below}
 use Rattle.derivation.specs.Later.{LaterWord, flipped, merged, reflexive, unit_deleted, rewritten, later_fits, Leads, is_unit, is_rule_equation}
 use Rattle.derivation.specs.Places.{has_literal, has_place, atom_at, others, with_atom, are_alike, are_opposite}
-use Rattle.derivation.specs.Rule.{Rule, instances, Concludes}
+use Rattle.derivation.specs.Rule.{InferenceRule, instances, Concludes}
 use Rattle.derivation.specs.Words.{only_of, is_one, first_of_two, second_of_two, are_two, copy_rule, Clash, clashes_fit, clash_fits, clash_pairs, all_clash_pairs, clash_rest, satellite_rests, clash_rule, factor_rule, xx_rule, side_of, other_side_of, para_fits, para_rest, para_rule}
 use Rattle.derivation.proofs.LaterSound.{left_put, right_put}
 use Rattle.derivation.proofs.Lawful.{IsLawfulRule, ParaFits, para_parts, only_kept, first_kept, second_kept}
@@ -26,7 +26,7 @@ abbrev pub pair_put : Substitution → Tree × Tree → Tree × Tree
 pair_put s p = (substitute s p.0, substitute s p.1)
 
 -- what a rule makes of instances is the instance of what it makes
-pub record IsNatural (r : Rule) : Type 0 where
+pub record IsNatural (r : InferenceRule) : Type 0 where
   pub rest : (u : Substitution) (cs : List ClauseTree) → IsTrue (r.fits cs) → r.rest (map (substitute_clause u) cs) ≡ substitute_clause u (r.rest cs)
   pub pairs : (u : Substitution) (cs : List ClauseTree) → IsTrue (r.fits cs) → r.pairs (map (substitute_clause u) cs) ≡ map (pair_put u) (r.pairs cs)
 
@@ -146,7 +146,7 @@ para_natural a n b path = record {
 }
 
 -- the conclusion is one
-pub one_conclusion : (r : Rule) → IsLawfulRule r → IsNatural r → (cs : List ClauseTree) (c d : ClauseTree) → IsTrue (r.fits cs) → Concludes r cs c → Concludes r cs d → c ≡ d
+pub one_conclusion : (r : InferenceRule) → IsLawfulRule r → IsNatural r → (cs : List ClauseTree) (c d : ClauseTree) → IsTrue (r.fits cs) → Concludes r cs c → Concludes r cs d → c ≡ d
 one_conclusion r law natural cs c d fits (own, general, is) (other, most, was) =
     let there = general.general other most.unifies in
     let back = most.general own general.unifies in

@@ -15,7 +15,7 @@ use Rattle.substitutions.proofs.Numbering.{renumbered_true, true_renumbered}
 use Rattle.substitutions.proofs.Variants.{variants_instances}
 use Rattle.derivation.specs.Laws.{ContentNamesWithin, LinesNameWithin, RowsAreAtoms}
 use Rattle.derivation.specs.Later.{LaterWord, later_parents}
-use Rattle.derivation.specs.Lines.{FirstWord, assumed, wanted, clausified, denied, copied, resolved, factored, paramodulated, xx_resolved, Inference, copy_inference, clash_inference, factor_inference, para_inference, xx_inference, ContentTree, formula, clause, LineTree, line_at, clause_in, clause_at, AreClauses, IsClause, After, IsInferred, Row, IsStated, IsInput, IsLine, AreLines, is_empty_clause, ends_empty}
+use Rattle.derivation.specs.Lines.{FirstWord, assumed, wanted, clausified, denied, copied, resolved, factored, paramodulated, xx_resolved, Inference, copy_inference, clash_inference, factor_inference, para_inference, xx_inference, ContentTree, formula, clause, LineTree, line_at, clause_in, clause_at, AreClauses, IsClause, After, IsInferred, InputRow, IsStated, IsInput, IsLine, AreLines, is_empty_clause, ends_empty}
 use Rattle.derivation.specs.Rule.{Own, instances}
 use Rattle.derivation.proofs.LaterSound.{word_sound, word_atoms, InstancesTrue}
 use Rattle.derivation.proofs.Lawful.{IsLawfulRule, copy_lawful, clash_lawful, factor_lawful, xx_lawful, para_lawful}
@@ -108,7 +108,7 @@ module _ (m : Meaning) (lawful : IsLawful m) where
     let s = followed (by_place (clause_variables d)) (λ n. var (slice_index (clause_variables c) n)) in subst AreAtoms (sym (variants_instances d c (sym same))) (atoms_put s d atoms),
   )
 
-  input_good : (goal : Bool) (f : Fol) (ss : List Said) (content : ContentTree) (rows : List Row) → IsInput goal f ss content rows → ContentNamesWithin m content
+  input_good : (goal : Bool) (f : Fol) (ss : List Said) (content : ContentTree) (rows : List InputRow) → IsInput goal f ss content rows → ContentNamesWithin m content
       → AreTrueClauses m (map (λ r. r.1) rows) → RowsAreAtoms rows → ContentGood m lawful content
   input_good goal f ss content [] is names all atoms = absurd is
   input_good goal f ss content (r ∷ rows) (inl here) names all atoms = row_good content r.1 here.3 names all.0 atoms.0
@@ -118,7 +118,7 @@ module _ (m : Meaning) (lawful : IsLawful m) where
   stated_good goal (formula f) ss h = tt
   stated_good goal (clause c) ss h = absurd h
 
-  line_good : (ss : List Said) (rows : List Row) (ls : List LineTree) (first : FirstWord) (ws : List LaterWord) (content : ContentTree) → IsLine ss rows ls first ws content
+  line_good : (ss : List Said) (rows : List InputRow) (ls : List LineTree) (first : FirstWord) (ws : List LaterWord) (content : ContentTree) → IsLine ss rows ls first ws content
       → ContentNamesWithin m content → AreTrueClauses m (map (λ r. r.1) rows) → RowsAreAtoms rows → LinesGood m lawful ls → ContentGood m lawful content
   line_good ss rows ls assumed ws content is names all atoms good = stated_good false content ss is.0
   line_good ss rows ls wanted ws content is names all atoms good = stated_good true content ss is.0
@@ -137,7 +137,7 @@ module _ (m : Meaning) (lawful : IsLawful m) where
   empty_false (clause (l ∷ c)) good h = false≢true h
 
   -- behind good lines there is no way to the empty clause
-  pub no_way : (ss : List Said) (rows : List Row) (earlier : List LineTree) (last : Option ℕ) (ls : List LineTree) → AreTrueClauses m (map (λ r. r.1) rows) → RowsAreAtoms rows
+  pub no_way : (ss : List Said) (rows : List InputRow) (earlier : List LineTree) (last : Option ℕ) (ls : List LineTree) → AreTrueClauses m (map (λ r. r.1) rows) → RowsAreAtoms rows
       → LinesNameWithin m ls → LinesGood m lawful earlier → AreLines ss rows earlier last ls → IsTrue (ends_empty ls) → ⊥
   no_way ss rows earlier last [] all atoms names good are ends = false≢true ends
   no_way ss rows earlier last (l ∷ []) all atoms names good are ends =

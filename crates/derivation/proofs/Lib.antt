@@ -1,4 +1,5 @@
 pub mod Conclusions
+pub mod Elements
 pub mod Induction
 pub mod LaterSound
 pub mod Lawful

@@ -7,9 +7,9 @@ use Rattle.fol_core.specs.Fol.{Fol}
 use Rattle.fol_core.specs.Literals.{ClauseTree}
 use Rattle.fol_core.specs.Stated.{Said}
 use Rattle.derivation.specs.Later.{LaterWord, later_parents, later_fits, Leads}
-use Rattle.derivation.specs.Lines.{FirstWord, assumed, wanted, clausified, denied, copied, resolved, factored, paramodulated, xx_resolved, Inference, inference_of, copy_inference, clash_inference, factor_inference, para_inference, xx_inference, ContentTree, is_formula, is_formula_at, LineTree, clause_at, AreClauses, After, IsInferred, Row, IsStated, IsFormulaAt, IsInputOf, IsLine, AreLines, is_empty_clause, ends_empty, IsRefutation}
-use Rattle.derivation.specs.Refused.{Fails, StepFails, all_parents, are_there, InferenceFails, StatedFails, InputFails, LineFails, IsRefused, IsAccepted, HasFault, IsFault}
-use Rattle.derivation.specs.Rule.{Own, Unifies, Concludes}
+use Rattle.derivation.specs.Lines.{FirstWord, assumed, wanted, clausified, denied, copied, resolved, factored, paramodulated, xx_resolved, Inference, inference_of, copy_inference, clash_inference, factor_inference, para_inference, xx_inference, ContentTree, is_formula, is_formula_at, LineTree, clause_at, AreClauses, After, IsInferred, InputRow, IsStated, IsFormulaAt, IsInputOf, IsLine, AreLines, is_empty_clause, ends_empty, IsRefutation}
+use Rattle.derivation.specs.Refused.{Fails, StepFails, all_parents, are_there, InferenceFails, StatedFails, InputFails, LineFails, IsRefusedLine, IsAccepted, HasFault, IsFault}
+use Rattle.derivation.specs.Rule.{Own, UnifiesFamily, Concludes}
 use Rattle.derivation.specs.Words.{Clash}
 use Rattle.derivation.proofs.Conclusions.{IsNatural, copy_natural, clash_natural, factor_natural, xx_natural, para_natural, one_conclusion, one_lead}
 use Rattle.derivation.proofs.Lawful.{IsLawfulRule, copy_lawful, clash_lawful, factor_lawful, xx_lawful, para_lawful}
@@ -70,7 +70,7 @@ module _ (ls : List LineTree) (content : ContentTree) where
       (subst (λ ps. Three (later_fits w d ps) (Leads w d ps) (λ b row. Fails ls ws b content row) other) (clauses_once ls (later_parents w) qs ps were are) more)
 
   step_three : (i : Inference) (ws : List LaterWord) (row : ℕ) (ps : List ClauseTree)
-      → (((row ≡ 6) × (i.rule.fits ps ≡ false)) ⊎ (((row ≡ 7) × IsTrue (i.rule.fits ps) × ((own : Own) → ¬ Unifies i.rule ps own)) ⊎ (IsTrue (i.rule.fits ps) × ((d : ClauseTree) × Concludes i.rule ps d × Fails ls ws d content row))))
+      → (((row ≡ 6) × (i.rule.fits ps ≡ false)) ⊎ (((row ≡ 7) × IsTrue (i.rule.fits ps) × ((own : Own) → ¬ UnifiesFamily i.rule ps own)) ⊎ (IsTrue (i.rule.fits ps) × ((d : ClauseTree) × Concludes i.rule ps d × Fails ls ws d content row))))
       → Three (i.rule.fits ps) (Concludes i.rule ps) (λ b row. Fails ls ws b content row) row
   step_three i ws row ps (inl six) = inl six
   step_three i ws row ps (inr (inl seven)) = inr (inl (seven.0, seven.1, λ b concludes. seven.2 concludes.0 concludes.1.unifies))
@@ -130,7 +130,7 @@ stated_once goal ss ws content row other (inr eight) (inr again) = eight.0 ∙ s
 formula_there : (ls : List LineTree) (n : ℕ) (goal : Bool) (f : Fol) → IsFormulaAt ls n goal f → IsTrue (is_formula_at ls n)
 formula_there ls n goal f (l, there, is, first) = ap (λ o. option_map_or (λ l. is_formula l.content) o false) there ∙ ap is_formula is
 
-module _ (ss : List Said) (rows : List Row) (ls : List LineTree) (goal : Bool) (n : ℕ) where
+module _ (ss : List Said) (rows : List InputRow) (ls : List LineTree) (goal : Bool) (n : ℕ) where
   input_none : (ws : List LaterWord) (content : ContentTree) (row : ℕ) → InputFails ss rows ls goal n ws content row → ¬ (IsInputOf ss rows ls goal n content × (ws ≡ []))
   input_none ws content row (inl three) is = both_ways (is_formula_at ls n) three.1 (formula_there ls n goal is.0.0 is.0.1)
   input_none ws content row (inr (inl five)) is = five.2 is.0
@@ -147,7 +147,7 @@ module _ (ss : List Said) (rows : List Row) (ls : List LineTree) (goal : Bool) (
   input_once ws content row other (inr (inr eight)) (inr (inl five)) = absurd (five.2 eight.1)
   input_once ws content row other (inr (inr eight)) (inr (inr again)) = eight.0 ∙ sym again.0
 
-module _ (ss : List Said) (rows : List Row) (ls : List LineTree) where
+module _ (ss : List Said) (rows : List InputRow) (ls : List LineTree) where
   line_none : (first : FirstWord) (ws : List LaterWord) (content : ContentTree) (row : ℕ) → LineFails ss rows ls first ws content row → ¬ IsLine ss rows ls first ws content
   line_none assumed ws content row fails is = stated_none false ss ws content row fails is
   line_none wanted ws content row fails is = stated_none true ss ws content row fails is
@@ -175,18 +175,18 @@ module _ (ss : List Said) (rows : List Row) (ls : List LineTree) where
   line_once (xx_resolved n a) ws content row other fails again = inference_once ls (xx_inference n a) (xx_lawful a) (xx_natural a) ws content row other fails again
 
   -- a refused line is no line
-  pub refused_none : (last : Option ℕ) (l : LineTree) (row : ℕ) → IsRefused ss rows ls last l row → ¬ IsAccepted ss rows ls last l
+  pub refused_none : (last : Option ℕ) (l : LineTree) (row : ℕ) → IsRefusedLine ss rows ls last l row → ¬ IsAccepted ss rows ls last l
   refused_none last l row (inl two) is = two.1 is.0
   refused_none last l row (inr fails) is = line_none l.first l.later l.content row fails.1 is.1
 
   -- and is refused by one row
-  pub refused_once : (last : Option ℕ) (l : LineTree) (row other : ℕ) → IsRefused ss rows ls last l row → IsRefused ss rows ls last l other → row ≡ other
+  pub refused_once : (last : Option ℕ) (l : LineTree) (row other : ℕ) → IsRefusedLine ss rows ls last l row → IsRefusedLine ss rows ls last l other → row ≡ other
   refused_once last l row other (inl two) (inl again) = two.0 ∙ sym again.0
   refused_once last l row other (inl two) (inr fails) = absurd (two.1 fails.0)
   refused_once last l row other (inr fails) (inl two) = absurd (two.1 fails.0)
   refused_once last l row other (inr fails) (inr again) = line_once l.first l.later l.content row other fails.1 again.1
 
-module _ (ss : List Said) (rows : List Row) where
+module _ (ss : List Said) (rows : List InputRow) where
   -- lines with a fault are no refutation
   pub fault_none : (earlier : List LineTree) (last : Option ℕ) (ls : List LineTree) (number row : ℕ) → HasFault ss rows earlier last ls number row
       → AreLines ss rows earlier last ls → ¬ IsTrue (ends_empty ls)
@@ -226,11 +226,11 @@ word_lawful (paramodulated n a side m b path) i h =
     let same : para_inference n a side m b path ≡ i = cc in subst (λ i. IsLawfulRule i.rule × IsNatural i.rule) same (para_lawful a side b path, para_natural a side b path)
 word_lawful (xx_resolved n a) i h = let same : xx_inference n a ≡ i = cc in subst (λ i. IsLawfulRule i.rule × IsNatural i.rule) same (xx_lawful a, xx_natural a)
 
-pub whole_fault_none : (ss : List Said) (rows : List Row) (ls : List LineTree) (number row : ℕ) → IsFault ss rows ls number row → ¬ IsRefutation ss rows ls
+pub whole_fault_none : (ss : List Said) (rows : List InputRow) (ls : List LineTree) (number row : ℕ) → IsFault ss rows ls number row → ¬ IsRefutation ss rows ls
 whole_fault_none ss rows [] number row fault is = false≢true is.1
 whole_fault_none ss rows (l ∷ ls) number row fault is = fault_none ss rows [] None (l ∷ ls) number row fault is.0 is.1
 
-pub whole_fault_once : (ss : List Said) (rows : List Row) (ls : List LineTree) (number row other_number other : ℕ) → IsFault ss rows ls number row → IsFault ss rows ls other_number other
+pub whole_fault_once : (ss : List Said) (rows : List InputRow) (ls : List LineTree) (number row other_number other : ℕ) → IsFault ss rows ls number row → IsFault ss rows ls other_number other
     → (number ≡ other_number) × (row ≡ other)
 whole_fault_once ss rows [] number row other_number other fault again = (fault.0 ∙ sym again.0, fault.1 ∙ sym again.1)
 whole_fault_once ss rows (l ∷ ls) number row other_number other fault again = fault_once ss rows [] None (l ∷ ls) number row other_number other fault again

@@ -11,7 +11,7 @@ use Rattle.substitutions.specs.Atoms.{AreAtoms}
 use Rattle.substitutions.specs.Paths.{argument, subterm_at, with_argument, replaced}
 use Rattle.derivation.specs.Equations.{is_equation, left_of, right_of, below, is_no_variable, term_below}
 use Rattle.derivation.specs.Places.{has_literal, has_place, atom_at, others, with_atom, are_alike, are_opposite}
-use Rattle.derivation.specs.Rule.{Rule, AreSame}
+use Rattle.derivation.specs.Rule.{InferenceRule, AreSame}
 use Rattle.derivation.specs.Words.{only_of, is_one, first_of_two, second_of_two, are_two, copy_rule, Clash, clashes_fit, clash_pairs, satellite_rests, clash_rule, factor_rule, xx_rule, side_of, other_side_of, para_fits, para_rest, para_rule}
 use Rattle.derivation.proofs.PlaceLemmas.{true_at, among_others, stays, at_sign, with_atom_true, append_left, append_right, alike_true, opposite_false}
 use Rattle.derivation.proofs.Values.{true_in, val, vals, atom_true}
@@ -67,7 +67,7 @@ module _ (m : Meaning) (g : ℕ → ℕ) (e : Assignment) where
       (λ v is. replaced_same v path old new (sym (ap (option_and_then (λ w. subterm_at w path)) is) ∙ h) same))
 
 -- what a rule makes of true clauses is true
-abbrev pub IsSound : Meaning → (ℕ → ℕ) → Assignment → Rule → Type 0
+abbrev pub IsSound : Meaning → (ℕ → ℕ) → Assignment → InferenceRule → Type 0
 IsSound m g e r = (cs : List ClauseTree) → IsTrue (r.fits cs) → AreSame (r.pairs cs) → AllTrue (atom_true m g e) cs → IsTrue (true_in (atom_true m g e) (r.rest cs))
 
 -- two parents, or one

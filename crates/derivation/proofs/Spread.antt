@@ -7,8 +7,8 @@ use Rattle.fol_core.specs.Tree.{Tree, more}
 use Rattle.substitutions.specs.Instances.{substitute_clause, followed}
 use Rattle.substitutions.proofs.Composing.{substitute_twice_clause, substitute_alike_clause, first_same, others_same}
 use Rattle.unifiers.specs.Unifier.{Unifies, IsMostGeneral}
-use Rattle.derivation.specs.Apart.{lefts, rights, IsApart}
-use Rattle.derivation.specs.Rule.{Rule, Own, instances, AreSame, Concludes}
+use Rattle.derivation.specs.Apart.{lefts, rights, AreRenamedApart}
+use Rattle.derivation.specs.Rule.{InferenceRule, Own, instances, AreSame, Concludes}
 use Rattle.derivation.proofs.Conclusions.{pair_put, IsNatural}
 use Rattle.derivation.proofs.Lawful.{IsLawfulRule}
 
@@ -37,7 +37,7 @@ all_same : (s u : Substitution) (cs : List ClauseTree) → ((x : ℕ) → s x �
 all_same s u [] h = refl
 all_same s u (c ∷ cs) h = ap₂ (λ d ds. d ∷ ds) (substitute_alike_clause s u c (λ x i. h x)) (all_same s u cs h)
 
-module _ (r : Rule) (law : IsLawfulRule r) (natural : IsNatural r) (cs : List ClauseTree) (apart : Own) (renamed : IsApart cs apart) (fits : IsTrue (r.fits cs)) where
+module _ (r : InferenceRule) (law : IsLawfulRule r) (natural : IsNatural r) (cs : List ClauseTree) (apart : Own) (renamed : AreRenamedApart cs apart) (fits : IsTrue (r.fits cs)) where
   unifies_apart : (other : Own) → AreSame (r.pairs (instances other cs)) → Unifies (renamed other).0 (lefts (r.pairs (instances apart cs))) (rights (r.pairs (instances apart cs)))
   unifies_apart other h =
       let back = renamed other in

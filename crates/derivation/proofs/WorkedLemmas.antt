@@ -7,7 +7,7 @@ use Rattle.fol_core.specs.Stated.{said}
 use Rattle.fol_core.specs.Tree.{Tree, var, app, none, more}
 use Rattle.fol_core.specs.declared.problem.Role.TheVariants.{Assumption, Goal}
 use Rattle.derivation.specs.Lines.{LineTree, formula, assumed, wanted}
-use Rattle.derivation.specs.Rule.{IsMostGeneral, Concludes}
+use Rattle.derivation.specs.Rule.{IsMostGeneralFamily, Concludes}
 use Rattle.derivation.specs.Words.{clash_rule, copy_rule}
 use Rattle.derivation.specs.Worked.{a, b, p, yes, no, line, WorkedLater, WorkedRefutation, WorkedFaults}
 
@@ -17,7 +17,7 @@ later = (refl, ((0, lit< tt, refl), refl), (refl, refl), ((λ x. a, refl), refl)
 abbrev f0 : Fol
 f0 = atom 3 (more a none)
 
-general : IsMostGeneral (clash_rule ((0, 0) ∷ [])) ((yes (p a) ∷ []) ∷ (no (p a) ∷ []) ∷ []) (λ k. var)
+general : IsMostGeneralFamily (clash_rule ((0, 0) ∷ [])) ((yes (p a) ∷ []) ∷ (no (p a) ∷ []) ∷ []) (λ k. var)
 general = record { unifies = (refl, tt); general = λ other h. (var, refl) }
 
 pub refutation : WorkedRefutation

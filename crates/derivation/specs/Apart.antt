@@ -17,17 +17,17 @@ abbrev pub rights : List (Tree × Tree) → Trees
 rights ps = trees_of (map (λ p. p.1) ps)
 
 -- Parents are renamed apart where one substitution makes of them what any family, one for each, makes of the parents.
-abbrev pub IsApart : List ClauseTree → Own → Type 0
-IsApart cs apart = (other : Own) → (s : Substitution) × (instances other cs ≡ map (substitute_clause s) (instances apart cs))
+abbrev pub AreRenamedApart : List ClauseTree → Own → Type 0
+AreRenamedApart cs apart = (other : Own) → (s : Substitution) × (instances other cs ≡ map (substitute_clause s) (instances apart cs))
 
 -- what a most general unifier of parents renamed apart makes of them, numbered, is the rule's conclusion
 abbrev pub UnifierConcludes : Type 0
-UnifierConcludes = (w : FirstWord) (i : Inference) (cs : List ClauseTree) (apart : Own) (s : Substitution) → inference_of w ≡ Some i → IsApart cs apart → IsTrue (i.rule.fits cs)
+UnifierConcludes = (w : FirstWord) (i : Inference) (cs : List ClauseTree) (apart : Own) (s : Substitution) → inference_of w ≡ Some i → AreRenamedApart cs apart → IsTrue (i.rule.fits cs)
     → IsMostGeneral s (lefts (i.rule.pairs (instances apart cs))) (rights (i.rule.pairs (instances apart cs)))
     → Concludes i.rule cs (renumbered (substitute_clause s (i.rule.rest (instances apart cs))))
 
 -- and where they have no unifier, the parents have none
 abbrev pub NoneConcludes : Type 0
-NoneConcludes = (w : FirstWord) (i : Inference) (cs : List ClauseTree) (apart : Own) → inference_of w ≡ Some i → IsApart cs apart → IsTrue (i.rule.fits cs)
+NoneConcludes = (w : FirstWord) (i : Inference) (cs : List ClauseTree) (apart : Own) → inference_of w ≡ Some i → AreRenamedApart cs apart → IsTrue (i.rule.fits cs)
     → ((s : Substitution) → ¬ Unifies s (lefts (i.rule.pairs (instances apart cs))) (rights (i.rule.pairs (instances apart cs))))
     → (own : Own) → ¬ AreSame (i.rule.pairs (instances own cs))

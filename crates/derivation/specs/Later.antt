@@ -32,7 +32,7 @@ abbrev pub is_unit : ClauseTree → Bool
 is_unit (l ∷ []) = true
 is_unit c = false
 
--- whether the variables of the right side are among those of the left
+-- whether it is an equation whose right side has no variable of its own
 abbrev pub is_rule_equation : Tree → Bool
 is_rule_equation t = is_equation t && list_all (λ x. has_variable x (left_of t)) (variables_of (right_of t))
 

@@ -1,11 +1,12 @@
 -- What refutations show, in every interpretation.
-use Rattle.std.specs.Prelude.{ℕ, ◌≡◌, IsTrue, List, [], ◌∷◌, map, Some}
+use Rattle.std.specs.Prelude.{ℕ, ◌≡◌, IsTrue, false, List, [], ◌∷◌, map, Some}
 use Rattle.fol_core.specs.Laws.{NamesElements}
 use Rattle.fol_core.specs.Literals.{ClauseTree, AreTrueClauses}
 use Rattle.fol_core.specs.Meaning.{Meaning}
+use Rattle.fol_core.specs.Occurs.{names_in}
 use Rattle.fol_core.specs.Stated.{Said}
 use Rattle.substitutions.specs.Atoms.{AreAtoms}
-use Rattle.derivation.specs.Lines.{FirstWord, Inference, ContentTree, formula, clause, LineTree, Row, IsRefutation, inference_of}
+use Rattle.derivation.specs.Lines.{FirstWord, Inference, ContentTree, formula, clause, LineTree, InputRow, IsRefutation, inference_of}
 use Rattle.derivation.specs.Refused.{IsFault}
 use Rattle.derivation.specs.Rule.{Concludes}
 
@@ -18,18 +19,37 @@ abbrev pub ContentNamesWithin : Meaning → ContentTree → Type 0
 ContentNamesWithin m (formula f) = Unit {0}
 ContentNamesWithin m (clause c) = NamesWithin m c
 
--- and each that the clauses of lines name; where they name none, in every interpretation
+-- and each that the clauses of lines name
 abbrev pub LinesNameWithin : Meaning → List LineTree → Type 0
 LinesNameWithin m [] = Unit {0}
 LinesNameWithin m (l ∷ ls) = ContentNamesWithin m l.content × LinesNameWithin m ls
 
-abbrev pub RowsAreAtoms : List Row → Type 0
+-- a clause names no element
+abbrev pub NamesNone : ClauseTree → Type 0
+NamesNone [] = Unit {0}
+NamesNone (l ∷ c) = ((k : ℕ) → names_in k l.atom ≡ false) × NamesNone c
+
+abbrev pub ContentNamesNone : ContentTree → Type 0
+ContentNamesNone (formula f) = Unit {0}
+ContentNamesNone (clause c) = NamesNone c
+
+-- nor do the clauses of lines
+abbrev pub LinesNameNone : List LineTree → Type 0
+LinesNameNone [] = Unit {0}
+LinesNameNone (l ∷ ls) = ContentNamesNone l.content × LinesNameNone ls
+
+-- then each element that they name is within, in every interpretation
+abbrev pub NoneIsWithin : Type 0
+NoneIsWithin = (m : Meaning) (ls : List LineTree) → LinesNameNone ls → LinesNameWithin m ls
+
+abbrev pub RowsAreAtoms : List InputRow → Type 0
 RowsAreAtoms [] = Unit {0}
 RowsAreAtoms (r ∷ rows) = AreAtoms r.1 × RowsAreAtoms rows
 
--- where there is a refutation, not all input clauses are true
+-- where there is a refutation, not all input clauses, which are clauses of atoms, are true in an interpretation that has the elements
+-- which the lines name
 abbrev pub RefutationIsSound : Meaning → Type 0
-RefutationIsSound m = (ss : List Said) (rows : List Row) (ls : List LineTree) → RowsAreAtoms rows → LinesNameWithin m ls
+RefutationIsSound m = (ss : List Said) (rows : List InputRow) (ls : List LineTree) → RowsAreAtoms rows → LinesNameWithin m ls
     → IsRefutation ss rows ls → ¬ AreTrueClauses m (map (λ r. r.1) rows)
 
 -- a rule has one conclusion
@@ -39,8 +59,8 @@ OneConclusion = (w : FirstWord) (i : Inference) (ps : List ClauseTree) (c d : Cl
 
 -- lines that have a fault are no refutation, and the fault is one
 abbrev pub FaultIsNone : Type 0
-FaultIsNone = (ss : List Said) (rows : List Row) (ls : List LineTree) (number row : ℕ) → IsFault ss rows ls number row → ¬ IsRefutation ss rows ls
+FaultIsNone = (ss : List Said) (rows : List InputRow) (ls : List LineTree) (number row : ℕ) → IsFault ss rows ls number row → ¬ IsRefutation ss rows ls
 
 abbrev pub FaultIsOne : Type 0
-FaultIsOne = (ss : List Said) (rows : List Row) (ls : List LineTree) (number row other_number other_row : ℕ)
+FaultIsOne = (ss : List Said) (rows : List InputRow) (ls : List LineTree) (number row other_number other_row : ℕ)
     → IsFault ss rows ls number row → IsFault ss rows ls other_number other_row → (number ≡ other_number) × (row ≡ other_row)

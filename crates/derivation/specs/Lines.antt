@@ -9,7 +9,7 @@ use Rattle.fol_core.specs.declared.problem.Role.{Role}
 use Rattle.fol_core.specs.declared.problem.Role.TheVariants.{Assumption, Usable, Demodulator, Goal}
 use Rattle.derivation.specs.declared.words.Satellite.{Satellite}
 use Rattle.derivation.specs.Later.{LaterWord, later_parents, later_fits, Leads}
-use Rattle.derivation.specs.Rule.{Rule, Concludes}
+use Rattle.derivation.specs.Rule.{InferenceRule, Concludes}
 use Rattle.derivation.specs.Words.{copy_rule, clash_rule, factor_rule, xx_rule, para_rule}
 
 -- the first word of a line, with the numbers of the lines that it takes, and with literals, a side and a path
@@ -27,9 +27,9 @@ pub data FirstWord : Type 0 where
 -- the lines that a rule takes, and the rule
 pub record Inference : Type 0 where
   pub parents : List ℕ
-  pub rule : Rule
+  pub rule : InferenceRule
 
-abbrev pub inference : List ℕ → Rule → Inference
+abbrev pub inference : List ℕ → InferenceRule → Inference
 inference parents rule = record { parents = parents; rule = rule }
 
 abbrev pub copy_inference : ℕ → Inference
@@ -120,28 +120,28 @@ is_goal Goal = true
 abbrev pub IsSaid : Bool → Fol → Said → Type 0
 IsSaid goal f s = (is_goal s.role ≡ goal) × (s.formula ≡ f)
 
-abbrev pub IsAmong : Bool → Fol → List Said → Type 0
-IsAmong goal f [] = ⊥
-IsAmong goal f (s ∷ ss) = IsSaid goal f s ⊎ IsAmong goal f ss
+abbrev pub IsAmongSaid : Bool → Fol → List Said → Type 0
+IsAmongSaid goal f [] = ⊥
+IsAmongSaid goal f (s ∷ ss) = IsSaid goal f s ⊎ IsAmongSaid goal f ss
 
 abbrev pub IsStated : Bool → ContentTree → List Said → Type 0
-IsStated goal (formula f) ss = IsAmong goal f ss
+IsStated goal (formula f) ss = IsAmongSaid goal f ss
 IsStated goal (clause c) ss = ⊥
 
 -- a clause with the number of its formula, counted from 1
-abbrev pub Row : Type 0
-Row = ℕ × ClauseTree
+abbrev pub InputRow : Type 0
+InputRow = ℕ × ClauseTree
 
 abbrev pub said_at : List Said → ℕ → Option Said
 said_at [] n = None
 said_at (s ∷ ss) n = if n == 1 then Some s else said_at ss (n - 1)
 
 -- the row is one of such a formula, and has the clause
-abbrev pub IsRowOf : Bool → Fol → List Said → ContentTree → Row → Type 0
+abbrev pub IsRowOf : Bool → Fol → List Said → ContentTree → InputRow → Type 0
 IsRowOf goal f ss content r = (s : Said) × (said_at ss r.0 ≡ Some s) × IsSaid goal f s × IsClause content r.1
 
 -- the content is a clause of such a formula
-abbrev pub IsInput : Bool → Fol → List Said → ContentTree → List Row → Type 0
+abbrev pub IsInput : Bool → Fol → List Said → ContentTree → List InputRow → Type 0
 IsInput goal f ss content [] = ⊥
 IsInput goal f ss content (r ∷ rows) = IsRowOf goal f ss content r ⊎ IsInput goal f ss content rows
 
@@ -149,10 +149,10 @@ IsInput goal f ss content (r ∷ rows) = IsRowOf goal f ss content r ⊎ IsInput
 abbrev pub IsFormulaAt : List LineTree → ℕ → Bool → Fol → Type 0
 IsFormulaAt ls n goal f = (l : LineTree) × (line_at ls n ≡ Some l) × (l.content ≡ formula f) × (l.first ≡ (if goal then wanted else assumed))
 
-abbrev pub IsInputOf : List Said → List Row → List LineTree → Bool → ℕ → ContentTree → Type 0
+abbrev pub IsInputOf : List Said → List InputRow → List LineTree → Bool → ℕ → ContentTree → Type 0
 IsInputOf ss rows ls goal n content = (f : Fol) × IsFormulaAt ls n goal f × IsInput goal f ss content rows
 
--- whether it has one
+-- whether a content is a formula
 abbrev pub is_formula : ContentTree → Bool
 is_formula (formula f) = true
 is_formula (clause c) = false
@@ -162,7 +162,7 @@ is_formula_at ls n = option_map_or (λ l. is_formula l.content) (line_at ls n) f
 
 -- A line behind earlier ones: a formula of the problem, a clause of one that is such a line, or what its words make of earlier
 -- clauses. The words that name formulas and their clauses have no others behind them.
-abbrev pub IsLine : List Said → List Row → List LineTree → FirstWord → List LaterWord → ContentTree → Type 0
+abbrev pub IsLine : List Said → List InputRow → List LineTree → FirstWord → List LaterWord → ContentTree → Type 0
 IsLine ss rows ls assumed ws content = IsStated false content ss × (ws ≡ [])
 IsLine ss rows ls wanted ws content = IsStated true content ss × (ws ≡ [])
 IsLine ss rows ls (clausified n) ws content = IsInputOf ss rows ls false n content × (ws ≡ [])
@@ -179,12 +179,12 @@ IsAbove None n = Unit {0}
 IsAbove (Some m) n = m < n
 
 -- lines behind earlier ones, of which the last has this number
-abbrev pub AreLines : List Said → List Row → List LineTree → Option ℕ → List LineTree → Type 0
+abbrev pub AreLines : List Said → List InputRow → List LineTree → Option ℕ → List LineTree → Type 0
 AreLines ss rows earlier last [] = Unit {0}
 AreLines ss rows earlier last (l ∷ ls) = IsAbove last l.number × IsLine ss rows earlier l.first l.later l.content × AreLines ss rows (earlier ++ l ∷ []) (Some l.number) ls
 
 -- a derivation from what is said, with the clauses of its formulas
-abbrev pub IsDerivation : List Said → List Row → List LineTree → Type 0
+abbrev pub IsDerivation : List Said → List InputRow → List LineTree → Type 0
 IsDerivation ss rows ls = AreLines ss rows [] None ls
 
 -- whether the last line is the empty clause
@@ -194,5 +194,5 @@ ends_empty (l ∷ []) = is_empty_clause l.content
 ends_empty (l ∷ k ∷ ls) = ends_empty (k ∷ ls)
 
 -- a derivation of the empty clause
-abbrev pub IsRefutation : List Said → List Row → List LineTree → Type 0
+abbrev pub IsRefutation : List Said → List InputRow → List LineTree → Type 0
 IsRefutation ss rows ls = IsDerivation ss rows ls × IsTrue (ends_empty ls)

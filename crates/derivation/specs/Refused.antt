@@ -5,8 +5,8 @@ use Rattle.std.specs.List.{list_all, flat_map}
 use Rattle.fol_core.specs.Literals.{ClauseTree}
 use Rattle.fol_core.specs.Stated.{Said}
 use Rattle.derivation.specs.Later.{LaterWord, later_parents, later_fits, Leads}
-use Rattle.derivation.specs.Lines.{FirstWord, assumed, wanted, clausified, denied, copied, resolved, factored, paramodulated, xx_resolved, Inference, copy_inference, clash_inference, factor_inference, para_inference, xx_inference, ContentTree, LineTree, clause_at, AreClauses, IsClause, Row, IsStated, IsInputOf, IsAbove, IsLine, is_empty_clause, is_formula_at}
-use Rattle.derivation.specs.Rule.{Own, Unifies, Concludes}
+use Rattle.derivation.specs.Lines.{FirstWord, assumed, wanted, clausified, denied, copied, resolved, factored, paramodulated, xx_resolved, Inference, copy_inference, clash_inference, factor_inference, para_inference, xx_inference, ContentTree, LineTree, clause_at, AreClauses, IsClause, InputRow, IsStated, IsInputOf, IsAbove, IsLine, is_empty_clause, is_formula_at}
+use Rattle.derivation.specs.Rule.{Own, UnifiesFamily, Concludes}
 
 -- Rows 6 to 8 of the words behind a clause. 6: a literal, path or side that isn't there or isn't taken; 7: no match, or what has
 -- to be equal isn't; 8: the line's clause isn't what the words lead to.
@@ -23,7 +23,7 @@ abbrev pub StepFails : List LineTree → Inference → List LaterWord → Conten
 StepFails ls i ws content row =
     (ps : List ClauseTree) × AreClauses ls i.parents ps
     × (((row ≡ 6) × (i.rule.fits ps ≡ false))
-    ⊎ (((row ≡ 7) × IsTrue (i.rule.fits ps) × ((own : Own) → ¬ Unifies i.rule ps own))
+    ⊎ (((row ≡ 7) × IsTrue (i.rule.fits ps) × ((own : Own) → ¬ UnifiesFamily i.rule ps own))
     ⊎ (IsTrue (i.rule.fits ps) × ((d : ClauseTree) × Concludes i.rule ps d × Fails ls ws d content row))))
 
 -- the numbers of all clauses that a line takes
@@ -44,14 +44,14 @@ abbrev pub StatedFails : Bool → List Said → List LaterWord → ContentTree �
 StatedFails goal ss ws content row = ((row ≡ 4) × ¬ IsStated goal content ss) ⊎ ((row ≡ 8) × IsStated goal content ss × ¬ (ws ≡ []))
 
 -- rows 3, 5 and 8 of an input clause: the number is none of an earlier formula; the formula isn't of the kind, or the clause none of its
-abbrev pub InputFails : List Said → List Row → List LineTree → Bool → ℕ → List LaterWord → ContentTree → ℕ → Type 0
+abbrev pub InputFails : List Said → List InputRow → List LineTree → Bool → ℕ → List LaterWord → ContentTree → ℕ → Type 0
 InputFails ss rows ls goal n ws content row =
     ((row ≡ 3) × (is_formula_at ls n ≡ false))
     ⊎ (((row ≡ 5) × IsTrue (is_formula_at ls n) × ¬ IsInputOf ss rows ls goal n content)
     ⊎ ((row ≡ 8) × IsInputOf ss rows ls goal n content × ¬ (ws ≡ [])))
 
 -- the row of a line whose number is above the last one
-abbrev pub LineFails : List Said → List Row → List LineTree → FirstWord → List LaterWord → ContentTree → ℕ → Type 0
+abbrev pub LineFails : List Said → List InputRow → List LineTree → FirstWord → List LaterWord → ContentTree → ℕ → Type 0
 LineFails ss rows ls assumed ws content row = StatedFails false ss ws content row
 LineFails ss rows ls wanted ws content row = StatedFails true ss ws content row
 LineFails ss rows ls (clausified n) ws content row = InputFails ss rows ls false n ws content row
@@ -62,24 +62,24 @@ LineFails ss rows ls (factored n a b) ws content row = InferenceFails ls (factor
 LineFails ss rows ls (paramodulated n a side m b path) ws content row = InferenceFails ls (para_inference n a side m b path) ws content row
 LineFails ss rows ls (xx_resolved n a) ws content row = InferenceFails ls (xx_inference n a) ws content row
 
--- row 2: the number isn't above the last one
-abbrev pub IsRefused : List Said → List Row → List LineTree → Option ℕ → LineTree → ℕ → Type 0
-IsRefused ss rows ls last l row =
+-- the row by which a line is refused: 2 where its number isn't above the last one, else that of its words
+abbrev pub IsRefusedLine : List Said → List InputRow → List LineTree → Option ℕ → LineTree → ℕ → Type 0
+IsRefusedLine ss rows ls last l row =
     ((row ≡ 2) × ¬ IsAbove last l.number) ⊎ (IsAbove last l.number × LineFails ss rows ls l.first l.later l.content row)
 
-abbrev pub IsAccepted : List Said → List Row → List LineTree → Option ℕ → LineTree → Type 0
+abbrev pub IsAccepted : List Said → List InputRow → List LineTree → Option ℕ → LineTree → Type 0
 IsAccepted ss rows ls last l = IsAbove last l.number × IsLine ss rows ls l.first l.later l.content
 
 -- The first line that is refused, with its row; where none is, row 9 of the last line, which isn't the empty clause.
-abbrev pub HasFault : List Said → List Row → List LineTree → Option ℕ → List LineTree → ℕ → ℕ → Type 0
+abbrev pub HasFault : List Said → List InputRow → List LineTree → Option ℕ → List LineTree → ℕ → ℕ → Type 0
 HasFault ss rows earlier last [] number row = ⊥
 HasFault ss rows earlier last (l ∷ []) number row =
-    (number ≡ l.number) × (IsRefused ss rows earlier last l row ⊎ (IsAccepted ss rows earlier last l × (row ≡ 9) × (is_empty_clause l.content ≡ false)))
+    (number ≡ l.number) × (IsRefusedLine ss rows earlier last l row ⊎ (IsAccepted ss rows earlier last l × (row ≡ 9) × (is_empty_clause l.content ≡ false)))
 HasFault ss rows earlier last (l ∷ k ∷ ls) number row =
-    ((number ≡ l.number) × IsRefused ss rows earlier last l row)
+    ((number ≡ l.number) × IsRefusedLine ss rows earlier last l row)
     ⊎ (IsAccepted ss rows earlier last l × HasFault ss rows (earlier ++ l ∷ []) (Some l.number) (k ∷ ls) number row)
 
 -- what is told of lines that are no refutation: row 1 where there is none
-abbrev pub IsFault : List Said → List Row → List LineTree → ℕ → ℕ → Type 0
+abbrev pub IsFault : List Said → List InputRow → List LineTree → ℕ → ℕ → Type 0
 IsFault ss rows [] number row = (number ≡ 0) × (row ≡ 1)
 IsFault ss rows (l ∷ ls) number row = HasFault ss rows [] None (l ∷ ls) number row

@@ -6,7 +6,7 @@ use Rattle.fol_core.specs.Tree.{Tree}
 use Rattle.substitutions.specs.Paths.{replaced}
 use Rattle.derivation.specs.Equations.{is_equation, left_of, right_of, below, is_no_variable, term_below}
 use Rattle.derivation.specs.Places.{has_literal, has_place, atom_at, others, with_atom, are_alike, are_opposite}
-use Rattle.derivation.specs.Rule.{Rule}
+use Rattle.derivation.specs.Rule.{InferenceRule}
 
 -- the clause of a single parent
 abbrev pub only_of : List ClauseTree → ClauseTree
@@ -31,7 +31,7 @@ are_two (c ∷ d ∷ []) = true
 are_two cs = false
 
 -- C / C
-abbrev pub copy_rule : Rule
+abbrev pub copy_rule : InferenceRule
 copy_rule = record { fits = is_one; pairs = λ cs. []; rest = only_of }
 
 -- a place of the nucleus, and one of its satellite
@@ -66,11 +66,11 @@ clash_rest ks [] = []
 clash_rest ks (c ∷ ds) = others (λ n. is_in n (map (λ k. k.0) ks)) c ++ satellite_rests ks ds
 
 -- A1 | .. | An | C, -A1 | C1, .., -An | Cn / C | C1 | .. | Cn
-abbrev pub clash_rule : List Clash → Rule
+abbrev pub clash_rule : List Clash → InferenceRule
 clash_rule ks = record { fits = clash_fits ks; pairs = all_clash_pairs ks; rest = clash_rest ks }
 
 -- A | A | C / A | C, where the second is left out
-abbrev pub factor_rule : ℕ → ℕ → Rule
+abbrev pub factor_rule : ℕ → ℕ → InferenceRule
 factor_rule a b = record {
   fits = λ cs. is_one cs && (not (a == b) && are_alike (only_of cs) a (only_of cs) b);
   pairs = λ cs. (atom_at (only_of cs) a, atom_at (only_of cs) b) ∷ [];
@@ -78,7 +78,7 @@ factor_rule a b = record {
 }
 
 -- t != t | C / C
-abbrev pub xx_rule : ℕ → Rule
+abbrev pub xx_rule : ℕ → InferenceRule
 xx_rule a = record {
   fits = λ cs. is_one cs && (has_literal false (only_of cs) a && is_equation (atom_at (only_of cs) a));
   pairs = λ cs. (left_of (atom_at (only_of cs) a), right_of (atom_at (only_of cs) a)) ∷ [];
@@ -100,7 +100,7 @@ abbrev pub para_rest : ℕ → ℕ → ℕ → List ℕ → ClauseTree → Claus
 para_rest a side b path c d = with_atom d b (replaced (atom_at d b) path (other_side_of side (atom_at c a))) ++ others (λ k. k == a) c
 
 -- s = t | C, L[s] | D / L[t] | D | C
-abbrev pub para_rule : ℕ → ℕ → ℕ → List ℕ → Rule
+abbrev pub para_rule : ℕ → ℕ → ℕ → List ℕ → InferenceRule
 para_rule a side b path = record {
   fits = λ cs. are_two cs && para_fits a side b path (first_of_two cs) (second_of_two cs);
   pairs = λ cs. (side_of side (atom_at (first_of_two cs) a), term_below (atom_at (second_of_two cs) b) path) ∷ [];

@@ -1,14 +1,14 @@
 -- Steps worked out.
 use Rattle.std.specs.Prelude.{ℕ, ◌≡◌, true, false, List, [], ◌∷◌, Some}
 use Rattle.fol_core.specs.Fol.{atom}
-use Rattle.fol_core.specs.Literals.{Lit, literal}
+use Rattle.fol_core.specs.Literals.{Lit, ClauseTree, literal}
 use Rattle.fol_core.specs.Stated.{Said, said}
 use Rattle.fol_core.specs.Tree.{Tree, var, app, none, more}
 use Rattle.fol_core.specs.declared.problem.Role.TheVariants.{Assumption, Goal}
 use Rattle.derivation.specs.Equations.{equation}
 use Rattle.derivation.specs.Later.{flipped, merged, reflexive, unit_deleted, rewritten, later_fits, Leads}
-use Rattle.derivation.specs.Lines.{FirstWord, assumed, wanted, clausified, denied, copied, resolved, ContentTree, formula, clause, LineTree, Row, IsRefutation}
-use Rattle.derivation.specs.Refused.{IsRefused, IsFault}
+use Rattle.derivation.specs.Lines.{FirstWord, assumed, wanted, clausified, denied, copied, resolved, ContentTree, formula, clause, LineTree, InputRow, IsRefutation}
+use Rattle.derivation.specs.Refused.{IsRefusedLine, IsFault}
 use Rattle.derivation.specs.Words.{copy_rule, clash_rule, factor_rule, xx_rule, para_rule}
 
 -- constants a and b, a function f, relations p and q
@@ -37,17 +37,23 @@ no t = literal false t
 abbrev pub WorkedCopy : Type 0
 WorkedCopy = (copy_rule.fits ((yes (p a) ∷ []) ∷ []) ≡ true) × (copy_rule.rest ((yes (p a) ∷ []) ∷ []) ≡ yes (p a) ∷ [])
 
--- -p(x) | -q(y) | p(y), p(a), q(b): what has to be equal, and what is left of the instances; one sign twice and one place twice don't fit
+-- -p(x) | -q(y) | p(y), p(a), q(b): what has to be equal, and what is left of the instances
+abbrev pub three_literals : ClauseTree
+three_literals = no (p (var 0)) ∷ no (q (var 1)) ∷ yes (p (var 1)) ∷ []
+
 abbrev pub WorkedClash : Type 0
 WorkedClash =
     let rule = clash_rule ((0, 0) ∷ (1, 0) ∷ []) in
-    let c = no (p (var 0)) ∷ no (q (var 1)) ∷ yes (p (var 1)) ∷ [] in
-    (rule.fits (c ∷ (yes (p a) ∷ []) ∷ (yes (q b) ∷ []) ∷ []) ≡ true)
-    × (rule.pairs (c ∷ (yes (p a) ∷ []) ∷ (yes (q b) ∷ []) ∷ []) ≡ (p (var 0), p a) ∷ (q (var 1), q b) ∷ [])
+    (rule.fits (three_literals ∷ (yes (p a) ∷ []) ∷ (yes (q b) ∷ []) ∷ []) ≡ true)
+    × (rule.pairs (three_literals ∷ (yes (p a) ∷ []) ∷ (yes (q b) ∷ []) ∷ []) ≡ (p (var 0), p a) ∷ (q (var 1), q b) ∷ [])
     × (rule.rest ((no (p a) ∷ no (q b) ∷ yes (p b) ∷ []) ∷ (yes (p a) ∷ []) ∷ (yes (q b) ∷ []) ∷ []) ≡ yes (p b) ∷ [])
-    × (rule.fits (c ∷ (no (p a) ∷ []) ∷ (yes (q b) ∷ []) ∷ []) ≡ false)
-    × ((clash_rule ((0, 0) ∷ (0, 0) ∷ [])).fits (c ∷ (yes (p a) ∷ []) ∷ (yes (p b) ∷ []) ∷ []) ≡ false)
-    × ((clash_rule []).fits (c ∷ []) ≡ false)
+
+-- one sign twice and one place twice don't fit, nor does no place
+abbrev pub WorkedNoClash : Type 0
+WorkedNoClash =
+    ((clash_rule ((0, 0) ∷ (1, 0) ∷ [])).fits (three_literals ∷ (no (p a) ∷ []) ∷ (yes (q b) ∷ []) ∷ []) ≡ false)
+    × ((clash_rule ((0, 0) ∷ (0, 0) ∷ [])).fits (three_literals ∷ (yes (p a) ∷ []) ∷ (yes (p b) ∷ []) ∷ []) ≡ false)
+    × ((clash_rule []).fits (three_literals ∷ []) ≡ false)
 
 -- p(x) | q(x) | p(a): the third is left out; one literal twice and two signs don't fit
 abbrev pub WorkedFactor : Type 0
@@ -68,20 +74,28 @@ WorkedReflexivity =
     × ((xx_rule 0).rest ((no (equation a a) ∷ yes (p a) ∷ []) ∷ []) ≡ yes (p a) ∷ [])
     × ((xx_rule 0).fits ((yes (equation a a) ∷ []) ∷ []) ≡ false)
 
--- a = b | q(a) into p(f(a)) at 1,1; a path that isn't there, a variable at the path, a third side and an inequation don't fit
+-- a = b | q(a) into p(f(a)) at 1,1
+abbrev pub from : ClauseTree
+from = yes (equation a b) ∷ yes (q a) ∷ []
+
+abbrev pub into : ClauseTree
+into = yes (p (f a)) ∷ []
+
 abbrev pub WorkedParamodulation : Type 0
 WorkedParamodulation =
-    let c = yes (equation a b) ∷ yes (q a) ∷ [] in
-    let d = yes (p (f a)) ∷ [] in
-    ((para_rule 0 1 0 (1 ∷ 1 ∷ [])).fits (c ∷ d ∷ []) ≡ true)
-    × ((para_rule 0 1 0 (1 ∷ 1 ∷ [])).pairs (c ∷ d ∷ []) ≡ (a, a) ∷ [])
-    × ((para_rule 0 1 0 (1 ∷ 1 ∷ [])).rest (c ∷ d ∷ []) ≡ yes (p (f b)) ∷ yes (q a) ∷ [])
-    × ((para_rule 0 2 0 (1 ∷ 1 ∷ [])).rest (c ∷ d ∷ []) ≡ yes (p (f a)) ∷ yes (q a) ∷ [])
-    × ((para_rule 0 1 0 (1 ∷ 2 ∷ [])).fits (c ∷ d ∷ []) ≡ false)
-    × ((para_rule 0 1 0 []).fits (c ∷ d ∷ []) ≡ false)
-    × ((para_rule 0 1 0 (1 ∷ [])).fits (c ∷ (yes (p (var 0)) ∷ []) ∷ []) ≡ false)
-    × ((para_rule 0 3 0 (1 ∷ 1 ∷ [])).fits (c ∷ d ∷ []) ≡ false)
-    × ((para_rule 0 1 0 (1 ∷ 1 ∷ [])).fits ((no (equation a b) ∷ []) ∷ d ∷ []) ≡ false)
+    ((para_rule 0 1 0 (1 ∷ 1 ∷ [])).fits (from ∷ into ∷ []) ≡ true)
+    × ((para_rule 0 1 0 (1 ∷ 1 ∷ [])).pairs (from ∷ into ∷ []) ≡ (a, a) ∷ [])
+    × ((para_rule 0 1 0 (1 ∷ 1 ∷ [])).rest (from ∷ into ∷ []) ≡ yes (p (f b)) ∷ yes (q a) ∷ [])
+    × ((para_rule 0 2 0 (1 ∷ 1 ∷ [])).rest (from ∷ into ∷ []) ≡ yes (p (f a)) ∷ yes (q a) ∷ [])
+
+-- a path that isn't there, a variable at the path, a third side and an inequation don't fit
+abbrev pub WorkedNoParamodulation : Type 0
+WorkedNoParamodulation =
+    ((para_rule 0 1 0 (1 ∷ 2 ∷ [])).fits (from ∷ into ∷ []) ≡ false)
+    × ((para_rule 0 1 0 []).fits (from ∷ into ∷ []) ≡ false)
+    × ((para_rule 0 1 0 (1 ∷ [])).fits (from ∷ (yes (p (var 0)) ∷ []) ∷ []) ≡ false)
+    × ((para_rule 0 3 0 (1 ∷ 1 ∷ [])).fits (from ∷ into ∷ []) ≡ false)
+    × ((para_rule 0 1 0 (1 ∷ 1 ∷ [])).fits ((no (equation a b) ∷ []) ∷ into ∷ []) ≡ false)
 
 -- the later words: a flipped inequation stays one
 abbrev pub WorkedLater : Type 0
@@ -106,7 +120,7 @@ WorkedMisfits =
 abbrev pub stated : List Said
 stated = said Assumption (atom 3 (more a none)) ∷ said Goal (atom 3 (more a none)) ∷ []
 
-abbrev pub inputs : List Row
+abbrev pub inputs : List InputRow
 inputs = (1, yes (p a) ∷ []) ∷ (2, no (p a) ∷ []) ∷ []
 
 abbrev pub line : ℕ → ContentTree → FirstWord → LineTree
@@ -130,11 +144,11 @@ WorkedRefutation =
 abbrev pub WorkedFaults : Type 0
 WorkedFaults =
     IsFault stated inputs [] 0 1
-    × IsRefused stated inputs given (Some 4) (line 4 (clause []) (clash 3 4)) 2
-    × IsRefused stated inputs given (Some 4) (line 5 (clause (yes (p a) ∷ [])) (copied 1)) 3
-    × IsRefused stated inputs given (Some 4) (line 5 (formula (atom 4 (more a none))) assumed) 4
-    × IsRefused stated inputs given (Some 4) (line 5 (clause (yes (p a) ∷ [])) (clausified 2)) 5
-    × IsRefused stated inputs given (Some 4) (line 5 (clause []) (clash 3 3)) 6
-    × IsRefused stated inputs (line 1 (clause (yes (p a) ∷ [])) (clausified 1) ∷ line 2 (clause (no (p b) ∷ [])) (denied 2) ∷ []) (Some 2) (line 3 (clause []) (clash 1 2)) 7
-    × IsRefused stated inputs given (Some 4) (line 5 (clause (no (p a) ∷ [])) (copied 3)) 8
+    × IsRefusedLine stated inputs given (Some 4) (line 4 (clause []) (clash 3 4)) 2
+    × IsRefusedLine stated inputs given (Some 4) (line 5 (clause (yes (p a) ∷ [])) (copied 1)) 3
+    × IsRefusedLine stated inputs given (Some 4) (line 5 (formula (atom 4 (more a none))) assumed) 4
+    × IsRefusedLine stated inputs given (Some 4) (line 5 (clause (yes (p a) ∷ [])) (clausified 2)) 5
+    × IsRefusedLine stated inputs given (Some 4) (line 5 (clause []) (clash 3 3)) 6
+    × IsRefusedLine stated inputs (line 1 (clause (yes (p a) ∷ [])) (clausified 1) ∷ line 2 (clause (no (p b) ∷ [])) (denied 2) ∷ []) (Some 2) (line 3 (clause []) (clash 1 2)) 7
+    × IsRefusedLine stated inputs given (Some 4) (line 5 (clause (no (p a) ∷ [])) (copied 3)) 8
     × IsFault stated inputs (line 1 (formula (atom 3 (more a none))) assumed ∷ []) 1 9

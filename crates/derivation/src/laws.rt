@@ -1,13 +1,17 @@
 // Laws of derivations: the functions do nothing, and their contracts are the laws.
+ghost use Rattle.fol_core.specs.Meaning.{Meaning, IsLawful};
 ghost use Rattle.derivation.specs.Apart.{UnifierConcludes, NoneConcludes};
-ghost use Rattle.derivation.specs.Laws.{RefutationIsSound, OneConclusion, FaultIsNone, FaultIsOne};
-ghost use Rattle.derivation.specs.Worked.{WorkedCopy, WorkedClash, WorkedFactor, WorkedReflexivity, WorkedParamodulation, WorkedLater, WorkedMisfits, WorkedRefutation, WorkedFaults};
+ghost use Rattle.derivation.specs.Laws.{RefutationIsSound, NoneIsWithin, OneConclusion, FaultIsNone, FaultIsOne};
+ghost use Rattle.derivation.specs.Worked.{WorkedCopy, WorkedClash, WorkedNoClash, WorkedFactor, WorkedReflexivity, WorkedParamodulation, WorkedNoParamodulation, WorkedLater, WorkedMisfits, WorkedRefutation, WorkedFaults};
 
-use fol_core::Interpretation;
+/// Where there is a refutation, not all input clauses are true, in any interpretation that has the elements which its lines name.
+pub fn refutation_is_sound()
+    ensures { (m : Meaning) → IsLawful m → RefutationIsSound m }
+{}
 
-/// Where there is a refutation, not all input clauses are true.
-pub fn refutation_is_sound<I: Interpretation>(any: &I)
-    ensures { RefutationIsSound (I.meaning any.now) }
+/// Lines whose clauses name no element name none that an interpretation hasn't.
+pub fn lines_without_elements()
+    ensures { NoneIsWithin }
 {}
 
 /// A rule has one conclusion, whatever most general unifier it is made by.
@@ -31,9 +35,11 @@ pub fn fault_is_one()
 pub fn worked()
     ensures copy { WorkedCopy }
     ensures clash { WorkedClash }
+    ensures no_clash { WorkedNoClash }
     ensures factor { WorkedFactor }
     ensures reflexivity { WorkedReflexivity }
     ensures paramodulation { WorkedParamodulation }
+    ensures no_paramodulation { WorkedNoParamodulation }
     ensures later { WorkedLater }
     ensures misfits { WorkedMisfits }
     ensures refutation { WorkedRefutation }

@@ -5,6 +5,9 @@ mod laws;
 mod line;
 mod words;
 
-pub use laws::{conclusion_is_one, fault_is_one, refutation_is_sound, unifier_concludes, worked};
+pub use laws::{
+    conclusion_is_one, fault_is_one, lines_without_elements, refutation_is_sound,
+    unifier_concludes, worked,
+};
 pub use line::{Content, Derivation, Just, Line};
 pub use words::{First, Later, Paramodulation, Rewrite, Satellite};

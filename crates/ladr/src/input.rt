@@ -1,36 +1,45 @@
 // Standard input, or another reader, as a source.
-ghost use Rattle.std.specs.Prelude.{◌≡◌, ℕ, ◌<◌, ◌≤◌, [], None, length, take, IfOk, IfSome, OnOk, OnErr, MatchResult, Ok};
-ghost use Rattle.ladr_io.specs.Streams.{Gives, IsDrained, Rose};
+ghost use Rattle.std.specs.Prelude.{◌≡◌, ◌≤◌, false, None, length, IfSome};
+ghost use Rattle.ladr_io.specs.Streams.{Inflow};
 
 use ladr_io::{Failed, Source};
 use std::io::{ErrorKind, Read};
 
 /// A reader that counts its faults; contracts see nothing of its bytes.
 #[derive(Drop)]
-pub struct Input<R> {
+pub struct StandardInput<R> {
     reader: R,
     // How many reads failed, at most the greatest u64.
     faults: u64,
+    // The end was told, or a read failed.
+    over: bool,
 }
 
-impl<R: Read> Input<R> {
-    pub fn new(reader: R) -> Input<R>
-        ensures { result.faults ≡ 0 }
+impl<R: Read> StandardInput<R> {
+    pub fn new(reader: R) -> StandardInput<R>
+        ensures faults { result.faults ≡ 0 }
+        ensures over { result.over ≡ false }
     {
-        Input { reader, faults: 0 }
+        StandardInput {
+            reader,
+            faults: 0,
+            over: false,
+        }
     }
 }
 
-impl<R: Read> Source for Input<R> {
-    ghost left = { λ _. None };
-
-    ghost faults = { λ s. s.faults };
+impl<R: Read> Source for StandardInput<R> {
+    ghost inflow = { λ s. record { left = None; faults = s.faults; over = s.over } };
 
     fn read(&mut self, buf: &mut [u8]) -> Result<usize, Failed> {
         match read(&mut self.reader, buf) {
-            Some(count) => Ok(count),
+            Some(count) => {
+                self.over = count == 0 && !buf.is_empty();
+                Ok(count)
+            }
             None => {
                 self.faults = self.faults.saturating_add(1);
+                self.over = true;
                 Err(Failed)
             }
         }
@@ -78,9 +87,10 @@ mod tests {
         }
     }
 
+    // It is asked again, as no caller may, to see what it counts.
     #[test]
     fn counts_each_fault_and_reads_on(rt: HostRuntime) -> Result<(), Fail> {
-        let mut input = Input::new(Given {
+        let mut input = StandardInput::new(Given {
             reads: [
                 Ok(3),
                 Err(ErrorKind::Interrupted),
@@ -100,6 +110,7 @@ mod tests {
             (Err(Failed), 2),
             (Ok(0), 2),
         ] {
+            input.over = false;
             assert_eq!(rt; input.read(&mut buf), read);
             assert_eq!(rt; input.faults, faults);
         }

@@ -2,7 +2,7 @@
 #![tactic(auto)]
 
 ghost use Rattle.std.specs.Prelude.{◌≡◌};
-ghost use Rattle.ladr_top.specs.Outcome.{status_of};
+ghost use Rattle.ladr_top.specs.Causes.{status_of};
 
 mod input;
 mod one_element;
@@ -10,10 +10,10 @@ mod output;
 mod stopwatch;
 mod words;
 
-use input::Input;
+use input::StandardInput;
 use ladr_top::{Cause, Exit, run};
 use one_element::OneElement;
-use output::Output;
+use output::StandardOutput;
 use std::process::ExitCode;
 use stopwatch::Stopwatch;
 use words::words;
@@ -28,8 +28,8 @@ fn exit(rt: HostRuntime) -> Exit
             cause: Cause::Memory,
         };
     };
-    let mut source = Input::new(rt.stdin());
-    let mut sink = Output::new(rt.stdout());
+    let mut source = StandardInput::new(rt.stdin());
+    let mut sink = StandardOutput::new(rt.stdout());
     let mut clock = Stopwatch::new(rt);
     run(
         rt.alloc(),

@@ -1,36 +1,41 @@
 // Standard output, or another writer, as a sink.
-ghost use Rattle.std.specs.Prelude.{◌≡◌, ◌<◌, ◌≤◌, [], None, length, take, IfOk, IfSome, OnOk, OnErr, MatchResult};
-ghost use Rattle.ladr_io.specs.Streams.{Takes, Rose};
+ghost use Rattle.std.specs.Prelude.{◌≡◌, ◌<◌, ◌≤◌, false, None, length, IfSome};
+ghost use Rattle.ladr_io.specs.Streams.{Outflow};
 
 use ladr_io::{Failed, Sink};
 use std::io::{ErrorKind, Write};
 
 /// A writer that counts its faults; contracts see nothing of its bytes.
 #[derive(Drop)]
-pub struct Output<W> {
+pub struct StandardOutput<W> {
     writer: W,
     // How many writes failed, at most the greatest u64.
     faults: u64,
+    over: bool,
 }
 
-impl<W: Write> Output<W> {
-    pub fn new(writer: W) -> Output<W>
-        ensures { result.faults ≡ 0 }
+impl<W: Write> StandardOutput<W> {
+    pub fn new(writer: W) -> StandardOutput<W>
+        ensures faults { result.faults ≡ 0 }
+        ensures over { result.over ≡ false }
     {
-        Output { writer, faults: 0 }
+        StandardOutput {
+            writer,
+            faults: 0,
+            over: false,
+        }
     }
 }
 
-impl<W: Write> Sink for Output<W> {
-    ghost held = { λ _. None };
-
-    ghost faults = { λ s. s.faults };
+impl<W: Write> Sink for StandardOutput<W> {
+    ghost outflow = { λ s. record { held = None; faults = s.faults; over = s.over } };
 
     fn write(&mut self, piece: &[u8]) -> Result<usize, Failed> {
         match write(&mut self.writer, piece) {
             Some(count) => Ok(count),
             None => {
                 self.faults = self.faults.saturating_add(1);
+                self.over = true;
                 Err(Failed)
             }
         }
@@ -84,9 +89,10 @@ mod tests {
         }
     }
 
+    // It is asked again after a fault, as no caller may, to see what it counts.
     #[test]
     fn counts_each_fault_and_writes_on(rt: HostRuntime) -> Result<(), Fail> {
-        let mut output = Output::new(Takes {
+        let mut output = StandardOutput::new(Takes {
             writes: [
                 Ok(2),
                 Err(ErrorKind::Interrupted),
@@ -106,6 +112,7 @@ mod tests {
             (Ok(1), u64::MAX),
             (Ok(5), u64::MAX),
         ] {
+            output.over = false;
             assert_eq!(rt; output.write(b"lines"), write);
             assert_eq!(rt; output.faults, faults);
         }

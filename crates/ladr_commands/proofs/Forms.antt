@@ -5,10 +5,10 @@ use Rattle.std.proofs.Math.Seq.{take-append_seam}
 use Rattle.ladr_lex.specs.Lexeme.{Lexeme, lexemes_of, ordinary, special, open_paren, close_paren, open_square, close_square, comma, full_stop, symbol}
 use Rattle.ladr_lex.specs.declared.token.Token.{Token}
 use Rattle.fol_core.specs.declared.symbols.Kind.TheVariants.{Function}
-use Rattle.ladr_commands.specs.ByName.{Table, table, by_name}
+use Rattle.ladr_commands.specs.ByName.{NamedTable, table, by_name}
 use Rattle.ladr_commands.specs.declared.command.Command.TheVariants.{Interpretation}
-use Rattle.ladr_commands.specs.Faults.{Begins, IsBadToken}
-use Rattle.ladr_commands.specs.Form.{Form, ends, token, members, values, places, comments, comment, entries, entry, after, behind_member, behind_number, behind_place, number_in, outcome, Outcome, reads, stops, Says}
+use Rattle.ladr_commands.specs.Faults.{BeginsCommand, IsBadCommandToken}
+use Rattle.ladr_commands.specs.Form.{Form, ends, token, members, values, places, comments, comment, entries, entry, after, behind_member, behind_number, behind_place, number_in, outcome, FormOutcome, reads, stops, SaysCommand}
 use Rattle.ladr_commands.specs.Wanted.{fits, text_of, kind_in}
 use Rattle.ladr_commands.specs.declared.command.Command.{Command}
 use Rattle.ladr_commands.specs.declared.wanted.Wanted.{Wanted}
@@ -65,7 +65,7 @@ example_fits KindWordOrCloseSquare = refl
 pub record Filled (f : Form) : Type 0 where
   pub tokens : List Lexeme
   pub command : Command
-  pub says : Says f tokens command
+  pub says : SaysCommand f tokens command
 
 pub filled : (f : Form) → Filled f
 filled (ends c) = record { tokens = []; command = c; says = refl }
@@ -108,14 +108,14 @@ pub at_once : (f : Form) (us : List Lexeme) → ((u : Lexeme) (rest : List Lexem
 at_once f us h = record { front = []; split = refl; form = f; leads = λ more. refl; here = h }
 
 -- what reads doesn't stop
-abbrev Reads : Outcome → Type 0
+abbrev Reads : FormOutcome → Type 0
 Reads (reads c) = Unit {0}
 Reads (stops us) = ⊥
 
 pub no_stop : (c : Command) (us : List Lexeme) → reads c ≡ stops us → ⊥
 no_stop c us e = subst Reads e tt
 
-abbrev left_of : Outcome → List Lexeme
+abbrev left_of : FormOutcome → List Lexeme
 left_of (reads c) = []
 left_of (stops us) = us
 
@@ -166,36 +166,36 @@ take_further [] y ys = refl
 take_further (x ∷ xs) y ys = ap (λ zs. x ∷ zs) (take_further xs y ys)
 
 -- some item begins with the tokens in front
-begun : (f : Form) (ts us : List Lexeme) (s : Stopped f ts us) → Begins f s.front
+begun : (f : Form) (ts us : List Lexeme) (s : Stopped f ts us) → BeginsCommand f s.front
 begun f ts us s = let more = filled s.form in record { more = more.tokens; command = more.command; says = s.leads more.tokens ∙ more.says }
 
 -- and none with one more
-no_further : (f : Form) (ts : List Lexeme) (u : Lexeme) (rest : List Lexeme) (s : Stopped f ts (u ∷ rest)) → ¬ Begins f (s.front ++ u ∷ [])
+no_further : (f : Form) (ts : List Lexeme) (u : Lexeme) (rest : List Lexeme) (s : Stopped f ts (u ∷ rest)) → ¬ BeginsCommand f (s.front ++ u ∷ [])
 no_further f ts u rest s b =
     let e : outcome f (s.front ++ (u ∷ b.more)) ≡ reads b.command = rw (append_assoc s.front (u ∷ []) b.more) at b.says in
     let h : stops (u ∷ b.more) ≡ outcome s.form (u ∷ b.more) = rw (s.here u rest refl) refl in
     no_stop b.command (u ∷ b.more) (sym (h ∙ sym (s.leads (u ∷ b.more)) ∙ e))
 
-none_further : (f : Form) (ts us : List Lexeme) (s : Stopped f ts us) → length s.front < length ts → ¬ Begins f (take (length s.front + 1) ts)
+none_further : (f : Form) (ts us : List Lexeme) (s : Stopped f ts us) → length s.front < length ts → ¬ BeginsCommand f (take (length s.front + 1) ts)
 none_further f ts [] s l = (let n : length ts ≡ length s.front + 0 = ap length s.split ∙ length-append s.front [] in absurd (omega arith))
 none_further f ts (u ∷ rest) s l =
     let m : length s.front + 1 ≡ suc (length s.front) = omega arith in
     let e : take (length s.front + 1) ts ≡ s.front ++ u ∷ [] = ap₂ take m s.split ∙ take_further s.front u rest in
     rw e (no_further f ts u rest s)
 
-bad_at : (f : Form) (ts us : List Lexeme) (s : Stopped f ts us) → IsBadToken f ts (length s.front)
+bad_at : (f : Form) (ts us : List Lexeme) (s : Stopped f ts us) → IsBadCommandToken f ts (length s.front)
 bad_at f ts us s =
     let n : length ts ≡ length s.front + length us = ap length s.split ∙ length-append s.front us in
     let e : take (length s.front) ts ≡ s.front = ap (take (length s.front)) s.split ∙ take-append_seam s.front us in
     record { within = omega arith; before = rw e (begun f ts us s); here = none_further f ts us s }
 
 -- where the form stops, there the first bad token is
-pub first_bad : (f : Form) (ts us : List Lexeme) → outcome f ts ≡ stops us → IsBadToken f ts (length ts - length us) × ((c : Command) → ¬ Says f ts c)
+pub first_bad : (f : Form) (ts us : List Lexeme) → outcome f ts ≡ stops us → IsBadCommandToken f ts (length ts - length us) × ((c : Command) → ¬ SaysCommand f ts c)
 first_bad f ts us e =
     let s = stopped f ts us e in
     let n : length ts ≡ length s.front + length us = ap length s.split ∙ length-append s.front us in
     let m : length s.front ≡ length ts - length us = omega arith in
-    (subst (λ k. IsBadToken f ts k) m (bad_at f ts us s), λ c i. no_stop c us (sym i ∙ e))
+    (subst (λ k. IsBadCommandToken f ts k) m (bad_at f ts us s), λ c i. no_stop c us (sym i ∙ e))
 
 -- no more is left than there was
 pub left_within : (f : Form) (ts us : List Lexeme) → outcome f ts ≡ stops us → length us ≤ length ts
@@ -228,11 +228,11 @@ pub as_comment : (f : Form) (ts : List Lexeme) → outcome (comments f) ts ≡ o
 as_comment f [] = refl
 as_comment f (t ∷ ts) = refl
 
-pub as_entry : (n : ℕ) (es : List Table) (ts : List Lexeme) → outcome (entries n es) ts ≡ outcome (token KindWord (λ t. entry n es (kind_in t))) ts
+pub as_entry : (n : ℕ) (es : List NamedTable) (ts : List Lexeme) → outcome (entries n es) ts ≡ outcome (token KindWord (λ t. entry n es (kind_in t))) ts
 as_entry n es [] = refl
 as_entry n es (t ∷ ts) = refl
 
 -- the command that was read, and this one where none was
-abbrev pub read_of : Command → Outcome → Command
+abbrev pub read_of : Command → FormOutcome → Command
 read_of c (reads d) = d
 read_of c (stops us) = c

@@ -4,7 +4,7 @@ use Rattle.std.specs.Option.{option_map_or}
 use Rattle.fol_core.specs.declared.symbols.Kind.{Kind}
 use Rattle.ladr_lex.specs.Lexeme.{Lexeme}
 use Rattle.ladr_lex.specs.Numeral.{number}
-use Rattle.ladr_commands.specs.ByName.{Table, table, by_name}
+use Rattle.ladr_commands.specs.ByName.{NamedTable, table, by_name}
 use Rattle.ladr_commands.specs.Wanted.{fits, is_comma, text_of, kind_in}
 use Rattle.ladr_commands.specs.declared.command.Command.{Command}
 use Rattle.ladr_commands.specs.declared.command.Command.TheVariants.{Interpretation}
@@ -22,7 +22,7 @@ pub data Form : Type 0 where
   values : List ℕ → (List ℕ → Form) → Form
   places : ℕ → (ℕ → Form) → Form
   comments : Form → Form
-  entries : ℕ → List Table → Form
+  entries : ℕ → List NamedTable → Form
 
 -- `.`, `).`, and a form behind `(`
 abbrev pub stopped : Command → Form
@@ -61,20 +61,20 @@ abbrev pub comment : Form → Form
 comment f = token Equality (λ _. token Numeral (λ _. token CommaOrCloseSquare (behind_comment f)))
 
 -- behind an entry: a comma and one more, or `]).`
-abbrev pub behind_entry : ℕ → List Table → Lexeme → Form
+abbrev pub behind_entry : ℕ → List NamedTable → Lexeme → Form
 behind_entry n es mark = if is_comma mark then entries n es else closed (Interpretation (by_name n es))
 
 -- `[v, .., v])` of an entry, and what stands behind it
-abbrev pub listed : ℕ → List Table → Kind → List ℕ → ℕ → Form
+abbrev pub listed : ℕ → List NamedTable → Kind → List ℕ → ℕ → Form
 listed n es kind name arity =
     token OpenSquare (λ _. values [] (λ vs. token Close (λ _. token CommaOrCloseSquare (behind_entry n (es ++ table kind name arity vs ∷ [])))))
 
 -- behind the name of an entry: its values, or places for arguments before them
-abbrev pub behind_name : ℕ → List Table → Kind → List ℕ → Lexeme → Form
+abbrev pub behind_name : ℕ → List NamedTable → Kind → List ℕ → Lexeme → Form
 behind_name n es kind name mark = if is_comma mark then listed n es kind name 0 else places 0 (λ arity. token Comma (λ _. listed n es kind name arity))
 
 -- `(head, [v, .., v])`, a head being a name, or a name and `(_, .., _)`
-abbrev pub entry : ℕ → List Table → Kind → Form
+abbrev pub entry : ℕ → List NamedTable → Kind → Form
 entry n es kind = opened (token Symbol (λ name. token CommaOrOpen (behind_name n es kind (text_of name))))
 
 -- what may stand behind a token, if it may stand here
@@ -88,11 +88,11 @@ after (comments f) t = if fits Symbol t then Some (comment f) else None
 after (entries n es) t = if fits KindWord t then Some (entry n es (kind_in t)) else None
 
 -- the tokens are a command, or they are left from the first one on that can't stand there, the end being the last
-pub data Outcome : Type 0 where
-  reads : Command → Outcome
-  stops : List Lexeme → Outcome
+pub data FormOutcome : Type 0 where
+  reads : Command → FormOutcome
+  stops : List Lexeme → FormOutcome
 
-abbrev pub at_end : Form → Outcome
+abbrev pub at_end : Form → FormOutcome
 at_end (ends c) = reads c
 at_end (token w onward) = stops []
 at_end (members w read onward) = stops []
@@ -101,13 +101,13 @@ at_end (places n onward) = stops []
 at_end (comments f) = stops []
 at_end (entries n es) = stops []
 
-abbrev pub outcome : Form → List Lexeme → Outcome
+abbrev pub outcome : Form → List Lexeme → FormOutcome
 outcome f [] = at_end f
 outcome f (t ∷ ts) = option_map_or (λ g. outcome g ts) (after f t) (stops (t ∷ ts))
 
 -- the tokens are this command
-abbrev pub Says : Form → List Lexeme → Command → Type 0
-Says f ts c = outcome f ts ≡ reads c
+abbrev pub SaysCommand : Form → List Lexeme → Command → Type 0
+SaysCommand f ts c = outcome f ts ≡ reads c
 
 -- behind the text of a member of a list of symbols
 abbrev pub behind_text : List (List ℕ) → Lexeme → (List (List ℕ) → Form) → Form
@@ -130,9 +130,9 @@ IsValue ts v last rest =
     → outcome (values read onward) ts ≡ outcome (if last then onward (read ++ v ∷ []) else values (read ++ v ∷ []) onward) rest
 
 -- a place for an argument, and behind it `)` if it is the last one, else a comma
-abbrev pub IsPlace : List Lexeme → Bool → List Lexeme → Type 0
-IsPlace ts last rest = (n : ℕ) (onward : ℕ → Form) → outcome (places n onward) ts ≡ outcome (if last then onward (n + 1) else places (n + 1) onward) rest
+abbrev pub IsPlaceholder : List Lexeme → Bool → List Lexeme → Type 0
+IsPlaceholder ts last rest = (n : ℕ) (onward : ℕ → Form) → outcome (places n onward) ts ≡ outcome (if last then onward (n + 1) else places (n + 1) onward) rest
 
 -- an entry behind its kind's word, and behind it a comma, if more follow
-abbrev pub IsEntry : List Lexeme → Kind → Table → Bool → List Lexeme → Type 0
-IsEntry ts kind t last rest = (n : ℕ) (es : List Table) → outcome (entry n es kind) ts ≡ outcome (if last then closed (Interpretation (by_name n (es ++ t ∷ []))) else entries n (es ++ t ∷ [])) rest
+abbrev pub IsEntry : List Lexeme → Kind → NamedTable → Bool → List Lexeme → Type 0
+IsEntry ts kind t last rest = (n : ℕ) (es : List NamedTable) → outcome (entry n es kind) ts ≡ outcome (if last then closed (Interpretation (by_name n (es ++ t ∷ []))) else entries n (es ++ t ∷ [])) rest

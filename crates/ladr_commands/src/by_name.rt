@@ -7,29 +7,29 @@ use std::marker::Model;
 
 /// The name, arity and kind of a symbol, and its values, the last argument running fastest.
 #[derive(Drop)]
-pub struct Entry {
+pub struct TableEntry {
     name: Name,
     arity: u64,
     kind: Kind,
     values: Vec<u32>,
 }
 
-impl Model for Entry {
-    ghost use Rattle.ladr_commands.specs.ByName.{Table, table, coded_table};
+impl Model for TableEntry {
+    ghost use Rattle.ladr_commands.specs.ByName.{NamedTable, table, coded_table};
 
-    ghost Value = { Table };
+    ghost Value = { NamedTable };
 
     ghost coded = { coded_table };
 
     ghost view = { λ a. table a.kind a.name a.arity a.values.items };
 }
 
-impl Entry {
+impl TableEntry {
     /// The entry of a symbol with these values.
-    pub fn new(kind: Kind, name: Name, arity: u64, values: Vec<u32>) -> Entry
+    pub fn new(kind: Kind, name: Name, arity: u64, values: Vec<u32>) -> TableEntry
         ensures { result ≡ table kind name arity values.items }
     {
-        Entry {
+        TableEntry {
             name,
             arity,
             kind,
@@ -70,7 +70,7 @@ impl Entry {
 #[derive(Drop)]
 pub struct ByName {
     size: u32,
-    entries: Vec<Entry>,
+    entries: Vec<TableEntry>,
 }
 
 impl Model for ByName {
@@ -86,7 +86,7 @@ impl Model for ByName {
 
 impl ByName {
     /// The interpretation of these entries.
-    pub fn new(size: u32, entries: Vec<Entry>) -> ByName
+    pub fn new(size: u32, entries: Vec<TableEntry>) -> ByName
         ensures { result ≡ by_name size entries.items }
     {
         ByName { size, entries }
@@ -100,7 +100,7 @@ impl ByName {
     }
 
     /// The entries.
-    pub fn entries(&self) -> &[Entry]
+    pub fn entries(&self) -> &[TableEntry]
         ensures { result.now ≡ self.now.entries }
     {
         self.entries.as_slice()

@@ -2,15 +2,15 @@
 ghost use Rattle.std.specs.Prelude.{◌≡◌, ◌+◌, ◌<◌, ◌≤◌, ◌^◌, ℕ, List, [], ◌∷◌, ◌++◌, if◌then◌else◌, Err, IfOk, OnOk, length};
 ghost use Rattle.fol_core.specs.declared.symbols.Kind.{Kind};
 ghost use Rattle.ladr_lex.specs.Lexeme.{Lexeme, lexeme_of};
-ghost use Rattle.ladr_commands.specs.ByName.{Table, table, by_name};
+ghost use Rattle.ladr_commands.specs.ByName.{NamedTable, table, by_name};
 ghost use Rattle.ladr_commands.specs.Commands.{interpretation, comment_list, behind_comments, entry_list};
-ghost use Rattle.ladr_commands.specs.Form.{Form, token, values, places, comments, comment, entries, entry, listed, behind_name, behind_number, behind_place, number_in, closed, outcome, reads, stops, IsValue, IsPlace, IsEntry};
+ghost use Rattle.ladr_commands.specs.Form.{Form, token, values, places, comments, comment, entries, entry, listed, behind_name, behind_number, behind_place, number_in, closed, outcome, reads, stops, IsValue, IsPlaceholder, IsEntry};
 ghost use Rattle.ladr_commands.specs.Wanted.{kind_in};
 ghost use Rattle.ladr_commands.specs.declared.command.Command.TheVariants.{Interpretation};
 ghost use Rattle.ladr_commands.specs.declared.fault.Fault.TheVariants.{Bad};
 ghost use Rattle.ladr_commands.specs.declared.wanted.Wanted.TheVariants.{OpenSquare, CommaOrClose, CommaOrCloseSquare, CommaOrOpen, SymbolOrCloseSquare, KindWordOrCloseSquare};
 
-use crate::by_name::{ByName, Entry};
+use crate::by_name::{ByName, TableEntry};
 use crate::cursor::Cursor;
 use crate::fault::Fault;
 use crate::read::closed;
@@ -86,7 +86,7 @@ fn name<'a>(cursor: &mut Cursor<'a>) -> Result<Token<'a>, Fault>
 }
 
 // `[entry, .., entry]).`
-fn entry_list(alloc: Global, cursor: &mut Cursor, size: u32) -> Result<Vec<Entry>, Fault>
+fn entry_list(alloc: Global, cursor: &mut Cursor, size: u32) -> Result<Vec<TableEntry>, Fault>
     ensures ok { IfOk result (λ es. outcome (entry_list size) cursor.old
         ≡ reads (Interpretation (by_name size es.items))) }
     ensures bad { result ≡ Err Bad → outcome (entry_list size) cursor.old ≡ stops cursor.new }
@@ -103,7 +103,12 @@ fn entry_list(alloc: Global, cursor: &mut Cursor, size: u32) -> Result<Vec<Entry
 }
 
 // Entries up to `]`, the kind of the first being told.
-fn entries(alloc: Global, cursor: &mut Cursor, size: u32, kind: Kind) -> Result<Vec<Entry>, Fault>
+fn entries(
+    alloc: Global,
+    cursor: &mut Cursor,
+    size: u32,
+    kind: Kind,
+) -> Result<Vec<TableEntry>, Fault>
     ensures ok { IfOk result (λ es. outcome (entry size [] kind) cursor.old
         ≡ outcome (closed (Interpretation (by_name size es.items))) cursor.new) }
     ensures bad { result ≡ Err Bad → outcome (entry size [] kind) cursor.old ≡ stops cursor.new }
@@ -122,9 +127,9 @@ fn entries(alloc: Global, cursor: &mut Cursor, size: u32, kind: Kind) -> Result<
 
 // The kind of a further entry.
 fn kind_word(cursor: &mut Cursor) -> Result<Kind, Fault>
-    ensures ok { IfOk result (λ kind. (n : ℕ) (es : List Table)
+    ensures ok { IfOk result (λ kind. (n : ℕ) (es : List NamedTable)
         → outcome (entries n es) cursor.old ≡ outcome (entry n es kind) cursor.new) }
-    ensures bad { result ≡ Err Bad → (n : ℕ) (es : List Table)
+    ensures bad { result ≡ Err Bad → (n : ℕ) (es : List NamedTable)
         → outcome (entries n es) cursor.old ≡ stops cursor.new }
     ensures shorter { OnOk result (length cursor.new < length cursor.old) }
 {
@@ -135,9 +140,9 @@ fn kind_word(cursor: &mut Cursor) -> Result<Kind, Fault>
 }
 
 // An entry behind its kind's word, and whether it is the last one.
-fn entry(alloc: Global, cursor: &mut Cursor, kind: Kind) -> Result<(Entry, bool), Fault>
+fn entry(alloc: Global, cursor: &mut Cursor, kind: Kind) -> Result<(TableEntry, bool), Fault>
     ensures ok { IfOk result (λ r. IsEntry cursor.old kind r.0 r.1 cursor.new) }
-    ensures bad { result ≡ Err Bad → (n : ℕ) (es : List Table)
+    ensures bad { result ≡ Err Bad → (n : ℕ) (es : List NamedTable)
         → outcome (entry n es kind) cursor.old ≡ stops cursor.new }
     ensures shorter { OnOk result (length cursor.new < length cursor.old) }
 {
@@ -149,15 +154,15 @@ fn entry(alloc: Global, cursor: &mut Cursor, kind: Kind) -> Result<(Entry, bool)
     cursor.take(Wanted::Close)?;
     let mark = cursor.take(Wanted::CommaOrCloseSquare)?;
     let name = Name::from_slice(alloc, text_of(&name))?;
-    Ok((Entry::new(kind, name, arity, values), !is_comma(&mark)))
+    Ok((TableEntry::new(kind, name, arity, values), !is_comma(&mark)))
 }
 
 // What stands between a name and its values: a comma, or places for arguments before it.
 fn arity(cursor: &mut Cursor) -> Result<u64, Fault>
-    ensures ok { IfOk result (λ arity. (n : ℕ) (es : List Table) (kind : Kind) (name : List ℕ)
+    ensures ok { IfOk result (λ arity. (n : ℕ) (es : List NamedTable) (kind : Kind) (name : List ℕ)
         → outcome (token CommaOrOpen (behind_name n es kind name)) cursor.old
         ≡ outcome (listed n es kind name arity) cursor.new) }
-    ensures bad { result ≡ Err Bad → (n : ℕ) (es : List Table) (kind : Kind) (name : List ℕ)
+    ensures bad { result ≡ Err Bad → (n : ℕ) (es : List NamedTable) (kind : Kind) (name : List ℕ)
         → outcome (token CommaOrOpen (behind_name n es kind name)) cursor.old ≡ stops cursor.new }
     ensures shorter { OnOk result (length cursor.new ≤ length cursor.old) }
 {
@@ -188,7 +193,7 @@ fn places(cursor: &mut Cursor) -> Result<u64, Fault>
 
 // A place for an argument, and whether it is the last one.
 fn place(cursor: &mut Cursor) -> Result<bool, Fault>
-    ensures ok { IfOk result (λ last. IsPlace cursor.old last cursor.new) }
+    ensures ok { IfOk result (λ last. IsPlaceholder cursor.old last cursor.new) }
     ensures bad { result ≡ Err Bad → (n : ℕ) (onward : ℕ → Form)
         → outcome (places n onward) cursor.old ≡ stops cursor.new }
     ensures shorter { OnOk result (length cursor.new < length cursor.old) }

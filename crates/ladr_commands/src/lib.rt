@@ -12,7 +12,7 @@ mod read;
 mod wanted;
 mod word;
 
-pub use by_name::{ByName, Entry};
+pub use by_name::{ByName, TableEntry};
 pub use command::{Command, Value};
 pub use fault::CommandFault;
 pub use laws::{one_command, worked};

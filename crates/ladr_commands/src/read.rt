@@ -3,7 +3,7 @@ ghost use Rattle.std.specs.Prelude.{◌≡◌, ◌<◌, length, ℕ, true, List,
 ghost use Rattle.ladr_lex.specs.Lexeme.{Lexeme, lexeme_of, lexemes_of};
 ghost use Rattle.ladr_commands.specs.Commands.{commands_of, interpretation_item, behind_first, behind_word, with_name, with_names, assignment, behind_value, behind_dash, declaration, behind_type};
 ghost use Rattle.ladr_commands.specs.Faults.{IsCommandFault};
-ghost use Rattle.ladr_commands.specs.Form.{Form, token, members, opened, closed, stopped, behind_text, IsMember, list, outcome, reads, stops, Says};
+ghost use Rattle.ladr_commands.specs.Form.{Form, token, members, opened, closed, stopped, behind_text, IsMember, list, outcome, reads, stops, SaysCommand};
 ghost use Rattle.ladr_commands.specs.declared.command.Command.{Command};
 ghost use Rattle.ladr_commands.specs.declared.command.Command.TheVariants as command;
 ghost use Rattle.ladr_commands.specs.declared.command.Command.TheVariants.{Interpretation};
@@ -26,7 +26,7 @@ use std::alloc::Global;
 
 /// The command that the tokens of an item are; interpretations are commands of the program that tests them alone.
 pub fn read_command(alloc: Global, tester: bool, tokens: &[Token]) -> Result<Command, CommandFault>
-    ensures read { IfOk result (λ c. Says (commands_of tester) (lexemes_of tokens.now) c) }
+    ensures read { IfOk result (λ c. SaysCommand (commands_of tester) (lexemes_of tokens.now) c) }
     ensures fault { IfErr result (IsCommandFault (commands_of tester) (lexemes_of tokens.now)) }
 {
     let mut cursor = Cursor::new(tokens);
@@ -39,7 +39,7 @@ pub fn read_command(alloc: Global, tester: bool, tokens: &[Token]) -> Result<Com
 
 /// The interpretation that the tokens of an item are.
 pub fn read_interpretation(alloc: Global, tokens: &[Token]) -> Result<ByName, CommandFault>
-    ensures read { IfOk result (λ it. Says interpretation_item (lexemes_of tokens.now)
+    ensures read { IfOk result (λ it. SaysCommand interpretation_item (lexemes_of tokens.now)
         (Interpretation it)) }
     ensures fault { IfErr result (IsCommandFault interpretation_item (lexemes_of tokens.now)) }
 {

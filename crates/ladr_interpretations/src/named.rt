@@ -6,7 +6,7 @@ ghost use Rattle.ladr_interpretations.specs.Good.{is_filled, is_good, heads_of, 
 ghost use Rattle.ladr_interpretations.specs.declared.named.NamedError.TheVariants.{Bad, Memory};
 
 use fol_core::{Kind, Sym, Symbols};
-use ladr_commands::{ByName, Entry};
+use ladr_commands::{ByName, TableEntry};
 use model_tables::{Row, Tables, bound};
 use std::alloc::{AllocError, AllocFailed, Global};
 use std::marker::Model;
@@ -112,7 +112,7 @@ fn are_below(values: &[u32], bound: u32) -> bool
 }
 
 // Whether an entry has a value for each list of arguments, and none too great.
-fn is_filled(size: u32, entry: &Entry) -> bool
+fn is_filled(size: u32, entry: &TableEntry) -> bool
     requires { 1 ≤ size }
     ensures { result ≡ is_filled size entry.now }
 {
@@ -121,7 +121,7 @@ fn is_filled(size: u32, entry: &Entry) -> bool
         && are_below(values, bound(size, entry.kind()))
 }
 
-fn are_filled(size: u32, entries: &[Entry]) -> bool
+fn are_filled(size: u32, entries: &[TableEntry]) -> bool
     requires { 1 ≤ size }
     ensures { result ≡ list_all (is_filled size) entries.now }
 {
@@ -134,7 +134,7 @@ fn are_filled(size: u32, entries: &[Entry]) -> bool
 }
 
 // Whether the entry's name and arity aren't in the table.
-fn is_new(heads: &Symbols, entry: &Entry) -> bool
+fn is_new(heads: &Symbols, entry: &TableEntry) -> bool
     ensures { result ≡ not (is_some (number_of heads.now entry.now.head.name
         entry.now.head.arity)) }
 {
@@ -142,7 +142,7 @@ fn is_new(heads: &Symbols, entry: &Entry) -> bool
 }
 
 // The table of the entries' symbols, unless one stands twice.
-fn heads(alloc: Global, entries: &[Entry]) -> Result<Symbols, NamedError>
+fn heads(alloc: Global, entries: &[TableEntry]) -> Result<Symbols, NamedError>
     ensures ok { IfOk result (λ t. (t ≡ heads_of entries.now)
         × IsTrue (are_new [] (heads_of entries.now))) }
     ensures bad { result ≡ Err Bad → are_new [] (heads_of entries.now) ≡ false }
@@ -175,7 +175,7 @@ fn is_same_kind(kind: Kind, other: Kind) -> bool
 // The values of the entry for a symbol's name, arity and kind, none where there is no such entry.
 fn values_for<'a>(
     heads: &Symbols,
-    entries: &'a [Entry],
+    entries: &'a [TableEntry],
     name: &[u8],
     arity: u64,
     kind: Kind,

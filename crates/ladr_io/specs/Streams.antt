@@ -1,6 +1,6 @@
 -- What the calls of a source and of a sink do to the bytes that are left and the bytes that are held.
--- Either is `None` where the stream doesn't tell it. A stream tells before and after a call, or at neither time.
-use Rattle.std.specs.Prelude.{◌≡◌, ℕ, ◌+◌, ◌-◌, ◌^◌, ◌<◌, ◌≤◌, min, List, [], ◌++◌, length, Option, None, Some, ⊤}
+-- A stream tells its bytes before and after a call, or at neither time.
+use Rattle.std.specs.Prelude.{◌≡◌, ℕ, ◌+◌, ◌-◌, ◌^◌, ◌<◌, ◌≤◌, min, Bool, true, false, List, [], ◌++◌, length, Option, None, Some, ⊤}
 
 -- the greatest count that a u64 can hold
 abbrev pub greatest : ℕ
@@ -10,48 +10,83 @@ greatest = 2 ^ 64 - 1
 abbrev pub counted : ℕ → ℕ
 counted n = min (n + 1) greatest
 
--- a count of faults rose between two moments, or stands where it can rise no further
-abbrev pub Rose : ℕ → ℕ → Type 0
-Rose before now = counted before ≤ now
+-- what is known of a source: the bytes still to come, where it tells them; how many calls failed; and whether it is over, since it
+-- told its end or a call failed
+pub record Inflow : Type 0 where
+  pub left : Option (List ℕ)
+  pub faults : ℕ
+  pub over : Bool
 
--- the source gave these bytes: they were the first ones left
-abbrev pub Gives : Option (List ℕ) → Option (List ℕ) → List ℕ → Type 0
-Gives None None bytes = ⊤
-Gives None (Some ys) bytes = ⊥
-Gives (Some xs) None bytes = ⊥
-Gives (Some xs) (Some ys) bytes = xs ≡ bytes ++ ys
+-- what is known of a sink: the bytes that it took, where it tells them; how many calls failed; and whether it is over, since a call
+-- failed
+pub record Outflow : Type 0 where
+  pub held : Option (List ℕ)
+  pub faults : ℕ
+  pub over : Bool
 
--- nothing is left of the source
+-- these bytes were the first ones left
+abbrev pub AreFirstLeft : Option (List ℕ) → Option (List ℕ) → List ℕ → Type 0
+AreFirstLeft None None bytes = ⊤
+AreFirstLeft None (Some ys) bytes = ⊥
+AreFirstLeft (Some xs) None bytes = ⊥
+AreFirstLeft (Some xs) (Some ys) bytes = xs ≡ bytes ++ ys
+
+-- these bytes stand behind those that were held
+abbrev pub AreLastHeld : Option (List ℕ) → Option (List ℕ) → List ℕ → Type 0
+AreLastHeld None None bytes = ⊤
+AreLastHeld None (Some ys) bytes = ⊥
+AreLastHeld (Some xs) None bytes = ⊥
+AreLastHeld (Some xs) (Some ys) bytes = ys ≡ xs ++ bytes
+
+-- nothing is left
 abbrev pub IsDrained : Option (List ℕ) → Type 0
 IsDrained None = ⊤
 IsDrained (Some xs) = xs ≡ []
 
--- at most so many bytes are left of the source
+-- at most so many bytes are left
 abbrev pub HasAtMost : Option (List ℕ) → ℕ → Type 0
 HasAtMost None limit = ⊤
 HasAtMost (Some xs) limit = length xs ≤ limit
 
--- more than so many bytes are left of the source
+-- more than so many bytes are left
 abbrev pub HasMoreThan : Option (List ℕ) → ℕ → Type 0
 HasMoreThan None limit = ⊤
 HasMoreThan (Some xs) limit = limit < length xs
 
--- the source gave some bytes, as many as `IsCount` allows
-pub record GivesSome (IsCount : ℕ → Type 0) (old new : Option (List ℕ)) : Type 0 where
+-- the source gave these bytes, and no call failed
+pub record Gives (old new : Inflow) (bytes : List ℕ) : Type 0 where
+  pub gave : AreFirstLeft old.left new.left bytes
+  pub unfailing : new.faults ≡ old.faults
+
+-- the source gave these bytes, and told its end behind them
+pub record GivesAll (old new : Inflow) (bytes : List ℕ) : Type 0 where
+  pub gives : Gives old new bytes
+  pub drained : IsDrained new.left
+  pub over : new.over ≡ true
+
+-- the source gave these bytes, and the call behind them failed
+pub record FailsBehind (old new : Inflow) (bytes : List ℕ) : Type 0 where
+  pub gave : AreFirstLeft old.left new.left bytes
+  pub failed : new.faults ≡ counted old.faults
+  pub over : new.over ≡ true
+
+-- so it is with some bytes, as many as `IsCount` allows
+pub record WithSome (IsCount : ℕ → Type 0) (R : List ℕ → Type 0) : Type 0 where
   pub bytes : List ℕ
-  pub gave : Gives old new bytes
+  pub holds : R bytes
   pub count : IsCount (length bytes)
 
--- the sink took these bytes: they stand behind those that it held
-abbrev pub Takes : Option (List ℕ) → Option (List ℕ) → List ℕ → Type 0
-Takes None None bytes = ⊤
-Takes None (Some ys) bytes = ⊥
-Takes (Some xs) None bytes = ⊥
-Takes (Some xs) (Some ys) bytes = ys ≡ xs ++ bytes
+-- the sink took these bytes, and no call failed
+pub record Takes (old new : Outflow) (bytes : List ℕ) : Type 0 where
+  pub took : AreLastHeld old.held new.held bytes
+  pub unfailing : new.faults ≡ old.faults
+  pub same : new.over ≡ old.over
 
--- the sink took a front of this text, maybe none or all of it
-pub record TakesFront (old new : Option (List ℕ)) (text : List ℕ) : Type 0 where
+-- the sink took a front of this text, maybe none or all of it, and the call behind that failed
+pub record TakesFront (old new : Outflow) (text : List ℕ) : Type 0 where
   pub front : List ℕ
   pub rest : List ℕ
   pub parts : text ≡ front ++ rest
-  pub took : Takes old new front
+  pub took : AreLastHeld old.held new.held front
+  pub failed : new.faults ≡ counted old.faults
+  pub over : new.over ≡ true

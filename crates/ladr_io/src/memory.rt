@@ -1,8 +1,8 @@
 // A source, a sink and a clock over memory, which tell all that they hold. They fail where they are told to.
-ghost use Rattle.std.specs.Prelude.{◌≡◌, ℕ, ◌+◌, ◌<◌, ◌≤◌, ◌↔◌, ◌++◌, [], min, take, drop, length, IfOk, OnOk, OnErr, IsErr, MatchResult, Ok, Some};
-ghost use Rattle.ladr_io.specs.Streams.{Gives, Takes, IsDrained, Rose, counted};
+ghost use Rattle.std.specs.Prelude.{◌≡◌, ℕ, ◌+◌, ◌<◌, ◌≤◌, ◌↔◌, ◌++◌, [], false, true, min, take, drop, length, IfOk, OnErr, IsErr, MatchResult, Ok, Some};
+ghost use Rattle.ladr_io.specs.Streams.{Gives, FailsBehind, Takes, TakesFront, IsDrained, counted};
 ghost use Rattle.ladr_io.specs.Times.{later, no_times};
-ghost use Rattle.ladr_io.specs.Memory.{CallsState, SourceState, SinkState, ClockState, IsToFail, after_call, after_read, after_write, reading_after};
+ghost use Rattle.ladr_io.specs.Memory.{CallsState, SourceState, SinkState, ClockState, IsToFail, no_calls, inflow_of, outflow_of, after_call, with_end, after_read, after_write, reading_after};
 
 use crate::{Clock, Failed, Readings, Sink, Source};
 use std::alloc::Global;
@@ -14,22 +14,24 @@ struct Calls {
     fails: Vec<u64>,
     made: u64,
     faults: u64,
+    over: bool,
 }
 
 impl Model for Calls {
     ghost Value = { CallsState };
 
-    ghost view = { λ c. record { fails = c.fails.items; made = c.made; faults = c.faults } };
+    ghost view = { λ c. record { fails = c.fails.items; made = c.made; faults = c.faults; over = c.over } };
 }
 
 impl Calls {
     fn new(fails: Vec<u64>) -> Self
-        ensures { result ≡ record { fails = fails.items; made = 0; faults = 0 } }
+        ensures { result ≡ no_calls fails.items }
     {
         Calls {
             fails,
             made: 0,
             faults: 0,
+            over: false,
         }
     }
 
@@ -37,7 +39,6 @@ impl Calls {
     fn begin(&mut self) -> Result<(), Failed>
         ensures fails { IsErr result ↔ IsToFail self.old }
         ensures after { self.new ≡ after_call self.old result }
-        ensures never_falls { self.old.faults ≤ self.new.faults }
     {
         self.made = self.made.saturating_add(1);
         if self.fails.contains(&self.made) {
@@ -47,11 +48,19 @@ impl Calls {
     }
 
     fn fault(&mut self) -> Failed
-        ensures after { self.new ≡ record self.old { faults = counted self.old.faults } }
-        ensures never_falls { self.old.faults ≤ self.new.faults }
+        ensures after { self.new ≡ record self.old
+            { faults = counted self.old.faults; over = true } }
     {
         self.faults = self.faults.saturating_add(1);
+        self.over = true;
         Failed
+    }
+
+    // Keeps that a read of so many bytes into a buffer of this length told the end.
+    fn keep_end(&mut self, length: usize, count: usize)
+        ensures { self.new ≡ with_end self.old length count }
+    {
+        self.over = self.over || (count == 0 && 0 < length);
     }
 }
 
@@ -79,7 +88,7 @@ impl MemSource {
     pub fn new(bytes: Vec<u8>, fails: Vec<u64>) -> Self
         ensures left { result.left ≡ bytes.items }
         ensures piece { result.piece ≡ usize.MAX }
-        ensures calls { result.calls ≡ record { fails = fails.items; made = 0; faults = 0 } }
+        ensures calls { result.calls ≡ no_calls fails.items }
     {
         MemSource::with_piece(bytes, usize::MAX, fails)
     }
@@ -89,7 +98,7 @@ impl MemSource {
         requires { 0 < piece }
         ensures left { result.left ≡ bytes.items }
         ensures piece { result.piece ≡ piece }
-        ensures calls { result.calls ≡ record { fails = fails.items; made = 0; faults = 0 } }
+        ensures calls { result.calls ≡ no_calls fails.items }
     {
         MemSource {
             bytes,
@@ -108,29 +117,29 @@ impl MemSource {
 }
 
 impl Source for MemSource {
-    ghost left = { λ s. Some s.left };
-
-    ghost faults = { λ s. s.calls.faults };
+    ghost inflow = { λ s. inflow_of s };
 
     fn read(&mut self, buf: &mut [u8]) -> Result<usize, Failed>
+        requires { self.old.calls.over ≡ false }
         ensures within { IfOk result (λ n. n ≤ length buf.new) }
-        ensures gives { MatchResult result (λ n. Gives (Some self.old.left) (Some self.new.left) (take n buf.new)) (λ _. Gives (Some self.old.left) (Some self.new.left) []) }
-        ensures ends { result ≡ Ok 0 → 0 < length buf.old → IsDrained (Some self.old.left) }
-
-        ensures never_falls { self.old.calls.faults ≤ self.new.calls.faults }
-        ensures no_fault { OnOk result (self.new.calls.faults ≡ self.old.calls.faults) }
-        ensures rose { OnErr result (Rose self.old.calls.faults self.new.calls.faults) }
+        ensures gives { MatchResult result (λ n. Gives (inflow_of self.old) (inflow_of self.new)
+            (take n buf.new)) (λ _. FailsBehind (inflow_of self.old) (inflow_of self.new) []) }
+        ensures more { IfOk result (λ n. 0 < n → self.new.calls.over ≡ false) }
+        ensures drained { result ≡ Ok 0 → 0 < length buf.old → self.new.left ≡ [] }
+        ensures ends { result ≡ Ok 0 → 0 < length buf.old → self.new.calls.over ≡ true }
 
         // Beyond what the trait says, the call is determined.
         ensures fails { IsErr result ↔ IsToFail self.old.calls }
-        ensures count { IfOk result (λ n. n ≡ min (min self.old.piece (length buf.old)) (length self.old.left)) }
+        ensures count { IfOk result (λ n. n ≡ min (min self.old.piece (length buf.old))
+            (length self.old.left)) }
         ensures bytes { IfOk result (λ n. buf.new ≡ take n self.old.left ++ drop n buf.old) }
         ensures untouched { OnErr result (buf.new ≡ buf.old) }
-        ensures after { self.new ≡ after_read self.old result }
+        ensures after { self.new ≡ after_read self.old (length buf.old) result }
     {
         self.calls.begin()?;
         let count = copy_front(&self.bytes[self.at..], buf, self.piece);
         self.at += count;
+        self.calls.keep_end(buf.len(), count);
         Ok(count)
     }
 }
@@ -168,7 +177,7 @@ impl MemSink {
     pub fn new(alloc: Global, fails: Vec<u64>) -> Self
         ensures held { result.held ≡ [] }
         ensures piece { result.piece ≡ usize.MAX }
-        ensures calls { result.calls ≡ record { fails = fails.items; made = 0; faults = 0 } }
+        ensures calls { result.calls ≡ no_calls fails.items }
     {
         MemSink::with_piece(alloc, usize::MAX, fails)
     }
@@ -178,7 +187,7 @@ impl MemSink {
         requires { 0 < piece }
         ensures held { result.held ≡ [] }
         ensures piece { result.piece ≡ piece }
-        ensures calls { result.calls ≡ record { fails = fails.items; made = 0; faults = 0 } }
+        ensures calls { result.calls ≡ no_calls fails.items }
     {
         MemSink {
             bytes: Vec::new(alloc),
@@ -196,19 +205,15 @@ impl MemSink {
 }
 
 impl Sink for MemSink {
-    ghost held = { λ s. Some s.held };
-
-    ghost faults = { λ s. s.calls.faults };
+    ghost outflow = { λ s. outflow_of s };
 
     /// A call whose bytes find no memory fails.
     fn write(&mut self, piece: &[u8]) -> Result<usize, Failed>
+        requires { self.old.calls.over ≡ false }
         ensures within { IfOk result (λ n. n ≤ length piece.now) }
-        ensures takes { MatchResult result (λ n. Takes (Some self.old.held) (Some self.new.held) (take n piece.now)) (λ _. Takes (Some self.old.held) (Some self.new.held) []) }
+        ensures takes { MatchResult result (λ n. Takes (outflow_of self.old) (outflow_of self.new)
+            (take n piece.now)) (λ _. TakesFront (outflow_of self.old) (outflow_of self.new) []) }
         ensures takes_some { 0 < length piece.now → IfOk result (λ n. 0 < n) }
-
-        ensures never_falls { self.old.calls.faults ≤ self.new.calls.faults }
-        ensures no_fault { OnOk result (self.new.calls.faults ≡ self.old.calls.faults) }
-        ensures rose { OnErr result (Rose self.old.calls.faults self.new.calls.faults) }
 
         // Beyond what the trait says, the call is determined, but for want of memory.
         ensures fails { IsToFail self.old.calls → IsErr result }

@@ -1,7 +1,7 @@
 // A whole input read from a source.
-ghost use Rattle.std.specs.Prelude.{◌≡◌, ◌≢◌, ℕ, ◌+◌, ◌≤◌, length, vec_len, IfOk, OnOk, Err};
+ghost use Rattle.std.specs.Prelude.{◌≡◌, ℕ, ◌+◌, ◌≤◌, List, length, false, vec_len, IfOk, OnOk, Err};
 ghost use Rattle.ladr_io.specs.declared.reading.ReadAll.TheVariants.{TooLarge, Failed as ReadFailed, Memory};
-ghost use Rattle.ladr_io.specs.Streams.{Gives, GivesSome, HasAtMost, HasMoreThan, IsDrained, Rose};
+ghost use Rattle.ladr_io.specs.Streams.{Gives, GivesAll, FailsBehind, WithSome, HasAtMost, HasMoreThan};
 
 use crate::{Failed, Source};
 use std::alloc::{AllocError, Global};
@@ -39,23 +39,24 @@ const PIECE: usize = 8192;
 
 /// Reads a source to its end, if it has at most `limit` bytes.
 pub fn read_all<S: Source>(alloc: Global, source: &mut S, limit: u64) -> Result<Vec<u8>, ReadAll>
+    requires { (S.inflow source.old).over ≡ false }
     // All that was left of the source was taken, and is handed out.
-    ensures gives { IfOk result (λ v. Gives (S.left source.old) (S.left source.new) v.items) }
+    ensures gives { IfOk result (λ v. GivesAll (S.inflow source.old)
+        (S.inflow source.new) v.items) }
     ensures within { IfOk result (λ v. vec_len v ≤ limit) }
-    ensures drained { OnOk result (IsDrained (S.left source.new)) }
 
     // Whether the input is too large is told exactly.
-    ensures fits { OnOk result (HasAtMost (S.left source.old) limit) }
-    ensures too_large { result ≡ Err ReadAll.TooLarge → HasMoreThan (S.left source.old) limit }
+    ensures fits { OnOk result (HasAtMost (S.inflow source.old).left limit) }
+    ensures too_large { result ≡ Err ReadAll.TooLarge
+        → HasMoreThan (S.inflow source.old).left limit }
 
     // What is taken from the source where nothing is handed out.
-    ensures given_too_large { result ≡ Err ReadAll.TooLarge → GivesSome (λ n. n ≡ limit + 1) (S.left source.old) (S.left source.new) }
-    ensures given_failed { result ≡ Err ReadAll.Failed → GivesSome (λ n. n ≤ limit) (S.left source.old) (S.left source.new) }
-    ensures given_memory { result ≡ Err ReadAll.Memory → GivesSome (λ n. n ≤ limit) (S.left source.old) (S.left source.new) }
-
-    ensures never_falls { S.faults source.old ≤ S.faults source.new }
-    ensures no_fault { result ≢ Err ReadAll.Failed → S.faults source.new ≡ S.faults source.old }
-    ensures rose { result ≡ Err ReadAll.Failed → Rose (S.faults source.old) (S.faults source.new) }
+    ensures given_too_large { result ≡ Err ReadAll.TooLarge
+        → WithSome (λ n. n ≡ limit + 1) (Gives (S.inflow source.old) (S.inflow source.new)) }
+    ensures given_failed { result ≡ Err ReadAll.Failed
+        → WithSome (λ n. n ≤ limit) (FailsBehind (S.inflow source.old) (S.inflow source.new)) }
+    ensures given_memory { result ≡ Err ReadAll.Memory
+        → WithSome (λ n. n ≤ limit) (Gives (S.inflow source.old) (S.inflow source.new)) }
 {
     let mut all = Vec::new(alloc);
     let mut buf = [0u8; PIECE];

@@ -9,7 +9,7 @@ use Rattle.std.proofs.lemmas.List.{take-append-drop, length-append, length-take-
 use Rattle.std.proofs.lemmas.List.Sums.{prefix_len-le-length}
 use Rattle.ladr_lex.specs.Comments.{begins_with, up_to, is_just, is_open_block, is_in_line, is_comment}
 use Rattle.ladr_lex.specs.Lexed.{is_block, kind_in, comment_behind}
-use Rattle.ladr_lex.specs.declared.bytes.Start.TheVariants.{Percent}
+use Rattle.ladr_lex.specs.declared.bytes.TokenStart.TheVariants.{Percent}
 use Rattle.ladr_lex.specs.declared.token.TokenKind.TheVariants.{Unreadable}
 use Rattle.ladr_lex.proofs.Comments.{begins_more, begins_long, begins_split, up_to_length, up_to_more, up_to_behind, up_to_front}
 use Rattle.ladr_lex.proofs.Kept.{run_passes, run_whole, run_grows}

@@ -6,7 +6,7 @@ use Rattle.std.proofs.lemmas.Bool.Decides.{nat_tests}
 use Rattle.ladr_lex.specs.Bytes.{is_blank, is_punctuation, is_ordinary, is_special, is_quote}
 use Rattle.ladr_lex.specs.Cuts.{is_stray, is_special_run}
 use Rattle.ladr_lex.specs.Lexed.{start_of}
-use Rattle.ladr_lex.specs.declared.bytes.Start.TheVariants.{Blank, Word, Sign, Quote, Percent, Single}
+use Rattle.ladr_lex.specs.declared.bytes.TokenStart.TheVariants.{Blank, Word, Sign, Quote, Percent, Single}
 use Rattle.ladr_lex.specs.declared.token.TokenKind.TheVariants.{Unreadable}
 
 -- what holds of each byte of a list holds of a byte that is in it

@@ -11,8 +11,8 @@ use Rattle.ladr_lex.specs.Bytes.{is_blank, is_punctuation, is_ordinary, is_speci
 use Rattle.ladr_lex.specs.Comments.{is_comment, is_open_block}
 use Rattle.ladr_lex.specs.Cuts.{can_be, is_run, is_quoted, is_single, is_stray, is_special_run}
 use Rattle.ladr_lex.specs.Lexed.{start_of, is_closed, kind_in, kind_at, kept, begins_with_dash, special_behind, quoted_behind, behind_in, behind}
-use Rattle.ladr_lex.specs.declared.bytes.Start.{Start}
-use Rattle.ladr_lex.specs.declared.bytes.Start.TheVariants.{Blank, Word, Sign, Quote, Percent, Single}
+use Rattle.ladr_lex.specs.declared.bytes.TokenStart.{TokenStart}
+use Rattle.ladr_lex.specs.declared.bytes.TokenStart.TheVariants.{Blank, Word, Sign, Quote, Percent, Single}
 use Rattle.ladr_lex.specs.declared.token.TokenKind.{TokenKind}
 use Rattle.ladr_lex.specs.declared.token.TokenKind.TheVariants.{Open, Close, LeftSquare, RightSquare, Comma, Stop, Ordinary, Quoted, Special, Unreadable}
 use Rattle.ladr_lex.proofs.Blocks.{comment_told, open_told, comment_grows, behind_percent, closed, unclosed}
@@ -25,8 +25,8 @@ pub record Told (o : Option TokenKind) (b : ℕ) (m : List ℕ) : Type 0 where
   pub kind : kind_at b m ≡ o
   pub all : behind b m ≡ length m
 
-told_at : (s : Start) (kind : Option TokenKind) (b : ℕ) (m : List ℕ) → start_of b ≡ s → kind_in s m ≡ kind → behind_in s b m ≡ length m → Told kind b m
-told_at s kind b m e k n = record { kind = ap (λ (t : Start). kind_in t m) e ∙ k; all = ap (λ (t : Start). behind_in t b m) e ∙ n }
+told_at : (s : TokenStart) (kind : Option TokenKind) (b : ℕ) (m : List ℕ) → start_of b ≡ s → kind_in s m ≡ kind → behind_in s b m ≡ length m → Told kind b m
+told_at s kind b m e k n = record { kind = ap (λ (t : TokenStart). kind_in t m) e ∙ k; all = ap (λ (t : TokenStart). behind_in t b m) e ∙ n }
 
 abbrev pub ToldAll : Option TokenKind → List ℕ → Type 0
 ToldAll kind [] = ⊥
@@ -127,7 +127,7 @@ quoted_grows m r =
       | inr y ↦ rw y (omega arith)
     ]
 
-pub behind_grows : (s : Start) (b : ℕ) (m r : List ℕ) → behind_in s b m ≤ behind_in s b (m ++ r)
+pub behind_grows : (s : TokenStart) (b : ℕ) (m r : List ℕ) → behind_in s b m ≤ behind_in s b (m ++ r)
 behind_grows Blank b m r = omega arith
 behind_grows Word b m r = run_grows is_ordinary m r
 behind_grows Sign b m r = special_grows b m r
@@ -136,7 +136,7 @@ behind_grows Percent b m r = comment_grows m r
 behind_grows (Single kind) b m r = omega arith
 
 -- what is computed is of its kind
-pub record Extent (s : Start) (b : ℕ) (bs : List ℕ) : Type 0 where
+pub record Extent (s : TokenStart) (b : ℕ) (bs : List ℕ) : Type 0 where
   pub within : behind_in s b bs ≤ length bs
   pub fits : can_be (kind_in s bs) (b ∷ take (behind_in s b bs) bs) ≡ true
 
@@ -202,7 +202,7 @@ single_fits Quoted b h = absurd (grind arith)
 single_fits Special b h = grind (arith, nat_tests)
 single_fits Unreadable b h = grind (arith, nat_tests)
 
-pub extent : (s : Start) (b : ℕ) (bs : List ℕ) → start_of b ≡ s → Extent s b bs
+pub extent : (s : TokenStart) (b : ℕ) (bs : List ℕ) → start_of b ≡ s → Extent s b bs
 extent Blank b bs h = record { within = omega arith; fits = or_left _ _ (start_blank b h) }
 extent Word b bs h = record { within = prefix_len-le-length is_ordinary bs; fits = and_from (is_ordinary b) _ (start_ordinary b h) (run_passes is_ordinary bs) }
 extent Sign b bs h = special_extent b bs (start_special b h)

@@ -6,14 +6,14 @@ use Rattle.ladr_lex.specs.Comments.{begins_with, up_to, contains, is_in_line}
 use Rattle.ladr_lex.specs.Cuts.{Piece, pieces_of}
 use Rattle.ladr_lex.specs.declared.bytes.Class.{Class}
 use Rattle.ladr_lex.specs.declared.bytes.Class.TheVariants as class
-use Rattle.ladr_lex.specs.declared.bytes.Start.{Start}
-use Rattle.ladr_lex.specs.declared.bytes.Start.TheVariants.{Blank, Word, Sign, Quote, Percent, Single}
+use Rattle.ladr_lex.specs.declared.bytes.TokenStart.{TokenStart}
+use Rattle.ladr_lex.specs.declared.bytes.TokenStart.TheVariants.{Blank, Word, Sign, Quote, Percent, Single}
 use Rattle.ladr_lex.specs.declared.token.Token.{Token}
 use Rattle.ladr_lex.specs.declared.token.TokenKind.{TokenKind}
 use Rattle.ladr_lex.specs.declared.token.TokenKind.TheVariants.{Open, Close, LeftSquare, RightSquare, Comma, Stop, Ordinary, Quoted, Special, Unreadable}
 
 -- what begins with a byte
-unfoldable pub start_of : ℕ → Start
+unfoldable pub start_of : ℕ → TokenStart
 start_of b =
     if is_blank b then Blank
     else (if is_ordinary b then Word
@@ -47,7 +47,7 @@ abbrev pub is_ended : List ℕ → Bool
 is_ended bs = contains (codes "%END") bs
 
 -- the kind of what begins with a byte and those behind it: of a token, or none, of white space and comments
-abbrev pub kind_in : Start → List ℕ → Option TokenKind
+abbrev pub kind_in : TokenStart → List ℕ → Option TokenKind
 kind_in Blank bs = None
 kind_in Word bs = Some Ordinary
 kind_in Sign bs = Some Special
@@ -78,7 +78,7 @@ abbrev pub comment_behind : List ℕ → ℕ
 comment_behind bs = if is_block bs then unwrap_or (up_to (codes "%END") bs) (length bs) else prefix_len is_in_line bs
 
 -- how many of the bytes behind the first belong to it
-abbrev pub behind_in : Start → ℕ → List ℕ → ℕ
+abbrev pub behind_in : TokenStart → ℕ → List ℕ → ℕ
 behind_in Blank b bs = 0
 behind_in Word b bs = prefix_len is_ordinary bs
 behind_in Sign b bs = special_behind b bs

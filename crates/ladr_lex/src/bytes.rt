@@ -7,7 +7,7 @@ use crate::token::TokenKind;
 
 /// What begins with a byte: white space, an ordinary symbol, a special one, a quoted one, a comment, or a token of one byte.
 #[derive(Clone, Copy)]
-pub enum Start {
+pub enum TokenStart {
     Blank,
     Word,
     Sign,
@@ -84,28 +84,28 @@ fn is_blank(byte: u8) -> bool
 
 /// What begins with a byte.
 #[tactic(auto, unfolding(crate::specs::Lexed::start_of))]
-pub fn start_of(byte: u8) -> Start
+pub fn start_of(byte: u8) -> TokenStart
     ensures { result ≡ start_of byte }
 {
     if is_blank(byte) {
-        return Start::Blank;
+        return TokenStart::Blank;
     }
     if is_ordinary(byte) {
-        return Start::Word;
+        return TokenStart::Word;
     }
     if is_special(byte) {
-        return Start::Sign;
+        return TokenStart::Sign;
     }
     match byte {
-        b'"' => Start::Quote,
-        b'%' => Start::Percent,
-        b'\'' => Start::Single(TokenKind::Special),
-        b'(' => Start::Single(TokenKind::Open),
-        b')' => Start::Single(TokenKind::Close),
-        b'[' => Start::Single(TokenKind::LeftSquare),
-        b']' => Start::Single(TokenKind::RightSquare),
-        b',' => Start::Single(TokenKind::Comma),
-        b'.' => Start::Single(TokenKind::Stop),
-        _ => Start::Single(TokenKind::Unreadable),
+        b'"' => TokenStart::Quote,
+        b'%' => TokenStart::Percent,
+        b'\'' => TokenStart::Single(TokenKind::Special),
+        b'(' => TokenStart::Single(TokenKind::Open),
+        b')' => TokenStart::Single(TokenKind::Close),
+        b'[' => TokenStart::Single(TokenKind::LeftSquare),
+        b']' => TokenStart::Single(TokenKind::RightSquare),
+        b',' => TokenStart::Single(TokenKind::Comma),
+        b'.' => TokenStart::Single(TokenKind::Stop),
+        _ => TokenStart::Single(TokenKind::Unreadable),
     }
 }

@@ -17,6 +17,6 @@ pub use limits::{MOST_ARGUMENTS, MOST_BYTES, MOST_ELEMENT, MOST_LEVELS, MOST_SYM
 pub use misuse::Misuse;
 pub use numeral::{is_numeral, number, value, whole_number};
 pub use operators::{DeclareError, Operator, OperatorKind, Ops};
-pub use places::{Place, place_of};
+pub use places::{Position, place_of};
 pub use scan::{Lex, tokens, tokens_from};
 pub use token::{Token, TokenKind};

@@ -4,14 +4,14 @@ ghost use Rattle.ladr_lex.specs.Places.{line_of, column_of};
 
 /// A place of a text: the byte from 0, its line and its column in bytes from 1.
 #[derive(Clone, Copy, Debug, PartialEq, Eq)]
-pub struct Place {
+pub struct Position {
     pub byte: u64,
     pub line: u64,
     pub column: u64,
 }
 
 /// The place of a byte, or of the end of the text.
-pub fn place_of(bytes: &[u8], byte: usize) -> Place
+pub fn place_of(bytes: &[u8], byte: usize) -> Position
     requires { byte ≤ length bytes.now }
     ensures byte { result.byte ≡ byte }
     ensures line { result.line ≡ line_of bytes.now byte }
@@ -27,7 +27,7 @@ pub fn place_of(bytes: &[u8], byte: usize) -> Place
             column += 1;
         }
     }
-    Place {
+    Position {
         byte: byte as u64,
         line,
         column,

@@ -4,9 +4,9 @@ ghost use Rattle.std.specs.List.{prefix_len};
 ghost use Rattle.ladr_lex.specs.Comments.{begins_with, up_to};
 ghost use Rattle.ladr_lex.specs.Cuts.{pieces_of, is_symbol, is_quoted, Cuts};
 ghost use Rattle.ladr_lex.specs.Lexed.{kind_in, kind_at, kept, behind, special_behind, quoted_behind, comment_behind, in_class, whole_kind, Advances};
-ghost use Rattle.ladr_lex.specs.declared.bytes.Start.TheVariants.{Quote, Percent};
+ghost use Rattle.ladr_lex.specs.declared.bytes.TokenStart.TheVariants.{Quote, Percent};
 
-use crate::bytes::{Class, Start, is_special, start_of};
+use crate::bytes::{Class, TokenStart, is_special, start_of};
 use crate::limits::MOST_BYTES;
 use crate::token::{Token, TokenKind};
 use std::alloc::{AllocError, Global};
@@ -167,15 +167,15 @@ fn piece_at(bytes: &[u8], at: usize) -> (Option<TokenKind>, usize)
     ensures within { result.1 ≤ length bytes.now }
 {
     match start_of(bytes[at]) {
-        Start::Blank => (None, at + 1),
-        Start::Word => (
+        TokenStart::Blank => (None, at + 1),
+        TokenStart::Word => (
             Some(TokenKind::Ordinary),
             run_end(bytes, at + 1, Class::Ordinary),
         ),
-        Start::Sign => (Some(TokenKind::Special), special_end(bytes, at)),
-        Start::Quote => quoted_at(bytes, at),
-        Start::Percent => comment_at(bytes, at),
-        Start::Single(kind) => (Some(kind), at + 1),
+        TokenStart::Sign => (Some(TokenKind::Special), special_end(bytes, at)),
+        TokenStart::Quote => quoted_at(bytes, at),
+        TokenStart::Percent => comment_at(bytes, at),
+        TokenStart::Single(kind) => (Some(kind), at + 1),
     }
 }
 

@@ -5,10 +5,10 @@ use Rattle.std.specs.Fmt.{decimal}
 use Rattle.std.proofs.lemmas.List.{append-nil}
 use Rattle.fol_core.specs.declared.symbols.Kind.{Kind}
 use Rattle.fol_core.specs.declared.symbols.Kind.TheVariants.{Function, Relation}
-use Rattle.ladr_commands.specs.ByName.{Table, table, by_name}
+use Rattle.ladr_commands.specs.ByName.{NamedTable, table, by_name}
 use Rattle.ladr_commands.specs.Commands.{entry_list, tester_commands, interpretation_item}
 use Rattle.ladr_commands.specs.Form as form
-use Rattle.ladr_commands.specs.Form.{Form, token, values, places, entries, entry, outcome, reads, Says}
+use Rattle.ladr_commands.specs.Form.{Form, token, values, places, entries, entry, outcome, reads, SaysCommand}
 use Rattle.ladr_commands.specs.declared.command.Command.TheVariants.{Interpretation}
 use Rattle.ladr_commands.specs.declared.wanted.Wanted.TheVariants.{CommaOrClose, CommaOrCloseSquare}
 use Rattle.ladr_lex.specs.Lexeme.{Sort, ordinary, special, Lexeme, open_paren, close_paren, open_square, close_square, comma, symbol}
@@ -43,11 +43,11 @@ more_places zero m onward us = let e : m ≡ m + 0 = omega arith in ap (λ (k : 
 more_places (suc n) m onward us = let e : m + 1 + n ≡ m + suc n = omega arith in more_places n (m + 1) onward us ∙ ap (λ (k : ℕ). outcome (onward k) us) e
 
 -- an entry
-listed_said : (n : ℕ) (es : List Table) (kind : Kind) (name : List ℕ) (arity : ℕ) (xs : List ℕ) (us : List Lexeme) → 0 < length xs → AllBelow 1000000000 xs
+listed_said : (n : ℕ) (es : List NamedTable) (kind : Kind) (name : List ℕ) (arity : ℕ) (xs : List ℕ) (us : List Lexeme) → 0 < length xs → AllBelow 1000000000 xs
     → outcome (form.listed n es kind name arity) (open_square ∷ value_tokens xs (close_paren ∷ us)) ≡ outcome (token CommaOrCloseSquare (form.behind_entry n (es ++ table kind name arity xs ∷ []))) us
 listed_said n es kind name arity xs us s l = values_said xs _ (close_paren ∷ us) s l
 
-name_said : (n : ℕ) (es : List Table) (kind : Kind) (sort : Sort) (name : List ℕ) (arity : ℕ) (xs : List ℕ) (us : List Lexeme) → 0 < length xs → AllBelow 1000000000 xs
+name_said : (n : ℕ) (es : List NamedTable) (kind : Kind) (sort : Sort) (name : List ℕ) (arity : ℕ) (xs : List ℕ) (us : List Lexeme) → 0 < length xs → AllBelow 1000000000 xs
     → outcome (entry n es kind) (open_paren ∷ symbol sort name ∷ place_tokens arity (comma ∷ open_square ∷ value_tokens xs (close_paren ∷ us)))
     ≡ outcome (token CommaOrCloseSquare (form.behind_entry n (es ++ table kind name arity xs ∷ []))) us
 name_said n es kind sort name zero xs us s l = listed_said n es kind name 0 xs us s l
@@ -56,7 +56,7 @@ name_said n es kind sort name (suc m) xs us s l =
     more_places m (0 + 1) _ (comma ∷ open_square ∷ value_tokens xs (close_paren ∷ us)) ∙ listed_said n es kind name (0 + 1 + m) xs us s l
     ∙ ap (λ (arity : ℕ). outcome (token CommaOrCloseSquare (form.behind_entry n (es ++ table kind name arity xs ∷ []))) us) e
 
-entry_said : (n : ℕ) (es : List Table) (e : Table) (us : List Lexeme) → IsPlain e → outcome (entries n es) (entry_tokens e us) ≡ outcome (token CommaOrCloseSquare (form.behind_entry n (es ++ e ∷ []))) us
+entry_said : (n : ℕ) (es : List NamedTable) (e : NamedTable) (us : List Lexeme) → IsPlain e → outcome (entries n es) (entry_tokens e us) ≡ outcome (token CommaOrCloseSquare (form.behind_entry n (es ++ e ∷ []))) us
 entry_said n es e us p = by e.head.kind e.head.name e.head.arity e.values p.some p.small
   where
     by : (kind : Kind) (name : List ℕ) (arity : ℕ) (xs : List ℕ) → 0 < length xs → AllBelow 1000000000 xs
@@ -65,14 +65,14 @@ entry_said n es e us p = by e.head.kind e.head.name e.head.arity e.values p.some
     by Relation name arity xs s l = name_said n es Relation (sort_of name) name arity xs us s l
 
 -- the entries
-more_entries : (ts : List Table) (n : ℕ) (es : List Table) → ArePlain ts
+more_entries : (ts : List NamedTable) (n : ℕ) (es : List NamedTable) → ArePlain ts
     → outcome (token CommaOrCloseSquare (form.behind_entry n es)) (behind_entry ts end_tokens) ≡ reads (Interpretation (by_name n (es ++ ts)))
-more_entries [] n es p = ap (λ (us : List Table). reads (Interpretation (by_name n us))) (sym (append-nil es))
+more_entries [] n es p = ap (λ (us : List NamedTable). reads (Interpretation (by_name n us))) (sym (append-nil es))
 more_entries (t ∷ ts) n es p =
-    entry_said n es t (behind_entry ts end_tokens) p.0 ∙ more_entries ts n (es ++ t ∷ []) p.1 ∙ ap (λ (us : List Table). reads (Interpretation (by_name n us))) (append_assoc es (t ∷ []) ts)
+    entry_said n es t (behind_entry ts end_tokens) p.0 ∙ more_entries ts n (es ++ t ∷ []) p.1 ∙ ap (λ (us : List NamedTable). reads (Interpretation (by_name n us))) (append_assoc es (t ∷ []) ts)
 
 -- the entries behind `[`
-list_said : (n : ℕ) (ts : List Table) → ArePlain ts → outcome (entry_list n) (open_square ∷ list_tokens ts end_tokens) ≡ reads (Interpretation (by_name n ts))
+list_said : (n : ℕ) (ts : List NamedTable) → ArePlain ts → outcome (entry_list n) (open_square ∷ list_tokens ts end_tokens) ≡ reads (Interpretation (by_name n ts))
 list_said n [] p = refl
 list_said n (t ∷ ts) p = first t.head.kind t.head.name t.head.arity t.values p.0.some p.0.small ∙ more_entries ts n (t ∷ []) p.1
   where
@@ -89,10 +89,10 @@ texts_said : (size made : List ℕ) (n : ℕ) (us : List Lexeme) → is_numeral 
     ≡ outcome (entry_list n) us
 texts_said size made n us h k e = rw h (rw k (ap (λ (m : ℕ). outcome (entry_list m) us) e))
 
-pub all_said : (n k : ℕ) (ts : List Table) → n < 1000000000 → k < 2 ^ 64 → ArePlain ts → Says interpretation_item (all_tokens n k ts) (Interpretation (by_name n ts))
+pub all_said : (n k : ℕ) (ts : List NamedTable) → n < 1000000000 → k < 2 ^ 64 → ArePlain ts → SaysCommand interpretation_item (all_tokens n k ts) (Interpretation (by_name n ts))
 all_said n k ts l m p =
     texts_said (decimal n) (decimal k) n (open_square ∷ list_tokens ts end_tokens) (numeral_decimal n (omega (arith, l))) (numeral_decimal k m) (number_decimal n (omega (arith, l))) ∙ list_said n ts p
 
 -- the tester reads it alike
-pub tester_said : (n k : ℕ) (ts : List Table) → outcome tester_commands (all_tokens n k ts) ≡ outcome interpretation_item (all_tokens n k ts)
+pub tester_said : (n k : ℕ) (ts : List NamedTable) → outcome tester_commands (all_tokens n k ts) ≡ outcome interpretation_item (all_tokens n k ts)
 tester_said n k ts = refl

@@ -7,16 +7,15 @@ use Rattle.std.specs.Str.{bytes_eq}
 use Rattle.std.proofs.lemmas.Bool.{cases_Bool, and_parts, and_from, not_from_false, both_ways, eqb-true}
 use Rattle.std.proofs.lemmas.Bool.Decides.{nat_tests}
 use Rattle.std.proofs.lemmas.Slice.Eq.{bytes_eq-Decides}
-use Rattle.fol_core.specs.Fol.{Fol}
-use Rattle.fol_core.specs.Occurs.{occurs_in}
 use Rattle.fol_core.specs.SymbolTable.{Symbol, symbol, is_called, is_same_kind, first_place, number_of, FindsEach}
 use Rattle.fol_core.specs.declared.symbols.Kind.{Kind}
 use Rattle.fol_core.specs.declared.symbols.Kind.TheVariants.{Function, Relation}
-use Rattle.ladr_commands.specs.ByName.{Table, table}
+use Rattle.ladr_commands.specs.ByName.{NamedTable, table}
 use Rattle.ladr_models.proofs.Entries.{named, ArePlain}
-use Rattle.ladr_models.specs.ReadsBack.{is_name, are_named}
+use Rattle.ladr_models.specs.ReadsBack.{AreRows}
+use Rattle.ladr_problem.specs.Names.{is_name, are_named}
 use Rattle.ladr_interpretations.specs.Good.{is_filled, are_new, heads_of, values_for, listing_for}
-use Rattle.model_tables.specs.Size.{AllBelow, AreListings, IsListing, bound_of, cells_for}
+use Rattle.model_tables.specs.Size.{AllBelow, IsListing, bound_of, cells_for}
 use Rattle.model_tables.specs.Tables.{Listing, listing}
 
 -- symbols of which none has this one's name and arity; and each differs from those behind it
@@ -62,7 +61,7 @@ own_called : (s : Symbol) → is_called s.name s.arity s ≡ true
 own_called s = and_from _ _ ((bytes_eq-Decides s.name s.name).1 refl) (grind (arith, nat_tests))
 
 -- a symbol that has no entry
-skipped : (b : Bool) (s u : Symbol) (l : Listing) (es : List Table) → is_called s.name s.arity u ≡ false → values_for es s ≡ []
+skipped : (b : Bool) (s u : Symbol) (l : Listing) (es : List NamedTable) → is_called s.name s.arity u ≡ false → values_for es s ≡ []
     → values_for (if b then es else table l.kind u.name u.arity l.values ∷ es) s ≡ []
 skipped true s u l es n h = h
 skipped false s u l es n h = rw n h
@@ -75,7 +74,7 @@ no_values s (u ∷ us) (l ∷ ls) d =
     skipped (length l.values == 0) s u l (named us ls) (turned s u parts.0) (no_values s us ls parts.1)
 
 -- other symbols have the values that they have without an entry
-same_without : (s : Symbol) (l : Listing) (es : List Table) (us : List Symbol) → differ s us ≡ true
+same_without : (s : Symbol) (l : Listing) (es : List NamedTable) (us : List Symbol) → differ s us ≡ true
     → map (listing_for (table l.kind s.name s.arity l.values ∷ es)) us ≡ map (listing_for es) us
 same_without s l es [] d = refl
 same_without s l es (u ∷ us) d =
@@ -92,7 +91,7 @@ same_kind Function = refl
 same_kind Relation = refl
 
 -- the rows come back
-one_row : (b : Bool) (s : Symbol) (l : Listing) (es : List Table) (us : List Symbol) (ls : List Listing) → (length l.values == 0) ≡ b → l.kind ≡ s.kind
+one_row : (b : Bool) (s : Symbol) (l : Listing) (es : List NamedTable) (us : List Symbol) (ls : List Listing) → (length l.values == 0) ≡ b → l.kind ≡ s.kind
     → values_for es s ≡ [] → differ s us ≡ true → map (listing_for es) us ≡ ls
     → map (listing_for (if b then es else table l.kind s.name s.arity l.values ∷ es)) (s ∷ us) ≡ l ∷ ls
 one_row true s l es us ls z k none d h =
@@ -103,13 +102,13 @@ one_row false s l es us ls z k none d h =
     let kind : is_same_kind l.kind s.kind ≡ true = rw k (same_kind s.kind) in
     ap₂ (λ (x : Listing) (xs : List Listing). x ∷ xs) (ap₂ listing (sym k) (rw (own, kind) refl)) (same_without s l es us d ∙ h)
 
-pub rows_back : (n : ℕ) (fs : List Fol) (k : ℕ) (ss : List Symbol) (ls : List Listing) → AreListings n fs k ss ls → all_differ ss ≡ true → map (listing_for (named ss ls)) ss ≡ ls
-rows_back n fs k [] [] a d = refl
-rows_back n fs k [] (l ∷ ls) a d = absurd a
-rows_back n fs k (s ∷ ss) [] a d = absurd a
-rows_back n fs k (s ∷ ss) (l ∷ ls) a d =
+pub rows_back : (n : ℕ) (ss : List Symbol) (ls : List Listing) → AreRows n ss ls → all_differ ss ≡ true → map (listing_for (named ss ls)) ss ≡ ls
+rows_back n [] [] a d = refl
+rows_back n [] (l ∷ ls) a d = absurd a
+rows_back n (s ∷ ss) [] a d = absurd a
+rows_back n (s ∷ ss) (l ∷ ls) a d =
     let parts = and_parts (differ s ss) (all_differ ss) d in
-    one_row (length l.values == 0) s l (named ss ls) ss ls refl a.0.0 (no_values s ss ls parts.0) parts.0 (rows_back n fs (suc k) ss ls a.1 parts.1)
+    one_row (length l.values == 0) s l (named ss ls) ss ls refl a.0.1.0 (no_values s ss ls parts.0) parts.0 (rows_back n ss ls a.1 parts.1)
 
 -- no symbol has two entries
 not_found : (test : Symbol → Bool) (xs : List Symbol) (x : Symbol) → is_some (first_place test xs) ≡ false → test x ≡ false → is_some (first_place test (xs ++ x ∷ [])) ≡ false
@@ -133,7 +132,7 @@ still_new before s kind (u ∷ us) h d =
     let others = and_parts (not (is_called u.name u.arity s)) (differ s us) d in
     and_from _ _ (not_from_false _ (not_found (is_called u.name u.arity) before (symbol s.name s.arity kind) (from_not _ parts.0) (from_not _ others.0))) (still_new before s kind us parts.1 others.1)
 
-one_new : (b : Bool) (before : List Symbol) (s : Symbol) (l : Listing) (es : List Table) → not (is_some (number_of before s.name s.arity)) ≡ true
+one_new : (b : Bool) (before : List Symbol) (s : Symbol) (l : Listing) (es : List NamedTable) → not (is_some (number_of before s.name s.arity)) ≡ true
     → are_new before (heads_of es) ≡ true → are_new (before ++ symbol s.name s.arity l.kind ∷ []) (heads_of es) ≡ true
     → are_new before (heads_of (if b then es else table l.kind s.name s.arity l.values ∷ es)) ≡ true
 one_new true before s l es n h i = h
@@ -164,7 +163,7 @@ full : (n arity : ℕ) (used : Bool) (len : ℕ) → len ≡ cells_for n arity u
 full n arity true len e z = e
 full n arity false len e z = absurd (grind (arith, nat_tests))
 
-one_filled : (b : Bool) (n : ℕ) (s : Symbol) (used : Bool) (l : Listing) (es : List Table) → (length l.values == 0) ≡ b → IsListing n s used l → list_all (is_filled n) es ≡ true
+one_filled : (b : Bool) (n : ℕ) (s : Symbol) (used : Bool) (l : Listing) (es : List NamedTable) → (length l.values == 0) ≡ b → IsListing n s used l → list_all (is_filled n) es ≡ true
     → list_all (is_filled n) (if b then es else table l.kind s.name s.arity l.values ∷ es) ≡ true
 one_filled true n s used l es z i h = h
 one_filled false n s used l es z i h =
@@ -172,10 +171,10 @@ one_filled false n s used l es z i h =
     let under : AllBelow (bound_of n l.kind) l.values = rw i.0 i.2 in
     and_from _ _ (and_from _ _ (grind (arith, nat_tests)) (below (bound_of n l.kind) l.values under)) h
 
-pub all_filled : (n : ℕ) (fs : List Fol) (k : ℕ) (ss : List Symbol) (ls : List Listing) → AreListings n fs k ss ls → list_all (is_filled n) (named ss ls) ≡ true
-all_filled n fs k [] ls a = refl
-all_filled n fs k (s ∷ ss) [] a = refl
-all_filled n fs k (s ∷ ss) (l ∷ ls) a = one_filled (length l.values == 0) n s (occurs_in k fs) l (named ss ls) refl a.0 (all_filled n fs (suc k) ss ls a.1)
+pub all_filled : (n : ℕ) (ss : List Symbol) (ls : List Listing) → AreRows n ss ls → list_all (is_filled n) (named ss ls) ≡ true
+all_filled n [] ls a = refl
+all_filled n (s ∷ ss) [] a = refl
+all_filled n (s ∷ ss) (l ∷ ls) a = one_filled (length l.values == 0) n s a.0.0 l (named ss ls) refl a.0.1 (all_filled n ss ls a.1)
 
 -- and can be printed
 small_bound : (n : ℕ) (kind : Kind) → n ≤ 200 → bound_of n kind ≤ 1000000000
@@ -186,15 +185,15 @@ all_small : (b : ℕ) (xs : List ℕ) → b ≤ 1000000000 → AllBelow b xs →
 all_small b [] l h = tt
 all_small b (x ∷ xs) l h = (omega (arith, h.0, l), all_small b xs l h.1)
 
-one_plain : (b : Bool) (n : ℕ) (s : Symbol) (used : Bool) (l : Listing) (es : List Table) → n ≤ 200 → (length l.values == 0) ≡ b → IsListing n s used l → is_name s.name ≡ true → ArePlain es
+one_plain : (b : Bool) (n : ℕ) (s : Symbol) (used : Bool) (l : Listing) (es : List NamedTable) → n ≤ 200 → (length l.values == 0) ≡ b → IsListing n s used l → is_name s.name ≡ true → ArePlain es
     → ArePlain (if b then es else table l.kind s.name s.arity l.values ∷ es)
 one_plain true n s used l es m z i w h = h
 one_plain false n s used l es m z i w h =
     (record { name = w; some = grind (arith, nat_tests); small = all_small (bound_of n s.kind) l.values (small_bound n s.kind m) i.2 }, h)
 
-pub all_plain : (n : ℕ) (fs : List Fol) (k : ℕ) (ss : List Symbol) (ls : List Listing) → n ≤ 200 → AreListings n fs k ss ls → are_named ss ≡ true → ArePlain (named ss ls)
-all_plain n fs k [] ls m a w = tt
-all_plain n fs k (s ∷ ss) [] m a w = tt
-all_plain n fs k (s ∷ ss) (l ∷ ls) m a w =
+pub all_plain : (n : ℕ) (ss : List Symbol) (ls : List Listing) → n ≤ 200 → AreRows n ss ls → are_named ss ≡ true → ArePlain (named ss ls)
+all_plain n [] ls m a w = tt
+all_plain n (s ∷ ss) [] m a w = tt
+all_plain n (s ∷ ss) (l ∷ ls) m a w =
     let parts = and_parts (is_name s.name) (are_named ss) w in
-    one_plain (length l.values == 0) n s (occurs_in k fs) l (named ss ls) m refl a.0 parts.0 (all_plain n fs (suc k) ss ls m a.1 parts.1)
+    one_plain (length l.values == 0) n s a.0.0 l (named ss ls) m refl a.0.1 parts.0 (all_plain n ss ls m a.1 parts.1)

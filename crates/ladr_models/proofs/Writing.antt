@@ -4,7 +4,7 @@ use Rattle.std.specs.Prelude.{codes, ◌||◌, if◌then◌else◌}
 use Rattle.std.specs.Fmt.{decimal}
 use Rattle.fol_core.specs.declared.symbols.Kind.{Kind}
 use Rattle.fol_core.specs.declared.symbols.Kind.TheVariants.{Function, Relation}
-use Rattle.ladr_commands.specs.ByName.{Table}
+use Rattle.ladr_commands.specs.ByName.{NamedTable}
 use Rattle.ladr_lex.specs.Bytes.{is_blank, is_ordinary, is_special}
 use Rattle.ladr_lex.specs.Cuts.{can_be, is_quoted, IsLongest, gap, token}
 use Rattle.ladr_lex.specs.Lexed.{start_of}
@@ -13,7 +13,7 @@ use Rattle.ladr_lex.specs.declared.token.TokenKind.{TokenKind}
 use Rattle.ladr_lex.specs.declared.token.TokenKind.TheVariants.{LeftSquare, RightSquare, Ordinary, Special}
 use Rattle.ladr_lex.proofs.Numerals.{ordinary_decimal}
 use Rattle.ladr_models.proofs.Entries.{table_text, IsPlain, ArePlain}
-use Rattle.ladr_models.specs.ReadsBack.{is_name}
+use Rattle.ladr_problem.specs.Names.{is_name}
 use Rattle.ladr_print.specs.Spacing.{runs_into}
 use Rattle.ladr_print.proofs.Longest.{longest_front}
 use Rattle.ladr_print.proofs.Writes.{Has, has_none, Alone, before_alone, behind_alone, open_alone, close_alone, comma_alone, stop_alone, space_alone, open_written, close_written, comma_written, stop_written, symbol_written, kind_of}
@@ -46,23 +46,23 @@ place_tokens (suc n) us = open_paren ∷ place ∷ behind_place n us
 abbrev pub sort_of : List ℕ → Sort
 sort_of name = if can_be (Some Ordinary) name then ordinary else (if can_be (Some Special) name then special else quoted)
 
-abbrev pub entry_tokens : Table → List Lexeme → List Lexeme
+abbrev pub entry_tokens : NamedTable → List Lexeme → List Lexeme
 entry_tokens e us =
     symbol ordinary (word_of e.head.kind) ∷ open_paren ∷ symbol (sort_of e.head.name) e.head.name
     ∷ place_tokens e.head.arity (comma ∷ open_square ∷ value_tokens e.values (close_paren ∷ us))
 
-abbrev pub behind_entry : List Table → List Lexeme → List Lexeme
+abbrev pub behind_entry : List NamedTable → List Lexeme → List Lexeme
 behind_entry [] us = us
 behind_entry (e ∷ es) us = comma ∷ entry_tokens e (behind_entry es us)
 
-abbrev pub list_tokens : List Table → List Lexeme → List Lexeme
+abbrev pub list_tokens : List NamedTable → List Lexeme → List Lexeme
 list_tokens [] us = us
 list_tokens (e ∷ es) us = entry_tokens e (behind_entry es us)
 
 abbrev pub end_tokens : List Lexeme
 end_tokens = close_square ∷ close_paren ∷ full_stop ∷ []
 
-abbrev pub all_tokens : ℕ → ℕ → List Table → List Lexeme
+abbrev pub all_tokens : ℕ → ℕ → List NamedTable → List Lexeme
 all_tokens n k es =
     symbol ordinary (codes "interpretation") ∷ open_paren ∷ number_token n ∷ comma ∷ open_square ∷ symbol ordinary (codes "number") ∷ symbol special (codes "=") ∷ number_token k ∷ comma
     ∷ symbol ordinary (codes "seconds") ∷ symbol special (codes "=") ∷ symbol ordinary (codes "0") ∷ close_square ∷ comma ∷ open_square ∷ list_tokens es end_tokens
@@ -214,7 +214,7 @@ entry_split name arity kind xs r =
     ∙ append_assoc (word_of kind ++ codes "(") name (places_text arity ++ (44 ∷ 32 ∷ 91 ∷ (numbers_text xs ++ 93 ∷ 41 ∷ r)))
     ∙ append_assoc (word_of kind) (codes "(") (name ++ (places_text arity ++ (44 ∷ 32 ∷ 91 ∷ (numbers_text xs ++ 93 ∷ 41 ∷ r))))
 
-entry_written : (e : Table) (r : List ℕ) (us : List Lexeme) → IsPlain e → Has r us → Has (table_text e ++ r) (entry_tokens e us)
+entry_written : (e : NamedTable) (r : List ℕ) (us : List Lexeme) → IsPlain e → Has r us → Has (table_text e ++ r) (entry_tokens e us)
 entry_written e r us p h =
     let ended = values e.values (41 ∷ r) (close_paren ∷ us) p.small (closed r us h) in
     let inner : Has (44 ∷ 32 ∷ 91 ∷ (numbers_text e.values ++ 93 ∷ 41 ∷ r)) (comma ∷ open_square ∷ value_tokens e.values (close_paren ∷ us)) =
@@ -227,14 +227,14 @@ entry_written e r us p h =
 indented : (r : List ℕ) (us : List Lexeme) → Has r us → Has (10 ∷ 32 ∷ 32 ∷ 32 ∷ 32 ∷ r) us
 indented r us h = lined _ _ (spaced _ _ (spaced _ _ (spaced _ _ (spaced r us h))))
 
-more_lines : (es : List Table) (r : List ℕ) (us : List Lexeme) → ArePlain es → Has r us → Has (lines_behind (map table_text es) ++ r) (behind_entry es us)
+more_lines : (es : List NamedTable) (r : List ℕ) (us : List Lexeme) → ArePlain es → Has r us → Has (lines_behind (map table_text es) ++ r) (behind_entry es us)
 more_lines [] r us p h = lined r us h
 more_lines (e ∷ es) r us p h =
     separated _ _
     (indented ((table_text e ++ lines_behind (map table_text es)) ++ r) _
     (again _ _ _ (append_assoc (table_text e) (lines_behind (map table_text es)) r) (entry_written e (lines_behind (map table_text es) ++ r) (behind_entry es us) p.0 (more_lines es r us p.1 h))))
 
-pub lines_written : (es : List Table) (r : List ℕ) (us : List Lexeme) → ArePlain es → Has r us → Has (lines_of (map table_text es) ++ r) (list_tokens es us)
+pub lines_written : (es : List NamedTable) (r : List ℕ) (us : List Lexeme) → ArePlain es → Has r us → Has (lines_of (map table_text es) ++ r) (list_tokens es us)
 lines_written [] r us p h = h
 lines_written (e ∷ es) r us p h =
     indented ((table_text e ++ lines_behind (map table_text es)) ++ r) _
@@ -281,7 +281,7 @@ start_then : (r : List ℕ) (us : List Lexeme) → Has r us → Has (codes "inte
 unfolding is_ordinary
 start_then r us h = word_then (codes "interpretation") 40 r _ refl open_alone (opened r us h)
 
-pub whole_written : (n k : ℕ) (es : List Table) → n < 2 ^ 64 → k < 2 ^ 64 → ArePlain es → Has (whole_text n k (lines_of (map table_text es))) (all_tokens n k es)
+pub whole_written : (n k : ℕ) (es : List NamedTable) → n < 2 ^ 64 → k < 2 ^ 64 → ArePlain es → Has (whole_text n k (lines_of (map table_text es))) (all_tokens n k es)
 whole_written n k es ln lk p =
     let lines = lines_of (map table_text es) in
     let behind : Has (codes ",seconds = 0], [" ++ (lines ++ codes "]).\n")) _ = seconds_then _ _ (lines_written es (codes "]).\n") end_tokens p ended) in

@@ -1,22 +1,16 @@
 -- The text of an interpretation and its tokens, worked out.
 use Rattle.std.specs.Prelude.{ℕ, List, [], ◌∷◌, codes}
-use Rattle.fol_core.specs.Fol.{equal, negation, atom}
-use Rattle.fol_core.specs.Stated.{Stated, said, stated}
-use Rattle.fol_core.specs.SymbolTable.{symbol}
-use Rattle.fol_core.specs.Tree.{app, none, more}
-use Rattle.fol_core.specs.declared.problem.Role.TheVariants.{Assumption}
+use Rattle.fol_core.specs.SymbolTable.{Symbol, symbol}
 use Rattle.fol_core.specs.declared.symbols.Kind.TheVariants.{Function, Relation}
-use Rattle.ladr_commands.specs.ByName.{Table, table}
+use Rattle.ladr_commands.specs.ByName.{NamedTable, table}
 use Rattle.ladr_lex.specs.Cuts.{Piece}
 use Rattle.ladr_lex.specs.Worked.{at}
 use Rattle.ladr_lex.specs.declared.token.TokenKind.TheVariants.{Open, Close, LeftSquare, RightSquare, Comma, Stop, Ordinary, Quoted, Special}
 use Rattle.model_tables.specs.Tables.{Finite, listing}
 
--- `-("a b") != "a b"` and `p`, with a symbol `h` that stands in neither
-abbrev pub pair : Stated
-pair =
-    stated (symbol (codes "\"a b\"") 0 Function ∷ symbol (codes "h") 2 Function ∷ symbol (codes "-") 1 Function ∷ symbol (codes "p") 0 Relation ∷ [])
-    (said Assumption (negation (equal (app 2 (more (app 0 none) none)) (app 0 none))) ∷ said Assumption (atom 3 none) ∷ [])
+-- `"a b"` and `-` with one argument, the relation `p`, and `h`, which has no entry
+abbrev pub pair : List Symbol
+pair = symbol (codes "\"a b\"") 0 Function ∷ symbol (codes "h") 2 Function ∷ symbol (codes "-") 1 Function ∷ symbol (codes "p") 0 Relation ∷ []
 
 abbrev pub pair_tables : Finite
 pair_tables = record { top = 1; rows = listing Function (1 ∷ []) ∷ listing Function [] ∷ listing Function (1 ∷ 0 ∷ []) ∷ listing Relation (1 ∷ []) ∷ [] }
@@ -40,5 +34,5 @@ pair_tokens =
     at 120 RightSquare (codes "]") ∷ at 121 Close (codes ")") ∷ at 122 Stop (codes ".") ∷ []
 
 -- the entries of the symbols that have values
-abbrev pub pair_entries : List Table
+abbrev pub pair_entries : List NamedTable
 pair_entries = table Function (codes "\"a b\"") 0 (1 ∷ []) ∷ table Function (codes "-") 1 (1 ∷ 0 ∷ []) ∷ table Relation (codes "p") 0 (1 ∷ []) ∷ []

@@ -1,9 +1,9 @@
 // Laws of the texts of interpretations: the functions do nothing, and their contracts are the laws.
 ghost use Rattle.std.specs.Prelude.{◌≡◌, ℕ, List, IsTrue};
-ghost use Rattle.fol_core.specs.Stated.{Stated};
+ghost use Rattle.fol_core.specs.SymbolTable.{Symbol};
 ghost use Rattle.ladr_commands.specs.ByName.{by_name};
 ghost use Rattle.ladr_commands.specs.Commands.{interpretation_item};
-ghost use Rattle.ladr_commands.specs.Form.{Says};
+ghost use Rattle.ladr_commands.specs.Form.{SaysCommand};
 ghost use Rattle.ladr_commands.specs.declared.command.Command.TheVariants.{Interpretation};
 ghost use Rattle.ladr_lex.specs.Cuts.{pieces_of, Cuts};
 ghost use Rattle.ladr_lex.specs.Lexeme.{lexemes_of};
@@ -15,24 +15,24 @@ ghost use Rattle.ladr_reader.specs.Worked.{lexemes_in};
 ghost use Rattle.model_tables.specs.ModelText.{model_text};
 ghost use Rattle.model_tables.specs.Tables.{Finite};
 
-/// What is printed of an interpretation reads back as its tables.
+/// What is printed of tables for any symbols reads back as these tables.
 pub fn texts_read_back()
-    ensures text { (n k : ℕ) (p : Stated) (t : Finite) → IsPrintable n k p t
-        → ReadsBack (model_text p.symbols k t) p.symbols t }
+    ensures text { (n k : ℕ) (symbols : List Symbol) (t : Finite) → IsPrintable n k symbols t
+        → ReadsBack (model_text symbols k t) symbols t }
     // So do tokens with their places, such as the code makes of the text.
-    ensures tokens { (n k : ℕ) (p : Stated) (t : Finite) (ts : List Token) → IsPrintable n k p t
-        → Cuts 0 (model_text p.symbols k t) (pieces_of ts) →
-        SayTables (lexemes_of ts) p.symbols t }
+    ensures tokens { (n k : ℕ) (symbols : List Symbol) (t : Finite) (ts : List Token)
+        → IsPrintable n k symbols t → Cuts 0 (model_text symbols k t) (pieces_of ts)
+        → SayTables (lexemes_of ts) symbols t }
 {}
 
 /// Tables of two elements for a symbol in quotes, one without an entry, `-` and a relation: their text, its tokens, what these
 /// say, and the tables that come of it.
 pub fn worked()
     ensures printable { IsPrintable 2 1 pair pair_tables }
-    ensures text { model_text pair.symbols 1 pair_tables ≡ pair_text }
+    ensures text { model_text pair 1 pair_tables ≡ pair_text }
     ensures tokens { Cuts 0 pair_text pair_tokens }
-    ensures says { Says interpretation_item (lexemes_in pair_tokens)
+    ensures says { SaysCommand interpretation_item (lexemes_in pair_tokens)
         (Interpretation (by_name 2 pair_entries)) }
     ensures good { IsTrue (is_good (by_name 2 pair_entries)) }
-    ensures tables { tables_for (by_name 2 pair_entries) pair.symbols ≡ pair_tables }
+    ensures tables { tables_for (by_name 2 pair_entries) pair ≡ pair_tables }
 {}

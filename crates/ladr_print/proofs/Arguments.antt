@@ -7,22 +7,22 @@ use Rattle.fol_core.specs.declared.raw.Raw.{Raw}
 use Rattle.ladr_lex.specs.declared.operators.Operator.{Operator}
 use Rattle.ladr_print.specs.Precedences.{is_infix, arity}
 use Rattle.ladr_print.specs.RawText.{application, with_one, with_two, arranged, printed, printed_all}
-use Rattle.ladr_reader.specs.Table.{Table}
+use Rattle.ladr_reader.specs.Table.{OperatorTable}
 
-pub one_is : (g : Table) (o : Operator) (s : List ℕ) (ts : List Raw) (d : Raw) → length ts ≡ 1 →
+pub one_is : (g : OperatorTable) (o : Operator) (s : List ℕ) (ts : List Raw) (d : Raw) → length ts ≡ 1 →
     arranged (Some o) s (printed_all g (raws_of (raw_list ts))) ≡ with_one o s (printed g (raw_of (get_or ts 0 d)))
 one_is g o s [] d h = absurd (cc)
 one_is g o s (t ∷ []) d h = refl
 one_is g o s (t ∷ u ∷ ts) d h = absurd (omega arith)
 
-pub two_are : (g : Table) (o : Operator) (s : List ℕ) (ts : List Raw) (d e : Raw) → length ts ≡ 2 →
+pub two_are : (g : OperatorTable) (o : Operator) (s : List ℕ) (ts : List Raw) (d e : Raw) → length ts ≡ 2 →
     arranged (Some o) s (printed_all g (raws_of (raw_list ts))) ≡ with_two o s (printed g (raw_of (get_or ts 0 d))) (printed g (raw_of (get_or ts 1 e)))
 two_are g o s [] d e h = absurd (cc)
 two_are g o s (t ∷ []) d e h = absurd (omega arith)
 two_are g o s (t ∷ u ∷ []) d e h = refl
 two_are g o s (t ∷ u ∷ v ∷ ts) d e h = absurd (omega arith)
 
-pub no_operands : (g : Table) (o : Operator) (s : List ℕ) (ts : List Raw) → (length ts == arity o.kind) ≡ false →
+pub no_operands : (g : OperatorTable) (o : Operator) (s : List ℕ) (ts : List Raw) → (length ts == arity o.kind) ≡ false →
     arranged (Some o) s (printed_all g (raws_of (raw_list ts))) ≡ application s (printed_all g (raws_of (raw_list ts)))
 no_operands g o s [] h = refl
 no_operands g o s (t ∷ []) h = by (is_infix o.kind) refl

@@ -23,16 +23,16 @@ use Rattle.ladr_lex.specs.Lexeme.{ordinary}
 use Rattle.ladr_lex.specs.Operators.{OperatorRow, operator_of, are_lawful, if_prefix}
 use Rattle.ladr_lex.specs.declared.operators.OperatorKind.TheVariants.{Infix}
 use Rattle.fol_core.specs.declared.raw.Quantifier.TheVariants.{All, Exists}
-use Rattle.ladr_reader.specs.Formulas.{Variable, Reading, Made, term_of, named_variable, sentence_as, is_denial, connective_of, by_connective, comparison, formula_in, formula_reading, unread, names_of, IsReadAs}
-use Rattle.ladr_reader.specs.declared.connectives.Connective.{Connective}
-use Rattle.ladr_reader.specs.declared.connectives.Connective.TheVariants.{And, Or, IfThen, ThenIf, IfAndOnlyIf}
-use Rattle.ladr_reader.specs.Table.{Table, table_of}
-use Rattle.ladr_reader.specs.declared.styles.Style.{Style}
+use Rattle.ladr_formulas.specs.Formulas.{Variable, Reading, Made, term_of, named_variable, sentence_as, is_denial, connective_of, by_connective, comparison, formula_in, formula_reading, unread, names_of, IsReadAs}
+use Rattle.ladr_formulas.specs.declared.connectives.Connective.{Connective}
+use Rattle.ladr_formulas.specs.declared.connectives.Connective.TheVariants.{And, Or, IfThen, ThenIf, IfAndOnlyIf}
+use Rattle.ladr_reader.specs.Table.{OperatorTable, table_of}
+use Rattle.ladr_formulas.specs.declared.styles.Style.{Style}
 use Rattle.ladr_print.specs.ClauseText.{literal_raw, clause_raw, clause_bytes}
 use Rattle.ladr_print.specs.FormulaText.{two, denial, formula_raw}
 use Rattle.ladr_print.specs.Precedences.{count}
 use Rattle.ladr_print.specs.StatesAs.{KeepsFixed}
-use Rattle.ladr_reader.proofs.Behind.{read_behind, term_into}
+use Rattle.ladr_formulas.proofs.Behind.{read_behind, term_into}
 use Rattle.ladr_print.specs.ReadsAgain.{IsAmong, behind, IsClean, ReadsClause, ReadsTerm}
 use Rattle.ladr_print.specs.ReadsAs.{ReadsAs}
 use Rattle.ladr_print.specs.StatesClause.{literals_in, clause_in, StatesClause, FreesVariables}
@@ -97,7 +97,7 @@ all_ordinary [] h = refl
 all_ordinary (d ∷ ds) h = let parts = and_parts (is_ascii_digit d) (list_all is_ascii_digit ds) h in and_from _ _ (digit_ordinary d parts.0) (all_ordinary ds parts.1)
 
 module _ (rows : List OperatorRow) (k : KeepsFixed rows) (prolog : Bool) (frees : FreesVariables prolog rows) where
-  abbrev g : Table
+  abbrev g : OperatorTable
   g = table_of rows
 
   variable_named : (n : ℕ) → n < 2 ^ 64 → Named g (clause_variable prolog n) 0

@@ -9,10 +9,10 @@ use Rattle.ladr_print.specs.FormulaText.{two}
 use Rattle.ladr_print.specs.RawText.{left_argument, right_argument, text_of, printed}
 use Rattle.ladr_print.specs.StatesAs.{KeepsFixed}
 use Rattle.ladr_print.specs.TermText.{Naming}
-use Rattle.ladr_reader.specs.Table.{Table, table_of}
+use Rattle.ladr_reader.specs.Table.{OperatorTable, table_of}
 
 module _ (rows : List OperatorRow) (k : KeepsFixed rows) (table : List Symbol) (v : Naming) where
-  abbrev g : Table
+  abbrev g : OperatorTable
   g = table_of rows
 
   is_bar : operator_of rows (codes "|") ≡ Some bar

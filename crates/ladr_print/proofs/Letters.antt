@@ -9,9 +9,9 @@ use Rattle.std.proofs.lemmas.Bool.Decides.{nat_tests}
 use Rattle.std.proofs.lemmas.Fmt.{decimal_is_IsNumeral, decimal_nonempty}
 use Rattle.std.proofs.lemmas.List.{length-append}
 use Rattle.std.proofs.lemmas.Slice.Eq.{bytes_eq-Decides}
-use Rattle.ladr_reader.specs.Formulas.{Variable, free_number, is_free_name}
-use Rattle.ladr_reader.specs.declared.styles.Style.{Style}
-use Rattle.ladr_reader.proofs.NumberingLemmas.{free_number_free}
+use Rattle.ladr_formulas.specs.Formulas.{Variable, free_number, is_free_name}
+use Rattle.ladr_formulas.specs.declared.styles.Style.{Style}
+use Rattle.ladr_formulas.proofs.NumberingLemmas.{free_number_free}
 use Rattle.ladr_print.specs.TermText.{letters, clause_variable}
 
 -- the number of a name

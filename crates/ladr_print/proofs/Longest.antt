@@ -11,8 +11,8 @@ use Rattle.std.proofs.lemmas.Slice.Eq.{bytes_eq-Decides}
 use Rattle.ladr_lex.specs.Bytes.{is_blank, is_ordinary, is_special, is_dash}
 use Rattle.ladr_lex.specs.Cuts.{can_be, is_run, is_quoted, is_special_run, IsLongest}
 use Rattle.ladr_lex.specs.Lexed.{start_of, kind_at, kind_in, behind, behind_in, kept, special_behind}
-use Rattle.ladr_lex.specs.declared.bytes.Start.{Start}
-use Rattle.ladr_lex.specs.declared.bytes.Start.TheVariants.{Word, Sign, Quote}
+use Rattle.ladr_lex.specs.declared.bytes.TokenStart.{TokenStart}
+use Rattle.ladr_lex.specs.declared.bytes.TokenStart.TheVariants.{Word, Sign, Quote}
 use Rattle.ladr_lex.specs.declared.token.TokenKind.{TokenKind}
 use Rattle.ladr_lex.specs.declared.token.TokenKind.TheVariants.{Ordinary, Quoted, Special}
 use Rattle.ladr_lex.proofs.Classes.{ordinary_start, special_start, quote_begins}
@@ -81,10 +81,10 @@ longest_front o b m r k e =
     (subst (λ (x : Option TokenKind). IsLongest x (b ∷ take (behind b (m ++ r)) (m ++ r)) (drop (behind b (m ++ r)) (m ++ r))) k (longest_at b (m ++ r))))
 
 longest_by :
-    (t : Start) (o : Option TokenKind) (b : ℕ) (m r : List ℕ) → start_of b ≡ t → kind_in t (m ++ r) ≡ o → behind_in t b (m ++ r) ≡ length m →
+    (t : TokenStart) (o : Option TokenKind) (b : ℕ) (m r : List ℕ) → start_of b ≡ t → kind_in t (m ++ r) ≡ o → behind_in t b (m ++ r) ≡ length m →
     IsLongest o (b ∷ m) r
 longest_by t o b m r s k e =
-    longest_front o b m r (ap (λ (x : Start). kind_in x (m ++ r)) s ∙ k) (ap (λ (x : Start). behind_in x b (m ++ r)) s ∙ e)
+    longest_front o b m r (ap (λ (x : TokenStart). kind_in x (m ++ r)) s ∙ k) (ap (λ (x : TokenStart). behind_in x b (m ++ r)) s ∙ e)
 
 pub ordinary_longest : (s r : List ℕ) → is_run is_ordinary s ≡ true → runs_into s r ≡ false → IsLongest (Some Ordinary) s r
 ordinary_longest [] r h n = absurd (cc)
@@ -112,7 +112,7 @@ signs_longest [] r a h n = absurd (told (Some Special) [] h)
 signs_longest (b ∷ m) r a h n =
     let first : is_special b ≡ true = (and_parts (is_special b) (list_all is_special m) a).0 in
     let start = special_start b first in
-    let all : special_behind b m ≡ length m = sym (ap (λ (x : Start). behind_in x b m) start) ∙ (told (Some Special) (b ∷ m) h).all in
+    let all : special_behind b m ≡ length m = sym (ap (λ (x : TokenStart). behind_in x b m) start) ∙ (told (Some Special) (b ∷ m) h).all in
     longest_by Sign (Some Special) b m r start refl (special_stops b m r (stops_behind is_special specials_join b m r a n) ∙ all)
 
 apostrophe_longest : (r : List ℕ) → IsLongest (Some Special) (39 ∷ []) r

@@ -22,11 +22,11 @@ use Rattle.fol_core.proofs.SymbolLemmas.{symbol_there, number_of_push}
 use Rattle.ladr_lex.specs.Numeral.{is_numeral, number}
 use Rattle.ladr_lex.specs.declared.misuse.Misuse.{Misuse}
 use Rattle.ladr_lex.specs.declared.misuse.Misuse.TheVariants.{VariableAsFormula, QuantifierInTerm, UnfitNumeral}
-use Rattle.ladr_reader.specs.Formulas.{Variable, Reading, Made, Bound, meets, bound_number, free_number, is_variable, with_variable, variable_number, with_name, named_variable, with_symbol, symbol_number, arity_of, is_too_great, is_element, constant_as, constant, term_of, terms_of, relation_of, sentence_as, sentence, equation, bound_by, is_denial, connective_of, joined, by_connective, comparison, formula_in}
-use Rattle.ladr_reader.specs.declared.connectives.Connective.{Connective}
-use Rattle.ladr_reader.specs.declared.connectives.Connective.TheVariants.{And, Or, IfThen, ThenIf, IfAndOnlyIf}
-use Rattle.ladr_reader.specs.declared.styles.Style.{Style}
-use Rattle.ladr_reader.proofs.Growing.{Grows, beyond, grows_name, grows_variable, grows_term, grows_terms, grows_formula}
+use Rattle.ladr_formulas.specs.Formulas.{Variable, Reading, Made, Bound, meets, bound_number, free_number, is_variable, with_variable, variable_number, with_name, named_variable, with_symbol, symbol_number, arity_of, is_too_great, is_element, constant_as, constant, term_of, terms_of, relation_of, sentence_as, sentence, equation, bound_by, is_denial, connective_of, joined, by_connective, comparison, formula_in}
+use Rattle.ladr_formulas.specs.declared.connectives.Connective.{Connective}
+use Rattle.ladr_formulas.specs.declared.connectives.Connective.TheVariants.{And, Or, IfThen, ThenIf, IfAndOnlyIf}
+use Rattle.ladr_formulas.specs.declared.styles.Style.{Style}
+use Rattle.ladr_formulas.proofs.Growing.{Grows, beyond, grows_name, grows_variable, grows_term, grows_terms, grows_formula}
 use Rattle.ladr_print.specs.FormulaText.{two, denial, formula_raw}
 use Rattle.ladr_print.specs.TermText.{Naming, symbol_name, term_raw, terms_raw}
 use Rattle.ladr_lex.proofs.Numerals.{decimal_number}

@@ -17,7 +17,7 @@ use Rattle.ladr_lex.specs.declared.operators.Operator.{Operator}
 use Rattle.ladr_lex.specs.declared.token.TokenKind.{TokenKind}
 use Rattle.ladr_lex.specs.declared.token.TokenKind.TheVariants.{Open, Close, LeftSquare, RightSquare, Comma, Stop, Ordinary, Quoted, Special, Unreadable}
 use Rattle.ladr_reader.specs.Reads.{Reads, atom, applied, group, bound, prefixed, postfixed, infixed, ReadsAll, single, further}
-use Rattle.ladr_reader.specs.Table.{Table, table_of, left, right, takes, ends, tree_grows}
+use Rattle.ladr_reader.specs.Table.{OperatorTable, table_of, left, right, takes, ends, tree_grows}
 use Rattle.ladr_reader.specs.Worked.{lexemes_in}
 use Rattle.ladr_reader.specs.declared.sides.Side.TheVariants.{Nothing, UpTo}
 use Rattle.ladr_reader.proofs.Lawful.{Lawful, table_lawful, prefix_is, after_is, prefix_room, up_to_room, reads_at_most}
@@ -30,24 +30,24 @@ use Rattle.ladr_print.proofs.Operands.{prefix_one, infix_after, postfix_one, no_
 use Rattle.ladr_print.proofs.Writes.{Writes, follow, spaced_follow, beside_written, symbol_written, open_written, close_written, comma_written, kind_of, before_alone, behind_alone, behind_last, open_alone, close_alone, comma_alone, stop_alone, stop_written, whole_has}
 
 -- a text that is this term, of this precedence
-pub record Shows (g : Table) (bytes : List ℕ) (t : RawTree) (p : ℕ) : Type 0 where
+pub record Shows (g : OperatorTable) (bytes : List ℕ) (t : RawTree) (p : ℕ) : Type 0 where
   pub tokens : List Lexeme
   pub writes : Writes bytes tokens
   pub reads : Reads g tokens t p
 
 -- the printed text is
-abbrev pub Good : Table → RawTree → Type 0
+abbrev pub Good : OperatorTable → RawTree → Type 0
 Good g t = Shows g (text_of g t) t (precedence g t)
 
-abbrev pub AllGood : Table → List RawTree → Type 0
+abbrev pub AllGood : OperatorTable → List RawTree → Type 0
 AllGood g [] = Unit {0}
 AllGood g (t ∷ ts) = Good g t × AllGood g ts
 
-as_is : (g : Table) (a b : List ℕ) (t : RawTree) (p q : ℕ) → b ≡ a → q ≡ p → Shows g a t p → Shows g b t q
+as_is : (g : OperatorTable) (a b : List ℕ) (t : RawTree) (p q : ℕ) → b ≡ a → q ≡ p → Shows g a t p → Shows g b t q
 as_is g a b t p q e f x = subst (λ (l : List ℕ). Shows g l t q) (sym e) (subst (λ (n : ℕ). Shows g a t n) (sym f) x)
 
 -- in parentheses
-grouped : (g : Table) (a : List ℕ) (t : RawTree) (p : ℕ) → Shows g a t p → Shows g (codes "(" ++ a ++ codes ")") t 0
+grouped : (g : OperatorTable) (a : List ℕ) (t : RawTree) (p : ℕ) → Shows g a t p → Shows g (codes "(" ++ a ++ codes ")") t 0
 grouped g a t p x =
     record {
       tokens = open_paren ∷ (x.tokens ++ close_paren ∷ []);
@@ -59,12 +59,12 @@ grouped g a t p x =
     }
 
 -- an argument passes a test of precedences, where what is in parentheses does
-record Fitted (g : Table) (bytes : List ℕ) (t : RawTree) (f : ℕ → Bool) : Type 0 where
+record Fitted (g : OperatorTable) (bytes : List ℕ) (t : RawTree) (f : ℕ → Bool) : Type 0 where
   own : ℕ
   shows : Shows g bytes t own
   fits : f own ≡ true
 
-fitted : (g : Table) (t : RawTree) (f : ℕ → Bool) → f 0 ≡ true → Good g t → Fitted g (wrapped (f (precedence g t)) (text_of g t)) t f
+fitted : (g : OperatorTable) (t : RawTree) (f : ℕ → Bool) → f 0 ≡ true → Good g t → Fitted g (wrapped (f (precedence g t)) (text_of g t)) t f
 fitted g t f z x = by (f (precedence g t)) refl
   where
     by : (b : Bool) → f (precedence g t) ≡ b → Fitted g (wrapped b (text_of g t)) t f
@@ -73,7 +73,7 @@ fitted g t f z x = by (f (precedence g t)) refl
 
 -- an operator before, behind and between its arguments
 good_before :
-    (g : Table) → Lawful g → (k : Sort) (s : List ℕ) (o : Operator) (t : RawTree) → g.word s ≡ None → g.op s ≡ Some o → is_prefix o.kind ≡ true →
+    (g : OperatorTable) → Lawful g → (k : Sort) (s : List ℕ) (o : Operator) (t : RawTree) → g.word s ≡ None → g.op s ≡ Some o → is_prefix o.kind ≡ true →
     can_be (Some (kind_of k)) s ≡ true → Good g t → Good g (named s (more_raws t no_raws))
 good_before g l k s o t none e pre w x =
     let one = prefix_one o.kind pre in
@@ -87,7 +87,7 @@ good_before g l k s o t none e pre w x =
     })
 
 good_behind :
-    (g : Table) → Lawful g → (k : Sort) (s : List ℕ) (o : Operator) (t : RawTree) → g.op s ≡ Some o → is_prefix o.kind ≡ false → right o.kind ≡ Nothing →
+    (g : OperatorTable) → Lawful g → (k : Sort) (s : List ℕ) (o : Operator) (t : RawTree) → g.op s ≡ Some o → is_prefix o.kind ≡ false → right o.kind ≡ Nothing →
     can_be (Some (kind_of k)) s ≡ true → Good g t → Good g (named s (more_raws t no_raws))
 good_behind g l k s o t e pre n w x =
     let one = postfix_one o.kind n in
@@ -101,7 +101,7 @@ good_behind g l k s o t e pre n w x =
     })
 
 good_between :
-    (g : Table) → Lawful g → (k : Sort) (s : List ℕ) (o : Operator) (t u : RawTree) → g.op s ≡ Some o → is_infix o.kind ≡ true →
+    (g : OperatorTable) → Lawful g → (k : Sort) (s : List ℕ) (o : Operator) (t u : RawTree) → g.op s ≡ Some o → is_infix o.kind ≡ true →
     can_be (Some (kind_of k)) s ≡ true → Good g t → Good g u → Good g (named s (more_raws t (more_raws u no_raws)))
 good_between g l k s o t u e two w x y =
     let pre = infix_after o.kind two in
@@ -122,12 +122,12 @@ good_between g l k s o t u e two w x y =
     })
 
 -- arguments between commas
-record Listed (g : Table) (bytes : List ℕ) (us : List RawTree) : Type 0 where
+record Listed (g : OperatorTable) (bytes : List ℕ) (us : List RawTree) : Type 0 where
   tokens : List Lexeme
   writes : Writes bytes tokens
   reads : ReadsAll g tokens us
 
-one_more : (g : Table) → Lawful g → (bytes : List ℕ) (ks : List RawTree) (t : RawTree) → Listed g bytes ks → Good g t → Listed g (bytes ++ codes "," ++ text_of g t) (ks ++ t ∷ [])
+one_more : (g : OperatorTable) → Lawful g → (bytes : List ℕ) (ks : List RawTree) (t : RawTree) → Listed g bytes ks → Good g t → Listed g (bytes ++ codes "," ++ text_of g t) (ks ++ t ∷ [])
 one_more g l bytes ks t x y =
     record {
       tokens = x.tokens ++ comma ∷ y.tokens;
@@ -140,7 +140,7 @@ one_more g l bytes ks t x y =
     }
 
 all_listed :
-    (g : Table) → Lawful g → (bytes : List ℕ) (ks ts : List RawTree) → Listed g bytes ks → AllGood g ts →
+    (g : OperatorTable) → Lawful g → (bytes : List ℕ) (ks ts : List RawTree) → Listed g bytes ks → AllGood g ts →
     Listed g (bytes ++ text.further (printed_all g (raws_of ts))) (ks ++ ts)
 all_listed g l bytes ks [] x a =
     subst (λ (b : List ℕ). Listed g b (ks ++ [])) (sym (append-nil bytes)) (subst (Listed g bytes) (sym (append-nil ks)) x)
@@ -155,7 +155,7 @@ all_listed g l bytes ks (t ∷ ts) x a =
 
 -- a name in front of its arguments
 good_plain :
-    (g : Table) → Lawful g → (k : Sort) (s : List ℕ) (us : List RawTree) → g.word s ≡ None → if_prefix (g.op s) ≡ None →
+    (g : OperatorTable) → Lawful g → (k : Sort) (s : List ℕ) (us : List RawTree) → g.word s ≡ None → if_prefix (g.op s) ≡ None →
     text_of g (named s (raws_of us)) ≡ application s (printed_all g (raws_of us)) → precedence g (named s (raws_of us)) ≡ 0 →
     can_be (Some (kind_of k)) s ≡ true → AllGood g us → Good g (named s (raws_of us))
 good_plain g l k s [] none pre e f w a =
@@ -177,7 +177,7 @@ good_plain g l k s (t ∷ us) none pre e f w a =
 
 -- a name that is no prefix operator, with what arguments it has
 by_operator :
-    (g : Table) → Lawful g → (k : Sort) (s : List ℕ) (q : Option Operator) (us : List RawTree) → g.word s ≡ None → g.op s ≡ q → if_prefix q ≡ None →
+    (g : OperatorTable) → Lawful g → (k : Sort) (s : List ℕ) (q : Option Operator) (us : List RawTree) → g.word s ≡ None → g.op s ≡ q → if_prefix q ≡ None →
     can_be (Some (kind_of k)) s ≡ true → AllGood g us → Good g (named s (raws_of us))
 by_operator g l k s None us none e pre w a = good_plain g l k s us none (ap if_prefix e) (rw e refl) (rw e refl) w a
 by_operator g l k s (Some o) [] none e pre w a = good_plain g l k s [] none (ap if_prefix e ∙ pre) (rw e refl) (rw e (zero_plain o)) w a
@@ -207,7 +207,7 @@ by_operator g l k s (Some o) (t ∷ u ∷ v ∷ us) none e pre w a =
     ]
 
 -- the words of quantifiers
-pub record HasWords (g : Table) : Type 0 where
+pub record HasWords (g : OperatorTable) : Type 0 where
   pub spelled : (q : Quantifier) → g.word (word q) ≡ Some q
 
 word_written : (q : Quantifier) → Writes (word q) (symbol ordinary (word q) ∷ [])
@@ -216,7 +216,7 @@ word_written All = symbol_written ordinary (codes "all") refl
 word_written Exists = symbol_written ordinary (codes "exists") refl
 
 good_quantified :
-    (g : Table) → HasWords g → (j : Sort) (q : Quantifier) (x : List ℕ) (t : RawTree) → g.variable j x ≡ true → can_be (Some (kind_of j)) x ≡ true →
+    (g : OperatorTable) → HasWords g → (j : Sort) (q : Quantifier) (x : List ℕ) (t : RawTree) → g.variable j x ≡ true → can_be (Some (kind_of j)) x ≡ true →
     Good g t → Good g (quantified q x t)
 good_quantified g h j q x t v w y =
     let a = fitted g t (λ p. ends UpTo 750 p (tree_grows g t)) (up_to_room 750 (tree_grows g t) (omega arith)) y in
@@ -243,41 +243,41 @@ written_parts : (ts us : List Lexeme) → list_all is_written (ts ++ us) ≡ tru
 written_parts ts us h = and_parts _ _ (sym (list_all-append is_written ts us) ∙ h)
 
 -- how a name that stands so may be read
-pub data Allowed (g : Table) (s : List ℕ) (n : ℕ) : Type 0 where
+pub data Allowed (g : OperatorTable) (s : List ℕ) (n : ℕ) : Type 0 where
   plain : g.word s ≡ None → if_prefix (g.op s) ≡ None → Allowed g s n
   before : (o : Operator) → g.word s ≡ None → g.op s ≡ Some o → is_prefix o.kind ≡ true → n ≡ 1 → Allowed g s n
   behind : (o : Operator) → g.op s ≡ Some o → is_prefix o.kind ≡ false → right o.kind ≡ Nothing → n ≡ 1 → Allowed g s n
   between : (o : Operator) → g.op s ≡ Some o → is_infix o.kind ≡ true → n ≡ 2 → Allowed g s n
 
 -- a name with so many arguments is a symbol that may be read so
-pub record Named (g : Table) (s : List ℕ) (n : ℕ) : Type 0 where
+pub record Named (g : OperatorTable) (s : List ℕ) (n : ℕ) : Type 0 where
   pub sort : Sort
   pub written : can_be (Some (kind_of sort)) s ≡ true
   pub allowed : Allowed g s n
 
 -- a quantifier's variable is a symbol that may be one
-pub record Bindable (g : Table) (x : List ℕ) : Type 0 where
+pub record Bindable (g : OperatorTable) (x : List ℕ) : Type 0 where
   pub sort : Sort
   pub written : can_be (Some (kind_of sort)) x ≡ true
   pub allowed : g.variable sort x ≡ true
 
 -- all names of a tree are so
 abbrev mutual
-  pub Printable : Table → RawTree → Type 0
+  pub Printable : OperatorTable → RawTree → Type 0
   Printable g (named s ts) = Named g s (count ts) × PrintableAll g ts
   Printable g (quantified q x t) = Bindable g x × Printable g t
 
-  pub PrintableAll : Table → RawTrees → Type 0
+  pub PrintableAll : OperatorTable → RawTrees → Type 0
   PrintableAll g no_raws = Unit {0}
   PrintableAll g (more_raws t ts) = Printable g t × PrintableAll g ts
 
-printable_last : (g : Table) (ks : List RawTree) (t : RawTree) → PrintableAll g (raws_of ks) → Printable g t → PrintableAll g (raws_of (ks ++ t ∷ []))
+printable_last : (g : OperatorTable) (ks : List RawTree) (t : RawTree) → PrintableAll g (raws_of ks) → Printable g t → PrintableAll g (raws_of (ks ++ t ∷ []))
 printable_last g [] t a x = (x, tt)
 printable_last g (k ∷ ks) t a x = (a.0, printable_last g ks t a.1 x)
 
 -- what tokens are is
 mutual
-  pub printable : (g : Table) {ts : List Lexeme} {t : RawTree} {p : ℕ} → Reads g ts t p → list_all is_written ts ≡ true → Printable g t
+  pub printable : (g : OperatorTable) {ts : List Lexeme} {t : RawTree} {p : ℕ} → Reads g ts t p → list_all is_written ts ≡ true → Printable g t
   printable g (atom k s none pre) w = (record { sort = k; written = (and_parts _ _ w).0; allowed = plain none pre }, tt)
   printable g (applied {ts} {us} k s none pre rs) w =
       let parts = and_parts (can_be (Some (kind_of k)) s) (list_all is_written (open_paren ∷ (ts ++ close_paren ∷ []))) w in
@@ -300,7 +300,7 @@ mutual
         (printable g r parts.0, (printable g r' inner.1, tt)),
       )
 
-  pub all_printable : (g : Table) {ts : List Lexeme} {us : List RawTree} → ReadsAll g ts us → list_all is_written ts ≡ true → PrintableAll g (raws_of us)
+  pub all_printable : (g : OperatorTable) {ts : List Lexeme} {us : List RawTree} → ReadsAll g ts us → list_all is_written ts ≡ true → PrintableAll g (raws_of us)
   all_printable g (single r m) w = (printable g r w, tt)
   all_printable g (further {ts} {us} {ks} {t} rs r m) w =
       let parts = written_parts ts (comma ∷ us) w in
@@ -319,7 +319,7 @@ count_list : (us : List RawTree) → count (raws_of us) ≡ length us
 count_list [] = refl
 count_list (u ∷ us) = ap suc (count_list us)
 
-good_named : (g : Table) → Lawful g → (k : Sort) (s : List ℕ) (us : List RawTree) → can_be (Some (kind_of k)) s ≡ true → Allowed g s (count (raws_of us)) → AllGood g us → Good g (named s (raws_of us))
+good_named : (g : OperatorTable) → Lawful g → (k : Sort) (s : List ℕ) (us : List RawTree) → can_be (Some (kind_of k)) s ≡ true → Allowed g s (count (raws_of us)) → AllGood g us → Good g (named s (raws_of us))
 good_named g l k s us w (plain none pre) a = by_operator g l k s (g.op s) us none refl pre w a
 good_named g l k s [] w (before o none e pre n) a = absurd (cc)
 good_named g l k s (t ∷ []) w (before o none e pre n) a = good_before g l k s o t none e pre w a.0
@@ -333,13 +333,13 @@ good_named g l k s (t ∷ u ∷ []) w (between o e two n) a = good_between g l k
 good_named g l k s (t ∷ u ∷ v ∷ us) w (between o e two n) a = absurd (omega arith)
 
 mutual
-  pub good : (g : Table) → Lawful g → HasWords g → (t : RawTree) → Printable g t → Good g t
+  pub good : (g : OperatorTable) → Lawful g → HasWords g → (t : RawTree) → Printable g t → Good g t
   good g l h (quantified q x t) p = good_quantified g h p.0.sort q x t p.0.allowed p.0.written (good g l h t p.1)
   good g l h (named s ts) p =
       subst (λ (us : RawTrees). Good g (named s us)) (raws_back ts)
       (good_named g l p.0.sort s (raws_list ts) p.0.written (subst (λ (us : RawTrees). Allowed g s (count us)) (sym (raws_back ts)) p.0.allowed) (all_good g l h ts p.1))
 
-  all_good : (g : Table) → Lawful g → HasWords g → (ts : RawTrees) → PrintableAll g ts → AllGood g (raws_list ts)
+  all_good : (g : OperatorTable) → Lawful g → HasWords g → (ts : RawTrees) → PrintableAll g ts → AllGood g (raws_list ts)
   all_good g l h no_raws p = tt
   all_good g l h (more_raws t ts) p = (good g l h t p.0, all_good g l h ts p.1)
 

@@ -18,16 +18,16 @@ use Rattle.fol_core.specs.declared.symbols.Kind.TheVariants.{Function, Relation}
 use Rattle.ladr_lex.specs.Numeral.{number}
 use Rattle.ladr_lex.specs.declared.misuse.Misuse.{Misuse}
 use Rattle.ladr_lex.specs.declared.misuse.Misuse.TheVariants.{TwoKinds, QuantifierInTerm, UnfitAttribute, UnfitNumeral}
-use Rattle.ladr_reader.specs.Formulas.{Variable, Reading, Made, meets, free_number, is_variable, with_variable, variable_number, with_name, named_variable, with_symbol, symbol_number, arity_of, is_too_great, is_element, constant_as, constant, term_of, terms_of, relation_of, sentence_as, sentence, equation, under, is_denial, connective_of, joined, by_connective, comparison, formula_in}
-use Rattle.ladr_reader.specs.declared.connectives.Connective.{Connective}
-use Rattle.ladr_reader.specs.declared.connectives.Connective.TheVariants.{And, Or, IfThen, ThenIf, IfAndOnlyIf}
-use Rattle.ladr_reader.specs.declared.styles.Style.{Style}
+use Rattle.ladr_formulas.specs.Formulas.{Variable, Reading, Made, meets, free_number, is_variable, with_variable, variable_number, with_name, named_variable, with_symbol, symbol_number, arity_of, is_too_great, is_element, constant_as, constant, term_of, terms_of, relation_of, sentence_as, sentence, equation, under, is_denial, connective_of, joined, by_connective, comparison, formula_in}
+use Rattle.ladr_formulas.specs.declared.connectives.Connective.{Connective}
+use Rattle.ladr_formulas.specs.declared.connectives.Connective.TheVariants.{And, Or, IfThen, ThenIf, IfAndOnlyIf}
+use Rattle.ladr_formulas.specs.declared.styles.Style.{Style}
 use Rattle.ladr_print.specs.ClauseText.{clause_raw}
 use Rattle.ladr_print.specs.FormulaText.{two}
 use Rattle.ladr_print.specs.StatesClause.{atom_in, literal_in, prepended, literals_in}
 use Rattle.ladr_print.specs.TermText.{Naming, clause_variable, symbol_name, term_raw, terms_raw}
 use Rattle.ladr_print.proofs.Letters.{name_free, first_variables, first_length, not_yet, found_there}
-use Rattle.ladr_reader.proofs.Growing.{Grows, beyond, grows_variable, grows_term, grows_terms, grows_formula}
+use Rattle.ladr_formulas.proofs.Growing.{Grows, beyond, grows_variable, grows_term, grows_terms, grows_formula}
 use Rattle.ladr_print.proofs.Naming.{Reaches, before, unmet, clear, free_found, symbol_back, element_back}
 use Rattle.ladr_print.proofs.Rereading.{denial_read}
 use Rattle.ladr_print.proofs.Upto.{upto, noted_old, noted_new}

@@ -6,10 +6,10 @@ use Rattle.std.proofs.lemmas.Bool.{cases_Bool}
 use Rattle.std.proofs.lemmas.Slice.Eq.{bytes_eq-Decides}
 use Rattle.fol_core.specs.Fol.{Fol, negation, conjunction, disjunction, implication, equivalence}
 use Rattle.fol_core.specs.RawTree.{RawTree, named, quantified, no_raws, more_raws}
-use Rattle.ladr_reader.specs.Formulas.{Bound, Reading, Made, is_denial, connective_of, joined, under, bound_by, with_variable, by_connective, comparison, formula_in}
-use Rattle.ladr_reader.specs.declared.connectives.Connective.{Connective}
-use Rattle.ladr_reader.specs.declared.connectives.Connective.TheVariants.{And, Or, IfThen, ThenIf, IfAndOnlyIf}
-use Rattle.ladr_reader.specs.declared.styles.Style.{Style}
+use Rattle.ladr_formulas.specs.Formulas.{Bound, Reading, Made, is_denial, connective_of, joined, under, bound_by, with_variable, by_connective, comparison, formula_in}
+use Rattle.ladr_formulas.specs.declared.connectives.Connective.{Connective}
+use Rattle.ladr_formulas.specs.declared.connectives.Connective.TheVariants.{And, Or, IfThen, ThenIf, IfAndOnlyIf}
+use Rattle.ladr_formulas.specs.declared.styles.Style.{Style}
 use Rattle.ladr_print.specs.FormulaText.{two, denial}
 
 -- with `->` in place of `<-`, and denied equations with `!=`

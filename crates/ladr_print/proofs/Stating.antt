@@ -1,9 +1,9 @@
 -- A printed formula states what it stated before.
 use Rattle.std.proofs.Common.{◌≡◌, ℕ, zero, suc, ◌≤◌, Bool, true, false, List, [], ◌∷◌, length, Option, Some, None, inl, inr, refl, sym, ap, ◌∙◌, subst, arith}
-use Rattle.std.specs.Prelude.{is_none, nat_lt, slice_get, unwrap_or, codes}
+use Rattle.std.specs.Prelude.{not, ◌&&◌, is_none, nat_le, slice_get, unwrap_or, codes}
 use Rattle.std.specs.Option.{option_map}
 use Rattle.std.specs.Str.{bytes_eq}
-use Rattle.std.proofs.lemmas.Bool.{cases_Bool}
+use Rattle.std.proofs.lemmas.Bool.{cases_Bool, and_parts}
 use Rattle.std.proofs.lemmas.Bool.Decides.{nat_tests}
 use Rattle.fol_core.specs.Fol.{Fol}
 use Rattle.fol_core.specs.RawTree.{RawTree, named, quantified, no_raws, more_raws}
@@ -14,12 +14,11 @@ use Rattle.ladr_lex.specs.Operators.{OperatorRow, operator_of, are_lawful, is_fi
 use Rattle.ladr_lex.specs.declared.operators.Operator.{Operator}
 use Rattle.ladr_lex.specs.declared.operators.OperatorKind.TheVariants.{Infix, InfixRight, Prefix}
 use Rattle.ladr_lex.specs.declared.misuse.Misuse.{Misuse}
-use Rattle.ladr_reader.specs.Formulas.{Variable, Reading, Made, unread, names_of, is_sound, is_denial, connective_of, formula_reading, IsReadAs}
+use Rattle.ladr_formulas.specs.Formulas.{Variable, Reading, Made, unread, names_of, is_sound, is_denial, connective_of, formula_reading, IsReadAs}
 use Rattle.ladr_reader.specs.Table.{table_of}
-use Rattle.ladr_reader.specs.declared.connectives.Connective.{Connective}
-use Rattle.ladr_reader.specs.declared.connectives.Connective.TheVariants.{And, Or, IfThen, ThenIf, IfAndOnlyIf}
-use Rattle.ladr_reader.specs.declared.styles.FormulaError.TheVariants.{Misused}
-use Rattle.ladr_reader.specs.declared.styles.Style.{Style}
+use Rattle.ladr_formulas.specs.declared.connectives.Connective.{Connective}
+use Rattle.ladr_formulas.specs.declared.connectives.Connective.TheVariants.{And, Or, IfThen, ThenIf, IfAndOnlyIf}
+use Rattle.ladr_formulas.specs.declared.styles.Style.{Style}
 use Rattle.ladr_print.specs.FormulaText.{two, denial, formula_raw, attributed}
 use Rattle.ladr_print.specs.Precedences.{is_infix, precedence}
 use Rattle.ladr_lex.specs.Cuts.{can_be}
@@ -28,7 +27,7 @@ use Rattle.ladr_print.specs.RawText.{text_of}
 use Rattle.ladr_print.specs.ReadsAgain.{IsAmong, behind, ReadsFormula}
 use Rattle.ladr_print.specs.StatesAs.{KeepsFixed, StatesAs}
 use Rattle.ladr_print.specs.TermText.{name_in}
-use Rattle.ladr_reader.proofs.Behind.{read_behind}
+use Rattle.ladr_formulas.proofs.Behind.{read_behind}
 use Rattle.ladr_print.proofs.Naming.{Reaches, formula_back}
 use Rattle.ladr_print.proofs.Printing.{Named, before, between, Printable, printed_reads, text_printable}
 use Rattle.ladr_print.proofs.Rereading.{turned, by_one, by_two, reread}
@@ -101,7 +100,7 @@ module _ (rows : List OperatorRow) (b : Brings rows) where
   attributed_printable (Some l) t u f p = (p.0, (f p.1.0, p.1.1))
 
 -- a sound reading
-no_row : (o : Option Misuse) → is_none (option_map Misused o) ≡ true → o ≡ None
+no_row : (o : Option Misuse) → is_none o ≡ true → o ≡ None
 no_row None h = refl
 no_row (Some n) h = cc
 
@@ -111,13 +110,9 @@ pub record Sound (s : Reading) : Type 0 where
 
 pub sound_parts : (s : Reading) → is_sound s ≡ true → Sound s
 sound_parts s h =
-    elim (cases_Bool (nat_lt 65535 (length s.symbols))) [
-      | inl y ↦ absurd (let f : false ≡ true = rw y at h in cc)
-      | inr k ↦ elim (cases_Bool s.large) [
-        | inl y ↦ absurd (let f : false ≡ true = rw (k, y) at h in cc)
-        | inr j ↦ record { least = no_row s.least (rw (k, j) at h); fewer = grind (arith, nat_tests) }
-      ]
-    ]
+    let first = and_parts (is_none s.least && not s.large) (nat_le (length s.symbols) 65535) h in
+    let fewer = first.1 in
+    record { least = no_row s.least (and_parts (is_none s.least) (not s.large) first.0).0; fewer = grind (arith, nat_tests) }
 
 pub names_found : (vs : List Variable) (n : ℕ) (x : Variable) → slice_get vs n ≡ Some x → name_in (names_of vs) n ≡ x.name
 names_found [] n x e = absurd (cc)

@@ -8,7 +8,7 @@ use Rattle.ladr_lex.specs.declared.operators.OperatorKind.TheVariants.{InfixRigh
 use Rattle.ladr_print.specs.FormulaText.{two, denial}
 use Rattle.ladr_print.specs.RawText.{left_argument, right_argument, text_of, printed}
 use Rattle.ladr_print.specs.TermText.{Naming, term_raw}
-use Rattle.ladr_reader.specs.Table.{Table}
+use Rattle.ladr_reader.specs.Table.{OperatorTable}
 
 -- a literal as a term as read: its atom, or the denial of it
 abbrev pub literal_raw : List Symbol → Naming → Lit → RawTree
@@ -25,12 +25,12 @@ abbrev pub bar : Operator
 bar = record { precedence = 790; kind = InfixRight }
 
 -- two literals or more, each an argument of `|`
-abbrev pub disjunction : Table → List Symbol → Naming → Lit → List Lit → List ℕ
+abbrev pub disjunction : OperatorTable → List Symbol → Naming → Lit → List Lit → List ℕ
 disjunction g table v l [] = right_argument bar (printed g (literal_raw table v l))
 disjunction g table v l (m ∷ ls) = left_argument bar (printed g (literal_raw table v l)) ++ codes " | " ++ disjunction g table v m ls
 
 -- the literals between ` | `
-abbrev pub clause_bytes : Table → List Symbol → Naming → ClauseTree → List ℕ
+abbrev pub clause_bytes : OperatorTable → List Symbol → Naming → ClauseTree → List ℕ
 clause_bytes g table v [] = codes "$F"
 clause_bytes g table v (l ∷ []) = text_of g (literal_raw table v l)
 clause_bytes g table v (l ∷ m ∷ ls) = disjunction g table v l (m ∷ ls)

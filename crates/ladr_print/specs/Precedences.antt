@@ -4,7 +4,7 @@ use Rattle.fol_core.specs.RawTree.{RawTree, named, quantified, RawTrees, no_raws
 use Rattle.ladr_lex.specs.declared.operators.Operator.{Operator}
 use Rattle.ladr_lex.specs.declared.operators.OperatorKind.{OperatorKind}
 use Rattle.ladr_lex.specs.declared.operators.OperatorKind.TheVariants.{Infix, InfixLeft, InfixRight, Prefix, PrefixParen, Postfix, PostfixParen}
-use Rattle.ladr_reader.specs.Table.{Table}
+use Rattle.ladr_reader.specs.Table.{OperatorTable}
 
 -- whether an operator stands between two arguments
 abbrev pub is_infix : OperatorKind → Bool
@@ -29,6 +29,6 @@ abbrev pub own_precedence : Option Operator → ℕ → ℕ
 own_precedence None n = 0
 own_precedence (Some o) n = if n == arity o.kind then o.precedence else 0
 
-abbrev pub precedence : Table → RawTree → ℕ
+abbrev pub precedence : OperatorTable → RawTree → ℕ
 precedence g (named s ts) = own_precedence (g.op s) (count ts)
 precedence g (quantified q x t) = 750

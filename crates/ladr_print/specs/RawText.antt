@@ -7,7 +7,7 @@ use Rattle.ladr_lex.specs.Operators.{is_prefix}
 use Rattle.ladr_lex.specs.declared.operators.Operator.{Operator}
 use Rattle.ladr_print.specs.Precedences.{is_infix, precedence}
 use Rattle.ladr_print.specs.Spacing.{beside}
-use Rattle.ladr_reader.specs.Table.{Table, left, right, takes, ends, tree_grows}
+use Rattle.ladr_reader.specs.Table.{OperatorTable, left, right, takes, ends, tree_grows}
 use Rattle.ladr_reader.specs.declared.sides.Side.TheVariants.{UpTo}
 
 -- a printed term: its text, its precedence, and whether its operator is infix_left or postfix
@@ -67,14 +67,14 @@ arranged o s ps = application s ps
 
 abbrev mutual
   -- the text of a term, with the operators of a table
-  pub text_of : Table → RawTree → List ℕ
+  pub text_of : OperatorTable → RawTree → List ℕ
   text_of g (named s ts) = arranged (g.op s) s (printed_all g ts)
   text_of g (quantified q x t) =
       word q ++ codes " " ++ x ++ codes " " ++ body (record { text = text_of g t; precedence = precedence g t; grows = tree_grows g t })
 
-  pub printed_all : Table → RawTrees → List Printed
+  pub printed_all : OperatorTable → RawTrees → List Printed
   printed_all g no_raws = []
   printed_all g (more_raws t ts) = record { text = text_of g t; precedence = precedence g t; grows = tree_grows g t } ∷ printed_all g ts
 
-abbrev pub printed : Table → RawTree → Printed
+abbrev pub printed : OperatorTable → RawTree → Printed
 printed g t = record { text = text_of g t; precedence = precedence g t; grows = tree_grows g t }

@@ -7,10 +7,10 @@ use Rattle.fol_core.specs.SymbolTable.{Symbol, KeepsNumbers}
 use Rattle.fol_core.specs.Tree.{Tree}
 use Rattle.ladr_print.specs.FormulaText.{attributed}
 use Rattle.ladr_print.specs.ReadsAs.{ReadsAs}
-use Rattle.ladr_reader.specs.ClauseIn.{clause_in}
-use Rattle.ladr_reader.specs.Formulas.{Reading, Made, unread, term_of, formula_reading}
-use Rattle.ladr_reader.specs.Table.{Table}
-use Rattle.ladr_reader.specs.declared.styles.Style.{Style}
+use Rattle.ladr_formulas.specs.ClauseIn.{clause_in}
+use Rattle.ladr_formulas.specs.Formulas.{Reading, Made, unread, term_of, formula_reading}
+use Rattle.ladr_reader.specs.Table.{OperatorTable}
+use Rattle.ladr_formulas.specs.declared.styles.Style.{Style}
 
 -- no row of misuse was met, and the symbols keep their numbers in a table whose numbers fit
 pub record IsAmong (r : Reading) (table : List Symbol) : Type 0 where
@@ -24,7 +24,7 @@ behind table m = record { tree = m.tree; reading = record m.reading { symbols = 
 
 -- behind a table of symbols the text is read as a formula, with all that is read with it, and this attribute stands behind it if
 -- there is one
-pub record ReadsFormula (g : Table) (st : Style) (before : List Symbol) (text : List ℕ) (label : Option RawTree) (m : Made Fol) : Type 0 where
+pub record ReadsFormula (g : OperatorTable) (st : Style) (before : List Symbol) (text : List ℕ) (label : Option RawTree) (m : Made Fol) : Type 0 where
   pub tree : RawTree
   pub precedence : ℕ
   pub reads : ReadsAs g text (attributed label tree) precedence
@@ -37,7 +37,7 @@ pub record IsClean (r : Reading) (symbols : List Symbol) (variables : ℕ) : Typ
   pub count : length r.variables ≡ variables
 
 -- behind a table of symbols the text is read as this clause, with so many variables; the table is then this one
-pub record ReadsClause (g : Table) (st : Style) (before : List Symbol) (text : List ℕ) (c : ClauseTree) (after : List Symbol) (variables : ℕ) : Type 0 where
+pub record ReadsClause (g : OperatorTable) (st : Style) (before : List Symbol) (text : List ℕ) (c : ClauseTree) (after : List Symbol) (variables : ℕ) : Type 0 where
   pub tree : RawTree
   pub precedence : ℕ
   pub reads : ReadsAs g text tree precedence
@@ -45,7 +45,7 @@ pub record ReadsClause (g : Table) (st : Style) (before : List Symbol) (text : L
   pub reading : IsClean (formula_reading st before tree).reading after variables
 
 -- behind a table of symbols the text is read as this term, with so many variables; the table is then this one
-pub record ReadsTerm (g : Table) (st : Style) (before : List Symbol) (text : List ℕ) (t : Tree) (after : List Symbol) (variables : ℕ) : Type 0 where
+pub record ReadsTerm (g : OperatorTable) (st : Style) (before : List Symbol) (text : List ℕ) (t : Tree) (after : List Symbol) (variables : ℕ) : Type 0 where
   pub tree : RawTree
   pub precedence : ℕ
   pub reads : ReadsAs g text tree precedence

@@ -4,9 +4,9 @@ use Rattle.fol_core.specs.Fol.{Fol}
 use Rattle.fol_core.specs.RawTree.{RawTree}
 use Rattle.fol_core.specs.SymbolTable.{Symbol}
 use Rattle.ladr_lex.specs.Operators.{OperatorRow, operator_of, is_fixed, standard_rows}
-use Rattle.ladr_reader.specs.Formulas.{formula_reading, IsReadAs}
-use Rattle.ladr_reader.specs.declared.styles.Style.{Style}
-use Rattle.ladr_reader.specs.Table.{Table}
+use Rattle.ladr_formulas.specs.Formulas.{formula_reading, IsReadAs}
+use Rattle.ladr_formulas.specs.declared.styles.Style.{Style}
+use Rattle.ladr_reader.specs.Table.{OperatorTable}
 use Rattle.ladr_print.specs.FormulaText.{attributed}
 use Rattle.ladr_print.specs.ReadsAs.{ReadsAs}
 
@@ -16,7 +16,7 @@ KeepsFixed rows = (name : List ℕ) → is_fixed name ≡ true → operator_of r
 
 -- Behind a table of symbols the text reads as this formula, whose variables have these names, with this attribute behind it if
 -- there is one; the table is then this one.
-pub record StatesAs (g : Table) (st : Style) (before : List Symbol) (text : List ℕ) (label : Option RawTree) (f : Fol) (names : List (List ℕ)) (after : List Symbol) : Type 0 where
+pub record StatesAs (g : OperatorTable) (st : Style) (before : List Symbol) (text : List ℕ) (label : Option RawTree) (f : Fol) (names : List (List ℕ)) (after : List Symbol) : Type 0 where
   pub tree : RawTree
   pub precedence : ℕ
   pub reads : ReadsAs g text (attributed label tree) precedence

@@ -1,9 +1,9 @@
 -- The text of the formula of a term.
 use Rattle.std.specs.Prelude.{ℕ, List, []}
 use Rattle.fol_core.specs.RawTree.{RawTree}
-use Rattle.ladr_reader.specs.Formulas.{formula_reading, names_of}
+use Rattle.ladr_formulas.specs.Formulas.{formula_reading, names_of}
 use Rattle.ladr_reader.specs.Worked.{standard}
-use Rattle.ladr_reader.specs.WorkedFormulas.{for_tester}
+use Rattle.ladr_formulas.specs.WorkedFormulas.{for_tester}
 use Rattle.ladr_print.specs.FormulaText.{formula_raw}
 use Rattle.ladr_print.specs.RawText.{text_of}
 use Rattle.ladr_print.specs.TermText.{name_in}

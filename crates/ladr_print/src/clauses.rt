@@ -11,7 +11,7 @@ ghost use Rattle.ladr_print.specs.StatesAs.{KeepsFixed};
 ghost use Rattle.ladr_print.specs.StatesClause.{StatesClause, FreesVariables};
 ghost use Rattle.fol_core.specs.SymbolTable.{Symbol, KeepsNumbers};
 ghost use Rattle.ladr_print.specs.ReadsAgain.{ReadsClause};
-ghost use Rattle.ladr_reader.specs.declared.styles.Style.{Style};
+ghost use Rattle.ladr_formulas.specs.declared.styles.Style.{Style};
 ghost use Rattle.ladr_print.specs.TermText.{clause_variable, naming_of};
 ghost use Rattle.ladr_reader.specs.Table.{table_of};
 

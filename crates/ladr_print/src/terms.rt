@@ -14,7 +14,7 @@ ghost use Rattle.ladr_print.specs.ReadsAs.{ReadsAs};
 ghost use Rattle.ladr_print.specs.StatesAs.{KeepsFixed};
 ghost use Rattle.ladr_print.specs.TermText.{clause_variable, name_in, naming_of, symbol_name, term_raw, terms_raw};
 ghost use Rattle.ladr_reader.specs.Table.{table_of};
-ghost use Rattle.ladr_reader.specs.declared.styles.Style.{Style};
+ghost use Rattle.ladr_formulas.specs.declared.styles.Style.{Style};
 
 use crate::raw::raw_text;
 use fol_core::{EQ, Name, Names, Raw, Raws, Sym, Symbols, Term, Terms};

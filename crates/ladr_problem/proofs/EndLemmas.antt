@@ -12,10 +12,10 @@ use Rattle.ladr_lex.specs.declared.operators.Operator.{Operator}
 use Rattle.ladr_reader.specs.Faults.{IsTermFault}
 use Rattle.ladr_reader.specs.Machine.{next, go, begin, start_of_symbol}
 use Rattle.ladr_reader.specs.Reads as terms
-use Rattle.ladr_reader.specs.Table.{Table, table_of, right}
+use Rattle.ladr_reader.specs.Table.{OperatorTable, table_of, right}
 use Rattle.ladr_reader.specs.declared.fault.TermFault.{TermFault}
 use Rattle.ladr_reader.specs.declared.fault.TermFault.TheVariants.{Bad, Deep, Memory}
-use Rattle.ladr_reader.specs.declared.place.Place.TheVariants.{Operand, Named}
+use Rattle.ladr_reader.specs.declared.place.Standing.TheVariants.{Operand, Named}
 use Rattle.ladr_reader.specs.declared.stack.Frame.{Frame}
 use Rattle.ladr_reader.specs.declared.stack.Frame.TheVariants.{Waiting}
 use Rattle.ladr_reader.specs.declared.stack.Part.TheVariants.{Prefix}
@@ -24,7 +24,7 @@ use Rattle.ladr_reader.proofs.Live.{begins, table_names}
 use Rattle.ladr_reader.proofs.Runs.{stuck_item}
 use Rattle.ladr_reader.proofs.Sound.{runs}
 use Rattle.ladr_reader.proofs.Complete.{item_one}
-use Rattle.ladr_problem.specs.ListItem.{ListItem, closing, term, closing_tokens, IsListItem, Begins, IsItemFault}
+use Rattle.ladr_problem.specs.ListItem.{ListItem, closing, term, closing_tokens, IsListItem, BeginsListItem, IsItemFault}
 
 abbrev word : List ℕ
 word = codes "end_of_list"
@@ -43,10 +43,10 @@ closing_is (symbol ordinary s ∷ full_stop ∷ []) e =
 closing_is ts e = cc
 
 -- a term's front is an item's
-term_begins : (g : Table) (ts : List Lexeme) → terms.Begins g ts → Begins g ts
+term_begins : (g : OperatorTable) (ts : List Lexeme) → terms.BeginsItem g ts → BeginsListItem g ts
 term_begins g ts b = by_test (is_closing (ts ++ b.more)) refl
   where
-    by_test : (c : Bool) → is_closing (ts ++ b.more) ≡ c → Begins g ts
+    by_test : (c : Bool) → is_closing (ts ++ b.more) ≡ c → BeginsListItem g ts
     by_test true e = record { more = b.more; item = closing; read = closing_is (ts ++ b.more) e }
     by_test false e = record { more = b.more; item = term b.tree; read = (λ same. let e = rw same at e in cc, b.item) }
 
@@ -54,25 +54,25 @@ abbrev waiting : Operator → List Frame
 waiting o = Waiting (Prefix word) (right o.kind) o.precedence ∷ []
 
 -- `end_of_list` begins terms
-end_begins : (rows : List OperatorRow) → are_lawful rows ≡ true → terms.Begins (table_of rows) (end_word ∷ [])
+end_begins : (rows : List OperatorRow) → are_lawful rows ≡ true → terms.BeginsItem (table_of rows) (end_word ∷ [])
 end_begins rows h = by_operator (if_prefix (operator_of rows word)) refl
   where
-    by_operator : (o : Option Operator) → if_prefix (operator_of rows word) ≡ o → terms.Begins (table_of rows) (end_word ∷ [])
+    by_operator : (o : Option Operator) → if_prefix (operator_of rows word) ≡ o → terms.BeginsItem (table_of rows) (end_word ∷ [])
     by_operator None e = begins 500 (table_of rows) (table_lawful rows h) (table_names rows) (Named word) [] (end_word ∷ []) (runs 500 (table_of rows) (table_lawful rows h) (end_word ∷ []) (Named word) [] (rw e refl))
     by_operator (Some o) e = begins 500 (table_of rows) (table_lawful rows h) (table_names rows) Operand (waiting o) (end_word ∷ []) (runs 500 (table_of rows) (table_lawful rows h) (end_word ∷ []) Operand (waiting o) (rw e refl))
 
-stuck : (g : Table) (xs : List Lexeme) → go 500 g None xs ≡ None
+stuck : (g : OperatorTable) (xs : List Lexeme) → go 500 g None xs ≡ None
 stuck g [] = refl
 stuck g (x ∷ xs) = stuck g xs
 
 -- no term goes on behind a symbol and a full stop
-stuck_behind : (g : Table) (w : Option Quantifier) (o : Option Operator) (s : List ℕ) (x : Lexeme) (xs : List Lexeme) →
+stuck_behind : (g : OperatorTable) (w : Option Quantifier) (o : Option Operator) (s : List ℕ) (x : Lexeme) (xs : List Lexeme) →
     go 500 g (next 500 g (next 500 g (begin (start_of_symbol w o s) []) full_stop) x) xs ≡ None
 stuck_behind g None None s x xs = stuck g xs
 stuck_behind g None (Some o) s x xs = stuck g xs
 stuck_behind g (Some w) o s x xs = stuck g xs
 
-no_term_behind : (g : Table) (x : Lexeme) (xs : List Lexeme) (t : RawTree) → ¬ terms.Item g (end_word ∷ full_stop ∷ x ∷ xs) t
+no_term_behind : (g : OperatorTable) (x : Lexeme) (xs : List Lexeme) (t : RawTree) → ¬ terms.Item g (end_word ∷ full_stop ∷ x ∷ xs) t
 no_term_behind g x xs t =
     stuck_item g (end_word ∷ full_stop ∷ x ∷ xs)
     (stuck_behind g (g.word word) (if_prefix (g.op word)) word x xs) t
@@ -87,12 +87,12 @@ split (a ∷ []) e h = absurd (omega arith)
 split (a ∷ b ∷ []) e h = absurd (omega arith)
 split (a ∷ b ∷ x ∷ xs) e h = (x, xs, cc)
 
-nothing_behind : (g : Table) (ts : List Lexeme) → Split ts → (i : ListItem) → ¬ IsListItem g ts i
+nothing_behind : (g : OperatorTable) (ts : List Lexeme) → Split ts → (i : ListItem) → ¬ IsListItem g ts i
 nothing_behind g ts s closing e = let same = s.2 in cc
 nothing_behind g ts s (term t) item = no_term_behind g s.0 s.1 t (subst (λ (us : List Lexeme). terms.Item g us t) s.2 item.1)
 
 -- token 2 is the first bad one behind `end_of_list.`
-pub bad_behind : (g : Table) (ts : List Lexeme) → take 2 ts ≡ closing_tokens → 2 < length ts → IsItemFault g ts (Bad 2)
+pub bad_behind : (g : OperatorTable) (ts : List Lexeme) → take 2 ts ≡ closing_tokens → 2 < length ts → IsItemFault g ts (Bad 2)
 bad_behind g ts e h =
     let s = split ts e h in (
       record {
@@ -106,11 +106,11 @@ bad_behind g ts e h =
 -- tokens that don't begin with `end_of_list.` are no front of it, but for `end_of_list` itself
 end_front :
     (rows : List OperatorRow) → are_lawful rows ≡ true → (ts : List Lexeme) (k : ℕ) (more : List Lexeme) → (¬ take 2 ts ≡ closing_tokens) → k < length ts →
-    take (k + 1) ts ++ more ≡ closing_tokens → terms.Begins (table_of rows) (take (k + 1) ts)
+    take (k + 1) ts ++ more ≡ closing_tokens → terms.BeginsItem (table_of rows) (take (k + 1) ts)
 end_front rows l [] k more other h e = absurd (omega arith)
 end_front rows l (x ∷ ts) zero more other h e =
     let first : x ≡ end_word = cc in
-    subst (λ (y : Lexeme). terms.Begins (table_of rows) (y ∷ [])) (sym first) (end_begins rows l)
+    subst (λ (y : Lexeme). terms.BeginsItem (table_of rows) (y ∷ [])) (sym first) (end_begins rows l)
 end_front rows l (x ∷ []) (suc k) more other h e = absurd (omega arith)
 end_front rows l (x ∷ y ∷ ts) (suc k) more other h e =
     let n : suc k + 1 ≡ suc (suc k) = omega arith in
@@ -130,7 +130,7 @@ fault_of_term rows l ts other (Bad k) (bad, none) = (
   no_item,
 )
   where
-    begun : (more : List Lexeme) (i : ListItem) → k < length ts → IsListItem (table_of rows) (take (k + 1) ts ++ more) i → terms.Begins (table_of rows) (take (k + 1) ts)
+    begun : (more : List Lexeme) (i : ListItem) → k < length ts → IsListItem (table_of rows) (take (k + 1) ts ++ more) i → terms.BeginsItem (table_of rows) (take (k + 1) ts)
     begun more closing h e = end_front rows l ts k more other h e
     begun more (term t) h item = record { more = more; tree = t; item = item.1 }
 
@@ -140,7 +140,7 @@ fault_of_term rows l ts other (Bad k) (bad, none) = (
 fault_of_term rows l ts other Deep (t, item, deep) = (t, (λ e. other (ap (take 2) e), item), deep)
 fault_of_term rows l ts other Memory h = tt
 
-pub one : (g : Table) (ts : List Lexeme) (i j : ListItem) → IsListItem g ts i → IsListItem g ts j → i ≡ j
+pub one : (g : OperatorTable) (ts : List Lexeme) (i j : ListItem) → IsListItem g ts i → IsListItem g ts j → i ≡ j
 one g ts closing closing h k = refl
 one g ts closing (term t) h k = absurd (k.0 h)
 one g ts (term t) closing h k = absurd (h.0 k)

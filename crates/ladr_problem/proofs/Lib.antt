@@ -1,7 +1,10 @@
+pub mod Counted
 pub mod CutLemmas
 pub mod EndLemmas
+pub mod Entering
 pub mod Files
 pub mod Good
+pub mod Named
 pub mod Once
 pub mod Readings
 pub mod Starts

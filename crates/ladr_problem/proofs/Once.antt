@@ -18,22 +18,22 @@ use Rattle.ladr_problem.specs.ListItem.{ListItem, IsListItem, IsItemFault}
 use Rattle.ladr_lex.proofs.Unique.{cut_once}
 use Rattle.ladr_lex.specs.Cuts.{Piece}
 use Rattle.ladr_lex.specs.Lexeme.{Lexeme}
-use Rattle.ladr_problem.specs.Adding.{Item, command, within, IsRead, IsUnreadable, after_item, is_tester}
+use Rattle.ladr_problem.specs.Adding.{FileItem, command, within, IsItemRead, IsUnreadable, after_item, is_tester}
 use Rattle.ladr_problem.specs.File as file
 use Rattle.ladr_problem.specs.File.{Outcome, unreadable, File, ends, open_list, open_block, bad, breaks, goes_on, start_at, refused_at, finished, most_bytes}
 use Rattle.ladr_problem.specs.Sofar.{Sofar, nothing_read}
 use Rattle.ladr_problem.specs.declared.refusal.Refusal.{Refusal}
 use Rattle.ladr_problem.specs.declared.refusal.Refusal.TheVariants.{Memory}
-use Rattle.ladr_reader.specs.Table.{Table, table_of}
+use Rattle.ladr_reader.specs.Table.{OperatorTable, table_of}
 use Rattle.ladr_reader.specs.declared.fault.TermFault.TheVariants as term_fault
-use Rattle.ladr_reader.specs.declared.styles.Mode.{Mode}
+use Rattle.ladr_formulas.specs.declared.styles.Mode.{Mode}
 use Rattle.ladr_settings.specs.declared.lists.OpenList.{OpenList}
 
 none_is_some : {A : Type 0} (o : Option A) → o ≡ None → IsTrue (is_some o) → ⊥
 none_is_some o e h = false≢true (rw e at h)
 
 -- an item is read as one thing
-read_once : (m : Mode) (s : Sofar) (ts : List Lexeme) (i j : Item) → IsRead m s ts i → IsRead m s ts j → i ≡ j
+read_once : (m : Mode) (s : Sofar) (ts : List Lexeme) (i j : FileItem) → IsItemRead m s ts i → IsItemRead m s ts j → i ≡ j
 read_once m s ts (command c) (command d) h k = ap (λ x. command (read_of c x)) (sym h.1 ∙ k.1)
 read_once m s ts (command c) (within j) h k = absurd (none_is_some s.settings.list h.0 k.0)
 read_once m s ts (within i) (command d) h k = absurd (none_is_some s.settings.list k.0 h.0)
@@ -59,16 +59,16 @@ module _ (Begins : List Lexeme → Type 0) (fewer : (xs ys : List Lexeme) → Be
       ap (λ zs. zs ++ drop (k + 1) (take l ts)) (sym (take_within (k + 1) l ts (omega (arith, h)))) ∙ take-append-drop (k + 1) (take l ts) in
       here (omega (arith, h, inside)) (fewer (take (k + 1) ts) (drop (k + 1) (take l ts)) (subst Begins (sym e) before))
 
-command_once : (f : Form) (ts : List Lexeme) (k l : ℕ) → commands.IsBadToken f ts k → commands.IsBadToken f ts l → k ≡ l
-command_once f ts k l x y = same_number k l (no_earlier (commands.Begins f) fewer ts k l x.here y.within y.before) (no_earlier (commands.Begins f) fewer ts l k y.here x.within x.before)
+command_once : (f : Form) (ts : List Lexeme) (k l : ℕ) → commands.IsBadCommandToken f ts k → commands.IsBadCommandToken f ts l → k ≡ l
+command_once f ts k l x y = same_number k l (no_earlier (commands.BeginsCommand f) fewer ts k l x.here y.within y.before) (no_earlier (commands.BeginsCommand f) fewer ts l k y.here x.within x.before)
   where
-    fewer : (xs ys : List Lexeme) → commands.Begins f (xs ++ ys) → commands.Begins f xs
+    fewer : (xs ys : List Lexeme) → commands.BeginsCommand f (xs ++ ys) → commands.BeginsCommand f xs
     fewer xs ys h = record { more = ys ++ h.more; command = h.command; says = rw (← append_assoc xs ys h.more) h.says }
 
-item_once : (g : Table) (ts : List Lexeme) (k l : ℕ) → lists.IsBadToken g ts k → lists.IsBadToken g ts l → k ≡ l
-item_once g ts k l x y = same_number k l (no_earlier (lists.Begins g) fewer ts k l x.here y.within y.before) (no_earlier (lists.Begins g) fewer ts l k y.here x.within x.before)
+item_once : (g : OperatorTable) (ts : List Lexeme) (k l : ℕ) → lists.IsBadListToken g ts k → lists.IsBadListToken g ts l → k ≡ l
+item_once g ts k l x y = same_number k l (no_earlier (lists.BeginsListItem g) fewer ts k l x.here y.within y.before) (no_earlier (lists.BeginsListItem g) fewer ts l k y.here x.within x.before)
   where
-    fewer : (xs ys : List Lexeme) → lists.Begins g (xs ++ ys) → lists.Begins g xs
+    fewer : (xs ys : List Lexeme) → lists.BeginsListItem g (xs ++ ys) → lists.BeginsListItem g xs
     fewer xs ys h = record { more = ys ++ h.more; item = h.item; read = rw (← append_assoc xs ys h.more) h.read }
 
 module _ (m : Mode) (s : Sofar) (ts : List Lexeme) where
@@ -83,7 +83,7 @@ module _ (m : Mode) (s : Sofar) (ts : List Lexeme) where
       item_once (table_of s.settings.operators) ts k l a.0 b.0
 
   -- what can't be read isn't read
-  not_read : (o : Option OpenList) → s.settings.list ≡ o → (k : ℕ) (i : Item) → IsUnreadable m s ts k → IsRead m s ts i → ⊥
+  not_read : (o : Option OpenList) → s.settings.list ≡ o → (k : ℕ) (i : FileItem) → IsUnreadable m s ts k → IsItemRead m s ts i → ⊥
   not_read None e k (command c) x r =
       let a : IsCommandFault (commands_of (is_tester m)) ts (command_fault.Bad k) = subst (λ (o : Option OpenList). MatchOption o (IsCommandFault (commands_of (is_tester m)) ts (command_fault.Bad k)) (λ _. IsItemFault (table_of s.settings.operators) ts (term_fault.Bad k))) e x in
       a.1 c r.1
@@ -109,7 +109,7 @@ no_err : (s : Sofar) (why : Refusal) → Ok s ≡ Err why → ⊥
 no_err s why e = subst IsOk e tt
 
 module _ (m : Mode) (end : ℕ) where
-  same_after : (s : Sofar) (ts : List Piece) (i j : Item) → IsRead m s (lexemes ts) i → IsRead m s (lexemes ts) j
+  same_after : (s : Sofar) (ts : List Piece) (i j : FileItem) → IsItemRead m s (lexemes ts) i → IsItemRead m s (lexemes ts) j
       → after_item m (start_at end ts 0) s (lexemes ts) i ≡ after_item m (start_at end ts 0) s (lexemes ts) j
   same_after s ts i j h k = ap (after_item m (start_at end ts 0) s (lexemes ts)) (read_once m s (lexemes ts) i j h k)
 

@@ -11,16 +11,16 @@ use Rattle.ladr_problem.specs.Whole.{IsFinished}
 use Rattle.ladr_problem.specs.declared.refusal.Limit.{Limit}
 use Rattle.ladr_problem.specs.declared.refusal.ReadError.{ReadError}
 use Rattle.ladr_problem.specs.declared.refusal.ReadError.TheVariants as refusal
-use Rattle.ladr_problem.specs.declared.stop.Stop.{Stop}
-use Rattle.ladr_problem.specs.declared.stop.Stop.TheVariants.{Unreadable, Misuse, TooLarge, Memory}
+use Rattle.ladr_problem.specs.declared.stop.RefusalAt.{RefusalAt}
+use Rattle.ladr_problem.specs.declared.stop.RefusalAt.TheVariants.{Unreadable, Misuse, TooLarge, Memory}
 use Rattle.ladr_problem.specs.File.{too_large}
-use Rattle.ladr_reader.specs.declared.styles.Mode.{Mode}
+use Rattle.ladr_formulas.specs.declared.styles.Mode.{Mode}
 
 module _ (m : Mode) (bytes : List ℕ) where
   pub says_of : (tokens : List Piece) → length bytes ≤ most_bytes → Cuts 0 bytes tokens → (o : Outcome) → IsFinished m (length bytes) nothing_read (items_of tokens) o → Says m bytes o
   says_of tokens within cut o h = subst (Says m bytes) h.2 (items tokens within cut h.1)
 
-  pub placed_error : (why : Stop) (e : ReadError) → IsStop (Says m bytes) why → IsPlaced bytes why e → IsReadError m bytes e
+  pub placed_error : (why : RefusalAt) (e : ReadError) → IsStop (Says m bytes) why → IsPlaced bytes why e → IsReadError m bytes e
   placed_error (Unreadable byte) (refusal.Unreadable p) says h = (subst (λ (b : ℕ). Says m bytes (unreadable b)) (sym h.0) says, h.1)
   placed_error (Unreadable byte) (refusal.Misuse p row) says h = absurd h
   placed_error (Unreadable byte) (refusal.TooLarge b w) says h = absurd h

@@ -12,24 +12,24 @@ use Rattle.ladr_lex.specs.declared.misuse.Misuse.{Misuse}
 use Rattle.ladr_commands.specs.declared.command.Command.{Command}
 use Rattle.ladr_problem.specs.ListItem.{term, IsListItem, IsItemFault}
 use Rattle.ladr_lex.specs.Lexeme.{Lexeme}
-use Rattle.ladr_problem.specs.Adding.{command, within, IsRead, IsRefused, after_item, after_term, after_formula, after_rule, after_weight, unshaped, formula_made, style_in, with_settings, with_listed, least_misuse}
+use Rattle.ladr_problem.specs.Adding.{command, within, IsItemRead, IsItemRefused, after_item, after_term, after_formula, after_rule, after_weight, unshaped, formula_made, style_in, with_settings, with_listed, least_misuse}
 use Rattle.ladr_problem.specs.Reading.{IsNo, IsTaken, after_read, after_rule_read}
 use Rattle.ladr_problem.specs.Refusals.{by_misuse, by_term}
 use Rattle.ladr_problem.specs.Sofar.{Sofar}
 use Rattle.ladr_problem.specs.declared.refusal.Refusal.{Refusal}
 use Rattle.ladr_problem.specs.declared.refusal.Refusal.TheVariants.{Bad, Nesting, Symbols, Arity, Misused, Memory}
-use Rattle.ladr_reader.specs.Formulas.{Made, formula_reading}
+use Rattle.ladr_formulas.specs.Formulas.{Made, formula_reading}
 use Rattle.ladr_reader.specs.Nesting.{nesting}
 use Rattle.ladr_reader.specs.Table.{table_of}
-use Rattle.ladr_reader.specs.Whole.{IsWhole}
+use Rattle.ladr_formulas.specs.Whole.{IsWhole}
 use Rattle.ladr_reader.specs.declared.fault.TermFault.{TermFault}
 use Rattle.ladr_reader.specs.declared.fault.TermFault.TheVariants as term_fault
-use Rattle.ladr_reader.specs.declared.formulas.FormulaRead.{FormulaRead}
-use Rattle.ladr_reader.specs.declared.styles.Mode.{Mode}
+use Rattle.ladr_formulas.specs.declared.formulas.FormulaRead.{FormulaRead}
+use Rattle.ladr_formulas.specs.declared.styles.Mode.{Mode}
 use Rattle.ladr_rules.specs.Attributes.{attributed, has_unfit_weight, label_of, hint_weight_of}
 use Rattle.ladr_rules.specs.RuleSeen.{IsRuleIn}
 use Rattle.ladr_rules.specs.Rules.{rule_in}
-use Rattle.ladr_rules.specs.declared.attributes.Stated.{Stated}
+use Rattle.ladr_rules.specs.declared.attributes.LabelledFormula.{LabelledFormula}
 use Rattle.ladr_rules.specs.declared.rules.RuleRead.{RuleRead}
 use Rattle.ladr_settings.specs.Settings.{after, is_meant}
 use Rattle.ladr_settings.specs.declared.lists.FormulaList.{FormulaList}
@@ -48,7 +48,7 @@ take_kept (x ∷ xs) (y ∷ ys) h = ap₂ (λ z zs. z ∷ zs) (ap (λ o. unwrap_
 
 module _ (m : Mode) (byte : ℕ) (s : Sofar) where
   -- a command that is misused
-  pub misused : (ts : List Lexeme) (c : Command) → IsRead m s ts (command c) → (why : SettingsError) → ((k : Misuse) → why ≡ misuse.Misused k → after m c s.settings ≡ Err k) → IsRefused m byte s ts (by_misuse why)
+  pub misused : (ts : List Lexeme) (c : Command) → IsItemRead m s ts (command c) → (why : SettingsError) → ((k : Misuse) → why ≡ misuse.Misused k → after m c s.settings ≡ Err k) → IsItemRefused m byte s ts (by_misuse why)
   misused ts c read (misuse.Misused k) h = (command c, read, ap (with_settings s) (h k refl))
   misused ts c read misuse.Memory h = tt
 
@@ -64,7 +64,7 @@ module _ (m : Mode) (byte : ℕ) (s : Sofar) where
     term_taken ts t u read shallow e = (within (term t), (ap is_some opened, read), shallow_term ts t shallow ∙ e)
 
     pub term_refused : (ts : List Lexeme) (t : RawTree) → IsListItem (table_of s.settings.operators) ts (term t) → nesting ts t ≤ 500
-        → (why : Refusal) → IsNo (after_term m l byte s t) why → IsRefused m byte s ts why
+        → (why : Refusal) → IsNo (after_term m l byte s t) why → IsItemRefused m byte s ts why
     term_refused ts t read shallow (Bad k) refuses = absurd refuses
     term_refused ts t read shallow Nesting refuses = absurd refuses
     term_refused ts t read shallow Symbols refuses = (within (term t), (ap is_some opened, read), shallow_term ts t shallow ∙ refuses)
@@ -72,13 +72,13 @@ module _ (m : Mode) (byte : ℕ) (s : Sofar) where
     term_refused ts t read shallow (Misused k) refuses = (within (term t), (ap is_some opened, read), shallow_term ts t shallow ∙ refuses)
     term_refused ts t read shallow Memory refuses = tt
 
-    pub item_refused : (ts : List Lexeme) (fault : TermFault) → IsItemFault (table_of s.settings.operators) ts fault → IsRefused m byte s ts (by_term fault)
+    pub item_refused : (ts : List Lexeme) (fault : TermFault) → IsItemFault (table_of s.settings.operators) ts fault → IsItemRefused m byte s ts (by_term fault)
     item_refused ts (term_fault.Bad k) h = rw opened h
     item_refused ts term_fault.Deep h = (within (term h.0), (ap is_some opened, h.1), deep_term ts h.0 h.2)
     item_refused ts term_fault.Memory h = tt
 
   -- a formula as the code has read it is the one of the item
-  pub same_formula : (list : Option FormulaList) (t : RawTree) (a : Stated) (r : FormulaRead) (table : List Symbol)
+  pub same_formula : (list : Option FormulaList) (t : RawTree) (a : LabelledFormula) (r : FormulaRead) (table : List Symbol)
       → raw_of a.formula ≡ (attributed t).formula → option_map raw_of a.label ≡ label_of (attributed t).attributes
       → a.misused ≡ has_unfit_weight (attributed t).attributes → a.hint_weight ≡ hint_weight_of (attributed t).attributes
       → IsWhole (formula_reading (style_in m s) s.symbols (raw_of a.formula)) r table → KeepsNumbers s.symbols table

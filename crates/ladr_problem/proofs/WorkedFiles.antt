@@ -15,8 +15,8 @@ use Rattle.ladr_reader.proofs.Runs.{run_item}
 use Rattle.ladr_reader.specs.Capped.{disjuncts}
 use Rattle.ladr_reader.specs.Machine.{go, standing}
 use Rattle.ladr_reader.specs.Worked.{standard}
-use Rattle.ladr_reader.specs.declared.place.Place.TheVariants.{Done}
-use Rattle.ladr_reader.specs.declared.styles.Mode.{Mode}
+use Rattle.ladr_reader.specs.declared.place.Standing.TheVariants.{Done}
+use Rattle.ladr_formulas.specs.declared.styles.Mode.{Mode}
 
 -- what the items say is what the bytes say
 pub says : (m : Mode) (bytes : List ℕ) (o : Outcome) → leb (length bytes) most_bytes ≡ true → File m (length bytes) nothing_read (items_of (lexed bytes)) o → Says m bytes (finished m (length bytes) o)

@@ -11,7 +11,7 @@ use Rattle.ladr_lex.specs.declared.misuse.Misuse.{Misuse}
 use Rattle.ladr_lex.specs.declared.misuse.Misuse.TheVariants.{UnfitAttribute, UnfitHint, UnfitDemodulator, UnfitRule}
 use Rattle.ladr_commands.specs.Commands.{commands_of}
 use Rattle.ladr_commands.specs.Faults.{IsCommandFault}
-use Rattle.ladr_commands.specs.Form.{Says}
+use Rattle.ladr_commands.specs.Form.{SaysCommand}
 use Rattle.ladr_commands.specs.declared.command.Command.{Command}
 use Rattle.ladr_commands.specs.declared.fault.CommandFault.TheVariants as command_fault
 use Rattle.ladr_problem.specs.ListItem.{ListItem, closing, term, IsListItem, IsItemFault}
@@ -25,13 +25,13 @@ use Rattle.ladr_rules.specs.Shapes.{is_hint, is_demodulator}
 use Rattle.ladr_problem.specs.Sofar.{Sofar, Listed}
 use Rattle.ladr_problem.specs.declared.refusal.Refusal.{Refusal}
 use Rattle.ladr_problem.specs.declared.refusal.Refusal.TheVariants.{Bad, Nesting, Symbols, Arity, Misused, Memory}
-use Rattle.ladr_reader.specs.Formulas.{Made, formula_reading, style_of, names_of}
+use Rattle.ladr_formulas.specs.Formulas.{Made, formula_reading, style_of, names_of}
 use Rattle.ladr_reader.specs.Nesting.{nesting}
 use Rattle.ladr_reader.specs.Table.{table_of}
 use Rattle.ladr_reader.specs.declared.fault.TermFault.TheVariants as term_fault
-use Rattle.ladr_reader.specs.declared.styles.Mode.{Mode}
-use Rattle.ladr_reader.specs.declared.styles.Mode.TheVariants.{Prover, Mace, Tester}
-use Rattle.ladr_reader.specs.declared.styles.Style.{Style}
+use Rattle.ladr_formulas.specs.declared.styles.Mode.{Mode}
+use Rattle.ladr_formulas.specs.declared.styles.Mode.TheVariants.{Prover, Mace, Tester}
+use Rattle.ladr_formulas.specs.declared.styles.Style.{Style}
 use Rattle.ladr_settings.specs.Settings.{after, is_meant}
 use Rattle.ladr_settings.specs.declared.lists.FormulaList.{FormulaList}
 use Rattle.ladr_settings.specs.declared.lists.FormulaList.TheVariants.{Assumptions, Demodulators, Goals, Hints}
@@ -41,9 +41,9 @@ use Rattle.ladr_settings.specs.declared.lists.OpenList.TheVariants.{Formulas, We
 use Rattle.ladr_settings.specs.declared.settings.Settings.{Settings}
 
 -- what an item is: a command outside lists, a term or the end of the list inside
-pub data Item : Type 0 where
-  command : Command → Item
-  within : ListItem → Item
+pub data FileItem : Type 0 where
+  command : Command → FileItem
+  within : ListItem → FileItem
 
 abbrev pub is_tester : Mode → Bool
 is_tester Prover = false
@@ -51,9 +51,9 @@ is_tester Mace = false
 is_tester Tester = true
 
 -- the item can be read as this, where it stands
-abbrev pub IsRead : Mode → Sofar → List Lexeme → Item → Type 0
-IsRead m s ts (command c) = (s.settings.list ≡ None) × Says (commands_of (is_tester m)) ts c
-IsRead m s ts (within i) = IsTrue (is_some s.settings.list) × IsListItem (table_of s.settings.operators) ts i
+abbrev pub IsItemRead : Mode → Sofar → List Lexeme → FileItem → Type 0
+IsItemRead m s ts (command c) = (s.settings.list ≡ None) × SaysCommand (commands_of (is_tester m)) ts c
+IsItemRead m s ts (within i) = IsTrue (is_some s.settings.list) × IsListItem (table_of s.settings.operators) ts i
 
 -- the item can't be read, and token k of it is the first bad one
 abbrev pub IsUnreadable : Mode → Sofar → List Lexeme → ℕ → Type 0
@@ -153,17 +153,17 @@ after_term m OtherFormulas byte s t = after_formula m None byte s t
 after_term m (Formulas list) byte s t = after_formula m (Some list) byte s t
 
 -- an item whose first byte stands here
-abbrev pub after_item : Mode → ℕ → Sofar → List Lexeme → Item → Result Sofar Refusal
+abbrev pub after_item : Mode → ℕ → Sofar → List Lexeme → FileItem → Result Sofar Refusal
 after_item m byte s ts (command c) = with_settings s (after m c s.settings)
 after_item m byte s ts (within closing) = Ok (record s { settings = record s.settings { list = None } })
 after_item m byte s ts (within (term t)) =
     if nat_lt MOST_LEVELS (nesting ts t) then Err Nesting else option_map_or (λ l. after_term m l byte s t) s.settings.list (Ok s)
 
 -- The item is refused so: it can't be read, or is read and passes a limit or is misused. Nothing is said of memory.
-abbrev pub IsRefused : Mode → ℕ → Sofar → List Lexeme → Refusal → Type 0
-IsRefused m byte s ts (Bad k) = IsUnreadable m s ts k
-IsRefused m byte s ts Nesting = (i : Item) × IsRead m s ts i × (after_item m byte s ts i ≡ Err Nesting)
-IsRefused m byte s ts Symbols = (i : Item) × IsRead m s ts i × (after_item m byte s ts i ≡ Err Symbols)
-IsRefused m byte s ts Arity = (i : Item) × IsRead m s ts i × (after_item m byte s ts i ≡ Err Arity)
-IsRefused m byte s ts (Misused k) = (i : Item) × IsRead m s ts i × (after_item m byte s ts i ≡ Err (Misused k))
-IsRefused m byte s ts Memory = Unit {0}
+abbrev pub IsItemRefused : Mode → ℕ → Sofar → List Lexeme → Refusal → Type 0
+IsItemRefused m byte s ts (Bad k) = IsUnreadable m s ts k
+IsItemRefused m byte s ts Nesting = (i : FileItem) × IsItemRead m s ts i × (after_item m byte s ts i ≡ Err Nesting)
+IsItemRefused m byte s ts Symbols = (i : FileItem) × IsItemRead m s ts i × (after_item m byte s ts i ≡ Err Symbols)
+IsItemRefused m byte s ts Arity = (i : FileItem) × IsItemRead m s ts i × (after_item m byte s ts i ≡ Err Arity)
+IsItemRefused m byte s ts (Misused k) = (i : FileItem) × IsItemRead m s ts i × (after_item m byte s ts i ≡ Err (Misused k))
+IsItemRefused m byte s ts Memory = Unit {0}

@@ -12,15 +12,15 @@ use Rattle.ladr_problem.specs.Items.{items_of, lexemes}
 use Rattle.ladr_lex.specs.declared.limits.TheConstants.{MOST_BYTES}
 use Rattle.ladr_lex.specs.Cuts.{Piece, Cuts}
 use Rattle.ladr_interpretations.specs.Good.{tables_for}
-use Rattle.ladr_problem.specs.Adding.{Item, IsRead, IsUnreadable, after_item}
+use Rattle.ladr_problem.specs.Adding.{FileItem, IsItemRead, IsUnreadable, after_item}
 use Rattle.ladr_problem.specs.Sofar.{Sofar, Listed, nothing_read}
 use Rattle.ladr_problem.specs.declared.refusal.Limit.{Limit}
 use Rattle.ladr_problem.specs.declared.refusal.Limit.TheVariants as limit
 use Rattle.ladr_problem.specs.declared.refusal.Refusal.{Refusal}
 use Rattle.ladr_problem.specs.declared.refusal.Refusal.TheVariants.{Bad, Nesting, Symbols, Arity, Misused, Memory}
-use Rattle.ladr_reader.specs.declared.styles.Mode.{Mode}
+use Rattle.ladr_formulas.specs.declared.styles.Mode.{Mode}
 use Rattle.model_tables.specs.Tables.{Finite}
-use Rattle.ladr_reader.specs.declared.styles.Mode.TheVariants.{Prover, Mace, Tester}
+use Rattle.ladr_formulas.specs.declared.styles.Mode.TheVariants.{Prover, Mace, Tester}
 
 -- A file says this: a problem with its settings; or it is refused at a byte, where something can't be read, a row of misuse is
 -- broken, or a limit is passed.
@@ -53,12 +53,12 @@ pub data File (m : Mode) (end : ℕ) : Sofar → List (List Piece) → Outcome �
       {s : Sofar} {ts : List Piece} {items : List (List Piece)} (k : ℕ) →
       IsUnreadable m s (lexemes ts) k → File m end s (ts ∷ items) (unreadable (start_at end ts k))
   breaks :
-      {s : Sofar} {ts : List Piece} {items : List (List Piece)} (i : Item) (why : Refusal) →
-      IsRead m s (lexemes ts) i → after_item m (start_at end ts 0) s (lexemes ts) i ≡ Err why →
+      {s : Sofar} {ts : List Piece} {items : List (List Piece)} (i : FileItem) (why : Refusal) →
+      IsItemRead m s (lexemes ts) i → after_item m (start_at end ts 0) s (lexemes ts) i ≡ Err why →
       File m end s (ts ∷ items) (refused_at (start_at end ts 0) why)
   goes_on :
-      {s : Sofar} {ts : List Piece} {items : List (List Piece)} {o : Outcome} (i : Item) (t : Sofar) →
-      IsRead m s (lexemes ts) i → after_item m (start_at end ts 0) s (lexemes ts) i ≡ Ok t →
+      {s : Sofar} {ts : List Piece} {items : List (List Piece)} {o : Outcome} (i : FileItem) (t : Sofar) →
+      IsItemRead m s (lexemes ts) i → after_item m (start_at end ts 0) s (lexemes ts) i ≡ Ok t →
       File m end t items o → File m end s (ts ∷ items) o
 
 -- where the first formula begins that has a symbol or an element which the tables lack

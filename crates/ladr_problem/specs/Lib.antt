@@ -4,7 +4,9 @@ pub mod File
 pub mod ItemView
 pub mod Items
 pub mod ListItem
+pub mod Names
 pub mod Places
+pub mod Proper
 pub mod Reading
 pub mod Refusals
 pub mod Sofar

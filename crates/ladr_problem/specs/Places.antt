@@ -8,9 +8,9 @@ use Rattle.ladr_problem.specs.File.{Says, unreadable, misused, too_large}
 use Rattle.ladr_problem.specs.declared.refusal.Place.{Place}
 use Rattle.ladr_problem.specs.declared.refusal.ReadError.{ReadError}
 use Rattle.ladr_problem.specs.declared.refusal.ReadError.TheVariants as refusal
-use Rattle.ladr_problem.specs.declared.stop.Stop.{Stop}
-use Rattle.ladr_problem.specs.declared.stop.Stop.TheVariants as stops
-use Rattle.ladr_reader.specs.declared.styles.Mode.{Mode}
+use Rattle.ladr_problem.specs.declared.stop.RefusalAt.{RefusalAt}
+use Rattle.ladr_problem.specs.declared.stop.RefusalAt.TheVariants as stops
+use Rattle.ladr_formulas.specs.declared.styles.Mode.{Mode}
 
 -- a byte that can be shown is, and another one is a question mark
 abbrev pub shown_byte : ℕ → ℕ
@@ -45,7 +45,7 @@ IsReadError m bytes (refusal.TooLarge byte what) = Says m bytes (too_large byte 
 IsReadError m bytes refusal.Memory = Unit {0}
 
 -- the refusal with its place
-abbrev pub IsPlaced : List ℕ → Stop → ReadError → Type 0
+abbrev pub IsPlaced : List ℕ → RefusalAt → ReadError → Type 0
 IsPlaced bytes (stops.Unreadable byte) (refusal.Unreadable place) = (place.byte ≡ byte) × IsPlace bytes place
 IsPlaced bytes (stops.Misuse byte row) (refusal.Misuse place r) = (place.byte ≡ byte) × (r ≡ row) × IsPlace bytes place
 IsPlaced bytes (stops.TooLarge byte what) (refusal.TooLarge b w) = (b ≡ byte) × (w ≡ what)

@@ -7,13 +7,13 @@ use Rattle.fol_core.specs.FormulaView.{fol_of}
 use Rattle.fol_core.specs.RuleView.{rule_of}
 use Rattle.ladr_lex.specs.declared.limits.TheConstants.{MOST_SYMBOLS}
 use Rattle.ladr_lex.specs.Lexeme.{Lexeme}
-use Rattle.ladr_problem.specs.Adding.{Item, IsRead, after_item, least_misuse, with_listed}
+use Rattle.ladr_problem.specs.Adding.{FileItem, IsItemRead, after_item, least_misuse, with_listed}
 use Rattle.ladr_problem.specs.Sofar.{Sofar, listed_of}
 use Rattle.ladr_problem.specs.declared.refusal.Refusal.{Refusal}
 use Rattle.ladr_problem.specs.declared.refusal.Refusal.TheVariants.{Bad, Nesting, Symbols, Arity, Misused, Memory}
-use Rattle.ladr_reader.specs.declared.formulas.FormulaRead.{FormulaRead}
-use Rattle.ladr_reader.specs.declared.styles.Mode.{Mode}
-use Rattle.ladr_rules.specs.declared.attributes.Stated.{Stated}
+use Rattle.ladr_formulas.specs.declared.formulas.FormulaRead.{FormulaRead}
+use Rattle.ladr_formulas.specs.declared.styles.Mode.{Mode}
+use Rattle.ladr_rules.specs.declared.attributes.LabelledFormula.{LabelledFormula}
 use Rattle.ladr_rules.specs.declared.rules.RuleRead.{RuleRead}
 use Rattle.ladr_settings.specs.Settings.{is_meant}
 use Rattle.ladr_settings.specs.declared.lists.FormulaList.{FormulaList}
@@ -28,12 +28,12 @@ IsNo r (Misused k) = r ≡ Err (Misused k)
 IsNo r Memory = Unit {0}
 
 -- what was read with the formula's symbols, and then the formula
-abbrev pub with_read : FormulaList → ℕ → Sofar → Stated → FormulaRead → Result Sofar Refusal
+abbrev pub with_read : FormulaList → ℕ → Sofar → LabelledFormula → FormulaRead → Result Sofar Refusal
 with_read list byte s a r =
     option_map_or (λ k. Err (Misused k)) (least_misuse list a.misused (fol_of r.formula.shape) r.least) (Ok (with_listed list (listed_of r.formula a.label byte) a.hint_weight s))
 
 -- the table has the formula's symbols behind so many
-abbrev pub after_read : Mode → Option FormulaList → ℕ → ℕ → Sofar → Stated → FormulaRead → Result Sofar Refusal
+abbrev pub after_read : Mode → Option FormulaList → ℕ → ℕ → Sofar → LabelledFormula → FormulaRead → Result Sofar Refusal
 after_read m list byte before s a r =
     if nat_lt MOST_SYMBOLS (length s.symbols) then Err Symbols
     else (if r.large then Err Arity
@@ -42,7 +42,7 @@ after_read m list byte before s a r =
 
 -- an item is read, and makes this of what was read so far
 abbrev pub IsTaken : Mode → ℕ → Sofar → List Lexeme → Sofar → Type 0
-IsTaken m byte s ts t = (i : Item) × IsRead m s ts i × (after_item m byte s ts i ≡ Ok t)
+IsTaken m byte s ts t = (i : FileItem) × IsItemRead m s ts i × (after_item m byte s ts i ≡ Ok t)
 
 -- what was read with the symbols of a rule of weights, and then the rule; the table has its symbols behind so many
 abbrev pub after_rule_read : Mode → ℕ → Sofar → RuleRead → Result Sofar Refusal

@@ -5,18 +5,18 @@ use Rattle.ladr_problem.specs.File.{Outcome, unreadable, misused, too_large, sta
 use Rattle.ladr_problem.specs.declared.refusal.Limit.TheVariants as limit
 use Rattle.ladr_problem.specs.declared.refusal.Refusal.{Refusal}
 use Rattle.ladr_problem.specs.declared.refusal.Refusal.TheVariants as refusal
-use Rattle.ladr_problem.specs.declared.stop.Stop.{Stop}
-use Rattle.ladr_problem.specs.declared.stop.Stop.TheVariants.{Unreadable, Misuse, TooLarge, Memory}
+use Rattle.ladr_problem.specs.declared.stop.RefusalAt.{RefusalAt}
+use Rattle.ladr_problem.specs.declared.stop.RefusalAt.TheVariants.{Unreadable, Misuse, TooLarge, Memory}
 
 -- the file says so; nothing is said of memory
-abbrev pub IsStop : (Outcome → Type 0) → Stop → Type 0
+abbrev pub IsStop : (Outcome → Type 0) → RefusalAt → Type 0
 IsStop says (Unreadable byte) = says (unreadable byte)
 IsStop says (Misuse byte row) = says (misused byte row)
 IsStop says (TooLarge byte what) = says (too_large byte what)
 IsStop says Memory = Unit {0}
 
 -- the refusal of an item with its place
-abbrev pub by_refusal : ℕ → List Piece → Refusal → Stop
+abbrev pub by_refusal : ℕ → List Piece → Refusal → RefusalAt
 by_refusal end ts (refusal.Bad k) = Unreadable (start_at end ts k)
 by_refusal end ts refusal.Nesting = TooLarge (start_at end ts 0) limit.Nesting
 by_refusal end ts refusal.Symbols = TooLarge (start_at end ts 0) limit.Symbols

@@ -5,7 +5,7 @@ use Rattle.ladr_lex.specs.Cuts.{Piece}
 use Rattle.ladr_problem.specs.File.{Outcome, File, finished}
 use Rattle.ladr_problem.specs.Sofar.{Sofar, input_of, hint_of}
 use Rattle.ladr_problem.specs.declared.read.FileRead.{FileRead}
-use Rattle.ladr_reader.specs.declared.styles.Mode.{Mode}
+use Rattle.ladr_formulas.specs.declared.styles.Mode.{Mode}
 
 -- the code has what a file says
 pub record IsOf (s : Sofar) (r : FileRead) : Type 0 where

@@ -7,7 +7,7 @@ use Rattle.fol_core.specs.declared.problem.Role.TheVariants.{Assumption, Goal}
 use Rattle.fol_core.specs.declared.symbols.Kind.TheVariants.{Function, Relation}
 use Rattle.ladr_problem.specs.Sofar.{Sofar, Listed, nothing_read}
 use Rattle.ladr_reader.specs.Worked.{constant, unary}
-use Rattle.ladr_reader.specs.WorkedFormulas.{function}
+use Rattle.ladr_formulas.specs.WorkedFormulas.{function}
 use Rattle.ladr_settings.specs.Settings.{at_start}
 
 -- the relation with a number, of one term

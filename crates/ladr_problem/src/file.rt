@@ -9,9 +9,9 @@ ghost use Rattle.ladr_problem.specs.Stops.{IsStop, by_refusal};
 use crate::cut::item_end;
 use crate::draft::Draft;
 use crate::refusal::{Limit, Refusal};
-use crate::stop::Stop;
+use crate::stop::RefusalAt;
+use ladr_formulas::Mode;
 use ladr_lex::Token;
-use ladr_reader::Mode;
 use std::alloc::Global;
 
 // Where a token of an item begins; behind the last one the input ends.
@@ -25,17 +25,17 @@ fn start_at(end: usize, tokens: &[Token], k: usize) -> usize
 }
 
 // The refusal of an item, with its place.
-fn by_refusal(end: usize, tokens: &[Token], why: Refusal) -> Stop
+fn by_refusal(end: usize, tokens: &[Token], why: Refusal) -> RefusalAt
     ensures { result ≡ by_refusal end (pieces_of tokens.now) why }
 {
     let byte = start_at(end, tokens, 0) as u64;
     match why {
-        Refusal::Bad(k) => Stop::Unreadable(start_at(end, tokens, k) as u64),
-        Refusal::Nesting => Stop::TooLarge(byte, Limit::Nesting),
-        Refusal::Symbols => Stop::TooLarge(byte, Limit::Symbols),
-        Refusal::Arity => Stop::TooLarge(byte, Limit::Arity),
-        Refusal::Misused(misuse) => Stop::Misuse(byte, misuse),
-        Refusal::Memory => Stop::Memory,
+        Refusal::Bad(k) => RefusalAt::Unreadable(start_at(end, tokens, k) as u64),
+        Refusal::Nesting => RefusalAt::TooLarge(byte, Limit::Nesting),
+        Refusal::Symbols => RefusalAt::TooLarge(byte, Limit::Symbols),
+        Refusal::Arity => RefusalAt::TooLarge(byte, Limit::Arity),
+        Refusal::Misused(misuse) => RefusalAt::Misuse(byte, misuse),
+        Refusal::Memory => RefusalAt::Memory,
     }
 }
 
@@ -46,7 +46,7 @@ fn take_items(
     end: usize,
     tokens: &[Token],
     draft: &mut Draft,
-) -> Result<(), Stop>
+) -> Result<(), RefusalAt>
     ensures ok { OnOk result ((o : Outcome) → File program end (sofar_of draft.new) [] o
         → File program end (sofar_of draft.old) (items_of (pieces_of tokens.now)) o) }
     ensures stop { IfErr result (IsStop (File program end (sofar_of draft.old)
@@ -72,7 +72,7 @@ pub fn take_all(
     end: usize,
     tokens: &[Token],
     draft: &mut Draft,
-) -> Result<(), Stop>
+) -> Result<(), RefusalAt>
     ensures ok { OnOk result (File program end (sofar_of draft.old)
         (items_of (pieces_of tokens.now)) (problem (sofar_of draft.new))) }
     ensures stop { IfErr result (IsStop (File program end (sofar_of draft.old)
@@ -83,10 +83,10 @@ pub fn take_all(
         Err(stop) => return Err(stop),
     }
     if draft.settings.list.is_some() {
-        return Err(Stop::Unreadable(end as u64));
+        return Err(RefusalAt::Unreadable(end as u64));
     }
     if draft.settings.block.is_some() {
-        return Err(Stop::Unreadable(end as u64));
+        return Err(RefusalAt::Unreadable(end as u64));
     }
     Ok(())
 }

@@ -9,9 +9,9 @@ ghost use Rattle.ladr_problem.specs.Reading.{after_read, with_read, IsNo};
 use crate::draft::Draft;
 use crate::refusal::Refusal;
 use fol_core::Raw;
+use ladr_formulas::{FormulaRead, Mode, read_formula};
 use ladr_lex::{MOST_SYMBOLS, Misuse};
-use ladr_reader::{FormulaRead, Mode, read_formula};
-use ladr_rules::{Stated, is_demodulator, is_hint};
+use ladr_rules::{LabelledFormula, is_demodulator, is_hint};
 use ladr_settings::FormulaList;
 use std::alloc::{AllocError, Global};
 
@@ -83,7 +83,7 @@ impl Draft {
         ensures refused { IfErr result (IsNo (after_formula program list byte (sofar_of self.old)
             (raw_of raw))) }
     {
-        let stated = Stated::of(raw);
+        let stated = LabelledFormula::of(raw);
         let before = self.symbols.len();
         let prolog = self.settings.options.prolog_style_variables;
         let read = read_formula(alloc, &stated.formula, &mut self.symbols, program, prolog)?;
@@ -98,7 +98,7 @@ impl Draft {
         list: Option<FormulaList>,
         byte: u64,
         before: usize,
-        stated: Stated,
+        stated: LabelledFormula,
         read: FormulaRead,
     ) -> Result<(), Refusal>
         ensures ok { OnOk result (after_read program list byte before
@@ -129,7 +129,7 @@ impl Draft {
         alloc: Global,
         list: FormulaList,
         byte: u64,
-        stated: Stated,
+        stated: LabelledFormula,
         read: FormulaRead,
     ) -> Result<(), Refusal>
         ensures ok { OnOk result (with_read list byte (sofar_of self.old) stated read

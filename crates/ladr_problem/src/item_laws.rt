@@ -4,7 +4,7 @@ ghost use Rattle.ladr_lex.specs.Cuts.{pieces_of};
 ghost use Rattle.ladr_lex.specs.Lexed.{lexed};
 ghost use Rattle.ladr_lex.specs.Lexeme.{Lexeme, lexemes_of};
 ghost use Rattle.ladr_lex.specs.declared.token.Token.{Token};
-ghost use Rattle.ladr_reader.specs.Table.{Table};
+ghost use Rattle.ladr_reader.specs.Table.{OperatorTable};
 ghost use Rattle.ladr_reader.specs.Worked.{line, constant, unary, standard};
 ghost use Rattle.ladr_reader.specs.declared.fault.TermFault.TheVariants.{Bad};
 ghost use Rattle.ladr_problem.specs.Items.{items_of, lexemes};
@@ -13,7 +13,7 @@ ghost use Rattle.ladr_problem.specs.WorkedItems.{with_prefix, two_items};
 
 /// Tokens are one item of a list at most.
 pub fn one_item()
-    ensures { (g : Table) (ts : List Lexeme) (i j : ListItem) → IsListItem g ts i
+    ensures { (g : OperatorTable) (ts : List Lexeme) (i j : ListItem) → IsListItem g ts i
         → IsListItem g ts j → i ≡ j }
 {}
 

@@ -2,15 +2,22 @@
 ghost use Rattle.std.specs.Prelude.{◌≡◌, ℕ, List, [], codes};
 ghost use Rattle.ladr_lex.specs.declared.misuse.Misuse.TheVariants.{UnknownFlag, TwoKinds, UnfitHint, UnfitDemodulator, UnfitRule, Uncovered};
 ghost use Rattle.ladr_problem.specs.File.{Outcome, Says, problem, unreadable, misused};
-ghost use Rattle.ladr_problem.specs.Sofar.{nothing_read};
+ghost use Rattle.ladr_problem.specs.Proper.{IsProper};
+ghost use Rattle.ladr_problem.specs.Sofar.{Sofar, stated_in, nothing_read};
 ghost use Rattle.ladr_problem.specs.Worked.{labelled_and_goal, one_equation, weighed};
-ghost use Rattle.ladr_reader.specs.declared.styles.Mode.{Mode};
-ghost use Rattle.ladr_reader.specs.declared.styles.Mode.TheVariants.{Prover, Mace, Tester};
+ghost use Rattle.ladr_formulas.specs.declared.styles.Mode.{Mode};
+ghost use Rattle.ladr_formulas.specs.declared.styles.Mode.TheVariants.{Prover, Mace, Tester};
 
 /// A file says one thing at most to a program.
 pub fn one_outcome()
     ensures { (m : Mode) (bytes : List ℕ) (o p : Outcome) → Says m bytes o → Says m bytes p
         → o ≡ p }
+{}
+
+/// What a file says to a program is a proper problem.
+pub fn problems_are_proper()
+    ensures { (m : Mode) (bytes : List ℕ) (s : Sofar) → Says m bytes (problem s)
+        → IsProper (stated_in s) s.settings.options }
 {}
 
 /// Files worked out.

@@ -4,11 +4,13 @@ ghost use Rattle.fol_core.specs.Stated.{stated_of, IsWellFormed};
 ghost use Rattle.ladr_problem.specs.Items.{items_of};
 ghost use Rattle.ladr_lex.specs.Cuts.{Cuts, piece_of, pieces_of};
 ghost use Rattle.ladr_lex.specs.Places.{line_of, column_of};
+ghost use Rattle.ladr_lex.specs.declared.limits.TheConstants.{MOST_SYMBOLS};
 ghost use Rattle.ladr_problem.specs.Draft.{sofar_of};
 ghost use Rattle.ladr_problem.specs.File.{Says, problem, first_lacking, tested, most_bytes};
 ghost use Rattle.ladr_options.specs.Ranges.{AreInRange};
-ghost use Rattle.ladr_reader.specs.declared.styles.Mode.{Mode};
-ghost use Rattle.ladr_reader.specs.declared.styles.Mode.TheVariants.{Tester};
+ghost use Rattle.ladr_problem.specs.Names.{AreTellable};
+ghost use Rattle.ladr_formulas.specs.declared.styles.Mode.{Mode};
+ghost use Rattle.ladr_formulas.specs.declared.styles.Mode.TheVariants.{Tester};
 ghost use Rattle.ladr_problem.specs.Places.{shown_byte, shown_len, shown, shown_at, IsPlaced, IsReadError};
 ghost use Rattle.ladr_problem.specs.Sofar.{Sofar, input_of, nothing_read};
 ghost use Rattle.ladr_problem.specs.Stops.{IsStop};
@@ -17,11 +19,11 @@ ghost use Rattle.ladr_problem.specs.Whole.{IsOf, IsFinished};
 use crate::draft::Draft;
 use crate::file::take_all;
 use crate::refusal::{Limit, Place, ReadError};
-use crate::stop::Stop;
+use crate::stop::RefusalAt;
 use fol_core::{Input, Name, Problem};
+use ladr_formulas::Mode;
 use ladr_interpretations::{Named, bind, covers};
 use ladr_lex::{Lex, Misuse, Ops, Token, TokenKind, place_of, tokens};
-use ladr_reader::Mode;
 use ladr_settings::Settings;
 use model_tables::Tables;
 use std::alloc::{AllocError, Global};
@@ -50,20 +52,20 @@ fn first_lacking(tables: &Tables, inputs: &[Input]) -> Option<u64>
 }
 
 // Looks for a formula that the interpretation doesn't cover.
-fn test(alloc: Global, end: usize, draft: &Draft) -> Result<(), Stop>
+fn test(alloc: Global, end: usize, draft: &Draft) -> Result<(), RefusalAt>
     ensures ok { OnOk result (tested end (problem (sofar_of draft.now))
         ≡ problem (sofar_of draft.now)) }
     ensures stop { IfErr result (IsStop (λ o. tested end (problem (sofar_of draft.now)) ≡ o)) }
 {
     let Some(named) = &draft.settings.interpretation else {
-        return Err(Stop::Misuse(end as u64, Misuse::Uncovered));
+        return Err(RefusalAt::Misuse(end as u64, Misuse::Uncovered));
     };
     let tables = match bind(alloc, named, &draft.symbols) {
         Ok(tables) => tables,
-        Err(_) => return Err(Stop::Memory),
+        Err(_) => return Err(RefusalAt::Memory),
     };
     match first_lacking(&tables, &draft.inputs) {
-        Some(byte) => Err(Stop::Misuse(byte, Misuse::Uncovered)),
+        Some(byte) => Err(RefusalAt::Misuse(byte, Misuse::Uncovered)),
         None => Ok(()),
     }
 }
@@ -75,7 +77,7 @@ fn take_file(
     end: usize,
     tokens: &[Token],
     draft: &mut Draft,
-) -> Result<(), Stop>
+) -> Result<(), RefusalAt>
     ensures ok { OnOk result (IsFinished program end (sofar_of draft.old)
         (items_of (pieces_of tokens.now)) (problem (sofar_of draft.new))) }
     ensures stop { IfErr result (IsStop (IsFinished program end (sofar_of draft.old)
@@ -163,21 +165,21 @@ fn place(alloc: Global, bytes: &[u8], tokens: &[Token], byte: u64) -> Result<Pla
 }
 
 // The refusal of a file with its place.
-fn placed(alloc: Global, bytes: &[u8], tokens: &[Token], stop: Stop) -> ReadError
+fn placed(alloc: Global, bytes: &[u8], tokens: &[Token], stop: RefusalAt) -> ReadError
     requires { Cuts 0 bytes.now (pieces_of tokens.now) }
     ensures { IsPlaced bytes.now stop result }
 {
     match stop {
-        Stop::Unreadable(byte) => match place(alloc, bytes, tokens, byte) {
+        RefusalAt::Unreadable(byte) => match place(alloc, bytes, tokens, byte) {
             Ok(place) => ReadError::Unreadable(place),
             Err(_) => ReadError::Memory,
         },
-        Stop::Misuse(byte, misuse) => match place(alloc, bytes, tokens, byte) {
+        RefusalAt::Misuse(byte, misuse) => match place(alloc, bytes, tokens, byte) {
             Ok(place) => ReadError::Misuse(place, misuse),
             Err(_) => ReadError::Memory,
         },
-        Stop::TooLarge(byte, what) => ReadError::TooLarge { byte, what },
-        Stop::Memory => ReadError::Memory,
+        RefusalAt::TooLarge(byte, what) => ReadError::TooLarge { byte, what },
+        RefusalAt::Memory => ReadError::Memory,
     }
 }
 
@@ -236,6 +238,9 @@ fn cut<'a>(alloc: Global, bytes: &'a [u8]) -> Result<Vec<Token<'a>>, ReadError>
 pub fn read_problem(alloc: Global, program: Mode, bytes: &[u8]) -> Result<FileRead, ReadError>
     ensures read { IfOk result (λ r. (s : Sofar) × Says program bytes.now (problem s) × IsOf s r) }
     ensures well_formed { IfOk result (λ r. IsWellFormed (stated_of r.problem)) }
+    // Its symbols are few enough, and can be told apart.
+    ensures few { IfOk result (λ r. length r.problem.symbols ≤ MOST_SYMBOLS) }
+    ensures tellable { IfOk result (λ r. AreTellable r.problem.symbols) }
     // Its options have values of theirs, and a program that tests interpretations has one.
     ensures ranged { IfOk result (λ r. AreInRange r.problem.options) }
     ensures interpreted { program ≡ Tester → IfOk result (λ r. IsTrue (is_some r.interpretation)) }

@@ -8,8 +8,8 @@ ghost use Rattle.ladr_problem.specs.Reading.{IsNo, after_rule_read};
 use crate::draft::Draft;
 use crate::refusal::Refusal;
 use fol_core::Raw;
+use ladr_formulas::Mode;
 use ladr_lex::{MOST_SYMBOLS, Misuse};
-use ladr_reader::Mode;
 use ladr_rules::{RuleRead, kbo_rule, weight_rule};
 use std::alloc::Global;
 

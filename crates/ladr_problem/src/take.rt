@@ -2,7 +2,7 @@
 ghost use Rattle.std.specs.Prelude.{◌≡◌, OnOk, IfErr, None, Some, Ok};
 ghost use Rattle.fol_core.specs.RawView.{raw_of};
 ghost use Rattle.ladr_lex.specs.Lexeme.{lexemes_of};
-ghost use Rattle.ladr_problem.specs.Adding.{is_tester, after_term, IsRefused};
+ghost use Rattle.ladr_problem.specs.Adding.{is_tester, after_term, IsItemRefused};
 ghost use Rattle.ladr_problem.specs.Draft.{sofar_of};
 ghost use Rattle.ladr_problem.specs.Reading.{IsNo, IsTaken};
 
@@ -12,8 +12,8 @@ use crate::list_items::read_list_item;
 use crate::refusal::{Refusal, by_command, by_misuse, by_term};
 use fol_core::Raw;
 use ladr_commands::read_command;
+use ladr_formulas::Mode;
 use ladr_lex::Token;
-use ladr_reader::Mode;
 use ladr_settings::OpenList;
 use std::alloc::Global;
 
@@ -37,7 +37,7 @@ impl Draft {
     ) -> Result<(), Refusal>
         ensures ok { OnOk result (IsTaken program byte (sofar_of self.old) (lexemes_of tokens.now)
             (sofar_of self.new)) }
-        ensures refused { IfErr result (IsRefused program byte (sofar_of self.old)
+        ensures refused { IfErr result (IsItemRefused program byte (sofar_of self.old)
             (lexemes_of tokens.now)) }
     {
         match self.settings.list {
@@ -57,7 +57,7 @@ impl Draft {
         requires { self.old.settings.list ≡ None }
         ensures ok { OnOk result (IsTaken program byte (sofar_of self.old) (lexemes_of tokens.now)
             (sofar_of self.new)) }
-        ensures refused { IfErr result (IsRefused program byte (sofar_of self.old)
+        ensures refused { IfErr result (IsItemRefused program byte (sofar_of self.old)
             (lexemes_of tokens.now)) }
     {
         match read_command(alloc, is_tester(program), tokens) {
@@ -81,7 +81,7 @@ impl Draft {
         requires { self.old.settings.list ≡ Some list }
         ensures ok { OnOk result (IsTaken program byte (sofar_of self.old) (lexemes_of tokens.now)
             (sofar_of self.new)) }
-        ensures refused { IfErr result (IsRefused program byte (sofar_of self.old)
+        ensures refused { IfErr result (IsItemRefused program byte (sofar_of self.old)
             (lexemes_of tokens.now)) }
     {
         match read_list_item(alloc, &self.settings.operators, tokens) {

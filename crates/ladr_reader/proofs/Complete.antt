@@ -8,9 +8,9 @@ use Rattle.ladr_lex.specs.declared.operators.Operator.{Operator}
 use Rattle.ladr_reader.specs.Capped.{capped, with_argument, whole_of, built, finished}
 use Rattle.ladr_reader.specs.Machine.{State, standing, follow_of, follow_of_symbol, allows, closes, behind_operator, after, next, go}
 use Rattle.ladr_reader.specs.Reads.{Reads, atom, applied, group, bound, prefixed, postfixed, infixed, ReadsAll, single, further, Item}
-use Rattle.ladr_reader.specs.Table.{Table, left, right, takes, grows, operator_grows, tree_grows}
-use Rattle.ladr_reader.specs.declared.place.Place.{Place}
-use Rattle.ladr_reader.specs.declared.place.Place.TheVariants.{Operand, Term, Done}
+use Rattle.ladr_reader.specs.Table.{OperatorTable, left, right, takes, grows, operator_grows, tree_grows}
+use Rattle.ladr_reader.specs.declared.place.Standing.{Standing}
+use Rattle.ladr_reader.specs.declared.place.Standing.TheVariants.{Operand, Term, Done}
 use Rattle.ladr_reader.specs.declared.roles.Follow.TheVariants.{Operates}
 use Rattle.ladr_reader.specs.declared.sides.Side.{Side}
 use Rattle.ladr_reader.specs.declared.sides.Side.TheVariants.{UpTo}
@@ -22,13 +22,13 @@ use Rattle.ladr_reader.proofs.Levels.{all_capped, none_capped, with_capped, whol
 use Rattle.ladr_reader.proofs.Moves.{operand, go_append, prefix_whole, infix_whole, begin_name, begin_word, begin_prefix, behind_atom, closes_less, allows_left, after_operator, behind_infix, after_waiting, prefix_grows}
 
 -- a token behind the tokens of a term finds that term on what waited
-abbrev Finds : ℕ → Table → List Lexeme → RawTree → ℕ → Type 0
+abbrev Finds : ℕ → OperatorTable → List Lexeme → RawTree → ℕ → Type 0
 Finds n g ts t p =
     (fs : List Frame) → allows fs p (tree_grows g t) ≡ true → (x : Lexeme) → closes (follow_of g x) p ≡ true →
     next n g (go n g (operand fs) ts) x ≡ after n (follow_of g x) (built n t) p fs
 
 -- a comma or a closing parenthesis behind the tokens of arguments finds these
-abbrev FindsAll : ℕ → Table → List Lexeme → List RawTree → Type 0
+abbrev FindsAll : ℕ → OperatorTable → List Lexeme → List RawTree → Type 0
 FindsAll n g ts us =
     (s : List ℕ) (fs : List Frame) →
     (next n g (go n g (operand (Applied s (Some []) ∷ fs)) ts) comma ≡ operand (Applied s (all_capped n us) ∷ fs))
@@ -37,7 +37,7 @@ FindsAll n g ts us =
 
 -- an argument behind others
 one_more :
-    (n : ℕ) (g : Table) (ts : List Lexeme) (ks : List RawTree) (t : RawTree) (p : ℕ) (s : List ℕ) (fs : List Frame) →
+    (n : ℕ) (g : OperatorTable) (ts : List Lexeme) (ks : List RawTree) (t : RawTree) (p : ℕ) (s : List ℕ) (fs : List Frame) →
     Finds n g ts t p →
     (next n g (go n g (operand (Applied s (all_capped n ks) ∷ fs)) ts) comma
     ≡ operand (Applied s (all_capped n (ks ++ t ∷ [])) ∷ fs))
@@ -56,7 +56,7 @@ one_more n g ts ks t p s fs finds =
 
 -- an operator behind the tokens of its left argument
 behind_left :
-    (n : ℕ) (g : Table) (ts : List Lexeme) (t : RawTree) (q : ℕ) (k : Sort) (s : List ℕ) (o : Operator)
+    (n : ℕ) (g : OperatorTable) (ts : List Lexeme) (t : RawTree) (q : ℕ) (k : Sort) (s : List ℕ) (o : Operator)
     (fs : List Frame) → if_after (g.op s) ≡ Some o → Finds n g ts t q → takes (left o.kind) o.precedence q ≡ true →
     allows fs o.precedence (operator_grows (if_after (g.op s))) ≡ true →
     next n g (go n g (operand fs) ts) (symbol k s) ≡ behind_operator n (right o.kind) s o (built n t) fs
@@ -70,7 +70,7 @@ behind_left n g ts t q k s o fs e finds takes_it h =
     ∙ rw f (after_operator n s o (built n t) q fs takes_it fits)
 
 mutual
-  pub complete : (n : ℕ) (g : Table) {ts : List Lexeme} {t : RawTree} {p : ℕ} → Reads g ts t p → Finds n g ts t p
+  pub complete : (n : ℕ) (g : OperatorTable) {ts : List Lexeme} {t : RawTree} {p : ℕ} → Reads g ts t p → Finds n g ts t p
   complete n g (atom k s w e) fs h x c =
       ap (λ (z : Option State). next n g z x) (begin_name n g k s fs w e) ∙ behind_atom n (follow_of g x) s fs c
   complete n g (applied {ts} {us} k s w e rs) fs h x c =
@@ -104,7 +104,7 @@ mutual
       ∙ complete n g l (Waiting (Infix s (capped n t)) (right o.kind) o.precedence ∷ fs) fits x (closes_less (follow_of g x) o.precedence q (ends_at_most (right o.kind) o.precedence q (tree_grows g u) fits) c)
       ∙ after_waiting n (follow_of g x) (Infix s (capped n t)) (right o.kind) o.precedence q (built n u) _ fs c (infix_whole n s t u)
 
-  pub complete_all : (n : ℕ) (g : Table) {ts : List Lexeme} {us : List RawTree} → ReadsAll g ts us → FindsAll n g ts us
+  pub complete_all : (n : ℕ) (g : OperatorTable) {ts : List Lexeme} {us : List RawTree} → ReadsAll g ts us → FindsAll n g ts us
   complete_all n g (single {ts} {t} {p} r most) s fs =
       let only = one_more n g ts [] t p s fs (complete n g r) in rw (none_capped n) at only
   complete_all n g (further {ts} {us} {ks} {t} {p} rs r most) s fs =
@@ -117,12 +117,12 @@ mutual
 
 -- a run over a term and a full stop ends with its tree
 term_read :
-    (n : ℕ) (g : Table) {ts : List Lexeme} {t : RawTree} {p : ℕ} → Reads g ts t p →
+    (n : ℕ) (g : OperatorTable) {ts : List Lexeme} {t : RawTree} {p : ℕ} → Reads g ts t p →
     go n g (operand []) (ts ++ full_stop ∷ []) ≡ standing (Some (Done (built n t) p)) []
 term_read n g {ts} r = go_append n g (operand []) ts (full_stop ∷ []) ∙ complete n g r [] refl full_stop refl
 
 pub item_read :
-    (n : ℕ) (g : Table) {item : List Lexeme} {t : RawTree} (i : Item g item t) →
+    (n : ℕ) (g : OperatorTable) {item : List Lexeme} {t : RawTree} (i : Item g item t) →
     go n g (operand []) item ≡ standing (Some (Done (built n t) i.precedence)) []
 item_read n g i = ap (λ (ts : List Lexeme). go n g (operand []) ts) i.stops ∙ term_read n g i.reads
 
@@ -139,20 +139,20 @@ built_same t u e =
     capped_same t u (sym (whole_built n t) ∙ ap (whole_of n) e ∙ whole_built n u)
 
 -- where a state stands
-abbrev pub place_of : Option State → Place
+abbrev pub place_of : Option State → Standing
 place_of None = Operand
 place_of (Some s) = s.place
 
 -- tokens are at most one term, of one precedence
 pub reads_one :
-    (g : Table) (ts : List Lexeme) (t u : RawTree) (p q : ℕ) → Reads g ts t p → Reads g ts u q → (t ≡ u) × (p ≡ q)
+    (g : OperatorTable) (ts : List Lexeme) (t u : RawTree) (p q : ℕ) → Reads g ts t p → Reads g ts u q → (t ≡ u) × (p ≡ q)
 reads_one g ts t u p q r l =
     let n : ℕ = depth t + depth u in
     let e : Done (built n t) p ≡ Done (built n u) q = ap place_of (sym (term_read n g r) ∙ term_read n g l) in
     let same : built n t ≡ built n u = cc in
     (built_same t u same, cc)
 
-pub item_one : (g : Table) (ts : List Lexeme) (t u : RawTree) → Item g ts t → Item g ts u → t ≡ u
+pub item_one : (g : OperatorTable) (ts : List Lexeme) (t u : RawTree) → Item g ts t → Item g ts u → t ≡ u
 item_one g ts t u i j =
     let n : ℕ = depth t + depth u in
     let e : Done (built n t) i.precedence ≡ Done (built n u) j.precedence = ap place_of (sym (item_read n g i) ∙ item_read n g j) in

@@ -12,11 +12,11 @@ use Rattle.ladr_lex.specs.declared.operators.Operator.{Operator}
 use Rattle.ladr_lex.specs.declared.operators.OperatorKind.{OperatorKind}
 use Rattle.ladr_lex.specs.declared.operators.OperatorKind.TheVariants as kind
 use Rattle.ladr_reader.specs.Reads.{Reads, atom, applied, group, bound, prefixed, postfixed, infixed}
-use Rattle.ladr_reader.specs.Table.{Table, table_of, right, ends}
+use Rattle.ladr_reader.specs.Table.{OperatorTable, table_of, right, ends}
 use Rattle.ladr_reader.specs.declared.sides.Side.TheVariants.{Below, UpTo}
 
 -- precedences are from 1 to 998
-pub record Lawful (g : Table) : Type 0 where
+pub record Lawful (g : OperatorTable) : Type 0 where
   pub own : (s : List ℕ) (o : Operator) → g.op s ≡ Some o → (1 ≤ o.precedence) × (o.precedence ≤ 998)
 
 -- an operator that stands before its argument, or behind one, is one of the table
@@ -28,10 +28,10 @@ pub after_is : (o : Option Operator) (p : Operator) → if_after o ≡ Some p �
 after_is None p h = cc
 after_is (Some o) p h = search rules
 
-pub prefix_own : (g : Table) → Lawful g → (s : List ℕ) (o : Operator) → if_prefix (g.op s) ≡ Some o → (1 ≤ o.precedence) × (o.precedence ≤ 998)
+pub prefix_own : (g : OperatorTable) → Lawful g → (s : List ℕ) (o : Operator) → if_prefix (g.op s) ≡ Some o → (1 ≤ o.precedence) × (o.precedence ≤ 998)
 prefix_own g l s o h = l.own s o (prefix_is (g.op s) o h)
 
-pub after_own : (g : Table) → Lawful g → (s : List ℕ) (o : Operator) → if_after (g.op s) ≡ Some o → (1 ≤ o.precedence) × (o.precedence ≤ 998)
+pub after_own : (g : OperatorTable) → Lawful g → (s : List ℕ) (o : Operator) → if_after (g.op s) ≡ Some o → (1 ≤ o.precedence) × (o.precedence ≤ 998)
 after_own g l s o h = l.own s o (after_is (g.op s) o h)
 
 -- an atom may be the last argument on each side
@@ -42,7 +42,7 @@ pub up_to_room : (p : ℕ) (b : Bool) → 1 ≤ p → ends UpTo p 0 b ≡ true
 up_to_room p b h = grind (arith, nat_tests)
 
 -- each term has a precedence of at most 999
-pub reads_at_most : (g : Table) → Lawful g → {ts : List Lexeme} {t : RawTree} {p : ℕ} → Reads g ts t p → p ≤ 999
+pub reads_at_most : (g : OperatorTable) → Lawful g → {ts : List Lexeme} {t : RawTree} {p : ℕ} → Reads g ts t p → p ≤ 999
 reads_at_most g l (atom k s w e) = omega arith
 reads_at_most g l (applied k s w e rs) = omega arith
 reads_at_most g l (group r) = omega arith
@@ -65,7 +65,7 @@ kind_room kind.Postfix p b h l = cc
 kind_room kind.PostfixParen p b h l = cc
 
 pub prefix_room :
-    (g : Table) → Lawful g → (s : List ℕ) (o : Operator) (b : Bool) → if_prefix (g.op s) ≡ Some o →
+    (g : OperatorTable) → Lawful g → (s : List ℕ) (o : Operator) (b : Bool) → if_prefix (g.op s) ≡ Some o →
     ends (right o.kind) o.precedence 0 b ≡ true
 prefix_room g l s o b h = kind_room o.kind o.precedence b (prefix_kind (g.op s) o h) (prefix_own g l s o h).0
 

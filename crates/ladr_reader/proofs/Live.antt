@@ -8,10 +8,10 @@ use Rattle.ladr_lex.specs.Lexeme.{ordinary, Lexeme, close_paren, full_stop, symb
 use Rattle.ladr_lex.specs.Operators.{OperatorRow, operator_of, if_prefix}
 use Rattle.ladr_reader.specs.Capped.{built, finished}
 use Rattle.ladr_reader.specs.Machine.{whole}
-use Rattle.ladr_reader.specs.Reads.{Begins}
-use Rattle.ladr_reader.specs.Table.{Table, table_of, quantifier_of}
-use Rattle.ladr_reader.specs.declared.place.Place.{Place}
-use Rattle.ladr_reader.specs.declared.place.Place.TheVariants.{Operand, Named, Word, Term, Done}
+use Rattle.ladr_reader.specs.Reads.{BeginsItem}
+use Rattle.ladr_reader.specs.Table.{OperatorTable, table_of, quantifier_of}
+use Rattle.ladr_reader.specs.declared.place.Standing.{Standing}
+use Rattle.ladr_reader.specs.declared.place.Standing.TheVariants.{Operand, Named, Word, Term, Done}
 use Rattle.ladr_reader.specs.declared.sides.Side.TheVariants.{UpTo}
 use Rattle.ladr_reader.specs.declared.stack.Frame.{Frame}
 use Rattle.ladr_reader.specs.declared.stack.Frame.TheVariants.{Group, Applied, Waiting}
@@ -21,7 +21,7 @@ use Rattle.ladr_reader.proofs.Sound.{Becomes, IsName, Spells, IsAt, as_atom, clo
 use Rattle.ladr_reader.proofs.Splits.{Split, pushed}
 
 -- a name for atoms, and one for variables
-pub record HasNames (g : Table) : Type 0 where
+pub record HasNames (g : OperatorTable) : Type 0 where
   pub atom : List ℕ
   pub no_word : g.word atom ≡ None
   pub no_prefix : if_prefix (g.op atom) ≡ None
@@ -29,15 +29,15 @@ pub record HasNames (g : Table) : Type 0 where
   pub bound : g.variable ordinary variable ≡ true
 
 -- fewer tokens of an item
-pub begins_less : (g : Table) (vs xs : List Lexeme) → Begins g (vs ++ xs) → Begins g vs
+pub begins_less : (g : OperatorTable) (vs xs : List Lexeme) → BeginsItem g (vs ++ xs) → BeginsItem g vs
 begins_less g vs xs b =
     record { more = xs ++ b.more; tree = b.tree; item = rw (← append_assoc vs xs b.more) b.item }
 
-module _ (n : ℕ) (g : Table) (lawful : Lawful g) where
+module _ (n : ℕ) (g : OperatorTable) (lawful : Lawful g) where
   -- all that waits is ended
   term_begins :
       (fs : List Frame) (vs : List Lexeme) (t : Option (List RawTree)) (q : ℕ) → Split (Spells n g fs) (Becomes n g fs t q) vs →
-      Begins g vs
+      BeginsItem g vs
   term_begins [] vs t q h =
       let i = stopped n g lawful [] vs t q h in record { more = full_stop ∷ []; tree = i.tree; item = i.item }
   term_begins (Group ∷ fs) vs t q h =
@@ -48,10 +48,10 @@ module _ (n : ℕ) (g : Table) (lawful : Lawful g) where
   term_begins (Waiting part side p ∷ fs) vs t q h =
       term_begins fs vs (whole n part t) p (ended n g lawful part side p fs vs t q h)
 
-  name_begins : (s : List ℕ) (fs : List Frame) (vs : List Lexeme) → Split (Spells n g fs) (IsName g s) vs → Begins g vs
+  name_begins : (s : List ℕ) (fs : List Frame) (vs : List Lexeme) → Split (Spells n g fs) (IsName g s) vs → BeginsItem g vs
   name_begins s fs vs h = term_begins fs vs (built n (named s no_raws)) 0 (as_atom n g lawful s fs vs h)
 
-  operand_begins : HasNames g → (fs : List Frame) (vs : List Lexeme) → Spells n g fs vs → Begins g vs
+  operand_begins : HasNames g → (fs : List Frame) (vs : List Lexeme) → Spells n g fs vs → BeginsItem g vs
   operand_begins names fs vs h =
       let a : List Lexeme = symbol ordinary names.atom ∷ [] in
       begins_less g vs a
@@ -59,7 +59,7 @@ module _ (n : ℕ) (g : Table) (lawful : Lawful g) where
       (pushed (Spells n g fs) (IsName g names.atom) vs a h
       (record { sort = ordinary; no_word = names.no_word; no_prefix = names.no_prefix; is = refl })))
 
-  pub begins : HasNames g → (place : Place) (fs : List Frame) (vs : List Lexeme) → IsAt n g place fs vs → Begins g vs
+  pub begins : HasNames g → (place : Standing) (fs : List Frame) (vs : List Lexeme) → IsAt n g place fs vs → BeginsItem g vs
   begins names Operand fs vs h = operand_begins names fs vs h
   begins names (Named s) fs vs h = name_begins s fs vs h
   begins names (Word w) fs vs h =

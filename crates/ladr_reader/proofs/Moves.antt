@@ -7,8 +7,8 @@ use Rattle.ladr_lex.specs.Operators.{if_prefix, if_after}
 use Rattle.ladr_lex.specs.declared.operators.Operator.{Operator}
 use Rattle.ladr_reader.specs.Capped.{capped, with_argument, whole_of, built, finished}
 use Rattle.ladr_reader.specs.Machine.{State, standing, allows, closes, whole, behind_operator, behind_name, after, next, go}
-use Rattle.ladr_reader.specs.Table.{Table, left, right, takes, grows, ends, operator_grows}
-use Rattle.ladr_reader.specs.declared.place.Place.TheVariants.{Operand, Named}
+use Rattle.ladr_reader.specs.Table.{OperatorTable, left, right, takes, grows, ends, operator_grows}
+use Rattle.ladr_reader.specs.declared.place.Standing.TheVariants.{Operand, Named}
 use Rattle.ladr_reader.specs.declared.roles.Follow.{Follow}
 use Rattle.ladr_reader.specs.declared.roles.Follow.TheVariants.{Applies, Closes, Separates, Stops, Operates, FollowsNot}
 use Rattle.ladr_reader.specs.declared.sides.Side.{Side}
@@ -25,7 +25,7 @@ abbrev pub operand : List Frame → Option State
 operand fs = standing (Some Operand) fs
 
 -- one run after another
-pub go_append : (n : ℕ) (g : Table) (s : Option State) (xs ys : List Lexeme) → go n g s (xs ++ ys) ≡ go n g (go n g s xs) ys
+pub go_append : (n : ℕ) (g : OperatorTable) (s : Option State) (xs ys : List Lexeme) → go n g s (xs ++ ys) ≡ go n g (go n g s xs) ys
 go_append n g s [] ys = refl
 go_append n g s (x ∷ xs) ys = go_append n g (next n g s x) xs ys
 
@@ -43,18 +43,18 @@ infix_whole n s t u =
 
 -- the first moves of terms
 pub begin_name :
-    (n : ℕ) (g : Table) (k : Sort) (s : List ℕ) (fs : List Frame) → g.word s ≡ None → if_prefix (g.op s) ≡ None →
+    (n : ℕ) (g : OperatorTable) (k : Sort) (s : List ℕ) (fs : List Frame) → g.word s ≡ None → if_prefix (g.op s) ≡ None →
     next n g (operand fs) (symbol k s) ≡ standing (Some (Named s)) fs
 begin_name n g k s fs w e = rw (w, e)
 
 pub begin_word :
-    (n : ℕ) (g : Table) (k j : Sort) (w : Quantifier) (s x : List ℕ) (fs : List Frame) → g.word s ≡ Some w →
+    (n : ℕ) (g : OperatorTable) (k j : Sort) (w : Quantifier) (s x : List ℕ) (fs : List Frame) → g.word s ≡ Some w →
     g.variable j x ≡ true → allows fs 750 false ≡ true →
     next n g (next n g (operand fs) (symbol k s)) (symbol j x) ≡ operand (Waiting (Quantified w x) UpTo 750 ∷ fs)
 begin_word n g k j w s x fs e v h = rw (e, h, v)
 
 pub begin_prefix :
-    (n : ℕ) (g : Table) (k : Sort) (s : List ℕ) (o : Operator) (fs : List Frame) → g.word s ≡ None →
+    (n : ℕ) (g : OperatorTable) (k : Sort) (s : List ℕ) (o : Operator) (fs : List Frame) → g.word s ≡ None →
     if_prefix (g.op s) ≡ Some o → allows fs o.precedence false ≡ true →
     next n g (operand fs) (symbol k s) ≡ operand (Waiting (Prefix s) (right o.kind) o.precedence ∷ fs)
 begin_prefix n g k s o fs w e h = rw (w, e, h)

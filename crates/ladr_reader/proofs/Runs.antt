@@ -11,12 +11,12 @@ use Rattle.ladr_reader.specs.Capped.{built, disjuncts}
 use Rattle.ladr_reader.specs.Faults.{IsTermFault, IsFaultWhere}
 use Rattle.ladr_reader.specs.Machine.{State, standing, step, next, go}
 use Rattle.ladr_reader.specs.Nesting.{most_open, nesting}
-use Rattle.ladr_reader.specs.Reads.{Item, Begins, IsBadToken}
-use Rattle.ladr_reader.specs.Table.{Table}
+use Rattle.ladr_reader.specs.Reads.{Item, BeginsItem, IsBadToken}
+use Rattle.ladr_reader.specs.Table.{OperatorTable}
 use Rattle.ladr_reader.specs.declared.fault.TermFault.{TermFault}
 use Rattle.ladr_reader.specs.declared.fault.TermFault.TheVariants.{Bad, Deep, Memory}
-use Rattle.ladr_reader.specs.declared.place.Place.{Place}
-use Rattle.ladr_reader.specs.declared.place.Place.TheVariants.{Done}
+use Rattle.ladr_reader.specs.declared.place.Standing.{Standing}
+use Rattle.ladr_reader.specs.declared.place.Standing.TheVariants.{Done}
 use Rattle.ladr_reader.specs.declared.stack.Frame.{Frame}
 use Rattle.ladr_reader.proofs.Complete.{item_read, place_of}
 use Rattle.ladr_reader.proofs.Lawful.{Lawful}
@@ -49,7 +49,7 @@ lexemes_from tokens i d h =
 
 -- a run over one token more
 pub run_more :
-    (n : ℕ) (g : Table) (tokens : List Token) (i : ℕ) (d : Token) (place : Place) (fs : List Frame) → i < length tokens →
+    (n : ℕ) (g : OperatorTable) (tokens : List Token) (i : ℕ) (d : Token) (place : Standing) (fs : List Frame) → i < length tokens →
     go n g (operand []) (take i (lexemes_of tokens)) ≡ standing (Some place) fs →
     go n g (operand []) (take (i + 1) (lexemes_of tokens)) ≡ step n g place fs (lexeme_of (get_or tokens i d))
 run_more n g tokens i d place fs h e =
@@ -59,12 +59,12 @@ run_more n g tokens i d place fs h e =
     ∙ ap (λ (s : Option State). next n g s (get_or ts i unreadable)) e
     ∙ ap (λ (x : Lexeme). step n g place fs x) (lexeme_at tokens i d h)
 
-go_none : (n : ℕ) (g : Table) (xs : List Lexeme) → go n g None xs ≡ None
+go_none : (n : ℕ) (g : OperatorTable) (xs : List Lexeme) → go n g None xs ≡ None
 go_none n g [] = refl
 go_none n g (x ∷ xs) = go_none n g xs
 
 -- no item begins with tokens that stop the machine
-not_begun : (n : ℕ) (g : Table) (xs : List Lexeme) → go n g (operand []) xs ≡ None → ¬ Begins g xs
+not_begun : (n : ℕ) (g : OperatorTable) (xs : List Lexeme) → go n g (operand []) xs ≡ None → ¬ BeginsItem g xs
 not_begun n g xs e b =
     let stuck : go n g (operand []) (xs ++ b.more) ≡ None =
     go_append n g (operand []) xs b.more ∙ ap (λ (s : Option State). go n g s b.more) e ∙ go_none n g b.more
@@ -73,16 +73,16 @@ not_begun n g xs e b =
     cc
 
 -- an item begins with its first tokens
-item_begins : (g : Table) (ts : List Lexeme) (i : ℕ) (t : RawTree) → Item g ts t → Begins g (take i ts)
+item_begins : (g : OperatorTable) (ts : List Lexeme) (i : ℕ) (t : RawTree) → Item g ts t → BeginsItem g (take i ts)
 item_begins g ts i t item = record { more = drop i ts; tree = t; item = rw (take-append-drop i ts) item }
 
 -- the tokens are no item, and token k is the first bad one
-abbrev pub IsBadAt : Table → List Lexeme → ℕ → Type 0
+abbrev pub IsBadAt : OperatorTable → List Lexeme → ℕ → Type 0
 IsBadAt g ts k = IsBadToken g ts k × ((t : RawTree) → ¬ Item g ts t)
 
 -- the token that stops the machine is the first bad one
 pub bad_at :
-    (n : ℕ) (g : Table) → Lawful g → HasNames g → (ts : List Lexeme) (i : ℕ) (place : Place) (fs : List Frame) →
+    (n : ℕ) (g : OperatorTable) → Lawful g → HasNames g → (ts : List Lexeme) (i : ℕ) (place : Standing) (fs : List Frame) →
     i ≤ length ts → go n g (operand []) (take i ts) ≡ standing (Some place) fs →
     go n g (operand []) (take (i + 1) ts) ≡ None → IsBadAt g ts i
 bad_at n g lawful names ts i place fs h e stuck = (
@@ -96,7 +96,7 @@ bad_at n g lawful names ts i place fs h e stuck = (
 
 -- the end of the tokens is the first bad one where the machine doesn't stand behind an item
 pub bad_end :
-    (n : ℕ) (g : Table) → Lawful g → HasNames g → (ts : List Lexeme) (k : ℕ) (place : Place) (fs : List Frame) →
+    (n : ℕ) (g : OperatorTable) → Lawful g → HasNames g → (ts : List Lexeme) (k : ℕ) (place : Standing) (fs : List Frame) →
     length ts ≡ k → go n g (operand []) (take k ts) ≡ standing (Some place) fs →
     ((t : Option (List RawTree)) (q : ℕ) → place ≡ Done t q → ⊥) → IsBadAt g ts k
 bad_end n g lawful names ts k place fs l e other =
@@ -112,14 +112,14 @@ bad_end n g lawful names ts k place fs l e other =
 
 -- what the tokens are where the machine stands behind an item
 pub done_item :
-    (n : ℕ) (g : Table) → Lawful g → (ts : List Lexeme) (i : ℕ) (place : Place) (fs : List Frame) (t : Option (List RawTree))
+    (n : ℕ) (g : OperatorTable) → Lawful g → (ts : List Lexeme) (i : ℕ) (place : Standing) (fs : List Frame) (t : Option (List RawTree))
     (q : ℕ) → length ts ≤ i → go n g (operand []) (take i ts) ≡ standing (Some place) fs → place ≡ Done t q →
     (u : RawTree) × (t ≡ built n u) × Item g ts u
 done_item n g lawful ts i place fs t q h e d =
     sound n g lawful ts t q fs
     (ap (λ (xs : List Lexeme). go n g (operand []) xs) (sym (take_all i ts h))
     ∙ e
-    ∙ ap (λ (p : Place). standing (Some p) fs) d)
+    ∙ ap (λ (p : Standing). standing (Some p) fs) d)
 
 -- the parentheses of all tokens
 pub all_noted :
@@ -129,12 +129,12 @@ all_noted ts i most unclosed n h e a =
     e ∙ ap (λ (xs : List Lexeme). max most (most_open unclosed xs)) (sym (drop_all i ts h)) ∙ a
 
 -- the answer for an item is its tree, unless it is nested too deep
-abbrev pub Answers : Table → List Lexeme → Result Raw TermFault → Type 0
+abbrev pub Answers : OperatorTable → List Lexeme → Result Raw TermFault → Type 0
 Answers g ts r =
     IfOk r (λ raw. Item g ts (raw_of raw)) × IfOk r (λ raw. nesting ts (raw_of raw) ≤ 500) × IfErr r (IsTermFault g ts)
 
 pub answered :
-    (g : Table) (ts : List Lexeme) (t : RawTree) (n : ℕ) (r : Result Raw TermFault) → Item g ts t → n ≡ most_open 0 ts →
+    (g : OperatorTable) (ts : List Lexeme) (t : RawTree) (n : ℕ) (r : Result Raw TermFault) → Item g ts t → n ≡ most_open 0 ts →
     IfOk r (λ raw. (raw_of raw ≡ t) × (max (depth t) n ≤ 500)) →
     IfErr r (λ fault. (fault ≡ Deep) × (500 < max (depth t) n)) → Answers g ts r
 answered g ts t n (Ok raw) item e ok err = (
@@ -149,19 +149,19 @@ answered g ts t n (Err fault) item e ok err = (
 )
 
 -- where no term is too deep nothing is said of depth
-pub never_deep : (IsDeep : RawTree → Type 0) (g : Table) (ts : List Lexeme) (f : TermFault) → IsFaultWhere (λ _. ⊥) g ts f → IsFaultWhere IsDeep g ts f
+pub never_deep : (IsDeep : RawTree → Type 0) (g : OperatorTable) (ts : List Lexeme) (f : TermFault) → IsFaultWhere (λ _. ⊥) g ts f → IsFaultWhere IsDeep g ts f
 never_deep IsDeep g ts (Bad k) h = h
 never_deep IsDeep g ts Deep h = absurd h.2
 never_deep IsDeep g ts Memory h = tt
 
 -- what a run over given tokens tells
 pub run_item :
-    (g : Table) → Lawful g → (ts : List Lexeme) (t : RawTree) (q : ℕ) →
+    (g : OperatorTable) → Lawful g → (ts : List Lexeme) (t : RawTree) (q : ℕ) →
     go 500 g (operand []) ts ≡ standing (Some (Done (Some (disjuncts t)) q)) [] → Item g ts t
 run_item g lawful ts t q e =
     let read = sound 500 g lawful ts (Some (disjuncts t)) q [] e in
     let same : read.0 ≡ t = unbuilt 500 read.0 t (sym read.1) in
     subst (Item g ts) same read.2
 
-pub stuck_item : (g : Table) (ts : List Lexeme) → go 500 g (operand []) ts ≡ None → (t : RawTree) → ¬ Item g ts t
+pub stuck_item : (g : OperatorTable) (ts : List Lexeme) → go 500 g (operand []) ts ≡ None → (t : RawTree) → ¬ Item g ts t
 stuck_item g ts e t item = let read = item_read 500 g item in cc

@@ -8,9 +8,9 @@ use Rattle.ladr_lex.specs.declared.operators.Operator.{Operator}
 use Rattle.ladr_reader.specs.Capped.{with_argument, whole_of, built, finished}
 use Rattle.ladr_reader.specs.Machine.{State, standing, start_of, start_of_symbol, follow_of, follow_of_symbol, variable_of, allows, closes, whole, begin, bind, behind_operator, behind_close, behind_comma, behind_stop, behind_name, act, after, step, next, go}
 use Rattle.ladr_reader.specs.Reads.{Reads, atom, applied, group, bound, prefixed, postfixed, infixed, ReadsAll, single, further, Item}
-use Rattle.ladr_reader.specs.Table.{Table, left, right, takes, grows, ends, tree_grows}
-use Rattle.ladr_reader.specs.declared.place.Place.{Place}
-use Rattle.ladr_reader.specs.declared.place.Place.TheVariants.{Operand, Named, Word, Term, Done}
+use Rattle.ladr_reader.specs.Table.{OperatorTable, left, right, takes, grows, ends, tree_grows}
+use Rattle.ladr_reader.specs.declared.place.Standing.{Standing}
+use Rattle.ladr_reader.specs.declared.place.Standing.TheVariants.{Operand, Named, Word, Term, Done}
 use Rattle.ladr_reader.specs.declared.sides.Side.{Side}
 use Rattle.ladr_reader.specs.declared.sides.Side.TheVariants.{Nothing, Below, UpTo}
 use Rattle.ladr_reader.specs.declared.stack.Frame.{Frame}
@@ -23,33 +23,33 @@ use Rattle.ladr_reader.proofs.Moves.{operand, prefix_whole, infix_whole, prefix_
 use Rattle.ladr_reader.proofs.Splits.{Split, longer, joined, pushed, changed}
 
 -- what is built is the tree of the tokens, a term that may stand on top of what waits
-pub record Becomes (n : ℕ) (g : Table) (fs : List Frame) (made : Option (List RawTree)) (p : ℕ) (ts : List Lexeme) : Type 0 where
+pub record Becomes (n : ℕ) (g : OperatorTable) (fs : List Frame) (made : Option (List RawTree)) (p : ℕ) (ts : List Lexeme) : Type 0 where
   pub tree : RawTree
   pub is : made ≡ built n tree
   pub reads : Reads g ts tree p
   pub fits : allows fs p (tree_grows g tree) ≡ true
 
 -- with its last argument the part is such a term, and an atom may be its last argument
-pub record Waits (n : ℕ) (g : Table) (fs : List Frame) (part : Part) (side : Side) (p : ℕ) (ts : List Lexeme) : Type 0 where
+pub record Waits (n : ℕ) (g : OperatorTable) (fs : List Frame) (part : Part) (side : Side) (p : ℕ) (ts : List Lexeme) : Type 0 where
   pub becomes :
       (xs : List Lexeme) (t : RawTree) (q : ℕ) → Reads g xs t q → ends side p q (tree_grows g t) ≡ true →
       Becomes n g fs (whole n part (built n t)) p (ts ++ xs)
   pub room : (b : Bool) → ends side p 0 b ≡ true
 
 -- arguments, each with its comma
-pub data Given (g : Table) : List Lexeme → List RawTree → Type 0 where
+pub data Given (g : OperatorTable) : List Lexeme → List RawTree → Type 0 where
   nothing : Given g [] []
   some : {ts : List Lexeme} {us : List RawTree} → ReadsAll g ts us → Given g (ts ++ comma ∷ []) us
 
 -- a symbol that is no word and no prefix operator
-pub record IsName (g : Table) (s : List ℕ) (ts : List Lexeme) : Type 0 where
+pub record IsName (g : OperatorTable) (s : List ℕ) (ts : List Lexeme) : Type 0 where
   pub sort : Sort
   pub no_word : g.word s ≡ None
   pub no_prefix : if_prefix (g.op s) ≡ None
   pub is : ts ≡ symbol sort s ∷ []
 
 -- such a symbol, an open parenthesis and arguments
-pub record HasArguments (n : ℕ) (g : Table) (s : List ℕ) (made : Option (List RawTree)) (ts : List Lexeme) : Type 0 where
+pub record HasArguments (n : ℕ) (g : OperatorTable) (s : List ℕ) (made : Option (List RawTree)) (ts : List Lexeme) : Type 0 where
   pub sort : Sort
   pub no_word : g.word s ≡ None
   pub no_prefix : if_prefix (g.op s) ≡ None
@@ -60,7 +60,7 @@ pub record HasArguments (n : ℕ) (g : Table) (s : List ℕ) (made : Option (Lis
   pub is : ts ≡ symbol sort s ∷ open_paren ∷ tokens
 
 -- a word whose term may stand on top of what waits
-pub record IsWord (g : Table) (fs : List Frame) (w : Quantifier) (ts : List Lexeme) : Type 0 where
+pub record IsWord (g : OperatorTable) (fs : List Frame) (w : Quantifier) (ts : List Lexeme) : Type 0 where
   pub sort : Sort
   pub name : List ℕ
   pub is_word : g.word name ≡ Some w
@@ -68,43 +68,43 @@ pub record IsWord (g : Table) (fs : List Frame) (w : Quantifier) (ts : List Lexe
   pub is : ts ≡ symbol sort name ∷ []
 
 -- a readable item
-pub record IsItem (n : ℕ) (g : Table) (made : Option (List RawTree)) (ts : List Lexeme) : Type 0 where
+pub record IsItem (n : ℕ) (g : OperatorTable) (made : Option (List RawTree)) (ts : List Lexeme) : Type 0 where
   pub tree : RawTree
   pub is : made ≡ built n tree
   pub item : Item g ts tree
 
 -- the tokens of all that waits
-abbrev pub Spells : ℕ → Table → List Frame → List Lexeme → Type 0
+abbrev pub Spells : ℕ → OperatorTable → List Frame → List Lexeme → Type 0
 Spells n g [] vs = vs ≡ []
 Spells n g (Group ∷ fs) vs = Split (Spells n g fs) (λ ts. ts ≡ open_paren ∷ []) vs
 Spells n g (Applied s us ∷ fs) vs = Split (Spells n g fs) (HasArguments n g s us) vs
 Spells n g (Waiting part side p ∷ fs) vs = Split (Spells n g fs) (Waits n g fs part side p) vs
 
 -- the tokens that lead to a place
-abbrev pub IsAt : ℕ → Table → Place → List Frame → List Lexeme → Type 0
+abbrev pub IsAt : ℕ → OperatorTable → Standing → List Frame → List Lexeme → Type 0
 IsAt n g Operand fs vs = Spells n g fs vs
 IsAt n g (Named s) fs vs = Split (Spells n g fs) (IsName g s) vs
 IsAt n g (Word w) fs vs = Split (Spells n g fs) (IsWord g fs w) vs
 IsAt n g (Term t q) fs vs = Split (Spells n g fs) (Becomes n g fs t q) vs
 IsAt n g (Done t q) fs vs = IsItem n g t vs
 
-abbrev pub MayBe : ℕ → Table → Option State → List Lexeme → Type 0
+abbrev pub MayBe : ℕ → OperatorTable → Option State → List Lexeme → Type 0
 MayBe n g None vs = Unit {0}
 MayBe n g (Some s) vs = IsAt n g s.place s.stack vs
 
 -- under a test
-when : (n : ℕ) (g : Table) (b : Bool) (s : Option State) (vs : List Lexeme) → (b ≡ true → MayBe n g s vs) → MayBe n g (if b then s else None) vs
+when : (n : ℕ) (g : OperatorTable) (b : Bool) (s : Option State) (vs : List Lexeme) → (b ≡ true → MayBe n g s vs) → MayBe n g (if b then s else None) vs
 when n g true s vs f = f refl
 when n g false s vs f = tt
 
 either :
-    (n : ℕ) (g : Table) (b : Bool) (s t : Option State) (vs : List Lexeme) → MayBe n g s vs → MayBe n g t vs →
+    (n : ℕ) (g : OperatorTable) (b : Bool) (s t : Option State) (vs : List Lexeme) → MayBe n g s vs → MayBe n g t vs →
     MayBe n g (if b then s else t) vs
 either n g true s t vs h k = h
 either n g false s t vs h k = k
 
 -- a term of precedence 0 may stand on top of what waits
-fits_zero : (n : ℕ) (g : Table) (fs : List Frame) (vs : List Lexeme) (b : Bool) → Spells n g fs vs → allows fs 0 b ≡ true
+fits_zero : (n : ℕ) (g : OperatorTable) (fs : List Frame) (vs : List Lexeme) (b : Bool) → Spells n g fs vs → allows fs 0 b ≡ true
 fits_zero n g [] vs b h = refl
 fits_zero n g (Group ∷ fs) vs b h = refl
 fits_zero n g (Applied s us ∷ fs) vs b h = refl
@@ -112,7 +112,7 @@ fits_zero n g (Waiting part side p ∷ fs) vs b h = h.is_back.room b
 
 -- one more argument
 given_more :
-    (g : Table) {ts xs : List Lexeme} {us : List RawTree} {t : RawTree} {p : ℕ} → Given g ts us → Reads g xs t p →
+    (g : OperatorTable) {ts xs : List Lexeme} {us : List RawTree} {t : RawTree} {p : ℕ} → Given g ts us → Reads g xs t p →
     p ≤ 999 → ReadsAll g (ts ++ xs) (us ++ t ∷ [])
 given_more g nothing r h = single r h
 given_more g {xs = xs} (some {ts} rs) r h = rw (append_assoc ts (comma ∷ []) xs) (further rs r h)
@@ -132,7 +132,7 @@ both_right : (a b : Bool) → (a && b) ≡ true → b ≡ true
 both_right true b h = h
 both_right false b h = cc
 
-module _ (n : ℕ) (g : Table) (lawful : Lawful g) where
+module _ (n : ℕ) (g : OperatorTable) (lawful : Lawful g) where
   symbol_starts :
       (k : Sort) (s : List ℕ) (fs : List Frame) (vs : List Lexeme) → Spells n g fs vs →
       (w : Option Quantifier) → g.word s ≡ w → (o : Option Operator) → if_prefix (g.op s) ≡ o →
@@ -371,7 +371,7 @@ module _ (n : ℕ) (g : Table) (lawful : Lawful g) where
       rw (behind_symbol n (if_after (g.op r)) r s fs) (follows (symbol k r) fs vs (built n (named s no_raws)) 0 (as_atom s fs vs h))
   names x s fs vs h = follows x fs vs (built n (named s no_raws)) 0 (as_atom s fs vs h)
 
-  steps : (x : Lexeme) (place : Place) (fs : List Frame) (vs : List Lexeme) → IsAt n g place fs vs → MayBe n g (step n g place fs x) (vs ++ x ∷ [])
+  steps : (x : Lexeme) (place : Standing) (fs : List Frame) (vs : List Lexeme) → IsAt n g place fs vs → MayBe n g (step n g place fs x) (vs ++ x ∷ [])
   steps x Operand fs vs h = starts x fs vs h
   steps x (Named s) fs vs h = names x s fs vs h
   steps x (Word w) fs vs h = binds x w fs vs h
@@ -388,7 +388,7 @@ module _ (n : ℕ) (g : Table) (lawful : Lawful g) where
 
   -- the tokens of a run from the start
   pub runs :
-      (xs : List Lexeme) (place : Place) (fs : List Frame) → go n g (operand []) xs ≡ standing (Some place) fs →
+      (xs : List Lexeme) (place : Standing) (fs : List Frame) → go n g (operand []) xs ≡ standing (Some place) fs →
       IsAt n g place fs xs
   runs xs place fs e = subst (λ (s : Option State). MayBe n g s xs) e (goes xs (operand []) [] refl)
 

@@ -1,16 +1,8 @@
 pub mod Capped
-pub mod ClauseIn
-pub mod Literals
 pub mod DisjunctView
 pub mod Faults
-pub mod Formulas
 pub mod Machine
 pub mod Nesting
-pub mod Numbering
-pub mod ReaderView
 pub mod Reads
-pub mod ScopeView
 pub mod Table
 pub mod Worked
-pub mod WorkedFormulas
-pub mod Whole

@@ -6,13 +6,13 @@ use Rattle.ladr_lex.specs.Lexeme.{Sort, Lexeme, open_paren, close_paren, comma, 
 use Rattle.ladr_lex.specs.Operators.{if_prefix, if_after}
 use Rattle.ladr_lex.specs.declared.operators.Operator.{Operator}
 use Rattle.ladr_reader.specs.Capped.{with_argument, quantification, whole_of, single, built, finished}
-use Rattle.ladr_reader.specs.Table.{Table, left, right, takes, grows, ends}
-use Rattle.ladr_reader.specs.declared.place.Place.{Place}
-use Rattle.ladr_reader.specs.declared.place.Place.TheVariants.{Operand, Named, Word, Term, Done}
+use Rattle.ladr_reader.specs.Table.{OperatorTable, left, right, takes, grows, ends}
+use Rattle.ladr_reader.specs.declared.place.Standing.{Standing}
+use Rattle.ladr_reader.specs.declared.place.Standing.TheVariants.{Operand, Named, Word, Term, Done}
 use Rattle.ladr_reader.specs.declared.roles.Follow.{Follow}
 use Rattle.ladr_reader.specs.declared.roles.Follow.TheVariants.{Applies, Closes, Separates, Stops, Operates, FollowsNot}
-use Rattle.ladr_reader.specs.declared.roles.Start.{Start}
-use Rattle.ladr_reader.specs.declared.roles.Start.TheVariants.{Opens, Quantifies, Precedes, Names, StartsNot}
+use Rattle.ladr_reader.specs.declared.roles.TermStart.{TermStart}
+use Rattle.ladr_reader.specs.declared.roles.TermStart.TheVariants.{Opens, Quantifies, Precedes, Names, StartsNot}
 use Rattle.ladr_reader.specs.declared.sides.Side.{Side}
 use Rattle.ladr_reader.specs.declared.sides.Side.TheVariants.{Nothing, Below, UpTo}
 use Rattle.ladr_reader.specs.declared.stack.Frame.{Frame}
@@ -22,20 +22,20 @@ use Rattle.ladr_reader.specs.declared.stack.Part.TheVariants.{Prefix, Infix, Qua
 
 -- where the machine stands, and what waits, the innermost first
 pub record State : Type 0 where
-  pub place : Place
+  pub place : Standing
   pub stack : List Frame
 
-abbrev pub standing : Option Place → List Frame → Option State
+abbrev pub standing : Option Standing → List Frame → Option State
 standing None fs = None
 standing (Some place) fs = Some (record { place = place; stack = fs })
 
 -- what a token is before an operand
-abbrev pub start_of_symbol : Option Quantifier → Option Operator → List ℕ → Start
+abbrev pub start_of_symbol : Option Quantifier → Option Operator → List ℕ → TermStart
 start_of_symbol (Some w) o s = Quantifies w
 start_of_symbol None None s = Names s
 start_of_symbol None (Some o) s = Precedes s o
 
-abbrev pub start_of : Table → Lexeme → Start
+abbrev pub start_of : OperatorTable → Lexeme → TermStart
 start_of g open_paren = Opens
 start_of g (symbol k s) = start_of_symbol (g.word s) (if_prefix (g.op s)) s
 start_of g _ = StartsNot
@@ -45,7 +45,7 @@ abbrev pub follow_of_symbol : Option Operator → List ℕ → Follow
 follow_of_symbol None s = FollowsNot
 follow_of_symbol (Some o) s = Operates s o
 
-abbrev pub follow_of : Table → Lexeme → Follow
+abbrev pub follow_of : OperatorTable → Lexeme → Follow
 follow_of g open_paren = Applies
 follow_of g close_paren = Closes
 follow_of g comma = Separates
@@ -95,7 +95,7 @@ whole n (Infix s u) t = finished n s (with_argument (Some []) u) t
 whole n (Quantified q x) t = single (quantification n q x (whole_of n t))
 
 -- before an operand
-abbrev pub begin : Start → List Frame → Option State
+abbrev pub begin : TermStart → List Frame → Option State
 begin Opens fs = standing (Some Operand) (Group ∷ fs)
 begin (Quantifies w) fs = if allows fs 750 false then standing (Some (Word w)) fs else None
 begin (Precedes s o) fs =
@@ -161,18 +161,18 @@ behind_name n Applies s fs = standing (Some Operand) (Applied s (Some []) ∷ fs
 behind_name n f s fs = after n f (built n (named s no_raws)) 0 fs
 
 -- one token more
-abbrev pub step : ℕ → Table → Place → List Frame → Lexeme → Option State
+abbrev pub step : ℕ → OperatorTable → Standing → List Frame → Lexeme → Option State
 step n g Operand fs x = begin (start_of g x) fs
 step n g (Named s) fs x = behind_name n (follow_of g x) s fs
 step n g (Word w) fs x = bind w (variable_of g.variable x) fs
 step n g (Term t q) fs x = after n (follow_of g x) t q fs
 step n g (Done t q) fs x = None
 
-abbrev pub next : ℕ → Table → Option State → Lexeme → Option State
+abbrev pub next : ℕ → OperatorTable → Option State → Lexeme → Option State
 next n g None x = None
 next n g (Some s) x = step n g s.place s.stack x
 
 -- all these tokens more; nothing where no term begins so
-abbrev pub go : ℕ → Table → Option State → List Lexeme → Option State
+abbrev pub go : ℕ → OperatorTable → Option State → List Lexeme → Option State
 go n g s [] = s
 go n g s (x ∷ xs) = go n g (next n g s x) xs

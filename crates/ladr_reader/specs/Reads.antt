@@ -5,12 +5,12 @@ use Rattle.fol_core.specs.declared.raw.Quantifier.{Quantifier}
 use Rattle.ladr_lex.specs.Lexeme.{Sort, Lexeme, open_paren, close_paren, comma, full_stop, symbol}
 use Rattle.ladr_lex.specs.Operators.{if_prefix, if_after}
 use Rattle.ladr_lex.specs.declared.operators.Operator.{Operator}
-use Rattle.ladr_reader.specs.Table.{Table, left, right, takes, ends, tree_grows}
+use Rattle.ladr_reader.specs.Table.{OperatorTable, left, right, takes, ends, tree_grows}
 use Rattle.ladr_reader.specs.declared.sides.Side.TheVariants.{Nothing, UpTo}
 
 mutual
   -- the tokens are this term, and this is its precedence
-  pub data Reads (g : Table) : List Lexeme → RawTree → ℕ → Type 0 where
+  pub data Reads (g : OperatorTable) : List Lexeme → RawTree → ℕ → Type 0 where
     -- a symbol that is no word and no prefix operator
     atom :
         (k : Sort) (s : List ℕ) → g.word s ≡ None → if_prefix (g.op s) ≡ None →
@@ -46,7 +46,7 @@ mutual
         Reads g (ts ++ symbol k s ∷ us) (named s (raws_of (t ∷ u ∷ []))) o.precedence
 
   -- the tokens are these terms, each of precedence at most 999, between commas
-  pub data ReadsAll (g : Table) : List Lexeme → List RawTree → Type 0 where
+  pub data ReadsAll (g : OperatorTable) : List Lexeme → List RawTree → Type 0 where
     single :
         {ts : List Lexeme} {t : RawTree} {p : ℕ} → Reads g ts t p → p ≤ 999 → ReadsAll g ts (t ∷ [])
     further :
@@ -54,7 +54,7 @@ mutual
         p ≤ 999 → ReadsAll g (ts ++ comma ∷ us) (ks ++ t ∷ [])
 
 -- the tokens are this term, of precedence at most 999, and then a full stop
-pub record Item (g : Table) (item : List Lexeme) (tree : RawTree) : Type 0 where
+pub record Item (g : OperatorTable) (item : List Lexeme) (tree : RawTree) : Type 0 where
   pub tokens : List Lexeme
   pub precedence : ℕ
   pub reads : Reads g tokens tree precedence
@@ -62,14 +62,14 @@ pub record Item (g : Table) (item : List Lexeme) (tree : RawTree) : Type 0 where
   pub stops : item ≡ tokens ++ full_stop ∷ []
 
 -- some readable item begins with these tokens
-pub record Begins (g : Table) (ts : List Lexeme) : Type 0 where
+pub record BeginsItem (g : OperatorTable) (ts : List Lexeme) : Type 0 where
   pub more : List Lexeme
   pub tree : RawTree
   pub item : Item g (ts ++ more) tree
 
 -- Token k is the first that goes on with no readable item, or the tokens end there too early: some item begins with
 -- the k tokens before it, and none with it as well.
-pub record IsBadToken (g : Table) (ts : List Lexeme) (k : ℕ) : Type 0 where
+pub record IsBadToken (g : OperatorTable) (ts : List Lexeme) (k : ℕ) : Type 0 where
   pub within : k ≤ length ts
-  pub before : Begins g (take k ts)
-  pub here : k < length ts → ¬ Begins g (take (k + 1) ts)
+  pub before : BeginsItem g (take k ts)
+  pub here : k < length ts → ¬ BeginsItem g (take (k + 1) ts)

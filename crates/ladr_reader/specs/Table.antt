@@ -14,7 +14,7 @@ use Rattle.ladr_reader.specs.declared.sides.Side.{Side}
 use Rattle.ladr_reader.specs.declared.sides.Side.TheVariants.{Nothing, Below, UpTo}
 
 -- the operator of a name, the quantifier that it is the word of, and whether a symbol may be a quantifier's variable
-pub record Table : Type 0 where
+pub record OperatorTable : Type 0 where
   pub op : List ℕ → Option Operator
   pub word : List ℕ → Option Quantifier
   pub variable : Sort → List ℕ → Bool
@@ -31,7 +31,7 @@ may_be_bound quoted name = false
 may_be_bound special name = false
 
 -- what the rows of a table of operators say of names
-abbrev pub table_of : List OperatorRow → Table
+abbrev pub table_of : List OperatorRow → OperatorTable
 table_of rows = record { op = operator_of rows; word = quantifier_of; variable = may_be_bound }
 
 -- what an operator's left argument may be
@@ -80,6 +80,6 @@ operator_grows None = false
 operator_grows (Some o) = grows o.kind
 
 -- whether a term's operator is infix_left or postfix
-abbrev pub tree_grows : Table → RawTree → Bool
+abbrev pub tree_grows : OperatorTable → RawTree → Bool
 tree_grows g (named s ts) = operator_grows (if_after (g.op s))
 tree_grows g (quantified q x t) = false

@@ -8,7 +8,7 @@ use Rattle.ladr_lex.specs.Lexed.{lexed}
 use Rattle.ladr_lex.specs.Lexeme.{Lexeme, lexeme}
 use Rattle.ladr_lex.specs.Operators.{OperatorRow, standard_rows, declared}
 use Rattle.ladr_reader.specs.Faults.{IsTermFault}
-use Rattle.ladr_reader.specs.Table.{Table, table_of}
+use Rattle.ladr_reader.specs.Table.{OperatorTable, table_of}
 use Rattle.ladr_reader.specs.declared.fault.TermFault.TheVariants.{Bad}
 
 -- pieces without their places
@@ -37,11 +37,11 @@ abbrev pub binder : Quantifier → String → RawTree → RawTree
 binder word x body = quantified word (codes x) body
 
 -- these are no item, and this token is the first bad one
-abbrev pub IsBadAt : Table → String → ℕ → Type 0
+abbrev pub IsBadAt : OperatorTable → String → ℕ → Type 0
 IsBadAt g text k = IsTermFault g (line text) (Bad k)
 
 -- the operators at the start
-abbrev pub standard : Table
+abbrev pub standard : OperatorTable
 standard = table_of standard_rows
 
 -- the same, with operators declared
@@ -49,5 +49,5 @@ abbrev pub declared_rows : List OperatorRow
 declared_rows =
     declared 350 (codes "postfix") (codes "!") (declared 400 (codes "prefix_paren") (codes "~") (declared 750 (codes "infix_left") (codes "\"@@\"") standard_rows))
 
-abbrev pub with_declared : Table
+abbrev pub with_declared : OperatorTable
 with_declared = table_of declared_rows

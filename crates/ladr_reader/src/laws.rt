@@ -1,30 +1,25 @@
 // Laws of the definitions, and examples worked out.
-ghost use Rattle.std.specs.Prelude.{◌≡◌, ℕ, Bool, true, false, IsTrue, List, [], ◌∷◌, None};
-ghost use Rattle.fol_core.specs.Occurs.{names, names_in_any};
-ghost use Rattle.fol_core.specs.RawTree.{RawTree, RawTrees};
-ghost use Rattle.fol_core.specs.SymbolTable.{Symbol, KeepsNumbers};
+ghost use Rattle.std.specs.Prelude.{◌≡◌, ℕ, true, false, IsTrue, List, [], ◌∷◌, None};
+ghost use Rattle.fol_core.specs.RawTree.{RawTree};
 ghost use Rattle.fol_core.specs.declared.raw.Quantifier.TheVariants.{All, Exists};
 ghost use Rattle.ladr_lex.specs.Cuts.{is_quoted};
 ghost use Rattle.ladr_lex.specs.Lexeme.{Lexeme, quoted};
 ghost use Rattle.ladr_lex.specs.Numeral.{is_numeral};
 ghost use Rattle.ladr_lex.specs.Operators.{OperatorRow, are_lawful};
 ghost use Rattle.ladr_reader.specs.Capped.{disjuncts};
-ghost use Rattle.ladr_reader.specs.Formulas.{Style, is_free_name, formula_reading, terms_of, unread, style_of};
 ghost use Rattle.ladr_reader.specs.Reads.{Reads, Item};
-ghost use Rattle.ladr_reader.specs.Table.{Table, table_of};
+ghost use Rattle.ladr_reader.specs.Table.{OperatorTable, table_of};
 ghost use Rattle.ladr_reader.specs.Worked.{line, constant, unary, binary, binder, IsBadAt, standard, with_declared};
-
-use crate::styles::Mode;
 
 /// Tokens are at most one term, of one precedence, and an item has one tree.
 pub fn one_reading()
-    ensures terms { (g : Table) (ts : List Lexeme) (t u : RawTree) (p q : ℕ) →
+    ensures terms { (g : OperatorTable) (ts : List Lexeme) (t u : RawTree) (p q : ℕ) →
         Reads g ts t p → Reads g ts u q → (t ≡ u) × (p ≡ q) }
-    ensures items { (g : Table) (ts : List Lexeme) (t u : RawTree) → Item g ts t → Item g ts u
+    ensures items { (g : OperatorTable) (ts : List Lexeme) (t u : RawTree) → Item g ts t → Item g ts u
         → t ≡ u }
 {}
 
-/// What a quoted symbol is whatever is declared: no operator, no word of a quantifier, no variable, and no numeral.
+/// What a quoted symbol is whatever is declared: no operator, no word of a quantifier, no variable of one, and no numeral.
 pub fn quoted_symbols()
     ensures operator { (rows : List OperatorRow) (text : List ℕ) → IsTrue (are_lawful rows)
         → is_quoted text ≡ true → (table_of rows).op text ≡ None }
@@ -32,28 +27,7 @@ pub fn quoted_symbols()
         → (table_of rows).word text ≡ None }
     ensures bound { (rows : List OperatorRow) (text : List ℕ)
         → (table_of rows).variable quoted text ≡ false }
-    ensures free { (st : Style) (text : List ℕ) → is_quoted text ≡ true
-        → is_free_name st text ≡ false }
     ensures numeral { (text : List ℕ) → is_quoted text ≡ true → is_numeral text ≡ false }
-{}
-
-/// What a term is read as behind a table it is read as behind a larger one, which then stays as it is: behind one that has all
-/// that was entered, with more symbols at its end.
-pub fn larger_tables()
-    ensures { (st : Style) (table larger : List Symbol) (t : RawTree) →
-        KeepsNumbers (formula_reading st table t).reading.symbols larger →
-        formula_reading st larger t ≡ record {
-          tree = (formula_reading st table t).tree;
-          reading = record (formula_reading st table t).reading { symbols = larger };
-        } }
-{}
-
-/// What is read for the prover names no element.
-pub fn prover_names_no_element()
-    ensures formulas { (prolog : Bool) (table : List Symbol) (t : RawTree) (k : ℕ) →
-        names k (formula_reading (style_of Mode.Prover prolog) table t).tree ≡ false }
-    ensures terms { (prolog : Bool) (table : List Symbol) (ts : RawTrees) (k : ℕ) →
-        names_in_any k (terms_of (style_of Mode.Prover prolog) [] (unread table) ts).tree ≡ false }
 {}
 
 /// The disjuncts of terms: those of the right spine, whether it has parentheses or not.

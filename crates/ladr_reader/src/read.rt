@@ -4,7 +4,7 @@ ghost use Rattle.fol_core.specs.RawTree.{RawTree, depth};
 ghost use Rattle.fol_core.specs.RawView.{raw_of, raw_list};
 ghost use Rattle.ladr_lex.specs.Lexeme.{lexemes_of};
 ghost use Rattle.ladr_reader.specs.Capped.{capped, built, disjuncts, all_within};
-ghost use Rattle.ladr_reader.specs.Faults.{IsTermFault, IsFaultWhere, IsRead};
+ghost use Rattle.ladr_reader.specs.Faults.{IsTermFault, IsFaultWhere, IsTermRead};
 ghost use Rattle.ladr_reader.specs.Nesting.{nesting, most_open};
 ghost use Rattle.ladr_reader.specs.Reads.{Item};
 ghost use Rattle.ladr_reader.specs.Table.{table_of};
@@ -13,7 +13,7 @@ use crate::capped::{Build, Capped};
 use crate::disjuncts::Disjuncts;
 use crate::fault::TermFault;
 use crate::nesting::Parentheses;
-use crate::place::Place;
+use crate::place::Standing;
 use crate::stack::Stack;
 use crate::step::step;
 use fol_core::Raw;
@@ -87,13 +87,13 @@ fn read_disjuncts(
     tokens: &[Token],
 ) -> Result<(Disjuncts, usize), TermFault>
     ensures read { IfOk result (λ r.
-        IsRead build.most (table_of ops.now) (lexemes_of tokens.now) r.0 r.1) }
+        IsTermRead build.most (table_of ops.now) (lexemes_of tokens.now) r.0 r.1) }
     ensures fault { IfErr result (IsFaultWhere (λ _. ⊥) (table_of ops.now)
         (lexemes_of tokens.now)) }
 {
     ops.rows_are_lawful();
     let mut stack = Stack::new(build.alloc);
-    let mut place = Place::Operand;
+    let mut place = Standing::Operand;
     let mut parentheses = Parentheses::new();
     for (i, token) in tokens.iter().enumerate() {
         parentheses.note(token);
@@ -102,7 +102,7 @@ fn read_disjuncts(
             None => return Err(TermFault::Bad(i)),
         }
     }
-    let Place::Done(term, _) = place else {
+    let Standing::Done(term, _) = place else {
         return Err(TermFault::Bad(tokens.len()));
     };
     Ok((term, parentheses.most()))

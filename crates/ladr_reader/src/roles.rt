@@ -13,7 +13,7 @@ use std::alloc::{AllocError, Global};
 /// What a token is before an operand: an open parenthesis, a quantifier's word, a prefix operator, another symbol, or
 /// nothing that may stand there.
 #[derive(Drop)]
-pub enum Start {
+pub enum TermStart {
     Opens,
     Quantifies(Quantifier),
     Precedes(Name, Operator),
@@ -33,32 +33,32 @@ pub enum Follow {
     FollowsNot,
 }
 
-impl Start {
+impl TermStart {
     /// What the token is before an operand.
-    pub fn of(alloc: Global, ops: &Ops, token: &Token) -> Result<Start, AllocError>
+    pub fn of(alloc: Global, ops: &Ops, token: &Token) -> Result<TermStart, AllocError>
         ensures { IfOk result (λ start. start ≡ start_of (table_of ops.now) (lexeme_of token.now)) }
     {
         match token.kind {
-            TokenKind::Open => Ok(Start::Opens),
-            TokenKind::Ordinary | TokenKind::Quoted | TokenKind::Special => Start::of_symbol(
+            TokenKind::Open => Ok(TermStart::Opens),
+            TokenKind::Ordinary | TokenKind::Quoted | TokenKind::Special => TermStart::of_symbol(
                 alloc, ops, token.text,
             ),
-            _ => Ok(Start::StartsNot),
+            _ => Ok(TermStart::StartsNot),
         }
     }
 
-    fn of_symbol(alloc: Global, ops: &Ops, text: &[u8]) -> Result<Start, AllocError>
+    fn of_symbol(alloc: Global, ops: &Ops, text: &[u8]) -> Result<TermStart, AllocError>
         ensures { IfOk result (λ start.
             start ≡ start_of_symbol (quantifier_of text.now)
             (if_prefix (operator_of ops.now text.now)) text.now) }
     {
         if let Some(quantifier) = quantifier_of(text) {
-            return Ok(Start::Quantifies(quantifier));
+            return Ok(TermStart::Quantifies(quantifier));
         }
         let name = Name::from_slice(alloc, text)?;
         match ops.prefix_of(text) {
-            Some(operator) => Ok(Start::Precedes(name, operator)),
-            None => Ok(Start::Names(name)),
+            Some(operator) => Ok(TermStart::Precedes(name, operator)),
+            None => Ok(TermStart::Names(name)),
         }
     }
 }

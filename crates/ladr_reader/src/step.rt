@@ -7,8 +7,8 @@ ghost use Rattle.ladr_reader.specs.Table.{table_of, right};
 
 use crate::capped::{Arguments, Build};
 use crate::disjuncts::Disjuncts;
-use crate::place::Place;
-use crate::roles::{Follow, Start, variable_of};
+use crate::place::Standing;
+use crate::roles::{Follow, TermStart, variable_of};
 use crate::sides::{Side, grows, left, right};
 use crate::stack::{Frame, Part, Stack};
 use fol_core::{Name, Quantifier};
@@ -23,19 +23,19 @@ pub fn step(
     build: Build,
     ops: &Ops,
     stack: &mut Stack,
-    place: Place,
+    place: Standing,
     token: &Token,
-) -> Result<Option<Place>, AllocError>
+) -> Result<Option<Standing>, AllocError>
     ensures { IfOk result (λ next.
         standing next stack.new ≡ step build.most (table_of ops.now) place stack.old
         (lexeme_of token.now)) }
 {
     let alloc = build.alloc;
     match place {
-        Place::Operand => begin(stack, Start::of(alloc, ops, token)?),
-        Place::Named(name) => behind_name(build, stack, Follow::of(alloc, ops, token)?, name),
-        Place::Word(quantifier) => bind(stack, quantifier, variable_of(alloc, token)?),
-        Place::Term(term, precedence) => {
+        Standing::Operand => begin(stack, TermStart::of(alloc, ops, token)?),
+        Standing::Named(name) => behind_name(build, stack, Follow::of(alloc, ops, token)?, name),
+        Standing::Word(quantifier) => bind(stack, quantifier, variable_of(alloc, token)?),
+        Standing::Term(term, precedence) => {
             after(
                 build,
                 stack,
@@ -44,40 +44,40 @@ pub fn step(
                 precedence,
             )
         }
-        Place::Done(_, _) => Ok(None),
+        Standing::Done(_, _) => Ok(None),
     }
 }
 
 // Before an operand.
-fn begin(stack: &mut Stack, start: Start) -> Result<Option<Place>, AllocError>
+fn begin(stack: &mut Stack, start: TermStart) -> Result<Option<Standing>, AllocError>
     ensures { IfOk result (λ place. standing place stack.new ≡ begin start stack.old) }
 {
     match start {
-        Start::Opens => {
+        TermStart::Opens => {
             stack.push(Frame::Group)?;
-            Ok(Some(Place::Operand))
+            Ok(Some(Standing::Operand))
         }
-        Start::Quantifies(quantifier) => {
+        TermStart::Quantifies(quantifier) => {
             if stack.allows(QUANTIFIED, false) {
-                Ok(Some(Place::Word(quantifier)))
+                Ok(Some(Standing::Word(quantifier)))
             } else {
                 Ok(None)
             }
         }
-        Start::Precedes(name, operator) => {
+        TermStart::Precedes(name, operator) => {
             if stack.allows(operator.precedence, false) {
                 stack.push(Frame::Waiting(
                     Part::Prefix(name),
                     right(operator.kind),
                     operator.precedence,
                 ))?;
-                Ok(Some(Place::Operand))
+                Ok(Some(Standing::Operand))
             } else {
                 Ok(None)
             }
         }
-        Start::Names(name) => Ok(Some(Place::Named(name))),
-        Start::StartsNot => Ok(None),
+        TermStart::Names(name) => Ok(Some(Standing::Named(name))),
+        TermStart::StartsNot => Ok(None),
     }
 }
 
@@ -86,7 +86,7 @@ fn bind(
     stack: &mut Stack,
     quantifier: Quantifier,
     variable: Option<Name>,
-) -> Result<Option<Place>, AllocError>
+) -> Result<Option<Standing>, AllocError>
     ensures { IfOk result (λ place. standing place stack.new ≡ bind quantifier variable stack.old) }
 {
     match variable {
@@ -96,7 +96,7 @@ fn bind(
                 Side::UpTo,
                 QUANTIFIED,
             ))?;
-            Ok(Some(Place::Operand))
+            Ok(Some(Standing::Operand))
         }
         None => Ok(None),
     }
@@ -108,14 +108,14 @@ fn behind_name(
     stack: &mut Stack,
     follow: Follow,
     name: Name,
-) -> Result<Option<Place>, AllocError>
+) -> Result<Option<Standing>, AllocError>
     ensures { IfOk result (λ place. standing place stack.new
         ≡ behind_name build.most follow name stack.old) }
 {
     match follow {
         Follow::Applies => {
             stack.push(Frame::Applied(name, Arguments::new(build.alloc)))?;
-            Ok(Some(Place::Operand))
+            Ok(Some(Standing::Operand))
         }
         follow => {
             let atom = Disjuncts::atom(build, name);
@@ -131,7 +131,7 @@ fn after(
     follow: Follow,
     mut term: Disjuncts,
     mut precedence: u16,
-) -> Result<Option<Place>, AllocError>
+) -> Result<Option<Standing>, AllocError>
     ensures { IfOk result (λ place. standing place stack.new
         ≡ after build.most follow term precedence stack.old) }
 {
@@ -170,7 +170,7 @@ fn act(
     follow: Follow,
     term: Disjuncts,
     precedence: u16,
-) -> Result<Option<Place>, AllocError>
+) -> Result<Option<Standing>, AllocError>
     ensures { IfOk result (λ place. standing place stack.new
         ≡ act build.most follow term precedence stack.old) }
 {
@@ -198,7 +198,7 @@ fn behind_operator(
     name: Name,
     operator: Operator,
     term: Disjuncts,
-) -> Result<Option<Place>, AllocError>
+) -> Result<Option<Standing>, AllocError>
     ensures { IfOk result (λ place.
         standing place stack.new ≡ behind_operator build.most
         (right operator.kind) name operator term stack.old) }
@@ -207,12 +207,12 @@ fn behind_operator(
         Side::Nothing => {
             let none = Arguments::new(build.alloc);
             let term = Disjuncts::finished(build, name, none, term)?;
-            Ok(Some(Place::Term(term, operator.precedence)))
+            Ok(Some(Standing::Term(term, operator.precedence)))
         }
         side => {
             let left = term.into_whole(build)?;
             stack.push(Frame::Waiting(Part::Infix(name, left), side, operator.precedence))?;
-            Ok(Some(Place::Operand))
+            Ok(Some(Standing::Operand))
         }
     }
 }
@@ -222,15 +222,15 @@ fn behind_close(
     build: Build,
     stack: &mut Stack,
     term: Disjuncts,
-) -> Result<Option<Place>, AllocError>
+) -> Result<Option<Standing>, AllocError>
     ensures { IfOk result (λ place. standing place stack.new
         ≡ behind_close build.most term stack.old) }
 {
     match stack.pop() {
-        Some(Frame::Group) => Ok(Some(Place::Term(term, 0))),
+        Some(Frame::Group) => Ok(Some(Standing::Term(term, 0))),
         Some(Frame::Applied(name, arguments)) => {
             let term = Disjuncts::finished(build, name, arguments, term)?;
-            Ok(Some(Place::Term(term, 0)))
+            Ok(Some(Standing::Term(term, 0)))
         }
         Some(Frame::Waiting(_, _, _)) => Ok(None),
         None => Ok(None),
@@ -242,7 +242,7 @@ fn behind_comma(
     build: Build,
     stack: &mut Stack,
     term: Disjuncts,
-) -> Result<Option<Place>, AllocError>
+) -> Result<Option<Standing>, AllocError>
     ensures { IfOk result (λ place. standing place stack.new
         ≡ behind_comma build.most term stack.old) }
 {
@@ -250,7 +250,7 @@ fn behind_comma(
         Some(Frame::Applied(name, arguments)) => {
             let term = term.into_whole(build)?;
             stack.push(Frame::Applied(name, arguments.with(term)?))?;
-            Ok(Some(Place::Operand))
+            Ok(Some(Standing::Operand))
         }
         Some(Frame::Group) => Ok(None),
         Some(Frame::Waiting(_, _, _)) => Ok(None),
@@ -263,12 +263,12 @@ fn behind_stop(
     stack: &mut Stack,
     term: Disjuncts,
     precedence: u16,
-) -> Result<Option<Place>, AllocError>
+) -> Result<Option<Standing>, AllocError>
     ensures { IfOk result (λ place. standing place stack.new
         ≡ behind_stop term precedence stack.old) }
 {
     match stack.pop() {
-        None => Ok(Some(Place::Done(term, precedence))),
+        None => Ok(Some(Standing::Done(term, precedence))),
         Some(_) => Ok(None),
     }
 }

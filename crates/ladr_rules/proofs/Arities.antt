@@ -6,8 +6,8 @@ use Rattle.std.specs.Prelude.{codes}
 use Rattle.std.specs.Str.{bytes_eq}
 use Rattle.fol_core.specs.NamesOnce.{is_in}
 use Rattle.fol_core.specs.RawTree.{RawTree, named, raws_of}
-use Rattle.ladr_reader.specs.Formulas.{Variable}
-use Rattle.ladr_reader.proofs.TermLemmas.{arity_is_length}
+use Rattle.ladr_formulas.specs.Formulas.{Variable}
+use Rattle.ladr_formulas.proofs.TermLemmas.{arity_is_length}
 use Rattle.fol_core.specs.Weights.{number}
 use Rattle.ladr_rules.specs.Rules.{equation_sides, sides_of, kbo_sides, kbo_rule, single_value, is_value, value_of}
 use Rattle.ladr_rules.specs.Attributes.{is_label, whole_number, hint_weight}

@@ -9,7 +9,7 @@ use Rattle.fol_core.specs.NamesOnce.{is_in, with_name}
 use Rattle.fol_core.specs.RawTree.{RawTree, RawTrees, named, quantified, no_raws, more_raws}
 use Rattle.fol_core.specs.RawView.{raw_of}
 use Rattle.fol_core.specs.declared.raw.Raw.{Raw}
-use Rattle.ladr_reader.specs.declared.styles.Style.{Style}
+use Rattle.ladr_formulas.specs.declared.styles.Style.{Style}
 use Rattle.ladr_rules.specs.Rules.{variable_names, all_names, is_value}
 use Rattle.ladr_rules.specs.Seen.{with_names}
 use Rattle.ladr_rules.proofs.Parts.{raws_from, raws_next, raws_end}

@@ -4,7 +4,7 @@ use Rattle.std.proofs.lemmas.List.{drop_more, drop_all}
 use Rattle.fol_core.specs.RawTree.{RawTree, RawTrees, named, no_raws, more_raws, raws_of}
 use Rattle.fol_core.specs.RawView.{raw_of, raw_list}
 use Rattle.fol_core.specs.declared.raw.Raw.{Raw}
-use Rattle.ladr_reader.specs.declared.styles.Style.{Style}
+use Rattle.ladr_formulas.specs.declared.styles.Style.{Style}
 use Rattle.ladr_rules.specs.Rules.{variable_names, all_names, is_bare}
 use Rattle.ladr_rules.proofs.Arities.{no_none}
 

@@ -4,7 +4,7 @@ use Rattle.fol_core.specs.RuleView.{rule_of}
 use Rattle.fol_core.specs.SymbolTable.{Symbol}
 use Rattle.fol_core.specs.Weights.{Rule}
 use Rattle.fol_core.specs.declared.weights.KboWeight.{KboWeight}
-use Rattle.ladr_reader.specs.Formulas.{Made}
+use Rattle.ladr_formulas.specs.Formulas.{Made}
 use Rattle.ladr_rules.specs.declared.rules.RuleRead.{RuleRead}
 
 -- the rule that was read is this one, and this table stands behind it

@@ -9,8 +9,8 @@ use Rattle.fol_core.specs.SymbolTable.{Symbol}
 use Rattle.ladr_lex.specs.Misuses.{row_of}
 use Rattle.ladr_lex.specs.declared.misuse.Misuse.{Misuse}
 use Rattle.ladr_lex.specs.declared.misuse.Misuse.TheVariants.{TwoKinds, UnfitNumeral}
-use Rattle.ladr_reader.specs.Formulas.{Made, Variable, is_free_name, is_too_great, terms_of, unread, free_number}
-use Rattle.ladr_reader.specs.declared.styles.Style.{Style}
+use Rattle.ladr_formulas.specs.Formulas.{Made, Variable, is_free_name, is_too_great, terms_of, unread, free_number}
+use Rattle.ladr_formulas.specs.declared.styles.Style.{Style}
 use Rattle.ladr_rules.specs.Attributes.{whole_number}
 
 abbrev mutual

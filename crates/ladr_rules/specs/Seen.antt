@@ -4,7 +4,7 @@ use Rattle.std.specs.Str.{bytes_eq}
 use Rattle.fol_core.specs.NamesOnce.{with_name}
 use Rattle.fol_core.specs.RawTree.{RawTree, named, quantified, no_raws, more_raws}
 use Rattle.fol_core.specs.RawView.{raw_of}
-use Rattle.ladr_reader.specs.Formulas.{arity_of}
+use Rattle.ladr_formulas.specs.Formulas.{arity_of}
 use Rattle.ladr_rules.specs.declared.attributes.Split.{Split}
 use Rattle.ladr_rules.specs.declared.attributes.Split.TheVariants.{Joined, Alone}
 

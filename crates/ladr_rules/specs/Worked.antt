@@ -7,10 +7,10 @@ use Rattle.fol_core.specs.RawTree.{RawTree}
 use Rattle.fol_core.specs.SymbolTable.{Symbol}
 use Rattle.fol_core.specs.Weights.{Rule}
 use Rattle.ladr_lex.specs.declared.misuse.Misuse.{Misuse}
-use Rattle.ladr_reader.specs.Formulas.{formula_reading}
+use Rattle.ladr_formulas.specs.Formulas.{formula_reading}
 use Rattle.ladr_reader.specs.Worked.{constant, unary, binary}
-use Rattle.ladr_reader.specs.WorkedFormulas.{for_prover}
-use Rattle.ladr_reader.specs.declared.styles.Style.{Style}
+use Rattle.ladr_formulas.specs.WorkedFormulas.{for_prover}
+use Rattle.ladr_formulas.specs.declared.styles.Style.{Style}
 use Rattle.ladr_rules.specs.Rules.{rule_in}
 
 -- names without arguments

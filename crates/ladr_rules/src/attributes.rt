@@ -15,16 +15,16 @@ const MOST: u32 = 2_147_483_647;
 /// A formula without its attributes; the first label among them, whether one of them breaks row 12, and the number of the first
 /// `bsub_hint_wt`.
 #[derive(Drop)]
-pub struct Stated {
+pub struct LabelledFormula {
     pub formula: Raw,
     pub label: Option<Raw>,
     pub misused: bool,
     pub hint_weight: Option<u32>,
 }
 
-impl Stated {
+impl LabelledFormula {
     /// The term taken apart.
-    pub fn of(raw: Raw) -> Stated
+    pub fn of(raw: Raw) -> LabelledFormula
         ensures formula { raw_of result.formula ≡ (attributed (raw_of raw)).formula }
         ensures label { option_map raw_of result.label
             ≡ label_of (attributed (raw_of raw)).attributes }
@@ -39,14 +39,14 @@ impl Stated {
                     misused,
                     hint_weight,
                 } = Notes::of(rest);
-                Stated {
+                LabelledFormula {
                     formula,
                     label,
                     misused,
                     hint_weight,
                 }
             }
-            Split::Alone(formula) => Stated {
+            Split::Alone(formula) => LabelledFormula {
                 formula,
                 label: None,
                 misused: false,

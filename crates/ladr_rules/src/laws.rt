@@ -7,7 +7,7 @@ ghost use Rattle.fol_core.specs.declared.symbols.Kind.TheVariants.{Function};
 ghost use Rattle.ladr_lex.specs.declared.misuse.Misuse.TheVariants.{UnfitNumeral};
 ghost use Rattle.ladr_reader.specs.Reads.{Item};
 ghost use Rattle.ladr_reader.specs.Worked.{line, constant, unary, binary, standard};
-ghost use Rattle.ladr_reader.specs.WorkedFormulas.{for_tester, for_prover, in_prolog};
+ghost use Rattle.ladr_formulas.specs.WorkedFormulas.{for_tester, for_prover, in_prolog};
 ghost use Rattle.ladr_rules.specs.Attributes.{attributed, label_of, has_unfit_weight, hint_weight_of};
 ghost use Rattle.ladr_rules.specs.Rules.{kbo_rule};
 ghost use Rattle.ladr_rules.specs.Shapes.{is_hint, is_demodulator};

@@ -10,7 +10,7 @@ mod shapes;
 mod sides;
 mod values;
 
-pub use attributes::Stated;
+pub use attributes::LabelledFormula;
 pub use kbo::kbo_rule;
 pub use laws::{worked, worked_rules};
 pub use rules::{RuleRead, weight_rule};

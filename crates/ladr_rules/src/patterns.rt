@@ -11,8 +11,8 @@ use crate::sides::Sides;
 use crate::values::is_value;
 use fol_core::{Raw, Raws};
 use indexmap::IndexSet;
+use ladr_formulas::{Style, is_free_name, is_too_great};
 use ladr_lex::Misuse;
-use ladr_reader::{Style, is_free_name, is_too_great};
 use std::alloc::{AllocError, Global};
 
 #[tactic(auto, using(crate::proofs::Parts::bare_by_length))]

@@ -5,7 +5,7 @@ ghost use Rattle.fol_core.specs.Bound.{HaveSymbolsBelow};
 ghost use Rattle.fol_core.specs.RawView.{raw_of};
 ghost use Rattle.fol_core.specs.SymbolTable.{KeepsNumbers};
 ghost use Rattle.fol_core.specs.Tree.{trees_of};
-ghost use Rattle.ladr_reader.specs.Formulas.{style_of};
+ghost use Rattle.ladr_formulas.specs.Formulas.{style_of};
 ghost use Rattle.ladr_rules.specs.RuleSeen.{IsRule, IsRuleIn};
 ghost use Rattle.ladr_rules.specs.Rules.{shaped_sides, rule_made, rule_in};
 ghost use Rattle.ladr_rules.specs.SidesView.{sides_view};
@@ -14,8 +14,8 @@ use crate::patterns::{is_shaped, pattern_misuse};
 use crate::sides::{Sides, sides_of};
 use crate::values::value_of;
 use fol_core::{Name, Raw, Symbols, WeightRule};
+use ladr_formulas::{Mode, Style, TermsRead, style_of, terms_of};
 use ladr_lex::Misuse;
-use ladr_reader::{Mode, Style, TermsRead, style_of, terms_of};
 use std::alloc::{AllocError, Global};
 
 /// A rule that was read, the misuse of the least row that was met in it, and whether an arity was too large.

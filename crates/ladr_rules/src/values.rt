@@ -9,7 +9,7 @@ ghost use Rattle.ladr_rules.specs.Rules.{single_value, is_value, single_weight, 
 use crate::attributes::whole_number;
 use fol_core::{Raw, Weight, WeightSub};
 use indexmap::IndexSet;
-use ladr_reader::Variables;
+use ladr_formulas::Variables;
 use std::alloc::{AllocError, Global};
 
 const MOST: u32 = 2_147_483_647;

@@ -15,7 +15,7 @@ use Rattle.ladr_options.specs.Options.{flagged, numbered, symbolized}
 use Rattle.ladr_options.specs.Ranges.{AreInRange}
 use Rattle.ladr_options.specs.declared.options.Options.{Options}
 use Rattle.ladr_options.specs.declared.options.OptionError.{OptionError}
-use Rattle.ladr_reader.specs.declared.styles.Mode.{Mode}
+use Rattle.ladr_formulas.specs.declared.styles.Mode.{Mode}
 use Rattle.fol_core.specs.NamesOnce.{are_apart}
 use Rattle.ladr_settings.specs.Settings.{after, after_meant, after_other, after_value, after_opening, all_declared, is_other, flag_misuse, parameter_misuse, with_options, is_late_style, is_meant, formulas_opened, rules_opened}
 use Rattle.ladr_settings.specs.declared.lists.OpenList.{OpenList}

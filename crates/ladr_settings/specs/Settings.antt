@@ -23,8 +23,8 @@ use Rattle.ladr_settings.specs.declared.lists.FormulaList.{FormulaList}
 use Rattle.ladr_settings.specs.declared.lists.FormulaList.TheVariants.{Assumptions, Usable, Demodulators, Goals, Hints}
 use Rattle.ladr_settings.specs.declared.lists.OpenList.{OpenList}
 use Rattle.ladr_settings.specs.declared.lists.OpenList.TheVariants.{Formulas, Weights, KboWeights, OtherFormulas, OtherRules}
-use Rattle.ladr_reader.specs.declared.styles.Mode.{Mode}
-use Rattle.ladr_reader.specs.declared.styles.Mode.TheVariants.{Prover, Mace, Tester}
+use Rattle.ladr_formulas.specs.declared.styles.Mode.{Mode}
+use Rattle.ladr_formulas.specs.declared.styles.Mode.TheVariants.{Prover, Mace, Tester}
 use Rattle.ladr_settings.specs.declared.settings.Settings.{Settings}
 
 -- the lists of formulas by name; `sos` is another name of the assumptions

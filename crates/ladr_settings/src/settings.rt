@@ -9,10 +9,10 @@ use crate::lists::OpenList;
 use crate::symbols::{declare_all, order_of};
 use fol_core::{Name, NameOrder, Names};
 use ladr_commands::{ByName, Command, Value};
+use ladr_formulas::Mode;
 use ladr_interpretations::{Named, NamedError};
 use ladr_lex::{DeclareError, Misuse, Ops};
 use ladr_options::{OptionError, Options};
-use ladr_reader::Mode;
 use std::alloc::{AllocError, Global};
 
 /// Why a command changes no settings: how it is misused, by the least row, or want of memory.

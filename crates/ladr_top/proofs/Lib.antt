@@ -1,14 +1,1 @@
-pub mod Begun
-pub mod Commands
-pub mod CutShort
-pub mod Ended
-pub mod FewSymbols
-pub mod FirstModels
-pub mod Found
-pub mod OneEnd
-pub mod OneSearch
-pub mod Printed
-pub mod Readings
-pub mod Shown
-pub mod Stories
-pub mod Told
+pub mod Lacking

@@ -1,10 +1,3 @@
-pub mod Finding
-pub mod Outcome
-pub mod Output
-pub mod Pieces
-pub mod Search
-pub mod Shown
-pub mod Skolems
-pub mod Verdicts
-pub mod Watching
-pub mod Worked
+pub mod Causes
+pub mod Runs
+pub mod Words

@@ -1,38 +1,23 @@
 // Why a run ended.
-use ladr_lex::Misuse;
-pub use ladr_problem::{Limit, Place};
+ghost use Rattle.std.specs.Prelude.{◌≡◌};
+ghost use Rattle.ladr_top.specs.Causes.{cause_of, status_of};
 
-/// Why a run ended.
+pub use ladr_clausetester::Tested;
+use ladr_intake::Stop;
+pub use ladr_intake::{Limit, Place, Refused};
+pub use ladr_mace4::SearchEnd;
+
+/// Why a run ended: the words are no command, the input is refused, a read or a write failed, memory was lacking, or a command came to an
+/// end of its own.
 #[derive(Drop)]
 pub enum Cause {
-    /// What was asked is done.
-    Done,
-    /// Each size was skipped or is exhausted, and has no model.
-    Exhausted,
-    /// The cells of a size are too many to search.
-    MaxMegs,
-    /// The time is over, by the clock's first reading and its last.
-    MaxSeconds { first: u64, last: u64 },
-    /// Each size was skipped or is exhausted, and there are models, but fewer than were wanted.
-    AllModels,
-    /// The cells of a size are too many by far.
-    GroundLimit { size: u64 },
-    /// A formula has too many clauses; formulas are counted from 1.
-    ClauseLimit { formula: u64 },
-    /// The words are no command.
     Words,
-    /// Something of the input can't be read.
-    Unreadable(Place),
-    /// An item of the input is misused; the place is its beginning, or the end of the input.
-    Misuse(Place, Misuse),
-    /// A limit is passed, by the item that begins at the byte, or by the input.
-    TooLarge { byte: u64, what: Limit },
-    /// A read of the source failed.
+    Refused(Refused),
     ReadFault,
-    /// A write to the sink failed.
     WriteFault,
-    /// Memory was lacking.
     Memory,
+    Clausetester(Tested),
+    Mace4(SearchEnd),
 }
 
 /// The exit status of a run, and why it ended.
@@ -40,4 +25,31 @@ pub enum Cause {
 pub struct Exit {
     pub status: u8,
     pub cause: Cause,
+}
+
+/// A command came to no end of its own.
+pub fn cause_of(stop: Stop) -> Cause
+    ensures { result ≡ cause_of stop }
+{
+    match stop {
+        Stop::Refused(refused) => Cause::Refused(refused),
+        Stop::ReadFault => Cause::ReadFault,
+        Stop::WriteFault => Cause::WriteFault,
+        Stop::Memory => Cause::Memory,
+    }
+}
+
+/// The exit status of a cause.
+pub fn status(cause: &Cause) -> u8
+    ensures { result ≡ status_of cause.now }
+{
+    match cause {
+        Cause::Words => 9,
+        Cause::Refused(_) => 1,
+        Cause::ReadFault => 10,
+        Cause::WriteFault => 11,
+        Cause::Memory => 12,
+        Cause::Clausetester(_) => 0,
+        Cause::Mace4(end) => end.status(),
+    }
 }

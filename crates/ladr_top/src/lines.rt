@@ -1,122 +1,15 @@
-// The lines of a search for models.
-ghost use Rattle.std.specs.Prelude.{◌≡◌, ◌++◌, OnOk, IfOk, codes};
-ghost use Rattle.std.specs.Fmt.{decimal};
-ghost use Rattle.ladr_top.specs.Output.{size_line, skipped_line, exhausted_line, models_line, exit_line, seconds_line, ground_limit_line, clause_limit_line};
-ghost use Rattle.ladr_top.specs.Search.{last_lines};
+// What the program itself prints.
+ghost use Rattle.std.specs.Prelude.{◌≡◌, IfOk};
+ghost use Rattle.ladr_top.specs.Words.{no_command_line};
 
-use crate::text::{number, text};
+use ladr_output::text;
 use std::alloc::{AllocError, Global};
 
-/// A size begins.
-pub fn size(alloc: Global, n: u64) -> Result<Vec<u8>, AllocError>
-    ensures { IfOk result (λ v. v.items ≡ size_line n) }
+/// The line for words that are no command.
+pub fn no_command(alloc: Global) -> Result<Vec<u8>, AllocError>
+    ensures { IfOk result (λ v. v.items ≡ no_command_line) }
 {
     let mut out = Vec::new(alloc);
-    text(&mut out, b"% Domain size ")?;
-    number(&mut out, n)?;
-    text(&mut out, b".\n")?;
-    Ok(out)
-}
-
-/// A size is skipped.
-pub fn skipped(alloc: Global, n: u64) -> Result<Vec<u8>, AllocError>
-    ensures { IfOk result (λ v. v.items ≡ skipped_line n) }
-{
-    let mut out = Vec::new(alloc);
-    text(&mut out, b"% Domain size ")?;
-    number(&mut out, n)?;
-    text(&mut out, b" skipped.\n")?;
-    Ok(out)
-}
-
-// The size that a line is about.
-fn domain(out: &mut Vec<u8>, n: u64) -> Result<(), AllocError>
-    ensures { OnOk result (out.new.items ≡ out.old.items ++ (codes "% Domain size " ++ decimal n)) }
-{
-    text(out, b"% Domain size ")?;
-    number(out, n)
-}
-
-/// A size was searched to its end.
-pub fn exhausted(alloc: Global, n: u64) -> Result<Vec<u8>, AllocError>
-    ensures { IfOk result (λ v. v.items ≡ exhausted_line n) }
-{
-    let mut out = Vec::new(alloc);
-    domain(&mut out, n)?;
-    text(&mut out, b" exhausted.\n")?;
-    Ok(out)
-}
-
-/// A size has too many cells by far.
-pub fn ground_limit(alloc: Global, n: u64) -> Result<Vec<u8>, AllocError>
-    ensures { IfOk result (λ v. v.items ≡ ground_limit_line n) }
-{
-    let mut out = Vec::new(alloc);
-    text(&mut out, b"ladr: ground limit at size ")?;
-    number(&mut out, n)?;
-    text(&mut out, b"\n")?;
-    Ok(out)
-}
-
-/// A formula has too many clauses.
-pub fn clause_limit(alloc: Global, formula: u64) -> Result<Vec<u8>, AllocError>
-    ensures { IfOk result (λ v. v.items ≡ clause_limit_line formula) }
-{
-    let mut out = Vec::new(alloc);
-    text(&mut out, b"ladr: clause limit at formula ")?;
-    number(&mut out, formula)?;
-    text(&mut out, b"\n")?;
-    Ok(out)
-}
-
-// How many models were printed.
-fn models(out: &mut Vec<u8>, k: u64) -> Result<(), AllocError>
-    ensures { OnOk result (out.new.items ≡ out.old.items ++ models_line k) }
-{
-    text(out, b"% Models=")?;
-    number(out, k)?;
-    text(out, b".\n")
-}
-
-/// The lines that a search ends with.
-pub fn ending(alloc: Global, k: u64, reason: &[u8]) -> Result<Vec<u8>, AllocError>
-    ensures { IfOk result (λ v. v.items ≡ last_lines k reason.now) }
-{
-    let mut out = Vec::new(alloc);
-    models(&mut out, k)?;
-    text(&mut out, b"% Exit ")?;
-    text(&mut out, reason)?;
-    text(&mut out, b".\n")?;
-    Ok(out)
-}
-
-// The clock's first reading.
-fn first_reading(out: &mut Vec<u8>, first: u64) -> Result<(), AllocError>
-    ensures { OnOk result (out.new.items ≡ out.old.items
-        ++ (codes "% Exit max_seconds " ++ decimal first)) }
-{
-    text(out, b"% Exit max_seconds ")?;
-    number(out, first)?;
-    Ok(())
-}
-
-// The clock's first reading and its last.
-fn seconds(out: &mut Vec<u8>, first: u64, last: u64) -> Result<(), AllocError>
-    ensures { OnOk result (out.new.items ≡ out.old.items ++ seconds_line first last) }
-{
-    first_reading(out, first)?;
-    text(out, b" ")?;
-    number(out, last)?;
-    text(out, b".\n")?;
-    Ok(())
-}
-
-/// Those of a search whose time is over.
-pub fn time_is_over(alloc: Global, k: u64, first: u64, last: u64) -> Result<Vec<u8>, AllocError>
-    ensures { IfOk result (λ v. v.items ≡ models_line k ++ seconds_line first last) }
-{
-    let mut out = Vec::new(alloc);
-    models(&mut out, k)?;
-    seconds(&mut out, first, last)?;
+    text(&mut out, b"ladr: no such command\n")?;
     Ok(out)
 }

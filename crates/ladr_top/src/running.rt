@@ -1,68 +1,26 @@
 // The one call of the program.
-ghost use Rattle.std.specs.Prelude.{◌≡◌, ◌≢◌, ◌≤◌, None, Some, map};
+ghost use Rattle.std.specs.Prelude.{◌≡◌, ◌≢◌, false, None, Some, map};
 ghost use Rattle.std.specs.String.{string_bytes};
-ghost use Rattle.ladr_io.specs.Streams.{Rose};
-ghost use Rattle.ladr_top.specs.Finding.{Searches};
-ghost use Rattle.ladr_top.specs.Shown.{SearchesShow};
-ghost use Rattle.ladr_top.specs.Outcome.{status_of, Tests, Printed, Refuses};
+ghost use Rattle.ladr_mace4.specs.Shown.{ShowsPosed};
+ghost use Rattle.ladr_top.specs.Causes.{cause_by, status_of};
+ghost use Rattle.ladr_top.specs.Runs.{RefusesWords, RunsClausetester, RunsMace4};
 ghost use Rattle.ladr_words.specs.Tasks.{task_of};
 ghost use Rattle.ladr_words.specs.declared.task.ModelOptions.{ModelOptions};
 ghost use Rattle.ladr_words.specs.declared.task.Task.TheVariants.{Clausetester, Mace4};
 
-use crate::cause::{Cause, Exit};
-use crate::finding::mace4;
-use crate::laws::printed_models;
-use crate::pieces::conclude;
-use crate::testing::clausetester;
-use crate::text;
+use crate::cause::{Cause, Exit, cause_of, status};
+use crate::lines::no_command;
 use fol_core::Interpretation;
+use ladr_clausetester::{Tested, clausetester};
+use ladr_intake::{Stop, stop_by};
 use ladr_io::{Clock, Sink, Source};
+use ladr_mace4::{SearchEnd, mace4, searches_show};
+use ladr_output::piece;
 use ladr_words::{Task, WordsError, task_of};
 use std::alloc::Global;
 
-// Prints the line for words that are no command.
-fn refuse<K: Sink>(alloc: Global, sink: &mut K) -> Cause
-    ensures printed { Printed Refuses (K.held sink.old) (K.held sink.new) result }
-    ensures never { result ≢ Cause.ReadFault }
-    ensures write_fault { result ≡ Cause.WriteFault → Rose (K.faults sink.old) (K.faults sink.new) }
-    ensures no_write_fault { result ≢ Cause.WriteFault → K.faults sink.new ≡ K.faults sink.old }
-{
-    conclude(text::no_command(alloc), Cause::Words, sink)
-}
-
-fn status(cause: &Cause) -> u8
-    ensures { result ≡ status_of cause.now }
-{
-    match cause {
-        Cause::Done => 0,
-        Cause::Unreadable(_) => 1,
-        Cause::Misuse(_, _) => 1,
-        Cause::TooLarge { .. } => 1,
-        Cause::Exhausted => 2,
-        Cause::MaxMegs => 3,
-        Cause::MaxSeconds { .. } => 4,
-        Cause::AllModels => 8,
-        Cause::Words => 9,
-        Cause::ReadFault => 10,
-        Cause::WriteFault => 11,
-        Cause::Memory => 12,
-        Cause::GroundLimit { .. } => 13,
-        Cause::ClauseLimit { .. } => 13,
-    }
-}
-
-fn exit_by(cause: Cause) -> Exit
-    ensures status { result.status ≡ status_of cause }
-    ensures cause { result.cause ≡ cause }
-{
-    Exit {
-        status: status(&cause),
-        cause,
-    }
-}
-
 /// All that the program does: reads the source, if the words are a command, and prints to the sink. `any` is any
-/// interpretation: what the clauses say of it holds for every one. The clock is one that nothing read before.
+/// interpretation: what the clauses say of it holds for every one. The streams are open, and nothing read the clock before.
 pub fn run<I: Interpretation, S: Source, K: Sink, C: Clock>(
     alloc: Global,
     words: &[String],
@@ -72,46 +30,80 @@ pub fn run<I: Interpretation, S: Source, K: Sink, C: Clock>(
     clock: &mut C,
 ) -> Exit
     requires unread { (C.times clock.old).count ≡ 0 }
+    requires source { (S.inflow source.old).over ≡ false }
+    requires sink { (K.outflow sink.old).over ≡ false }
     ensures status { result.status ≡ status_of result.cause }
 
     // Words that are no command are refused, and nothing is read.
-    ensures refused { task_of (map string_bytes words.now) ≡ None
-        → Printed Refuses (K.held sink.old) (K.held sink.new) result.cause }
+    ensures words { task_of (map string_bytes words.now) ≡ None
+        → RefusesWords (K.outflow sink.old) (K.outflow sink.new) result.cause }
     ensures untouched { task_of (map string_bytes words.now) ≡ None → source.new ≡ source.old }
 
     // The input is tested.
-    ensures tests { task_of (map string_bytes words.now) ≡ Some Clausetester
-        → Tests (S.left source.old) (S.left source.new) (S.faults source.old) (S.faults source.new)
-        (K.held sink.old) (K.held sink.new) result.cause }
+    ensures clausetester { task_of (map string_bytes words.now) ≡ Some Clausetester
+        → RunsClausetester (S.inflow source.old) (S.inflow source.new) (K.outflow sink.old)
+        (K.outflow sink.new) result.cause }
 
     // Models of what the input states are searched for.
-    ensures searches { (o : ModelOptions) → task_of (map string_bytes words.now) ≡ Some (Mace4 o)
-        → Searches o (S.left source.old) (S.left source.new) (S.faults source.old)
-        (S.faults source.new) (K.held sink.old) (K.held sink.new) (C.times clock.old)
-        (C.times clock.new) result.cause }
+    ensures mace4 { (o : ModelOptions) → task_of (map string_bytes words.now) ≡ Some (Mace4 o)
+        → RunsMace4 o (S.inflow source.old) (S.inflow source.new) (K.outflow sink.old)
+        (K.outflow sink.new) (C.times clock.new) result.cause }
 
-    // What it prints as models of the input makes each assumption true and each goal false, and its Skolem symbols pick witnesses; where
-    // a size is exhausted, each model of it is printed.
-    ensures models { SearchesShow }
-
-    // A fault is told only where the stream counted one, and a failed write is told wherever one was counted.
-    ensures read_fault { result.cause ≡ Cause.ReadFault
-        → Rose (S.faults source.old) (S.faults source.new) }
-    ensures write_fault { result.cause ≡ Cause.WriteFault
-        → Rose (K.faults sink.old) (K.faults sink.new) }
-    ensures no_write_fault { result.cause ≢ Cause.WriteFault
-        → K.faults sink.new ≡ K.faults sink.old }
-    ensures never_falls { S.faults source.old ≤ S.faults source.new }
+    // What it prints as models of the input makes each assumption true and each goal false, and reads back as it is; where a size is
+    // exhausted, each model of it is printed, its elements renamed. So it is whatever became of the run; and what it prints by then is
+    // a front of a whole output.
+    ensures models { (o : ModelOptions) → task_of (map string_bytes words.now) ≡ Some (Mace4 o)
+        → ShowsPosed o (S.inflow source.old) (S.inflow source.new) (K.outflow sink.old)
+        (K.outflow sink.new) }
 
     // The clock isn't asked but for a search.
     ensures clock { ((o : ModelOptions) → task_of (map string_bytes words.now) ≢ Some (Mace4 o))
         → C.times clock.new ≡ C.times clock.old }
 {
-    printed_models();
+    searches_show();
     match task_of(alloc, words) {
-        Ok(Task::Clausetester) => exit_by(clausetester(alloc, source, sink)),
-        Ok(Task::Mace4 { options }) => exit_by(mace4(alloc, any, options, source, sink, clock)),
-        Err(WordsError::NoCommand) => exit_by(refuse(alloc, sink)),
-        Err(WordsError::Memory) => exit_by(Cause::Memory),
+        Ok(Task::Clausetester) => exit(tested(clausetester(alloc, source, sink))),
+        Ok(Task::Mace4 { options }) => exit(searched(mace4(alloc, options, source, sink, clock))),
+        Err(WordsError::NoCommand) => exit(refuse(alloc, sink)),
+        Err(WordsError::Memory) => exit(Cause::Memory),
+    }
+}
+
+fn tested(ended: Result<Tested, Stop>) -> Cause
+    ensures { result ≡ cause_by Cause.Clausetester ended }
+{
+    match ended {
+        Ok(end) => Cause::Clausetester(end),
+        Err(stop) => cause_of(stop),
+    }
+}
+
+fn searched(ended: Result<SearchEnd, Stop>) -> Cause
+    ensures { result ≡ cause_by Cause.Mace4 ended }
+{
+    match ended {
+        Ok(end) => Cause::Mace4(end),
+        Err(stop) => cause_of(stop),
+    }
+}
+
+// Prints the line for words that are no command.
+fn refuse<K: Sink>(alloc: Global, sink: &mut K) -> Cause
+    requires { (K.outflow sink.old).over ≡ false }
+    ensures { RefusesWords (K.outflow sink.old) (K.outflow sink.new) result }
+{
+    match piece(no_command(alloc), sink) {
+        Ok(()) => Cause::Words,
+        Err(cut) => cause_of(stop_by(cut)),
+    }
+}
+
+fn exit(cause: Cause) -> Exit
+    ensures status { result.status ≡ status_of cause }
+    ensures cause { result.cause ≡ cause }
+{
+    Exit {
+        status: status(&cause),
+        cause,
     }
 }

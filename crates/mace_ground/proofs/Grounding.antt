@@ -52,7 +52,7 @@ firsts_below : (n : ℕ) (e : Assignment) (x k : ℕ) → ((y : ℕ) → e y < n
 firsts_below n e x zero h = tt
 firsts_below n e x (suc k) h = (h x, firsts_below n e (suc x) k h)
 
-list_below : (n : ℕ) (xs : List ℕ) (i : ℕ) → 0 < n → AllBelow n xs → slice_index xs i < n
+pub list_below : (n : ℕ) (xs : List ℕ) (i : ℕ) → 0 < n → AllBelow n xs → slice_index xs i < n
 list_below n [] i h below = h
 list_below n (x ∷ xs) zero h below = below.0
 list_below n (x ∷ xs) (suc i) h below = list_below n xs i h below.1

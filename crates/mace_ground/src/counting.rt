@@ -76,8 +76,8 @@ pub fn arity(symbols: &Symbols, symbol: Sym) -> u64
     }
 }
 
-// A power, or the greatest number if it is more.
-pub(crate) fn power(base: u32, exponent: u128) -> u128
+/// A power, or the greatest number if it is more.
+pub fn power(base: u32, exponent: u128) -> u128
     ensures { result ≡ min (base ^ exponent) (2 ^ 128 - 1) }
 {
     if exponent == 0 {

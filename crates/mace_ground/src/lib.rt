@@ -8,7 +8,7 @@ mod laws;
 mod variables;
 
 pub use blocks::{Block, Blocks, Span};
-pub use counting::count;
+pub use counting::{count, power};
 pub use ground::Ground;
 pub use laws::{cells_by_number, instances_suffice, worked};
 pub use variables::variables_in;

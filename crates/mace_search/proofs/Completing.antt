@@ -2,7 +2,7 @@
 use Rattle.std.proofs.Common.{◌≡◌, ◌≢◌, ℕ, suc, ◌<◌, ◌≤◌, List, [], ◌∷◌, inl, inr, subst, ap, arith}
 use Rattle.std.proofs.lemmas.Bool.{cases_lt}
 use Rattle.fol_core.specs.Stated.{Stated}
-use Rattle.mace_search.specs.Complete.{AreModels, IsNew, AreDifferent, HasRenaming, AreComplete}
+use Rattle.mace_search.specs.Complete.{AreModels, IsNewModel, AreDifferent, HasRenaming, AreComplete}
 use Rattle.mace_search.specs.Models.{IsModel, AreFirst, AreAll, behind}
 use Rattle.model_tables.specs.Order.{first_of, table_number}
 use Rattle.model_tables.specs.Renaming.{IsIsomorphism}
@@ -16,7 +16,7 @@ are_models p n k [] h = tt
 are_models p n k (t ∷ ts) h = (h.0.0, are_models p n (suc (table_number t)) ts h.1)
 
 -- those behind t have greater numbers
-is_new : (p : Stated) (n k : ℕ) (t : Finite) (ts : List Finite) → table_number t < k → AreFirst p n k ts → IsNew t ts
+is_new : (p : Stated) (n k : ℕ) (t : Finite) (ts : List Finite) → table_number t < k → AreFirst p n k ts → IsNewModel t ts
 is_new p n k t [] less h = tt
 is_new p n k t (u ∷ us) less h =
     let other : t ≢ u = λ e. (let same : table_number t ≡ table_number u = ap table_number e in omega (arith, less, same, h.0.1)) in

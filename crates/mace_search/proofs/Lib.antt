@@ -1,4 +1,5 @@
 pub mod Completing
+pub mod Next
 pub mod Passing
 pub mod Rooms
 pub mod Spared

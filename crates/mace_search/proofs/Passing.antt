@@ -1,11 +1,11 @@
 -- Tables that are passed.
-use Rattle.std.proofs.Common.{◌≡◌, ℕ, ◌+◌, ◌≤◌, List, inl, inr, refl, sym, subst, arith}
+use Rattle.std.proofs.Common.{◌≡◌, ℕ, ◌+◌, ◌≤◌, List, Option, inl, inr, refl, sym, subst, arith}
 use Rattle.std.proofs.lemmas.Bool.{cases_lt}
 use Rattle.fol_core.specs.Stated.{Said, Stated, IsCountermodel}
 use Rattle.mace_search.specs.Models.{NoneFrom, NoneBetween}
 use Rattle.ladr_io.specs.Times.{Times}
-use Rattle.mace_search.specs.Plain.{Search, Tells, Finds, NoneAmong}
-use Rattle.mace_search.specs.PlainView.{search_of, state_after}
+use Rattle.mace_search.specs.Plain.{Search, Answers, FindsNext, NoneAmong, tables_in}
+use Rattle.mace_search.specs.PlainView.{ahead_of, search_of, state_after}
 use Rattle.mace_search.specs.declared.answer.Answer.{Answer}
 use Rattle.mace_search.specs.declared.answer.Answer.TheVariants.{Model, Exhausted, MaxSeconds}
 use Rattle.model_tables.specs.Order.{first_of, table_number, table_count, IsSameShape, IsFilled}
@@ -59,10 +59,20 @@ stays p n t u one h same filled =
 pub filled_of : (p : Stated) (n : ℕ) (t : Finite) → IsInterpretation n p t → IsFilled t
 filled_of p n t h = (interpretation_shape n p t h).1
 
--- what was found is what a search tells
-pub found_tells : (s : Search) (t' : Finite) (answer : Answer) (times : Times) → IsInterpretation s.size s.problem s.tables → 1 ≤ s.size → s.ahead ≡ table_number s.tables → IsSameShape s.tables t' → IsFilled t'
-    → Finds s.problem.formulas s.stop s.tables t' answer times → Tells s (search_of s.problem t' (state_after answer) s.stop) answer times
-found_tells s t' Model times h one e same filled f =
+-- all interpretations of a size have as many tables of their shape
+pub count_in : (p : Stated) (n : ℕ) (t : Finite) → IsInterpretation n p t → table_count t ≡ tables_in n p
+count_in p n t h = sym (shape_count (first_of n p) t (interpretation_shape n p t h).0)
+
+-- what was found is what a search answers
+pub found_answers : (s : Search) (t' : Finite) (answer : Answer) (times : Times) → IsInterpretation s.size s.problem s.tables → 1 ≤ s.size → s.ahead ≡ table_number s.tables → IsSameShape s.tables t' → IsFilled t'
+    → FindsNext s.problem.formulas s.stop s.tables t' answer times → Answers s (search_of s.problem t' (state_after answer) s.stop) answer times
+found_answers s t' Model times h one e same filled f =
     (((stays s.problem s.size s.tables t' one h same filled, f.0), rw e f.1, rw e (none_between s.problem s.size s.tables (table_number s.tables) (table_number t') h f.2)), refl, refl, f.3)
-found_tells s t' Exhausted times h one e same filled f = (rw e (none_from s.problem s.size s.tables (table_number s.tables) h f.0), refl, refl, f.1)
-found_tells s t' (MaxSeconds last) times h one e same filled f = (rw e (none_between s.problem s.size s.tables (table_number s.tables) (table_number t') h f.1), refl, f.2)
+found_answers s t' Exhausted times h one e same filled f = (rw e (none_from s.problem s.size s.tables (table_number s.tables) h f.0), count_in s.problem s.size t' (stays s.problem s.size s.tables t' one h same filled), refl, f.1)
+found_answers s t' (MaxSeconds last) times h one e same filled f = (rw e (none_between s.problem s.size s.tables (table_number s.tables) (table_number t') h f.1), omega (arith, e, f.0), refl, f.2)
+
+-- no tables come again
+pub none_again : (ss : List Said) (stop : Option ℕ) (t t' : Finite) (answer : Answer) (times : Times) → IsSameShape t t' → IsFilled t → FindsNext ss stop t t' answer times → table_number t ≤ ahead_of (state_after answer) t'
+none_again ss stop t t' Model times same filled f = omega (arith, f.1)
+none_again ss stop t t' Exhausted times same filled f = omega (arith, number_in_count t filled, shape_count t t' same)
+none_again ss stop t t' (MaxSeconds last) times same filled f = f.0

@@ -11,14 +11,14 @@ AreModels p n [] = Unit {0}
 AreModels p n (t ∷ ts) = IsModel p n t × AreModels p n ts
 
 -- none of these is t
-abbrev pub IsNew : Finite → List Finite → Type 0
-IsNew t [] = Unit {0}
-IsNew t (u ∷ us) = (t ≢ u) × IsNew t us
+abbrev pub IsNewModel : Finite → List Finite → Type 0
+IsNewModel t [] = Unit {0}
+IsNewModel t (u ∷ us) = (t ≢ u) × IsNewModel t us
 
 -- no two of these are the same
 abbrev pub AreDifferent : List Finite → Type 0
 AreDifferent [] = Unit {0}
-AreDifferent (t ∷ ts) = IsNew t ts × AreDifferent ts
+AreDifferent (t ∷ ts) = IsNewModel t ts × AreDifferent ts
 
 -- u is a renaming of one of these
 abbrev pub HasRenaming : Stated → ℕ → Finite → List Finite → Type 0

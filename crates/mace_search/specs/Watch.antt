@@ -14,11 +14,11 @@ IsLate None t last = ⊥
 IsLate (Some stop) t last = (1 < t.count) × (2 < t.count → t.between < stop) × (stop ≤ t.last) × (last ≡ t.last)
 
 -- the clock gave no reading where there is no stop, and its first reading stands
-abbrev pub GoesOn : Option ℕ → Times → Times → Type 0
-GoesOn None t t' = t' ≡ t
-GoesOn (Some stop) t t' = t'.first ≡ t.first
+abbrev pub KeepsFirst : Option ℕ → Times → Times → Type 0
+KeepsFirst None t t' = t' ≡ t
+KeepsFirst (Some stop) t t' = t'.first ≡ t.first
 
 -- where there is a stop the clock gave so many readings more, as far as its count can tell
-abbrev pub Reads : Option ℕ → ℕ → Times → Times → Type 0
-Reads None n t t' = Unit {0}
-Reads (Some stop) n t t' = min t'.count greatest ≡ min (t.count + n) greatest
+abbrev pub HasReadMore : Option ℕ → ℕ → Times → Times → Type 0
+HasReadMore None n t t' = Unit {0}
+HasReadMore (Some stop) n t t' = min t'.count greatest ≡ min (t.count + n) greatest

@@ -50,7 +50,8 @@ impl<'a> Check<'a> {
     /// Whether the closure of each assumption is true and that of each goal false.
     pub fn is_countermodel(&mut self, tables: &Tables) -> bool
         ensures same { self.new ≡ self.old }
-        ensures truth { MatchBool result (IsCountermodel (meaning_of tables.now) self.old) (¬ IsCountermodel (meaning_of tables.now) self.old) }
+        ensures truth { MatchBool result (IsCountermodel (meaning_of tables.now) self.old)
+            (¬ IsCountermodel (meaning_of tables.now) self.old) }
     {
         are_as_roled(&self.sentences, tables, &mut self.env)
     }
@@ -59,7 +60,8 @@ impl<'a> Check<'a> {
 fn are_as_roled(sentences: &[Sentence], tables: &Tables, env: &mut Env) -> bool
     requires { HaveRoom sentences.now (length env.old) }
     ensures room { length env.new ≡ length env.old }
-    ensures truth { MatchBool result (IsCountermodel (meaning_of tables.now) sentences.now) (¬ IsCountermodel (meaning_of tables.now) sentences.now) }
+    ensures truth { MatchBool result (IsCountermodel (meaning_of tables.now) sentences.now)
+        (¬ IsCountermodel (meaning_of tables.now) sentences.now) }
 {
     for sentence in sentences {
         if !sentence.is_as_roled(tables, env) {

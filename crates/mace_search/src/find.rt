@@ -1,8 +1,8 @@
 // Trying one table after the other.
 ghost use Rattle.std.specs.Prelude.{◌≡◌, ◌-◌, MatchOption};
-ghost use Rattle.mace_search.specs.Plain.{Finds, readings_until};
+ghost use Rattle.mace_search.specs.Plain.{FindsNext, readings_until};
 ghost use Rattle.mace_search.specs.PlainView.{ahead_of, state_after};
-ghost use Rattle.mace_search.specs.Watch.{IsEarly, IsLate, GoesOn, Reads};
+ghost use Rattle.mace_search.specs.Watch.{IsEarly, IsLate, KeepsFirst, HasReadMore};
 ghost use Rattle.model_tables.specs.Order.{table_number, IsSameShape, IsFilled};
 
 use crate::answer::Answer;
@@ -13,9 +13,10 @@ use model_tables::Tables;
 // Reads the clock where there is a stop; a reading that reached it is answered.
 fn late<C: Clock>(stop: Option<u128>, clock: &mut C) -> Option<u64>
     requires { IsEarly stop (C.times clock.old) }
-    ensures goes { GoesOn stop (C.times clock.old) (C.times clock.new) }
-    ensures reads { Reads stop 1 (C.times clock.old) (C.times clock.new) }
-    ensures late { MatchOption result (IsEarly stop (C.times clock.new)) (λ last. IsLate stop (C.times clock.new) last) }
+    ensures goes { KeepsFirst stop (C.times clock.old) (C.times clock.new) }
+    ensures reads { HasReadMore stop 1 (C.times clock.old) (C.times clock.new) }
+    ensures late { MatchOption result (IsEarly stop (C.times clock.new))
+        (λ last. IsLate stop (C.times clock.new) last) }
 {
     let Some(stop) = stop else {
         return None;
@@ -40,9 +41,11 @@ pub fn find<C: Clock>(
     ensures check { check.new ≡ check.old }
     ensures shape { IsSameShape tables.old tables.new }
     ensures filled { IsFilled tables.new }
-    ensures clock { GoesOn stop (C.times clock.old) (C.times clock.new) }
-    ensures reads { Reads stop (readings_until result (ahead_of (state_after result) tables.new - table_number tables.old)) (C.times clock.old) (C.times clock.new) }
-    ensures finds { Finds check.old stop tables.old tables.new result (C.times clock.new) }
+    ensures clock { KeepsFirst stop (C.times clock.old) (C.times clock.new) }
+    ensures reads { HasReadMore stop (readings_until result
+        (ahead_of (state_after result) tables.new - table_number tables.old)) (C.times clock.old)
+        (C.times clock.new) }
+    ensures finds { FindsNext check.old stop tables.old tables.new result (C.times clock.new) }
 {
     loop {
         if let Some(last) = late(stop, clock) {

@@ -4,9 +4,9 @@ ghost use Rattle.fol_core.specs.Stated.{Stated};
 ghost use Rattle.ladr_io.specs.Times.{no_times};
 ghost use Rattle.mace_search.specs.Complete.{AreModels, AreDifferent, AreComplete};
 ghost use Rattle.mace_search.specs.Models.{AreFirst, AreAll};
-ghost use Rattle.mace_search.specs.Plain.{Tells};
+ghost use Rattle.mace_search.specs.Plain.{Answers};
 ghost use Rattle.mace_search.specs.Room.{HaveRoom};
-ghost use Rattle.mace_search.specs.Watch.{IsEarly, IsLate, Reads};
+ghost use Rattle.mace_search.specs.Watch.{IsEarly, IsLate, HasReadMore};
 ghost use Rattle.mace_search.specs.Worked.{spared, tables, seeking, readings};
 ghost use Rattle.mace_search.specs.declared.answer.Answer.TheVariants.{Model, Exhausted};
 ghost use Rattle.model_tables.specs.Order.{table_number};
@@ -14,7 +14,8 @@ ghost use Rattle.model_tables.specs.Tables.{Finite};
 
 /// The first models in order are models, and no two are the same.
 pub fn first_models()
-    ensures { (p : Stated) (n k : ℕ) (ts : List Finite) → AreFirst p n k ts → AreModels p n ts × AreDifferent ts }
+    ensures { (p : Stated) (n k : ℕ) (ts : List Finite) → AreFirst p n k ts → AreModels p n ts
+        × AreDifferent ts }
 {}
 
 /// All models in order are all that there are, whatever their order.
@@ -27,12 +28,13 @@ pub fn all_models()
 pub fn worked()
     ensures numbers { (table_number (tables 0 0 1) ≡ 1) × (table_number (tables 1 1 0) ≡ 6) }
     ensures all { AreAll spared 2 (tables 0 0 1 ∷ tables 1 1 0 ∷ []) }
-    ensures left_out { ¬ AreFirst spared 2 0 (tables 1 1 0 ∷ []) × ¬ AreAll spared 2 (tables 0 0 1 ∷ []) }
+    ensures left_out { ¬ AreFirst spared 2 0 (tables 1 1 0 ∷ [])
+        × ¬ AreAll spared 2 (tables 0 0 1 ∷ []) }
     ensures complete { AreComplete spared 2 (tables 0 0 1 ∷ []) }
     ensures single { AreAll spared 1 [] }
-    ensures first { Tells (seeking 0 (tables 0 0 0)) (seeking 2 (tables 0 0 1)) Model no_times }
-    ensures second { Tells (seeking 2 (tables 0 0 1)) (seeking 7 (tables 1 1 0)) Model no_times }
-    ensures end { Tells (seeking 7 (tables 1 1 0)) (seeking 8 (tables 1 1 1)) Exhausted no_times }
+    ensures first { Answers (seeking 0 (tables 0 0 0)) (seeking 2 (tables 0 0 1)) Model no_times }
+    ensures second { Answers (seeking 2 (tables 0 0 1)) (seeking 7 (tables 1 1 0)) Model no_times }
+    ensures end { Answers (seeking 7 (tables 1 1 0)) (seeking 8 (tables 1 1 1)) Exhausted no_times }
     ensures room { HaveRoom spared.formulas 1 × ¬ HaveRoom spared.formulas 0 }
 {}
 
@@ -41,9 +43,13 @@ pub fn worked()
 /// From one reading to four it is three more, from one to three it is not.
 pub fn worked_readings()
     ensures before { IsEarly (Some 10) (readings 2 0 9) × ¬ IsLate (Some 10) (readings 2 0 9) 9 }
-    ensures reached { IsLate (Some 10) (readings 3 9 10) 10 × ¬ IsEarly (Some 10) (readings 3 9 10) }
+    ensures reached { IsLate (Some 10) (readings 3 9 10) 10
+        × ¬ IsEarly (Some 10) (readings 3 9 10) }
     ensures first { IsEarly (Some 9) (readings 1 0 9) × IsLate (Some 9) (readings 2 0 9) 9 }
-    ensures earlier { ¬ IsLate (Some 10) (readings 4 11 12) 12 × ¬ IsEarly (Some 10) (readings 4 11 9) }
-    ensures no_stop { (last : ℕ) → IsEarly None (readings 2 0 last) × ¬ IsLate None (readings 2 0 last) last }
-    ensures reads { Reads (Some 10) 3 (readings 1 0 9) (readings 4 9 9) × ¬ Reads (Some 10) 3 (readings 1 0 9) (readings 3 9 9) }
+    ensures earlier { ¬ IsLate (Some 10) (readings 4 11 12) 12
+        × ¬ IsEarly (Some 10) (readings 4 11 9) }
+    ensures no_stop { (last : ℕ) → IsEarly None (readings 2 0 last)
+        × ¬ IsLate None (readings 2 0 last) last }
+    ensures reads { HasReadMore (Some 10) 3 (readings 1 0 9) (readings 4 9 9)
+        × ¬ HasReadMore (Some 10) 3 (readings 1 0 9) (readings 3 9 9) }
 {}

@@ -1,9 +1,9 @@
 // The search that tries all tables of a size.
 ghost use Rattle.std.specs.Prelude.{◌≡◌, ℕ, ◌+◌, ◌-◌, ◌≤◌, None, Some, IfOk};
 ghost use Rattle.fol_core.specs.Stated.{stated_of};
-ghost use Rattle.mace_search.specs.Plain.{IsSame, Tells, readings_until};
+ghost use Rattle.mace_search.specs.Plain.{IsSame, Answers, readings_until};
 ghost use Rattle.mace_search.specs.PlainView.{state_after};
-ghost use Rattle.mace_search.specs.Watch.{IsEarly, GoesOn, Reads};
+ghost use Rattle.mace_search.specs.Watch.{IsEarly, KeepsFirst, HasReadMore};
 ghost use Rattle.mace_search.specs.declared.answer.Answer.TheVariants.{Exhausted, MaxSeconds};
 ghost use Rattle.model_tables.specs.Order.{first_of, table_number, table_count};
 ghost use Rattle.model_tables.specs.Size.{cell_count};
@@ -73,7 +73,14 @@ impl<'a> PlainSearch<'a> {
     ) -> Result<PlainSearch<'a>, AllocError>
         requires size { 1 ≤ size }
         requires cells { cell_count size (stated_of problem.now) ≤ 50000000 }
-        ensures { IfOk result (λ s. s ≡ record { problem = stated_of problem.now; size = size; tables = first_of size (stated_of problem.now); ahead = 0; stop = stop; late = None }) }
+        ensures { IfOk result (λ s. s ≡ record {
+          problem = stated_of problem.now;
+          size = size;
+          tables = first_of size (stated_of problem.now);
+          ahead = 0;
+          stop = stop;
+          late = None;
+        }) }
     {
         let check = Check::new(alloc, &problem.inputs)?;
         let tables = Tables::first(alloc, problem, size)?;
@@ -97,12 +104,19 @@ impl<'a> PlainSearch<'a> {
     pub fn next_model<C: Clock>(&mut self, clock: &mut C) -> Answer
         requires { self.old.late ≡ None → IsEarly self.old.stop (C.times clock.old) }
         ensures same { IsSame self.old self.new }
-        ensures clock { self.old.late ≡ None → GoesOn self.old.stop (C.times clock.old) (C.times clock.new) }
-        ensures reads { self.old.late ≡ None → Reads self.old.stop (readings_until result (self.new.ahead - self.old.ahead)) (C.times clock.old) (C.times clock.new) }
-        ensures tells { self.old.late ≡ None → Tells self.old self.new result (C.times clock.new) }
+        ensures clock { self.old.late ≡ None → KeepsFirst self.old.stop (C.times clock.old)
+            (C.times clock.new) }
+        ensures reads { self.old.late ≡ None → HasReadMore self.old.stop
+            (readings_until result (self.new.ahead - self.old.ahead)) (C.times clock.old)
+            (C.times clock.new) }
+        ensures tells { self.old.late ≡ None → Answers self.old self.new result
+            (C.times clock.new) }
+        ensures ahead { self.old.late ≡ None → self.old.ahead ≤ self.new.ahead }
         // An answer that ends the search comes again, with no reading.
-        ensures over { self.old.late ≡ None → table_count self.old.tables ≤ self.old.ahead → (result ≡ Exhausted) × (C.times clock.new ≡ C.times clock.old) }
-        ensures again { (last : ℕ) → self.old.late ≡ Some last → (result ≡ MaxSeconds last) × (self.new ≡ self.old) × (C.times clock.new ≡ C.times clock.old) }
+        ensures over { self.old.late ≡ None → table_count self.old.tables ≤ self.old.ahead
+            → (result ≡ Exhausted) × (C.times clock.new ≡ C.times clock.old) }
+        ensures again { (last : ℕ) → self.old.late ≡ Some last → (result ≡ MaxSeconds last)
+            × (self.new ≡ self.old) × (C.times clock.new ≡ C.times clock.old) }
     {
         match self.state {
             State::Late(last) => Answer::MaxSeconds(last),
@@ -118,10 +132,14 @@ impl<'a> PlainSearch<'a> {
         requires tried { self.old.ahead ≡ table_number self.old.tables + 1 }
         requires early { IsEarly self.old.stop (C.times clock.old) }
         ensures same { IsSame self.old self.new }
-        ensures clock { GoesOn self.old.stop (C.times clock.old) (C.times clock.new) }
-        ensures reads { Reads self.old.stop (readings_until result (self.new.ahead - self.old.ahead)) (C.times clock.old) (C.times clock.new) }
-        ensures tells { Tells self.old self.new result (C.times clock.new) }
-        ensures over { table_count self.old.tables ≤ self.old.ahead → (result ≡ Exhausted) × (C.times clock.new ≡ C.times clock.old) }
+        ensures clock { KeepsFirst self.old.stop (C.times clock.old) (C.times clock.new) }
+        ensures reads { HasReadMore self.old.stop
+            (readings_until result (self.new.ahead - self.old.ahead)) (C.times clock.old)
+            (C.times clock.new) }
+        ensures tells { Answers self.old self.new result (C.times clock.new) }
+        ensures ahead { self.old.ahead ≤ self.new.ahead }
+        ensures over { table_count self.old.tables ≤ self.old.ahead → (result ≡ Exhausted)
+            × (C.times clock.new ≡ C.times clock.old) }
     {
         if self.tables.advance() {
             self.state = State::Fresh;
@@ -138,9 +156,12 @@ impl<'a> PlainSearch<'a> {
         requires fresh { self.old.ahead ≡ table_number self.old.tables }
         requires early { IsEarly self.old.stop (C.times clock.old) }
         ensures same { IsSame self.old self.new }
-        ensures clock { GoesOn self.old.stop (C.times clock.old) (C.times clock.new) }
-        ensures reads { Reads self.old.stop (readings_until result (self.new.ahead - self.old.ahead)) (C.times clock.old) (C.times clock.new) }
-        ensures tells { Tells self.old self.new result (C.times clock.new) }
+        ensures clock { KeepsFirst self.old.stop (C.times clock.old) (C.times clock.new) }
+        ensures reads { HasReadMore self.old.stop
+            (readings_until result (self.new.ahead - self.old.ahead)) (C.times clock.old)
+            (C.times clock.new) }
+        ensures tells { Answers self.old self.new result (C.times clock.new) }
+        ensures ahead { self.old.ahead ≤ self.new.ahead }
     {
         let answer = find(&mut self.check, &mut self.tables, self.stop, clock);
         self.state = state_after(answer);

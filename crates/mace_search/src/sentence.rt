@@ -53,7 +53,9 @@ impl<'a> Sentence<'a> {
     pub fn is_as_roled(&self, tables: &Tables, env: &mut Env) -> bool
         requires { room_of (closure_of self.now.formula) ≤ length env.old }
         ensures room { length env.new ≡ length env.old }
-        ensures truth { MatchBool result (IsAsRoled (meaning_of tables.now) self.now.role self.now.formula) (¬ IsAsRoled (meaning_of tables.now) self.now.role self.now.formula) }
+        ensures truth { MatchBool result (IsAsRoled
+            (meaning_of tables.now) self.now.role self.now.formula)
+            (¬ IsAsRoled (meaning_of tables.now) self.now.role self.now.formula) }
     {
         let holds = closure_truth(tables, &self.input.formula, &self.variables, env);
         match self.input.role {

@@ -48,11 +48,11 @@ exchanged = record {
   carries = carries;
 }
 
-list_itself : (xs : List ℕ) → map (λ x. x) xs ≡ xs
+pub list_itself : (xs : List ℕ) → map (λ x. x) xs ≡ xs
 list_itself [] = refl
 list_itself (x ∷ xs) = ap (λ (ys : List ℕ). x ∷ ys) (list_itself xs)
 
-carried_itself : (kind : Kind) (v : ℕ) → carried kind (λ x. x) v ≡ v
+pub carried_itself : (kind : Kind) (v : ℕ) → carried kind (λ x. x) v ≡ v
 carried_itself Function v = refl
 carried_itself Relation v = refl
 

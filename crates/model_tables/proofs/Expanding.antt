@@ -79,7 +79,7 @@ same_rows t u f top rows e = same_truth (meaning_of u) (meaning_of t) (ap (λ (k
     (λ s i. (λ j. function_of (top j) (rows s i j), λ j. relation_of (top j) (rows s i j))) e
 
 -- a row that is put in, and the others
-row_own : (rs : List Listing) (top s : ℕ) (l : Listing) → row_of (record { top = top; rows = with_row rs s l }) s ≡ l.values
+pub row_own : (rs : List Listing) (top s : ℕ) (l : Listing) → row_of (record { top = top; rows = with_row rs s l }) s ≡ l.values
 row_own [] top zero l = refl
 row_own [] top (suc s) l = row_own [] top s l
 row_own (r ∷ rs) top zero l = refl
@@ -107,7 +107,7 @@ kept_row (w ∷ ws) t u h s apart =
     ∙ row_other t.rows t.top w.symbol s (listing Function h.0) (λ e. true≢false (sym (eq-eqb w.symbol s e) ∙ apart.0))
 
 -- a symbol of a formula that has none of theirs is apart from them
-used_apart : (ws : List SkolemAxiom) (f : Fol) → AreNotIn ws f → (s : ℕ) → IsTrue (uses_symbol s f) → IsApart s ws
+pub used_apart : (ws : List SkolemAxiom) (f : Fol) → AreNotIn ws f → (s : ℕ) → IsTrue (uses_symbol s f) → IsApart s ws
 used_apart [] f h s i = tt
 used_apart (w ∷ ws) f h s i = (
   elim (cases_Bool (w.symbol == s)) [
@@ -157,7 +157,7 @@ all_below top e (x ∷ xs) h = (let i = h x in grind (arith, nat_tests), all_bel
 element_itself : (t : Finite) (v : ℕ) → v ≤ t.top → element t v ≡ v
 element_itself t v h = grind (arith, nat_tests)
 
-within_below : (top n : ℕ) → IsTrue (nat_le n top) → n ≤ top
+pub within_below : (top n : ℕ) → IsTrue (nat_le n top) → n ≤ top
 within_below top n h = grind (arith, nat_tests)
 
 -- assignments that agree on a witness's variables agree on its body

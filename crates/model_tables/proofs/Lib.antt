@@ -1,11 +1,14 @@
+pub mod Decided
 pub mod Elements
 pub mod Exchange
 pub mod Expanding
 pub mod Filling
+pub mod Kept
 pub mod Numbers
 pub mod Orders
 pub mod Places
 pub mod ReadsBack
+pub mod Refill
 pub mod Rows
 pub mod Setting
 pub mod Sizing

@@ -118,7 +118,7 @@ shape_turned t u h = (sym h.0, same_turned t.rows u.rows h.1)
 pub shape_joined : (t u v : Finite) → IsSameShape t u → IsSameShape u v → IsSameShape t v
 shape_joined t u v h k = (h.0 ∙ k.0, same_joined t.rows u.rows v.rows h.1 k.1)
 
-shape_bounds : (t u : Finite) → IsSameShape t u → bounds_of (t.top + 1) t.rows ≡ bounds_of (u.top + 1) u.rows
+pub shape_bounds : (t u : Finite) → IsSameShape t u → bounds_of (t.top + 1) t.rows ≡ bounds_of (u.top + 1) u.rows
 shape_bounds t u h = same_bounds (t.top + 1) t.rows u.rows h.1 ∙ ap (λ (m : ℕ). bounds_of (m + 1) u.rows) h.0
 
 pub shape_count : (t u : Finite) → IsSameShape t u → table_count t ≡ table_count u

@@ -11,9 +11,9 @@ use Rattle.fol_core.specs.declared.term.Term.{Term}
 use Rattle.fol_core.specs.Tree.{Tree, var, app, trees_of}
 use Rattle.fol_core.proofs.Places.{first_place-found, first_place_is_position}
 use Rattle.term_bank.specs.Bank.{tree_at, IsAt, Grows, AreOnce, sizes_of, depths_of, saturated}
-use Rattle.term_bank.specs.Cells.{AllBelow, numbers, ArgumentsAreIn, tree_in, IsMeasured, built, IsNew, IsCell, AreCells, IsPlaced}
-use Rattle.term_bank.specs.declared.cell.Cell.{Cell}
-use Rattle.term_bank.specs.declared.cell.Cell.TheVariants.{Variable, Element, Application}
+use Rattle.term_bank.specs.Cells.{AreNumbersBelow, numbers, ArgumentsAreIn, tree_in, IsMeasured, built, IsNewTerm, IsCell, AreCells, IsStored}
+use Rattle.term_bank.specs.declared.cell.TermCell.{TermCell}
+use Rattle.term_bank.specs.declared.cell.TermCell.TheVariants.{Variable, Element, Application}
 use Rattle.term_bank.specs.declared.cell.Measures.{Measures}
 use Rattle.term_bank.specs.declared.id.TermId.{TermId}
 use Rattle.term_bank.proofs.Same.{equal_cells, same_tree, equal_cell}
@@ -51,44 +51,44 @@ grows_length a b g = subst (λ n. length a ≤ n) (ap length (sym g.1)) (longer 
     longer (x ∷ xs) ys = omega (arith, longer xs ys)
 
 -- so do arguments
-trees_grow : (a b : List Tree) → Grows a b → (ks : List TermId) → AllBelow (length a) (numbers ks) → map (λ k. tree_at b k.0) ks ≡ map (λ k. tree_at a k.0) ks
+trees_grow : (a b : List Tree) → Grows a b → (ks : List TermId) → AreNumbersBelow (length a) (numbers ks) → map (λ k. tree_at b k.0) ks ≡ map (λ k. tree_at a k.0) ks
 trees_grow a b g [] h = refl
 trees_grow a b g (k ∷ ks) h = ap₂ (λ (t : Tree) (ts : List Tree). t ∷ ts) (grows_at a b g k.0 h.0) (trees_grow a b g ks h.1)
 
-pub tree_grows : (a b : List Tree) → Grows a b → (c : Cell) → ArgumentsAreIn (length a) c → tree_in b c ≡ tree_in a c
+pub tree_grows : (a b : List Tree) → Grows a b → (c : TermCell) → ArgumentsAreIn (length a) c → tree_in b c ≡ tree_in a c
 tree_grows a b g (Variable x) h = refl
 tree_grows a b g (Element k) h = refl
 tree_grows a b g (Application f ks) h = ap (λ ts. app f (trees_of ts)) (trees_grow a b g ks.items h)
 
-pub below_more : (m n : ℕ) → m ≤ n → (ks : List ℕ) → AllBelow m ks → AllBelow n ks
+pub below_more : (m n : ℕ) → m ≤ n → (ks : List ℕ) → AreNumbersBelow m ks → AreNumbersBelow n ks
 below_more m n h [] b = tt
 below_more m n h (k ∷ ks) b = (omega (arith, b.0, h), below_more m n h ks b.1)
 
-pub arguments_more : (m n : ℕ) → m ≤ n → (c : Cell) → ArgumentsAreIn m c → ArgumentsAreIn n c
+pub arguments_more : (m n : ℕ) → m ≤ n → (c : TermCell) → ArgumentsAreIn m c → ArgumentsAreIn n c
 arguments_more m n h (Variable x) b = tt
 arguments_more m n h (Element k) b = tt
 arguments_more m n h (Application f ks) b = below_more m n h (numbers ks.items) b
 
-pub built_grows : (bank : List Tree) (cs : List (Cell × Measures)) → Grows bank (built bank cs)
+pub built_grows : (bank : List Tree) (cs : List (TermCell × Measures)) → Grows bank (built bank cs)
 built_grows bank [] = grows_refl bank
 built_grows bank (c ∷ cs) = grows_on bank (bank ++ tree_in bank c.0 ∷ []) (built bank (c ∷ cs)) (tree_in bank c.0 ∷ [], refl) (built_grows (bank ++ tree_in bank c.0 ∷ []) cs)
 
 -- as many terms as cells
-pub built_length : (bank : List Tree) (cs : List (Cell × Measures)) → length (built bank cs) ≡ length bank + length cs
+pub built_length : (bank : List Tree) (cs : List (TermCell × Measures)) → length (built bank cs) ≡ length bank + length cs
 built_length bank [] = omega arith
 built_length bank (c ∷ cs) = built_length (bank ++ tree_in bank c.0 ∷ []) cs ∙ ap (λ n. n + length cs) (length_end bank (tree_in bank c.0)) ∙ omega arith
 
 -- one cell more is one term more
-pub built_end : (bank : List Tree) (cs : List (Cell × Measures)) (c : Cell × Measures) → built bank (cs ++ c ∷ []) ≡ built bank cs ++ tree_in (built bank cs) c.0 ∷ []
+pub built_end : (bank : List Tree) (cs : List (TermCell × Measures)) (c : TermCell × Measures) → built bank (cs ++ c ∷ []) ≡ built bank cs ++ tree_in (built bank cs) c.0 ∷ []
 built_end bank [] c = refl
 built_end bank (d ∷ cs) c = built_end (bank ++ tree_in bank d.0 ∷ []) cs c
 
-pub cells_end : (bank : List Tree) (cs : List (Cell × Measures)) (c : Cell × Measures) → AreCells bank cs → IsCell (built bank cs) c → AreCells bank (cs ++ c ∷ [])
+pub cells_end : (bank : List Tree) (cs : List (TermCell × Measures)) (c : TermCell × Measures) → AreCells bank cs → IsCell (built bank cs) c → AreCells bank (cs ++ c ∷ [])
 cells_end bank [] c are is = (is, tt)
 cells_end bank (d ∷ cs) c are is = (are.0, cells_end (bank ++ tree_in bank d.0 ∷ []) cs c are.1 is)
 
-pub placed_from : (bank : List Tree) (cs : List (Cell × Measures)) → AreCells bank cs → (k : ℕ) (c : Cell × Measures) → slice_get cs k ≡ Some c
-    → IsPlaced (built bank cs) (length bank + k) c
+pub placed_from : (bank : List Tree) (cs : List (TermCell × Measures)) → AreCells bank cs → (k : ℕ) (c : TermCell × Measures) → slice_get cs k ≡ Some c
+    → IsStored (built bank cs) (length bank + k) c
 placed_from bank [] are k c h = cc
 placed_from bank (d ∷ cs) are zero c h =
     let t : Tree = tree_in bank d.0 in
@@ -99,8 +99,8 @@ placed_from bank (d ∷ cs) are zero c h =
     let short : length bank < length next = subst (λ n. length bank < n) (sym (length_end bank t)) (omega arith) in
     let at : tree_at (built next cs) (length bank) ≡ t = grows_at next (built next cs) on (length bank) short ∙ get_or-append_seam bank t [] (var 0) in
     let zero_more : length bank + zero ≡ length bank = omega arith in
-    subst (λ x. IsPlaced (built next cs) (length bank + zero) x) e
-    (subst (λ n. IsPlaced (built next cs) n d) (sym zero_more)
+    subst (λ x. IsStored (built next cs) (length bank + zero) x) e
+    (subst (λ n. IsStored (built next cs) n d) (sym zero_more)
     (record {
       tree = at ∙ sym (tree_grows bank (built next cs) all d.0 are.0.arguments);
       arguments = are.0.arguments;
@@ -109,13 +109,13 @@ placed_from bank (d ∷ cs) are zero c h =
 placed_from bank (d ∷ cs) are (suc k) c h =
     let next : List Tree = bank ++ tree_in bank d.0 ∷ [] in
     let e : length next + k ≡ length bank + suc k = ap (λ n. n + k) (length_end bank (tree_in bank d.0)) ∙ omega arith in
-    subst (λ n. IsPlaced (built next cs) n c) e (placed_from next cs are.1 k c h)
+    subst (λ n. IsStored (built next cs) n c) e (placed_from next cs are.1 k c h)
 
-pub placed : (cs : List (Cell × Measures)) → AreCells [] cs → (k : ℕ) (c : Cell × Measures) → slice_get cs k ≡ Some c → IsPlaced (built [] cs) k c
-placed cs are k c h = subst (λ n. IsPlaced (built [] cs) n c) (omega arith) (placed_from [] cs are k c h)
+pub placed : (cs : List (TermCell × Measures)) → AreCells [] cs → (k : ℕ) (c : TermCell × Measures) → slice_get cs k ≡ Some c → IsStored (built [] cs) k c
+placed cs are k c h = subst (λ n. IsStored (built [] cs) n c) (omega arith) (placed_from [] cs are k c h)
 
 -- no term stands twice
-one_more_once : (bank : List Tree) (t : Tree) → AreOnce bank → IsNew bank t → AreOnce (bank ++ t ∷ [])
+one_more_once : (bank : List Tree) (t : Tree) → AreOnce bank → IsNewTerm bank t → AreOnce (bank ++ t ∷ [])
 one_more_once bank t once is_new i j a b e =
     by i j (subst (λ n. i < n) (length_end bank t) a) (subst (λ n. j < n) (length_end bank t) b) e
   where
@@ -139,12 +139,12 @@ one_more_once bank t once is_new i j a b e =
           ]
     ]
 
-pub built_once : (bank : List Tree) (cs : List (Cell × Measures)) → AreOnce bank → AreCells bank cs → AreOnce (built bank cs)
+pub built_once : (bank : List Tree) (cs : List (TermCell × Measures)) → AreOnce bank → AreCells bank cs → AreOnce (built bank cs)
 built_once bank [] once are = once
 built_once bank (c ∷ cs) once are = built_once (bank ++ tree_in bank c.0 ∷ []) cs (one_more_once bank (tree_in bank c.0) once are.0.is_new) are.1
 
 -- a cell that equals a key stands there, and one that equals none is new
-pub found_at : (cs : List (Cell × Measures)) → AreCells [] cs → (c : Cell) (n : ℕ) → Some n ≡ position (equal_cells c) (keys_of cs) → IsAt (built [] cs) n (tree_in (built [] cs) c)
+pub found_at : (cs : List (TermCell × Measures)) → AreCells [] cs → (c : TermCell) (n : ℕ) → Some n ≡ position (equal_cells c) (keys_of cs) → IsAt (built [] cs) n (tree_in (built [] cs) c)
 found_at cs are c n h =
     let there = first_place-found (equal_cells c) (keys_of cs) n (first_place_is_position (equal_cells c) (keys_of cs) ∙ sym h) in
     let cell = key_at cs n there.0 there.1 in
@@ -154,24 +154,24 @@ found_at cs are c n h =
       tree = p.tree ∙ ap (tree_in (built [] cs)) cell.2 ∙ sym (same_tree (built [] cs) c there.0 there.2);
     }
   where
-    key_at : (cs : List (Cell × Measures)) (n : ℕ) (k : Cell) → slice_get (keys_of cs) n ≡ Some k → (d : Cell × Measures) × (slice_get cs n ≡ Some d) × (d.0 ≡ k)
+    key_at : (cs : List (TermCell × Measures)) (n : ℕ) (k : TermCell) → slice_get (keys_of cs) n ≡ Some k → (d : TermCell × Measures) × (slice_get cs n ≡ Some d) × (d.0 ≡ k)
     key_at [] n k h = cc
     key_at (d ∷ cs) zero k h = (d, refl, cc)
     key_at (d ∷ cs) (suc n) k h = key_at cs n k h
 
-    short : (cs : List (Cell × Measures)) (n : ℕ) (d : Cell × Measures) → slice_get cs n ≡ Some d → n < length cs
+    short : (cs : List (TermCell × Measures)) (n : ℕ) (d : TermCell × Measures) → slice_get cs n ≡ Some d → n < length cs
     short [] n d h = cc
     short (c ∷ cs) zero d h = omega arith
     short (c ∷ cs) (suc n) d h = let s = short cs n d h in omega arith
 
-pub once_built : (cs : List (Cell × Measures)) → AreCells [] cs → AreOnce (built [] cs)
+pub once_built : (cs : List (TermCell × Measures)) → AreCells [] cs → AreOnce (built [] cs)
 once_built cs are = built_once [] cs (λ i j a b e. elim (none i a) [ ]) are
   where
     none : (i : ℕ) → i < 0 → ⊥
     none i h = omega arith
 
-pub new_where_none : (cs : List (Cell × Measures)) → AreCells [] cs → (c : Cell) → ArgumentsAreIn (length (built [] cs)) c → position (equal_cells c) (keys_of cs) ≡ None
-    → IsNew (built [] cs) (tree_in (built [] cs) c)
+pub new_where_none : (cs : List (TermCell × Measures)) → AreCells [] cs → (c : TermCell) → ArgumentsAreIn (length (built [] cs)) c → position (equal_cells c) (keys_of cs) ≡ None
+    → IsNewTerm (built [] cs) (tree_in (built [] cs) c)
 new_where_none cs are c arguments h n within e =
     let inside : n < 0 + length cs = subst (λ k. n < k) (built_length [] cs) within in
     let inner : n < length cs = omega (arith, inside) in
@@ -183,12 +183,12 @@ new_where_none cs are c arguments h n within e =
     let other = none_passes cs n there.0 (first_place_is_position (equal_cells c) (keys_of cs) ∙ h) there.1 in
     cc
   where
-    entry_at : (cs : List (Cell × Measures)) (n : ℕ) → n < length cs → (d : Cell × Measures) × (slice_get cs n ≡ Some d)
+    entry_at : (cs : List (TermCell × Measures)) (n : ℕ) → n < length cs → (d : TermCell × Measures) × (slice_get cs n ≡ Some d)
     entry_at [] n h = let no_place : ⊥ = omega (arith, h) in elim no_place [ ]
     entry_at (d ∷ cs) zero h = (d, refl)
     entry_at (d ∷ cs) (suc n) h = let inner : n < length cs = omega (arith, h) in entry_at cs n inner
 
-    none_passes : (cs : List (Cell × Measures)) (n : ℕ) (d : Cell × Measures) → first_place (equal_cells c) (keys_of cs) ≡ None → slice_get cs n ≡ Some d → equal_cells c d.0 ≡ false
+    none_passes : (cs : List (TermCell × Measures)) (n : ℕ) (d : TermCell × Measures) → first_place (equal_cells c) (keys_of cs) ≡ None → slice_get cs n ≡ Some d → equal_cells c d.0 ≡ false
     none_passes [] n d none at = cc
     none_passes (f ∷ cs) n d none at = by (equal_cells c f.0) refl (first_place (equal_cells c) (keys_of cs)) refl n none at (λ m o i. none_passes cs m d o i)
       where
@@ -196,14 +196,14 @@ new_where_none cs are c arguments h n within e =
             → slice_get (f ∷ cs) n ≡ Some d → ((m : ℕ) → first_place (equal_cells c) (keys_of cs) ≡ None → slice_get cs m ≡ Some d → equal_cells c d.0 ≡ false) → equal_cells c d.0 ≡ false
         by true e o i n none at rest = cc
         by false e (Some m) i n none at rest = cc
-        by false e None i zero none at rest = let same : f ≡ d = cc in ap (λ (x : Cell × Measures). equal_cells c x.0) (sym same) ∙ e
+        by false e None i zero none at rest = let same : f ≡ d = cc in ap (λ (x : TermCell × Measures). equal_cells c x.0) (sym same) ∙ e
         by false e None i (suc n) none at rest = rest n i at
 
-pub full_length : (cs : List (Cell × Measures)) → length (built [] cs) ≡ length cs
+pub full_length : (cs : List (TermCell × Measures)) → length (built [] cs) ≡ length cs
 full_length cs = built_length [] cs ∙ omega arith
 
 -- a cell whose term is new equals no key
-pub apart_where_new : (cs : List (Cell × Measures)) → AreCells [] cs → (c : Cell) → IsNew (built [] cs) (tree_in (built [] cs) c) → first_place (equal_cells c) (keys_of cs) ≡ None
+pub apart_where_new : (cs : List (TermCell × Measures)) → AreCells [] cs → (c : TermCell) → IsNewTerm (built [] cs) (tree_in (built [] cs) c) → first_place (equal_cells c) (keys_of cs) ≡ None
 apart_where_new cs are c is_new = by (first_place (equal_cells c) (keys_of cs)) refl
   where
     by : (o : Option ℕ) → first_place (equal_cells c) (keys_of cs) ≡ o → first_place (equal_cells c) (keys_of cs) ≡ None
@@ -216,19 +216,19 @@ pub at_end : (bank : List Tree) (t : Tree) → IsAt (bank ++ t ∷ []) (length b
 at_end bank t = record { within = subst (λ n. length bank < n) (sym (length_end bank t)) (omega arith); tree = get_or-append_seam bank t [] (var 0) }
 
 -- an argument by its place
-pub below_at : (n : ℕ) (ks : List TermId) (i : ℕ) (d : TermId) → AllBelow n (numbers ks) → i < length ks → (slice_index_or ks i d).0 < n
+pub below_at : (n : ℕ) (ks : List TermId) (i : ℕ) (d : TermId) → AreNumbersBelow n (numbers ks) → i < length ks → (slice_index_or ks i d).0 < n
 below_at n [] i d b h = let none : ⊥ = omega (arith, h) in elim none [ ]
 below_at n (k ∷ ks) zero d b h = b.0
 below_at n (k ∷ ks) (suc i) d b h = let inner : i < length ks = omega (arith, h) in below_at n ks i d b.1 inner
 
 -- one argument more, in a bank that grew
-pub more_arguments : (a b : List Tree) (ks new : List TermId) (ts : List Tree) (k : TermId) (t : Tree) → Grows a b → AllBelow (length a) (numbers ks)
-    → map (λ (j : TermId). tree_at a j.0) ks ≡ ts → IsAt b k.0 t → new ≡ ks ++ k ∷ [] → AllBelow (length b) (numbers new) × (map (λ (j : TermId). tree_at b j.0) new ≡ ts ++ t ∷ [])
+pub more_arguments : (a b : List Tree) (ks new : List TermId) (ts : List Tree) (k : TermId) (t : Tree) → Grows a b → AreNumbersBelow (length a) (numbers ks)
+    → map (λ (j : TermId). tree_at a j.0) ks ≡ ts → IsAt b k.0 t → new ≡ ks ++ k ∷ [] → AreNumbersBelow (length b) (numbers new) × (map (λ (j : TermId). tree_at b j.0) new ≡ ts ++ t ∷ [])
 more_arguments a b ks new ts k t g below trees at e =
-    subst (λ (js : List TermId). AllBelow (length b) (numbers js) × (map (λ (j : TermId). tree_at b j.0) js ≡ ts ++ t ∷ [])) (sym e)
+    subst (λ (js : List TermId). AreNumbersBelow (length b) (numbers js) × (map (λ (j : TermId). tree_at b j.0) js ≡ ts ++ t ∷ [])) (sym e)
     (below_end ks (below_more (length a) (length b) (grows_length a b g) (numbers ks) below), trees_end ks ∙ ap₂ (λ (us : List Tree) (u : Tree). us ++ u ∷ []) (trees_grow a b g ks below ∙ trees) at.tree)
   where
-    below_end : (ks : List TermId) → AllBelow (length b) (numbers ks) → AllBelow (length b) (numbers (ks ++ k ∷ []))
+    below_end : (ks : List TermId) → AreNumbersBelow (length b) (numbers ks) → AreNumbersBelow (length b) (numbers (ks ++ k ∷ []))
     below_end [] h = (at.within, tt)
     below_end (j ∷ js) h = (h.0, below_end js h.1)
 

@@ -3,13 +3,13 @@ use Rattle.std.proofs.Common.{◌≡◌, ◌==◌, ◌&&◌, Bool, true, false, 
 use Rattle.std.specs.Cmp.Lexicographic.{pointwise}
 use Rattle.fol_core.specs.Tree.{Tree, var, elem, app, trees_of, list_of}
 use Rattle.term_bank.specs.Bank.{tree_at, AreOnce}
-use Rattle.term_bank.specs.Cells.{AllBelow, numbers, ArgumentsAreIn, tree_in}
-use Rattle.term_bank.specs.declared.cell.Cell.{Cell}
-use Rattle.term_bank.specs.declared.cell.Cell.TheVariants.{Variable, Element, Application}
+use Rattle.term_bank.specs.Cells.{AreNumbersBelow, numbers, ArgumentsAreIn, tree_in}
+use Rattle.term_bank.specs.declared.cell.TermCell.{TermCell}
+use Rattle.term_bank.specs.declared.cell.TermCell.TheVariants.{Variable, Element, Application}
 use Rattle.term_bank.specs.declared.id.TermId.{TermId}
-use Rattle.term_bank.specs.contracts.cell.CellPartialEq.TheImpl.{eq-value}
+use Rattle.term_bank.specs.contracts.cell.TermCellPartialEq.TheImpl.{eq-value}
 
-abbrev pub equal_cells : Cell → Cell → Bool
+abbrev pub equal_cells : TermCell → TermCell → Bool
 equal_cells = eq-value.it
 
 -- whether two lists have the same numbers
@@ -45,7 +45,7 @@ module _ (bank : List Tree) where
       let parts = split_and (k.0 == j.0) (equal_ids ks js) h in
       ap₂ (λ (t : Tree) (ts : List Tree). t ∷ ts) (ap (tree_at bank) (eqb-true k.0 j.0 parts.0)) (same_arguments ks js parts.1)
 
-  equal_arguments : AreOnce bank → (ks js : List TermId) → AllBelow (length bank) (numbers ks) → AllBelow (length bank) (numbers js)
+  equal_arguments : AreOnce bank → (ks js : List TermId) → AreNumbersBelow (length bank) (numbers ks) → AreNumbersBelow (length bank) (numbers js)
       → trees ks ≡ trees js → equal_ids ks js ≡ true
   equal_arguments once [] [] b c h = refl
   equal_arguments once [] (j ∷ js) b c h = cc
@@ -56,7 +56,7 @@ module _ (bank : List Tree) where
       (equal_arguments once ks js b.1 c.1 (cc))
 
   -- equal cells have the same term
-  pub same_tree : (c d : Cell) → equal_cells c d ≡ true → tree_in bank c ≡ tree_in bank d
+  pub same_tree : (c d : TermCell) → equal_cells c d ≡ true → tree_in bank c ≡ tree_in bank d
   same_tree (Variable x) (Variable y) h = ap var (eqb-true x y h)
   same_tree (Variable x) (Element y) h = cc
   same_tree (Variable x) (Application g js) h = cc
@@ -70,7 +70,7 @@ module _ (bank : List Tree) where
       ap₂ (λ n ts. app n (trees_of ts)) (eqb-true f g parts.0) (same_arguments ks.items js.items parts.1)
 
   -- cells of one term are equal
-  pub equal_cell : AreOnce bank → (c d : Cell) → ArgumentsAreIn (length bank) c → ArgumentsAreIn (length bank) d
+  pub equal_cell : AreOnce bank → (c d : TermCell) → ArgumentsAreIn (length bank) c → ArgumentsAreIn (length bank) d
       → tree_in bank c ≡ tree_in bank d → equal_cells c d ≡ true
   equal_cell once (Variable x) (Variable y) b e h = eq-eqb x y (cc)
   equal_cell once (Variable x) (Element y) b e h = cc

@@ -2,28 +2,28 @@
 use Rattle.std.specs.Prelude.{ℕ, ◌<◌, ◌≡◌, List, [], ◌∷◌, ◌++◌, length, map}
 use Rattle.fol_core.specs.Tree.{Tree, var, elem, app, trees_of}
 use Rattle.term_bank.specs.Bank.{tree_at, size_of, depth_of, saturated}
-use Rattle.term_bank.specs.declared.cell.Cell.{Cell}
-use Rattle.term_bank.specs.declared.cell.Cell.TheVariants.{Variable, Element, Application}
+use Rattle.term_bank.specs.declared.cell.TermCell.{TermCell}
+use Rattle.term_bank.specs.declared.cell.TermCell.TheVariants.{Variable, Element, Application}
 use Rattle.term_bank.specs.declared.cell.Measures.{Measures}
 use Rattle.term_bank.specs.declared.id.TermId.{TermId}
 
 -- each of the numbers is below this one
-abbrev pub AllBelow : ℕ → List ℕ → Type 0
-AllBelow n [] = Unit {0}
-AllBelow n (k ∷ ks) = (k < n) × AllBelow n ks
+abbrev pub AreNumbersBelow : ℕ → List ℕ → Type 0
+AreNumbersBelow n [] = Unit {0}
+AreNumbersBelow n (k ∷ ks) = (k < n) × AreNumbersBelow n ks
 
 -- the numbers of terms
 abbrev pub numbers : List TermId → List ℕ
 numbers ks = map (λ k. k.0) ks
 
 -- the arguments are among the first so many terms
-abbrev pub ArgumentsAreIn : ℕ → Cell → Type 0
+abbrev pub ArgumentsAreIn : ℕ → TermCell → Type 0
 ArgumentsAreIn n (Variable x) = Unit {0}
 ArgumentsAreIn n (Element k) = Unit {0}
-ArgumentsAreIn n (Application f ks) = AllBelow n (numbers ks.items)
+ArgumentsAreIn n (Application f ks) = AreNumbersBelow n (numbers ks.items)
 
 -- the term of a cell, by the terms of its arguments
-abbrev pub tree_in : List Tree → Cell → Tree
+abbrev pub tree_in : List Tree → TermCell → Tree
 tree_in bank (Variable x) = var x
 tree_in bank (Element k) = elem k
 tree_in bank (Application f ks) = app f (trees_of (map (λ k. tree_at bank k.0) ks.items))
@@ -34,26 +34,26 @@ pub record IsMeasured (t : Tree) (m : Measures) : Type 0 where
   pub deep : m.depth ≡ depth_of t
 
 -- the terms so far, and those of cells behind them
-abbrev pub built : List Tree → List (Cell × Measures) → List Tree
+abbrev pub built : List Tree → List (TermCell × Measures) → List Tree
 built bank [] = bank
 built bank (c ∷ cs) = built (bank ++ tree_in bank c.0 ∷ []) cs
 
 -- no number of the bank has this term
-abbrev pub IsNew : List Tree → Tree → Type 0
-IsNew bank t = (n : ℕ) → n < length bank → tree_at bank n ≡ t → ⊥
+abbrev pub IsNewTerm : List Tree → Tree → Type 0
+IsNewTerm bank t = (n : ℕ) → n < length bank → tree_at bank n ≡ t → ⊥
 
 -- a cell behind the terms so far: its arguments are there, its term isn't, and it is measured
-pub record IsCell (bank : List Tree) (c : Cell × Measures) : Type 0 where
+pub record IsCell (bank : List Tree) (c : TermCell × Measures) : Type 0 where
   pub arguments : ArgumentsAreIn (length bank) c.0
-  pub is_new : IsNew bank (tree_in bank c.0)
+  pub is_new : IsNewTerm bank (tree_in bank c.0)
   pub measured : IsMeasured (tree_in bank c.0) c.1
 
-abbrev pub AreCells : List Tree → List (Cell × Measures) → Type 0
+abbrev pub AreCells : List Tree → List (TermCell × Measures) → Type 0
 AreCells bank [] = Unit {0}
 AreCells bank (c ∷ cs) = IsCell bank c × AreCells (bank ++ tree_in bank c.0 ∷ []) cs
 
 -- the cell that stands for a number's term
-pub record IsPlaced (bank : List Tree) (n : ℕ) (c : Cell × Measures) : Type 0 where
+pub record IsStored (bank : List Tree) (n : ℕ) (c : TermCell × Measures) : Type 0 where
   pub tree : tree_at bank n ≡ tree_in bank c.0
   pub arguments : ArgumentsAreIn n c.0
   pub measured : IsMeasured (tree_at bank n) c.1

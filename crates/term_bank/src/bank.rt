@@ -3,10 +3,10 @@ ghost use Rattle.std.specs.Prelude.{◌≡◌, ℕ, ◌<◌, ◌↔◌, [], IfOk
 ghost use Rattle.fol_core.specs.Tree.{app, trees_of};
 ghost use Rattle.fol_core.specs.TermView.{tree_of};
 ghost use Rattle.term_bank.specs.Bank.{tree_at, IsAt, Grows, AreOnce, size_of, depth_of, saturated};
-ghost use Rattle.term_bank.specs.Cells.{tree_in, ArgumentsAreIn, IsMeasured, AllBelow, numbers, IsPlaced};
+ghost use Rattle.term_bank.specs.Cells.{tree_in, ArgumentsAreIn, IsMeasured, AreNumbersBelow, numbers, IsStored};
 ghost use Rattle.term_bank.specs.Nodes.{node_tree, NodeIsBelow};
 
-use crate::cell::{Cell, Measures};
+use crate::cell::{Measures, TermCell};
 use crate::id::{Node, TermId};
 use fol_core::{Sym, Term, Terms};
 use indexmap::IndexMap;
@@ -18,7 +18,7 @@ use std::marker::Model;
 #[derive(Drop)]
 pub struct Bank {
     // By number. Nothing is taken out, so the numbers go from 0 on without a gap.
-    cells: IndexMap<Cell, Measures>,
+    cells: IndexMap<TermCell, Measures>,
 }
 
 impl Model for Bank {
@@ -71,9 +71,9 @@ impl Bank {
         ensures below { NodeIsBelow id.0 result }
     {
         match self.cell(id).0 {
-            Cell::Variable(x) => Node::Var(*x),
-            Cell::Element(k) => Node::Elem(*k),
-            Cell::Application(f, arguments) => Node::App(Sym(*f), arguments.as_slice()),
+            TermCell::Variable(x) => Node::Var(*x),
+            TermCell::Element(k) => Node::Elem(*k),
+            TermCell::Application(f, arguments) => Node::App(Sym(*f), arguments.as_slice()),
         }
     }
 
@@ -99,27 +99,27 @@ impl Bank {
         ensures term { IfOk result (λ id. IsAt self.new id.0 (tree_of term.now)) }
     {
         match term {
-            Term::Var(x) => self.enter(Cell::Variable(*x)),
-            Term::Elem(k) => self.enter(Cell::Element(*k)),
+            Term::Var(x) => self.enter(TermCell::Variable(*x)),
+            Term::Elem(k) => self.enter(TermCell::Element(*k)),
             Term::App(f, terms) => {
                 let mut arguments = SmallVec::new(*self.cells.allocator());
                 for term in &terms.items {
                     arguments.push(self.put(term)?)?;
                 }
-                self.enter(Cell::Application(f.0, arguments))
+                self.enter(TermCell::Application(f.0, arguments))
             }
         }
     }
 
     /// The number of the application of a symbol to terms of the bank.
     pub fn apply(&mut self, f: Sym, arguments: &[TermId]) -> Result<TermId, AllocError>
-        requires { AllBelow (length self.old) (numbers arguments.now) }
+        requires { AreNumbersBelow (length self.old) (numbers arguments.now) }
         ensures grows { Grows self.old self.new }
         ensures term { IfOk result (λ id. IsAt self.new id.0
             (app f.0 (trees_of (map (λ k. tree_at self.old k.0) arguments.now)))) }
     {
         let arguments = SmallVec::from_slice(*self.cells.allocator(), arguments)?;
-        self.enter(Cell::Application(f.0, arguments))
+        self.enter(TermCell::Application(f.0, arguments))
     }
 
     /// The tree of the term.
@@ -141,28 +141,28 @@ impl Bank {
     }
 
     // The cell of a number.
-    fn cell(&self, id: TermId) -> (&Cell, &Measures)
+    fn cell(&self, id: TermId) -> (&TermCell, &Measures)
         requires { id.0 < length self.now }
-        ensures { IsPlaced self.now id.0 (result.0.now, result.1.now) }
+        ensures { IsStored self.now id.0 (result.0.now, result.1.now) }
     {
         self.cells.get_index(id.0 as usize).unwrap()
     }
 
     // How great the term of a cell is; want of memory where its levels can't be counted.
-    fn measures(&self, cell: &Cell) -> Result<Measures, AllocError>
+    fn measures(&self, cell: &TermCell) -> Result<Measures, AllocError>
         requires { ArgumentsAreIn (length self.now) cell.now }
         ensures { IfOk result (IsMeasured (tree_in self.now cell.now)) }
     {
         match cell {
-            Cell::Variable(_) => Ok(Measures { size: 1, depth: 1 }),
-            Cell::Element(_) => Ok(Measures { size: 1, depth: 1 }),
-            Cell::Application(f, arguments) => self.application(*f, arguments.as_slice()),
+            TermCell::Variable(_) => Ok(Measures { size: 1, depth: 1 }),
+            TermCell::Element(_) => Ok(Measures { size: 1, depth: 1 }),
+            TermCell::Application(f, arguments) => self.application(*f, arguments.as_slice()),
         }
     }
 
     // The same for a symbol with arguments.
     fn application(&self, f: u64, arguments: &[TermId]) -> Result<Measures, AllocError>
-        requires { AllBelow (length self.now) (numbers arguments.now) }
+        requires { AreNumbersBelow (length self.now) (numbers arguments.now) }
         ensures { IfOk result (IsMeasured (app f
             (trees_of (map (λ k. tree_at self.now k.0) arguments.now)))) }
     {
@@ -179,7 +179,7 @@ impl Bank {
     }
 
     // The number of the term that a cell is.
-    fn enter(&mut self, cell: Cell) -> Result<TermId, AllocError>
+    fn enter(&mut self, cell: TermCell) -> Result<TermId, AllocError>
         requires { ArgumentsAreIn (length self.old) cell }
         ensures grows { Grows self.old self.new }
         ensures term { IfOk result (λ id. IsAt self.new id.0 (tree_in self.old cell)) }
@@ -191,7 +191,7 @@ impl Bank {
     }
 
     // The number of a new term.
-    fn append(&mut self, cell: Cell) -> Result<TermId, AllocError>
+    fn append(&mut self, cell: TermCell) -> Result<TermId, AllocError>
         requires arguments { ArgumentsAreIn (length self.old) cell }
         requires new { (n : ℕ) → n < length self.old → tree_at self.old n ≡ tree_in self.old cell
             → ⊥ }

@@ -4,7 +4,7 @@ use smallvec::SmallVec;
 
 /// A term by its head and the numbers of its arguments.
 #[derive(PartialEq, Eq, Hash, Drop)]
-pub enum Cell {
+pub enum TermCell {
     Variable(u64),
     Element(u32),
     Application(u64, SmallVec<TermId, 3>),

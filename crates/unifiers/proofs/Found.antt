@@ -140,9 +140,13 @@ none_found (suc k) xs ss ts u le h i e =
 pub most_general : (ss ts : Trees) (bs : List Binding) → unifier_of ss ts ≡ Some bs → IsMostGeneral (solution bs) ss ts
 most_general ss ts bs h = unifier_general (length (variables_of_all ss) + length (variables_of_all ts)) ss ts bs h
 
-pub none_there : (ss ts : Trees) (u : Substitution) → unifier_of ss ts ≡ None → ¬ Unifies u ss ts
-none_there ss ts u h =
-    none_found (length (variables_of_all ss) + length (variables_of_all ts)) (variables_of_all ss ++ variables_of_all ts) ss ts u (omega (arith, length-append (variables_of_all ss) (variables_of_all ts)))
+-- so many rounds as there are variables are enough
+pub none_within : (k : ℕ) (ss ts : Trees) (u : Substitution) → length (variables_of_all ss) + length (variables_of_all ts) ≤ k → unifier k ss ts ≡ None → ¬ Unifies u ss ts
+none_within k ss ts u le h =
+    none_found k (variables_of_all ss ++ variables_of_all ts) ss ts u (omega (arith, length-append (variables_of_all ss) (variables_of_all ts)))
     (λ x i. list_any-append (λ y. x == y) (variables_of_all ss) (variables_of_all ts) ∙ or_left (is_in x (variables_of_all ss)) (is_in x (variables_of_all ts)) (sym (have_listed x ss) ∙ i))
     (λ x i. list_any-append (λ y. x == y) (variables_of_all ss) (variables_of_all ts) ∙ or_right (is_in x (variables_of_all ss)) (is_in x (variables_of_all ts)) (sym (have_listed x ts) ∙ i))
     h
+
+pub none_there : (ss ts : Trees) (u : Substitution) → unifier_of ss ts ≡ None → ¬ Unifies u ss ts
+none_there ss ts u h = none_within (length (variables_of_all ss) + length (variables_of_all ts)) ss ts u (omega arith) h

@@ -5,7 +5,7 @@ use Rattle.fol_core.specs.Fol.{Fol}
 use Rattle.fol_core.specs.FormulaView.{fol_of}
 use Rattle.fol_core.specs.Free.{closed_over}
 use Rattle.clausify.specs.Forms.{nnf_of}
-use Rattle.clausify.specs.Made.{Begins}
+use Rattle.clausify.specs.Made.{BeginsWork}
 use Rattle.clausify.specs.Skolem.{substitute_in}
 use Rattle.clausify.specs.View.{terms_of}
 use Rattle.clausify.proofs.Denials.{denied_closed, leads_next}
@@ -22,4 +22,4 @@ loop-place-preserved c =
     let body : some_over c.in_ok-bound.bound.items (fol_of c.in_ok-body.body) ≡ substitute_in (terms_of work.terms.items) (nnf_of false (closed_over behind f)) =
     ap₂ some_over bound (rw c.deref.ensures.value at c.in_ok-body.ensures) ∙ denied_closed (terms_of work.terms.items) behind f in
     leads_next symbols c.args.work.now work c.begin.new.work xs f (nnf_of false (closed_over xs f)) c.loop-place.place c.loop-place-test.true c.loop-place.invariant
-    (subst (λ (g : Fol). Begins symbols work c.begin.new.work (get_or xs c.loop-place.place 0) g) body c.in_ok-begin.ensures)
+    (subst (λ (g : Fol). BeginsWork symbols work c.begin.new.work (get_or xs c.loop-place.place 0) g) body c.in_ok-begin.ensures)

@@ -9,16 +9,16 @@ use Rattle.fol_core.proofs.Soundness.{sound_below}
 use Rattle.clausify.proofs.problem.clauses_of.Goals as goal
 
 pub returns-clause-suffice : goal.returns-clause-suffice
-returns-clause-suffice g c = λ rows.
+returns-clause-suffice c = λ m lawful rows.
     let ss = all_said c.args.problem.now.inputs.items in
-    c.clauses_suffice.ensures (entered_numbers c.args.symbols.now (skolems c.args.problem.now.symbols ss)) ss
+    c.clauses_suffice.ensures m lawful (entered_numbers c.args.symbols.now (skolems c.args.problem.now.symbols ss)) ss
     (sound_below (length c.args.problem.now.symbols) equality ss c.fits.ensures c.requires.well_formed)
-    (subst (AreTrueRows (g.I.Interpretation.meaning c.args.any.now)) c.in_ok-clauses.ensures.clauses rows)
+    (subst (AreTrueRows m) c.in_ok-clauses.ensures.clauses rows)
 
 pub returns-clause-follow : goal.returns-clause-follow
-returns-clause-follow g c = λ picks as_roled.
+returns-clause-follow c = λ m lawful picks as_roled.
     let ss = all_said c.args.problem.now.inputs.items in
-    subst (AreTrueRows (g.I.Interpretation.meaning c.args.any.now)) (sym c.in_ok-clauses.ensures.clauses)
-    (c.clauses_follow.ensures (entered_numbers c.args.symbols.now (skolems c.args.problem.now.symbols ss)) ss
+    subst (AreTrueRows m) (sym c.in_ok-clauses.ensures.clauses)
+    (c.clauses_follow.ensures m lawful (entered_numbers c.args.symbols.now (skolems c.args.problem.now.symbols ss)) ss
     (sound_below (length c.args.problem.now.symbols) equality ss c.fits.ensures c.requires.well_formed)
-    (subst (PicksWitnesses (g.I.Interpretation.meaning c.args.any.now)) c.in_ok-clauses.ensures.skolem picks) as_roled)
+    (subst (PicksWitnesses m) c.in_ok-clauses.ensures.skolem picks) as_roled)

@@ -2,4 +2,4 @@ use Rattle.fol_core.proofs.TruthLemmas.{free_decide}
 use Rattle.fol_core.proofs.laws.free_variables_decide.Goals as goal
 
 pub returns : goal.returns
-returns g c = free_decide (g.I.Interpretation.meaning c.args.any.now)
+returns c = free_decide

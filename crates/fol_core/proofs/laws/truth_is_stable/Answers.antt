@@ -2,4 +2,4 @@ use Rattle.fol_core.proofs.TruthLemmas.{stable}
 use Rattle.fol_core.proofs.laws.truth_is_stable.Goals as goal
 
 pub returns : goal.returns
-returns g c = stable (g.I.Interpretation.meaning c.args.any.now)
+returns c = stable

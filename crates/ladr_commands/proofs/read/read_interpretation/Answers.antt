@@ -1,7 +1,7 @@
 use Rattle.std.proofs.Common.{◌≡◌, ◌≤◌, ◌∙◌, ap, subst, length, ◌-◌, arith}
 use Rattle.ladr_lex.specs.Lexeme.{lexemes_of}
 use Rattle.ladr_commands.specs.Commands.{interpretation_item}
-use Rattle.ladr_commands.specs.Faults.{IsBadToken}
+use Rattle.ladr_commands.specs.Faults.{IsBadCommandToken}
 use Rattle.ladr_commands.specs.Form.{outcome, stops}
 use Rattle.ladr_commands.proofs.Forms.{length-lexemes_of, left_within, first_bad}
 use Rattle.ladr_commands.proofs.read.read_interpretation.Goals as goal
@@ -18,4 +18,4 @@ returns-in-Err-Bad-clause-fault c =
     let k : length (lexemes_of c.args.tokens.now) - length c.worded_interpretation.new.cursor ≡ length c.args.tokens.now - c.left.result =
     omega (arith, length-lexemes_of c.args.tokens.now, c.left.ensures) in
     let h = first_bad interpretation_item (lexemes_of c.args.tokens.now) c.worded_interpretation.new.cursor (rw c.new-cursor.ensures at e) in
-    (subst (λ n. IsBadToken interpretation_item (lexemes_of c.args.tokens.now) n) k h.0, h.1)
+    (subst (λ n. IsBadCommandToken interpretation_item (lexemes_of c.args.tokens.now) n) k h.0, h.1)

@@ -6,8 +6,7 @@ use Rattle.ladr_io.proofs.writing.write_all.Given as goal
 abbrev pub invariant-loop-written : goal.invariant-loop-written
 invariant-loop-written g l = record {
   within : l.written ≤ length l.piece;
-  took : Takes (g.K.Sink.held l.fn.sink) (g.K.Sink.held l.sink) (take l.written l.piece);
-  no_fault : g.K.Sink.faults l.sink ≡ g.K.Sink.faults l.fn.sink;
+  took : Takes (g.K.Sink.outflow l.fn.sink) (g.K.Sink.outflow l.sink) (take l.written l.piece);
 }
 
 abbrev pub decreases-loop-written : goal.decreases-loop-written

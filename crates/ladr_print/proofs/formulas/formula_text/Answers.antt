@@ -3,7 +3,7 @@ use Rattle.std.specs.Option.{option_map}
 use Rattle.fol_core.specs.FormulaView.{fol_of}
 use Rattle.fol_core.specs.RawView.{raw_of}
 use Rattle.ladr_reader.specs.Table.{table_of}
-use Rattle.ladr_reader.specs.Formulas.{names_of}
+use Rattle.ladr_formulas.specs.Formulas.{names_of}
 use Rattle.ladr_print.specs.FormulaText.{formula_raw, attributed}
 use Rattle.ladr_print.specs.RawText.{text_of}
 use Rattle.ladr_print.specs.ReadsAgain.{behind, ReadsFormula}

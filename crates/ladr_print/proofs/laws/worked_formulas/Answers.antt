@@ -1,6 +1,6 @@
 use Rattle.std.proofs.Common.{refl}
 use Rattle.ladr_lex.specs.Bytes.{is_ordinary, is_special}
-use Rattle.ladr_reader.specs.Formulas.{named_variable}
+use Rattle.ladr_formulas.specs.Formulas.{named_variable}
 use Rattle.ladr_print.proofs.laws.worked_formulas.Goals as goal
 
 pub returns : goal.returns

@@ -16,7 +16,7 @@ use Rattle.ladr_problem.proofs.laws.worked_formulas.Goals as goal
 use Rattle.ladr_reader.proofs.Lawful.{standard_lawful}
 use Rattle.ladr_reader.proofs.Live.{table_names}
 use Rattle.ladr_reader.proofs.Runs.{bad_at}
-use Rattle.ladr_reader.specs.Formulas.{named_variable}
+use Rattle.ladr_formulas.specs.Formulas.{named_variable}
 use Rattle.ladr_reader.specs.Worked.{line, constant, unary, binary, standard}
 use Rattle.ladr_reader.specs.declared.fault.TermFault.TheVariants.{Bad}
 

@@ -1,20 +1,23 @@
-use Rattle.std.proofs.Common.{◌≡◌, ◌∙◌, List, length, is_some, ap, sym, subst}
-use Rattle.ladr_reader.specs.declared.styles.Mode.{Mode}
+use Rattle.std.proofs.Common.{◌≡◌, ◌≤◌, ◌∙◌, List, length, is_some, ap, sym, subst}
+use Rattle.ladr_formulas.specs.declared.styles.Mode.{Mode}
 use Rattle.fol_core.specs.Stated.{AreWellFormed, all_said}
 use Rattle.fol_core.specs.SymbolTable.{Symbol}
 use Rattle.fol_core.specs.declared.problem.Input.{Input}
 use Rattle.ladr_problem.specs.Items.{items_of}
 use Rattle.ladr_lex.specs.Cuts.{pieces_of}
+use Rattle.ladr_lex.specs.declared.limits.TheConstants.{MOST_SYMBOLS}
 use Rattle.ladr_lex.specs.declared.token.Token.{Token}
 use Rattle.ladr_problem.specs.Draft.{sofar_of}
 use Rattle.ladr_options.specs.Ranges.{AreInRange}
 use Rattle.ladr_problem.specs.File as file
 use Rattle.ladr_problem.specs.File.{Outcome, File, Says, problem}
-use Rattle.ladr_problem.specs.Sofar.{Sofar, nothing_read}
+use Rattle.ladr_problem.specs.Names.{AreTellable}
+use Rattle.ladr_problem.specs.Proper.{IsProper}
+use Rattle.ladr_problem.specs.Sofar.{Sofar, stated_in, nothing_read}
 use Rattle.ladr_problem.specs.Stops.{IsStop}
 use Rattle.ladr_problem.specs.Whole.{IsFinished}
 use Rattle.ladr_problem.proofs.Files.{stop_along}
-use Rattle.ladr_problem.proofs.Good.{IsGood, problem_good, problem_before, has_interpretation, said_same}
+use Rattle.ladr_problem.proofs.Good.{says_proper, has_interpretation, said_same}
 use Rattle.ladr_problem.proofs.Readings.{says_of, placed_error}
 use Rattle.ladr_problem.proofs.read.read_problem.Goals as goal
 
@@ -28,14 +31,19 @@ pub returns-in-Ok-take_file-clause-read : goal.returns-in-Ok-take_file-clause-re
 returns-in-Ok-take_file-clause-read c =
     (sofar_of c.take_file.new.draft, says_of c.args.program c.args.bytes.now (pieces_of c.in-Ok.tokens.items) c.in-Ok.ensures.within c.in-Ok.ensures.cut _ (finished c), c.finish.ensures.of)
 
-good : (c : goal.After-drop-tokens-in-Ok-take_file) → IsGood (sofar_of c.take_file.new.draft)
-good c =
-    let f = finished c in
-    problem_good c.args.program (length c.args.bytes.now) (sofar_of c.take_file.new.draft) (items_of (pieces_of c.in-Ok.tokens.items))
-    (subst (File c.args.program (length c.args.bytes.now) nothing_read (items_of (pieces_of c.in-Ok.tokens.items))) (problem_before c.args.program (length c.args.bytes.now) f.0 (sofar_of c.take_file.new.draft) f.2) f.1)
+proper : (c : goal.After-drop-tokens-in-Ok-take_file) → IsProper (stated_in (sofar_of c.take_file.new.draft)) c.take_file.new.draft.settings.options
+proper c =
+    says_proper c.args.program c.args.bytes.now (sofar_of c.take_file.new.draft)
+    (says_of c.args.program c.args.bytes.now (pieces_of c.in-Ok.tokens.items) c.in-Ok.ensures.within c.in-Ok.ensures.cut _ (finished c))
+
+pub returns-in-Ok-take_file-clause-few : goal.returns-in-Ok-take_file-clause-few
+returns-in-Ok-take_file-clause-few c = subst (λ (t : List Symbol). length t ≤ MOST_SYMBOLS) (sym c.finish.ensures.of.symbols) (proper c).few
+
+pub returns-in-Ok-take_file-clause-tellable : goal.returns-in-Ok-take_file-clause-tellable
+returns-in-Ok-take_file-clause-tellable c = subst AreTellable (sym c.finish.ensures.of.symbols) (proper c).tellable
 
 pub returns-in-Ok-take_file-clause-ranged : goal.returns-in-Ok-take_file-clause-ranged
-returns-in-Ok-take_file-clause-ranged c = subst AreInRange (sym c.finish.ensures.of.options) (good c).ranged
+returns-in-Ok-take_file-clause-ranged c = subst AreInRange (sym c.finish.ensures.of.options) (proper c).ranged
 
 pub returns-in-Ok-take_file-clause-interpreted : goal.returns-in-Ok-take_file-clause-interpreted
 returns-in-Ok-take_file-clause-interpreted c = λ tests.
@@ -46,7 +54,7 @@ returns-in-Ok-take_file-clause-interpreted c = λ tests.
 pub returns-in-Ok-take_file-clause-well_formed : goal.returns-in-Ok-take_file-clause-well_formed
 returns-in-Ok-take_file-clause-well_formed c =
     let draft = c.take_file.new.draft in
-    let well_formed = subst (AreWellFormed (length draft.symbols)) (said_same draft.inputs.items) (good c).well_formed in
+    let well_formed = subst (AreWellFormed (length draft.symbols)) (said_same draft.inputs.items) (proper c).well_formed in
     subst (λ (is : List Input). AreWellFormed (length c.finish.result.problem.symbols) (all_said is)) (sym c.finish.ensures.inputs)
     (subst (λ (t : List Symbol). AreWellFormed (length t) (all_said draft.inputs.items)) (sym c.finish.ensures.of.symbols) well_formed)
 

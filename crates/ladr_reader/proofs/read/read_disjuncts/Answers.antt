@@ -3,7 +3,7 @@ use Rattle.std.proofs.Common.{◌≡◌, ◌≤◌, ◌+◌, max, List, length, 
 use Rattle.ladr_lex.specs.Lexeme.{Lexeme, lexemes_of}
 use Rattle.ladr_reader.specs.Machine.{standing}
 use Rattle.ladr_reader.specs.Nesting.{most_open}
-use Rattle.ladr_reader.specs.Table.{Table, table_of}
+use Rattle.ladr_reader.specs.Table.{OperatorTable, table_of}
 use Rattle.ladr_reader.proofs.Lawful.{table_lawful}
 use Rattle.ladr_reader.proofs.Live.{table_names}
 use Rattle.ladr_reader.proofs.Runs.{lexemes_length, lexemes_from, run_more, bad_at, bad_end, done_item, all_noted}
@@ -43,7 +43,7 @@ returns-in_default-clause-fault c =
 
 pub returns-clause-read : goal.returns-clause-read
 returns-clause-read c =
-    let g : Table = table_of c.args.ops.now in
+    let g : OperatorTable = table_of c.args.ops.now in
     let ts : List Lexeme = lexemes_of c.args.tokens.now in
     let end : length ts ≤ c.loop-i.i = omega (arith, lexemes_length c.args.tokens.now) in
     let done = done_item c.args.build.most g (table_lawful c.args.ops.now c.rows_are_lawful.ensures) ts c.loop-i.i c.loop-i.place c.loop-i.stack c.in-Done.term c.in-Done.field-1 end c.loop-i.invariant.run c.in-Done.is in

@@ -3,8 +3,8 @@ use Rattle.std.specs.Option.{option_map}
 use Rattle.fol_core.specs.RawTree.{RawTree}
 use Rattle.fol_core.specs.RawView.{raw_of}
 use Rattle.fol_core.specs.SymbolTable.{Symbol}
-use Rattle.ladr_reader.specs.Formulas.{style_of}
-use Rattle.ladr_reader.specs.declared.styles.Style.{Style}
+use Rattle.ladr_formulas.specs.Formulas.{style_of}
+use Rattle.ladr_formulas.specs.declared.styles.Style.{Style}
 use Rattle.ladr_rules.specs.RuleSeen.{IsRule, IsRuleIn}
 use Rattle.ladr_rules.specs.Rules.{Sides, shaped_sides, rule_made, rule_in}
 use Rattle.ladr_rules.specs.SidesView.{sides_view}

@@ -1,14 +1,24 @@
-use Rattle.std.proofs.Common.{◌≡◌, [], inl, refl}
-use Rattle.ladr_io.proofs.StreamLaws.{Gives-none, Takes-none}
-use Rattle.ladr_top.specs.declared.cause.Cause.TheVariants.{Memory}
+use Rattle.std.proofs.Common.{◌≡◌, Err, subst}
+use Rattle.ladr_intake.specs.declared.stops.Stop.TheVariants as stops
+use Rattle.ladr_mace4.specs.Shown.{ShowsPosed}
+use Rattle.ladr_top.proofs.Lacking.{lacking, none_shown}
+use Rattle.ladr_words.specs.Tasks.{HasRanges}
 use Rattle.ladr_top.proofs.running.run.Goals as goal
+use Rattle.ladr_words.specs.declared.task.ModelOptions.{ModelOptions}
 
-pub returns-in-Err-Memory-clause-searches : goal.returns-in-Err-Memory-clause-searches
-returns-in-Err-Memory-clause-searches g c = λ o e.
-    let lacking : c.exit_by-in-Err-Memory.result.cause ≡ Memory = c.exit_by-in-Err-Memory.ensures.cause in
-    record {
-      bytes = [];
-      gave = Gives-none _;
-      told = rw lacking ([], inl refl, Takes-none _);
-      unasked = λ untimed. refl;
-    }
+pub returns-in-Err-Memory-clause-clausetester : goal.returns-in-Err-Memory-clause-clausetester
+returns-in-Err-Memory-clause-clausetester g c = λ e. (Err stops.Memory, lacking _ _ _ _ _ _ _ tt, c.exit-in-Err-Memory.ensures.cause)
+
+pub returns-in-Err-Memory-clause-mace4 : goal.returns-in-Err-Memory-clause-mace4
+returns-in-Err-Memory-clause-mace4 g c = λ o e. (Err stops.Memory, lacking _ _ _ _ _ _ _ c.requires.unread, c.exit-in-Err-Memory.ensures.cause)
+
+pub returns-in-Err-Memory-clause-models : goal.returns-in-Err-Memory-clause-models
+returns-in-Err-Memory-clause-models g c = λ o e. none_shown o _ _ c.requires.source
+
+pub returns-in-Ok-Mace4-clause-models : goal.returns-in-Ok-Mace4-clause-models
+returns-in-Ok-Mace4-clause-models g c = λ o e.
+    let task = c.in-Ok-Mace4.ensures.task in
+    let is = c.in-Ok-Mace4.field-0-is in
+    let same : c.in-Ok-Mace4.options ≡ o = cc in
+    subst (λ (words : ModelOptions). ShowsPosed words (g.S.Source.inflow c.args.source.now) (g.S.Source.inflow c.mace4.new.source) (g.K.Sink.outflow c.args.sink.now) (g.K.Sink.outflow c.mace4.new.sink)) same
+    (c.searches_show.ensures c.in-Ok-Mace4.options (subst HasRanges is c.in-Ok-Mace4.ensures.ranges) _ _ _ _ (g.C.Clock.times c.mace4.new.clock) c.mace4.result c.mace4.ensures)

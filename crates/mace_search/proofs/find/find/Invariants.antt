@@ -1,7 +1,7 @@
 -- the tables passed so far are no countermodel, and the clock was early
 use Rattle.std.proofs.Common.{◌≡◌, ◌-◌, ◌≤◌}
 use Rattle.mace_search.specs.Plain.{NoneAmong}
-use Rattle.mace_search.specs.Watch.{IsEarly, GoesOn, Reads}
+use Rattle.mace_search.specs.Watch.{IsEarly, KeepsFirst, HasReadMore}
 use Rattle.model_tables.specs.Order.{table_number, table_count, IsSameShape, IsFilled}
 use Rattle.mace_search.proofs.find.find.Given as goal
 
@@ -11,8 +11,8 @@ invariant-loop-last g l = record {
   shape : IsSameShape l.fn.tables l.tables;
   filled : IsFilled l.tables;
   early : IsEarly l.stop (g.C.Clock.times l.clock);
-  goes : GoesOn l.stop (g.C.Clock.times l.fn.clock) (g.C.Clock.times l.clock);
-  reads : Reads l.stop (table_number l.tables - table_number l.fn.tables) (g.C.Clock.times l.fn.clock) (g.C.Clock.times l.clock);
+  goes : KeepsFirst l.stop (g.C.Clock.times l.fn.clock) (g.C.Clock.times l.clock);
+  reads : HasReadMore l.stop (table_number l.tables - table_number l.fn.tables) (g.C.Clock.times l.fn.clock) (g.C.Clock.times l.clock);
   behind : table_number l.fn.tables ≤ table_number l.tables;
   none : NoneAmong l.fn.check l.fn.tables (table_number l.fn.tables) (table_number l.tables);
 }

@@ -2,4 +2,4 @@ use Rattle.substitutions.proofs.Replacing.{replaced_same}
 use Rattle.substitutions.proofs.laws.replacing_keeps_values.Goals as goal
 
 pub returns : goal.returns
-returns g c = λ e t old new path. replaced_same (g.I.Interpretation.meaning c.args.any.now) e t path old new
+returns c = λ m e t old new path. replaced_same m e t path old new

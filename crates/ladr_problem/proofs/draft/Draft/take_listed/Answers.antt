@@ -7,7 +7,7 @@ use Rattle.ladr_problem.specs.ListItem.{closing, term, IsListItem, IsShallow}
 use Rattle.ladr_problem.specs.declared.item.ListItem as code
 use Rattle.ladr_reader.specs.Table.{table_of}
 use Rattle.ladr_lex.specs.Lexeme.{lexemes_of}
-use Rattle.ladr_problem.specs.Adding.{IsRefused, within}
+use Rattle.ladr_problem.specs.Adding.{IsItemRefused, within}
 use Rattle.ladr_problem.specs.Draft.{sofar_of}
 use Rattle.ladr_problem.specs.declared.refusal.Refusal.{Refusal}
 use Rattle.ladr_problem.proofs.Takings.{term_taken, term_refused, item_refused}
@@ -37,5 +37,5 @@ returns-in-Ok-Term-clause-refused c =
 
 pub returns-in-Err-clause-refused : goal.returns-in-Err-clause-refused
 returns-in-Err-clause-refused c =
-    subst (λ (why : Refusal). IsRefused c.args.program c.args.byte (sofar_of c.args.self.now) (lexemes_of c.args.tokens.now) why) (sym c.by_term.ensures)
+    subst (λ (why : Refusal). IsItemRefused c.args.program c.args.byte (sofar_of c.args.self.now) (lexemes_of c.args.tokens.now) why) (sym c.by_term.ensures)
     (item_refused c.args.program c.args.byte (sofar_of c.args.self.now) c.args.list c.requires (lexemes_of c.args.tokens.now) c.in-Err.fault c.in-Err.ensures.fault)

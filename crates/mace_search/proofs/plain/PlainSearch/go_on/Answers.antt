@@ -1,9 +1,10 @@
-use Rattle.std.proofs.Common.{◌≡◌, ◌+◌, ◌-◌, ◌≤◌, refl, sym, arith}
+use Rattle.std.proofs.Common.{◌≡◌, ◌+◌, ◌-◌, ◌≤◌, ◌∙◌, ap, refl, sym, arith}
 use Rattle.fol_core.specs.Stated.{stated_of}
+use Rattle.mace_search.specs.Plain.{Search, tables_in}
 use Rattle.mace_search.specs.PlainView.{ahead_of}
-use Rattle.model_tables.specs.Order.{table_count}
+use Rattle.model_tables.specs.Order.{table_number, table_count}
 use Rattle.model_tables.proofs.Orders.{shape_count, number_in_count}
-use Rattle.mace_search.proofs.Passing.{filled_of, stays, none_past}
+use Rattle.mace_search.proofs.Passing.{filled_of, stays, none_past, count_in}
 use Rattle.mace_search.proofs.Watching.{reads_none}
 use Rattle.mace_search.proofs.plain.PlainSearch.go_on.Goals as goal
 
@@ -37,4 +38,9 @@ returns-else-advance-clause-tells g c =
     let p = stated_of c.self.inside.problem.now in
     let tried = rw (sym c.self.view_is) at c.requires.tried in
     let past : table_count c.self.inside.tables ≤ ahead_of c.self.inside.state c.self.inside.tables = omega (arith, tried, c.if-advance.ensures.next.0) in
-    (rw (sym c.self.view_is) (none_past p (c.self.inside.tables.top + 1) c.self.inside.tables _ c.self.invariant.tables past), refl, refl, c.requires.early)
+    let there : table_count c.advance.new.self ≡ tables_in (c.self.inside.tables.top + 1) p = (sym (shape_count _ _ c.advance.ensures.shape) ∙ count_in p (c.self.inside.tables.top + 1) c.self.inside.tables c.self.invariant.tables) in
+    (rw (sym c.self.view_is) (none_past p (c.self.inside.tables.top + 1) c.self.inside.tables _ c.self.invariant.tables past), rw (sym c.self.view_is) there, refl, c.requires.early)
+
+pub returns-else-advance-clause-ahead : goal.returns-else-advance-clause-ahead
+returns-else-advance-clause-ahead g c =
+    omega (arith, c.requires.tried, ap (λ (s : Search). table_number s.tables) c.self.view_is, c.if-advance.ensures.next.0, shape_count _ _ c.advance.ensures.shape)

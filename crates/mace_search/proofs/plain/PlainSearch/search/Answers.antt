@@ -1,8 +1,9 @@
-use Rattle.std.proofs.Common.{◌+◌, ◌∙◌, sym, arith}
+use Rattle.std.proofs.Common.{◌≤◌, ◌+◌, ◌∙◌, sym, arith}
 use Rattle.fol_core.specs.Stated.{stated_of}
-use Rattle.mace_search.specs.Plain.{Finds}
-use Rattle.mace_search.specs.PlainView.{search_of}
-use Rattle.mace_search.proofs.Passing.{filled_of, stays, found_tells}
+use Rattle.mace_search.specs.Plain.{FindsNext}
+use Rattle.mace_search.specs.PlainView.{ahead_of, state_after, search_of}
+use Rattle.mace_search.proofs.Passing.{filled_of, stays, found_answers, none_again}
+use Rattle.model_tables.specs.Order.{table_number}
 use Rattle.mace_search.proofs.plain.PlainSearch.search.Goals as goal
 
 pub find-answer-requires-clause-filled : goal.find-answer-requires-clause-filled
@@ -18,6 +19,14 @@ returns-clause-tells g c =
     let p = stated_of c.self.inside.problem.now in
     let now = search_of p c.self.inside.tables c.self.inside.state c.self.inside.stop in
     let fresh = rw (sym c.self.view_is) at c.requires.fresh in
-    let finds : Finds p.formulas c.self.inside.stop c.self.inside.tables c.find-answer.new.tables c.find-answer.result (g.C.Clock.times c.find-answer.new.clock) = rw c.self.invariant.formulas at c.find-answer.ensures.finds in
+    let finds : FindsNext p.formulas c.self.inside.stop c.self.inside.tables c.find-answer.new.tables c.find-answer.result (g.C.Clock.times c.find-answer.new.clock) = rw c.self.invariant.formulas at c.find-answer.ensures.finds in
     rw (sym c.self.view_is, c.state_after-self-inside.ensures)
-    (found_tells now c.find-answer.new.tables c.find-answer.result _ c.self.invariant.tables (omega arith) fresh c.find-answer.ensures.shape c.find-answer.ensures.filled finds)
+    (found_answers now c.find-answer.new.tables c.find-answer.result _ c.self.invariant.tables (omega arith) fresh c.find-answer.ensures.shape c.find-answer.ensures.filled finds)
+
+pub returns-clause-ahead : goal.returns-clause-ahead
+returns-clause-ahead g c =
+    let fresh = rw (sym c.self.view_is) at c.requires.fresh in
+    let t = c.self.inside.tables in
+    let filled = filled_of (stated_of c.self.inside.problem.now) (t.top + 1) t c.self.invariant.tables in
+    let more : table_number t ≤ ahead_of (state_after c.find-answer.result) c.find-answer.new.tables = none_again _ _ t c.find-answer.new.tables c.find-answer.result _ c.find-answer.ensures.shape filled c.find-answer.ensures.finds in
+    rw (sym c.self.view_is, c.state_after-self-inside.ensures, fresh) more

@@ -1,7 +1,7 @@
 -- The cell at the place of the number.
 use Rattle.std.proofs.Common.{◌≡◌, ◌<◌, ap, sym, subst, ◌∙◌, length, Some, slice_get}
 use Rattle.std.specs.Option.{option_map}
-use Rattle.term_bank.specs.Cells.{IsPlaced}
+use Rattle.term_bank.specs.Cells.{IsStored}
 use Rattle.term_bank.proofs.Building.{full_length, placed}
 use Rattle.term_bank.proofs.bank.Bank.cell.Goals as goal
 
@@ -13,5 +13,5 @@ unwrap-requires c =
 pub returns : goal.returns
 returns c =
     let there : slice_get c.self.inside.cells.entries c.args.id.0 ≡ Some (c.unwrap.result.0.now, c.unwrap.result.1.now) = sym c.get_index.ensures.entry ∙ ap (option_map (λ p. (p.0.now, p.1.now))) c.unwrap.ensures in
-    subst (λ bank. IsPlaced bank c.args.id.0 (c.unwrap.result.0.now, c.unwrap.result.1.now)) c.self.view_is
+    subst (λ bank. IsStored bank c.args.id.0 (c.unwrap.result.0.now, c.unwrap.result.1.now)) c.self.view_is
     (placed c.self.inside.cells.entries c.self.invariant c.args.id.0 (c.unwrap.result.0.now, c.unwrap.result.1.now) there)

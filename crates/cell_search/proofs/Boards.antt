@@ -1,0 +1,62 @@
+-- What a board tells of its decisions.
+use Rattle.std.proofs.Common.{◌≡◌, ℕ, zero, suc, ◌+◌, ◌<◌, true, false, max, List, [], Option, None, Some, replicate, refl, sym, ap, ◌∙◌, subst, arith}
+use Rattle.std.proofs.lemmas.Option.{none-some}
+use Rattle.fol_core.specs.Meaning.{Meaning}
+use Rattle.mace_cells.proofs.Steps.{carried_itself}
+use Rattle.mace_cells.specs.Choices.{Decision, AgreesWith}
+use Rattle.mace_cells.specs.Trails.{Partial, partial}
+use Rattle.mace_cells.specs.World.{World, Solves, AreAlike, IsSettled, IsRefuted, AreRefuted, IsBound, IsNextValue, cell_of, many_cells}
+use Rattle.mace_cells.specs.declared.trail.TrailEntry.{TrailEntry}
+use Rattle.mace_ground.specs.Cells.{value_at}
+use Rattle.model_tables.specs.Size.{AllBelow, bound_of}
+use Rattle.model_tables.specs.TablesLaws.{tables_lawful}
+use Rattle.cell_search.specs.Finites.{finite_of, meaning_by_cells}
+use Rattle.cell_search.specs.Full.{IsFull, MakesTrue, HasNoSolution}
+use Rattle.cell_search.specs.Positions.{AreCrossed, IsLeast}
+use Rattle.cell_search.specs.Searchable.{HasAllCells}
+use Rattle.cell_search.specs.Sound.{Extends, decided_in, IsBoard}
+use Rattle.cell_search.proofs.Boarding.{agrees_all}
+use Rattle.cell_search.proofs.Bounding.{value_below}
+use Rattle.cell_search.proofs.Tabling.{tables_extend, tables_within}
+
+module _ (w : World) (t : Partial) (board : IsBoard w t) where
+  -- where each cell has a value and the clauses are true, the tables are the only solution
+  pub settled : HasAllCells w → IsFull w t.entries → MakesTrue w t.entries w.clauses → IsSettled w (decided_in w t.entries) (meaning_by_cells w t.entries)
+  settled searchable full makes =
+      let extends = tables_extend w t.entries searchable.some searchable.once full in (
+        record { size = tables_within w t.entries searchable.some; lawful = tables_lawful (finite_of w t.entries); holds = makes (meaning_by_cells w t.entries) (tables_within w t.entries searchable.some) extends },
+        agrees_all w (meaning_by_cells w t.entries) t.entries board.fresh extends,
+        λ u solves agrees k within. let v = full k within in (board.sound u solves agrees).0 k v.0 within v.1.0 ∙ sym (extends k v.0 within v.1.0),
+      )
+
+  pub none_settled : HasNoSolution w t.entries → IsRefuted w (decided_in w t.entries)
+  none_settled none = λ m solves agrees. none m solves (board.sound m solves agrees).0
+
+  -- every value is below the bound of the cell
+  pub bound_is : (k most end : ℕ) → k < many_cells w → end ≡ bound_of w.size (cell_of w k).kind → most + 1 ≡ end → IsBound w (decided_in w t.entries) (cell_of w k) most
+  bound_is k most end within is same = λ m solves agrees. (m, (solves, (agrees, let below = value_below w m k board.some solves within in omega (arith, below, is, same)), carried_itself w.fixed m))
+
+  crossed_refutes : (k v u : ℕ) → k < many_cells w → AreCrossed t k v u → AreRefuted w (decided_in w t.entries) (cell_of w k) v u
+  crossed_refutes k v u within crossed = λ m solves agrees h g. let x = crossed (value_at m (cell_of w k)) h g in (board.sound m solves agrees).1 k (value_at m (cell_of w k)) within x.0 x.1 refl
+
+  pub least_refutes : (k v most : ℕ) (o : Option ℕ) → k < many_cells w → IsLeast t k v most o → IsNextValue w (decided_in w t.entries) (cell_of w k) v most o
+  least_refutes k v most None within least = crossed_refutes k v (suc most) within least
+  least_refutes k v most (Some u) within least = (least.0, least.1, crossed_refutes k v u within least.2)
+
+-- nothing is decided yet
+pub board_at_first : (w : World) → 0 < w.size → IsBoard w (partial (many_cells w) (max w.size 2) [] [])
+board_at_first w some = record {
+  some = some;
+  many = refl;
+  stride = refl;
+  fresh = tt;
+  sound = λ m solves agrees. ((λ k v within given. absurd (none-some _ given)), (λ k v within fits struck here. let h : false ≡ true = struck in cc));
+  before = tt;
+}
+
+pub zeros_below : (n k : ℕ) → 0 < n → AllBelow n (replicate k 0)
+zeros_below n zero some = tt
+zeros_below n (suc k) some = (some, zeros_below n k some)
+
+pub refuted_along : (w w' : World) (es es' : List TrailEntry) → w' ≡ w → decided_in w es' ≡ decided_in w es → IsRefuted w' (decided_in w' es') → IsRefuted w (decided_in w es)
+refuted_along w w' es es' worlds same none = subst (λ (ds : List Decision). IsRefuted w ds) same (subst (λ (v : World). IsRefuted v (decided_in v es')) worlds none)

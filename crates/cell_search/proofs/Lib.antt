@@ -1,0 +1,12 @@
+pub mod Seeing
+pub mod Sounding
+pub mod Looking
+pub mod Boarding
+pub mod Bounding
+pub mod Leaving
+pub mod Pursuing
+pub mod Filling
+pub mod Rows
+pub mod Tabling
+pub mod Boards
+pub mod Givings

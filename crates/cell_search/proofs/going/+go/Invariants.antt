@@ -1,0 +1,15 @@
+-- one variable fewer is left; nothing is lost, nothing decided, and the variables have elements
+use Rattle.std.proofs.Common.{◌≡◌, suc, ◌-◌, length}
+use Rattle.cell_search.specs.Sound.{IsBoard, decided_in}
+use Rattle.model_tables.specs.Size.{AllBelow}
+use Rattle.cell_search.proofs.going.+go.Given as goal
+
+abbrev pub decreases-go : goal.decreases-go
+decreases-go l = suc (length l.walk.now.order.items) - l.at
+
+abbrev pub invariant-loop-element : goal.invariant-loop-element
+invariant-loop-element l = record {
+  board : IsBoard l.setup l.trail;
+  decided : decided_in l.setup l.trail.entries ≡ decided_in l.setup l.fn.trail.entries;
+  env : AllBelow l.setup.size l.env;
+}

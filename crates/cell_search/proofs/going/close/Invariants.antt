@@ -1,0 +1,16 @@
+-- nothing is lost, nothing decided, and the variables have elements; no more steps come than there are cells
+use Rattle.std.proofs.Common.{◌≡◌, suc, ◌-◌}
+use Rattle.cell_search.specs.Sound.{IsBoard, decided_in}
+use Rattle.model_tables.specs.Size.{AllBelow}
+use Rattle.mace_cells.specs.World.{many_cells}
+use Rattle.cell_search.proofs.going.close.Given as goal
+
+abbrev pub invariant-loop-step : goal.invariant-loop-step
+invariant-loop-step l = record {
+  board : IsBoard l.setup l.trail;
+  decided : decided_in l.setup l.trail.entries ≡ decided_in l.setup l.fn.trail.entries;
+  env : AllBelow l.setup.size l.env;
+}
+
+abbrev pub decreases-loop-step : goal.decreases-loop-step
+decreases-loop-step l = suc (many_cells l.setup) - l.step

@@ -1,0 +1,12 @@
+-- nothing is lost, nothing decided, and the variables have elements
+use Rattle.std.proofs.Common.{◌≡◌}
+use Rattle.cell_search.specs.Sound.{IsBoard, decided_in}
+use Rattle.model_tables.specs.Size.{AllBelow}
+use Rattle.cell_search.proofs.going.go_over.Given as goal
+
+abbrev pub invariant-loop-walk : goal.invariant-loop-walk
+invariant-loop-walk l = record {
+  board : IsBoard l.setup l.trail;
+  decided : decided_in l.setup l.trail.entries ≡ decided_in l.setup l.fn.trail.entries;
+  env : AllBelow l.setup.size l.env;
+}

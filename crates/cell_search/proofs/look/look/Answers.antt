@@ -1,0 +1,29 @@
+use Rattle.std.proofs.Common.{◌≡◌, ◌+◌, ◌<◌, ℕ, Option, None, Some, IfSome, length, sym, ◌∙◌, subst, arith}
+use Rattle.std.proofs.lemmas.Grind.{common_steps}
+use Rattle.mace_ground.specs.Instances.{assigned_by}
+use Rattle.cell_search.proofs.Looking.{IsLeft, passed_false, passed_open}
+use Rattle.cell_search.proofs.look.look.Goals.{in-Some-false, in-None+else-is_some}
+use Rattle.cell_search.proofs.look.look.Goals as goal
+
+pub loop-at-preserved : goal.loop-at-preserved
+loop-at-preserved c =
+    let w = c.args.setup.now in
+    let es = c.args.trail.now.entries in
+    let e = assigned_by c.args.env.now in
+    let ls = c.args.literals.now in
+    let i = c.loop-at.at in
+    let l = c.index-literals-at.result in
+    let left = c.loop-at.invariant.left in
+    let test : i < length ls = c.loop-at-test.true in
+    elim c.match-truth.branch [
+      | in-Some-false v ↦ record {
+        left = subst (λ (o : Option ℕ). IsLeft w es e ls (i + 1) o) (sym v.unknown-is) (passed_false w es e ls i l c.loop-at.unknown test c.index-literals-at.is (rw v.in-Some-false.field-0-test at v.in-Some-false.ensures) left);
+        within = subst (λ (o : Option ℕ). IfSome o (λ (j : ℕ). j < length ls)) (sym v.unknown-is) c.loop-at.invariant.within;
+      }
+      | in-None+else-is_some v ↦
+          let nothing : ◌≡◌ {A = Option ℕ} c.loop-at.unknown None = grind (arith, common_steps, v.if-is_some, v.is_some) in
+          record {
+            left = subst (λ (o : Option ℕ). IsLeft w es e ls (i + 1) o) (sym v.unknown-is) (passed_open w es e ls i l test c.index-literals-at.is (subst (λ (o : Option ℕ). IsLeft w es e ls i o) nothing left));
+            within = subst (λ (o : Option ℕ). IfSome o (λ (j : ℕ). j < length ls)) (sym v.unknown-is) test;
+          }
+    ]

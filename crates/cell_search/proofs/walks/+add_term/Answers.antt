@@ -1,0 +1,13 @@
+use Rattle.std.proofs.Common.{◌≡◌, ◌+◌, List, ap, arith}
+use Rattle.fol_core.specs.Tree.{Tree, trees_of, nodes, nodes_of}
+use Rattle.fol_core.specs.TermView.{tree_of}
+use Rattle.fol_core.specs.declared.term.Term.{Term}
+use Rattle.model_tables.proofs.Places.{argument_smaller}
+use Rattle.cell_search.proofs.walks.+add_term.Goals as goal
+
+pub add_term-requires : goal.add_term-requires
+add_term-requires t c =
+    let whole : nodes (tree_of c.args.term.now) ≡ nodes_of (trees_of c.in-App.terms) + 2 = ap (λ (x : Term). nodes (tree_of x)) c.in-App.is in
+    let same = ap (λ (ts : List Tree). nodes_of (trees_of ts)) c.as_slice-term-items.ensures.trees in
+    let part = argument_smaller c.as_slice-term-items.result.now c.loop-term.term-index c.term-item.result c.loop-term-test.true c.term-item.is in
+    omega (arith, c.decreases, whole, same, part)

@@ -1,0 +1,10 @@
+pub mod Asking
+pub mod Bounds
+pub mod Courses
+pub mod Finites
+pub mod Full
+pub mod Known
+pub mod Positions
+pub mod SearchCodes
+pub mod Searchable
+pub mod Sound

@@ -1,0 +1,211 @@
+// The board of a search: a partial table of its cells, closed under what the clauses ask.
+ghost use Rattle.std.specs.Prelude.{ℕ, ◌≡◌, ◌<◌, ◌≤◌, [], None, false, max, IfOk, length, replicate};
+ghost use Rattle.cell_search.specs.Finites.{finite_of, meaning_by_cells};
+ghost use Rattle.cell_search.specs.Positions.{position, IsLeast};
+ghost use Rattle.cell_search.specs.Searchable.{HasAllCells};
+ghost use Rattle.cell_search.specs.Sound.{decided_in};
+ghost use Rattle.mace_cells.specs.Boards.{IsAsSaid};
+ghost use Rattle.mace_cells.specs.Trails.{partial, value_in};
+ghost use Rattle.mace_cells.specs.World.{many_cells, IsRefuted};
+
+use crate::full::{Filled, are_true, fullness, room};
+use crate::going::{begin, close};
+use crate::setup::Setup;
+use crate::tables::finite;
+use crate::walk::{Group, Walk};
+use mace_cells::{Board, Status, Trail};
+use model_tables::Tables;
+use std::alloc::{AllocError, Global};
+use std::marker::Model;
+
+/// A board of cells; contracts see what is searched for, and the table so far.
+#[derive(Drop)]
+pub struct Cells<'a> {
+    setup: Setup<'a>,
+    trail: Trail,
+    walks: Vec<Walk<'a>>,
+    groups: Vec<Group<'a>>,
+    // The elements of variables.
+    env: Vec<u32>,
+    // How many steps were gone over, and whether all instances were at the beginning.
+    head: usize,
+    begun: bool,
+}
+
+impl<'a> Model for Cells<'a> {
+    ghost use Rattle.std.specs.Prelude.{length};
+    ghost use Rattle.cell_search.specs.Full.{HaveVariables};
+    ghost use Rattle.cell_search.specs.Positions.{Position};
+    ghost use Rattle.cell_search.specs.SearchCodes.{coded_position};
+    ghost use Rattle.cell_search.specs.Searchable.{HasAllCells};
+    ghost use Rattle.cell_search.specs.Sound.{IsBoard};
+    ghost use Rattle.model_tables.specs.Size.{AllBelow};
+
+    ghost Value = { Position };
+
+    ghost coded = { coded_position };
+
+    ghost view = { λ a. record { world = a.setup; table = a.trail } };
+
+    ghost invariant = { λ a. record {
+      board : IsBoard a.setup a.trail;
+      searchable : HasAllCells a.setup;
+      room : HaveVariables a.setup.clauses (length a.env.items);
+      env : AllBelow a.setup.size a.env.items;
+    } };
+}
+
+impl<'a> Cells<'a> {
+    /// A board on which nothing is decided yet, with ways through all instances of the clauses, and through those of each
+    /// symbol's occurrences.
+    pub fn new(
+        alloc: Global,
+        setup: Setup<'a>,
+        walks: Vec<Walk<'a>>,
+        groups: Vec<Group<'a>>,
+    ) -> Result<Cells<'a>, AllocError>
+        requires { HasAllCells setup }
+        ensures { IfOk result (λ b. b ≡ position setup.entry
+            (partial (many_cells setup.entry) (max setup.entry.size 2) [] [])) }
+    {
+        let trail = Trail::new(alloc, setup.cells(), setup.size().max(2))?;
+        let room = room(&setup)?;
+        let env = zeros(alloc, room)?;
+        Ok(Cells {
+            setup,
+            trail,
+            walks,
+            groups,
+            env,
+            head: 0,
+            begun: false,
+        })
+    }
+
+    /// The tables of the values that cells have, 0 where they have none.
+    pub fn tables(&self, alloc: Global) -> Result<Tables, AllocError>
+        ensures { IfOk result (λ t. t ≡ finite_of self.now.world self.now.table.entries) }
+    {
+        finite(alloc, &self.setup, &self.trail)
+    }
+
+    // Goes over all instances, at the beginning.
+    fn start(&mut self) -> bool
+        ensures world { self.new.world ≡ self.old.world }
+        ensures decided { decided_in self.old.world self.new.table.entries
+            ≡ decided_in self.old.world self.old.table.entries }
+        ensures refuted { result ≡ false
+            → IsRefuted self.old.world (decided_in self.old.world self.old.table.entries) }
+    {
+        if self.begun {
+            return true;
+        }
+        self.begun = true;
+        begin(&self.setup, &mut self.trail, &self.walks, &mut self.env)
+    }
+
+    // Goes over the instances that the steps since the last time touch.
+    fn go_on(&mut self) -> bool
+        ensures world { self.new.world ≡ self.old.world }
+        ensures decided { decided_in self.old.world self.new.table.entries
+            ≡ decided_in self.old.world self.old.table.entries }
+        ensures refuted { result ≡ false
+            → IsRefuted self.old.world (decided_in self.old.world self.old.table.entries) }
+    {
+        let closed = close(
+            &self.setup,
+            &mut self.trail,
+            &self.groups,
+            &mut self.env,
+            self.head,
+        );
+        self.head = self.trail.len();
+        closed
+    }
+
+    // Whether a cell is to be chosen next, or else the clauses are true.
+    fn ends(&mut self) -> Status
+        ensures same { self.new ≡ self.old }
+        ensures told { IsAsSaid self.old.world (decided_in self.old.world self.old.table.entries)
+            (meaning_by_cells self.old.world self.old.table.entries) result }
+        ensures open { (cell : ℕ) → result ≡ Status.Choose cell
+            → value_in self.old.table.entries cell ≡ None }
+    {
+        match fullness(&self.setup, &self.trail) {
+            Filled::Open(cell) => Status::Choose(cell),
+            Filled::Amiss => Status::Refuted,
+            Filled::Full => {
+                if are_true(&self.setup, &self.trail, &mut self.env) {
+                    Status::Settled
+                } else {
+                    Status::Refuted
+                }
+            }
+        }
+    }
+}
+
+// So many zeros.
+fn zeros(alloc: Global, many: usize) -> Result<Vec<u32>, AllocError>
+    ensures { IfOk result (λ v. v.items ≡ replicate many 0) }
+{
+    let zeros = vec![in alloc; 0; many]?;
+    Ok(zeros)
+}
+
+// The least value of a cell, from one on, that isn't crossed off.
+fn least(trail: &Trail, cell: u32, from: u32, most: u8) -> Option<u8>
+    requires { cell < trail.now.many }
+    ensures { IsLeast trail.now cell from most result }
+{
+    let stride = trail.stride();
+    for value in from..u32::from(most) + 1 {
+        let value = value as u8;
+        if usize::from(value) >= stride || !trail.is_crossed(cell, value) {
+            return Some(value);
+        }
+    }
+    None
+}
+
+impl<'a> Board for Cells<'a> {
+    ghost use Rattle.cell_search.specs.Finites.{meaning_by_cells};
+    ghost use Rattle.cell_search.specs.Sound.{decided_in};
+    ghost use Rattle.mace_cells.specs.Trails.{value_in};
+    ghost use Rattle.std.specs.Prelude.{◌≡◌, None};
+
+    ghost world = { λ b. b.world };
+
+    ghost decided = { λ b. decided_in b.world b.table.entries };
+
+    ghost found = { λ b. meaning_by_cells b.world b.table.entries };
+
+    ghost is_open = { λ b k. value_in b.table.entries k ≡ None };
+
+    fn status(&mut self) -> Status {
+        if !self.start() {
+            return Status::Refuted;
+        }
+        if !self.go_on() {
+            return Status::Refuted;
+        }
+        self.ends()
+    }
+
+    fn most(&self, cell: u32) -> u8 {
+        (self.setup.bound(cell) - 1) as u8
+    }
+
+    fn next_value(&self, cell: u32, from: u32, most: u8) -> Option<u8> {
+        least(&self.trail, cell, from, most)
+    }
+
+    fn decide(&mut self, cell: u32, value: u8) {
+        self.trail.assign(cell, value, true);
+    }
+
+    fn undo(&mut self) {
+        self.trail.undo();
+        self.head = self.trail.len();
+    }
+}

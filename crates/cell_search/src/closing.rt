@@ -1,0 +1,110 @@
+// Values that are given to cells, or crossed off them, since clauses ask for it.
+ghost use Rattle.std.specs.Prelude.{◌≡◌, ◌<◌, ◌≤◌, ◌^◌, true, false, None};
+ghost use Rattle.cell_search.specs.Asking.{IsDue, IsOnly, IsNone, IsRest};
+ghost use Rattle.cell_search.specs.Sound.{IsBoard, decided_in};
+ghost use Rattle.mace_cells.specs.Trails.{value_in};
+ghost use Rattle.mace_cells.specs.World.{cell_of, many_cells, IsRefuted};
+ghost use Rattle.model_tables.specs.Size.{bound_of};
+
+use crate::asks::Ask;
+use crate::setup::Setup;
+use mace_cells::Trail;
+
+/// What values a cell has left.
+#[derive(Clone, Copy, Debug)]
+pub enum Rest {
+    Nothing,
+    One(u32),
+    Several,
+}
+
+// What values below `end` a cell has left.
+fn left(trail: &Trail, cell: u32, end: u32) -> Rest
+    requires cell { cell < trail.now.many }
+    requires end { end ≤ trail.now.stride }
+    requires byte { end < 2 ^ 8 }
+    ensures { IsRest trail.now cell end result }
+{
+    let mut only = None;
+    for value in 0..end {
+        if !trail.is_crossed(cell, value as u8) {
+            if only.is_some() {
+                return Rest::Several;
+            }
+            only = Some(value);
+        }
+    }
+    match only {
+        None => Rest::Nothing,
+        Some(value) => Rest::One(value),
+    }
+}
+
+// Gives a cell the one value that it can have; false where it can't have that one either.
+fn settle(setup: &Setup, trail: &mut Trail, cell: u32, value: u32) -> bool
+    requires board { IsBoard setup.now trail.old }
+    requires cell { cell < many_cells setup.now }
+    requires blank { value_in trail.old.entries cell ≡ None }
+    requires only { IsOnly setup.now trail.old.entries cell value }
+    ensures board { IsBoard setup.now trail.new }
+    ensures decided { decided_in setup.now trail.new.entries
+        ≡ decided_in setup.now trail.old.entries }
+    ensures refuted { result ≡ false
+        → IsRefuted setup.now (decided_in setup.now trail.old.entries) }
+{
+    if value >= setup.bound(cell) {
+        return false;
+    }
+    let value = value as u8;
+    if trail.is_crossed(cell, value) {
+        return false;
+    }
+    trail.assign(cell, value, false);
+    true
+}
+
+// Crosses a value that it can't have off a cell, which gets the value that is left where there is only one; false where none is.
+fn strike(setup: &Setup, trail: &mut Trail, cell: u32, value: u32) -> bool
+    requires board { IsBoard setup.now trail.old }
+    requires cell { cell < many_cells setup.now }
+    requires blank { value_in trail.old.entries cell ≡ None }
+    requires none { IsNone setup.now trail.old.entries cell value }
+    ensures board { IsBoard setup.now trail.new }
+    ensures decided { decided_in setup.now trail.new.entries
+        ≡ decided_in setup.now trail.old.entries }
+    ensures refuted { result ≡ false
+        → IsRefuted setup.now (decided_in setup.now trail.old.entries) }
+{
+    let end = setup.bound(cell);
+    if value >= end {
+        return true;
+    }
+    let value = value as u8;
+    if trail.is_crossed(cell, value) {
+        return true;
+    }
+    trail.cross(cell, value);
+    match left(trail, cell, end) {
+        Rest::Nothing => false,
+        Rest::One(value) => settle(setup, trail, cell, value),
+        Rest::Several => true,
+    }
+}
+
+/// Does what is asked; false where no solution can.
+pub fn obey(setup: &Setup, trail: &mut Trail, ask: Ask) -> bool
+    requires board { IsBoard setup.now trail.old }
+    requires cell { ask.cell < many_cells setup.now }
+    requires due { IsDue setup.now trail.old.entries ask }
+    ensures board { IsBoard setup.now trail.new }
+    ensures decided { decided_in setup.now trail.new.entries
+        ≡ decided_in setup.now trail.old.entries }
+    ensures refuted { result ≡ false
+        → IsRefuted setup.now (decided_in setup.now trail.old.entries) }
+{
+    match trail.value(ask.cell) {
+        Some(value) => (u32::from(value) == ask.value) == ask.positive,
+        None if ask.positive => settle(setup, trail, ask.cell, ask.value),
+        None => strike(setup, trail, ask.cell, ask.value),
+    }
+}

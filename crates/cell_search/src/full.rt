@@ -1,0 +1,125 @@
+// Tables that give each cell a value, and whether they make the clauses true.
+ghost use Rattle.std.specs.Prelude.{◌≡◌, ◌<◌, ◌≤◌, ℕ, IfOk, IsTrue, MatchBool, length, map};
+ghost use Rattle.cell_search.specs.Full.{IsFull, IsFilledAs, NoneIsTrue, IsDueClause, IsTrueFrom, HasNoSolution, MakesTrue, HaveVariables};
+ghost use Rattle.cell_search.specs.Searchable.{HasAllCells};
+ghost use Rattle.cell_search.specs.Sound.{IsBoard, Extends};
+ghost use Rattle.fol_core.specs.ClauseView.{literal_of};
+ghost use Rattle.fol_core.specs.Literals.{is_true_clause};
+ghost use Rattle.fol_core.specs.Meaning.{Meaning};
+ghost use Rattle.mace_cells.specs.World.{many_cells};
+ghost use Rattle.mace_ground.specs.Instances.{assigned_by, variables_in};
+ghost use Rattle.model_tables.specs.Size.{AllBelow};
+
+use crate::literals::truth;
+use crate::setup::Setup;
+use fol_core::Literal;
+use mace_cells::Trail;
+use mace_ground::variables_in;
+use std::alloc::AllocError;
+
+/// A cell has no value, or one has a value that it can't have, or neither.
+#[derive(Clone, Copy, Debug)]
+pub enum Filled {
+    Open(u32),
+    Amiss,
+    Full,
+}
+
+/// Whether each cell has a value that it can have; else the first that hasn't.
+pub fn fullness(setup: &Setup, trail: &Trail) -> Filled
+    requires { IsBoard setup.now trail.now }
+    ensures { IsFilledAs setup.now trail.now.entries result }
+{
+    for cell in 0..setup.cells() {
+        let Some(value) = trail.value(cell) else {
+            return Filled::Open(cell);
+        };
+        if u32::from(value) >= setup.bound(cell) {
+            return Filled::Amiss;
+        }
+    }
+    Filled::Full
+}
+
+// Whether a literal is known to be true.
+fn some_true(setup: &Setup, trail: &Trail, literals: &[Literal], env: &[u32]) -> bool
+    requires { trail.now.many ≡ many_cells setup.now }
+    ensures { MatchBool result ((m : Meaning) → Extends setup.now m trail.now.entries
+        → IsTrue (is_true_clause m (assigned_by env.now) (map literal_of literals.now)))
+        (NoneIsTrue setup.now trail.now.entries (assigned_by env.now)
+        (map literal_of literals.now)) }
+{
+    for literal in literals {
+        if let Some(true) = truth(setup, trail, literal, env) {
+            return true;
+        }
+    }
+    false
+}
+
+// Whether a clause is true whatever elements its variables from `at` on have.
+fn holds(
+    setup: &Setup,
+    trail: &Trail,
+    literals: &[Literal],
+    env: &mut [u32],
+    at: usize,
+    many: usize,
+) -> bool
+    requires board { IsBoard setup.now trail.now }
+    requires full { IsFull setup.now trail.now.entries }
+    requires clause { IsDueClause setup.now (map literal_of literals.now) }
+    requires many { many ≡ variables_in (map literal_of literals.now) }
+    requires room { many ≤ length env.old }
+    requires env { AllBelow setup.now.size env.old }
+    ensures env { AllBelow setup.now.size env.new }
+    ensures same { (x : ℕ) → x < at → assigned_by env.new x ≡ assigned_by env.old x }
+    ensures truth { MatchBool result (IsTrueFrom setup.now trail.now.entries
+        (map literal_of literals.now) (assigned_by env.old) at)
+        (HasNoSolution setup.now trail.now.entries) }
+{
+    if at >= many {
+        return some_true(setup, trail, literals, env);
+    }
+    for element in 0..setup.size() {
+        env[at] = element;
+        if !holds(setup, trail, literals, env, at + 1, many) {
+            return false;
+        }
+    }
+    true
+}
+
+/// Whether a table that gives each cell a value makes the clauses true; else no solution has its values.
+pub fn are_true(setup: &Setup, trail: &Trail, env: &mut [u32]) -> bool
+    requires board { IsBoard setup.now trail.now }
+    requires full { IsFull setup.now trail.now.entries }
+    requires proper { HasAllCells setup.now }
+    requires room { HaveVariables setup.now.clauses (length env.old) }
+    requires env { AllBelow setup.now.size env.old }
+    ensures env { AllBelow setup.now.size env.new }
+    ensures truth { MatchBool result (MakesTrue setup.now trail.now.entries setup.now.clauses)
+        (HasNoSolution setup.now trail.now.entries) }
+{
+    for (_, clause) in setup.clauses() {
+        let many = variables_in(clause) as usize;
+        if !holds(setup, trail, clause.as_slice(), env, 0, many) {
+            return false;
+        }
+    }
+    true
+}
+
+/// For how many variables there has to be room.
+pub fn room(setup: &Setup) -> Result<usize, AllocError>
+    ensures { IfOk result (λ n. HaveVariables setup.now.clauses n) }
+{
+    let mut room = 0;
+    for (_, clause) in setup.clauses() {
+        room = variables_in(clause).max(room);
+    }
+    match usize::try_from(room) {
+        Ok(room) => Ok(room),
+        Err(_) => Err(AllocError),
+    }
+}

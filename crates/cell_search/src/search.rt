@@ -1,0 +1,172 @@
+// The search for the models of a size, cell by cell.
+ghost use Rattle.std.specs.Prelude.{◌≡◌, ℕ, ◌≤◌, [], true, false, None, Some, IfOk};
+ghost use Rattle.cell_search.specs.Courses.{world_of, above_numeral, IsSameCourse, AnswersByCells, follows_after};
+ghost use Rattle.cell_search.specs.Finites.{finite_of};
+ghost use Rattle.cell_search.specs.Searchable.{HasAllCells};
+ghost use Rattle.mace_ground.specs.Count.{ground_count};
+ghost use Rattle.mace_search.specs.Watch.{IsEarly, KeepsFirst};
+ghost use Rattle.mace_search.specs.declared.answer.Answer.TheVariants.{Exhausted, MaxSeconds};
+
+use crate::cells::Cells;
+use crate::setup::Setup;
+use crate::walks::{groups, walks};
+use fol_core::{Clauses, Symbols};
+use ladr_io::Clock;
+use mace_cells::{Board, Frame, Stack, next_model};
+use mace_ground::Ground;
+use mace_search::Answer;
+use model_tables::Tables;
+use std::alloc::{AllocError, Global};
+use std::marker::Model;
+
+// The decisions are being followed; a model was found; nothing is left; or the time is over.
+#[derive(Clone, Copy, Debug)]
+enum State {
+    Following,
+    Found,
+    Exhausted,
+    Late(u64),
+}
+
+// The state after an answer, so many choices standing.
+fn follows_after(answer: Answer, choices: usize) -> State
+    ensures { result ≡ follows_after answer choices }
+{
+    match answer {
+        Answer::Model if choices == 0 => State::Exhausted,
+        Answer::Model => State::Found,
+        Answer::Exhausted => State::Exhausted,
+        Answer::MaxSeconds(last) => State::Late(last),
+    }
+}
+
+// The least number above a problem's numerals.
+fn above_numeral(numeral: Option<u32>) -> u64
+    ensures { result ≡ above_numeral numeral }
+{
+    match numeral {
+        None => 0,
+        Some(k) => u64::from(k) + 1,
+    }
+}
+
+/// A search for the models of a size; contracts see its course.
+#[derive(Drop)]
+pub struct Search<'a> {
+    cells: Cells<'a>,
+    frames: Stack<Frame>,
+    stop: Option<u128>,
+    state: State,
+}
+
+impl<'a> Model for Search<'a> {
+    ghost use Rattle.cell_search.specs.Courses.{Course, live_in, late_in, IsStateOf};
+    ghost use Rattle.cell_search.specs.Finites.{finite_of};
+    ghost use Rattle.cell_search.specs.SearchCodes.{coded_course};
+    ghost use Rattle.cell_search.specs.Sound.{decided_in};
+    ghost use Rattle.mace_cells.specs.Leaves.{choices_of};
+    ghost use Rattle.mace_cells.specs.Standing.{IsStanding};
+
+    ghost Value = { Course };
+
+    ghost coded = { coded_course };
+
+    ghost view = { λ a. record {
+      world = a.cells.world;
+      live = live_in a.state;
+      choices = choices_of a.cells.world a.frames.list;
+      tables = finite_of a.cells.world a.cells.table.entries;
+      stop = a.stop;
+      late = late_in a.state;
+    } };
+
+    ghost invariant = { λ a. record {
+      standing : IsStanding a.cells.world (decided_in a.cells.world a.cells.table.entries) a.frames;
+      state : IsStateOf a.state a.frames.list;
+    } };
+}
+
+impl<'a> Search<'a> {
+    /// A search for models of `size` elements, at most 255, which stops at a reading of the clock from `stop` on. All tables are
+    /// ahead. It takes all the memory that it will need.
+    pub fn new(
+        alloc: Global,
+        clauses: &'a Clauses,
+        symbols: &Symbols,
+        size: u32,
+        stop: Option<u128>,
+    ) -> Result<Search<'a>, AllocError>
+        requires size { size ≤ 255 }
+        requires count { ground_count size symbols.now clauses.now ≤ 50000000 }
+        requires searchable { HasAllCells (world_of symbols.now clauses.now size) }
+        ensures { IfOk result (λ s. s ≡ record {
+          world = world_of symbols.now clauses.now size;
+          live = true;
+          choices = [];
+          tables = finite_of (world_of symbols.now clauses.now size) [];
+          stop = stop;
+          late = None;
+        }) }
+    {
+        let ground = Ground::build(alloc, clauses, symbols, size)?;
+        let setup = Setup::new(alloc, ground, above_numeral(clauses.numeral))?;
+        let blank = Frame {
+            cell: 0,
+            value: 0,
+            most: 0,
+        };
+        let frames = Stack::new(alloc, setup.cells() as usize, blank)?;
+        let groups = groups(alloc, &setup, &clauses.clauses)?;
+        let walks = walks(alloc, &clauses.clauses)?;
+        let cells = Cells::new(alloc, setup, walks, groups)?;
+        Ok(Search {
+            cells,
+            frames,
+            stop,
+            state: State::Following,
+        })
+    }
+
+    /// The model, where the last answer was that there is one.
+    pub fn tables(&self, alloc: Global) -> Result<Tables, AllocError>
+        ensures { IfOk result (λ t. t ≡ self.now.tables) }
+    {
+        self.cells.tables(alloc)
+    }
+
+    /// Goes on to the next model. It takes no memory.
+    pub fn next_model<C: Clock>(&mut self, clock: &mut C) -> Answer
+        requires { self.old.late ≡ None → IsEarly self.old.stop (C.times clock.old) }
+        ensures same { IsSameCourse self.old self.new }
+        ensures clock { self.old.late ≡ None
+            → KeepsFirst self.old.stop (C.times clock.old) (C.times clock.new) }
+        ensures gives { self.old.late ≡ None → AnswersByCells self.old self.new result (C.times clock.new) }
+        // An answer that ends the search comes again, with no reading.
+        ensures over { self.old.late ≡ None → self.old.live ≡ false → self.old.choices ≡ []
+            → (result ≡ Exhausted) × (self.new ≡ self.old) × (C.times clock.new
+            ≡ C.times clock.old) }
+        ensures again { (last : ℕ) → self.old.late ≡ Some last → (result ≡ MaxSeconds last)
+            × (self.new ≡ self.old) × (C.times clock.new ≡ C.times clock.old) }
+    {
+        match self.state {
+            State::Following => self.go(true, clock),
+            State::Found => self.go(false, clock),
+            State::Exhausted => Answer::Exhausted,
+            State::Late(last) => Answer::MaxSeconds(last),
+        }
+    }
+
+    // Goes on where more may be ahead.
+    fn go<C: Clock>(&mut self, live: bool, clock: &mut C) -> Answer
+        requires live { self.old.live ≡ live }
+        requires late { self.old.late ≡ None }
+        requires early { IsEarly self.old.stop (C.times clock.old) }
+        ensures same { IsSameCourse self.old self.new }
+        ensures clock { KeepsFirst self.old.stop (C.times clock.old) (C.times clock.new) }
+        ensures gives { AnswersByCells self.old self.new result (C.times clock.new) }
+    {
+        let answer = next_model(&mut self.cells, &mut self.frames, live, self.stop, clock);
+        self.state = follows_after(answer, self.frames.len());
+        answer
+    }
+}

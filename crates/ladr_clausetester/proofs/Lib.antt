@@ -1,0 +1,2 @@
+mod Testings
+mod Told

@@ -1,0 +1,18 @@
+use Rattle.std.proofs.Common.{◌≡◌, [], refl, subst, sym}
+use Rattle.ladr_clausetester.specs.Report.{report}
+use Rattle.ladr_clausetester.specs.Testing.{IsTested}
+use Rattle.ladr_clausetester.specs.declared.testing.Tested.TheVariants.{All}
+use Rattle.ladr_intake.specs.Posed.{interpreted_by}
+use Rattle.ladr_clausetester.specs.Verdicts.{AreTrueAsTold}
+use Rattle.ladr_io.proofs.StreamLaws.{Takes-none}
+use Rattle.ladr_output.proofs.Tellings.{ended_by}
+use Rattle.model_tables.specs.Tables.{meaning_of}
+use Rattle.ladr_clausetester.proofs.testing.test.Goals as goal
+
+pub returns-in-Err : goal.returns-in-Err
+returns-in-Err g c = λ it e. ([], refl, Takes-none _)
+
+pub returns : goal.returns
+returns g c = λ it e.
+    let all = c.deref.result.now in
+    ended_by (λ text. text ≡ []) (IsTested (interpreted_by c.args.read.now it)) All (report all) _ _ c.ending.result refl (all, subst (AreTrueAsTold (meaning_of (interpreted_by c.args.read.now it).tables) (interpreted_by c.args.read.now it).stated.formulas) (sym c.deref.ensures.value) (c.in-Ok.ensures it e), refl) (c.ending.ensures.printed (report all) c.report.ensures)

@@ -1,0 +1,4 @@
+pub mod Report
+pub mod Testing
+pub mod Verdicts
+pub mod Worked

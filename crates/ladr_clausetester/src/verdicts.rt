@@ -1,0 +1,58 @@
+// The truth of the formulas of an input.
+ghost use Rattle.std.specs.Prelude.{◌≡◌, IfOk, IsTrue, MatchBool, Some, is_some};
+ghost use Rattle.fol_core.specs.FormulaView.{fol_of};
+ghost use Rattle.fol_core.specs.Stated.{IsTrueIn, all_said, stated_of};
+ghost use Rattle.ladr_clausetester.specs.Verdicts.{AreTrueAsTold};
+ghost use Rattle.ladr_commands.specs.ByName.{ByName};
+ghost use Rattle.ladr_interpretations.specs.Good.{tables_for};
+ghost use Rattle.model_tables.specs.Tables.{meaning_of};
+
+use fol_core::{Formula, Input, free_vars};
+use ladr_interpretations::bind;
+use ladr_problem::FileRead;
+use model_tables::{Env, Tables, closure_truth, reserve_closure};
+use std::alloc::{AllocError, Global};
+
+// Whether the closure of a formula is true in the tables.
+fn holds(
+    alloc: Global,
+    tables: &Tables,
+    formula: &Formula,
+    env: &mut Env,
+) -> Result<bool, AllocError>
+    ensures { IfOk result (λ b. MatchBool b (IsTrueIn (meaning_of tables.now)
+        (fol_of formula.now.shape)) (¬ IsTrueIn (meaning_of tables.now)
+        (fol_of formula.now.shape))) }
+{
+    let variables = free_vars(alloc, formula)?;
+    reserve_closure(env, formula, &variables)?;
+    Ok(closure_truth(tables, formula, &variables, env))
+}
+
+// Whether the closure of each formula is true in the tables.
+fn hold(alloc: Global, tables: &Tables, inputs: &[Input]) -> Result<Vec<bool>, AllocError>
+    ensures { IfOk result (λ all. AreTrueAsTold (meaning_of tables.now)
+        (all_said inputs.now) all.items) }
+{
+    let mut env = Env::new(alloc);
+    let mut all = Vec::new(alloc);
+    for input in inputs {
+        match holds(alloc, tables, &input.formula, &mut env) {
+            Ok(true_now) => all.push(true_now)?,
+            Err(error) => return Err(error),
+        }
+    }
+    Ok(all)
+}
+
+/// Whether each formula of an input is true in its interpretation.
+pub fn verdicts(alloc: Global, read: &FileRead) -> Result<Vec<bool>, AllocError>
+    requires { IsTrue (is_some read.now.interpretation) }
+    ensures { IfOk result (λ all. (it : ByName) → read.now.interpretation ≡ Some it
+        → AreTrueAsTold (meaning_of (tables_for it read.now.problem.symbols))
+        (stated_of read.now.problem).formulas all.items) }
+{
+    let named = read.interpretation.as_ref().unwrap();
+    let tables = bind(alloc, named, &read.problem.symbols)?;
+    hold(alloc, &tables, &read.problem.inputs)
+}

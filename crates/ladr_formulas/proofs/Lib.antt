@@ -1,0 +1,11 @@
+pub mod Behind
+pub mod ClauseLemmas
+pub mod FormulaLemmas
+pub mod Growing
+pub mod NoElements
+pub mod NumberingLemmas
+pub mod OwnFormulas
+pub mod OwnTerms
+pub mod OwnVariables
+pub mod ScopeLemmas
+pub mod TermLemmas

@@ -1,0 +1,23 @@
+use Rattle.std.proofs.Common.{◌≡◌, List, [], ap, ◌∙◌}
+use Rattle.fol_core.specs.Fol.{Fol}
+use Rattle.fol_core.specs.RawView.{raw_list}
+use Rattle.ladr_reader.specs.Capped.{disjuncts}
+use Rattle.ladr_formulas.specs.Formulas.{Reading, Made, formula_in, names_of}
+use Rattle.ladr_formulas.specs.Literals.{formulas_in, clause_from}
+use Rattle.ladr_formulas.proofs.ClauseLemmas.{reads}
+use Rattle.ladr_formulas.proofs.clauses.whole_clause.Goals as goal
+
+pub returns-clause-read : goal.returns-clause-read
+returns-clause-read c = λ t parts none.
+    let st = c.args.style in
+    let s = c.args.reader.now.reading in
+    let is = reads st s t in
+    let all : formulas_in st c.args.reader.now.scope s (raw_list c.args.literals.now) ≡ formulas_in st [] s (disjuncts t) = λ i. formulas_in st (none i) s (parts i) in
+    let reading : c.clause.new.reader.reading ≡ (formula_in st [] s t).reading = c.in_ok-clause.ensures.reading ∙ ap (λ (m : Made (List Fol)). m.reading) all ∙ is.reading in
+    record {
+      clause = c.in_ok-clause.ensures.clause ∙ ap (λ (m : Made (List Fol)). clause_from m.tree) all ∙ is.clause;
+      named = c.in_ok-names.ensures ∙ ap (λ (r : Reading). names_of r.variables) reading;
+      least = c.least.ensures ∙ ap (λ (r : Reading). r.least) reading;
+      large = c.is_large.ensures ∙ ap (λ (r : Reading). r.large) reading;
+      symbols = ap (λ (r : Reading). r.symbols) reading;
+    }

@@ -1,0 +1,174 @@
+// From literals as they are read to a clause.
+ghost use Rattle.std.specs.Prelude.{◌≡◌, [], Some, IfOk, OnOk};
+ghost use Rattle.std.specs.Option.{option_map};
+ghost use Rattle.fol_core.specs.ClauseView.{literal_of};
+ghost use Rattle.fol_core.specs.FormulaView.{fol_of};
+ghost use Rattle.fol_core.specs.RawTree.{RawTree};
+ghost use Rattle.fol_core.specs.RawView.{raw_list};
+ghost use Rattle.fol_core.specs.SymbolTable.{KeepsNumbers};
+ghost use Rattle.ladr_reader.specs.Capped.{disjuncts};
+ghost use Rattle.ladr_formulas.specs.ClauseIn.{atom_in, literal_in};
+ghost use Rattle.ladr_formulas.specs.Formulas.{formula_in, formula_reading, style_of};
+ghost use Rattle.ladr_formulas.specs.Literals.{formulas_in, all_literals, clause_from, with_literal, IsClauseRead};
+
+use crate::formulas::formula;
+use crate::reader::Reader;
+use crate::styles::{Mode, Style, style_of};
+use fol_core::{Clause, EQ, Literal, Names, Raw, Shape, Symbols, Term, Terms};
+use ladr_lex::Misuse;
+use std::alloc::{AllocError, Global};
+use std::mem;
+
+/// A clause as it is read, whatever it breaks: the clause, if the literals are one, the names of its variables, the least row of
+/// misuse that was met, and whether an arity is too large.
+#[derive(Drop)]
+pub struct ClauseRead {
+    pub clause: Option<Clause>,
+    pub names: Names,
+    pub least: Option<Misuse>,
+    pub large: bool,
+}
+
+/// The clause that the disjuncts of a term are, read behind formulas with these symbols, with one numbering of variables; its
+/// symbols are entered.
+pub fn clause_of(
+    alloc: Global,
+    literals: &[Raw],
+    symbols: &mut Symbols,
+    mode: Mode,
+    prolog: bool,
+) -> Result<ClauseRead, AllocError>
+    // It is the clause of the term's formula.
+    ensures read { IfOk result (λ r. (t : RawTree) → raw_list literals.now ≡ disjuncts t →
+        IsClauseRead (formula_reading (style_of mode prolog) symbols.old t) r symbols.new) }
+    // Whatever the answer, the old symbols keep their numbers.
+    ensures kept { KeepsNumbers symbols.old symbols.new }
+{
+    let table = mem::replace(symbols, Symbols::new(alloc));
+    let mut reader = Reader::new(alloc, table);
+    let answer = whole_clause(alloc, literals, style_of(mode, prolog), &mut reader);
+    *symbols = reader.into_symbols();
+    answer
+}
+
+// The clause of literals with what it breaks.
+fn whole_clause(
+    alloc: Global,
+    literals: &[Raw],
+    style: Style,
+    reader: &mut Reader,
+) -> Result<ClauseRead, AllocError>
+    ensures read { IfOk result (λ r. (t : RawTree) → raw_list literals.now ≡ disjuncts t
+        → reader.old.scope ≡ [] →
+        IsClauseRead (formula_in style [] reader.old.reading t) r reader.new.reading.symbols) }
+    ensures kept { KeepsNumbers reader.old.reading.symbols reader.new.reading.symbols }
+{
+    let clause = clause(alloc, literals, style, reader)?;
+    let names = reader.names(alloc)?;
+    Ok(ClauseRead {
+        clause,
+        names,
+        least: reader.least(),
+        large: reader.is_large(),
+    })
+}
+
+// The clause of literals.
+fn clause(
+    alloc: Global,
+    literals: &[Raw],
+    style: Style,
+    reader: &mut Reader,
+) -> Result<Option<Clause>, AllocError>
+    ensures clause { IfOk result (λ c. c ≡ clause_from
+        (formulas_in style reader.old.scope reader.old.reading (raw_list literals.now)).tree) }
+    ensures reading { OnOk result (reader.new.reading
+        ≡ (formulas_in style reader.old.scope reader.old.reading (raw_list literals.now)).reading) }
+    ensures kept { KeepsNumbers reader.old.reading.symbols reader.new.reading.symbols }
+{
+    match literals {
+        [] => Ok(Some(Clause::new(alloc))),
+        [only] => {
+            let shape = formula(alloc, only, style, reader)?;
+            let clause = Some(Clause::new(alloc));
+            if matches!(shape, Shape::False) {
+                return Ok(clause);
+            }
+            with_literal(alloc, clause, shape)
+        }
+        [_, _, ..] => all_literals(alloc, literals, style, reader),
+    }
+}
+
+// The clause of literals, none of which is `$F`.
+fn all_literals(
+    alloc: Global,
+    literals: &[Raw],
+    style: Style,
+    reader: &mut Reader,
+) -> Result<Option<Clause>, AllocError>
+    ensures clause { IfOk result (λ c. c ≡ all_literals
+        (formulas_in style reader.old.scope reader.old.reading (raw_list literals.now)).tree) }
+    ensures reading { OnOk result (reader.new.reading
+        ≡ (formulas_in style reader.old.scope reader.old.reading (raw_list literals.now)).reading) }
+    ensures kept { KeepsNumbers reader.old.reading.symbols reader.new.reading.symbols }
+{
+    let mut clause = Some(Clause::new(alloc));
+    for literal in literals {
+        let shape = formula(alloc, literal, style, reader)?;
+        clause = with_literal(alloc, clause, shape)?;
+    }
+    Ok(clause)
+}
+
+// The clause with one more literal, if both are there.
+fn with_literal(
+    alloc: Global,
+    clause: Option<Clause>,
+    shape: Shape,
+) -> Result<Option<Clause>, AllocError>
+    ensures { IfOk result (λ c. c ≡ with_literal clause (literal_in (fol_of shape))) }
+{
+    let Some(mut clause) = clause else {
+        return Ok(None);
+    };
+    match literal_in(alloc, shape)? {
+        Some(literal) => {
+            clause.push(literal)?;
+            Ok(Some(clause))
+        }
+        None => Ok(None),
+    }
+}
+
+// The literal that a formula is, if it is one.
+fn literal_in(alloc: Global, shape: Shape) -> Result<Option<Literal>, AllocError>
+    ensures { IfOk result (λ l. option_map literal_of l ≡ literal_in (fol_of shape)) }
+{
+    match shape {
+        Shape::Not(part) => atom_in(alloc, false, part.into_shape()),
+        other => atom_in(alloc, true, other),
+    }
+}
+
+// The literal of an atom, if it is one.
+fn atom_in(alloc: Global, positive: bool, shape: Shape) -> Result<Option<Literal>, AllocError>
+    ensures { IfOk result (λ l. option_map literal_of l ≡ atom_in positive (fol_of shape)) }
+{
+    match shape {
+        Shape::Atom(s, terms) => Ok(Some(Literal {
+            positive,
+            atom: Term::App(s, terms),
+        })),
+        Shape::Eq(left, right) => {
+            let mut sides = Terms::new(alloc);
+            sides.push(left)?;
+            sides.push(right)?;
+            Ok(Some(Literal {
+                positive,
+                atom: Term::App(EQ, sides),
+            }))
+        }
+        _ => Ok(None),
+    }
+}

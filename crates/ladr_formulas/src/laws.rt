@@ -1,0 +1,33 @@
+// Laws of the definitions.
+ghost use Rattle.std.specs.Prelude.{◌≡◌, ℕ, Bool, true, false, List, []};
+ghost use Rattle.fol_core.specs.Occurs.{names, names_in_any};
+ghost use Rattle.fol_core.specs.RawTree.{RawTree, RawTrees};
+ghost use Rattle.fol_core.specs.SymbolTable.{Symbol, KeepsNumbers};
+ghost use Rattle.ladr_lex.specs.Cuts.{is_quoted};
+ghost use Rattle.ladr_formulas.specs.Formulas.{Style, is_free_name, formula_reading, terms_of, unread, style_of};
+
+use crate::styles::Mode;
+
+/// A quoted symbol is no free variable.
+pub fn quoted_names()
+    ensures { (st : Style) (text : List ℕ) → is_quoted text ≡ true → is_free_name st text ≡ false }
+{}
+
+/// What a term is read as behind a table it is read as behind a larger one, which then stays as it is: behind one that has all
+/// that was entered, with more symbols at its end.
+pub fn larger_tables()
+    ensures { (st : Style) (table larger : List Symbol) (t : RawTree) →
+        KeepsNumbers (formula_reading st table t).reading.symbols larger →
+        formula_reading st larger t ≡ record {
+          tree = (formula_reading st table t).tree;
+          reading = record (formula_reading st table t).reading { symbols = larger };
+        } }
+{}
+
+/// What is read for the prover names no element.
+pub fn prover_names_no_element()
+    ensures formulas { (prolog : Bool) (table : List Symbol) (t : RawTree) (k : ℕ) →
+        names k (formula_reading (style_of Mode.Prover prolog) table t).tree ≡ false }
+    ensures terms { (prolog : Bool) (table : List Symbol) (ts : RawTrees) (k : ℕ) →
+        names_in_any k (terms_of (style_of Mode.Prover prolog) [] (unread table) ts).tree ≡ false }
+{}

@@ -1,0 +1,22 @@
+// From terms as they are read to formulas and clauses.
+#![tactic(auto)]
+
+mod arguments;
+mod clauses;
+mod connectives;
+mod examples;
+mod formulas;
+mod laws;
+mod numbering;
+mod reader;
+mod scopes;
+mod styles;
+
+pub use arguments::{TermsRead, terms_of};
+pub use clauses::{ClauseRead, clause_of};
+pub use examples::{worked_formulas, worked_refusals};
+pub use formulas::{FormulaRead, is_too_great, read_formula};
+pub use laws::{larger_tables, prover_names_no_element, quoted_names};
+pub use numbering::Variables;
+pub use reader::is_free_name;
+pub use styles::{Mode, Style, style_of};

@@ -1,0 +1,79 @@
+-- What a run of a command amounts to, by what its parts tell.
+use Rattle.std.proofs.Common.{◌≡◌, ◌≢◌, ℕ, List, [], Result, Ok, Err, inl, inr, refl, sym, subst}
+use Rattle.ladr_intake.specs.Command.{End, own, refused, read_fault, end_of, stop_of, MayStand, EndsBy, Runs}
+use Rattle.ladr_intake.specs.Input.{AreTaken, IsAllRead}
+use Rattle.ladr_intake.specs.Refusals.{IsRefused, IsNoInput, IsToldBy, no_input_text}
+use Rattle.ladr_intake.specs.declared.stops.NoInput.{NoInput}
+use Rattle.ladr_intake.specs.declared.stops.NoInput.TheVariants as none
+use Rattle.ladr_intake.specs.declared.stops.Refused.{Refused}
+use Rattle.ladr_intake.specs.declared.stops.Stop.{Stop}
+use Rattle.ladr_intake.specs.declared.stops.Stop.TheVariants as stops
+use Rattle.ladr_io.specs.Streams.{Inflow, Outflow, Gives, TakesFront}
+use Rattle.ladr_output.specs.Telling.{IsPiece, Tells}
+use Rattle.ladr_output.specs.declared.cut.Cut.{Cut}
+use Rattle.ladr_output.specs.declared.cut.Cut.TheVariants.{WriteFault, Memory}
+
+-- what is read is taken
+pub read_taken : (a b : Inflow) (bytes : List ℕ) → IsAllRead a b bytes → AreTaken a b bytes
+read_taken a b bytes h = inl h.0.gives
+
+no_input_taken : (refuses : List ℕ → Refused → Type 0) (a b : Inflow) (bytes : List ℕ) (why : NoInput) → IsNoInput refuses a b bytes why → AreTaken a b bytes
+no_input_taken refuses a b bytes (none.Refused why) (inl h) = read_taken a b bytes h.0
+no_input_taken refuses a b bytes (none.Refused why) (inr h) = inl h.0.0
+no_input_taken refuses a b bytes none.ReadFault h = inr h.0
+no_input_taken refuses a b bytes none.Memory h = h
+
+-- a line that cut the output off
+pub told_cut : (T : Type 0) (why : NoInput) (text : List ℕ) (a b : Outflow) (cut : Cut) (stop : Stop) → why ≢ none.Memory → no_input_text why ≡ text → stop ≡ stop_of cut → IsPiece {T = T} text a b (Err cut) → IsToldBy why a b stop
+told_cut T why text a b WriteFault stop some e is h = subst (IsToldBy why a b) (sym is) (some, subst (TakesFront a b) (sym e) h)
+told_cut T why text a b Memory stop some e is h = subst (IsToldBy why a b) (sym is) h
+
+-- the same end, or the same cause
+abbrev pub IsHandedOn : {E : Type 0} → Result E Cut → Result E Stop → Type 0
+IsHandedOn (Ok e) (Ok f) = e ≡ f
+IsHandedOn (Err cut) (Err stop) = stop ≡ stop_of cut
+IsHandedOn (Ok e) (Err stop) = ⊥
+IsHandedOn (Err cut) (Ok e) = ⊥
+
+module _ {A E : Type 0} (says : List ℕ → A → Type 0) (refuses : List ℕ → Refused → Type 0) (idle : Type 0) (goes : A → List ℕ → Type 0) (ends : A → E → List ℕ → Type 0) (a b : Inflow) (bytes : List ℕ) where
+  abbrev Goes : List ℕ → Type 0
+  Goes = MayStand says refuses idle goes ends a b bytes
+
+  abbrev Ends : End E → List ℕ → Type 0
+  Ends = EndsBy says refuses idle goes ends a b bytes
+
+  -- the front of a line that tells why there is no problem
+  cut_line : (why : NoInput) → idle → IsNoInput refuses a b bytes why → why ≢ none.Memory → (e : End E) × Ends e (no_input_text why)
+  cut_line (none.Refused why) i h n = (refused why, (h, i, refl))
+  cut_line none.ReadFault i h n = (read_fault, (h, i, refl))
+  cut_line none.Memory i h n = absurd (n refl)
+
+  -- there is no problem, as it is told
+  pub none_tells : (why : NoInput) (c d : Outflow) (stop : Stop) → idle → IsNoInput refuses a b bytes why → IsToldBy why c d stop → Tells Goes Ends c d (end_of {E = E} (Err stop))
+  none_tells why c d (stops.Refused r) i h told = (_, (subst (IsNoInput refuses a b bytes) told.0 h, i, refl), told.1)
+  none_tells why c d stops.ReadFault i h told = (_, (subst (IsNoInput refuses a b bytes) told.0 h, i, refl), told.1)
+  none_tells why c d stops.WriteFault i h told = (_, inr (cut_line why i h told.0), told.1)
+  none_tells why c d stops.Memory i h told = ([], inl (refl, i), told)
+
+  -- so a run ends with no problem
+  pub none_runs : (why : NoInput) (c d : Outflow) (stop : Stop) → idle → IsNoInput refuses a b bytes why → IsToldBy why c d stop → (let r : Result E Stop = Err stop in Runs says refuses idle goes ends a b c d r)
+  none_runs why c d stop i h told = record { bytes = bytes; taken = no_input_taken refuses a b bytes why h; tells = none_tells why c d stop i h told }
+
+  -- what is told of what the input says
+  own_tells : (x : A) (c d : Outflow) (r : Result E Cut) (r' : Result E Stop) → IsAllRead a b bytes → says bytes x → IsHandedOn r r' → Tells (goes x) (ends x) c d r → Tells Goes Ends c d (end_of r')
+  own_tells x c d (Ok e) (Ok f) read said is h = (h.0, (read, (x, said, subst (λ i. ends x i h.0) is h.1)), h.2)
+  own_tells x c d (Err WriteFault) (Err stops.WriteFault) read said is (t, inl g, k) = (t, inl (inr (read, (x, said, g))), k)
+  own_tells x c d (Err WriteFault) (Err stops.WriteFault) read said is (t, inr g, k) = (t, inr (own g.0, (read, (x, said, g.1))), k)
+  own_tells x c d (Err Memory) (Err stops.Memory) read said is h = (h.0, inr (read, (x, said, h.1)), h.2)
+  own_tells x c d (Ok e) (Err stop) read said is h = absurd is
+  own_tells x c d (Err cut) (Ok e) read said is h = absurd is
+  own_tells x c d (Err WriteFault) (Err (stops.Refused r)) read said is h = absurd (cc)
+  own_tells x c d (Err WriteFault) (Err stops.ReadFault) read said is h = absurd (cc)
+  own_tells x c d (Err WriteFault) (Err stops.Memory) read said is h = absurd (cc)
+  own_tells x c d (Err Memory) (Err (stops.Refused r)) read said is h = absurd (cc)
+  own_tells x c d (Err Memory) (Err stops.ReadFault) read said is h = absurd (cc)
+  own_tells x c d (Err Memory) (Err stops.WriteFault) read said is h = absurd (cc)
+
+  -- so a run ends by what the input says
+  pub own_runs : (x : A) (c d : Outflow) (r : Result E Cut) (r' : Result E Stop) → IsAllRead a b bytes → says bytes x → IsHandedOn r r' → Tells (goes x) (ends x) c d r → Runs says refuses idle goes ends a b c d r'
+  own_runs x c d r r' read said is h = record { bytes = bytes; taken = read_taken a b bytes read; tells = own_tells x c d r r' read said is h }

@@ -1,0 +1,83 @@
+-- Inputs that are refused, and what is printed of them.
+use Rattle.std.specs.Prelude.{◌≡◌, ◌≢◌, ℕ, List, [], ◌++◌, codes, ◌⊎◌}
+use Rattle.std.specs.Fmt.{decimal}
+use Rattle.ladr_intake.specs.Input.{AreTaken, IsAllRead, IsTooLong, IsFailed}
+use Rattle.ladr_intake.specs.declared.stops.NoInput.{NoInput}
+use Rattle.ladr_intake.specs.declared.stops.NoInput.TheVariants as none
+use Rattle.ladr_intake.specs.declared.stops.Refused.{Refused}
+use Rattle.ladr_intake.specs.declared.stops.Refused.TheVariants.{Unreadable, Misuse, TooLarge}
+use Rattle.ladr_intake.specs.declared.stops.Stop.{Stop}
+use Rattle.ladr_intake.specs.declared.stops.Stop.TheVariants as stops
+use Rattle.ladr_io.specs.Streams.{Inflow, Outflow, Takes, TakesFront}
+use Rattle.ladr_lex.specs.Misuses.{row_of}
+use Rattle.ladr_output.specs.Telling.{line}
+use Rattle.ladr_problem.specs.File.{Says, unreadable, misused, too_large, most_bytes}
+use Rattle.ladr_problem.specs.Places.{IsPlace}
+use Rattle.ladr_problem.specs.declared.refusal.Limit.{Limit}
+use Rattle.ladr_problem.specs.declared.refusal.Limit.TheVariants as limits
+use Rattle.ladr_problem.specs.declared.refusal.ReadError.{ReadError}
+use Rattle.ladr_problem.specs.declared.refusal.ReadError.TheVariants as errors
+use Rattle.ladr_formulas.specs.declared.styles.Mode.{Mode}
+
+abbrev pub limit_text : Limit → List ℕ
+limit_text limits.Input = codes "input"
+limit_text limits.Nesting = codes "nesting"
+limit_text limits.Symbols = codes "symbols"
+limit_text limits.Arity = codes "arity"
+
+-- what couldn't be read: the place of a byte, its line and column, and what stands there
+abbrev pub unreadable_line : ℕ → ℕ → ℕ → List ℕ → List ℕ
+unreadable_line byte row column token =
+    line (codes "ladr: unreadable at byte " ++ decimal byte ++ codes ", line " ++ decimal row ++ codes ", column " ++ decimal column ++ codes ": " ++ token)
+
+-- the row of misuse that is broken, and where
+abbrev pub misuse_line : ℕ → ℕ → ℕ → ℕ → List ℕ
+misuse_line broken byte row column = line (codes "ladr: misuse " ++ decimal broken ++ codes " at byte " ++ decimal byte ++ codes ", line " ++ decimal row ++ codes ", column " ++ decimal column)
+
+-- what was too large, and where
+abbrev pub too_large_line : ℕ → List ℕ → List ℕ
+too_large_line byte what = line (codes "ladr: too large at byte " ++ decimal byte ++ codes ": " ++ what)
+
+abbrev pub read_fault_line : List ℕ
+read_fault_line = line (codes "ladr: read fault")
+
+-- the line of a refusal
+abbrev pub refusal_text : Refused → List ℕ
+refusal_text (Unreadable place) = unreadable_line place.byte place.line place.column place.token
+refusal_text (Misuse place why) = misuse_line (row_of why) place.byte place.line place.column
+refusal_text (TooLarge byte what) = too_large_line byte (limit_text what)
+
+-- Bytes are refused to a program for what they say, at a place or at the first byte of an item.
+abbrev pub refuses : Mode → List ℕ → Refused → Type 0
+refuses m bytes (Unreadable place) = Says m bytes (unreadable place.byte) × IsPlace bytes place
+refuses m bytes (Misuse place why) = Says m bytes (misused place.byte why) × IsPlace bytes place
+refuses m bytes (TooLarge byte what) = Says m bytes (too_large byte what)
+
+-- An input is refused: it was read, and is refused by a language; or one byte too many was read.
+abbrev pub IsRefused : (List ℕ → Refused → Type 0) → Inflow → Inflow → List ℕ → Refused → Type 0
+IsRefused refuses old new bytes why = (IsAllRead old new bytes × refuses bytes why) ⊎ (IsTooLong old new bytes × (why ≡ TooLarge most_bytes limits.Input))
+
+-- there is no problem to go on with; nothing is said of memory
+abbrev pub IsNoInput : (List ℕ → Refused → Type 0) → Inflow → Inflow → List ℕ → NoInput → Type 0
+IsNoInput refuses old new bytes (none.Refused why) = IsRefused refuses old new bytes why
+IsNoInput refuses old new bytes none.ReadFault = IsFailed old new bytes
+IsNoInput refuses old new bytes none.Memory = AreTaken old new bytes
+
+abbrev pub no_input_of : ReadError → NoInput
+no_input_of (errors.Unreadable place) = none.Refused (Unreadable place)
+no_input_of (errors.Misuse place why) = none.Refused (Misuse place why)
+no_input_of (errors.TooLarge byte what) = none.Refused (TooLarge byte what)
+no_input_of errors.Memory = none.Memory
+
+-- the line that is printed where there is no problem
+abbrev pub no_input_text : NoInput → List ℕ
+no_input_text (none.Refused why) = refusal_text why
+no_input_text none.ReadFault = read_fault_line
+no_input_text none.Memory = []
+
+-- It is told so: the sink took the line; or a front of it, and a write failed; or memory was lacking.
+abbrev pub IsToldBy : NoInput → Outflow → Outflow → Stop → Type 0
+IsToldBy why old new (stops.Refused r) = (why ≡ none.Refused r) × Takes old new (refusal_text r)
+IsToldBy why old new stops.ReadFault = (why ≡ none.ReadFault) × Takes old new read_fault_line
+IsToldBy why old new stops.WriteFault = (why ≢ none.Memory) × TakesFront old new (no_input_text why)
+IsToldBy why old new stops.Memory = Takes old new []

@@ -1,0 +1,14 @@
+//! Takes an input in: reads it whole and as a problem, or prints why it states none.
+#![tactic(auto)]
+
+mod laws;
+mod lines;
+mod refusing;
+mod stops;
+mod taking;
+
+pub use ladr_problem::{Limit, Place};
+pub use laws::one_is_posed;
+pub use refusing::refuse;
+pub use stops::{NoInput, Refused, Stop, stop_by};
+pub use taking::take_in;

@@ -1,0 +1,57 @@
+// An input as a whole.
+ghost use Rattle.std.specs.Prelude.{◌≡◌, ℕ, List, IfErr, IfOk, IsTrue, Some, is_some, false};
+ghost use Rattle.fol_core.specs.Stated.{stated_of, IsWellFormed};
+ghost use Rattle.ladr_commands.specs.ByName.{ByName};
+ghost use Rattle.ladr_intake.specs.Input.{IsAllRead};
+ghost use Rattle.ladr_intake.specs.Posed.{poses, interprets, posed_by, interpreted_by};
+ghost use Rattle.ladr_intake.specs.Refusals.{IsNoInput, refuses, no_input_of};
+ghost use Rattle.ladr_options.specs.Ranges.{AreInRange};
+ghost use Rattle.ladr_formulas.specs.declared.styles.Mode.TheVariants.{Tester};
+
+use crate::stops::{NoInput, Refused};
+use ladr_formulas::Mode;
+use ladr_io::{ReadAll, Source, read_all};
+use ladr_problem::{FileRead, Limit, MOST_BYTES, ReadError, read_problem};
+use std::alloc::Global;
+
+/// Reads the input, and what it says to a program.
+pub fn take_in<S: Source>(alloc: Global, program: Mode, source: &mut S) -> Result<FileRead, NoInput>
+    requires { (S.inflow source.old).over ≡ false }
+    ensures read { IfOk result (λ r. (bytes : List ℕ)
+        × IsAllRead (S.inflow source.old) (S.inflow source.new) bytes
+        × poses program bytes (posed_by r)) }
+    ensures well_formed { IfOk result (λ r. IsWellFormed (stated_of r.problem)) }
+    ensures ranged { IfOk result (λ r. AreInRange r.problem.options) }
+    // A program that tests interpretations has one.
+    ensures interpreted { program ≡ Tester → IfOk result (λ r. IsTrue (is_some r.interpretation)) }
+    ensures tables { program ≡ Tester → IfOk result (λ r. (it : ByName) → r.interpretation ≡ Some it
+        → (bytes : List ℕ) × IsAllRead (S.inflow source.old) (S.inflow source.new) bytes
+        × interprets bytes (interpreted_by r it)) }
+    ensures none { IfErr result (λ why. (bytes : List ℕ)
+        × IsNoInput (refuses program) (S.inflow source.old) (S.inflow source.new) bytes why) }
+{
+    match read_all(alloc, source, MOST_BYTES) {
+        Ok(bytes) => match read_problem(alloc, program, &bytes) {
+            Ok(read) => Ok(read),
+            Err(error) => Err(refused(error)),
+        },
+        Err(ReadAll::TooLarge) => Err(NoInput::Refused(Refused::TooLarge {
+            byte: MOST_BYTES,
+            what: Limit::Input,
+        })),
+        Err(ReadAll::Failed) => Err(NoInput::ReadFault),
+        Err(ReadAll::Memory) => Err(NoInput::Memory),
+    }
+}
+
+// What is read states no problem.
+fn refused(error: ReadError) -> NoInput
+    ensures { result ≡ no_input_of error }
+{
+    match error {
+        ReadError::Unreadable(place) => NoInput::Refused(Refused::Unreadable(place)),
+        ReadError::Misuse(place, why) => NoInput::Refused(Refused::Misuse(place, why)),
+        ReadError::TooLarge { byte, what } => NoInput::Refused(Refused::TooLarge { byte, what }),
+        ReadError::Memory => NoInput::Memory,
+    }
+}

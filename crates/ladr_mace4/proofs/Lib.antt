@@ -1,0 +1,11 @@
+pub mod Begun
+pub mod Blocks
+pub mod Clocks
+pub mod Ended
+pub mod Found
+pub mod Fronts
+pub mod GoingOn
+pub mod Planned
+pub mod Printing
+pub mod Seeking
+pub mod Showing

@@ -1,0 +1,11 @@
+pub mod Finding
+pub mod Fronts
+pub mod Lines
+pub mod Plans
+pub mod Rooms
+pub mod Shown
+pub mod Skolems
+pub mod Statuses
+pub mod Story
+pub mod Watching
+pub mod Worked

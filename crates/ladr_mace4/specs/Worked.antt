@@ -1,0 +1,29 @@
+-- Searches worked out.
+use Rattle.std.specs.Prelude.{ℕ, List, [], ◌∷◌, None, codes}
+use Rattle.fol_core.specs.Fol.{equal, forall, exists}
+use Rattle.fol_core.specs.Stated.{Stated, stated, said}
+use Rattle.fol_core.specs.Tree.{var}
+use Rattle.fol_core.specs.declared.problem.Role.TheVariants.{Assumption}
+use Rattle.fol_core.specs.declared.symbols.Kind.TheVariants.{Function}
+use Rattle.ladr_mace4.specs.Story.{Size, searched}
+use Rattle.ladr_words.specs.declared.task.ModelOptions.{ModelOptions}
+use Rattle.model_tables.specs.Tables.{Finite, listing}
+
+-- some element is each one, which has no symbol but the Skolem symbol for it
+abbrev pub lonely : Stated
+lonely = stated [] (said Assumption (exists 0 (forall 1 (equal (var 0) (var 1)))) ∷ [])
+
+-- one element, which that symbol picks
+abbrev pub alone : Finite
+alone = record { top = 0; rows = listing Function (0 ∷ []) ∷ [] }
+
+-- size 1 has this model, and size 2 none; either has one table for no symbol
+abbrev pub lonely_sizes : List Size
+lonely_sizes = searched (alone ∷ []) 1 ∷ searched [] 1 ∷ []
+
+abbrev pub lonely_text : List ℕ
+lonely_text = codes "% Domain size 1.\ninterpretation(1, [number = 1,seconds = 0], [\n    function(c1, [0])\n]).\n% Domain size 1 exhausted.\n% Domain size 2.\n% Domain size 2 exhausted.\n"
+
+-- no word beside `mace4`
+abbrev pub bare : ModelOptions
+bare = record { start_size = None; end_size = None; max_models = None; max_seconds = None }

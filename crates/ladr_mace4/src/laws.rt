@@ -1,0 +1,41 @@
+// What searches amount to, and searches worked out: the functions do nothing, and their contracts are the laws.
+ghost use Rattle.std.specs.Prelude.{◌≡◌, None, Some};
+ghost use Rattle.ladr_mace4.specs.Plans.{plan_of};
+ghost use Rattle.ladr_mace4.specs.Shown.{SearchesShow};
+ghost use Rattle.ladr_mace4.specs.Skolems.{all_cells};
+ghost use Rattle.ladr_mace4.specs.Story.{sizes_text, readings_in_all};
+ghost use Rattle.ladr_mace4.specs.Worked.{lonely, lonely_sizes, lonely_text, bare};
+ghost use Rattle.ladr_options.specs.Options.{start};
+
+use clausify::{skolems_stand_behind, witnesses_are_in_order};
+use ladr_intake::one_is_posed;
+use ladr_models::texts_read_back;
+
+/// Where a run printed models of what its input poses, they make each assumption true and each goal false, and read back as they are; where
+/// a size is exhausted, each of its models is printed, its elements renamed. So it is whatever became of the run; and all that it
+/// printed is a front of a whole output.
+pub fn searches_show()
+    ensures { SearchesShow }
+{
+    witnesses_are_in_order();
+    skolems_stand_behind();
+    one_is_posed();
+    texts_read_back();
+}
+
+/// A search through two sizes, and what is asked of searches.
+pub fn worked()
+    // What is printed of two sizes, of which the first has a model.
+    ensures searched { sizes_text lonely 1 1 0 lonely_sizes ≡ lonely_text }
+    ensures readings { readings_in_all lonely_sizes ≡ 4 }
+    ensures cells { all_cells 2 lonely ≡ 1 }
+    // What is asked where neither words nor input set anything, by an input for one size, and where a word cancels that size.
+    ensures unset { plan_of bare start ≡ record
+        { start = 2; end = 10; step = 1; wanted = 1; seconds = None; megs = 500 } }
+    ensures one_size { plan_of bare (record start
+        { domain_size = 5; increment = 3; max_seconds = 60; max_megs = 0 })
+        ≡ record { start = 5; end = 5; step = 3; wanted = 1; seconds = Some 60; megs = 0 } }
+    ensures words { plan_of (record bare { end_size = Some 4; max_seconds = Some 0 })
+        (record start { domain_size = 5; max_models = 4294967295; max_seconds = 60 })
+        ≡ record { start = 2; end = 4; step = 1; wanted = 4294967295; seconds = Some 0; megs = 500 } }
+{}

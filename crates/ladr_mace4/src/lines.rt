@@ -1,0 +1,137 @@
+// The lines of a search for models.
+ghost use Rattle.std.specs.Prelude.{◌≡◌, ◌++◌, OnOk, IfOk, codes};
+ghost use Rattle.std.specs.Fmt.{decimal};
+ghost use Rattle.ladr_mace4.specs.Lines.{size_line, skipped_line, exhausted_line, models_line, seconds_line, ground_limit_line, clause_limit_line, last_lines, end_text};
+
+use crate::ends::SearchEnd;
+use ladr_output::{number, text};
+use std::alloc::{AllocError, Global};
+
+/// A size begins.
+pub fn size(alloc: Global, n: u64) -> Result<Vec<u8>, AllocError>
+    ensures { IfOk result (λ v. v.items ≡ size_line n) }
+{
+    let mut out = Vec::new(alloc);
+    text(&mut out, b"% Domain size ")?;
+    number(&mut out, n)?;
+    text(&mut out, b".\n")?;
+    Ok(out)
+}
+
+/// A size is skipped.
+pub fn skipped(alloc: Global, n: u64) -> Result<Vec<u8>, AllocError>
+    ensures { IfOk result (λ v. v.items ≡ skipped_line n) }
+{
+    let mut out = Vec::new(alloc);
+    text(&mut out, b"% Domain size ")?;
+    number(&mut out, n)?;
+    text(&mut out, b" skipped.\n")?;
+    Ok(out)
+}
+
+// The size that a line is about.
+fn domain(out: &mut Vec<u8>, n: u64) -> Result<(), AllocError>
+    ensures { OnOk result (out.new.items ≡ out.old.items ++ (codes "% Domain size " ++ decimal n)) }
+{
+    text(out, b"% Domain size ")?;
+    number(out, n)
+}
+
+/// A size was searched to its end.
+pub fn exhausted(alloc: Global, n: u64) -> Result<Vec<u8>, AllocError>
+    ensures { IfOk result (λ v. v.items ≡ exhausted_line n) }
+{
+    let mut out = Vec::new(alloc);
+    domain(&mut out, n)?;
+    text(&mut out, b" exhausted.\n")?;
+    Ok(out)
+}
+
+// A size has too many cells by far.
+fn ground_limit(alloc: Global, n: u64) -> Result<Vec<u8>, AllocError>
+    ensures { IfOk result (λ v. v.items ≡ ground_limit_line n) }
+{
+    let mut out = Vec::new(alloc);
+    text(&mut out, b"ladr: ground limit at size ")?;
+    number(&mut out, n)?;
+    text(&mut out, b"\n")?;
+    Ok(out)
+}
+
+// A formula has too many clauses.
+fn clause_limit(alloc: Global, formula: u64) -> Result<Vec<u8>, AllocError>
+    ensures { IfOk result (λ v. v.items ≡ clause_limit_line formula) }
+{
+    let mut out = Vec::new(alloc);
+    text(&mut out, b"ladr: clause limit at formula ")?;
+    number(&mut out, formula)?;
+    text(&mut out, b"\n")?;
+    Ok(out)
+}
+
+// How many models were printed.
+fn models(out: &mut Vec<u8>, k: u64) -> Result<(), AllocError>
+    ensures { OnOk result (out.new.items ≡ out.old.items ++ models_line k) }
+{
+    text(out, b"% Models=")?;
+    number(out, k)?;
+    text(out, b".\n")
+}
+
+// The lines that a search ends with.
+fn last_lines(alloc: Global, k: u64, reason: &[u8]) -> Result<Vec<u8>, AllocError>
+    ensures { IfOk result (λ v. v.items ≡ last_lines k reason.now) }
+{
+    let mut out = Vec::new(alloc);
+    models(&mut out, k)?;
+    text(&mut out, b"% Exit ")?;
+    text(&mut out, reason)?;
+    text(&mut out, b".\n")?;
+    Ok(out)
+}
+
+// The clock's first reading.
+fn first_reading(out: &mut Vec<u8>, first: u64) -> Result<(), AllocError>
+    ensures { OnOk result (out.new.items ≡ out.old.items
+        ++ (codes "% Exit max_seconds " ++ decimal first)) }
+{
+    text(out, b"% Exit max_seconds ")?;
+    number(out, first)?;
+    Ok(())
+}
+
+// The clock's first reading and its last.
+fn seconds(out: &mut Vec<u8>, first: u64, last: u64) -> Result<(), AllocError>
+    ensures { OnOk result (out.new.items ≡ out.old.items ++ seconds_line first last) }
+{
+    first_reading(out, first)?;
+    text(out, b" ")?;
+    number(out, last)?;
+    text(out, b".\n")?;
+    Ok(())
+}
+
+// Those of a search whose time is over.
+fn time_is_over(alloc: Global, k: u64, first: u64, last: u64) -> Result<Vec<u8>, AllocError>
+    ensures { IfOk result (λ v. v.items ≡ models_line k ++ seconds_line first last) }
+{
+    let mut out = Vec::new(alloc);
+    models(&mut out, k)?;
+    seconds(&mut out, first, last)?;
+    Ok(out)
+}
+
+/// What a search ends with, k models having been printed.
+pub fn ending(alloc: Global, k: u64, end: SearchEnd) -> Result<Vec<u8>, AllocError>
+    ensures { IfOk result (λ v. v.items ≡ end_text k end) }
+{
+    match end {
+        SearchEnd::MaxModels => last_lines(alloc, k, b"max_models"),
+        SearchEnd::Exhausted => last_lines(alloc, k, b"exhausted"),
+        SearchEnd::AllModels => last_lines(alloc, k, b"all_models"),
+        SearchEnd::MaxMegs => last_lines(alloc, k, b"max_megs"),
+        SearchEnd::MaxSeconds { first, last } => time_is_over(alloc, k, first, last),
+        SearchEnd::GroundLimit { size } => ground_limit(alloc, size),
+        SearchEnd::ClauseLimit { formula } => clause_limit(alloc, formula),
+    }
+}

@@ -1,0 +1,79 @@
+// The models of one size, printed as they are found.
+ghost use Rattle.std.specs.Prelude.{◌≡◌, ◌<◌, ◌≤◌, ℕ, ◌++◌, ◌+◌, false, Ok, OnOk, IfOk};
+ghost use Rattle.ladr_mace4.specs.Lines.{size_line, exhausted_line};
+ghost use Rattle.ladr_mace4.specs.Rooms.{HasRoomForCells, IsBegun};
+ghost use Rattle.ladr_mace4.specs.Skolems.{all_cells};
+ghost use Rattle.ladr_mace4.specs.Story.{SizeGoes, SizeEnds};
+ghost use Rattle.ladr_mace4.specs.Watching.{IsWatched, HasBegun, HasRead};
+ghost use Rattle.ladr_output.specs.Telling.{IsPiece, Tells};
+
+use crate::asked::Asked;
+use crate::ends::{SearchEnd, Step};
+use crate::lines;
+use crate::plan::Plan;
+use crate::watch::Watch;
+use ladr_io::{Clock, Sink};
+use ladr_output::{Cut, piece};
+use mace_search::{Answer, PlainSearch};
+use std::alloc::Global;
+
+/// Prints the models of a size, behind its line and k models before them, and that it is exhausted, unless the search ends
+/// by then.
+pub fn models<K: Sink, C: Clock>(
+    alloc: Global,
+    asked: &Asked,
+    plan: Plan,
+    n: u32,
+    k: u64,
+    watch: Watch,
+    sink: &mut K,
+    clock: &mut C,
+) -> Result<Step, Cut>
+    requires size { 1 ≤ n }
+    requires begun { IsBegun asked.now plan n }
+    requires room { HasRoomForCells plan (all_cells n asked.now) }
+    requires fewer { k < plan.wanted }
+    requires seconds { watch.seconds ≡ plan.seconds }
+    requires watched { IsWatched watch (C.times clock.old) }
+    requires looked { HasBegun watch (C.times clock.old) }
+    requires sink { (K.outflow sink.old).over ≡ false }
+    ensures tells { (r : ℕ) → HasRead plan.seconds (r + 1) (C.times clock.old)
+        → Tells (λ text. SizeGoes asked.now plan (C.times clock.new) n k r (size_line n
+        ++ text)) (λ end text. SizeEnds asked.now plan (C.times clock.new) n k r end (size_line n
+        ++ text)) (K.outflow sink.old) (K.outflow sink.new) result }
+    ensures watched { (j : ℕ) → result ≡ Ok (Step.Over j) → IsWatched watch (C.times clock.new) }
+{
+    let mut search = match PlainSearch::new(alloc, asked.problem, n, watch.stop()) {
+        Ok(search) => search,
+        Err(_) => return Err(Cut::Memory),
+    };
+    let mut printed = k;
+    while printed < plan.wanted {
+        match search.next_model(clock) {
+            Answer::Exhausted => return exhausted(alloc, n, printed, sink),
+            Answer::MaxSeconds(last) => {
+                let first = watch.first.unwrap_or(0);
+                return Ok(Step::Ends(SearchEnd::MaxSeconds { first, last }, printed));
+            }
+            Answer::Model => {}
+        }
+        printed += 1;
+        match piece(asked.text(alloc, search.tables(), printed), sink) {
+            Ok(()) => {}
+            Err(cut) => return Err(cut),
+        }
+    }
+    Ok(Step::Ends(SearchEnd::MaxModels, printed))
+}
+
+// Prints that a size is exhausted, so many models being printed by then.
+fn exhausted<K: Sink>(alloc: Global, n: u32, printed: u64, sink: &mut K) -> Result<Step, Cut>
+    requires { (K.outflow sink.old).over ≡ false }
+    ensures piece { IsPiece (exhausted_line n) (K.outflow sink.old) (K.outflow sink.new) result }
+    ensures step { IfOk result (λ step. step ≡ Step.Over printed) }
+{
+    match piece(lines::exhausted(alloc, u64::from(n)), sink) {
+        Ok(()) => Ok(Step::Over(printed)),
+        Err(cut) => Err(cut),
+    }
+}

@@ -1,0 +1,28 @@
+-- What a run tells of its output.
+use Rattle.std.specs.Prelude.{◌≡◌, ℕ, List, [], ◌∷◌, ◌++◌, ◌⊎◌}
+use Rattle.std.specs.declared.result.Result.{Result}
+use Rattle.std.specs.declared.result.Result.TheVariants.{Ok, Err}
+use Rattle.ladr_io.specs.Streams.{Outflow, Takes, TakesFront}
+use Rattle.ladr_output.specs.declared.cut.Cut.{Cut}
+use Rattle.ladr_output.specs.declared.cut.Cut.TheVariants.{WriteFault, Memory}
+
+-- a line of text with its end
+abbrev pub line : List ℕ → List ℕ
+line text = text ++ 10 ∷ []
+
+-- a piece was printed whole; or a write of it failed; or memory was lacking, and none of it was printed
+abbrev pub IsPiece : {T : Type 0} → List ℕ → Outflow → Outflow → Result T Cut → Type 0
+IsPiece text old new (Ok _) = Takes old new text
+IsPiece text old new (Err WriteFault) = TakesFront old new text
+IsPiece text old new (Err Memory) = Takes old new []
+
+-- The output of a run, by the texts that may stand while it goes on and those that it ends with: the sink took all of it; a front
+-- of a text of either kind, where a write failed; one that may stand while it goes on, where memory was lacking.
+abbrev pub Tells : {E : Type 0} → (List ℕ → Type 0) → (E → List ℕ → Type 0) → Outflow → Outflow → Result E Cut → Type 0
+Tells goes ends old new (Ok e) = (text : List ℕ) × ends e text × Takes old new text
+Tells {E} goes ends old new (Err WriteFault) = (text : List ℕ) × (goes text ⊎ ((e : E) × ends e text)) × TakesFront old new text
+Tells goes ends old new (Err Memory) = (text : List ℕ) × goes text × Takes old new text
+
+-- this end, with this text
+abbrev pub IsEnd : {E : Type 0} → E → List ℕ → E → List ℕ → Type 0
+IsEnd end text e t = (e ≡ end) × (t ≡ text)

@@ -1,0 +1,8 @@
+// What cuts an output off.
+
+/// Why an output is cut off: a write failed, or memory was lacking.
+#[derive(Clone, Copy, Debug, PartialEq, Eq)]
+pub enum Cut {
+    WriteFault,
+    Memory,
+}

@@ -1,5 +1,0 @@
-use Rattle.ladr_reader.proofs.Behind.{read_behind}
-use Rattle.ladr_reader.proofs.laws.larger_tables.Goals as goal
-
-pub returns : goal.returns
-returns c = λ st table larger t k. read_behind larger st table t k

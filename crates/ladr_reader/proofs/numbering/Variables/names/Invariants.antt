@@ -1,8 +1,0 @@
--- the names so far are those of the first variables
-use Rattle.std.proofs.Common.{◌≡◌, take}
-use Rattle.ladr_reader.specs.Formulas.{names_of}
-use Rattle.ladr_reader.specs.Numbering.{variable_list}
-use Rattle.ladr_reader.proofs.numbering.Variables.names.Given as goal
-
-abbrev pub invariant-loop-variable : goal.invariant-loop-variable
-invariant-loop-variable l = l.names ≡ names_of (variable_list (take l.variable-index l.variable-items))

@@ -1,8 +1,0 @@
--- what the bindings so far say of the name
-use Rattle.std.proofs.Common.{◌≡◌, [], take}
-use Rattle.ladr_reader.specs.Formulas.{bound_number}
-use Rattle.ladr_reader.specs.ScopeView.{bounds_onto}
-use Rattle.ladr_reader.proofs.scopes.Scope.number.Given as goal
-
-abbrev pub invariant-loop-binding : goal.invariant-loop-binding
-invariant-loop-binding l = l.number ≡ bound_number (bounds_onto [] (take l.binding-index l.binding-items)) l.name

@@ -1,7 +1,0 @@
--- the lines so far, and those to come
-use Rattle.std.proofs.Common.{◌≡◌, ◌+◌, ◌++◌, drop}
-use Rattle.ladr_top.specs.Output.{formula_lines}
-use Rattle.ladr_top.proofs.text.formulas.Given as goal
-
-abbrev pub invariant-loop-i : goal.invariant-loop-i
-invariant-loop-i l = l.out.items ++ formula_lines (l.i + 1) (drop l.i l.all) ≡ formula_lines 1 l.all

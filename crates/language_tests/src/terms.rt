@@ -1,0 +1,30 @@
+use fol_core::Raw;
+use ladr_lex::{Ops, tokens};
+use ladr_reader::{read_literals, read_term, read_tree};
+use std::alloc::Global;
+use std::test::Fail;
+
+/// The term of an item.
+pub fn item(alloc: Global, text: &[u8]) -> Result<Raw, Fail> {
+    let ops = Ops::standard(alloc)?;
+    let tokens = tokens(alloc, text).map_err(|_| "memory")?;
+    Ok(read_term(alloc, &ops, &tokens).map_err(|_| "term")?)
+}
+
+#[test]
+fn a_term_is_read(rt: HostRuntime) -> Result<(), Fail> {
+    let raw = item(rt.alloc(), b"-p(x) | q | x = c.")?;
+    assert!(rt; matches!(&raw, Raw::App(_, parts) if parts.len() == 2));
+    Ok(())
+}
+
+// It has four levels, and its disjuncts have three.
+#[test]
+fn trees_and_literals_are_read(rt: HostRuntime) -> Result<(), Fail> {
+    let ops = Ops::standard(rt.alloc())?;
+    let tokens = tokens(rt.alloc(), b"-p(x) | q | x = c.").map_err(|_| "memory")?;
+    assert!(rt; read_tree(rt.alloc(), &ops, &tokens, 4).is_ok());
+    let literals = read_literals(rt.alloc(), &ops, &tokens, 3).map_err(|_| "literals")?;
+    assert_eq!(rt; literals.len(), 3);
+    Ok(())
+}

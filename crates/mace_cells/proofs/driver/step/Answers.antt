@@ -1,0 +1,9 @@
+use Rattle.mace_cells.proofs.Drives.{both, gone_back_at}
+use Rattle.mace_cells.proofs.driver.step.Goals as goal
+
+pub returns-else-choose-clause-leaves : goal.returns-else-choose-clause-leaves
+returns-else-choose-clause-leaves g c =
+    both _ _ _ _ c.retreat.result c.args.frames.now.list c.choose.new.frames.list c.retreat.new.frames.list c.choose.ensures.world c.if-choose.ensures.leaves c.retreat.ensures.leaves
+
+pub returns-else-choose-clause-rises : goal.returns-else-choose-clause-rises
+returns-else-choose-clause-rises g c = gone_back_at _ (g.B.Board.world c.choose.new.board) c.retreat.result _ _ _ c.choose.ensures.world c.if-choose.ensures.rises c.retreat.ensures.rises

@@ -1,0 +1,10 @@
+pub mod Boards
+pub mod Choices
+pub mod Leaves
+pub mod Made
+pub mod Searches
+pub mod Solutions
+pub mod Stacked
+pub mod Standing
+pub mod Trails
+pub mod World

@@ -1,0 +1,59 @@
+// What a search asks of the board on which it decides the values of cells.
+ghost use Rattle.std.specs.Prelude.{ℕ, ◌≡◌, ◌<◌, ◌≤◌, List, ◌∷◌, length};
+ghost use Rattle.fol_core.specs.Meaning.{Meaning};
+ghost use Rattle.mace_cells.specs.Boards.{IsAsSaid};
+ghost use Rattle.mace_cells.specs.Choices.{Decision, IsLatest};
+ghost use Rattle.mace_cells.specs.Stacked.{rest_of};
+ghost use Rattle.mace_cells.specs.World.{World, cell_of, many_cells, IsBound, IsNextValue};
+
+/// How far the decisions lead: a cell is to be chosen, all cells have values and the clauses are true, or the clauses
+/// contradict the decisions.
+#[derive(Clone, Copy, Debug, PartialEq, Eq)]
+pub enum Status {
+    Choose(u32),
+    Settled,
+    Refuted,
+}
+
+/// A board on which values of cells are decided, one after the other, and taken back in turn.
+pub trait Board {
+    ghost world: { Self → World };
+
+    ghost decided: { Self → List Decision };
+
+    ghost found: { Self → Meaning };
+
+    ghost is_open: { Self → ℕ → Type 0 };
+
+    fn status(&mut self) -> Status
+        ensures world { world self.new ≡ world self.old }
+        ensures decided { decided self.new ≡ decided self.old }
+        ensures told { IsAsSaid (world self.old) (decided self.old) (found self.new) result }
+        ensures open { (cell : ℕ) → result ≡ Status.Choose cell → is_open self.new cell };
+
+    fn most(&self, cell: u32) -> u8
+        requires { cell < many_cells (world self.now) }
+        ensures { IsBound (world self.now) (decided self.now)
+            (cell_of (world self.now) cell) result };
+
+    fn next_value(&self, cell: u32, from: u32, most: u8) -> Option<u8>
+        requires { cell < many_cells (world self.now) }
+        ensures { IsNextValue (world self.now) (decided self.now)
+            (cell_of (world self.now) cell) from most result };
+
+    fn decide(&mut self, cell: u32, value: u8)
+        requires cell { cell < many_cells (world self.old) }
+        requires room { length (decided self.old) < many_cells (world self.old) }
+        requires open { is_open self.old cell }
+        ensures world { world self.new ≡ world self.old }
+        ensures decided { decided self.new ≡ record
+            { cell = cell_of (world self.old) cell; value = value } ∷ decided self.old };
+
+    fn undo(&mut self)
+        requires { 0 < length (decided self.old) }
+        ensures world { world self.new ≡ world self.old }
+        ensures decided { decided self.new ≡ rest_of (decided self.old) }
+        ensures open { (cell : ℕ) → cell < many_cells (world self.old)
+            → IsLatest (decided self.old) (cell_of (world self.old) cell)
+            → is_open self.new cell };
+}

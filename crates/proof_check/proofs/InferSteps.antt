@@ -1,0 +1,122 @@
+-- Words behind a clause, one after the other.
+use Rattle.std.proofs.Common.{◌≡◌, inl, inr, ℕ, suc, ◌+◌, ◌<◌, ◌≤◌, Bool, true, false, ◌&&◌, IsTrue, List, [], ◌∷◌, ◌++◌, map, length, get_or, drop, take, Option, Some, None, is_some, refl, sym, ap, ◌∙◌, subst, add-one, drop-cons}
+use Rattle.std.specs.List.{flat_map}
+use Rattle.std.proofs.lemmas.Bool.{and_left, and_right, and_from}
+use Rattle.std.proofs.lemmas.List.{drop_all, take_all, take_more}
+use Rattle.std.proofs.lemmas.List.Folds.{list_all-append}
+use Rattle.fol_core.specs.Literals.{ClauseTree}
+use Rattle.derivation.specs.Later.{LaterWord, later_parents}
+use Rattle.derivation.specs.Lines.{FirstWord, ContentTree, LineTree, clause_at, AreClauses, IsClause, After}
+use Rattle.derivation.specs.Refused.{Fails, are_there, all_parents}
+use Rattle.derivation.specs.View.{later_of}
+use Rattle.derivation.specs.declared.words.Later.{Later}
+use Rattle.derivation.specs.declared.words.Satellite.{Satellite}
+use Rattle.proof_check.specs.Judged.{LeadsAs, JudgedAs, rule_of, parents_of}
+use Rattle.proof_check.specs.Found.{AfterAs, InferredAs, inference_by}
+use Rattle.proof_check.specs.declared.judging.Judged.TheVariants.{Misplaced, Differs, Made}
+
+-- the words from one on
+abbrev pub words_from : List Later → ℕ → List LaterWord
+words_from ws i = map later_of (drop i ws)
+
+drop_next : (ws : List Later) (i : ℕ) (w : Later) → i < length ws → w ≡ get_or ws i w → drop i ws ≡ w ∷ drop (i + 1) ws
+drop_next ws i w h is = rw (add-one, drop-cons ws i w) (ap (λ t. t ∷ drop (suc i) ws) (sym is))
+
+words_next : (ws : List Later) (i : ℕ) (w : Later) → i < length ws → w ≡ get_or ws i w → words_from ws i ≡ later_of w ∷ words_from ws (i + 1)
+words_next ws i w h is = ap (map later_of) (drop_next ws i w h is)
+
+-- whether the clauses are there that the words from one on take
+abbrev pub there_from : List LineTree → List Later → ℕ → Bool
+there_from ls ws i = are_there ls (flat_map later_parents (words_from ws i))
+
+there_next : (ls : List LineTree) (ws : List Later) (i : ℕ) (w : Later) → i < length ws → w ≡ get_or ws i w → there_from ls ws i ≡ (are_there ls (later_parents (later_of w)) && there_from ls ws (i + 1))
+there_next ls ws i w h is =
+    ap (λ us. are_there ls (flat_map later_parents us)) (words_next ws i w h is)
+    ∙ list_all-append (λ n. is_some (clause_at ls n)) (later_parents (later_of w)) (flat_map later_parents (words_from ws (i + 1)))
+
+pub later_missing : (ls : List LineTree) (ws : List Later) (i : ℕ) (w : Later) → i < length ws → w ≡ get_or ws i w → are_there ls (later_parents (later_of w)) ≡ false → there_from ls ws i ≡ false
+later_missing ls ws i w h is e = there_next ls ws i w h is ∙ ap (λ b. b && there_from ls ws (i + 1)) e
+
+pub later_on : (ls : List LineTree) (ws : List Later) (i : ℕ) (w : Later) → i < length ws → w ≡ get_or ws i w → are_there ls (later_parents (later_of w)) ≡ true → there_from ls ws i ≡ there_from ls ws (i + 1)
+later_on ls ws i w h is e = there_next ls ws i w h is ∙ ap (λ b. b && there_from ls ws (i + 1)) e
+
+-- what the words from one on come to is what all come to
+pub record Following (ls : List LineTree) (ws : List Later) (d0 : ClauseTree) (content : ContentTree) (i : ℕ) (d : ClauseTree) : Type 0 where
+  pub onward : After ls (words_from ws i) d content → After ls (words_from ws 0) d0 content
+  pub fails : (row : ℕ) → Fails ls (words_from ws i) d content row → Fails ls (words_from ws 0) d0 content row
+  pub missing : there_from ls ws i ≡ false → there_from ls ws 0 ≡ false
+
+pub following_start : (ls : List LineTree) (ws : List Later) (d : ClauseTree) (content : ContentTree) → Following ls ws d content 0 d
+following_start ls ws d content = record { onward = λ a. a; fails = λ row f. f; missing = λ e. e }
+
+module _ (ls : List LineTree) (ws : List Later) (d0 : ClauseTree) (content : ContentTree) (i : ℕ) (d : ClauseTree) (w : Later) where
+  pub following_made : Following ls ws d0 content i d → i < length ws → w ≡ get_or ws i w → (ps : List ClauseTree) (b : ClauseTree) → AreClauses ls (later_parents (later_of w)) ps
+      → LeadsAs (later_of w) d ps (Made b) → Following ls ws d0 content (i + 1) b
+  following_made going h is ps b are leads = record {
+    onward = λ after. going.onward (subst (λ us. After ls us d content) (sym (words_next ws i w h is)) (ps, b, are, leads.0, leads.1, after));
+    fails = λ row fails. going.fails row (subst (λ us. Fails ls us d content row) (sym (words_next ws i w h is)) (ps, are, inr (inr (leads.0, (b, leads.1, fails)))));
+    missing = λ e. going.missing (there_next ls ws i w h is ∙ and_right (are_there ls (later_parents (later_of w))) (there_from ls ws (i + 1)) e);
+  }
+
+  pub following_misplaced : Following ls ws d0 content i d → i < length ws → w ≡ get_or ws i w → (ps : List ClauseTree) → AreClauses ls (later_parents (later_of w)) ps
+      → LeadsAs (later_of w) d ps Misplaced → Fails ls (words_from ws 0) d0 content 6
+  following_misplaced going h is ps are leads = going.fails 6 (subst (λ us. Fails ls us d content 6) (sym (words_next ws i w h is)) (ps, are, inl (refl, leads)))
+
+  pub following_differs : Following ls ws d0 content i d → i < length ws → w ≡ get_or ws i w → (ps : List ClauseTree) → AreClauses ls (later_parents (later_of w)) ps
+      → LeadsAs (later_of w) d ps Differs → Fails ls (words_from ws 0) d0 content 7
+  following_differs going h is ps are leads = going.fails 7 (subst (λ us. Fails ls us d content 7) (sym (words_next ws i w h is)) (ps, are, inr (inl (refl, leads.0, leads.1))))
+
+  pub following_missing : Following ls ws d0 content i d → i < length ws → w ≡ get_or ws i w → are_there ls (later_parents (later_of w)) ≡ false → there_from ls ws 0 ≡ false
+  following_missing going h is e = going.missing (later_missing ls ws i w h is e)
+
+module _ (ls : List LineTree) (ws : List Later) (d0 : ClauseTree) (content : ContentTree) (i : ℕ) (d : ClauseTree) where
+  pub following_ends : Following ls ws d0 content i d → length ws ≤ i → IsClause content d → After ls (words_from ws 0) d0 content
+  following_ends going h same = going.onward (subst (λ us. After ls us d content) (sym (ap (map later_of) (drop_all i ws h))) same)
+
+  pub following_other : Following ls ws d0 content i d → length ws ≤ i → (IsClause content d → ⊥) → Fails ls (words_from ws 0) d0 content 8
+  following_other going h apart = going.fails 8 (subst (λ us. Fails ls us d content 8) (sym (ap (map later_of) (drop_all i ws h))) (refl, apart))
+
+pub numbers_next : (n : ℕ) (ss : List Satellite) (i : ℕ) (s : Satellite) → i < length ss → s ≡ get_or ss i s
+    → n ∷ map (λ s. s.clause) (take (i + 1) ss) ≡ (n ∷ map (λ s. s.clause) (take i ss)) ++ s.clause ∷ []
+numbers_next n ss i s h is =
+    ap (λ ts. n ∷ map (λ (s : Satellite). s.clause) ts) (take_more ss i s h ∙ ap (λ t. take i ss ++ t ∷ []) (sym is)) ∙ ap (λ l. n ∷ l) (mapped (take i ss))
+  where
+    mapped : (ts : List Satellite) → map (λ (s : Satellite). s.clause) (ts ++ s ∷ []) ≡ map (λ (s : Satellite). s.clause) ts ++ s.clause ∷ []
+    mapped [] = refl
+    mapped (t ∷ ts) = ap (λ l. t.clause ∷ l) (mapped ts)
+
+pub numbers_end : (n : ℕ) (ss : List Satellite) (i : ℕ) → length ss ≤ i → n ∷ map (λ (s : Satellite). s.clause) (take i ss) ≡ n ∷ map (λ (s : Satellite). s.clause) ss
+numbers_end n ss i h = ap (λ ts. n ∷ map (λ (s : Satellite). s.clause) ts) (take_all i ss h)
+
+module _ (ls : List LineTree) (w : FirstWord) (ws : List LaterWord) (content : ContentTree) where
+  split : are_there ls (all_parents (inference_by w) ws) ≡ (are_there ls (parents_of w) && are_there ls (flat_map later_parents ws))
+  split = list_all-append (λ n. is_some (clause_at ls n)) (parents_of w) (flat_map later_parents ws)
+
+  -- parents that aren't there
+  pub parents_missing : are_there ls (parents_of w) ≡ false → InferredAs ls w ws content (Some 3)
+  parents_missing e = inl (refl, split ∙ and_left (are_there ls (parents_of w)) (are_there ls (flat_map later_parents ws)) e)
+
+  pub words_missing : are_there ls (flat_map later_parents ws) ≡ false → InferredAs ls w ws content (Some 3)
+  words_missing e = inl (refl, split ∙ and_right (are_there ls (parents_of w)) (are_there ls (flat_map later_parents ws)) e)
+
+  there_of : (ns : List ℕ) (cs : List ClauseTree) → AreClauses ls ns cs → IsTrue (are_there ls ns)
+  there_of [] [] are = refl
+  there_of [] (c ∷ cs) are = absurd are
+  there_of (n ∷ ns) [] are = absurd are
+  there_of (n ∷ ns) (c ∷ cs) are = and_from (is_some (clause_at ls n)) (are_there ls ns) (ap is_some are.0) (there_of ns cs are.1)
+
+  pub all_there : (cs : List ClauseTree) → AreClauses ls (parents_of w) cs → are_there ls (flat_map later_parents ws) ≡ true → IsTrue (are_there ls (all_parents (inference_by w) ws))
+  all_there cs are e = split ∙ and_from (are_there ls (parents_of w)) (are_there ls (flat_map later_parents ws)) (there_of (parents_of w) cs are) e
+
+  -- what the rule and the words come to
+  pub rule_misplaced : (cs : List ClauseTree) → AreClauses ls (parents_of w) cs → IsTrue (are_there ls (all_parents (inference_by w) ws)) → JudgedAs (rule_of w) cs Misplaced → InferredAs ls w ws content (Some 6)
+  rule_misplaced cs are there judged = inr (there, (cs, are, inl (refl, judged)))
+
+  pub rule_differs : (cs : List ClauseTree) → AreClauses ls (parents_of w) cs → IsTrue (are_there ls (all_parents (inference_by w) ws)) → JudgedAs (rule_of w) cs Differs → InferredAs ls w ws content (Some 7)
+  rule_differs cs are there judged = inr (there, (cs, are, inr (inl (refl, judged.0, judged.1))))
+
+  pub rule_after : (cs : List ClauseTree) (c : ClauseTree) (o : Option ℕ) → AreClauses ls (parents_of w) cs → IsTrue (are_there ls (all_parents (inference_by w) ws)) → JudgedAs (rule_of w) cs (Made c)
+      → AfterAs ls ws c content o → InferredAs ls w ws content o
+  rule_after cs c None are there judged after = (cs, c, are, judged.0, judged.1, after)
+  rule_after cs c (Some row) are there judged (inl fails) = inr (there, (cs, are, inr (inr (judged.0, (c, judged.1, fails)))))
+  rule_after cs c (Some row) are there judged (inr missing) = inl (missing.0, split ∙ and_right (are_there ls (parents_of w)) (are_there ls (flat_map later_parents ws)) missing.1)

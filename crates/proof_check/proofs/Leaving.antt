@@ -1,0 +1,18 @@
+-- What an accepted proof leaves.
+use Rattle.std.proofs.Common.{ℕ, List, length, Result, Ok, Err, subst}
+use Rattle.std.specs.Prelude.{OnOk}
+use Rattle.clausify.specs.Input.{ClauseRow, skolem_numbers}
+use Rattle.derivation.specs.Lines.{LineTree, IsRefutation}
+use Rattle.fol_core.proofs.Soundness.{sound_below}
+use Rattle.fol_core.specs.Literals.{equality}
+use Rattle.fol_core.specs.Meaning.{Meaning, IsLawful}
+use Rattle.fol_core.specs.Stated.{Stated}
+use Rattle.proof_check.specs.Laws.{RefutationsLeaveNone, LeaveNone}
+
+pub OnOk-then : {T E P Q : Type 0} (r : Result T E) → OnOk r P → (P → Q) → OnOk r Q
+OnOk-then (Ok x) h f = f h
+OnOk-then (Err e) h f = tt
+
+pub leave_none : ((m : Meaning) → IsLawful m → RefutationsLeaveNone m) → (p : Stated) (rows : List ClauseRow) (ls : List LineTree) → IsRefutation p.formulas rows ls → LeaveNone p rows ls
+leave_none law p rows ls is m table lawful well_formed few same names picks =
+    law m lawful (skolem_numbers table p) p.formulas ls (sound_below (length p.symbols) equality p.formulas few well_formed) (subst (λ (r : List ClauseRow). IsRefutation p.formulas r ls) same is) names picks

@@ -1,0 +1,15 @@
+mod ApartSteps
+mod BuildSteps
+mod CheckSteps
+mod EarlierSteps
+mod EquationSteps
+mod FitSteps
+mod FollowSteps
+mod InferSteps
+mod JudgeSteps
+mod Leaving
+mod PlaceSteps
+mod RowAtoms
+mod RuleSteps
+mod SameSteps
+mod StateSteps

@@ -1,0 +1,5 @@
+pub mod Found
+pub mod Interleaved
+pub mod Judged
+pub mod Laws
+pub mod Reached

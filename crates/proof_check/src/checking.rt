@@ -1,0 +1,116 @@
+// The lines of a proof, one after the other.
+ghost use Rattle.std.specs.Prelude.{◌≡◌, ◌<◌, ℕ, Err, OnOk, length};
+ghost use Rattle.fol_core.specs.Stated.{all_said, stated_of};
+ghost use Rattle.derivation.specs.Lines.{is_empty_clause, IsRefutation};
+ghost use Rattle.derivation.specs.Refused.{IsFault};
+ghost use Rattle.derivation.specs.View.{content_of, lines_of};
+ghost use Rattle.proof_check.specs.Laws.{LeaveNone};
+ghost use Rattle.proof_check.specs.Reached.{Going};
+
+use crate::error::CheckError;
+use crate::laws::no_countermodel;
+use crate::line::judge_line;
+use derivation::{Content, Line, fault_is_one};
+use fol_core::{Clause, Clauses, Input, Problem};
+use std::alloc::Global;
+
+// Whether a content is the empty clause.
+fn is_empty_clause(content: &Content) -> bool
+    ensures { result ≡ is_empty_clause (content_of content.now) }
+{
+    match content {
+        Content::Formula(_, _) => false,
+        Content::Clause(clause) => clause.len() == 0,
+    }
+}
+
+// The lines behind the first, which is one.
+#[tactic(auto, using(crate::proofs::CheckSteps::going_rising, crate::proofs::CheckSteps::going_next, crate::proofs::CheckSteps::going_fault, crate::proofs::CheckSteps::going_empty, crate::proofs::CheckSteps::going_other))]
+fn check_behind(
+    alloc: Global,
+    inputs: &[Input],
+    rows: &[(u64, Clause)],
+    lines: &[Line],
+) -> Result<(), CheckError>
+    requires some { 0 < length lines.now }
+    requires first { Going (all_said inputs.now) rows.now lines.now 1 }
+    ensures accepted { OnOk result (IsRefutation (all_said inputs.now) rows.now
+        (lines_of lines.now)) }
+    ensures refused { (line row : ℕ) → result ≡ Err (CheckError.NotAccepted line row)
+        → IsFault (all_said inputs.now) rows.now (lines_of lines.now) line row }
+{
+    for i in 1..lines.len() {
+        let last = Some(lines[i - 1].number);
+        match judge_line(alloc, inputs, rows, &lines[..i], last, &lines[i])? {
+            None => {}
+            Some(row) => {
+                return Err(CheckError::NotAccepted {
+                    line: lines[i].number,
+                    row,
+                });
+            }
+        }
+    }
+    let end = &lines[lines.len() - 1];
+    if is_empty_clause(&end.content) {
+        Ok(())
+    } else {
+        Err(CheckError::NotAccepted {
+            line: end.number,
+            row: 9,
+        })
+    }
+}
+
+// Whether lines are a refutation, whatever it shows.
+#[tactic(auto, using(crate::proofs::CheckSteps::none_given, crate::proofs::CheckSteps::first_fault, crate::proofs::CheckSteps::going_start))]
+fn check_lines(
+    alloc: Global,
+    problem: &Problem,
+    clauses: &Clauses,
+    lines: &[Line],
+) -> Result<(), CheckError>
+    ensures accepted { OnOk result (IsRefutation
+        (all_said problem.now.inputs.items) clauses.now.clauses.items (lines_of lines.now)) }
+    ensures refused { (line row : ℕ) → result ≡ Err (CheckError.NotAccepted line row)
+        → IsFault (all_said problem.now.inputs.items) clauses.now.clauses.items
+        (lines_of lines.now) line row }
+{
+    let inputs = problem.inputs.as_slice();
+    let rows = clauses.clauses.as_slice();
+    if lines.len() == 0 {
+        return Err(CheckError::NotAccepted { line: 0, row: 1 });
+    }
+    match judge_line(alloc, inputs, rows, &[], None, &lines[0])? {
+        None => check_behind(alloc, inputs, rows, lines),
+        Some(row) => Err(CheckError::NotAccepted {
+            line: lines[0].number,
+            row,
+        }),
+    }
+}
+
+/// Whether lines are a refutation of a problem with these clauses; else the first bad line and its row. What a
+/// refutation shows holds in every interpretation.
+pub fn check(
+    alloc: Global,
+    problem: &Problem,
+    clauses: &Clauses,
+    lines: &[Line],
+) -> Result<(), CheckError>
+    ensures accepted { OnOk result (IsRefutation
+        (all_said problem.now.inputs.items) clauses.now.clauses.items (lines_of lines.now)) }
+    ensures refused { (line row : ℕ) → result ≡ Err (CheckError.NotAccepted line row)
+        → IsFault (all_said problem.now.inputs.items) clauses.now.clauses.items
+        (lines_of lines.now) line row }
+    ensures exact { (line row : ℕ) → result ≡ Err (CheckError.NotAccepted line row)
+        → ¬ IsRefutation (all_said problem.now.inputs.items) clauses.now.clauses.items
+        (lines_of lines.now) }
+    // What is accepted leaves no countermodel of the problem that picks witnesses, where these are its clauses.
+    ensures sound { OnOk result (LeaveNone (stated_of problem.now) clauses.now.clauses.items
+        (lines_of lines.now)) }
+{
+    fault_is_one();
+    no_countermodel();
+    check_lines(alloc, problem, clauses, lines)
+}

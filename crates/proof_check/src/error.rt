@@ -1,0 +1,23 @@
+// Why lines are no refutation.
+ghost use Rattle.std.specs.Prelude.{◌≡◌};
+ghost use Rattle.proof_check.specs.declared.error.CheckError.TheVariants.{Memory};
+
+use std::alloc::AllocError;
+use thiserror::Error;
+
+/// The line at fault with its row, or want of memory. Without lines the fault is row 1 of line 0.
+#[derive(Clone, Copy, Debug, PartialEq, Eq, Error)]
+pub enum CheckError {
+    #[error("not accepted, line {line}, cause {row}")]
+    NotAccepted { line: u64, row: u64 },
+    #[error("out of memory")]
+    Memory,
+}
+
+impl From<AllocError> for CheckError {
+    ghost from_gives = { λ _ e. e ≡ Memory };
+
+    fn from(_e: AllocError) -> CheckError {
+        CheckError::Memory
+    }
+}

@@ -1,0 +1,143 @@
+// Whether the places of a rule are there in its parents, of the kinds and signs that it takes.
+ghost use Rattle.std.specs.Prelude.{◌≡◌, IfOk, map, length};
+ghost use Rattle.fol_core.specs.Free.{is_in};
+ghost use Rattle.derivation.specs.View.{first_of};
+ghost use Rattle.derivation.specs.Words.{copy_rule, clashes_fit, clash_rule, factor_rule, xx_rule, para_rule, para_fits};
+ghost use Rattle.proof_check.specs.Judged.{clash_of, rule_of};
+
+use crate::equations::{is_equation, is_no_variable};
+use crate::places::{are_alike, are_opposite, copy_atom, has_literal, has_place};
+use derivation::{First, Paramodulation, Satellite};
+use fol_core::Clause;
+use std::alloc::{AllocError, Global};
+
+// One parent.
+#[tactic(auto, using(crate::proofs::FitSteps::copy_one, crate::proofs::FitSteps::copy_not))]
+fn copy_fits(parents: &[Clause]) -> bool
+    ensures { result ≡ copy_rule.fits parents.now }
+{
+    parents.len() == 1
+}
+
+#[tactic(auto, using(crate::proofs::FitSteps::factor_one, crate::proofs::FitSteps::factor_twice, crate::proofs::FitSteps::factor_not))]
+fn factor_fits(parents: &[Clause], a: u64, b: u64) -> bool
+    ensures { result ≡ (factor_rule a b).fits parents.now }
+{
+    if parents.len() != 1 {
+        return false;
+    }
+    if a == b {
+        return false;
+    }
+    are_alike(&parents[0], a, &parents[0], b)
+}
+
+#[tactic(auto, using(crate::proofs::FitSteps::xx_one, crate::proofs::FitSteps::xx_sign, crate::proofs::FitSteps::xx_not))]
+fn xx_fits(alloc: Global, parents: &[Clause], a: u64) -> Result<bool, AllocError>
+    ensures { IfOk result (λ fits. fits ≡ (xx_rule a).fits parents.now) }
+{
+    if parents.len() != 1 {
+        return Ok(false);
+    }
+    if !has_literal(&parents[0], false, a) {
+        return Ok(false);
+    }
+    let atom = copy_atom(alloc, &parents[0], a)?;
+    Ok(is_equation(&atom))
+}
+
+fn equation_into(
+    alloc: Global,
+    para: &Paramodulation,
+    from: &Clause,
+    into: &Clause,
+) -> Result<bool, AllocError>
+    ensures { IfOk result (λ fits. fits ≡ para_fits para.now.equation para.now.side para.now.literal
+        para.now.path.items from.now into.now) }
+{
+    let equation = copy_atom(alloc, from, para.equation)?;
+    let atom = copy_atom(alloc, into, para.literal)?;
+    let sides = para.side == 1 || para.side == 2;
+    let from_fits = has_literal(from, true, para.equation) && is_equation(&equation);
+    let into_fits = has_place(into, para.literal) && is_no_variable(&atom, para.path.as_slice());
+    Ok(from_fits && (sides && into_fits))
+}
+
+#[tactic(auto, using(crate::proofs::FitSteps::para_two, crate::proofs::FitSteps::para_not))]
+fn para_rule_fits(
+    alloc: Global,
+    parents: &[Clause],
+    para: &Paramodulation,
+) -> Result<bool, AllocError>
+    ensures { IfOk result (λ fits. fits ≡ (para_rule para.now.equation para.now.side
+        para.now.literal para.now.path.items).fits parents.now) }
+{
+    if parents.len() != 2 {
+        return Ok(false);
+    }
+    equation_into(alloc, para, &parents[0], &parents[1])
+}
+
+// Whether a place of the nucleus is that of one of the satellites.
+#[tactic(auto, using(crate::proofs::FitSteps::taken_here, crate::proofs::FitSteps::taken_behind, crate::proofs::FitSteps::taken_end))]
+fn is_taken(place: u64, satellites: &[Satellite]) -> bool
+    ensures { result ≡ is_in place (map (λ k. k.0) (map clash_of satellites.now)) }
+{
+    for s in satellites {
+        if place == s.place {
+            return true;
+        }
+    }
+    false
+}
+
+// Whether the clashes of a nucleus with its satellites fit.
+#[tactic(auto, using(crate::proofs::FitSteps::clash_refused, crate::proofs::FitSteps::clash_taken, crate::proofs::FitSteps::clash_on, crate::proofs::FitSteps::clash_done))]
+fn satellites_fit(nucleus: &Clause, satellites: &[Satellite], parents: &[Clause]) -> bool
+    requires { length parents.now ≡ length satellites.now }
+    ensures { result ≡ clashes_fit nucleus.now (map clash_of satellites.now) parents.now }
+{
+    for (i, s) in satellites.iter().enumerate() {
+        if !are_opposite(nucleus, s.place, &parents[i], s.literal) {
+            return false;
+        }
+        if is_taken(s.place, &satellites[i + 1..]) {
+            return false;
+        }
+    }
+    true
+}
+
+#[tactic(auto, using(crate::proofs::FitSteps::clash_few, crate::proofs::FitSteps::clash_uneven, crate::proofs::FitSteps::clash_parts))]
+fn clash_fits(parents: &[Clause], satellites: &[Satellite]) -> bool
+    ensures { result ≡ (clash_rule (map clash_of satellites.now)).fits parents.now }
+{
+    if parents.len() < 2 {
+        return false;
+    }
+    if parents.len() != satellites.len() + 1 {
+        return false;
+    }
+    satellites_fit(&parents[0], satellites, &parents[1..])
+}
+
+/// Whether the parents fit the rule of a first word; of the words without a rule nothing is said.
+pub fn fits(alloc: Global, first: &First, parents: &[Clause]) -> Result<bool, AllocError>
+    ensures { IfOk result (λ fits. fits ≡ (rule_of (first_of first.now)).fits parents.now) }
+{
+    match first {
+        First::Assumption => Ok(copy_fits(parents)),
+        First::Goal => Ok(copy_fits(parents)),
+        First::Clausify(_) => Ok(copy_fits(parents)),
+        First::Deny(_) => Ok(copy_fits(parents)),
+        First::Copy(_) => Ok(copy_fits(parents)),
+        First::BackRewrite(_) => Ok(copy_fits(parents)),
+        First::BackUnitDel(_) => Ok(copy_fits(parents)),
+        First::Resolve(_, satellite) => Ok(clash_fits(parents, &[*satellite])),
+        First::Hyper(_, satellites) => Ok(clash_fits(parents, satellites.as_slice())),
+        First::Ur(_, satellites) => Ok(clash_fits(parents, satellites.as_slice())),
+        First::Factor(_, a, b) => Ok(factor_fits(parents, *a, *b)),
+        First::Para(para) => para_rule_fits(alloc, parents, para),
+        First::XxRes(_, a) => xx_fits(alloc, parents, *a),
+    }
+}

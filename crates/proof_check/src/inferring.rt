@@ -1,0 +1,194 @@
+// Whether a line is what its words make of earlier ones.
+ghost use Rattle.std.specs.Prelude.{◌≡◌, ◌↔◌, ◌∷◌, [], IsTrue, IfOk, map};
+ghost use Rattle.std.specs.List.{flat_map};
+ghost use Rattle.derivation.specs.Later.{later_parents};
+ghost use Rattle.derivation.specs.Lines.{IsClause, AreClauses};
+ghost use Rattle.derivation.specs.Refused.{are_there, all_parents};
+ghost use Rattle.derivation.specs.View.{first_of, later_of, content_of, lines_of};
+ghost use Rattle.proof_check.specs.Judged.{parents_of};
+ghost use Rattle.proof_check.specs.Found.{AfterAs, InferredAs, inference_by};
+ghost use Rattle.proof_check.specs.Reached.{AreRising};
+
+use crate::earlier::{are_there, clauses_of};
+use crate::following::follow;
+use crate::judging::{Judged, judge};
+use derivation::{Content, First, Just, Later, Line, Satellite};
+use fol_core::{Clause, renumber};
+use std::alloc::{AllocError, Global};
+use substitutions::same_clause;
+
+/// Whether a content is a clause, but for the numbers of variables.
+pub fn is_clause(alloc: Global, content: &Content, clause: &Clause) -> Result<bool, AllocError>
+    ensures { IfOk result (λ is. IsTrue is ↔ IsClause (content_of content.now) clause.now) }
+{
+    match content {
+        Content::Formula(_, _) => Ok(false),
+        Content::Clause(own) => {
+            let own = renumber(alloc, own)?;
+            let other = renumber(alloc, clause)?;
+            Ok(same_clause(&own, &other))
+        }
+    }
+}
+
+// The numbers of the clauses that a word takes.
+fn later_numbers(alloc: Global, word: &Later) -> Result<Vec<u64>, AllocError>
+    ensures { IfOk result (λ ns. ns.items ≡ later_parents (later_of word.now)) }
+{
+    let mut numbers = Vec::new(alloc);
+    match word {
+        Later::UnitDel(_, n) => numbers.push(*n)?,
+        Later::Rewrite(entry) => numbers.push(entry.rule)?,
+        Later::Flip(_) | Later::Merge(_) | Later::Xx(_) => {}
+    }
+    Ok(numbers)
+}
+
+// Whether all clauses are there that words take.
+#[tactic(auto, using(crate::proofs::InferSteps::later_missing, crate::proofs::InferSteps::later_on))]
+fn later_there(alloc: Global, earlier: &[Line], words: &[Later]) -> Result<bool, AllocError>
+    requires { AreRising (lines_of earlier.now) }
+    ensures { IfOk result (λ there. there ≡ are_there (lines_of earlier.now)
+        (flat_map later_parents (map later_of words.now))) }
+{
+    for word in words {
+        let numbers = later_numbers(alloc, word)?;
+        if !are_there(earlier, numbers.as_slice()) {
+            return Ok(false);
+        }
+    }
+    Ok(true)
+}
+
+// Whether words lead from a clause to a content.
+#[tactic(auto, using(crate::proofs::InferSteps::following_start, crate::proofs::InferSteps::following_made, crate::proofs::InferSteps::following_misplaced, crate::proofs::InferSteps::following_differs, crate::proofs::InferSteps::following_missing, crate::proofs::InferSteps::following_ends, crate::proofs::InferSteps::following_other))]
+fn after(
+    alloc: Global,
+    earlier: &[Line],
+    words: &[Later],
+    clause: Clause,
+    content: &Content,
+) -> Result<Option<u64>, AllocError>
+    requires { AreRising (lines_of earlier.now) }
+    ensures { IfOk result (AfterAs (lines_of earlier.now) (map later_of words.now) clause
+        (content_of content.now)) }
+{
+    let mut clause = clause;
+    for word in words {
+        let numbers = later_numbers(alloc, word)?;
+        let Some(parents) = clauses_of(alloc, earlier, numbers.as_slice())? else {
+            return Ok(Some(3));
+        };
+        match follow(alloc, word, &clause, parents.as_slice())? {
+            Judged::Misplaced => return Ok(Some(6)),
+            Judged::Differs => return Ok(Some(7)),
+            Judged::Made(next) => clause = next,
+        }
+    }
+    if is_clause(alloc, content, &clause)? {
+        Ok(None)
+    } else {
+        Ok(Some(8))
+    }
+}
+
+// The numbers of the lines that a first word takes; of the words without a rule none.
+#[tactic(auto, using(crate::proofs::InferSteps::numbers_next, crate::proofs::InferSteps::numbers_end))]
+fn satellite_numbers(
+    alloc: Global,
+    nucleus: u64,
+    satellites: &[Satellite],
+) -> Result<Vec<u64>, AllocError>
+    ensures { IfOk result (λ ns. ns.items ≡ nucleus ∷ map (λ s. s.clause) satellites.now) }
+{
+    let mut numbers = Vec::new(alloc);
+    numbers.push(nucleus)?;
+    for s in satellites {
+        numbers.push(s.clause)?;
+    }
+    Ok(numbers)
+}
+
+fn one_number(alloc: Global, n: u64) -> Result<Vec<u64>, AllocError>
+    ensures { IfOk result (λ ns. ns.items ≡ n ∷ []) }
+{
+    let mut numbers = Vec::new(alloc);
+    numbers.push(n)?;
+    Ok(numbers)
+}
+
+fn two_numbers(alloc: Global, n: u64, m: u64) -> Result<Vec<u64>, AllocError>
+    ensures { IfOk result (λ ns. ns.items ≡ n ∷ m ∷ []) }
+{
+    let mut numbers = Vec::new(alloc);
+    numbers.push(n)?;
+    numbers.push(m)?;
+    Ok(numbers)
+}
+
+fn parent_numbers(alloc: Global, first: &First) -> Result<Vec<u64>, AllocError>
+    ensures { IfOk result (λ ns. ns.items ≡ parents_of (first_of first.now)) }
+{
+    match first {
+        First::Assumption => Ok(Vec::new(alloc)),
+        First::Goal => Ok(Vec::new(alloc)),
+        First::Clausify(_) => Ok(Vec::new(alloc)),
+        First::Deny(_) => Ok(Vec::new(alloc)),
+        First::Copy(n) => one_number(alloc, *n),
+        First::BackRewrite(n) => one_number(alloc, *n),
+        First::BackUnitDel(n) => one_number(alloc, *n),
+        First::Resolve(n, satellite) => two_numbers(alloc, *n, satellite.clause),
+        First::Hyper(n, satellites) => satellite_numbers(alloc, *n, satellites.as_slice()),
+        First::Ur(n, satellites) => satellite_numbers(alloc, *n, satellites.as_slice()),
+        First::Factor(n, _, _) => one_number(alloc, *n),
+        First::Para(para) => two_numbers(alloc, para.from, para.into),
+        First::XxRes(n, _) => one_number(alloc, *n),
+    }
+}
+
+// A rule on its parents and the words behind it.
+#[tactic(auto, using(crate::proofs::InferSteps::rule_misplaced, crate::proofs::InferSteps::rule_differs, crate::proofs::InferSteps::rule_after))]
+fn rule_and_words(
+    alloc: Global,
+    earlier: &[Line],
+    just: &Just,
+    parents: &[Clause],
+    content: &Content,
+) -> Result<Option<u64>, AllocError>
+    requires rising { AreRising (lines_of earlier.now) }
+    requires parents { AreClauses (lines_of earlier.now)
+        (parents_of (first_of just.now.first)) parents.now }
+    requires there { IsTrue (are_there (lines_of earlier.now)
+        (all_parents (inference_by (first_of just.now.first))
+        (map later_of just.now.steps.items))) }
+    ensures { IfOk result (InferredAs (lines_of earlier.now) (first_of just.now.first)
+        (map later_of just.now.steps.items) (content_of content.now)) }
+{
+    match judge(alloc, &just.first, parents)? {
+        Judged::Misplaced => Ok(Some(6)),
+        Judged::Differs => Ok(Some(7)),
+        Judged::Made(clause) => after(alloc, earlier, just.steps.as_slice(), clause, content),
+    }
+}
+
+/// Whether a line's content is what its rule and words make of earlier lines.
+#[tactic(auto, using(crate::proofs::InferSteps::parents_missing, crate::proofs::InferSteps::words_missing, crate::proofs::InferSteps::all_there))]
+pub fn infer(
+    alloc: Global,
+    earlier: &[Line],
+    just: &Just,
+    content: &Content,
+) -> Result<Option<u64>, AllocError>
+    requires { AreRising (lines_of earlier.now) }
+    ensures { IfOk result (InferredAs (lines_of earlier.now) (first_of just.now.first)
+        (map later_of just.now.steps.items) (content_of content.now)) }
+{
+    let numbers = parent_numbers(alloc, &just.first)?;
+    let Some(parents) = clauses_of(alloc, earlier, numbers.as_slice())? else {
+        return Ok(Some(3));
+    };
+    if !later_there(alloc, earlier, just.steps.as_slice())? {
+        return Ok(Some(3));
+    }
+    rule_and_words(alloc, earlier, just, parents.as_slice(), content)
+}

@@ -1,0 +1,57 @@
+// What is found of a step.
+ghost use Rattle.std.specs.Prelude.{◌≡◌, IsTrue, IfOk};
+ghost use Rattle.derivation.specs.View.{first_of};
+ghost use Rattle.proof_check.specs.Judged.{rule_of, IsPending, JudgedAs};
+ghost use Rattle.proof_check.specs.Interleaved.{apart_of};
+
+use crate::apart::renamed_apart;
+use crate::building::{Pending, build};
+use crate::fitting::fits;
+use derivation::First;
+use fol_core::{Clause, renumber};
+use std::alloc::{AllocError, Global};
+use term_unifiers::unify;
+
+/// A literal, path or side isn't there or isn't taken; what has to be equal isn't; or the clause that the step makes.
+#[derive(Drop)]
+pub enum Judged {
+    Misplaced,
+    Differs,
+    Made(Clause),
+}
+
+// The conclusion from what is pending.
+#[tactic(auto, using(crate::proofs::JudgeSteps::differs, crate::proofs::JudgeSteps::made_both))]
+fn conclude(
+    alloc: Global,
+    first: &First,
+    parents: &[Clause],
+    waiting: Pending,
+) -> Result<Judged, AllocError>
+    requires fits { IsTrue ((rule_of (first_of first.now)).fits parents.now) }
+    requires pending { IsPending (rule_of (first_of first.now)) (apart_of parents.now) waiting }
+    ensures { IfOk result (JudgedAs (rule_of (first_of first.now)) parents.now) }
+{
+    let Pending {
+        lefts,
+        rights,
+        rest,
+    } = waiting;
+    match unify(alloc, lefts, rights, rest)? {
+        None => Ok(Judged::Differs),
+        Some(clause) => Ok(Judged::Made(renumber(alloc, &clause)?)),
+    }
+}
+
+/// What the rule of a first word comes to on its parents.
+#[tactic(auto, using(crate::proofs::JudgeSteps::apart_fit))]
+pub fn judge(alloc: Global, first: &First, parents: &[Clause]) -> Result<Judged, AllocError>
+    ensures { IfOk result (JudgedAs (rule_of (first_of first.now)) parents.now) }
+{
+    if !fits(alloc, first, parents)? {
+        return Ok(Judged::Misplaced);
+    }
+    let apart = renamed_apart(alloc, parents)?;
+    let waiting = build(alloc, first, apart.as_slice())?;
+    conclude(alloc, first, parents, waiting)
+}

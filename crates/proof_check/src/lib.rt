@@ -1,0 +1,23 @@
+// The checker of proofs: whether lines are a refutation, and where not, the first bad line and why.
+#![tactic(auto)]
+
+mod apart;
+mod building;
+mod checking;
+mod earlier;
+mod equations;
+mod error;
+mod fitting;
+mod following;
+mod inferring;
+mod judging;
+mod laws;
+mod line;
+mod places;
+mod rewriting;
+mod sameness;
+mod stating;
+
+pub use checking::check;
+pub use error::CheckError;
+pub use laws::{no_countermodel, parents_are_apart};

@@ -1,0 +1,112 @@
+// Whether a line is one of a derivation, behind earlier ones.
+ghost use Rattle.std.specs.Prelude.{◌↔◌, IsTrue, IfOk, map};
+ghost use Rattle.fol_core.specs.Stated.{all_said};
+ghost use Rattle.derivation.specs.Lines.{IsAbove};
+ghost use Rattle.derivation.specs.View.{first_of, later_of, content_of, line_of, lines_of};
+ghost use Rattle.proof_check.specs.Found.{StatedAs, InputAs, LineAs, FoundAs};
+ghost use Rattle.proof_check.specs.Reached.{AreRising};
+
+use crate::inferring::infer;
+use crate::stating::{is_formula_at, is_input_of, is_stated};
+use derivation::{First, Line};
+use fol_core::{Clause, Input};
+use std::alloc::{AllocError, Global};
+
+// A line that names a formula.
+fn stated(inputs: &[Input], goal: bool, line: &Line) -> Option<u64>
+    ensures { StatedAs goal (all_said inputs.now) (map later_of line.now.just.steps.items)
+        (content_of line.now.content) result }
+{
+    if !is_stated(inputs, goal, &line.content) {
+        return Some(4);
+    }
+    if !line.just.steps.is_empty() {
+        return Some(8);
+    }
+    None
+}
+
+// A line that names a clause of a formula.
+fn input(
+    alloc: Global,
+    inputs: &[Input],
+    rows: &[(u64, Clause)],
+    earlier: &[Line],
+    goal: bool,
+    number: u64,
+    line: &Line,
+) -> Result<Option<u64>, AllocError>
+    requires { AreRising (lines_of earlier.now) }
+    ensures { IfOk result (InputAs (all_said inputs.now) rows.now (lines_of earlier.now) goal number
+        (map later_of line.now.just.steps.items) (content_of line.now.content)) }
+{
+    if !is_formula_at(earlier, number) {
+        return Ok(Some(3));
+    }
+    if !is_input_of(alloc, inputs, rows, earlier, goal, number, &line.content)? {
+        return Ok(Some(5));
+    }
+    if !line.just.steps.is_empty() {
+        return Ok(Some(8));
+    }
+    Ok(None)
+}
+
+// The words of a line.
+fn words(
+    alloc: Global,
+    inputs: &[Input],
+    rows: &[(u64, Clause)],
+    earlier: &[Line],
+    line: &Line,
+) -> Result<Option<u64>, AllocError>
+    requires { AreRising (lines_of earlier.now) }
+    ensures { IfOk result (LineAs (all_said inputs.now) rows.now (lines_of earlier.now)
+        (first_of line.now.just.first) (map later_of line.now.just.steps.items)
+        (content_of line.now.content)) }
+{
+    match &line.just.first {
+        First::Assumption => Ok(stated(inputs, false, line)),
+        First::Goal => Ok(stated(inputs, true, line)),
+        First::Clausify(n) => input(alloc, inputs, rows, earlier, false, *n, line),
+        First::Deny(n) => input(alloc, inputs, rows, earlier, true, *n, line),
+        First::Copy(_) => infer(alloc, earlier, &line.just, &line.content),
+        First::BackRewrite(_) => infer(alloc, earlier, &line.just, &line.content),
+        First::BackUnitDel(_) => infer(alloc, earlier, &line.just, &line.content),
+        First::Resolve(_, _) => infer(alloc, earlier, &line.just, &line.content),
+        First::Hyper(_, _) => infer(alloc, earlier, &line.just, &line.content),
+        First::Ur(_, _) => infer(alloc, earlier, &line.just, &line.content),
+        First::Factor(_, _, _) => infer(alloc, earlier, &line.just, &line.content),
+        First::Para(_) => infer(alloc, earlier, &line.just, &line.content),
+        First::XxRes(_, _) => infer(alloc, earlier, &line.just, &line.content),
+    }
+}
+
+// Whether a number is above the last one.
+fn is_above(last: Option<u64>, number: u64) -> bool
+    ensures { IsTrue result ↔ IsAbove last number }
+{
+    match last {
+        None => true,
+        Some(m) => m < number,
+    }
+}
+
+/// Whether a line is one, behind earlier ones of which the last has this number; else the row.
+pub fn judge_line(
+    alloc: Global,
+    inputs: &[Input],
+    rows: &[(u64, Clause)],
+    earlier: &[Line],
+    last: Option<u64>,
+    line: &Line,
+) -> Result<Option<u64>, AllocError>
+    requires { AreRising (lines_of earlier.now) }
+    ensures { IfOk result (FoundAs (all_said inputs.now) rows.now (lines_of earlier.now) last
+        (line_of line.now)) }
+{
+    if !is_above(last, line.number) {
+        return Ok(Some(2));
+    }
+    words(alloc, inputs, rows, earlier, line)
+}

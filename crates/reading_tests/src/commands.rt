@@ -1,0 +1,17 @@
+use ladr_commands::{Command, Value, read_command};
+use ladr_lex::tokens;
+use std::alloc::Global;
+use std::test::Fail;
+
+/// The command of an item.
+pub fn command(alloc: Global, text: &[u8]) -> Result<Command, Fail> {
+    let tokens = tokens(alloc, text).map_err(|_| "memory")?;
+    Ok(read_command(alloc, true, &tokens).map_err(|_| "not read")?)
+}
+
+#[test]
+fn a_command_is_read(rt: HostRuntime) -> Result<(), Fail> {
+    let command = command(rt.alloc(), b"assign(max_kept, -1).")?;
+    assert!(rt; matches!(&command, Command::Assign(_, Value::Number(true, 1))));
+    Ok(())
+}

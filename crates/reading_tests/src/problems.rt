@@ -1,0 +1,9 @@
+use ladr_formulas::Mode;
+use ladr_problem::read_problem;
+
+#[test]
+fn a_problem_is_read(rt: HostRuntime) {
+    let text = b"formulas(goals).\nq(b).\nend_of_list.\n";
+    let read = read_problem(rt.alloc(), Mode::Prover, text);
+    assert!(rt; matches!(&read, Ok(read) if read.problem.inputs.len() == 1));
+}

@@ -1,0 +1,40 @@
+use fol_core::{Formula, Names, Raw, Shape, Symbols, Term};
+use ladr_formulas::Mode;
+use ladr_lex::{Ops, tokens};
+use ladr_reader::read_term;
+use ladr_rules::{is_demodulator, kbo_rule, weight_rule};
+use std::alloc::Global;
+use std::test::Fail;
+
+// The term of an item.
+fn item(alloc: Global, text: &[u8]) -> Result<Raw, Fail> {
+    let ops = Ops::standard(alloc)?;
+    let tokens = tokens(alloc, text).map_err(|_| "memory")?;
+    Ok(read_term(alloc, &ops, &tokens).map_err(|_| "term")?)
+}
+
+#[test]
+fn a_rule_of_weights_is_read(rt: HostRuntime) -> Result<(), Fail> {
+    let raw = item(rt.alloc(), b"weight(f(x,a)) = weight(x) + 2.")?;
+    let mut symbols = Symbols::new(rt.alloc());
+    let rule = weight_rule(rt.alloc(), &raw, &mut symbols, Mode::Prover, false)?;
+    assert!(rt; rule.is_some());
+    Ok(())
+}
+
+#[test]
+fn a_weight_of_a_name_is_read(rt: HostRuntime) -> Result<(), Fail> {
+    let kbo = kbo_rule(rt.alloc(), &item(rt.alloc(), b"f = 3.")?)?;
+    assert!(rt; matches!(&kbo, Some(kbo) if kbo.weight == 3));
+    Ok(())
+}
+
+#[test]
+fn an_equation_is_a_demodulator(rt: HostRuntime) -> Result<(), Fail> {
+    let formula = Formula {
+        shape: Shape::Eq(Term::Elem(1), Term::Elem(0)),
+        names: Names::new(rt.alloc()),
+    };
+    assert!(rt; is_demodulator(rt.alloc(), &formula)?);
+    Ok(())
+}

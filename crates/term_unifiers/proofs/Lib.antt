@@ -1,0 +1,4 @@
+pub mod MatchSteps
+pub mod PairSteps
+pub mod SolveSteps
+pub mod Variables
