@@ -1,11 +1,10 @@
 -- What a board tells of its decisions.
-use Rattle.std.proofs.Common.{◌≡◌, ℕ, zero, suc, ◌+◌, ◌<◌, true, false, max, List, [], Option, None, Some, replicate, refl, sym, ap, ◌∙◌, subst, arith}
+use Rattle.std.proofs.Common.{◌≡◌, ℕ, zero, suc, ◌+◌, ◌<◌, true, false, max, List, [], Option, None, Some, replicate, refl, sym, ◌∙◌, subst, arith}
 use Rattle.std.proofs.lemmas.Option.{none-some}
-use Rattle.fol_core.specs.Meaning.{Meaning}
 use Rattle.mace_cells.proofs.Steps.{carried_itself}
-use Rattle.mace_cells.specs.Choices.{Decision, AgreesWith}
+use Rattle.mace_cells.specs.Choices.{Decision}
 use Rattle.mace_cells.specs.Trails.{Partial, partial}
-use Rattle.mace_cells.specs.World.{World, Solves, AreAlike, IsSettled, IsRefuted, AreRefuted, IsBound, IsNextValue, cell_of, many_cells}
+use Rattle.mace_cells.specs.World.{World, IsSettled, IsRefuted, AreRefuted, IsBound, IsNextValue, cell_of, many_cells}
 use Rattle.mace_cells.specs.declared.trail.TrailEntry.{TrailEntry}
 use Rattle.mace_ground.specs.Cells.{value_at}
 use Rattle.model_tables.specs.Size.{AllBelow, bound_of}
@@ -14,7 +13,7 @@ use Rattle.cell_search.specs.Finites.{finite_of, meaning_by_cells}
 use Rattle.cell_search.specs.Full.{IsFull, MakesTrue, HasNoSolution}
 use Rattle.cell_search.specs.Positions.{AreCrossed, IsLeast}
 use Rattle.cell_search.specs.Searchable.{HasAllCells}
-use Rattle.cell_search.specs.Sound.{Extends, decided_in, IsBoard}
+use Rattle.cell_search.specs.Sound.{decided_in, IsBoard}
 use Rattle.cell_search.proofs.Boarding.{agrees_all}
 use Rattle.cell_search.proofs.Bounding.{value_below}
 use Rattle.cell_search.proofs.Tabling.{tables_extend, tables_within}

@@ -1,13 +1,12 @@
 -- What the values of cells are below.
-use Rattle.std.proofs.Common.{◌≡◌, ℕ, zero, suc, ◌+◌, ◌-◌, ◌*◌, ◌/◌, ◌%◌, ◌^◌, ◌<◌, ◌≤◌, nat_lt, Bool, true, false, if◌then◌else◌, max, List, [], ◌∷◌, ◌++◌, length, map, drop, get_or, replicate, refl, sym, ap, ◌∙◌, subst, inl, inr, append_assoc, arith}
-use Rattle.std.proofs.Math.Nat.{div-lt_iff_lt-mul, one-le-pow, pow-zero, pow-succ'}
+use Rattle.std.proofs.Common.{◌≡◌, ℕ, zero, suc, ◌+◌, ◌-◌, ◌*◌, ◌%◌, ◌^◌, ◌<◌, ◌≤◌, nat_lt, Bool, true, false, if◌then◌else◌, max, List, [], ◌∷◌, ◌++◌, length, map, drop, get_or, replicate, refl, sym, ap, ◌∙◌, subst, inl, inr, append_assoc, arith}
+use Rattle.std.proofs.Math.Nat.{div-lt_iff_lt-mul, one-le-pow, pow-succ'}
 use Rattle.std.proofs.Math.Seq.{drop-cons}
 use Rattle.std.proofs.lemmas.Bool.{cases_lt, lt-ltb, le-ltb, ltb-true}
 use Rattle.std.proofs.lemmas.List.{length-replicate, length-append}
-use Rattle.fol_core.specs.Meaning.{Meaning, AllWithin, IsLawful}
+use Rattle.fol_core.specs.Meaning.{Meaning, AllWithin}
 use Rattle.fol_core.specs.declared.symbols.Kind.{Kind}
 use Rattle.fol_core.specs.declared.symbols.Kind.TheVariants.{Function, Relation}
-use Rattle.mace_cells.specs.Solutions.{IsSolution}
 use Rattle.mace_cells.specs.World.{World, Solves, cell_of, many_cells}
 use Rattle.mace_ground.specs.Cells.{Block, Cell, cell, cells_in, cell_at, digits, value_at, value_of_kind}
 use Rattle.mace_ground.specs.Spans.{block_of}

@@ -1,12 +1,12 @@
 -- Where each cell has a value, each literal is known.
-use Rattle.std.proofs.Common.{◌≡◌, ℕ, zero, suc, ◌+◌, ◌<◌, ◌≤◌, ◌==◌, ◌||◌, nat_lt, Bool, true, false, not, IsTrue, if◌then◌else◌, MatchBool, List, [], ◌∷◌, length, map, drop, get_or, set, slice_index, Option, None, Some, inl, inr, refl, sym, ap, ◌∙◌, subst, arith}
+use Rattle.std.proofs.Common.{◌≡◌, ℕ, zero, suc, ◌+◌, ◌<◌, ◌≤◌, ◌==◌, ◌||◌, nat_lt, Bool, true, false, not, IsTrue, if◌then◌else◌, MatchBool, List, [], ◌∷◌, length, map, get_or, set, Option, Some, inl, inr, refl, sym, ap, ◌∙◌, subst, arith}
 use Rattle.std.specs.List.{list_all}
 use Rattle.std.specs.Option.{option_map, option_and_then}
-use Rattle.std.proofs.lemmas.Bool.{lt-ltb, ltb-true, cases_lt}
+use Rattle.std.proofs.lemmas.Bool.{lt-ltb, cases_lt}
 use Rattle.std.proofs.lemmas.Bool.Decides.{nat_tests}
 use Rattle.std.proofs.lemmas.List.{get_or-set_same, get_or-set_other}
 use Rattle.fol_core.specs.ClauseView.{literal_of}
-use Rattle.fol_core.specs.Literals.{Lit, ClauseTree, equality, is_true_literal, is_true_clause, IsTrueClause}
+use Rattle.fol_core.specs.Literals.{Lit, ClauseTree, equality, is_true_literal, is_true_clause}
 use Rattle.fol_core.specs.Meaning.{Meaning}
 use Rattle.fol_core.specs.SymbolTable.{is_same_kind}
 use Rattle.fol_core.specs.Tree.{Tree, var, elem, app, Trees, none, more}
@@ -15,16 +15,15 @@ use Rattle.fol_core.specs.declared.clause.Literal.{Literal}
 use Rattle.fol_core.specs.declared.symbols.Kind.{Kind}
 use Rattle.fol_core.specs.declared.symbols.Kind.TheVariants.{Function, Relation}
 use Rattle.mace_cells.specs.Trails.{value_in}
-use Rattle.mace_cells.specs.World.{World, Solves, cell_of, many_cells}
+use Rattle.mace_cells.specs.World.{World, cell_of}
 use Rattle.mace_cells.specs.declared.trail.TrailEntry.{TrailEntry}
 use Rattle.mace_ground.specs.Cells.{Cell}
 use Rattle.mace_ground.specs.Instances.{assigned_by, variables_in}
 use Rattle.mace_ground.proofs.Grounding.{clause_same, list_below}
-use Rattle.mace_ground.proofs.Numbering.{by_number}
 use Rattle.model_tables.specs.Size.{AllBelow, bound_of}
 use Rattle.model_tables.specs.Tables.{place_from}
 use Rattle.cell_search.specs.Full.{IsFull, NoneIsTrue, IsDueClause, IsTrueFrom, IsTrueBelow, HasNoSolution}
-use Rattle.cell_search.specs.Known.{place_within, number_of_cell, cell_number, joined_seen, seen, all_seen, cell_seen, compared, equation_seen, atom_seen, literal_seen}
+use Rattle.cell_search.specs.Known.{number_of_cell, cell_number, joined_seen, seen, all_seen, cell_seen, compared, equation_seen, atom_seen, literal_seen}
 use Rattle.cell_search.specs.Searchable.{count_of, HasCells, IsOfCells, AreOfCells, IsEquationOfCells, IsAtomOfCells, IsClauseOfCells}
 use Rattle.cell_search.specs.Sound.{Extends, decided_in}
 use Rattle.cell_search.proofs.Sounding.{cell_named, literal_so}
@@ -133,6 +132,11 @@ one_true w es e ls i l h is known m extends = any_at m e ls i l h is (literal_so
 module _ (w : World) (es : List TrailEntry) (c : ClauseTree) (env : List ℕ) where
   pub instance_tells : (at many : ℕ) → many ≡ variables_in c → many ≤ at → ((m : Meaning) → Extends w m es → IsTrue (is_true_clause m (assigned_by env) c)) → IsTrueFrom w es c (assigned_by env) at
   instance_tells at many is past holds = λ m extends e below same. subst (λ (b : Bool). IsTrue b) (clause_same m (assigned_by env) e at (λ x h. sym (same x h)) c (omega (arith, is, past))) (holds m extends)
+
+  -- where there is one element, each variable has it
+  pub instance_alone : (at : ℕ) → w.size ≡ 1 → AllBelow w.size env → ((m : Meaning) → Extends w m es → IsTrue (is_true_clause m (assigned_by env) c)) → IsTrueFrom w es c (assigned_by env) at
+  instance_alone at one below holds = λ m extends e elements same. subst (λ (b : Bool). IsTrue b)
+      (clause_same m (assigned_by env) e (variables_in c) (λ x h. omega (arith, one, elements x, list_below w.size env x (omega (arith, one)) below)) c (omega arith)) (holds m extends)
 
   pub instance_none : 0 < w.size → AllBelow w.size env → IsFull w es → IsDueClause w c → NoneIsTrue w es (assigned_by env) c → HasNoSolution w es
   instance_none some below full due nothing = λ m solves extends.

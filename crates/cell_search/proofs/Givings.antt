@@ -1,5 +1,5 @@
 -- What a search gives, by what it found.
-use Rattle.std.proofs.Common.{◌≡◌, ℕ, zero, suc, Bool, true, false, List, [], Option, refl, sym, ap, subst}
+use Rattle.std.proofs.Common.{◌≡◌, ℕ, zero, suc, Bool, List, Option, refl, sym, subst}
 use Rattle.ladr_io.specs.Times.{Times}
 use Rattle.mace_cells.proofs.Steps.{found, ended}
 use Rattle.mace_cells.specs.Leaves.{choices_of}
@@ -10,25 +10,26 @@ use Rattle.mace_cells.specs.declared.trail.TrailEntry.{TrailEntry}
 use Rattle.mace_search.specs.declared.answer.Answer.{Answer}
 use Rattle.mace_search.specs.declared.answer.Answer.TheVariants.{Model, Exhausted, MaxSeconds}
 use Rattle.cell_search.specs.Courses.{Course, AnswersByCells, live_in, late_in, follows_after}
-use Rattle.cell_search.specs.Finites.{finite_of, meaning_by_cells}
+use Rattle.cell_search.specs.Finites.{finite_of, meaning_by_cells, AreTablesFor}
 use Rattle.cell_search.specs.declared.search.State.{State}
 
 abbrev course : World → Bool → List Frame → List TrailEntry → Option ℕ → Option ℕ → Course
 course w live fs es stop late = record { world = w; live = live; choices = choices_of w fs; tables = finite_of w es; stop = stop; late = late }
 
 module _ (w : World) (es es' : List TrailEntry) (fs fs' : List Frame) (live : Bool) (stop late : Option ℕ) (t : Times) where
-  at_once : (answer : Answer) (n : ℕ) → HasFound w live (choices_of w fs) (meaning_by_cells w es') answer (choices_of w fs') → IsTimed stop answer t
+  at_once : (answer : Answer) (n : ℕ) → HasFound w live (choices_of w fs) (meaning_by_cells w es') answer (choices_of w fs') → (answer ≡ Model → AreTablesFor w (finite_of w es')) → IsTimed stop answer t
       → AnswersByCells (course w live fs es stop late) (course w (live_in (follows_after answer n)) fs' es' stop (late_in (follows_after answer n))) answer t
-  at_once Model zero h timed = (found w live (choices_of w fs) (choices_of w fs') (meaning_by_cells w es') h.0 h.1, refl, refl, timed)
-  at_once Model (suc n) h timed = (found w live (choices_of w fs) (choices_of w fs') (meaning_by_cells w es') h.0 h.1, refl, refl, timed)
-  at_once Exhausted n h timed = (ended w live (choices_of w fs) h.0, refl, h.1, refl, timed)
-  at_once (MaxSeconds last) n h timed = (h, refl, refl, timed)
+  at_once Model zero h whole timed = (found w live (choices_of w fs) (choices_of w fs') (meaning_by_cells w es') h.0 h.1, whole refl, refl, refl, timed)
+  at_once Model (suc n) h whole timed = (found w live (choices_of w fs) (choices_of w fs') (meaning_by_cells w es') h.0 h.1, whole refl, refl, refl, timed)
+  at_once Exhausted n h whole timed = (ended w live (choices_of w fs) h.0, refl, h.1, refl, timed)
+  at_once (MaxSeconds last) n h whole timed = (h, refl, refl, timed)
 
 pub gives_by : (w w' : World) (es es' : List TrailEntry) (fs fs' : List Frame) (live old : Bool) (stop late : Option ℕ) (t : Times) (answer : Answer) (n : ℕ) (state : State) → w' ≡ w → old ≡ live → state ≡ follows_after answer n
-    → HasFound w live (choices_of w fs) (meaning_by_cells w' es') answer (choices_of w fs') → IsTimed stop answer t
+    → HasFound w live (choices_of w fs) (meaning_by_cells w' es') answer (choices_of w fs') → (answer ≡ Model → AreTablesFor w' (finite_of w' es')) → IsTimed stop answer t
     → AnswersByCells (course w old fs es stop late) (course w' (live_in state) fs' es' stop (late_in state)) answer t
-gives_by w w' es es' fs fs' live old stop late t answer n state worlds lives after h timed =
+gives_by w w' es es' fs fs' live old stop late t answer n state worlds lives after h whole timed =
     subst (λ (s : State). AnswersByCells (course w old fs es stop late) (course w' (live_in s) fs' es' stop (late_in s)) answer t) (sym after)
     (subst (λ (b : Bool). AnswersByCells (course w b fs es stop late) (course w' (live_in (follows_after answer n)) fs' es' stop (late_in (follows_after answer n))) answer t) (sym lives)
     (subst (λ (v : World). AnswersByCells (course w live fs es stop late) (course v (live_in (follows_after answer n)) fs' es' stop (late_in (follows_after answer n))) answer t) (sym worlds)
-    (at_once w es es' fs fs' live stop late t answer n (subst (λ (v : World). HasFound w live (choices_of w fs) (meaning_by_cells v es') answer (choices_of w fs')) worlds h) timed)))
+    (at_once w es es' fs fs' live stop late t answer n (subst (λ (v : World). HasFound w live (choices_of w fs) (meaning_by_cells v es') answer (choices_of w fs')) worlds h)
+    (subst (λ (v : World). answer ≡ Model → AreTablesFor v (finite_of v es')) worlds whole) timed)))

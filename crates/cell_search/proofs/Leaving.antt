@@ -1,5 +1,5 @@
 -- What can't be, and what must be, by what is left.
-use Rattle.std.proofs.Common.{◌≡◌, ℕ, suc, ◌+◌, ◌*◌, ◌<◌, ◌≤◌, ◌==◌, ◌⊎◌, inl, inr, Bool, true, false, MatchBool, max, List, Option, None, Some, IfSome, refl, sym, ap, ◌∙◌, subst, arith}
+use Rattle.std.proofs.Common.{◌≡◌, ℕ, ◌+◌, ◌*◌, ◌<◌, ◌≤◌, ◌==◌, ◌⊎◌, inl, inr, Bool, true, false, MatchBool, max, Option, None, Some, refl, sym, ◌∙◌, subst, arith}
 use mathlib.Core.Bool.{beq}
 use Rattle.std.proofs.lemmas.Bool.{cases_lt}
 use Rattle.std.proofs.lemmas.Option.{none-some, same_Some}
@@ -8,10 +8,9 @@ use Rattle.fol_core.specs.Meaning.{Meaning}
 use Rattle.mace_cells.specs.Choices.{AgreesWith}
 use Rattle.mace_cells.specs.Trails.{Partial, value_in, is_struck_off}
 use Rattle.mace_cells.specs.World.{World, Solves, cell_of, many_cells, IsRefuted}
-use Rattle.mace_cells.specs.declared.trail.TrailEntry.{TrailEntry}
 use Rattle.mace_ground.specs.Cells.{value_at}
 use Rattle.model_tables.specs.Size.{bound_of}
-use Rattle.cell_search.specs.Asking.{Passes, IsDue, IsOnly, IsNone, AreCrossedBut}
+use Rattle.cell_search.specs.Asking.{IsDue, IsOnly, AreCrossedBut}
 use Rattle.cell_search.specs.Sound.{decided_in, IsBoard}
 use Rattle.cell_search.specs.declared.asks.Ask.{Ask}
 use Rattle.cell_search.proofs.Bounding.{value_below}

@@ -1,11 +1,11 @@
 -- What clauses ask, literal by literal.
-use Rattle.std.proofs.Common.{◌≡◌, ℕ, suc, ◌+◌, ◌<◌, ◌≤◌, ◌==◌, ◌||◌, ◌⊎◌, inl, inr, Bool, true, false, not, IsTrue, if◌then◌else◌, MatchBool, List, [], ◌∷◌, length, map, drop, get_or, Option, None, Some, IfSome, refl, sym, ap, ◌∙◌, subst, arith}
+use Rattle.std.proofs.Common.{◌≡◌, ℕ, suc, ◌+◌, ◌<◌, ◌≤◌, ◌==◌, ◌||◌, ◌⊎◌, inl, inr, Bool, true, false, not, IsTrue, if◌then◌else◌, MatchBool, List, [], ◌∷◌, length, map, drop, get_or, Option, None, Some, refl, sym, ap, ◌∙◌, subst, arith}
 use Rattle.std.proofs.Math.Seq.{drop-cons}
 use Rattle.std.proofs.lemmas.Bool.{eqb-true, eqb-false, not-true}
 use Rattle.std.proofs.lemmas.Bool.Decides.{nat_tests}
 use Rattle.std.proofs.lemmas.List.{drop_all, get_or_default}
 use Rattle.fol_core.specs.ClauseView.{literal_of}
-use Rattle.fol_core.specs.Literals.{Lit, literal, ClauseTree, equality, is_true_atom, is_true_literal, is_true_clause}
+use Rattle.fol_core.specs.Literals.{literal, equality, is_true_atom, is_true_literal, is_true_clause}
 use Rattle.fol_core.specs.Meaning.{Meaning}
 use Rattle.fol_core.specs.Tree.{Tree, app, Trees, none, more, trees_of}
 use Rattle.fol_core.specs.Truth.{Assignment, value_of, values_of}

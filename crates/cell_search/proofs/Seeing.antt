@@ -1,12 +1,12 @@
 -- What is known of terms, from one argument to the next.
-use Rattle.std.proofs.Common.{◌≡◌, ℕ, zero, suc, ◌+◌, ◌*◌, ◌^◌, ◌-◌, ◌<◌, ◌≤◌, ◌==◌, ◌&&◌, min, nat_lt, Bool, true, false, if◌then◌else◌, List, [], ◌∷◌, length, drop, Option, None, Some, get_or, refl, sym, ap, ◌∙◌, subst, arith}
+use Rattle.std.proofs.Common.{◌≡◌, ℕ, suc, ◌+◌, ◌*◌, ◌^◌, ◌-◌, ◌<◌, ◌≤◌, ◌==◌, ◌&&◌, min, Bool, true, false, if◌then◌else◌, List, [], ◌∷◌, length, drop, Option, None, Some, refl, sym, ap, ◌∙◌, subst, arith}
 use Rattle.std.proofs.Math.Nat.{pow-suc, pow-le-pow_right, mul-le-mul_right}
 use Rattle.std.specs.Option.{option_map, option_and_then}
 use Rattle.std.proofs.lemmas.Bool.{eqb-true, lt-ltb, le-ltb}
 use Rattle.std.proofs.lemmas.List.{drop_all}
 use Rattle.std.proofs.lemmas.Option.{none-some, same_Some}
 use Rattle.fol_core.specs.SymbolTable.{is_same_kind}
-use Rattle.fol_core.specs.Tree.{Tree, Trees, trees_of}
+use Rattle.fol_core.specs.Tree.{Tree, trees_of}
 use Rattle.fol_core.specs.TermView.{tree_list}
 use Rattle.fol_core.specs.Truth.{Assignment}
 use Rattle.fol_core.specs.declared.symbols.Kind.{Kind}

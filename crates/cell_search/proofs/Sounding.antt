@@ -1,5 +1,5 @@
 -- What is known is so in each interpretation that the table leaves.
-use Rattle.std.proofs.Common.{◌≡◌, ℕ, suc, ◌+◌, ◌<◌, ◌==◌, ◌&&◌, nat_lt, Bool, true, false, not, IsTrue, if◌then◌else◌, List, [], ◌∷◌, length, Option, None, Some, refl, sym, ap, ◌∙◌, subst, arith}
+use Rattle.std.proofs.Common.{◌≡◌, ℕ, ◌+◌, ◌<◌, ◌==◌, ◌&&◌, nat_lt, Bool, true, false, not, if◌then◌else◌, List, [], ◌∷◌, length, Option, None, Some, refl, sym, ap, ◌∙◌, subst}
 use Rattle.std.specs.List.{list_all}
 use Rattle.std.specs.Option.{option_map, option_and_then}
 use Rattle.std.proofs.lemmas.Bool.{eqb-true, ltb-true}
@@ -18,7 +18,7 @@ use Rattle.mace_ground.specs.Cells.{Block, cell, cells_in, cell_at, found, value
 use Rattle.mace_ground.proofs.Numbering.{by_number}
 use Rattle.model_tables.specs.Size.{AllBelow}
 use Rattle.model_tables.specs.Tables.{place_from}
-use Rattle.cell_search.specs.Known.{place_within, number_of_cell, cell_number, joined_seen, seen, all_seen, cell_seen, compared, equation_seen, atom_seen, literal_seen}
+use Rattle.cell_search.specs.Known.{place_within, number_of_cell, cell_number, seen, all_seen, cell_seen, compared, equation_seen, atom_seen, literal_seen}
 use Rattle.cell_search.specs.Sound.{Extends}
 use Rattle.cell_search.proofs.Seeing.{joined_some, both_true}
 

@@ -2,11 +2,11 @@
 use Rattle.std.proofs.Common.{◌≡◌, ℕ, zero, suc, ◌+◌, ◌-◌, ◌*◌, ◌/◌, ◌%◌, ◌^◌, ◌<◌, ◌≤◌, ◌==◌, ◌||◌, nat_lt, nat_le, Bool, true, false, if◌then◌else◌, max, List, [], ◌∷◌, length, map, get_or, slice_get, slice_index, Option, None, Some, unwrap_or, inl, inr, refl, sym, ap, ◌∙◌, subst, arith}
 use Rattle.std.specs.List.{range_with_len}
 use Rattle.std.specs.Option.{option_map_or}
-use Rattle.std.proofs.Math.Nat.{div-add-mod', one-le-pow, pow-zero, pow-succ'}
+use Rattle.std.proofs.Math.Nat.{div-add-mod', one-le-pow, pow-zero}
 use Rattle.std.proofs.lemmas.Bool.{cases_lt, eqb-true, lt-ltb, le-ltb}
 use Rattle.std.proofs.lemmas.Bool.Decides.{nat_tests}
 use Rattle.std.proofs.lemmas.List.FromFn.{get_or-map-range_with_len, length-map-range_with_len}
-use Rattle.std.proofs.lemmas.Option.{none-some, same_Some, slice_get-get_or}
+use Rattle.std.proofs.lemmas.Option.{none-some, same_Some, slice_get-get_or, slice_get_past}
 use Rattle.fol_core.specs.Bound.{IsOnce}
 use Rattle.fol_core.specs.Free.{is_in}
 use Rattle.fol_core.specs.declared.symbols.Kind.{Kind}
@@ -16,11 +16,12 @@ use Rattle.mace_cells.specs.World.{World, cell_of, many_cells}
 use Rattle.mace_cells.specs.declared.trail.TrailEntry.{TrailEntry}
 use Rattle.mace_ground.proofs.Numbering.{place_split}
 use Rattle.mace_ground.specs.Cells.{Block, Cell, cell, cells_in, cell_at, digits, found, found_from, value_at, value_of_kind}
-use Rattle.model_tables.specs.Size.{bound_of}
-use Rattle.model_tables.specs.Tables.{Finite, Listing, place_from, listed, element, row_of, meaning_of}
-use Rattle.cell_search.specs.Finites.{cell_values, row_in, above_symbols, finite_of, meaning_by_cells}
+use Rattle.model_tables.specs.Size.{bound_of, AllBelow}
+use Rattle.model_tables.specs.Tables.{Listing, listing, place_from, listed, row_of}
+use Rattle.cell_search.specs.Finites.{cell_values, values_in, values_of_symbol, above_symbols, finite_of, meaning_by_cells, IsRowFor, AreTablesFor}
 use Rattle.cell_search.specs.Full.{IsFull}
 use Rattle.cell_search.specs.Sound.{Extends}
+use Rattle.cell_search.proofs.Seeing.{found_within}
 
 -- a cell by its block and its place in it
 record IsLocated (n from : ℕ) (bs : List Block) (k : ℕ) : Type 0 where
@@ -100,15 +101,31 @@ found_below n from (b ∷ bs) s q h = by (s == b.symbol) refl h (λ e. found_bel
     by false t e rest = omega (arith, rest e)
 
 module _ (w : World) (es : List TrailEntry) where
+  -- each row has the values of its symbol's cells
+  pub row_is : (s : ℕ) → row_of (finite_of w es) s ≡ values_of_symbol w es s
+  row_is s = elim (cases_lt s (above_symbols w.blocks)) [
+    | inl below ↦
+        let there : slice_get rows s ≡ Some (get_or rows s (f s)) = slice_get-get_or rows s (f s) (omega (arith, below, many)) in
+        let value : get_or rows s (f s) ≡ f s = get_or-map-range_with_len f 0 (above_symbols w.blocks) s s (f s) below (omega arith) in
+        ap (λ (o : Option Listing). option_map_or (λ l. l.values) o []) (there ∙ ap (λ (l : Listing). Some l) value)
+    | inr past ↦ ap (λ (o : Option Listing). option_map_or (λ l. l.values) o []) (slice_get_past rows s (omega (arith, past, many))) ∙ nothing (found w.size w.blocks s) refl past
+  ]
+    where
+      f : ℕ → Listing
+      f r = listing Function (values_of_symbol w es r)
+
+      rows : List Listing
+      rows = map f (range_with_len 0 (above_symbols w.blocks))
+
+      many : length rows ≡ above_symbols w.blocks
+      many = length-map-range_with_len f 0 (above_symbols w.blocks)
+
+      nothing : (o : Option (ℕ × Block)) → found w.size w.blocks s ≡ o → above_symbols w.blocks ≤ s → [] ≡ values_in w es o
+      nothing None e past = refl
+      nothing (Some q) e past = absurd (omega (arith, past, found_below w.size 0 w.blocks s q e))
+
   row_at : (s : ℕ) (q : ℕ × Block) → found w.size w.blocks s ≡ Some q → row_of (finite_of w es) s ≡ cell_values es q.0 (w.size ^ q.1.arity)
-  row_at s q h =
-      let f : ℕ → Listing = λ r. row_in w es (found w.size w.blocks r) in
-      let rows = map f (range_with_len 0 (above_symbols w.blocks)) in
-      let below : s < above_symbols w.blocks = found_below w.size 0 w.blocks s q h in
-      let many : length rows ≡ above_symbols w.blocks = length-map-range_with_len f 0 (above_symbols w.blocks) in
-      let there : slice_get rows s ≡ Some (get_or rows s (f s)) = slice_get-get_or rows s (f s) (omega (arith, below, many)) in
-      let value : get_or rows s (f s) ≡ f s = get_or-map-range_with_len f 0 (above_symbols w.blocks) s s (f s) below (omega arith) in
-      ap (λ (o : Option Listing). option_map_or (λ l. l.values) o []) (there ∙ ap (λ (l : Listing). Some l) value) ∙ ap (λ (o : Option (ℕ × Block)). (row_in w es o).values) h
+  row_at s q h = row_is s ∙ ap (values_in w es) h
 
   listed_at : (s : ℕ) (xs : List ℕ) (q : ℕ × Block) (place v : ℕ) → 0 < w.size → found w.size w.blocks s ≡ Some q → place_from w.size 0 xs ≡ place → place < w.size ^ q.1.arity → value_in es (q.0 + place) ≡ Some v → listed (finite_of w es) s xs ≡ v
   listed_at s xs q place v some h is within given =
@@ -139,6 +156,52 @@ module _ (w : World) (es : List TrailEntry) where
 
   pub tables_within : 0 < w.size → (x : ℕ) → (meaning_by_cells w es).within x ≡ nat_lt x w.size
   tables_within some x = grind (arith, nat_tests)
+
+-- the cells of a symbol's block have its kind
+kind_within : (n from : ℕ) (bs : List Block) (s : ℕ) (q : ℕ × Block) → found_from n from bs s ≡ Some q → (k p : ℕ) → from + k ≡ q.0 + p → p < n ^ q.1.arity → (cell_at n bs k).kind ≡ q.1.kind
+kind_within n from [] s q h k p e within = absurd (none-some _ h)
+kind_within n from (b ∷ bs) s q h k p e within =
+    by (s == b.symbol) h (λ g past. kind_within n (from + n ^ b.arity) bs s q g (k - n ^ b.arity) p (omega (arith, past, e)) within)
+  where
+    here : (from, b) ≡ q → (cell_at n (b ∷ bs) k).kind ≡ q.1.kind
+    here same =
+        let first : from ≡ q.0 = ap (λ (r : ℕ × Block). r.0) same in
+        let many : n ^ b.arity ≡ n ^ q.1.arity = ap (λ (r : ℕ × Block). n ^ r.1.arity) same in
+        let less : k < n ^ b.arity = omega (arith, first, many, e, within) in
+        ap (λ (t : Bool). (if t then cell b.kind b.symbol (digits n b.arity k) else cell_at n bs (k - n ^ b.arity)).kind) (lt-ltb _ _ less) ∙ ap (λ (r : ℕ × Block). r.1.kind) same
+
+    later : found_from n (from + n ^ b.arity) bs s ≡ Some q → (found_from n (from + n ^ b.arity) bs s ≡ Some q → n ^ b.arity ≤ k → (cell_at n bs (k - n ^ b.arity)).kind ≡ q.1.kind)
+        → (cell_at n (b ∷ bs) k).kind ≡ q.1.kind
+    later g rest =
+        let past : n ^ b.arity ≤ k = omega (arith, (found_within n (from + n ^ b.arity) bs s q g).0, e) in
+        ap (λ (t : Bool). (if t then cell b.kind b.symbol (digits n b.arity k) else cell_at n bs (k - n ^ b.arity)).kind) (le-ltb _ _ past) ∙ rest g past
+
+    by : (t : Bool) → (if t then Some (from, b) else found_from n (from + n ^ b.arity) bs s) ≡ Some q
+        → (found_from n (from + n ^ b.arity) bs s ≡ Some q → n ^ b.arity ≤ k → (cell_at n bs (k - n ^ b.arity)).kind ≡ q.1.kind) → (cell_at n (b ∷ bs) k).kind ≡ q.1.kind
+    by true g rest = here (same_Some _ _ g)
+    by false g rest = later g rest
+
+all_at : (b : ℕ) (f : ℕ → ℕ) (k n : ℕ) → ((j : ℕ) → k ≤ j → j < k + n → f j < b) → AllBelow b (map f (range_with_len k n))
+all_at b f k zero h = tt
+all_at b f k (suc n) h = (h k (omega arith) (omega arith), all_at b f (k + 1) n (λ j l m. h j (omega (arith, l)) (omega (arith, m))))
+
+-- where each cell has a value, the rows are whole
+pub tables_whole : (w : World) (es : List TrailEntry) → 0 < w.size → IsFull w es → AreTablesFor w (finite_of w es)
+tables_whole w es some full = record { size = omega (arith, some); rows = λ s. subst (IsRowFor w (found w.size w.blocks s)) (sym (row_is w es s)) (by s (found w.size w.blocks s) refl) }
+  where
+    by : (s : ℕ) (o : Option (ℕ × Block)) → found w.size w.blocks s ≡ o → IsRowFor w o (values_in w es o)
+    by s None e = refl
+    by s (Some q) e =
+        let f : ℕ → ℕ = λ j. unwrap_or (value_in es j) 0 in (
+          length-map-range_with_len f q.0 (w.size ^ q.1.arity),
+          all_at (bound_of w.size q.1.kind) f q.0 (w.size ^ q.1.arity) (λ j from to.
+              let end = (found_within w.size 0 w.blocks s q e).1 in
+              let v = full j (omega (arith, end, to)) in
+              let kind : (cell_of w j).kind ≡ q.1.kind = kind_within w.size 0 w.blocks s q e j (j - q.0) (omega (arith, from)) (omega (arith, from, to)) in
+              let bound : bound_of w.size (cell_of w j).kind ≡ bound_of w.size q.1.kind = ap (bound_of w.size) kind in
+              let value : f j ≡ v.0 = ap (λ (o : Option ℕ). unwrap_or o 0) v.1.0 in
+              omega (arith, value, v.1.1, bound)),
+        )
 
 -- different numbers are those of different cells
 pub cells_differ : (w : World) → IsOnce (map (λ b. b.symbol) w.blocks) → 0 < w.size → (j k : ℕ) → j < many_cells w → k < many_cells w → cell_of w j ≡ cell_of w k → j ≡ k

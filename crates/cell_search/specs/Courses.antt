@@ -13,6 +13,7 @@ use Rattle.mace_search.specs.declared.answer.Answer.{Answer}
 use Rattle.mace_search.specs.declared.answer.Answer.TheVariants as answers
 use Rattle.mace_search.specs.declared.answer.Answer.TheVariants.{Model, MaxSeconds}
 use Rattle.model_tables.specs.Tables.{Finite, meaning_of}
+use Rattle.cell_search.specs.Finites.{AreTablesFor}
 use Rattle.cell_search.specs.declared.search.State.{State}
 use Rattle.cell_search.specs.declared.search.State.TheVariants.{Following, Found, Exhausted, Late}
 
@@ -39,10 +40,11 @@ pub record Course : Type 0 where
 abbrev pub IsSameCourse : Course → Course → Type 0
 IsSameCourse s s' = (s'.world ≡ s.world) × (s'.stop ≡ s.stop)
 
--- What an answer says: the tables are a model that was ahead, and is ahead no more; none was ahead; or the time is over, and
--- nothing was passed over.
+-- What an answer says: the tables have a value for each cell, and are a model that was ahead, and is ahead no more; none was
+-- ahead; or the time is over, and nothing was passed over.
 abbrev pub AnswersByCells : Course → Course → Answer → Times → Type 0
-AnswersByCells s s' Model t = FindsModel s.world s.live s.choices (meaning_of s'.tables) s'.choices × (s'.live ≡ false) × (s'.late ≡ None) × IsEarly s.stop t
+AnswersByCells s s' Model t =
+    FindsModel s.world s.live s.choices (meaning_of s'.tables) s'.choices × AreTablesFor s.world s'.tables × (s'.live ≡ false) × (s'.late ≡ None) × IsEarly s.stop t
 AnswersByCells s s' answers.Exhausted t = IsOver s.world s.live s.choices × (s'.live ≡ false) × (s'.choices ≡ []) × (s'.late ≡ None) × IsEarly s.stop t
 AnswersByCells s s' (MaxSeconds last) t = LeavesOpen s.world s.live s.choices true s'.choices × (s'.live ≡ true) × (s'.late ≡ Some last) × IsLate s.stop t last
 

@@ -1,5 +1,5 @@
 -- Clauses whose terms all have cells.
-use Rattle.std.specs.Prelude.{ℕ, suc, ◌≡◌, ◌<◌, ◌==◌, MatchBool, List, [], ◌∷◌, Some, length, map}
+use Rattle.std.specs.Prelude.{ℕ, suc, ◌≡◌, ◌<◌, ◌==◌, MatchBool, [], ◌∷◌, Some, map}
 use Rattle.std.specs.List.{AllByRecursion}
 use Rattle.fol_core.specs.Bound.{IsOnce}
 use Rattle.fol_core.specs.Literals.{ClauseTree, equality}

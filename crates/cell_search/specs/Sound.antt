@@ -1,8 +1,8 @@
 -- Partial tables from which nothing is lost: what the decisions leave, the table leaves.
-use Rattle.std.specs.Prelude.{ℕ, ◌+◌, ◌*◌, ◌≡◌, ◌<◌, ◌≤◌, Bool, true, if◌then◌else◌, List, [], ◌∷◌, MatchBool, max, length, None, Some}
+use Rattle.std.specs.Prelude.{ℕ, ◌+◌, ◌*◌, ◌≡◌, ◌<◌, ◌≤◌, true, if◌then◌else◌, List, [], ◌∷◌, MatchBool, max, length, None, Some}
 use Rattle.fol_core.specs.Meaning.{Meaning}
 use Rattle.mace_cells.specs.Choices.{Decision, AgreesWith}
-use Rattle.mace_cells.specs.Trails.{Partial, partial, value_in, is_struck_off, earliest}
+use Rattle.mace_cells.specs.Trails.{Partial, value_in, is_struck_off, earliest}
 use Rattle.mace_cells.specs.World.{World, Solves, cell_of, many_cells}
 use Rattle.mace_cells.specs.declared.trail.TrailEntry.{TrailEntry}
 use Rattle.mace_ground.specs.Cells.{value_at}

@@ -1,6 +1,6 @@
 // The board of a search: a partial table of its cells, closed under what the clauses ask.
 ghost use Rattle.std.specs.Prelude.{ℕ, ◌≡◌, ◌<◌, ◌≤◌, [], None, false, max, IfOk, length, replicate};
-ghost use Rattle.cell_search.specs.Finites.{finite_of, meaning_by_cells};
+ghost use Rattle.cell_search.specs.Finites.{finite_of, meaning_by_cells, tables_over, AreTablesFor};
 ghost use Rattle.cell_search.specs.Positions.{position, IsLeast};
 ghost use Rattle.cell_search.specs.Searchable.{HasAllCells};
 ghost use Rattle.cell_search.specs.Sound.{decided_in};
@@ -13,6 +13,7 @@ use crate::going::{begin, close};
 use crate::setup::Setup;
 use crate::tables::finite;
 use crate::walk::{Group, Walk};
+use fol_core::Symbols;
 use mace_cells::{Board, Status, Trail};
 use model_tables::Tables;
 use std::alloc::{AllocError, Global};
@@ -82,11 +83,12 @@ impl<'a> Cells<'a> {
         })
     }
 
-    /// The tables of the values that cells have, 0 where they have none.
-    pub fn tables(&self, alloc: Global) -> Result<Tables, AllocError>
-        ensures { IfOk result (λ t. t ≡ finite_of self.now.world self.now.table.entries) }
+    /// The tables of the values that cells have, 0 where they have none, for the symbols of a table.
+    pub fn tables(&self, alloc: Global, symbols: &Symbols) -> Result<Tables, AllocError>
+        ensures { IfOk result (λ t. t
+            ≡ tables_over symbols.now (finite_of self.now.world self.now.table.entries)) }
     {
-        finite(alloc, &self.setup, &self.trail)
+        finite(alloc, &self.setup, &self.trail, symbols)
     }
 
     // Goes over all instances, at the beginning.
@@ -130,6 +132,8 @@ impl<'a> Cells<'a> {
             (meaning_by_cells self.old.world self.old.table.entries) result }
         ensures open { (cell : ℕ) → result ≡ Status.Choose cell
             → value_in self.old.table.entries cell ≡ None }
+        ensures full { result ≡ Status.Settled
+            → AreTablesFor self.old.world (finite_of self.old.world self.old.table.entries) }
     {
         match fullness(&self.setup, &self.trail) {
             Filled::Open(cell) => Status::Choose(cell),
@@ -169,7 +173,7 @@ fn least(trail: &Trail, cell: u32, from: u32, most: u8) -> Option<u8>
 }
 
 impl<'a> Board for Cells<'a> {
-    ghost use Rattle.cell_search.specs.Finites.{meaning_by_cells};
+    ghost use Rattle.cell_search.specs.Finites.{finite_of, meaning_by_cells, AreTablesFor};
     ghost use Rattle.cell_search.specs.Sound.{decided_in};
     ghost use Rattle.mace_cells.specs.Trails.{value_in};
     ghost use Rattle.std.specs.Prelude.{◌≡◌, None};
@@ -181,6 +185,8 @@ impl<'a> Board for Cells<'a> {
     ghost found = { λ b. meaning_by_cells b.world b.table.entries };
 
     ghost is_open = { λ b k. value_in b.table.entries k ≡ None };
+
+    ghost is_full = { λ b. AreTablesFor b.world (finite_of b.world b.table.entries) };
 
     fn status(&mut self) -> Status {
         if !self.start() {

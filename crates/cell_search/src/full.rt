@@ -81,6 +81,10 @@ fn holds(
     if at >= many {
         return some_true(setup, trail, literals, env);
     }
+    // One element is that of each variable.
+    if setup.size() == 1 {
+        return some_true(setup, trail, literals, env);
+    }
     for element in 0..setup.size() {
         env[at] = element;
         if !holds(setup, trail, literals, env, at + 1, many) {

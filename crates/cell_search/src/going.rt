@@ -78,10 +78,11 @@ fn go(setup: &Setup, trail: &mut Trail, walk: &Walk, cell: u32, env: &mut [u32],
     if at == walk.nested && !is_here(setup, trail, walk, cell, env) {
         return true;
     }
-    if at >= walk.order.len() {
+    let size = setup.size();
+    // One element is that of each variable.
+    if at >= walk.order.len() || size == 1 {
         return pursue(setup, trail, walk.clause, env);
     }
-    let size = setup.size();
     for element in 0..size {
         set(env, walk.order[at], element, size);
         if !go(setup, trail, walk, cell, env, at + 1) {

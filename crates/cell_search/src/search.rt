@@ -1,11 +1,12 @@
 // The search for the models of a size, cell by cell.
 ghost use Rattle.std.specs.Prelude.{◌≡◌, ℕ, ◌≤◌, [], true, false, None, Some, IfOk};
 ghost use Rattle.cell_search.specs.Courses.{world_of, above_numeral, IsSameCourse, AnswersByCells, follows_after};
-ghost use Rattle.cell_search.specs.Finites.{finite_of};
+ghost use Rattle.cell_search.specs.Finites.{finite_of, tables_over};
 ghost use Rattle.cell_search.specs.Searchable.{HasAllCells};
 ghost use Rattle.mace_ground.specs.Count.{ground_count};
 ghost use Rattle.mace_search.specs.Watch.{IsEarly, KeepsFirst};
 ghost use Rattle.mace_search.specs.declared.answer.Answer.TheVariants.{Exhausted, MaxSeconds};
+ghost use Rattle.model_tables.specs.declared.limits.TheConstants.{MOST_CELLS};
 
 use crate::cells::Cells;
 use crate::setup::Setup;
@@ -97,7 +98,7 @@ impl<'a> Search<'a> {
         stop: Option<u128>,
     ) -> Result<Search<'a>, AllocError>
         requires size { size ≤ 255 }
-        requires count { ground_count size symbols.now clauses.now ≤ 50000000 }
+        requires count { ground_count size symbols.now clauses.now ≤ MOST_CELLS }
         requires searchable { HasAllCells (world_of symbols.now clauses.now size) }
         ensures { IfOk result (λ s. s ≡ record {
           world = world_of symbols.now clauses.now size;
@@ -127,11 +128,11 @@ impl<'a> Search<'a> {
         })
     }
 
-    /// The model, where the last answer was that there is one.
-    pub fn tables(&self, alloc: Global) -> Result<Tables, AllocError>
-        ensures { IfOk result (λ t. t ≡ self.now.tables) }
+    /// The model, where the last answer was that there is one, for the symbols of a table.
+    pub fn tables(&self, alloc: Global, symbols: &Symbols) -> Result<Tables, AllocError>
+        ensures { IfOk result (λ t. t ≡ tables_over symbols.now self.now.tables) }
     {
-        self.cells.tables(alloc)
+        self.cells.tables(alloc, symbols)
     }
 
     /// Goes on to the next model. It takes no memory.

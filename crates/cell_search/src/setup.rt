@@ -3,7 +3,6 @@ ghost use Rattle.std.specs.Prelude.{◌≡◌, ◌+◌, ◌^◌, ◌<◌, ◌≤
 ghost use Rattle.std.specs.Option.{option_map};
 ghost use Rattle.mace_cells.specs.World.{cell_of, many_cells};
 ghost use Rattle.cell_search.specs.Bounds.{cell_bounds};
-ghost use Rattle.cell_search.specs.Finites.{above_symbols};
 ghost use Rattle.model_tables.specs.Size.{bound_of};
 ghost use Rattle.mace_ground.specs.Cells.{found};
 ghost use Rattle.mace_ground.specs.Spans.{span_of};
@@ -21,15 +20,12 @@ pub struct Setup<'a> {
     fixed: u64,
     // What the values of each cell are below.
     bounds: Vec<u8>,
-    // The least number above each symbol that has cells.
-    symbols: u64,
 }
 
 impl<'a> Model for Setup<'a> {
     ghost use Rattle.std.specs.Prelude.{◌≡◌, ◌<◌};
     ghost use Rattle.mace_cells.specs.World.{World};
     ghost use Rattle.cell_search.specs.Bounds.{cell_bounds};
-    ghost use Rattle.cell_search.specs.Finites.{above_symbols};
     ghost use Rattle.cell_search.specs.SearchCodes.{coded_world};
 
     ghost Value = { World };
@@ -41,7 +37,6 @@ impl<'a> Model for Setup<'a> {
     ghost invariant = { λ a. record {
       some : 0 < a.ground.size;
       bounds : a.bounds.items ≡ cell_bounds a.ground.size a.ground.blocks;
-      symbols : a.symbols ≡ above_symbols a.ground.blocks;
     } };
 }
 
@@ -58,12 +53,10 @@ impl<'a> Setup<'a> {
         }) }
     {
         let bounds = bounds(alloc, &ground)?;
-        let symbols = above_symbols(&ground)?;
         Ok(Setup {
             ground,
             fixed,
             bounds,
-            symbols,
         })
     }
 
@@ -98,13 +91,6 @@ impl<'a> Setup<'a> {
         ensures some { 0 < result }
     {
         u32::from(self.bounds[cell as usize])
-    }
-
-    /// The least number above each symbol that has cells.
-    pub fn symbols(&self) -> u64
-        ensures { result ≡ above_symbols self.now.blocks }
-    {
-        self.symbols
     }
 
     /// The blocks of cells in order.
@@ -146,18 +132,4 @@ fn add_bounds(bounds: &mut Vec<u8>, size: u32, block: Block, cells: u32) -> Resu
     let bound = bound(size, block.kind) as u8;
     bounds.resize(bounds.len() + many, bound)?;
     Ok(())
-}
-
-// The least number above each symbol that has cells.
-fn above_symbols(ground: &Ground) -> Result<u64, AllocError>
-    ensures { IfOk result (λ n. n ≡ above_symbols ground.now.blocks) }
-{
-    let mut above = 0;
-    for block in ground.blocks().list() {
-        match block.symbol.0.checked_add(1) {
-            None => return Err(AllocError),
-            Some(next) => above = next.max(above),
-        }
-    }
-    Ok(above)
 }

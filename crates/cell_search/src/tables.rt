@@ -1,12 +1,11 @@
 // The tables of a model.
-ghost use Rattle.std.specs.Prelude.{◌≡◌, ◌+◌, ◌^◌, ◌<◌, ◌≤◌, IfOk, unwrap_or};
-ghost use Rattle.cell_search.specs.Finites.{cell_values, row_in, above_symbols, finite_of};
+ghost use Rattle.std.specs.Prelude.{◌≡◌, ◌+◌, ◌≤◌, ◌<◌, IfOk, unwrap_or};
+ghost use Rattle.cell_search.specs.Finites.{cell_values, values_of_symbol, finite_of, tables_over};
 ghost use Rattle.mace_cells.specs.Trails.{value_in};
 ghost use Rattle.mace_cells.specs.World.{many_cells};
-ghost use Rattle.mace_ground.specs.Cells.{found};
 
 use crate::setup::Setup;
-use fol_core::{Kind, Sym};
+use fol_core::{Sym, Symbols};
 use mace_cells::Trail;
 use mace_ground::power;
 use model_tables::{Row, Tables};
@@ -43,31 +42,38 @@ fn cell_values(
     Ok(values)
 }
 
-// The row of a symbol.
-fn row(alloc: Global, setup: &Setup, trail: &Trail, symbol: Sym) -> Result<Row, AllocError>
+// The values of a symbol.
+fn values(alloc: Global, setup: &Setup, trail: &Trail, symbol: Sym) -> Result<Vec<u32>, AllocError>
     requires { trail.now.many ≡ many_cells setup.now }
-    ensures { IfOk result (λ r. r ≡ row_in setup.now trail.now.entries
-        (found setup.now.size setup.now.blocks symbol.0)) }
+    ensures { IfOk result (λ v. v.items
+        ≡ values_of_symbol setup.now trail.now.entries symbol.0) }
 {
     let cells = setup.cells();
     match setup.find(symbol) {
-        None => Ok(Row::new(Kind::Function, Vec::new(alloc))),
+        None => Ok(Vec::new(alloc)),
         Some(span) => {
             let many = power(setup.size(), u128::from(span.block.arity)) as u32;
-            let values = cell_values(alloc, trail, span.first, many, cells)?;
-            Ok(Row::new(span.block.kind, values))
+            cell_values(alloc, trail, span.first, many, cells)
         }
     }
 }
 
-/// The tables that a partial table with a value in each cell is.
-pub fn finite(alloc: Global, setup: &Setup, trail: &Trail) -> Result<Tables, AllocError>
+/// The tables that a partial table with a value in each cell is, for the symbols of a table.
+pub fn finite(
+    alloc: Global,
+    setup: &Setup,
+    trail: &Trail,
+    symbols: &Symbols,
+) -> Result<Tables, AllocError>
     requires { trail.now.many ≡ many_cells setup.now }
-    ensures { IfOk result (λ t. t ≡ finite_of setup.now trail.now.entries) }
+    ensures { IfOk result (λ t. t
+        ≡ tables_over symbols.now (finite_of setup.now trail.now.entries)) }
 {
     let mut rows = Vec::new(alloc);
-    for symbol in 0..setup.symbols() {
-        rows.push(row(alloc, setup, trail, Sym(symbol))?)?;
+    for number in 0..symbols.len() as u64 {
+        let symbol = Sym(number);
+        let values = values(alloc, setup, trail, symbol)?;
+        rows.push(Row::new(symbols.kind(symbol), values))?;
     }
     Ok(Tables::new(setup.size(), rows))
 }

@@ -17,10 +17,10 @@ use Rattle.fol_core.specs.Tree.{var}
 use Rattle.fol_core.specs.declared.symbols.Kind.TheVariants.{Function}
 use Rattle.fol_core.proofs.SymbolLemmas.{FindsEach-push, number_of_push}
 use Rattle.clausify.specs.Behind.{AreFor, HasOwnName, StandBehind}
-use Rattle.clausify.specs.Input.{form, all_arities, skolems, witnesses_from}
+use Rattle.clausify.specs.Input.{form, all_arities, skolems, axioms_from}
 use Rattle.clausify.specs.Names.{is_named, next_name, next_constant, next_function, skolem_symbols, all_entered, entered_numbers}
 use Rattle.clausify.specs.Skolem.{somes, arities, skolem_axioms, skolem_term}
-use Rattle.clausify.proofs.Bodies.{witnesses_many, many_in_two}
+use Rattle.clausify.proofs.Bodies.{axioms_many, many_in_two}
 use Rattle.clausify.proofs.Fresh.{IsAfter, AreNames, are_names, name_after, other_name, constant_after, function_after, from_many, symbols_many, numbers_many}
 
 -- each of the witnesses, from place k on, has the symbol of its place and so many variables
@@ -45,19 +45,19 @@ form_fit S (negation f) n k scope terms e = tt
 form_fit S (implication f g) n k scope terms e = tt
 form_fit S (equivalence f g) n k scope terms e = tt
 form_fit S (conjunction f g) n k scope terms e =
-    fit_two S k (k + somes f) (arities n f) (arities n g) (skolem_axioms S k scope terms f) (skolem_axioms S (k + somes f) scope terms g) (omega (arith, witnesses_many S k scope terms f)) (form_fit S f n k scope terms e) (form_fit S g n (k + somes f) scope terms e)
+    fit_two S k (k + somes f) (arities n f) (arities n g) (skolem_axioms S k scope terms f) (skolem_axioms S (k + somes f) scope terms g) (omega (arith, axioms_many S k scope terms f)) (form_fit S f n k scope terms e) (form_fit S g n (k + somes f) scope terms e)
 form_fit S (disjunction f g) n k scope terms e =
-    fit_two S k (k + somes f) (arities n f) (arities n g) (skolem_axioms S k scope terms f) (skolem_axioms S (k + somes f) scope terms g) (omega (arith, witnesses_many S k scope terms f)) (form_fit S f n k scope terms e) (form_fit S g n (k + somes f) scope terms e)
+    fit_two S k (k + somes f) (arities n f) (arities n g) (skolem_axioms S k scope terms f) (skolem_axioms S (k + somes f) scope terms g) (omega (arith, axioms_many S k scope terms f)) (form_fit S f n k scope terms e) (form_fit S g n (k + somes f) scope terms e)
 form_fit S (forall x f) n k scope terms e = form_fit S f (n + 1) k (scope ++ x ∷ []) terms (omega (arith, e, many_in_two scope (x ∷ [])))
 form_fit S (exists y f) n k scope terms e =
     let next = with_term terms y (skolem_term (slice_index S k) scope) in
     (refl, sym e, subst (λ (m : ℕ). Fit S m (arities n f) (skolem_axioms S (k + 1) scope next f)) (omega arith) (form_fit S f n (k + 1) scope next e))
 
-all_fit : (S : List ℕ) (k : ℕ) (ss : List Said) → Fit S k (all_arities ss) (witnesses_from S k ss)
+all_fit : (S : List ℕ) (k : ℕ) (ss : List Said) → Fit S k (all_arities ss) (axioms_from S k ss)
 all_fit S k [] = tt
 all_fit S k (s ∷ ss) =
     let f = form s in
-    fit_two S k (k + somes f) (arities 0 f) (all_arities ss) (skolem_axioms S k [] var f) (witnesses_from S (k + somes f) ss) (omega (arith, witnesses_many S k [] var f)) (form_fit S f 0 k [] var refl) (all_fit S (k + somes f) ss)
+    fit_two S k (k + somes f) (arities 0 f) (all_arities ss) (skolem_axioms S k [] var f) (axioms_from S (k + somes f) ss) (omega (arith, axioms_many S k [] var f)) (form_fit S f 0 k [] var refl) (all_fit S (k + somes f) ss)
 
 -- numbers that are n and those behind it
 abbrev Counts : ℕ → List ℕ → Type 0
@@ -147,7 +147,7 @@ own_names input c f (a ∷ later) h = (
   own_names input (next_constant input c a) (next_function input f a) later h.3,
 )
 
-pub stand_behind : (p : Stated) → length p.symbols ≤ equality → length (witnesses_from (entered_numbers p.symbols (skolems p.symbols p.formulas)) 0 p.formulas) ≤ equality → StandBehind p
+pub stand_behind : (p : Stated) → length p.symbols ≤ equality → length (axioms_from (entered_numbers p.symbols (skolems p.symbols p.formulas)) 0 p.formulas) ≤ equality → StandBehind p
 stand_behind p le few =
     let input = p.symbols in
     let later = all_arities p.formulas in
@@ -160,7 +160,7 @@ stand_behind p le few =
     let most : 0 + length later ≤ length S = omega (arith, numbers_many input ss, symbols_many input 0 0 later) in
     record {
       table = behind.entered_all;
-      witnesses = subst (λ (n : ℕ). AreFor n ss (witnesses_from S 0 p.formulas)) (omega arith) (for_all input S (length input) 0 0 0 later (witnesses_from S 0 p.formulas) behind.numbers most (all_fit S 0 p.formulas));
+      witnesses = subst (λ (n : ℕ). AreFor n ss (axioms_from S 0 p.formulas)) (omega arith) (for_all input S (length input) 0 0 0 later (axioms_from S 0 p.formulas) behind.numbers most (all_fit S 0 p.formulas));
       names = own_names input 0 0 later names;
       different = behind.different;
     }

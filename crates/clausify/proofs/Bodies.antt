@@ -263,20 +263,20 @@ many_in_two [] ys = omega arith
 many_in_two (x ∷ xs) ys = omega (arith, many_in_two xs ys)
 
 -- a negation normal form has as many witnesses as existential variables
-pub witnesses_many : (symbols : List ℕ) (k : ℕ) (scope : List ℕ) (terms : Substitution) (f : Fol) → length (skolem_axioms symbols k scope terms f) ≡ somes f
-witnesses_many symbols k scope terms verum = refl
-witnesses_many symbols k scope terms falsum = refl
-witnesses_many symbols k scope terms (equal s t) = refl
-witnesses_many symbols k scope terms (atom r ts) = refl
-witnesses_many symbols k scope terms (negation f) = refl
-witnesses_many symbols k scope terms (implication f g) = refl
-witnesses_many symbols k scope terms (equivalence f g) = refl
-witnesses_many symbols k scope terms (conjunction f g) =
-    omega (arith, many_in_two (skolem_axioms symbols k scope terms f) (skolem_axioms symbols (k + somes f) scope terms g), witnesses_many symbols k scope terms f, witnesses_many symbols (k + somes f) scope terms g)
-witnesses_many symbols k scope terms (disjunction f g) =
-    omega (arith, many_in_two (skolem_axioms symbols k scope terms f) (skolem_axioms symbols (k + somes f) scope terms g), witnesses_many symbols k scope terms f, witnesses_many symbols (k + somes f) scope terms g)
-witnesses_many symbols k scope terms (forall x f) = witnesses_many symbols k (scope ++ x ∷ []) terms f
-witnesses_many symbols k scope terms (exists y f) = omega (arith, witnesses_many symbols (k + 1) scope (with_term terms y (skolem_term (slice_index symbols k) scope)) f)
+pub axioms_many : (symbols : List ℕ) (k : ℕ) (scope : List ℕ) (terms : Substitution) (f : Fol) → length (skolem_axioms symbols k scope terms f) ≡ somes f
+axioms_many symbols k scope terms verum = refl
+axioms_many symbols k scope terms falsum = refl
+axioms_many symbols k scope terms (equal s t) = refl
+axioms_many symbols k scope terms (atom r ts) = refl
+axioms_many symbols k scope terms (negation f) = refl
+axioms_many symbols k scope terms (implication f g) = refl
+axioms_many symbols k scope terms (equivalence f g) = refl
+axioms_many symbols k scope terms (conjunction f g) =
+    omega (arith, many_in_two (skolem_axioms symbols k scope terms f) (skolem_axioms symbols (k + somes f) scope terms g), axioms_many symbols k scope terms f, axioms_many symbols (k + somes f) scope terms g)
+axioms_many symbols k scope terms (disjunction f g) =
+    omega (arith, many_in_two (skolem_axioms symbols k scope terms f) (skolem_axioms symbols (k + somes f) scope terms g), axioms_many symbols k scope terms f, axioms_many symbols (k + somes f) scope terms g)
+axioms_many symbols k scope terms (forall x f) = axioms_many symbols k (scope ++ x ∷ []) terms f
+axioms_many symbols k scope terms (exists y f) = omega (arith, axioms_many symbols (k + 1) scope (with_term terms y (skolem_term (slice_index symbols k) scope)) f)
 
 module _ (N : ℕ) (S : List ℕ) where
   -- a symbol of the problem, or a Skolem symbol before place k
@@ -324,7 +324,7 @@ module _ (N : ℕ) (S : List ℕ) where
   ordered_sides : (f g : Fol) → Orders f → Orders g → (u : Set) (k : ℕ) (scope : List ℕ) (terms : Substitution) → IsApart u f → IsApart u g → In (joined (free_vars_of f) (free_vars_of g)) u
       → Around u scope terms → TermsFine k terms → ((s : ℕ) → IsTrue (uses_symbol s f || uses_symbol s g) → s < N) → IsOrdered k (skolem_axioms S k scope terms f ++ skolem_axioms S (k + somes f) scope terms g)
   ordered_sides f g l r u k scope terms af ag free a fine below =
-      ordered_two k (k + somes f) (skolem_axioms S k scope terms f) (skolem_axioms S (k + somes f) scope terms g) (omega (arith, witnesses_many S k scope terms f))
+      ordered_two k (k + somes f) (skolem_axioms S k scope terms f) (skolem_axioms S (k + somes f) scope terms g) (omega (arith, axioms_many S k scope terms f))
       (l u k scope terms af (joined_left (free_vars_of f) (free_vars_of g) u free) a fine (λ s i. below s (or_left (uses_symbol s f) (uses_symbol s g) i)))
       (r u (k + somes f) scope terms ag (joined_right (free_vars_of f) (free_vars_of g) u free) a (λ y s i. allowed_more k (k + somes f) s (omega arith) (fine y s i))
       (λ s i. below s (or_right (uses_symbol s f) (uses_symbol s g) i)))

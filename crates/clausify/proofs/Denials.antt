@@ -7,7 +7,7 @@ use Rattle.fol_core.specs.Free.{closed_over}
 use Rattle.fol_core.specs.Substitutions.{Substitution, with_term}
 use Rattle.clausify.specs.Clausal.{clauses_in}
 use Rattle.clausify.specs.Forms.{nnf_of}
-use Rattle.clausify.specs.Made.{witnesses_at, BeginsWork, LeadsWork}
+use Rattle.clausify.specs.Made.{axioms_at, BeginsWork, LeadsWork}
 use Rattle.clausify.specs.Skolem.{substitute_in, skolem_axioms, skolem_term}
 use Rattle.clausify.specs.View.{terms_of}
 use Rattle.clausify.specs.declared.clausal.Work.{Work}
@@ -37,8 +37,8 @@ leads_some symbols a b x g begun =
     let body = substitute_in (terms_of a.terms.items) g in (
       moved (λ k s ts. clauses_in symbols k s ts g) symbols a b x body begun,
       sym (
-          ap (λ ws. ws ++ witnesses_at symbols b g) begun.0
-          ∙ append_assoc (map skolem_axiom_of a.entries.items) (record { symbol = slice_index symbols (length a.entries.items); variables = a.scope.items; variable = x; body = body } ∷ []) (witnesses_at symbols b g)
+          ap (λ ws. ws ++ axioms_at symbols b g) begun.0
+          ∙ append_assoc (map skolem_axiom_of a.entries.items) (record { symbol = slice_index symbols (length a.entries.items); variables = a.scope.items; variable = x; body = body } ∷ []) (axioms_at symbols b g)
           ∙ ap (λ ws. map skolem_axiom_of a.entries.items ++ record { symbol = slice_index symbols (length a.entries.items); variables = a.scope.items; variable = x; body = body } ∷ ws)
           (sym (moved (λ k s ts. skolem_axioms symbols k s ts g) symbols a b x body begun))
           ),

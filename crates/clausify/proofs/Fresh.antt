@@ -16,11 +16,11 @@ use Rattle.fol_core.specs.Tree.{var}
 use Rattle.fol_core.specs.SkolemAxioms.{SkolemAxiom, AreNotIn, IsApart, AreInOrder}
 use Rattle.fol_core.proofs.Soundness.{uses_closed}
 use Rattle.fol_core.proofs.SymbolLemmas.{symbol_there, number_of_push}
-use Rattle.clausify.specs.Input.{form, is_taken, all_arities, witnesses_from}
+use Rattle.clausify.specs.Input.{form, is_taken, all_arities, axioms_from}
 use Rattle.clausify.specs.Names.{numbered, is_named, free_from, next_free, next_name, next_constant, next_function, skolem_symbols, all_entered, entered_numbers, IsNewName}
 use Rattle.clausify.specs.Skolem.{somes, arities, skolem_axioms}
 use Rattle.clausify.proofs.FreeNames.{number_told, next_is_free, next_upto}
-use Rattle.clausify.proofs.Bodies.{form_uses, witnesses_many, many_in_two, around_none, IsAllowed, IsOrdered, ordered_two, ordered}
+use Rattle.clausify.proofs.Bodies.{form_uses, axioms_many, many_in_two, around_none, IsAllowed, IsOrdered, ordered_two, ordered}
 use Rattle.clausify.proofs.SkolemLemmas.{kept_through}
 use Rattle.clausify.proofs.WholeLaws.{apart_of, free_of}
 
@@ -278,11 +278,11 @@ module _ (N : ℕ) (S : List ℕ) (is_fresh : AreFresh N S) where
   new_to (s ∷ ss) ws well_formed many h = (not_in 0 s.formula ws 0 (λ n i. inl (well_formed.1 n i)) (omega arith) (omega arith) h, new_to ss ws well_formed.2 many h)
 
 -- the witnesses of all formulas
-from_ordered : (N : ℕ) (S : List ℕ) (k : ℕ) (ss : List Said) → N ≤ equality → AreWellFormed N ss → IsOrdered N S k (witnesses_from S k ss)
+from_ordered : (N : ℕ) (S : List ℕ) (k : ℕ) (ss : List Said) → N ≤ equality → AreWellFormed N ss → IsOrdered N S k (axioms_from S k ss)
 from_ordered N S k [] le well_formed = tt
 from_ordered N S k (s ∷ ss) le well_formed =
     let f = form s in
-    ordered_two N S k (k + somes f) (skolem_axioms S k [] var f) (witnesses_from S (k + somes f) ss) (omega (arith, witnesses_many S k [] var f))
+    ordered_two N S k (k + somes f) (skolem_axioms S k [] var f) (axioms_from S (k + somes f) ss) (omega (arith, axioms_many S k [] var f))
     (ordered N S f (λ y. false) k [] var (apart_of (is_taken s.role) s.formula well_formed.0 (λ n i. let lt = well_formed.1 n i in omega arith)) (free_of (is_taken s.role) s.formula) around_none
     (λ y n i. absurd (false≢true i)) (λ n i. well_formed.1 n (sym (uses_closed n (free_vars_of s.formula) s.formula) ∙ form_uses (is_taken s.role) (closure_of s.formula) n i)))
     (from_ordered N S (k + somes f) ss le well_formed.2)
@@ -300,14 +300,14 @@ arities_many n (disjunction f g) = omega (arith, many_in_two (arities n f) (arit
 arities_many n (forall x f) = arities_many (n + 1) f
 arities_many n (exists x f) = omega (arith, arities_many n f)
 
-pub from_many : (S : List ℕ) (k : ℕ) (ss : List Said) → length (witnesses_from S k ss) ≡ length (all_arities ss)
+pub from_many : (S : List ℕ) (k : ℕ) (ss : List Said) → length (axioms_from S k ss) ≡ length (all_arities ss)
 from_many S k [] = refl
 from_many S k (s ∷ ss) =
     omega (
       arith,
-      many_in_two (skolem_axioms S k [] var (form s)) (witnesses_from S (k + somes (form s)) ss),
+      many_in_two (skolem_axioms S k [] var (form s)) (axioms_from S (k + somes (form s)) ss),
       many_in_two (arities 0 (form s)) (all_arities ss),
-      witnesses_many S k [] var (form s),
+      axioms_many S k [] var (form s),
       arities_many 0 (form s),
       from_many S (k + somes (form s)) ss,
     )
@@ -322,12 +322,12 @@ numbers_many table (s ∷ ss) = omega (arith, numbers_many (entered table s) ss)
 
 -- what is to be shown of all: they stand in an order to be filled in, and none is a symbol of the formulas
 pub all_in_order : (input table : List Symbol) (ss : List Said) → length input ≤ equality → AreWellFormed (length input) ss → KeepsNumbers input table
-    → length (witnesses_from (entered_numbers table (skolem_symbols input 0 0 (all_arities ss))) 0 ss) ≤ equality
-    → AreInOrder (witnesses_from (entered_numbers table (skolem_symbols input 0 0 (all_arities ss))) 0 ss) × AreNewTo ss (witnesses_from (entered_numbers table (skolem_symbols input 0 0 (all_arities ss))) 0 ss)
+    → length (axioms_from (entered_numbers table (skolem_symbols input 0 0 (all_arities ss))) 0 ss) ≤ equality
+    → AreInOrder (axioms_from (entered_numbers table (skolem_symbols input 0 0 (all_arities ss))) 0 ss) × AreNewTo ss (axioms_from (entered_numbers table (skolem_symbols input 0 0 (all_arities ss))) 0 ss)
 all_in_order input table ss le well_formed keeps few =
     let later = all_arities ss in
     let S = entered_numbers table (skolem_symbols input 0 0 later) in
-    let ws = witnesses_from S 0 ss in
+    let ws = axioms_from S 0 ss in
     let as_many = from_many S 0 ss in
     let below = mul-le (length later) (length input + 1) equality (equality + 1) (omega (arith, few, as_many)) (omega (arith, le)) in
     let is_fresh = numbers_fresh input table later keeps (are_names input 0 0 later (omega (arith, below)) (omega (arith, below))) in

@@ -18,7 +18,7 @@ use Rattle.fol_core.proofs.Variables.{is_in_without}
 use Rattle.fol_core.specs.Renumbered.{renumbered}
 use Rattle.clausify.specs.Clausal.{clauses_in}
 use Rattle.clausify.specs.Forms.{nnf_of}
-use Rattle.clausify.specs.Input.{ClauseRow, form, is_taken, rows_from, witnesses_from}
+use Rattle.clausify.specs.Input.{ClauseRow, form, is_taken, rows_from, axioms_from}
 use Rattle.clausify.specs.Laws.{AreTrueRows}
 use Rattle.clausify.specs.Skolem.{somes, skolem_axioms}
 use Rattle.clausify.proofs.Claims.{suffice, follow, picks_left, picks_right}
@@ -124,8 +124,8 @@ module _ (m : Meaning) where
     role_follows k Demodulator f once below picks h = taken_follows k f once below picks h
     role_follows k Goal f once below picks h = form_follows false k f once below picks (λ e. false_to m e (closure_of f) (λ x. h (closure_same e zeros f x)))
 
-    pub all_follow : (n k : ℕ) (ss : List Said) → AreWellFormed equality ss → PicksWitnesses m (witnesses_from symbols k ss) → IsCountermodel m ss → AreTrueRows m (rows_from symbols n k ss)
+    pub all_follow : (n k : ℕ) (ss : List Said) → AreWellFormed equality ss → PicksWitnesses m (axioms_from symbols k ss) → IsCountermodel m ss → AreTrueRows m (rows_from symbols n k ss)
     all_follow n k [] well_formed picks h = tt
     all_follow n k (s ∷ ss) well_formed picks h = true_rows n (clauses_in symbols k [] var (form s)) (rows_from symbols (n + 1) (k + somes (form s)) ss)
-        (role_follows k s.role s.formula well_formed.0 well_formed.1 (picks_left m symbols (skolem_axioms symbols k [] var (form s)) (witnesses_from symbols (k + somes (form s)) ss) picks) h.0)
-        (all_follow (n + 1) (k + somes (form s)) ss well_formed.2 (picks_right m symbols (skolem_axioms symbols k [] var (form s)) (witnesses_from symbols (k + somes (form s)) ss) picks) h.1)
+        (role_follows k s.role s.formula well_formed.0 well_formed.1 (picks_left m symbols (skolem_axioms symbols k [] var (form s)) (axioms_from symbols (k + somes (form s)) ss) picks) h.0)
+        (all_follow (n + 1) (k + somes (form s)) ss well_formed.2 (picks_right m symbols (skolem_axioms symbols k [] var (form s)) (axioms_from symbols (k + somes (form s)) ss) picks) h.1)

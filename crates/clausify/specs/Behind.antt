@@ -1,7 +1,7 @@
 -- Where the Skolem symbols of a problem stand.
 use Rattle.std.specs.Prelude.{◌≡◌, ◌⊎◌, ◌≤◌, ◌<◌, ◌^◌, ℕ, suc, false, List, [], ◌∷◌, ◌++◌, length}
 use Rattle.std.specs.List.{AllByRecursion}
-use Rattle.clausify.specs.Input.{skolems, with_skolems, witnesses_in_table}
+use Rattle.clausify.specs.Input.{skolems, with_skolems, axioms_in_table}
 use Rattle.clausify.specs.Names.{numbered, is_named}
 use Rattle.fol_core.specs.Literals.{equality}
 use Rattle.fol_core.specs.SkolemAxioms.{SkolemAxiom}
@@ -24,10 +24,10 @@ HasOwnName table s = (is_named table s.name ≡ false) × ((letter n : ℕ) × (
 -- of its own. No two symbols are the same where no two of the problem are.
 pub record StandBehind (p : Stated) : Type 0 where
   pub table : with_skolems p.symbols p ≡ p.symbols ++ skolems p.symbols p.formulas
-  pub witnesses : AreFor (length p.symbols) (skolems p.symbols p.formulas) (witnesses_in_table p.symbols p)
+  pub witnesses : AreFor (length p.symbols) (skolems p.symbols p.formulas) (axioms_in_table p.symbols p)
   pub names : AllByRecursion (HasOwnName p.symbols) (skolems p.symbols p.formulas)
   pub different : FindsEach p.symbols → FindsEach (with_skolems p.symbols p)
 
 -- so it is where there are no more of them than numbers of symbols
 abbrev pub SkolemsStandBehind : Type 0
-SkolemsStandBehind = (p : Stated) → length p.symbols ≤ equality → length (witnesses_in_table p.symbols p) ≤ equality → StandBehind p
+SkolemsStandBehind = (p : Stated) → length p.symbols ≤ equality → length (axioms_in_table p.symbols p) ≤ equality → StandBehind p

@@ -1,20 +1,23 @@
--- Counts of clauses that are kept up to 20,001.
-use Rattle.std.specs.Prelude.{ℕ, ◌≡◌, ◌≤◌, min}
+-- Counts of clauses that are kept up to one more than a formula may have.
+use Rattle.std.specs.Prelude.{ℕ, ◌≡◌, ◌≤◌, ◌+◌, min}
 use Rattle.fol_core.specs.Fol.{Fol, conjunction, disjunction}
 use Rattle.clausify.specs.Forms.{clause_count}
 use Rattle.clausify.specs.declared.counts.Counts.{Counts}
+use Rattle.clausify.specs.declared.limit.TheConstants.{MOST_CLAUSES}
 
--- a count, or 20,001 where it is greater
+-- a count, or one more than the most where it is greater
 abbrev pub capped : ℕ → ℕ
-capped n = min n 20001
+capped n = min n (MOST_CLAUSES + 1)
 
 -- the count of a negation normal form
 abbrev pub IsCountOf : ℕ → Fol → Type 0
 IsCountOf a f = a ≡ capped (clause_count f)
 
--- two pairs of counts kept so are at most 20,001 each
+-- two pairs of counts kept so are at most this each
 abbrev pub AreCapped : Counts → Counts → Type 0
-AreCapped f g = (f.plain ≤ 20001) × (f.denied ≤ 20001) × (g.plain ≤ 20001) × (g.denied ≤ 20001)
+AreCapped f g =
+    (f.plain ≤ MOST_CLAUSES + 1) × (f.denied ≤ MOST_CLAUSES + 1)
+    × (g.plain ≤ MOST_CLAUSES + 1) × (g.denied ≤ MOST_CLAUSES + 1)
 
 -- whatever forms a and b are the counts of, c is that of "and"
 abbrev pub IsSum : ℕ → ℕ → ℕ → Type 0

@@ -15,6 +15,7 @@ use Rattle.clausify.specs.Clausal.{clauses_in}
 use Rattle.clausify.specs.Forms.{nnf_of, clause_count}
 use Rattle.clausify.specs.Names.{skolem_symbols, all_entered, entered_numbers}
 use Rattle.clausify.specs.Skolem.{somes, arities, skolem_axioms}
+use Rattle.clausify.specs.declared.limit.TheConstants.{MOST_CLAUSES}
 
 -- whether a formula is taken as it stands; a goal's denial is taken
 abbrev pub is_taken : Role → Bool
@@ -46,20 +47,21 @@ rows_from symbols n k [] = []
 rows_from symbols n k (s ∷ ss) = map (λ c. (n, renumbered c)) (clauses_in symbols k [] var (form s)) ++ rows_from symbols (n + 1) (k + somes (form s)) ss
 
 -- and their witnesses
-abbrev pub witnesses_from : List ℕ → ℕ → List Said → List SkolemAxiom
-witnesses_from symbols k [] = []
-witnesses_from symbols k (s ∷ ss) = skolem_axioms symbols k [] var (form s) ++ witnesses_from symbols (k + somes (form s)) ss
+abbrev pub axioms_from : List ℕ → ℕ → List Said → List SkolemAxiom
+axioms_from symbols k [] = []
+axioms_from symbols k (s ∷ ss) = skolem_axioms symbols k [] var (form s) ++ axioms_from symbols (k + somes (form s)) ss
 
 abbrev pub all_rows : List ℕ → List Said → List ClauseRow
 all_rows symbols ss = rows_from symbols 1 0 ss
 
 abbrev pub all_skolem_axioms : List ℕ → List Said → List SkolemAxiom
-all_skolem_axioms symbols ss = witnesses_from symbols 0 ss
+all_skolem_axioms symbols ss = axioms_from symbols 0 ss
 
--- the number of the first formula, from n on, that gives more than 20,000 clauses
+-- the number of the first formula, from n on, that gives more clauses than a formula may
 abbrev pub first_over : ℕ → List Said → Option ℕ
 first_over n [] = None
-first_over n (s ∷ ss) = if nat_lt 20000 (clause_count (form s)) then Some n else first_over (n + 1) ss
+first_over n (s ∷ ss) =
+    if nat_lt MOST_CLAUSES (clause_count (form s)) then Some n else first_over (n + 1) ss
 
 -- the formulas, whatever their roles
 abbrev pub formulas : List Said → List Fol
@@ -98,5 +100,5 @@ with_skolems table p = all_entered table (skolems p.symbols p.formulas)
 abbrev pub clauses_in_table : List Symbol → Stated → List ClauseRow
 clauses_in_table table p = all_rows (skolem_numbers table p) p.formulas
 
-abbrev pub witnesses_in_table : List Symbol → Stated → List SkolemAxiom
-witnesses_in_table table p = all_skolem_axioms (skolem_numbers table p) p.formulas
+abbrev pub axioms_in_table : List Symbol → Stated → List SkolemAxiom
+axioms_in_table table p = all_skolem_axioms (skolem_numbers table p) p.formulas

@@ -15,13 +15,13 @@ abbrev pub clauses_at : List ℕ → Work → Fol → List ClauseTree
 clauses_at symbols work f = clauses_in symbols (length work.entries.items) work.scope.items (terms_of work.terms.items) f
 
 -- and its witnesses
-abbrev pub witnesses_at : List ℕ → Work → Fol → List SkolemAxiom
-witnesses_at symbols work f = skolem_axioms symbols (length work.entries.items) work.scope.items (terms_of work.terms.items) f
+abbrev pub axioms_at : List ℕ → Work → Fol → List SkolemAxiom
+axioms_at symbols work f = skolem_axioms symbols (length work.entries.items) work.scope.items (terms_of work.terms.items) f
 
 -- its witnesses are noted, and scope and terms are as before
 abbrev pub Works : List ℕ → Work → Work → Fol → Type 0
 Works symbols old new f =
-    (map skolem_axiom_of new.entries.items ≡ map skolem_axiom_of old.entries.items ++ witnesses_at symbols old f)
+    (map skolem_axiom_of new.entries.items ≡ map skolem_axiom_of old.entries.items ++ axioms_at symbols old f)
     × (length new.entries.items ≡ length old.entries.items + somes f)
     × (new.scope.items ≡ old.scope.items)
     × (new.terms.items ≡ old.terms.items)
@@ -41,11 +41,11 @@ BeginsWork symbols old new variable body =
 abbrev pub LeadsWork : List ℕ → Work → Work → Fol → Fol → Type 0
 LeadsWork symbols old new f g =
     (clauses_at symbols old f ≡ clauses_at symbols new g)
-    × (map skolem_axiom_of old.entries.items ++ witnesses_at symbols old f ≡ map skolem_axiom_of new.entries.items ++ witnesses_at symbols new g)
+    × (map skolem_axiom_of old.entries.items ++ axioms_at symbols old f ≡ map skolem_axiom_of new.entries.items ++ axioms_at symbols new g)
     × (length old.entries.items + somes f ≡ length new.entries.items + somes g)
 
 -- the witnesses of a form are noted
 abbrev pub Notes : List ℕ → Work → Work → Fol → Type 0
 Notes symbols old new f =
-    (map skolem_axiom_of new.entries.items ≡ map skolem_axiom_of old.entries.items ++ witnesses_at symbols old f)
+    (map skolem_axiom_of new.entries.items ≡ map skolem_axiom_of old.entries.items ++ axioms_at symbols old f)
     × (length new.entries.items ≡ length old.entries.items + somes f)

@@ -1,15 +1,17 @@
 // How many clauses a formula gives, and its denial.
-ghost use Rattle.std.specs.Prelude.{◌≡◌, ◌≤◌, true, false};
+ghost use Rattle.std.specs.Prelude.{◌≡◌, ◌≤◌, ◌+◌, true, false};
 ghost use Rattle.fol_core.specs.FormulaView.{fol_of};
 ghost use Rattle.clausify.specs.Forms.{nnf_of, clause_count};
 ghost use Rattle.clausify.specs.Capped.{capped, IsSum, IsProduct, IsSumOfProducts, AreCapped};
+ghost use Rattle.clausify.specs.declared.limit.TheConstants.{MOST_CLAUSES};
 
+use crate::limit::MOST_CLAUSES;
 use fol_core::{Shape, Sub};
 
 // One more than the most clauses that a formula may have: counts are kept up to this.
-const CAP: u64 = 20_001;
+const CAP: u64 = MOST_CLAUSES + 1;
 
-/// The clauses of a formula and of its denial, counted up to 20,001. The two are found together, since each side of an
+/// The clauses of a formula and of its denial, counted up to one more than the most. The two are found together, since each side of an
 /// equivalence is needed with both signs.
 #[derive(Clone, Copy)]
 pub struct Counts {
@@ -24,19 +26,19 @@ fn capped(n: u64) -> u64
 }
 
 fn sum(a: u64, b: u64) -> u64
-    requires left { a ≤ 20001 }
-    requires right { b ≤ 20001 }
+    requires left { a ≤ MOST_CLAUSES + 1 }
+    requires right { b ≤ MOST_CLAUSES + 1 }
     ensures sum { IsSum a b result }
-    ensures most { result ≤ 20001 }
+    ensures most { result ≤ MOST_CLAUSES + 1 }
 {
     capped(a + b)
 }
 
 fn product(a: u64, b: u64) -> u64
-    requires left { a ≤ 20001 }
-    requires right { b ≤ 20001 }
+    requires left { a ≤ MOST_CLAUSES + 1 }
+    requires right { b ≤ MOST_CLAUSES + 1 }
     ensures product { IsProduct a b result }
-    ensures most { result ≤ 20001 }
+    ensures most { result ≤ MOST_CLAUSES + 1 }
 {
     capped(a * b)
 }

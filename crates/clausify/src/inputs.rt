@@ -144,7 +144,7 @@ fn add_input(
 }
 
 /// The clauses of all formulas, each with the number of its formula, and their Skolem symbols.
-#[tactic(auto, using(crate::proofs::Rows::rows_next, crate::proofs::Rows::rows_end, crate::proofs::Rows::witnesses_next, crate::proofs::Rows::witnesses_end))]
+#[tactic(auto, using(crate::proofs::Rows::rows_next, crate::proofs::Rows::rows_end, crate::proofs::Rows::axioms_next, crate::proofs::Rows::axioms_end))]
 pub fn all_clauses(
     alloc: Global,
     symbols: &[u64],

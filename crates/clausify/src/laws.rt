@@ -6,7 +6,7 @@ ghost use Rattle.fol_core.specs.Stated.{Stated, IsWellFormed, AreNewTo};
 ghost use Rattle.fol_core.specs.SymbolTable.{Symbol, KeepsNumbers};
 ghost use Rattle.fol_core.specs.SkolemAxioms.{AreInOrder};
 ghost use Rattle.clausify.specs.Behind.{SkolemsStandBehind};
-ghost use Rattle.clausify.specs.Input.{witnesses_in_table};
+ghost use Rattle.clausify.specs.Input.{axioms_in_table};
 ghost use Rattle.clausify.specs.Laws.{ClausesSuffice, ClausesFollow};
 ghost use Rattle.clausify.specs.Names.{HasNoSkolemRelation};
 ghost use Rattle.clausify.specs.Worked.{WorkedIff, WorkedSingle, WorkedGoal, WorkedNames, WorkedNested, WorkedConstants, WorkedLimit, WorkedSymbols};
@@ -28,13 +28,13 @@ pub fn own_table()
 
 /// Each Skolem symbol's body has those before it alone, and no formula has one, where there are no more of them than numbers
 /// of symbols.
-pub fn witnesses_are_in_order()
+pub fn axioms_are_in_order()
     ensures order { (table : List Symbol) (p : Stated) → IsWellFormed p
         → length p.symbols ≤ equality → KeepsNumbers p.symbols table
-        → length (witnesses_in_table table p) ≤ equality → AreInOrder (witnesses_in_table table p) }
+        → length (axioms_in_table table p) ≤ equality → AreInOrder (axioms_in_table table p) }
     ensures new { (table : List Symbol) (p : Stated) → IsWellFormed p → length p.symbols ≤ equality
-        → KeepsNumbers p.symbols table → length (witnesses_in_table table p) ≤ equality
-        → AreNewTo p.formulas (witnesses_in_table table p) }
+        → KeepsNumbers p.symbols table → length (axioms_in_table table p) ≤ equality
+        → AreNewTo p.formulas (axioms_in_table table p) }
 {}
 
 /// The Skolem symbols stand behind all symbols of the problem, each for its witness, under names of their own.

@@ -17,7 +17,6 @@ mod substitution;
 
 pub use error::ClauseError;
 pub use laws::{
-    clauses_follow, clauses_suffice, own_table, skolems_stand_behind, witnesses_are_in_order,
-    worked,
+    axioms_are_in_order, clauses_follow, clauses_suffice, own_table, skolems_stand_behind, worked,
 };
 pub use problem::clauses_of;

@@ -8,10 +8,10 @@ ghost use Rattle.clausify.specs.Input.{form, first_over};
 use crate::counts::counts_of;
 use fol_core::{Input, Role};
 
-// The most clauses that a formula may have.
-const MOST: u64 = 20_000;
+/// The most clauses that a formula may have.
+pub const MOST_CLAUSES: u64 = 20_000;
 
-// The clauses of a formula, or of its denial where it is a goal, counted up to 20,001.
+// The clauses of a formula, or of its denial where it is a goal, counted up to one more than the most.
 #[tactic(auto, using(crate::proofs::Closures::closed_count))]
 fn count(input: &Input) -> u64
     ensures { result ≡ capped (clause_count (form (said_of input.now))) }
@@ -29,7 +29,7 @@ pub fn first_over(inputs: &[Input]) -> Option<u64>
     ensures { result ≡ first_over 1 (all_said inputs.now) }
 {
     for (place, input) in inputs.iter().enumerate() {
-        if count(input) > MOST {
+        if count(input) > MOST_CLAUSES {
             return Some(place as u64 + 1);
         }
     }

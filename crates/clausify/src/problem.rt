@@ -6,7 +6,7 @@ ghost use Rattle.fol_core.specs.Meaning.{Meaning, IsLawful};
 ghost use Rattle.fol_core.specs.Stated.{stated_of, IsWellFormed, IsCountermodel, AreNewTo};
 ghost use Rattle.fol_core.specs.SymbolTable.{KeepsNumbers};
 ghost use Rattle.fol_core.specs.SkolemAxioms.{PicksWitnesses, AreInOrder};
-ghost use Rattle.clausify.specs.Input.{clauses_in_table, witnesses_in_table, with_skolems, first_over, used_symbols, numeral_of};
+ghost use Rattle.clausify.specs.Input.{clauses_in_table, axioms_in_table, with_skolems, first_over, used_symbols, numeral_of};
 ghost use Rattle.clausify.specs.Laws.{AreTrueRows};
 ghost use Rattle.clausify.specs.Names.{HasNoSkolemRelation};
 
@@ -36,7 +36,7 @@ fn made(alloc: Global, problem: &Problem, symbols: &mut Symbols) -> Result<Claus
     ensures clauses { IfOk result (λ c. c.clauses.items
         ≡ clauses_in_table symbols.old (stated_of problem.now)) }
     ensures skolem { IfOk result (λ c. map skolem_axiom_of c.skolem.items
-        ≡ witnesses_in_table symbols.old (stated_of problem.now)) }
+        ≡ axioms_in_table symbols.old (stated_of problem.now)) }
     ensures symbols { IfOk result (λ c. map (λ s. s.0) c.symbols.items
         ≡ used_symbols problem.now.symbols (stated_of problem.now).formulas) }
     ensures numeral { IfOk result (λ c. c.numeral ≡ numeral_of (stated_of problem.now).formulas) }
@@ -71,7 +71,7 @@ pub fn clauses_of(
     ensures clauses { IfOk result (λ c. c.clauses.items
         ≡ clauses_in_table symbols.old (stated_of problem.now)) }
     ensures skolem { IfOk result (λ c. map skolem_axiom_of c.skolem.items
-        ≡ witnesses_in_table symbols.old (stated_of problem.now)) }
+        ≡ axioms_in_table symbols.old (stated_of problem.now)) }
     ensures symbols { IfOk result (λ c. map (λ s. s.0) c.symbols.items
         ≡ used_symbols problem.now.symbols (stated_of problem.now).formulas) }
     ensures numeral { IfOk result (λ c. c.numeral ≡ numeral_of (stated_of problem.now).formulas) }

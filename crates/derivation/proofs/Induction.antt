@@ -15,7 +15,7 @@ use Rattle.substitutions.proofs.Numbering.{renumbered_true, true_renumbered}
 use Rattle.substitutions.proofs.Variants.{variants_instances}
 use Rattle.derivation.specs.Laws.{ContentNamesWithin, LinesNameWithin, RowsAreAtoms}
 use Rattle.derivation.specs.Later.{LaterWord, later_parents}
-use Rattle.derivation.specs.Lines.{FirstWord, assumed, wanted, clausified, denied, copied, resolved, factored, paramodulated, xx_resolved, Inference, copy_inference, clash_inference, factor_inference, para_inference, xx_inference, ContentTree, formula, clause, LineTree, line_at, clause_in, clause_at, AreClauses, IsClause, After, IsInferred, InputRow, IsStated, IsInput, IsLine, AreLines, is_empty_clause, ends_empty}
+use Rattle.derivation.specs.Lines.{FirstWord, assumed, wanted, clausified, denied, copied, resolved, factored, paramodulated, xx_resolved, Inference, copy_inference, clash_inference, factor_inference, para_inference, xx_inference, ContentTree, formula, clause, LineTree, line_at, content_clause, clause_at, AreClauses, IsClause, After, IsInferred, InputRow, IsStated, IsInput, IsLine, AreLines, is_empty_clause, ends_empty}
 use Rattle.derivation.specs.Rule.{Own, instances}
 use Rattle.derivation.proofs.LaterSound.{word_sound, word_atoms, InstancesTrue}
 use Rattle.derivation.proofs.Lawful.{IsLawfulRule, copy_lawful, clash_lawful, factor_lawful, xx_lawful, para_lawful}
@@ -46,7 +46,7 @@ module _ (m : Meaning) (lawful : IsLawful m) where
   lines_push [] l good here = (here, tt)
   lines_push (k ∷ ls) l good here = (good.0, lines_push ls l good.1 here)
 
-  content_good : (content : ContentTree) (c : ClauseTree) → clause_in content ≡ Some c → ContentGood m lawful content → IsGood m lawful c
+  content_good : (content : ContentTree) (c : ClauseTree) → content_clause content ≡ Some c → ContentGood m lawful content → IsGood m lawful c
   content_good (formula f) c h good = cc
   content_good (clause d) c h good = let same : d ≡ c = cc in subst (IsGood m lawful) same good
 
@@ -54,7 +54,7 @@ module _ (m : Meaning) (lawful : IsLawful m) where
   clause_good [] n c h good = cc
   clause_good (l ∷ ls) n c h good = by (l.number == n) h (λ k. clause_good ls n c k good.1)
     where
-      by : (b : Bool) → option_and_then (λ l. clause_in l.content) (if b then Some l else line_at ls n) ≡ Some c → (clause_at ls n ≡ Some c → IsGood m lawful c) → IsGood m lawful c
+      by : (b : Bool) → option_and_then (λ l. content_clause l.content) (if b then Some l else line_at ls n) ≡ Some c → (clause_at ls n ≡ Some c → IsGood m lawful c) → IsGood m lawful c
       by true k rest = content_good l.content c k good.0
       by false k rest = rest k
 

@@ -1,4 +1,5 @@
 pub mod Conclusions
+pub mod Contents
 pub mod Elements
 pub mod Induction
 pub mod LaterSound

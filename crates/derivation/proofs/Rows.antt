@@ -40,7 +40,7 @@ three_once fits Lead Rest row other one once (inr (inr on)) (inr (inl seven)) = 
 three_once fits Lead Rest row other one once (inr (inr on)) (inr (inr goes)) =
     once on.1.0 on.1.2 (subst (λ b. Rest b other) (one goes.1.0 on.1.0 on.0 goes.1.1 on.1.1) goes.1.2)
 
-clauses_once : (ls : List LineTree) (ns : List ℕ) (cs ds : List ClauseTree) → AreClauses ls ns cs → AreClauses ls ns ds → cs ≡ ds
+pub clauses_once : (ls : List LineTree) (ns : List ℕ) (cs ds : List ClauseTree) → AreClauses ls ns cs → AreClauses ls ns ds → cs ≡ ds
 clauses_once ls [] [] [] are were = refl
 clauses_once ls [] [] (d ∷ ds) are were = absurd were
 clauses_once ls [] (c ∷ cs) ds are were = absurd are

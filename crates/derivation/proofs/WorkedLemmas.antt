@@ -1,5 +1,5 @@
 -- The witnesses of what is worked out.
-use Rattle.std.proofs.Common.{◌≡◌, inl, inr, ℕ, true, [], ◌∷◌, Some, Bool, ◌<◌, refl, ap, ◌∙◌, lit<, unwrap_or, arith}
+use Rattle.std.proofs.Common.{◌≡◌, inl, inr, ℕ, true, [], ◌∷◌, Some, Bool, ◌<◌, refl, sym, ap, ◌∙◌, lit<, unwrap_or, arith}
 use Rattle.std.proofs.lemmas.Bool.{true≢false, false≢true, eq-eqb}
 use Rattle.fol_core.specs.Fol.{Fol, atom}
 use Rattle.fol_core.specs.Literals.{ClauseTree}
@@ -9,7 +9,7 @@ use Rattle.fol_core.specs.declared.problem.Role.TheVariants.{Assumption, Goal}
 use Rattle.derivation.specs.Lines.{LineTree, formula, assumed, wanted}
 use Rattle.derivation.specs.Rule.{IsMostGeneralFamily, Concludes}
 use Rattle.derivation.specs.Words.{clash_rule, copy_rule}
-use Rattle.derivation.specs.Worked.{a, b, p, yes, no, line, WorkedLater, WorkedRefutation, WorkedFaults}
+use Rattle.derivation.specs.Worked.{a, b, p, yes, no, numbered_line, WorkedLater, WorkedRefutation, WorkedFaults}
 
 pub later : WorkedLater
 later = (refl, ((0, lit< tt, refl), refl), (refl, refl), ((λ x. a, refl), refl), (λ x. a, refl, refl))
@@ -30,10 +30,10 @@ refutation = (
       (inr (inl (refl, refl)), refl),
       (
         lit< tt,
-        ((f0, (line 1 (formula f0) assumed, refl, refl, refl), inl (said Assumption f0, refl, (refl, refl), refl)), refl),
+        ((f0, (numbered_line 1 (formula f0) assumed, refl, refl, refl), inl (said Assumption f0, refl, (refl, refl), refl)), refl),
         (
           lit< tt,
-          ((f0, (line 2 (formula f0) wanted, refl, refl, refl), inr (inl (said Goal f0, refl, (refl, refl), refl))), refl),
+          ((f0, (numbered_line 2 (formula f0) wanted, refl, refl, refl), inr (inl (said Goal f0, refl, (refl, refl), refl))), refl),
           (lit< tt, ((yes (p a) ∷ []) ∷ (no (p a) ∷ []) ∷ [], [], (refl, (refl, tt)), refl, (λ k. var, general, refl), refl), tt),
         ),
       ),
@@ -55,7 +55,7 @@ apart : p a ≡ p b → ⊥
 apart h = false≢true (eq-eqb 0 1 (other_head 3 3 0 1 h))
 
 -- a goal's line is none of an assumption
-goal_line : (l : LineTree) → Some (line 2 (formula f0) wanted) ≡ Some l → l.first ≡ assumed → ⊥
+goal_line : (l : LineTree) → Some (numbered_line 2 (formula f0) wanted) ≡ Some l → l.first ≡ assumed → ⊥
 goal_line l there first =
     let e : wanted ≡ assumed = ap (λ o. (unwrap_or o l).first) there ∙ first in
     cc
@@ -74,6 +74,9 @@ copied_clause = (λ k. var, record { unifies = tt; general = λ other h. (var, r
 not_below : 4 < 4 → ⊥
 not_below h = omega arith
 
+none_before : (n : ℕ) → n < 0 → ⊥
+none_before n h = omega arith
+
 pub faults : WorkedFaults
 faults = (
   (refl, refl),
@@ -83,6 +86,8 @@ faults = (
   inr (lit< tt, inr (inl (refl, refl, λ h. goal_line h.1.0 h.1.1 h.1.3))),
   inr (lit< tt, inr (refl, ((yes (p a) ∷ []) ∷ (yes (p a) ∷ []) ∷ [], (refl, (refl, tt)), inl (refl, refl)))),
   inr (lit< tt, inr (refl, ((yes (p a) ∷ []) ∷ (no (p b) ∷ []) ∷ [], (refl, (refl, tt)), inr (inl (refl, refl, λ own h. apart h.0))))),
+  inr (lit< tt, inr (refl, ((yes (p a) ∷ []) ∷ [], (refl, tt), inr (inr (refl, (yes (p a) ∷ [], copied_clause, ([], tt, inr (inl (refl, refl, λ d h. none_before h.0.0 h.0.1))))))))),
+  inr (lit< tt, inr (refl, ((yes (p a) ∷ []) ∷ [], (refl, tt), inr (inr (refl, (yes (p a) ∷ [], copied_clause, ((no (p b) ∷ []) ∷ [], (refl, tt), inr (inl (refl, refl, λ d h. apart (sym h.0.1)))))))))),
   inr (lit< tt, inr (refl, ((yes (p a) ∷ []) ∷ [], (refl, tt), inr (inr (refl, (yes (p a) ∷ [], copied_clause, (refl, signs))))))),
   (refl, inr ((tt, (inl (refl, refl), refl)), refl, refl)),
 )

@@ -1,13 +1,15 @@
 -- What refutations show, in every interpretation.
-use Rattle.std.specs.Prelude.{ℕ, ◌≡◌, IsTrue, false, List, [], ◌∷◌, map, Some}
+use Rattle.std.specs.Prelude.{ℕ, ◌≡◌, IsTrue, false, List, [], ◌∷◌, map, Option, Some}
 use Rattle.fol_core.specs.Laws.{NamesElements}
 use Rattle.fol_core.specs.Literals.{ClauseTree, AreTrueClauses}
 use Rattle.fol_core.specs.Meaning.{Meaning}
 use Rattle.fol_core.specs.Occurs.{names_in}
+use Rattle.fol_core.specs.Renumbered.{renumbered}
 use Rattle.fol_core.specs.Stated.{Said}
 use Rattle.substitutions.specs.Atoms.{AreAtoms}
-use Rattle.derivation.specs.Lines.{FirstWord, Inference, ContentTree, formula, clause, LineTree, InputRow, IsRefutation, inference_of}
-use Rattle.derivation.specs.Refused.{IsFault}
+use Rattle.derivation.specs.Lines.{FirstWord, Inference, ContentTree, formula, clause, LineTree, InputRow, IsInferred, IsRefutation, inference_of}
+use Rattle.derivation.specs.Later.{LaterWord}
+use Rattle.derivation.specs.Refused.{IsRefusedLine, IsAccepted, IsFault}
 use Rattle.derivation.specs.Rule.{Concludes}
 
 -- each element that a clause names is within
@@ -56,6 +58,20 @@ RefutationIsSound m = (ss : List Said) (rows : List InputRow) (ls : List LineTre
 abbrev pub OneConclusion : Type 0
 OneConclusion = (w : FirstWord) (i : Inference) (ps : List ClauseTree) (c d : ClauseTree) → inference_of w ≡ Some i
     → IsTrue (i.rule.fits ps) → Concludes i.rule ps c → Concludes i.rule ps d → c ≡ d
+
+-- and a line that is inferred has one content, but for the numbers of its variables
+abbrev pub OneContent : Type 0
+OneContent = (ls : List LineTree) (w : FirstWord) (i : Inference) (ws : List LaterWord) (c d : ClauseTree) → inference_of w ≡ Some i
+    → IsInferred ls i ws (clause c) → IsInferred ls i ws (clause d) → renumbered c ≡ renumbered d
+
+-- a line that is refused behind earlier ones is none, and is refused by one row
+abbrev pub RefusedIsNone : Type 0
+RefusedIsNone = (ss : List Said) (rows : List InputRow) (ls : List LineTree) (last : Option ℕ) (l : LineTree) (row : ℕ)
+    → IsRefusedLine ss rows ls last l row → ¬ IsAccepted ss rows ls last l
+
+abbrev pub RefusedByOneRow : Type 0
+RefusedByOneRow = (ss : List Said) (rows : List InputRow) (ls : List LineTree) (last : Option ℕ) (l : LineTree) (row other : ℕ)
+    → IsRefusedLine ss rows ls last l row → IsRefusedLine ss rows ls last l other → row ≡ other
 
 -- lines that have a fault are no refutation, and the fault is one
 abbrev pub FaultIsNone : Type 0

@@ -75,13 +75,13 @@ abbrev pub line_at : List LineTree → ℕ → Option LineTree
 line_at [] n = None
 line_at (l ∷ ls) n = if l.number == n then Some l else line_at ls n
 
-abbrev pub clause_in : ContentTree → Option ClauseTree
-clause_in (formula f) = None
-clause_in (clause c) = Some c
+abbrev pub content_clause : ContentTree → Option ClauseTree
+content_clause (formula f) = None
+content_clause (clause c) = Some c
 
 -- the clause of the line of a number
 abbrev pub clause_at : List LineTree → ℕ → Option ClauseTree
-clause_at ls n = option_and_then (λ l. clause_in l.content) (line_at ls n)
+clause_at ls n = option_and_then (λ l. content_clause l.content) (line_at ls n)
 
 abbrev pub is_empty_clause : ContentTree → Bool
 is_empty_clause (formula f) = false

@@ -12,20 +12,20 @@ use Rattle.derivation.specs.declared.words.Later.{Later}
 use Rattle.derivation.specs.declared.words.Later.TheVariants.{Rewrite, Flip, Merge, Xx, UnitDel}
 
 -- one rule stands behind copies of all kinds, and one behind resolution with one satellite or more
-abbrev pub first_of : First → FirstWord
-first_of Assumption = assumed
-first_of Goal = wanted
-first_of (Clausify n) = clausified n
-first_of (Deny n) = denied n
-first_of (Copy n) = copied n
-first_of (BackRewrite n) = copied n
-first_of (BackUnitDel n) = copied n
-first_of (Resolve n s) = resolved n (s ∷ [])
-first_of (Hyper n ss) = resolved n ss.items
-first_of (Ur n ss) = resolved n ss.items
-first_of (Factor n a b) = factored n a b
-first_of (Para p) = paramodulated p.from p.equation p.side p.into p.literal p.path.items
-first_of (XxRes n a) = xx_resolved n a
+abbrev pub first_word_of : First → FirstWord
+first_word_of Assumption = assumed
+first_word_of Goal = wanted
+first_word_of (Clausify n) = clausified n
+first_word_of (Deny n) = denied n
+first_word_of (Copy n) = copied n
+first_word_of (BackRewrite n) = copied n
+first_word_of (BackUnitDel n) = copied n
+first_word_of (Resolve n s) = resolved n (s ∷ [])
+first_word_of (Hyper n ss) = resolved n ss.items
+first_word_of (Ur n ss) = resolved n ss.items
+first_word_of (Factor n a b) = factored n a b
+first_word_of (Para p) = paramodulated p.from p.equation p.side p.into p.literal p.path.items
+first_word_of (XxRes n a) = xx_resolved n a
 
 abbrev pub later_of : Later → LaterWord
 later_of (Rewrite r) = rewritten r.rule r.literal r.path.items
@@ -39,7 +39,7 @@ content_of (Formula f label) = formula (fol_of f.shape)
 content_of (Clause c) = clause c
 
 abbrev pub line_of : Line → LineTree
-line_of l = record { number = l.number; content = content_of l.content; first = first_of l.just.first; later = map later_of l.just.steps.items }
+line_of l = record { number = l.number; content = content_of l.content; first = first_word_of l.just.first; later = map later_of l.just.steps.items }
 
 abbrev pub lines_of : List Line → List LineTree
 lines_of ls = map line_of ls

@@ -6,7 +6,7 @@ use Rattle.fol_core.specs.Stated.{Said, said}
 use Rattle.fol_core.specs.Tree.{Tree, var, app, none, more}
 use Rattle.fol_core.specs.declared.problem.Role.TheVariants.{Assumption, Goal}
 use Rattle.derivation.specs.Equations.{equation}
-use Rattle.derivation.specs.Later.{flipped, merged, reflexive, unit_deleted, rewritten, later_fits, Leads}
+use Rattle.derivation.specs.Later.{LaterWord, flipped, merged, reflexive, unit_deleted, rewritten, later_fits, Leads}
 use Rattle.derivation.specs.Lines.{FirstWord, assumed, wanted, clausified, denied, copied, resolved, ContentTree, formula, clause, LineTree, InputRow, IsRefutation}
 use Rattle.derivation.specs.Refused.{IsRefusedLine, IsFault}
 use Rattle.derivation.specs.Words.{copy_rule, clash_rule, factor_rule, xx_rule, para_rule}
@@ -123,32 +123,38 @@ stated = said Assumption (atom 3 (more a none)) ∷ said Goal (atom 3 (more a no
 abbrev pub inputs : List InputRow
 inputs = (1, yes (p a) ∷ []) ∷ (2, no (p a) ∷ []) ∷ []
 
-abbrev pub line : ℕ → ContentTree → FirstWord → LineTree
-line n content first = record { number = n; content = content; first = first; later = [] }
+abbrev pub numbered_line : ℕ → ContentTree → FirstWord → LineTree
+numbered_line n content first = record { number = n; content = content; first = first; later = [] }
+
+-- a copy with words behind it
+abbrev pub copy_then : ℕ → ContentTree → ℕ → List LaterWord → LineTree
+copy_then n content m words = record { number = n; content = content; first = copied m; later = words }
 
 abbrev pub clash : ℕ → ℕ → FirstWord
 clash n m = resolved n (record { place = 0; clause = m; literal = 0 } ∷ [])
 
 abbrev pub given : List LineTree
 given =
-    line 1 (formula (atom 3 (more a none))) assumed ∷ line 2 (formula (atom 3 (more a none))) wanted
-    ∷ line 3 (clause (yes (p a) ∷ [])) (clausified 1) ∷ line 4 (clause (no (p a) ∷ [])) (denied 2) ∷ []
+    numbered_line 1 (formula (atom 3 (more a none))) assumed ∷ numbered_line 2 (formula (atom 3 (more a none))) wanted
+    ∷ numbered_line 3 (clause (yes (p a) ∷ [])) (clausified 1) ∷ numbered_line 4 (clause (no (p a) ∷ [])) (denied 2) ∷ []
 
 abbrev pub WorkedRefutation : Type 0
 WorkedRefutation =
     IsRefutation stated inputs
-    (line 1 (formula (atom 3 (more a none))) assumed ∷ line 2 (formula (atom 3 (more a none))) wanted
-    ∷ line 3 (clause (yes (p a) ∷ [])) (clausified 1) ∷ line 4 (clause (no (p a) ∷ [])) (denied 2) ∷ line 5 (clause []) (clash 3 4) ∷ [])
+    (numbered_line 1 (formula (atom 3 (more a none))) assumed ∷ numbered_line 2 (formula (atom 3 (more a none))) wanted
+    ∷ numbered_line 3 (clause (yes (p a) ∷ [])) (clausified 1) ∷ numbered_line 4 (clause (no (p a) ∷ [])) (denied 2) ∷ numbered_line 5 (clause []) (clash 3 4) ∷ [])
 
--- a fault of each row
+-- a fault of each row, and of row 7 one of a rule, of a literal that stands once, and of a clause that isn't an instance
 abbrev pub WorkedFaults : Type 0
 WorkedFaults =
     IsFault stated inputs [] 0 1
-    × IsRefusedLine stated inputs given (Some 4) (line 4 (clause []) (clash 3 4)) 2
-    × IsRefusedLine stated inputs given (Some 4) (line 5 (clause (yes (p a) ∷ [])) (copied 1)) 3
-    × IsRefusedLine stated inputs given (Some 4) (line 5 (formula (atom 4 (more a none))) assumed) 4
-    × IsRefusedLine stated inputs given (Some 4) (line 5 (clause (yes (p a) ∷ [])) (clausified 2)) 5
-    × IsRefusedLine stated inputs given (Some 4) (line 5 (clause []) (clash 3 3)) 6
-    × IsRefusedLine stated inputs (line 1 (clause (yes (p a) ∷ [])) (clausified 1) ∷ line 2 (clause (no (p b) ∷ [])) (denied 2) ∷ []) (Some 2) (line 3 (clause []) (clash 1 2)) 7
-    × IsRefusedLine stated inputs given (Some 4) (line 5 (clause (no (p a) ∷ [])) (copied 3)) 8
-    × IsFault stated inputs (line 1 (formula (atom 3 (more a none))) assumed ∷ []) 1 9
+    × IsRefusedLine stated inputs given (Some 4) (numbered_line 4 (clause []) (clash 3 4)) 2
+    × IsRefusedLine stated inputs given (Some 4) (numbered_line 5 (clause (yes (p a) ∷ [])) (copied 1)) 3
+    × IsRefusedLine stated inputs given (Some 4) (numbered_line 5 (formula (atom 4 (more a none))) assumed) 4
+    × IsRefusedLine stated inputs given (Some 4) (numbered_line 5 (clause (yes (p a) ∷ [])) (clausified 2)) 5
+    × IsRefusedLine stated inputs given (Some 4) (numbered_line 5 (clause []) (clash 3 3)) 6
+    × IsRefusedLine stated inputs (numbered_line 1 (clause (yes (p a) ∷ [])) (clausified 1) ∷ numbered_line 2 (clause (no (p b) ∷ [])) (denied 2) ∷ []) (Some 2) (numbered_line 3 (clause []) (clash 1 2)) 7
+    × IsRefusedLine stated inputs given (Some 4) (copy_then 5 (clause []) 3 (merged 0 ∷ [])) 7
+    × IsRefusedLine stated inputs (numbered_line 1 (clause (yes (p a) ∷ [])) (clausified 1) ∷ numbered_line 2 (clause (no (p b) ∷ [])) (denied 2) ∷ []) (Some 2) (copy_then 3 (clause []) 1 (unit_deleted 0 2 ∷ [])) 7
+    × IsRefusedLine stated inputs given (Some 4) (numbered_line 5 (clause (no (p a) ∷ [])) (copied 3)) 8
+    × IsFault stated inputs (numbered_line 1 (formula (atom 3 (more a none))) assumed ∷ []) 1 9

@@ -1,7 +1,7 @@
 // Laws of derivations: the functions do nothing, and their contracts are the laws.
 ghost use Rattle.fol_core.specs.Meaning.{Meaning, IsLawful};
 ghost use Rattle.derivation.specs.Apart.{UnifierConcludes, NoneConcludes};
-ghost use Rattle.derivation.specs.Laws.{RefutationIsSound, NoneIsWithin, OneConclusion, FaultIsNone, FaultIsOne};
+ghost use Rattle.derivation.specs.Laws.{RefutationIsSound, NoneIsWithin, OneConclusion, OneContent, RefusedIsNone, RefusedByOneRow, FaultIsNone, FaultIsOne};
 ghost use Rattle.derivation.specs.Worked.{WorkedCopy, WorkedClash, WorkedNoClash, WorkedFactor, WorkedReflexivity, WorkedParamodulation, WorkedNoParamodulation, WorkedLater, WorkedMisfits, WorkedRefutation, WorkedFaults};
 
 /// Where there is a refutation, not all input clauses are true, in any interpretation that has the elements which its lines name.
@@ -17,6 +17,17 @@ pub fn lines_without_elements()
 /// A rule has one conclusion, whatever most general unifier it is made by.
 pub fn conclusion_is_one()
     ensures { OneConclusion }
+{}
+
+/// A line that is inferred has one content, but for the numbers of its variables, whatever words stand behind the first one.
+pub fn content_is_one()
+    ensures { OneContent }
+{}
+
+/// A line that is refused behind earlier ones is none behind them, and is refused by one row.
+pub fn refused_is_none()
+    ensures none { RefusedIsNone }
+    ensures one { RefusedByOneRow }
 {}
 
 /// A most general unifier of parents that are renamed apart, in whatever way, makes the conclusion.

@@ -21,7 +21,7 @@ one_of None h = absurd (cc)
 
 pub tests_by : (read : FileRead) (a b : Inflow) (c d : Outflow) (r : Result Tested Cut) (r' : Result Tested Stop) → IsTrue (is_some read.interpretation)
     → ((it : ByName) → read.interpretation ≡ Some it → (bytes : List ℕ) × IsAllRead a b bytes × interprets bytes (interpreted_by read it))
-    → ((it : ByName) → read.interpretation ≡ Some it → Tells (λ text. text ≡ []) (IsTested (interpreted_by read it)) c d r) → IsHandedOn r r' → Tests a b c d r'
+    → ((it : ByName) → read.interpretation ≡ Some it → Tells (λ text. text ≡ []) (IsTested (interpreted_by read it)) c d r) → IsHandedOn r r' → Tests interprets (refuses Tester) a b c d r'
 tests_by read a b c d r r' some says tells is =
     let it = one_of read.interpretation some in
     let said = says it.0 it.1 in

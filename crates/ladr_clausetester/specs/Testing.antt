@@ -5,17 +5,16 @@ use Rattle.ladr_clausetester.specs.Report.{report}
 use Rattle.ladr_clausetester.specs.Verdicts.{AreTrueAsTold}
 use Rattle.ladr_clausetester.specs.declared.testing.Tested.{Tested}
 use Rattle.ladr_intake.specs.Command.{Runs}
-use Rattle.ladr_intake.specs.Posed.{Interpreted, interprets}
-use Rattle.ladr_intake.specs.Refusals.{refuses}
+use Rattle.ladr_intake.specs.Posed.{Interpreted}
+use Rattle.ladr_intake.specs.declared.stops.Refused.{Refused}
 use Rattle.ladr_intake.specs.declared.stops.Stop.{Stop}
 use Rattle.ladr_io.specs.Streams.{Inflow, Outflow}
-use Rattle.ladr_formulas.specs.declared.styles.Mode.TheVariants.{Tester}
 use Rattle.model_tables.specs.Tables.{meaning_of}
 
 -- the formulas are true in the tables as told, and the report on them is the whole output
 abbrev pub IsTested : Interpreted → Tested → List ℕ → Type 0
 IsTested x end text = (all : List Bool) × AreTrueAsTold (meaning_of x.tables) x.stated.formulas all × (text ≡ report all)
 
--- a run of `clausetester`: nothing is printed of the formulas before all of them are tested
-abbrev pub Tests : Inflow → Inflow → Outflow → Outflow → Result Tested Stop → Type 0
-Tests = Runs interprets (refuses Tester) (Unit {0}) (λ x text. text ≡ []) IsTested
+-- A run of `clausetester`, by what bytes say and which are refused: nothing is printed of the formulas before all of them are tested.
+abbrev pub Tests : (List ℕ → Interpreted → Type 0) → (List ℕ → Refused → Type 0) → Inflow → Inflow → Outflow → Outflow → Result Tested Stop → Type 0
+Tests says refuses = Runs says refuses (Unit {0}) (λ x text. text ≡ []) IsTested

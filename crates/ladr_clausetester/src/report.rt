@@ -1,15 +1,15 @@
 // The report on the formulas of an input.
 ghost use Rattle.std.specs.Prelude.{◌≡◌, ◌++◌, OnOk, IfOk, codes, count_by, not};
 ghost use Rattle.std.specs.Fmt.{decimal};
-ghost use Rattle.ladr_clausetester.specs.Report.{formula_line, formula_lines, report};
-ghost use Rattle.ladr_output.specs.Telling.{line};
+ghost use Rattle.ladr_clausetester.specs.Report.{verdict_line, verdict_lines, report};
+ghost use Rattle.ladr_output.specs.Telling.{as_line};
 
 use ladr_output::{number, text};
 use std::alloc::{AllocError, Global};
 
 // Puts the line of a formula behind the text.
 fn formula(out: &mut Vec<u8>, k: u64, holds: bool) -> Result<(), AllocError>
-    ensures { OnOk result (out.new.items ≡ out.old.items ++ formula_line k holds) }
+    ensures { OnOk result (out.new.items ≡ out.old.items ++ verdict_line k holds) }
 {
     text(out, b"formula ")?;
     number(out, k)?;
@@ -23,8 +23,8 @@ fn formula(out: &mut Vec<u8>, k: u64, holds: bool) -> Result<(), AllocError>
 // Puts the totals and the last line behind the text.
 fn ending(out: &mut Vec<u8>, holding: u64, failing: u64) -> Result<(), AllocError>
     ensures { OnOk result (out.new.items ≡ out.old.items
-        ++ line (codes "% True=" ++ decimal holding ++ codes ". False=" ++ decimal failing
-        ++ codes ".") ++ line (codes "% Exit tested.")) }
+        ++ as_line (codes "% True=" ++ decimal holding ++ codes ". False=" ++ decimal failing
+        ++ codes ".") ++ as_line (codes "% Exit tested.")) }
 {
     text(out, b"% True=")?;
     number(out, holding)?;
@@ -35,7 +35,7 @@ fn ending(out: &mut Vec<u8>, holding: u64, failing: u64) -> Result<(), AllocErro
 
 // The lines of all formulas.
 fn formulas(alloc: Global, all: &[bool]) -> Result<Vec<u8>, AllocError>
-    ensures { IfOk result (λ v. v.items ≡ formula_lines 1 all.now) }
+    ensures { IfOk result (λ v. v.items ≡ verdict_lines 1 all.now) }
 {
     let mut out = Vec::new(alloc);
     for (i, holds) in all.iter().enumerate() {

@@ -2,7 +2,9 @@
 ghost use Rattle.std.specs.Prelude.{◌≡◌, [], false, IsTrue, Some, is_some};
 ghost use Rattle.ladr_commands.specs.ByName.{ByName};
 ghost use Rattle.ladr_clausetester.specs.Testing.{Tests, IsTested};
-ghost use Rattle.ladr_intake.specs.Posed.{interpreted_by};
+ghost use Rattle.ladr_formulas.specs.declared.styles.Mode.TheVariants.{Tester};
+ghost use Rattle.ladr_intake.specs.Posed.{interprets, interpreted_by};
+ghost use Rattle.ladr_intake.specs.Refusals.{refuses};
 ghost use Rattle.ladr_output.specs.Telling.{Tells};
 
 use crate::report::report;
@@ -28,8 +30,8 @@ pub fn clausetester<S: Source, K: Sink>(
 ) -> Result<Tested, Stop>
     requires source { (S.inflow source.old).over ≡ false }
     requires sink { (K.outflow sink.old).over ≡ false }
-    ensures { Tests (S.inflow source.old) (S.inflow source.new) (K.outflow sink.old)
-        (K.outflow sink.new) result }
+    ensures { Tests interprets (refuses Tester) (S.inflow source.old) (S.inflow source.new)
+        (K.outflow sink.old) (K.outflow sink.new) result }
 {
     match take_in(alloc, Mode::Tester, source) {
         Ok(read) => match test(alloc, &read, sink) {

@@ -2,10 +2,10 @@
 use Rattle.std.specs.Prelude.{Bool, ℕ, true, false, if◌then◌else◌, unwrap_or, List, [], ◌∷◌, codes}
 use Rattle.std.specs.Str.{bytes_eq}
 use Rattle.ladr_lex.specs.Lexeme.{Lexeme}
+use Rattle.ladr_lex.specs.Numeral.{whole_number}
 use Rattle.ladr_commands.specs.ByName.{by_name}
 use Rattle.ladr_commands.specs.Form.{Form, token, members, list, stopped, closed, opened, number_in, comment, entry}
 use Rattle.ladr_commands.specs.Wanted.{text_of, word_of, is_number, is_close, is_open_square, is_close_square, is_interpretation, kind_in}
-use Rattle.ladr_commands.specs.Whole.{whole}
 use Rattle.ladr_commands.specs.declared.command.Command.{Command}
 use Rattle.ladr_commands.specs.declared.command.Value.{Value}
 use Rattle.ladr_commands.specs.declared.command.Value.TheVariants as value
@@ -14,8 +14,9 @@ use Rattle.ladr_commands.specs.declared.word.Word.{Word}
 use Rattle.ladr_commands.specs.declared.word.Word.TheVariants as word
 use Rattle.ladr_commands.specs.declared.command.Command.TheVariants as command
 
+-- the number of a numeral, where one above 18,446,744,073,709,551,615 counts as this
 abbrev pub whole_in : Lexeme → ℕ
-whole_in t = whole (text_of t)
+whole_in t = unwrap_or (whole_number (text_of t)) 18446744073709551615
 
 -- `name).`
 abbrev pub with_name : (List ℕ → Command) → Form

@@ -3,6 +3,5 @@ pub mod Commands
 pub mod Faults
 pub mod Form
 pub mod LexemeCodes
-pub mod Whole
 pub mod Wanted
 pub mod Worked

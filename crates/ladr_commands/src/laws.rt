@@ -13,14 +13,17 @@ ghost use Rattle.ladr_commands.specs.declared.command.Value.TheVariants as value
 
 /// Tokens are one command at most.
 pub fn one_command()
-    ensures { (f : Form) (ts : List Lexeme) (c d : Command) → SaysCommand f ts c → SaysCommand f ts d → c ≡ d }
+    ensures { (f : Form) (ts : List Lexeme) (c d : Command) → SaysCommand f ts c
+        → SaysCommand f ts d → c ≡ d }
 {}
 
 /// Commands, and tokens that are none.
 pub fn worked()
     ensures flag { SaysCommand commands flag (Flag true (codes "auto")) }
-    ensures negative { SaysCommand commands negative (Assign (codes "max_weight") (value.Number true 1)) }
-    ensures sign { SaysCommand commands sign (Assign (codes "order") (value.Symbol (codes "-"))) }
+    ensures negative { SaysCommand commands negative
+        (Assign (codes "max_weight") (value.Number true 1)) }
+    ensures sign { SaysCommand commands sign
+        (Assign (codes "order") (value.Symbol (codes "-"))) }
     ensures operators { SaysCommand commands operators
         (Op 700 (codes "infix_left") (codes "\"@@\"" ∷ codes "f" ∷ [])) }
     ensures zeros { IsBadCommandToken commands zeros 5 }

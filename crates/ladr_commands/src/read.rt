@@ -1,7 +1,7 @@
 // Reading a command.
 ghost use Rattle.std.specs.Prelude.{◌≡◌, ◌<◌, length, ℕ, true, List, [], Err, IfOk, OnOk, IfErr};
 ghost use Rattle.ladr_lex.specs.Lexeme.{Lexeme, lexeme_of, lexemes_of};
-ghost use Rattle.ladr_commands.specs.Commands.{commands_of, interpretation_item, behind_first, behind_word, with_name, with_names, assignment, behind_value, behind_dash, declaration, behind_type};
+ghost use Rattle.ladr_commands.specs.Commands.{commands_of, interpretation_item, behind_first, behind_word, with_name, with_names, assignment, behind_value, behind_dash, declaration, behind_type, whole_in};
 ghost use Rattle.ladr_commands.specs.Faults.{IsCommandFault};
 ghost use Rattle.ladr_commands.specs.Form.{Form, token, members, opened, closed, stopped, behind_text, IsMember, list, outcome, reads, stops, SaysCommand};
 ghost use Rattle.ladr_commands.specs.declared.command.Command.{Command};
@@ -15,13 +15,12 @@ use crate::command::{Command, Value};
 use crate::cursor::Cursor;
 use crate::fault::{CommandFault, Fault};
 use crate::interpretation::opened_interpretation;
-use crate::numbers::whole;
 use crate::wanted::{
     Wanted, is_close, is_comma, is_interpretation, is_number, is_open_square, text_of,
 };
 use crate::word::{Word, word_of};
 use fol_core::{Name, Names};
-use ladr_lex::{Token, number};
+use ladr_lex::{Token, number, whole_number};
 use std::alloc::Global;
 
 /// The command that the tokens of an item are; interpretations are commands of the program that tests them alone.
@@ -234,7 +233,7 @@ fn closed_value(alloc: Global, cursor: &mut Cursor, first: &Token) -> Result<Val
     }
     closed(cursor)?;
     if is_number(first) {
-        return Ok(Value::Number(false, whole(text_of(first))));
+        return Ok(Value::Number(false, whole_in(first)));
     }
     Ok(Value::Symbol(Name::from_slice(alloc, text_of(first))?))
 }
@@ -253,7 +252,14 @@ fn dashed_value(alloc: Global, cursor: &mut Cursor) -> Result<Value, Fault>
         return Ok(Value::Symbol(Name::from_slice(alloc, b"-")?));
     }
     closed(cursor)?;
-    Ok(Value::Number(true, whole(text_of(&token))))
+    Ok(Value::Number(true, whole_in(&token)))
+}
+
+// The number of a numeral.
+fn whole_in(token: &Token) -> u64
+    ensures { result ≡ whole_in (lexeme_of token.now) }
+{
+    whole_number(text_of(token)).unwrap_or(u64::MAX)
 }
 
 // `(number, type, symbols).`

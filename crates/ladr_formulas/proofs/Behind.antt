@@ -15,7 +15,7 @@ use Rattle.fol_core.proofs.SymbolLemmas.{symbol_there, number_of_push}
 use Rattle.ladr_lex.specs.Numeral.{number}
 use Rattle.ladr_lex.specs.declared.misuse.Misuse.{Misuse}
 use Rattle.ladr_lex.specs.declared.misuse.Misuse.TheVariants.{TwoKinds, QuantifierInTerm, UnfitAttribute, UnfitNumeral}
-use Rattle.ladr_formulas.specs.Formulas.{Reading, Made, Bound, meets, bound_number, free_number, is_variable, with_variable, variable_number, with_name, named_variable, with_symbol, symbol_number, arity_of, is_too_great, is_element, constant_as, constant, term_of, terms_of, relation_of, sentence_as, sentence, equation, under, bound_by, is_denial, connective_of, joined, joined_by, by_connective, comparison, formula_in, unread, formula_reading}
+use Rattle.ladr_formulas.specs.Formulas.{Reading, Made, Bound, meets, bound_number, free_number, is_variable, with_variable, variable_number, with_name, named_variable, with_symbol, symbol_number, arity_of, is_too_great, is_element, constant_as, constant, term_of, terms_of, relation_of, sentence_as, sentence, equation_read, under, bound_by, is_denial, connective_of, connective_read, joined_by, by_connective, comparison, formula_in, unread, formula_reading}
 use Rattle.ladr_formulas.specs.declared.connectives.Connective.{Connective}
 use Rattle.ladr_formulas.specs.declared.connectives.Connective.TheVariants.{And, Or, IfThen, ThenIf, IfAndOnlyIf}
 use Rattle.ladr_formulas.specs.declared.styles.Style.{Style}
@@ -198,7 +198,7 @@ module _ (T : List Symbol) where
       let v = named_variable st scope name s in
       ap (λ (m : Made (Option ℕ)). sentence_as st scope name m.tree m.reading) (named_into st scope name s) ∙ sentence_as_into st scope name v.tree v.reading k
 
-  equation_into : (st : Style) (scope : List Bound) (t u : RawTree) → Alike (equation st scope t u)
+  equation_into : (st : Style) (scope : List Bound) (t u : RawTree) → Alike (equation_read st scope t u)
   equation_into st scope t u s k =
       let left = term_of st scope s t in
       let one = term_into st scope t s (kept_before left.reading _ (grows_term st scope left.reading u) k) in
@@ -208,13 +208,13 @@ module _ (T : List Symbol) where
   comparison_into : (st : Style) (scope : List Bound) (name : List ℕ) (t u : RawTree) → Alike (comparison st scope name t u)
   comparison_into st scope name t u s k =
       let other = relation_of st scope name (more_raws t (more_raws u no_raws)) in
-      either_into (bytes_eq name (codes "=")) (equation st scope t u) (λ (r : Reading). if bytes_eq name (codes "!=") then under negation (equation st scope t u r) else other r)
+      either_into (bytes_eq name (codes "=")) (equation_read st scope t u) (λ (r : Reading). if bytes_eq name (codes "!=") then under negation (equation_read st scope t u r) else other r)
       (equation_into st scope t u)
-      (either_into (bytes_eq name (codes "!=")) (λ (r : Reading). under negation (equation st scope t u r)) other
+      (either_into (bytes_eq name (codes "!=")) (λ (r : Reading). under negation (equation_read st scope t u r)) other
       (λ r h. ap (under negation) (equation_into st scope t u r h)) (relation_into st scope name (more_raws t (more_raws u no_raws))))
       s k
 
-  joined_into : (join : Fol → Fol → Fol) (f g : Reading → Made Fol) → Alike f → Alike g → ((r : Reading) → Grows r (g r).reading) → Alike (joined join f g)
+  joined_into : (join : Fol → Fol → Fol) (f g : Reading → Made Fol) → Alike f → Alike g → ((r : Reading) → Grows r (g r).reading) → Alike (connective_read join f g)
   joined_into join f g a b grows s k =
       let one = a s (kept_before (f s).reading _ (grows (f s).reading) k) in
       ap (λ (m : Made Fol). under (join m.tree) (g m.reading)) one ∙ ap (under (join (f s).tree)) (b (f s).reading k)

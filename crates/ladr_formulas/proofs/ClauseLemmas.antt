@@ -15,7 +15,7 @@ use Rattle.fol_core.specs.declared.raw.Quantifier.TheVariants.{All, Exists}
 use Rattle.fol_core.specs.declared.raw.Raw.{Raw}
 use Rattle.ladr_reader.specs.Capped.{is_bar, disjuncts}
 use Rattle.ladr_formulas.specs.ClauseIn.{literal_in, prepended, literals_in, clause_in}
-use Rattle.ladr_formulas.specs.Formulas.{Style, Bound, Reading, Made, named_variable, with_variable, relation_of, sentence_as, under, bound_by, is_denial, connective_of, joined, joined_by, by_connective, comparison, formula_in}
+use Rattle.ladr_formulas.specs.Formulas.{Style, Bound, Reading, Made, named_variable, with_variable, relation_of, sentence_as, under, bound_by, is_denial, connective_of, connective_read, joined_by, by_connective, comparison, formula_in}
 use Rattle.ladr_formulas.specs.Literals.{formulas_in, all_literals, clause_from, with_literal, continued}
 use Rattle.ladr_formulas.specs.declared.connectives.Connective.{Connective}
 use Rattle.ladr_formulas.specs.declared.connectives.Connective.TheVariants.{And, Or, IfThen, ThenIf, IfAndOnlyIf}
@@ -192,7 +192,7 @@ reads st s (named name (more_raws t (more_raws u no_raws))) = by (cases_Bool (is
         let rest = others first.reading in
         let parts : disjuncts (named name (more_raws t (more_raws u no_raws))) ≡ t ∷ disjuncts u = rw y refl in
         let all = ap (formulas_in st [] s) parts in
-        let made : formula_in st [] s (named name (more_raws t (more_raws u no_raws))) ≡ joined (joined_by Or) (λ r. formula_in st [] r t) (λ r. formula_in st [] r u) s =
+        let made : formula_in st [] s (named name (more_raws t (more_raws u no_raws))) ≡ connective_read (joined_by Or) (λ r. formula_in st [] r t) (λ r. formula_in st [] r u) s =
         ap (λ (o : Option Connective). by_connective o (λ r. formula_in st [] r t) (λ r. formula_in st [] r u) (comparison st [] name t u) s) (bar_or name y) in
         let literals = ap (prepended (literal_in first.tree)) rest.literals in
         record {

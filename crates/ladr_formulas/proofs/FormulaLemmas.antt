@@ -4,7 +4,7 @@ use Rattle.std.specs.Prelude.{IfOk, OnOk}
 use Rattle.std.proofs.lemmas.Bool.{cond-false}
 use Rattle.fol_core.specs.Fol.{Fol}
 use Rattle.fol_core.specs.RawTree.{RawTree, named, raws_of}
-use Rattle.ladr_formulas.specs.Formulas.{Style, Bound, Reading, Made, is_denial, connective_of, joined_by, joined, under, by_connective, comparison, relation_of, formula_in}
+use Rattle.ladr_formulas.specs.Formulas.{Style, Bound, Reading, Made, is_denial, connective_of, joined_by, connective_read, under, by_connective, comparison, relation_of, formula_in}
 use Rattle.ladr_formulas.specs.declared.connectives.Connective.{Connective}
 use Rattle.ladr_formulas.specs.declared.connectives.Connective.TheVariants.{And, Or, IfThen, ThenIf, IfAndOnlyIf}
 
@@ -22,7 +22,7 @@ pub on_ok_so : {T E : Type 0} (r : Result T E) (P : Type 0) → P → OnOk r P
 on_ok_so (Ok v) P h = h
 on_ok_so (Err v) P h = tt
 
-in_order : (c : Connective) (f g h : Reading → Made Fol) (s : Reading) → (c ≡ ThenIf → ⊥) → by_connective (Some c) f g h s ≡ joined (joined_by c) f g s
+in_order : (c : Connective) (f g h : Reading → Made Fol) (s : Reading) → (c ≡ ThenIf → ⊥) → by_connective (Some c) f g h s ≡ connective_read (joined_by c) f g s
 in_order And f g h s n = refl
 in_order Or f g h s n = refl
 in_order IfThen f g h s n = refl

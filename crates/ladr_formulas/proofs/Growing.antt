@@ -12,7 +12,7 @@ use Rattle.fol_core.specs.declared.symbols.Kind.TheVariants.{Function, Relation}
 use Rattle.fol_core.proofs.Places.{slice_get_more}
 use Rattle.ladr_lex.specs.declared.misuse.Misuse.{Misuse}
 use Rattle.ladr_lex.specs.declared.misuse.Misuse.TheVariants.{TwoKinds, VariableAsFormula, QuantifierInTerm, UnfitAttribute, UnfitNumeral}
-use Rattle.ladr_formulas.specs.Formulas.{Variable, Reading, Made, Bound, meets, bound_number, free_number, is_variable, with_variable, with_name, named_variable, with_symbol, arity_of, is_too_great, is_element, constant_as, constant, term_of, terms_of, relation_of, sentence_as, equation, is_denial, connective_of, joined, by_connective, comparison, formula_in}
+use Rattle.ladr_formulas.specs.Formulas.{Variable, Reading, Made, Bound, meets, bound_number, free_number, is_variable, with_variable, with_name, named_variable, with_symbol, arity_of, is_too_great, is_element, constant_as, constant, term_of, terms_of, relation_of, sentence_as, equation_read, is_denial, connective_of, connective_read, by_connective, comparison, formula_in}
 use Rattle.ladr_formulas.specs.declared.connectives.Connective.{Connective}
 use Rattle.ladr_formulas.specs.declared.connectives.Connective.TheVariants.{And, Or, IfThen, ThenIf, IfAndOnlyIf}
 use Rattle.ladr_formulas.specs.declared.styles.Style.{Style}
@@ -104,7 +104,7 @@ grows_relation st scope name ts s =
     let after = with_symbol name (arity_of ts) Relation met in
     beyond s met _ (grows_meets (is_element st name) UnfitNumeral s) (beyond met after _ (grows_symbol name (arity_of ts) Relation met) (grows_terms st scope after ts))
 
-pub grows_equation : (st : Style) (scope : List Bound) (t u : RawTree) (s : Reading) → Grows s (equation st scope t u s).reading
+pub grows_equation : (st : Style) (scope : List Bound) (t u : RawTree) (s : Reading) → Grows s (equation_read st scope t u s).reading
 grows_equation st scope t u s =
     let left = term_of st scope s t in
     beyond s left.reading _ (grows_term st scope s t) (grows_term st scope left.reading u)
@@ -131,7 +131,7 @@ grows_comparison st scope name t u s =
     ]
 
 pub grows_joined : (join : Fol → Fol → Fol) (f g : Reading → Made Fol) → ((s : Reading) → Grows s (f s).reading) → ((s : Reading) → Grows s (g s).reading) →
-    (s : Reading) → Grows s (joined join f g s).reading
+    (s : Reading) → Grows s (connective_read join f g s).reading
 grows_joined join f g h k s = beyond s (f s).reading _ (h s) (k (f s).reading)
 
 pub grows_connective : (o : Option Connective) (f g c : Reading → Made Fol) → ((s : Reading) → Grows s (f s).reading) → ((s : Reading) → Grows s (g s).reading) →

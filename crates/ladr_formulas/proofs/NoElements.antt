@@ -10,7 +10,7 @@ use Rattle.fol_core.specs.declared.raw.Quantifier.{Quantifier}
 use Rattle.fol_core.specs.declared.raw.Quantifier.TheVariants.{All, Exists}
 use Rattle.fol_core.specs.declared.symbols.Kind.TheVariants.{Function, Relation}
 use Rattle.ladr_lex.specs.declared.misuse.Misuse.TheVariants.{QuantifierInTerm, UnfitNumeral}
-use Rattle.ladr_formulas.specs.Formulas.{Reading, Made, Bound, meets, with_variable, named_variable, with_symbol, arity_of, is_too_great, is_element, constant_as, term_of, terms_of, relation_of, sentence_as, equation, under, bound_by, is_denial, connective_of, joined, joined_by, by_connective, comparison, formula_in}
+use Rattle.ladr_formulas.specs.Formulas.{Reading, Made, Bound, meets, with_variable, named_variable, with_symbol, arity_of, is_too_great, is_element, constant_as, term_of, terms_of, relation_of, sentence_as, equation_read, under, bound_by, is_denial, connective_of, connective_read, joined_by, by_connective, comparison, formula_in}
 use Rattle.ladr_formulas.specs.declared.connectives.Connective.{Connective}
 use Rattle.ladr_formulas.specs.declared.connectives.Connective.TheVariants.{And, Or, IfThen, ThenIf, IfAndOnlyIf}
 use Rattle.ladr_formulas.specs.declared.styles.Style.{Style}
@@ -55,7 +55,7 @@ module _ (k : ℕ) (st : Style) (e : st.elements ≡ false) where
       choice NoFormula (bytes_eq name (codes "$T")) _ _ refl
       (choice NoFormula (bytes_eq name (codes "$F")) _ _ refl (relation_none scope name no_raws s))
 
-  equation_none : (scope : List Bound) (t u : RawTree) (s : Reading) → NoFormula (equation st scope t u s)
+  equation_none : (scope : List Bound) (t u : RawTree) (s : Reading) → NoFormula (equation_read st scope t u s)
   equation_none scope t u s = neither _ _ (term_none scope s t) (term_none scope (term_of st scope s t).reading u)
 
   comparison_none : (scope : List Bound) (name : List ℕ) (t u : RawTree) (s : Reading) → NoFormula (comparison st scope name t u s)
@@ -63,7 +63,7 @@ module _ (k : ℕ) (st : Style) (e : st.elements ≡ false) where
       choice NoFormula (bytes_eq name (codes "=")) _ _ (equation_none scope t u s)
       (choice NoFormula (bytes_eq name (codes "!=")) _ _ (equation_none scope t u s) (relation_none scope name (more_raws t (more_raws u no_raws)) s))
 
-  joined_none : (c : Connective) (f g : Reading → Made Fol) → ((s : Reading) → NoFormula (f s)) → ((s : Reading) → NoFormula (g s)) → (s : Reading) → NoFormula (joined (joined_by c) f g s)
+  joined_none : (c : Connective) (f g : Reading → Made Fol) → ((s : Reading) → NoFormula (f s)) → ((s : Reading) → NoFormula (g s)) → (s : Reading) → NoFormula (connective_read (joined_by c) f g s)
   joined_none And f g h l s = neither _ _ (h s) (l (f s).reading)
   joined_none Or f g h l s = neither _ _ (h s) (l (f s).reading)
   joined_none IfThen f g h l s = neither _ _ (h s) (l (f s).reading)

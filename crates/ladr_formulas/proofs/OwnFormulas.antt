@@ -17,7 +17,7 @@ use Rattle.fol_core.proofs.Variables.{is_in_joined, is_in_without, free_vars_onc
 use Rattle.ladr_lex.specs.declared.misuse.Misuse.TheVariants.{VariableAsFormula, UnfitNumeral}
 use Rattle.ladr_formulas.specs.Whole.{IsWhole}
 use Rattle.ladr_formulas.specs.declared.formulas.FormulaRead.{FormulaRead}
-use Rattle.ladr_formulas.specs.Formulas.{Variable, Reading, Bound, Style, Made, meets, with_variable, with_symbol, is_element, named_variable, arity_of, term_of, terms_of, relation_of, sentence_as, sentence, equation, under, bound_by, is_denial, connective_of, joined_by, by_connective, comparison, formula_in, unread, formula_reading}
+use Rattle.ladr_formulas.specs.Formulas.{Variable, Reading, Bound, Style, Made, meets, with_variable, with_symbol, is_element, named_variable, arity_of, term_of, terms_of, relation_of, sentence_as, sentence, equation_read, under, bound_by, is_denial, connective_of, joined_by, by_connective, comparison, formula_in, unread, formula_reading}
 use Rattle.ladr_formulas.specs.declared.connectives.Connective.{Connective}
 use Rattle.ladr_formulas.specs.declared.connectives.Connective.TheVariants.{And, Or, IfThen, ThenIf, IfAndOnlyIf}
 use Rattle.ladr_formulas.proofs.OwnVariables.{is_free, is_bound, is_free_last, count_variable, Grows, grows_on, grows_met, grows_variable, grows_symbol, IsKnown, known_still, variable_good}
@@ -105,7 +105,7 @@ sentence_of st scope name s None r g = by (bytes_eq name (codes "$T")) (bytes_eq
 sentence_good : (st : Style) (scope : List Bound) (name : List ℕ) (s : Reading) → FormulaGood scope s (sentence st scope name s)
 sentence_good st scope name s = sentence_of st scope name s (named_variable st scope name s).tree (named_variable st scope name s).reading (variable_good st scope name s).grows
 
-equation_good : (st : Style) (scope : List Bound) (t u : RawTree) (s : Reading) → FormulaGood scope s (equation st scope t u s)
+equation_good : (st : Style) (scope : List Bound) (t u : RawTree) (s : Reading) → FormulaGood scope s (equation_read st scope t u s)
 equation_good st scope t u s =
     let left = term_of st scope s t in
     let right = term_of st scope left.reading u in
@@ -126,10 +126,10 @@ equation_good st scope t u s =
 comparison_good : (st : Style) (scope : List Bound) (name : List ℕ) (t u : RawTree) (s : Reading) → FormulaGood scope s (comparison st scope name t u s)
 comparison_good st scope name t u s = by (bytes_eq name (codes "=")) (bytes_eq name (codes "!="))
   where
-    equal_good : FormulaGood scope s (equation st scope t u s)
+    equal_good : FormulaGood scope s (equation_read st scope t u s)
     equal_good = equation_good st scope t u s
 
-    by : (a b : Bool) → FormulaGood scope s (if a then equation st scope t u s else (if b then under negation (equation st scope t u s) else relation_of st scope name (more_raws t (more_raws u no_raws)) s))
+    by : (a b : Bool) → FormulaGood scope s (if a then equation_read st scope t u s else (if b then under negation (equation_read st scope t u s) else relation_of st scope name (more_raws t (more_raws u no_raws)) s))
     by true b = equal_good
     by false true = record { grows = equal_good.grows; known = equal_good.known; rise = equal_good.rise; brought = equal_good.brought; below = equal_good.below }
     by false false = relation_good st scope name (more_raws t (more_raws u no_raws)) s

@@ -156,8 +156,8 @@ sentence st scope name s =
     let v = named_variable st scope name s in
     sentence_as st scope name v.tree v.reading
 
-abbrev pub equation : Style → List Bound → RawTree → RawTree → Reading → Made Fol
-equation st scope t u s =
+abbrev pub equation_read : Style → List Bound → RawTree → RawTree → Reading → Made Fol
+equation_read st scope t u s =
     let left = term_of st scope s t in
     let right = term_of st scope left.reading u in
     record { tree = equal left.tree right.tree; reading = right.reading }
@@ -181,8 +181,8 @@ connective_of name =
     else (if bytes_eq name (codes "<-") then Some ThenIf else (if bytes_eq name (codes "<->") then Some IfAndOnlyIf else None))))
 
 -- two formulas, read one behind the other
-abbrev pub joined : (Fol → Fol → Fol) → (Reading → Made Fol) → (Reading → Made Fol) → Reading → Made Fol
-joined join first second s =
+abbrev pub connective_read : (Fol → Fol → Fol) → (Reading → Made Fol) → (Reading → Made Fol) → Reading → Made Fol
+connective_read join first second s =
     let left = first s in
     under (join left.tree) (second left.reading)
 
@@ -196,18 +196,18 @@ joined_by IfAndOnlyIf f g = equivalence f g
 
 -- the two parts of a connective; `a <- b` is `b -> a`, and b is read first
 abbrev pub by_connective : Option Connective → (Reading → Made Fol) → (Reading → Made Fol) → (Reading → Made Fol) → Reading → Made Fol
-by_connective (Some And) first second otherwise = joined (joined_by And) first second
-by_connective (Some Or) first second otherwise = joined (joined_by Or) first second
-by_connective (Some IfThen) first second otherwise = joined (joined_by IfThen) first second
-by_connective (Some ThenIf) first second otherwise = joined (joined_by ThenIf) second first
-by_connective (Some IfAndOnlyIf) first second otherwise = joined (joined_by IfAndOnlyIf) first second
+by_connective (Some And) first second otherwise = connective_read (joined_by And) first second
+by_connective (Some Or) first second otherwise = connective_read (joined_by Or) first second
+by_connective (Some IfThen) first second otherwise = connective_read (joined_by IfThen) first second
+by_connective (Some ThenIf) first second otherwise = connective_read (joined_by ThenIf) second first
+by_connective (Some IfAndOnlyIf) first second otherwise = connective_read (joined_by IfAndOnlyIf) first second
 by_connective None first second otherwise = otherwise
 
 -- an equation, its denial, or a relation of two terms
 abbrev pub comparison : Style → List Bound → List ℕ → RawTree → RawTree → Reading → Made Fol
 comparison st scope name t u s =
-    if bytes_eq name (codes "=") then equation st scope t u s
-    else (if bytes_eq name (codes "!=") then under negation (equation st scope t u s)
+    if bytes_eq name (codes "=") then equation_read st scope t u s
+    else (if bytes_eq name (codes "!=") then under negation (equation_read st scope t u s)
     else relation_of st scope name (more_raws t (more_raws u no_raws)) s)
 
 -- A formula. A name with two arguments may be a connective, `=` or `!=`, one with one argument a denial; any other is a relation.
@@ -241,12 +241,12 @@ names_of [] = []
 names_of (v ∷ vs) = v.name ∷ names_of vs
 
 -- nothing is misused, and nothing too large
-abbrev pub is_sound : Reading → Bool
-is_sound s = is_none s.least && not s.large && nat_le (length s.symbols) MOST_SYMBOLS
+abbrev pub is_faultless : Reading → Bool
+is_faultless s = is_none s.least && not s.large && nat_le (length s.symbols) MOST_SYMBOLS
 
 -- a sound reading is this formula, with these names and behind it this table
 pub record IsReadAs (m : Made Fol) (f : Fol) (names : List (List ℕ)) (table : List Symbol) : Type 0 where
-  pub sound : IsTrue (is_sound m.reading)
+  pub sound : IsTrue (is_faultless m.reading)
   pub formula : f ≡ m.tree
   pub named : names ≡ names_of m.reading.variables
   pub symbols : table ≡ m.reading.symbols

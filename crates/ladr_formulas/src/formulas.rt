@@ -8,7 +8,7 @@ ghost use Rattle.fol_core.specs.RawView.{raw_of};
 ghost use Rattle.fol_core.specs.SymbolTable.{KeepsNumbers};
 ghost use Rattle.fol_core.specs.Tree.{trees_of};
 ghost use Rattle.fol_core.specs.TermView.{tree_of};
-ghost use Rattle.ladr_formulas.specs.Formulas.{is_element, is_too_great, arity_of, meets, with_symbol, symbol_number, constant, term_of, terms_of, relation_of, equation, sentence, bound_by, joined_by, comparison, formula_in, formula_reading, style_of};
+ghost use Rattle.ladr_formulas.specs.Formulas.{is_element, is_too_great, arity_of, meets, with_symbol, symbol_number, constant, term_of, terms_of, relation_of, equation_read, sentence, bound_by, joined_by, comparison, formula_in, formula_reading, style_of};
 ghost use Rattle.ladr_formulas.specs.Whole.{IsWhole};
 
 use crate::connectives::{Connective, connective_of, is_denial};
@@ -150,7 +150,7 @@ fn equation(
     style: Style,
     reader: &mut Reader,
 ) -> Result<Shape, AllocError>
-    ensures read { IfOk result (λ shape. equation style reader.old.scope (raw_of left.now)
+    ensures read { IfOk result (λ shape. equation_read style reader.old.scope (raw_of left.now)
         (raw_of right.now) reader.old.reading
         ≡ record { tree = fol_of shape; reading = reader.new.reading }) }
     ensures scope { OnOk result (reader.new.scope ≡ reader.old.scope) }

@@ -1,15 +1,15 @@
 -- What a run of a command amounts to, by what its parts tell.
-use Rattle.std.proofs.Common.{◌≡◌, ◌≢◌, ℕ, List, [], Result, Ok, Err, inl, inr, refl, sym, subst}
-use Rattle.ladr_intake.specs.Command.{End, own, refused, read_fault, end_of, stop_of, MayStand, EndsBy, Runs}
+use Rattle.std.proofs.Common.{◌≡◌, ℕ, List, [], Result, Ok, Err, inl, inr, refl, sym, subst}
+use Rattle.ladr_intake.specs.Command.{End, own, refused, read_fault, end_of, MayStand, EndsBy, Runs}
 use Rattle.ladr_intake.specs.Input.{AreTaken, IsAllRead}
-use Rattle.ladr_intake.specs.Refusals.{IsRefused, IsNoInput, IsToldBy, no_input_text}
+use Rattle.ladr_intake.specs.Refusals.{IsNoInput, IsToldBy, stop_of_cut, refusal_text, read_fault_line}
 use Rattle.ladr_intake.specs.declared.stops.NoInput.{NoInput}
 use Rattle.ladr_intake.specs.declared.stops.NoInput.TheVariants as none
 use Rattle.ladr_intake.specs.declared.stops.Refused.{Refused}
 use Rattle.ladr_intake.specs.declared.stops.Stop.{Stop}
 use Rattle.ladr_intake.specs.declared.stops.Stop.TheVariants as stops
-use Rattle.ladr_io.specs.Streams.{Inflow, Outflow, Gives, TakesFront}
-use Rattle.ladr_output.specs.Telling.{IsPiece, Tells}
+use Rattle.ladr_io.specs.Streams.{Inflow, Outflow}
+use Rattle.ladr_output.specs.Telling.{PieceTells, Tells}
 use Rattle.ladr_output.specs.declared.cut.Cut.{Cut}
 use Rattle.ladr_output.specs.declared.cut.Cut.TheVariants.{WriteFault, Memory}
 
@@ -23,15 +23,14 @@ no_input_taken refuses a b bytes (none.Refused why) (inr h) = inl h.0.0
 no_input_taken refuses a b bytes none.ReadFault h = inr h.0
 no_input_taken refuses a b bytes none.Memory h = h
 
--- a line that cut the output off
-pub told_cut : (T : Type 0) (why : NoInput) (text : List ℕ) (a b : Outflow) (cut : Cut) (stop : Stop) → why ≢ none.Memory → no_input_text why ≡ text → stop ≡ stop_of cut → IsPiece {T = T} text a b (Err cut) → IsToldBy why a b stop
-told_cut T why text a b WriteFault stop some e is h = subst (IsToldBy why a b) (sym is) (some, subst (TakesFront a b) (sym e) h)
-told_cut T why text a b Memory stop some e is h = subst (IsToldBy why a b) (sym is) h
+-- what is told of this input
+pub told_of : (why why' : NoInput) (a b : Outflow) (stop : Stop) → why' ≡ why → IsToldBy why a b stop → IsToldBy why' a b stop
+told_of why why' a b stop is h = subst (λ (w : NoInput). IsToldBy w a b stop) (sym is) h
 
 -- the same end, or the same cause
 abbrev pub IsHandedOn : {E : Type 0} → Result E Cut → Result E Stop → Type 0
 IsHandedOn (Ok e) (Ok f) = e ≡ f
-IsHandedOn (Err cut) (Err stop) = stop ≡ stop_of cut
+IsHandedOn (Err cut) (Err stop) = stop ≡ stop_of_cut cut
 IsHandedOn (Ok e) (Err stop) = ⊥
 IsHandedOn (Err cut) (Ok e) = ⊥
 
@@ -42,18 +41,18 @@ module _ {A E : Type 0} (says : List ℕ → A → Type 0) (refuses : List ℕ �
   abbrev Ends : End E → List ℕ → Type 0
   Ends = EndsBy says refuses idle goes ends a b bytes
 
-  -- the front of a line that tells why there is no problem
-  cut_line : (why : NoInput) → idle → IsNoInput refuses a b bytes why → why ≢ none.Memory → (e : End E) × Ends e (no_input_text why)
-  cut_line (none.Refused why) i h n = (refused why, (h, i, refl))
-  cut_line none.ReadFault i h n = (read_fault, (h, i, refl))
-  cut_line none.Memory i h n = absurd (n refl)
+  -- a line alone is the whole output, or is cut off
+  line_tells : (printed : Stop) (text : List ℕ) (e : End E) (c d : Outflow) (stop : Stop) → end_of {E = E} (Err printed) ≡ Ok e → idle → Ends e text → PieceTells printed stop_of_cut text c d stop → Tells Goes Ends c d (end_of {E = E} (Err stop))
+  line_tells printed text e c d stop is i whole (Ok u, took, same) =
+      subst (λ (x : Stop). Tells Goes Ends c d (end_of {E = E} (Err x))) (sym same) (subst (λ (x : Result (End E) Cut). Tells Goes Ends c d x) (sym is) (text, whole, took))
+  line_tells printed text e c d stop is i whole (Err WriteFault, front, same) = subst (λ (x : Stop). Tells Goes Ends c d (end_of {E = E} (Err x))) (sym same) (text, inr (e, whole), front)
+  line_tells printed text e c d stop is i whole (Err Memory, nothing, same) = subst (λ (x : Stop). Tells Goes Ends c d (end_of {E = E} (Err x))) (sym same) ([], inl (refl, i), nothing)
 
   -- there is no problem, as it is told
   pub none_tells : (why : NoInput) (c d : Outflow) (stop : Stop) → idle → IsNoInput refuses a b bytes why → IsToldBy why c d stop → Tells Goes Ends c d (end_of {E = E} (Err stop))
-  none_tells why c d (stops.Refused r) i h told = (_, (subst (IsNoInput refuses a b bytes) told.0 h, i, refl), told.1)
-  none_tells why c d stops.ReadFault i h told = (_, (subst (IsNoInput refuses a b bytes) told.0 h, i, refl), told.1)
-  none_tells why c d stops.WriteFault i h told = (_, inr (cut_line why i h told.0), told.1)
-  none_tells why c d stops.Memory i h told = ([], inl (refl, i), told)
+  none_tells (none.Refused why) c d stop i h told = line_tells (stops.Refused why) (refusal_text why) (refused why) c d stop refl i (h, i, refl) told
+  none_tells none.ReadFault c d stop i h told = line_tells stops.ReadFault read_fault_line read_fault c d stop refl i (h, i, refl) told
+  none_tells none.Memory c d stop i h told = subst (λ (x : Stop). Tells Goes Ends c d (end_of {E = E} (Err x))) (sym told.0) ([], inl (refl, i), told.1)
 
   -- so a run ends with no problem
   pub none_runs : (why : NoInput) (c d : Outflow) (stop : Stop) → idle → IsNoInput refuses a b bytes why → IsToldBy why c d stop → (let r : Result E Stop = Err stop in Runs says refuses idle goes ends a b c d r)

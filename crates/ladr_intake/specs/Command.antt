@@ -12,10 +12,6 @@ use Rattle.ladr_output.specs.Telling.{Tells}
 use Rattle.ladr_output.specs.declared.cut.Cut.{Cut}
 use Rattle.ladr_output.specs.declared.cut.Cut.TheVariants.{WriteFault, Memory}
 
-abbrev pub stop_of : Cut → Stop
-stop_of WriteFault = stops.WriteFault
-stop_of Memory = stops.Memory
-
 -- How a run ended whose output isn't cut off: by an end of the command's own, or since there is no problem.
 pub data End (E : Type 0) : Type 0 where
   own : E → End E

@@ -1,4 +1,5 @@
 pub mod Command
 pub mod Input
+pub mod Language
 pub mod Posed
 pub mod Refusals

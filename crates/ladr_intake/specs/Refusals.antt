@@ -1,5 +1,5 @@
 -- Inputs that are refused, and what is printed of them.
-use Rattle.std.specs.Prelude.{◌≡◌, ◌≢◌, ℕ, List, [], ◌++◌, codes, ◌⊎◌}
+use Rattle.std.specs.Prelude.{◌≡◌, ℕ, List, [], ◌++◌, codes, ◌⊎◌}
 use Rattle.std.specs.Fmt.{decimal}
 use Rattle.ladr_intake.specs.Input.{AreTaken, IsAllRead, IsTooLong, IsFailed}
 use Rattle.ladr_intake.specs.declared.stops.NoInput.{NoInput}
@@ -8,9 +8,11 @@ use Rattle.ladr_intake.specs.declared.stops.Refused.{Refused}
 use Rattle.ladr_intake.specs.declared.stops.Refused.TheVariants.{Unreadable, Misuse, TooLarge}
 use Rattle.ladr_intake.specs.declared.stops.Stop.{Stop}
 use Rattle.ladr_intake.specs.declared.stops.Stop.TheVariants as stops
-use Rattle.ladr_io.specs.Streams.{Inflow, Outflow, Takes, TakesFront}
+use Rattle.ladr_io.specs.Streams.{Inflow, Outflow, Takes}
 use Rattle.ladr_lex.specs.Misuses.{row_of}
-use Rattle.ladr_output.specs.Telling.{line}
+use Rattle.ladr_output.specs.Telling.{as_line, PieceTells}
+use Rattle.ladr_output.specs.declared.cut.Cut.{Cut}
+use Rattle.ladr_output.specs.declared.cut.Cut.TheVariants.{WriteFault, Memory}
 use Rattle.ladr_problem.specs.File.{Says, unreadable, misused, too_large, most_bytes}
 use Rattle.ladr_problem.specs.Places.{IsPlace}
 use Rattle.ladr_problem.specs.declared.refusal.Limit.{Limit}
@@ -28,18 +30,18 @@ limit_text limits.Arity = codes "arity"
 -- what couldn't be read: the place of a byte, its line and column, and what stands there
 abbrev pub unreadable_line : ℕ → ℕ → ℕ → List ℕ → List ℕ
 unreadable_line byte row column token =
-    line (codes "ladr: unreadable at byte " ++ decimal byte ++ codes ", line " ++ decimal row ++ codes ", column " ++ decimal column ++ codes ": " ++ token)
+    as_line (codes "ladr: unreadable at byte " ++ decimal byte ++ codes ", line " ++ decimal row ++ codes ", column " ++ decimal column ++ codes ": " ++ token)
 
 -- the row of misuse that is broken, and where
 abbrev pub misuse_line : ℕ → ℕ → ℕ → ℕ → List ℕ
-misuse_line broken byte row column = line (codes "ladr: misuse " ++ decimal broken ++ codes " at byte " ++ decimal byte ++ codes ", line " ++ decimal row ++ codes ", column " ++ decimal column)
+misuse_line broken byte row column = as_line (codes "ladr: misuse " ++ decimal broken ++ codes " at byte " ++ decimal byte ++ codes ", line " ++ decimal row ++ codes ", column " ++ decimal column)
 
 -- what was too large, and where
 abbrev pub too_large_line : ℕ → List ℕ → List ℕ
-too_large_line byte what = line (codes "ladr: too large at byte " ++ decimal byte ++ codes ": " ++ what)
+too_large_line byte what = as_line (codes "ladr: too large at byte " ++ decimal byte ++ codes ": " ++ what)
 
 abbrev pub read_fault_line : List ℕ
-read_fault_line = line (codes "ladr: read fault")
+read_fault_line = as_line (codes "ladr: read fault")
 
 -- the line of a refusal
 abbrev pub refusal_text : Refused → List ℕ
@@ -69,15 +71,13 @@ no_input_of (errors.Misuse place why) = none.Refused (Misuse place why)
 no_input_of (errors.TooLarge byte what) = none.Refused (TooLarge byte what)
 no_input_of errors.Memory = none.Memory
 
--- the line that is printed where there is no problem
-abbrev pub no_input_text : NoInput → List ℕ
-no_input_text (none.Refused why) = refusal_text why
-no_input_text none.ReadFault = read_fault_line
-no_input_text none.Memory = []
+-- the output was cut off
+abbrev pub stop_of_cut : Cut → Stop
+stop_of_cut WriteFault = stops.WriteFault
+stop_of_cut Memory = stops.Memory
 
--- It is told so: the sink took the line; or a front of it, and a write failed; or memory was lacking.
+-- It is told so: the line is printed, or what cut it off stands for it. Where memory was lacking before, nothing is printed.
 abbrev pub IsToldBy : NoInput → Outflow → Outflow → Stop → Type 0
-IsToldBy why old new (stops.Refused r) = (why ≡ none.Refused r) × Takes old new (refusal_text r)
-IsToldBy why old new stops.ReadFault = (why ≡ none.ReadFault) × Takes old new read_fault_line
-IsToldBy why old new stops.WriteFault = (why ≢ none.Memory) × TakesFront old new (no_input_text why)
-IsToldBy why old new stops.Memory = Takes old new []
+IsToldBy (none.Refused why) = PieceTells (stops.Refused why) stop_of_cut (refusal_text why)
+IsToldBy none.ReadFault = PieceTells stops.ReadFault stop_of_cut read_fault_line
+IsToldBy none.Memory = λ old new stop. (stop ≡ stops.Memory) × Takes old new []

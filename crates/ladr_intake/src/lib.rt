@@ -8,7 +8,7 @@ mod stops;
 mod taking;
 
 pub use ladr_problem::{Limit, Place};
-pub use laws::one_is_posed;
+pub use laws::files_are_a_language;
 pub use refusing::refuse;
 pub use stops::{NoInput, Refused, Stop, stop_by};
 pub use taking::take_in;

@@ -1,6 +1,6 @@
 // Why a command comes to no end of its own.
 ghost use Rattle.std.specs.Prelude.{◌≡◌};
-ghost use Rattle.ladr_intake.specs.Command.{stop_of};
+ghost use Rattle.ladr_intake.specs.Refusals.{stop_of_cut};
 
 use ladr_lex::Misuse;
 use ladr_output::Cut;
@@ -34,7 +34,7 @@ pub enum Stop {
 
 /// The output was cut off.
 pub fn stop_by(cut: Cut) -> Stop
-    ensures { result ≡ stop_of cut }
+    ensures { result ≡ stop_of_cut cut }
 {
     match cut {
         Cut::WriteFault => Stop::WriteFault,

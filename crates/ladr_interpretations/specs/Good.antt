@@ -34,7 +34,3 @@ listing_for ts s = listing s.kind (values_for ts s)
 -- the tables that it gives to the symbols
 abbrev pub tables_for : ByName → List Symbol → Finite
 tables_for it table = record { top = it.size - 1; rows = map (listing_for it.entries) table }
-
--- each of the symbols has an entry
-abbrev pub covers : ByName → List Symbol → Bool
-covers it table = list_all (λ s. not (length (values_for it.entries s) == 0)) table

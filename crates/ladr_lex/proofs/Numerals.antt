@@ -1,6 +1,6 @@
 -- Numerals and the decimal digits of their numbers.
-use Rattle.std.proofs.Common.{◌≡◌, ℕ, zero, suc, ◌+◌, ◌*◌, ◌-◌, ◌^◌, ◌<◌, ◌≤◌, Bool, true, false, List, [], ◌∷◌, length, get_or, drop, Some, None, sym, inl, inr, refl, ap, ◌∙◌, arith, rules}
-use Rattle.std.specs.Prelude.{not, ◌==◌, ◌||◌, if◌then◌else◌}
+use Rattle.std.proofs.Common.{◌≡◌, ℕ, zero, suc, ◌+◌, ◌*◌, ◌-◌, ◌^◌, ◌<◌, ◌≤◌, Bool, true, false, List, [], ◌∷◌, length, get_or, drop, Option, Some, None, sym, inl, inr, refl, ap, ◌∙◌, arith, rules}
+use Rattle.std.specs.Prelude.{not, ◌==◌, ◌||◌, if◌then◌else◌, min, unwrap_or}
 use Rattle.std.specs.List.{list_all}
 use Rattle.std.specs.Char.{is_ascii_digit}
 use Rattle.std.specs.Fmt.{decimal}
@@ -92,15 +92,21 @@ decimal_whole text n h =
       | inr other ↦ absurd (let e : whole_number text ≡ None = ap (λ (b : Bool). if b then fitting (value text) else None) other in cc)
     ]
 
--- where it is below a billion, nothing is cut off
-pub decimal_number : (text : List ℕ) → is_numeral text ≡ true → number text ≤ 999999999 → decimal (number text) ≡ text
-decimal_number text h m =
-    let small : value text ≤ 999999999 = omega arith in
-    let e : number text ≡ value text = omega arith in
-    ap decimal e ∙ decimal_value text h (omega arith)
+-- where it is below 4,294,967,295, nothing is cut off
+pub decimal_number : (text : List ℕ) → number text < 4294967295 → decimal (number text) ≡ text
+decimal_number text m = by (whole_number text) refl
+  where
+    by : (o : Option ℕ) → o ≡ whole_number text → decimal (number text) ≡ text
+    by None is = absurd (let e : number text ≡ 4294967295 = ap (λ o. min 4294967295 (unwrap_or o 4294967295)) (sym is) in omega (arith, e, m))
+    by (Some n) is =
+        let e : number text ≡ min 4294967295 n = ap (λ o. min 4294967295 (unwrap_or o 4294967295)) (sym is) in
+        let same : number text ≡ n = omega (arith, e, m) in
+        ap decimal same ∙ sym (decimal_whole text n (sym is))
 
-pub number_decimal : (n : ℕ) → n ≤ 999999999 → number (decimal n) ≡ n
-number_decimal n h = omega (arith, value_decimal n (omega arith))
+pub number_decimal : (n : ℕ) → n < 4294967295 → number (decimal n) ≡ n
+number_decimal n h =
+    let e : number (decimal n) ≡ min 4294967295 n = ap (λ o. min 4294967295 (unwrap_or o 4294967295)) (whole_decimal n (omega arith)) in
+    omega (arith, e, h)
 
 digits_ordinary : (ds : List ℕ) → list_all is_ascii_digit ds ≡ true → list_all is_ordinary ds ≡ true
 unfolding is_ordinary

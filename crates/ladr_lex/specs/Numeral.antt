@@ -1,5 +1,5 @@
 -- Numerals and their numbers.
-use Rattle.std.specs.Prelude.{ℕ, ◌+◌, ◌*◌, ◌-◌, ◌^◌, min, Bool, false, not, ◌&&◌, ◌||◌, nat_lt, length, ◌==◌, List, [], ◌∷◌, Option, Some, None, if◌then◌else◌}
+use Rattle.std.specs.Prelude.{ℕ, ◌+◌, ◌*◌, ◌-◌, ◌^◌, min, Bool, false, not, ◌&&◌, ◌||◌, nat_lt, length, ◌==◌, List, [], ◌∷◌, Option, Some, None, if◌then◌else◌, unwrap_or}
 use Rattle.std.specs.List.{list_all}
 use Rattle.std.specs.Char.{is_ascii_digit}
 
@@ -25,6 +25,6 @@ fitting n = if nat_lt n (2 ^ 64) then Some n else None
 abbrev pub whole_number : List ℕ → Option ℕ
 whole_number text = if is_numeral text then fitting (value text) else None
 
--- the number of a numeral, where one above a billion counts as a billion
+-- the number of a numeral, where one above 4,294,967,295 counts as this
 abbrev pub number : List ℕ → ℕ
-number text = min 1000000000 (value text)
+number text = min 4294967295 (unwrap_or (whole_number text) 4294967295)

@@ -7,8 +7,8 @@ use Rattle.ladr_lex.specs.declared.token.TokenKind.TheVariants.{Open, Close, Com
 abbrev pub at : ℕ → TokenKind → List ℕ → Piece
 at start kind text = record { kind = kind; text = text; start = start }
 
-abbrev pub formula_line : List ℕ
-formula_line = codes "all x p(x,f(y)) = a != b."
+abbrev pub worked_formula : List ℕ
+worked_formula = codes "all x p(x,f(y)) = a != b."
 
 abbrev pub formula_tokens : List Piece
 formula_tokens =

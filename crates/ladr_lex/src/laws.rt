@@ -10,7 +10,7 @@ ghost use Rattle.ladr_lex.specs.Operators.{OperatorRow, operator_of, are_lawful,
 ghost use Rattle.ladr_lex.specs.Places.{line_of, column_of};
 ghost use Rattle.ladr_lex.specs.declared.operators.Operator.{Operator};
 ghost use Rattle.ladr_lex.specs.declared.operators.OperatorKind.TheVariants.{InfixLeft, Prefix};
-ghost use Rattle.ladr_lex.specs.Worked.{formula_line, formula_tokens, special_line, special_tokens, comment_lines, comment_tokens, quoted_line, quoted_tokens, open_lines, open_tokens};
+ghost use Rattle.ladr_lex.specs.Worked.{worked_formula, formula_tokens, special_line, special_tokens, comment_lines, comment_tokens, quoted_line, quoted_tokens, open_lines, open_tokens};
 
 /// Each text is cut by one list of tokens and no other.
 pub fn one_cutting()
@@ -41,7 +41,7 @@ pub fn worked_clauses()
 
 /// The tokens of some lines, and the place of a byte on a second line.
 pub fn worked()
-    ensures formula { Cuts 0 formula_line formula_tokens }
+    ensures formula { Cuts 0 worked_formula formula_tokens }
     ensures special { Cuts 0 special_line special_tokens }
     ensures comments { Cuts 0 comment_lines comment_tokens }
     ensures quoted_symbols { Cuts 0 quoted_line quoted_tokens }

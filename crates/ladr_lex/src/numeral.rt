@@ -1,10 +1,8 @@
 // Numerals: `0`, or digits without a leading `0`.
-ghost use Rattle.std.specs.Prelude.{◌≡◌, ◌+◌, ◌-◌, ◌*◌, ◌≤◌};
+ghost use Rattle.std.specs.Prelude.{◌≡◌, ◌+◌, ◌-◌, ◌*◌};
 ghost use Rattle.ladr_lex.specs.Numeral.{is_numeral, value, fitting, whole_number, number};
 ghost use Rattle.std.specs.List.{list_all};
 ghost use Rattle.std.specs.Char.{is_ascii_digit};
-
-const MOST: u64 = 1_000_000_000;
 
 /// Whether a symbol's text is a numeral.
 pub fn is_numeral(text: &[u8]) -> bool
@@ -48,16 +46,13 @@ pub fn whole_number(text: &[u8]) -> Option<u64>
     if is_numeral(text) { value(text) } else { None }
 }
 
-/// The number that digits write; a number above a billion reads as a billion, which is above all that the language allows.
-/// A byte that is no digit counts by how far it is above `0`.
+/// The number of a numeral; one above 4,294,967,295, or a text that is no numeral, reads as 4,294,967,295, which is above all
+/// that the language allows.
 pub fn number(text: &[u8]) -> u32
-    ensures value { result ≡ number text.now }
-    ensures most { result ≤ 1000000000 }
+    ensures { result ≡ number text.now }
 {
-    match value(text) {
-        Some(n) => n.min(MOST) as u32,
-        None => MOST as u32,
-    }
+    let most = u64::from(u32::MAX);
+    whole_number(text).unwrap_or(most).min(most) as u32
 }
 
 fn are_digits(text: &[u8]) -> bool

@@ -1,5 +1,5 @@
 -- One size, by what its parts tell.
-use Rattle.std.proofs.Common.{◌≡◌, ℕ, suc, ◌+◌, ◌<◌, ◌≤◌, List, [], ◌++◌, Result, Ok, Err, IfOk, inl, inr, refl, sym, subst, append-nil, arith}
+use Rattle.std.proofs.Common.{◌≡◌, ℕ, ◌+◌, ◌<◌, ◌≤◌, [], ◌++◌, Result, Ok, Err, IfOk, inl, inr, refl, sym, subst, append-nil, arith}
 use Rattle.fol_core.specs.Occurs.{size_needed}
 use Rattle.fol_core.specs.Stated.{Stated}
 use Rattle.ladr_io.specs.Streams.{Outflow, Takes}

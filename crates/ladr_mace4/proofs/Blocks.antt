@@ -1,34 +1,36 @@
 -- The blocks that a search printed.
-use Rattle.std.proofs.Common.{◌≡◌, ℕ, zero, suc, ◌+◌, ◌*◌, ◌^◌, ◌<◌, ◌≤◌, List, [], ◌∷◌, ◌++◌, length, inl, inr, refl, ap, sym, subst, ◌∙◌, append_assoc, append-nil, arith}
+use Rattle.std.proofs.Common.{◌≡◌, ℕ, zero, suc, ◌+◌, ◌*◌, ◌^◌, ◌<◌, ◌≤◌, true, List, [], ◌∷◌, ◌++◌, length, inl, inr, refl, ap, sym, subst, ◌∙◌, append_assoc, append-nil, arith}
 use Rattle.std.proofs.lemmas.Bool.{cases_lt}
 use Rattle.std.proofs.lemmas.Nat.{mul-le}
 use Rattle.std.proofs.Math.Nat.{pow-zero, pow-suc}
 use Rattle.clausify.specs.Behind.{SkolemsStandBehind}
-use Rattle.clausify.specs.Input.{witnesses_in_table}
+use Rattle.clausify.specs.Input.{axioms_in_table}
 use Rattle.fol_core.specs.Literals.{equality}
 use Rattle.fol_core.specs.SkolemAxioms.{SkolemAxiom}
 use Rattle.fol_core.specs.Stated.{Stated, IsWellFormed, AreNewTo}
 use Rattle.fol_core.specs.SymbolTable.{Symbol, KeepsNumbers}
 use Rattle.ladr_io.specs.Times.{Times}
-use Rattle.ladr_mace4.proofs.Printing.{model_printable}
+use Rattle.ladr_mace4.proofs.Printable.{model_printable}
+use Rattle.ladr_mace4.proofs.SearchBlocks.{SearchBlock, begins, skips, shows, exhausts, block_text, blocks_text, IsShownAmong, AreGood}
 use Rattle.ladr_mace4.specs.Plans.{size_behind}
 use Rattle.ladr_mace4.specs.Rooms.{refused_cells, HasRoomForModels}
-use Rattle.ladr_mace4.specs.Shown.{SearchBlock, begins, skips, shows, exhausts, block_text, blocks_text, IsShownAmong, IsShown, AreGood}
-use Rattle.ladr_mace4.specs.Skolems.{all_symbols, all_witnesses, all_cells, AreExpansions, AreAllExpanded}
+use Rattle.ladr_mace4.specs.Shown.{IsShown}
+use Rattle.ladr_mace4.specs.Skolems.{all_symbols, all_axioms, all_cells, AreExpansions, AreAllExpanded}
 use Rattle.ladr_mace4.specs.Story.{Size, skipped, searched, Now, between, opened, inside, models_in, models_in_all, models_at, models_by, models_text, size_text, sizes_text, text_at, HasEnded, HaveEnded, IsAtSize, Stops, text_by, SearchGoes, SearchComes}
 use Rattle.ladr_mace4.specs.declared.ends.SearchEnd.{SearchEnd}
 use Rattle.ladr_mace4.specs.declared.ends.SearchEnd.TheVariants.{MaxModels, Exhausted, AllModels, MaxMegs, MaxSeconds, GroundLimit, ClauseLimit}
 use Rattle.ladr_mace4.specs.declared.plan.Plan.{Plan}
 use Rattle.ladr_models.specs.ReadsBack.{IsPrintable, ReadsBack}
 use Rattle.ladr_options.specs.declared.options.Options.{Options}
+use Rattle.ladr_problem.specs.Names.{are_named}
 use Rattle.ladr_problem.specs.Proper.{IsProper}
 use Rattle.mace_search.proofs.Completing.{by_number}
 use Rattle.mace_search.specs.Models.{IsModel, AreFirst, behind}
 use Rattle.model_tables.proofs.Expanding.{same_top, kept_countermodel}
 use Rattle.model_tables.proofs.Kept.{expansion_isomorphic}
-use Rattle.model_tables.specs.Expansion.{witness_cells, IsExpansion}
+use Rattle.model_tables.specs.Expansion.{skolem_cells, IsExpansion}
 use Rattle.model_tables.specs.ModelText.{model_text}
-use Rattle.model_tables.specs.Renaming.{IsIsomorphism}
+use Rattle.model_tables.specs.Isomorphism.{IsIsomorphism}
 use Rattle.model_tables.specs.Order.{table_number}
 use Rattle.model_tables.specs.Tables.{Finite}
 
@@ -39,7 +41,7 @@ some_cells n (suc k) h =
     let le = mul-le 1 1 (n ^ k) n (some_cells n k h) h in
     omega (arith, e, le)
 
-few_witnesses : (n : ℕ) (ws : List SkolemAxiom) → 1 ≤ n → length ws ≤ witness_cells n ws
+few_witnesses : (n : ℕ) (ws : List SkolemAxiom) → 1 ≤ n → length ws ≤ skolem_cells n ws
 few_witnesses n [] h = omega arith
 few_witnesses n (w ∷ ws) h = omega (arith, some_cells n (length w.variables) h, few_witnesses n ws h)
 
@@ -108,12 +110,12 @@ among_behind n t (a ∷ cs) bs h = inr (among_behind n t cs bs h)
 
 -- a model of the size is shown with the values of the Skolem symbols
 abbrev Has : Stated → ℕ → Finite → List SearchBlock → Type 0
-Has p n u bs = (t : Finite) × IsShownAmong n t bs × IsExpansion u (all_witnesses p) t
+Has p n u bs = (t : Finite) × IsShownAmong n t bs × IsExpansion u (all_axioms p) t
 
 has_more : (p : Stated) (n : ℕ) (u : Finite) (cs bs : List SearchBlock) → Has p n u bs → Has p n u (cs ++ bs)
 has_more p n u cs bs h = (h.0, among_behind n h.0 cs bs h.1, h.2)
 
-among : (p : Stated) (n j k : ℕ) (found ts : List Finite) (u : Finite) → AreFirst p n j found → AreExpansions (all_witnesses p) found ts → IsModel p n u → j ≤ table_number u → table_number u < behind j found → Has p n u (models_blocks n k ts)
+among : (p : Stated) (n j k : ℕ) (found ts : List Finite) (u : Finite) → AreFirst p n j found → AreExpansions (all_axioms p) found ts → IsModel p n u → j ≤ table_number u → table_number u < behind j found → Has p n u (models_blocks n k ts)
 among p n j k [] ts u h x is from before = absurd (omega (arith, from, before))
 among p n j k (v ∷ found) [] u h x is from before = absurd x
 among p n j k (v ∷ found) (t ∷ ts) u h x is from before =
@@ -121,7 +123,7 @@ among p n j k (v ∷ found) (t ∷ ts) u h x is from before =
       | inl lt ↦ absurd (h.0.2 u is from lt)
       | inr le ↦ elim (cases_lt (table_number v) (table_number u)) [
         | inl more ↦ has_more p n u (shows n (suc k) t ∷ []) (models_blocks n (suc k) ts) (among p n (suc (table_number v)) (suc k) found ts u h.1 x.1 is more before)
-        | inr same ↦ (t, inl (suc k, refl), subst (λ (y : Finite). IsExpansion y (all_witnesses p) t) (by_number p n v u h.0.0.0 is.0 (omega (arith, le, same))) x.0)
+        | inr same ↦ (t, inl (suc k, refl), subst (λ (y : Finite). IsExpansion y (all_axioms p) t) (by_number p n v u h.0.0.0 is.0 (omega (arith, le, same))) x.0)
       ]
     ]
 
@@ -134,7 +136,7 @@ all_among p n k ts u (found, all, x) is =
 
 -- that no formula has a Skolem symbol
 abbrev pub AreNew : Type 0
-AreNew = (table : List Symbol) (p : Stated) → IsWellFormed p → length p.symbols ≤ equality → KeepsNumbers p.symbols table → length (witnesses_in_table table p) ≤ equality → AreNewTo p.formulas (witnesses_in_table table p)
+AreNew = (table : List Symbol) (p : Stated) → IsWellFormed p → length p.symbols ≤ equality → KeepsNumbers p.symbols table → length (axioms_in_table table p) ≤ equality → AreNewTo p.formulas (axioms_in_table table p)
 
 -- that a text reads back
 abbrev pub ReadBack : Type 0
@@ -160,34 +162,38 @@ printed_most p s t n j k now (MaxSeconds first last) h fewer e = omega (arith, h
 printed_most p s t n j k now (ClauseLimit formula) h fewer e = absurd h
 
 module _ (laws : Laws) (p : Stated) (o : Options) (proper : IsProper p o) where
-  few_skolems : (n : ℕ) (u : Finite) → all_cells n p < refused_cells → IsModel p n u → length (all_witnesses p) ≤ equality
+  few_skolems : (n : ℕ) (u : Finite) → all_cells n p < refused_cells → IsModel p n u → length (all_axioms p) ≤ equality
   few_skolems n u room is =
       let some : 1 ≤ n = omega (arith, is.0.0) in
-      omega (arith, few_witnesses n (all_witnesses p) some, room)
+      omega (arith, few_witnesses n (all_axioms p) some, room)
 
   few : length p.symbols ≤ equality
   few = omega (arith, proper.few)
 
-  apart : (n : ℕ) (u : Finite) → all_cells n p < refused_cells → IsModel p n u → AreNewTo p.formulas (all_witnesses p)
+  apart : (n : ℕ) (u : Finite) → all_cells n p < refused_cells → IsModel p n u → AreNewTo p.formulas (all_axioms p)
   apart n u room is = laws.new p.symbols p proper.well_formed few (λ k s e. e) (few_skolems n u room is)
 
-  shown : (n k : ℕ) (u t : Finite) → n ≤ 200 → k < 2 ^ 64 → all_cells n p < refused_cells → IsModel p n u → IsExpansion u (all_witnesses p) t → IsShown p n k t
+  shown : (n k : ℕ) (u t : Finite) → n ≤ 200 → k < 2 ^ 64 → all_cells n p < refused_cells → IsModel p n u → IsExpansion u (all_axioms p) t → IsShown p n k t
   shown n k u t most number room is x =
-      let ws = all_witnesses p in (
+      let ws = all_axioms p in (
         omega (arith, is.0.0, same_top ws u t x),
         subst (λ (T : Type 0). T) (sym (kept_countermodel ws u t x p.formulas (apart n u room is))) is.1,
         laws.back n k (all_symbols p) t (model_printable n k p u t (laws.behind p few (few_skolems n u room is)) proper.tellable most number is.0 x),
       )
 
-  renamed : (n : ℕ) (u t : Finite) → all_cells n p < refused_cells → IsModel p n u → IsExpansion u (all_witnesses p) t → IsIsomorphism n p (λ x. x) u t
-  renamed n u t room is x = expansion_isomorphic n p (all_witnesses p) u t is.0 (apart n u room is) x
+  -- no name of a symbol breaks a line
+  named : (n k : ℕ) (u t : Finite) → n ≤ 200 → k < 2 ^ 64 → all_cells n p < refused_cells → IsModel p n u → IsExpansion u (all_axioms p) t → are_named (all_symbols p) ≡ true
+  named n k u t most number room is x = (model_printable n k p u t (laws.behind p few (few_skolems n u room is)) proper.tellable most number is.0 x).tellable.named
 
-  good_models : (before : List SearchBlock) (n j k : ℕ) (found ts : List Finite) → n ≤ 200 → k + length ts < 2 ^ 64 → all_cells n p < refused_cells → AreFirst p n j found → AreExpansions (all_witnesses p) found ts → AreGood p before (models_blocks n k ts)
+  renamed : (n : ℕ) (u t : Finite) → all_cells n p < refused_cells → IsModel p n u → IsExpansion u (all_axioms p) t → IsIsomorphism n p (λ x. x) u t
+  renamed n u t room is x = expansion_isomorphic n p (all_axioms p) u t is.0 (apart n u room is) x
+
+  good_models : (before : List SearchBlock) (n j k : ℕ) (found ts : List Finite) → n ≤ 200 → k + length ts < 2 ^ 64 → all_cells n p < refused_cells → AreFirst p n j found → AreExpansions (all_axioms p) found ts → AreGood p before (models_blocks n k ts)
   good_models before n j k [] [] most number room h x = tt
   good_models before n j k [] (t ∷ ts) most number room h x = absurd x
   good_models before n j k (v ∷ found) [] most number room h x = absurd x
   good_models before n j k (v ∷ found) (t ∷ ts) most number room h x = (
-    shown n (suc k) v t most (omega (arith, number)) room h.0.0 x.0,
+    (shown n (suc k) v t most (omega (arith, number)) room h.0.0 x.0, named n (suc k) v t most (omega (arith, number)) room h.0.0 x.0),
     good_models (before ++ shows n (suc k) t ∷ []) n (suc (table_number v)) (suc k) found ts most (omega (arith, number)) room h.1 x.1,
   )
 
@@ -197,7 +203,7 @@ module _ (laws : Laws) (p : Stated) (o : Options) (proper : IsProper p o) where
       let begun = before ++ begins n ∷ [] in (
         tt,
         good_append p begun (models_blocks n k ts) (exhausts n ∷ []) (good_models begun n 0 k h.1.0 ts most number h.0.1.0 h.1.1.0 h.1.2)
-            (λ u is. let some = has_more p n u begun (models_blocks n k ts) (all_among p n k ts u h.1 is) in (some.0, some.1, ((λ x. x), renamed n u some.0 h.0.1.0 is some.2)), tt),
+            ((omega (arith, most), λ u is. (let some = has_more p n u begun (models_blocks n k ts) (all_among p n k ts u h.1 is) in (some.0, some.1, ((λ x. x), renamed n u some.0 h.0.1.0 is some.2)))), tt),
       )
 
   good_sizes : (before : List SearchBlock) (s : Plan) (n k : ℕ) (sizes : List Size) → s.end ≤ 200 → k + models_in_all sizes < 2 ^ 64 → HaveEnded p s n sizes → AreGood p before (sizes_blocks s.step n k sizes)
@@ -206,7 +212,7 @@ module _ (laws : Laws) (p : Stated) (o : Options) (proper : IsProper p o) where
       good_append p before (size_blocks n k size) (sizes_blocks s.step (n + s.step) (k + models_in size) sizes) (good_size before s n k size (omega (arith, h.0, most)) (omega (arith, number)) h.1)
       (good_sizes (before ++ size_blocks n k size) s (n + s.step) (k + models_in size) sizes most (omega (arith, number)) h.2)
 
-  good_some : (before : List SearchBlock) (s : Plan) (n k : ℕ) (found ts : List Finite) (tried : ℕ) → n ≤ 200 → k + length ts < 2 ^ 64 → HasRoomForModels p s n ts tried → AreFirst p n 0 found → AreExpansions (all_witnesses p) found ts → AreGood p before (models_blocks n k ts)
+  good_some : (before : List SearchBlock) (s : Plan) (n k : ℕ) (found ts : List Finite) (tried : ℕ) → n ≤ 200 → k + length ts < 2 ^ 64 → HasRoomForModels p s n ts tried → AreFirst p n 0 found → AreExpansions (all_axioms p) found ts → AreGood p before (models_blocks n k ts)
   good_some before s n k found [] tried most number room h x = tt
   good_some before s n k found (t ∷ ts) tried most number room h x = good_models before n 0 k found (t ∷ ts) most number room.0 h x
 

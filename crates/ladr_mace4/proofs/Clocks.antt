@@ -1,11 +1,11 @@
 -- The clock of a search, from one reading to the next.
-use Rattle.std.proofs.Common.{◌≡◌, ℕ, ◌+◌, ◌*◌, ◌-◌, ◌<◌, Option, None, Some, unwrap_or, refl, sym, subst, ap, ◌∙◌, arith}
+use Rattle.std.proofs.Common.{◌≡◌, ℕ, ◌+◌, ◌*◌, ◌<◌, Option, None, Some, unwrap_or, refl, sym, subst, ap, ◌∙◌, arith}
 use Rattle.ladr_io.specs.Times.{Times, later}
-use Rattle.ladr_mace4.specs.Watching.{stop_of, IsInTime, HasRead, IsLookedAt, IsWatchedBy, IsWatched, HasBegunBy, HasBegun}
+use Rattle.ladr_mace4.specs.Watching.{time_to_stop, IsInTime, HasRead, IsLookedAt, IsWatchedBy, IsWatched, HasBegunBy, HasBegun}
 use Rattle.ladr_mace4.specs.declared.watch.Watch.{Watch}
 use Rattle.mace_search.specs.Watch.{IsEarly, IsLate, KeepsFirst, HasReadMore}
 
-watched_by : (seconds first stop : Option ℕ) (t t' : Times) → HasBegunBy seconds first t → stop ≡ stop_of seconds t → IsWatchedBy seconds first t → IsEarly stop t' → KeepsFirst stop t t' → IsWatchedBy seconds first t' × HasBegunBy seconds first t'
+watched_by : (seconds first stop : Option ℕ) (t t' : Times) → HasBegunBy seconds first t → stop ≡ time_to_stop seconds t → IsWatchedBy seconds first t → IsEarly stop t' → KeepsFirst stop t t' → IsWatchedBy seconds first t' × HasBegunBy seconds first t'
 watched_by None first None t t' begun e was early goes = (rw goes was, rw goes begun)
 watched_by None first (Some x) t t' begun e was early goes = absurd cc
 watched_by (Some s) None stop t t' begun e was early goes = absurd begun
@@ -21,11 +21,11 @@ time_by (Some s) None t watched = λ more. absurd (omega (arith, watched, more))
 time_by (Some s) (Some f) t watched = watched.2
 
 -- the clock is still watched
-pub watched_on : (w : Watch) (stop : Option ℕ) (t t' : Times) → HasBegun w t → stop ≡ stop_of w.seconds t → IsWatched w t → IsEarly stop t' → KeepsFirst stop t t' → IsWatched w t' × HasBegun w t'
+pub watched_on : (w : Watch) (stop : Option ℕ) (t t' : Times) → HasBegun w t → stop ≡ time_to_stop w.seconds t → IsWatched w t → IsEarly stop t' → KeepsFirst stop t t' → IsWatched w t' × HasBegun w t'
 watched_on w stop t t' begun e was early goes = watched_by w.seconds w.first stop t t' begun e was early goes
 
 -- late, by the watch
-late_by : (seconds first stop : Option ℕ) (t t' : Times) (last : ℕ) → HasBegunBy seconds first t → stop ≡ stop_of seconds t → KeepsFirst stop t t' → IsLate stop t' last → IsLate (stop_of seconds t') t' last × (unwrap_or first 0 ≡ t'.first)
+late_by : (seconds first stop : Option ℕ) (t t' : Times) (last : ℕ) → HasBegunBy seconds first t → stop ≡ time_to_stop seconds t → KeepsFirst stop t t' → IsLate stop t' last → IsLate (time_to_stop seconds t') t' last × (unwrap_or first 0 ≡ t'.first)
 late_by None first None t t' last begun e goes late = absurd late
 late_by None first (Some x) t t' last begun e goes late = absurd cc
 late_by (Some s) None stop t t' last begun e goes late = absurd begun
@@ -34,23 +34,23 @@ late_by (Some s) (Some f) (Some x) t t' last begun e goes late =
     let x_is : x ≡ t'.first + 1000 * s = omega (arith, (let y : x ≡ t.first + 1000 * s = cc in y), goes) in
     (subst (λ (y : ℕ). IsLate (Some y) t' last) x_is late, sym begun.1 ∙ sym goes)
 
-pub late_on : (w : Watch) (s stop : Option ℕ) (t t' : Times) (last : ℕ) → w.seconds ≡ s → HasBegun w t → stop ≡ stop_of w.seconds t → KeepsFirst stop t t' → IsLate stop t' last → IsLate (stop_of s t') t' last × (unwrap_or w.first 0 ≡ t'.first)
-late_on w s stop t t' last e begun is goes late = subst (λ (o : Option ℕ). IsLate (stop_of o t') t' last × (unwrap_or w.first 0 ≡ t'.first)) e (late_by w.seconds w.first stop t t' last begun is goes late)
+pub late_on : (w : Watch) (s stop : Option ℕ) (t t' : Times) (last : ℕ) → w.seconds ≡ s → HasBegun w t → stop ≡ time_to_stop w.seconds t → KeepsFirst stop t t' → IsLate stop t' last → IsLate (time_to_stop s t') t' last × (unwrap_or w.first 0 ≡ t'.first)
+late_on w s stop t t' last e begun is goes late = subst (λ (o : Option ℕ). IsLate (time_to_stop o t') t' last × (unwrap_or w.first 0 ≡ t'.first)) e (late_by w.seconds w.first stop t t' last begun is goes late)
 
 -- in time, by the watch
 pub in_time : (w : Watch) (s : Option ℕ) (t : Times) → w.seconds ≡ s → IsWatched w t → IsInTime s t
 in_time w s t e watched = subst (λ (o : Option ℕ). IsInTime o t) e (time_by w.seconds w.first t watched)
 
-late_here_by : (seconds first : Option ℕ) (t : Times) (last : ℕ) → HasBegunBy seconds first t → IsLate (stop_of seconds t) t last → unwrap_or first 0 ≡ t.first
+late_here_by : (seconds first : Option ℕ) (t : Times) (last : ℕ) → HasBegunBy seconds first t → IsLate (time_to_stop seconds t) t last → unwrap_or first 0 ≡ t.first
 late_here_by None first t last begun late = absurd late
 late_here_by (Some s) None t last begun late = absurd begun
 late_here_by (Some s) (Some f) t last begun late = sym begun.1
 
 -- late, as the watch looks
-pub late_here : (w : Watch) (s : Option ℕ) (t : Times) (last : ℕ) → w.seconds ≡ s → HasBegun w t → IsLate (stop_of w.seconds t) t last → IsLate (stop_of s t) t last × (unwrap_or w.first 0 ≡ t.first)
-late_here w s t last e begun late = (subst (λ (o : Option ℕ). IsLate (stop_of o t) t last) e late, late_here_by w.seconds w.first t last begun late)
+pub late_here : (w : Watch) (s : Option ℕ) (t : Times) (last : ℕ) → w.seconds ≡ s → HasBegun w t → IsLate (time_to_stop w.seconds t) t last → IsLate (time_to_stop s t) t last × (unwrap_or w.first 0 ≡ t.first)
+late_here w s t last e begun late = (subst (λ (o : Option ℕ). IsLate (time_to_stop o t) t last) e late, late_here_by w.seconds w.first t last begun late)
 
-early_by : (seconds first stop : Option ℕ) (t : Times) → HasBegunBy seconds first t → IsWatchedBy seconds first t → stop ≡ stop_of seconds t → IsEarly stop t
+early_by : (seconds first stop : Option ℕ) (t : Times) → HasBegunBy seconds first t → IsWatchedBy seconds first t → stop ≡ time_to_stop seconds t → IsEarly stop t
 early_by None first None t begun was e = tt
 early_by None first (Some x) t begun was e = absurd cc
 early_by (Some s) None stop t begun was e = absurd begun
@@ -60,7 +60,7 @@ early_by (Some s) (Some f) (Some x) t begun was e =
     (begun.0, λ more. (omega (arith, x_is, (was.2 more).0), omega (arith, x_is, (was.2 more).1)))
 
 -- early, by the watch
-pub early_at : (w : Watch) (stop : Option ℕ) (t : Times) → HasBegun w t → IsWatched w t → stop ≡ stop_of w.seconds t → IsEarly stop t
+pub early_at : (w : Watch) (stop : Option ℕ) (t : Times) → HasBegun w t → IsWatched w t → stop ≡ time_to_stop w.seconds t → IsEarly stop t
 early_at w stop t begun was e = early_by w.seconds w.first stop t begun was e
 
 -- once more where a time is set
@@ -74,7 +74,7 @@ unread None t e = e
 unread (Some s) t e = omega (arith, e)
 
 -- so many times more
-pub read_on : (seconds stop : Option ℕ) (t₀ t t' : Times) (n k m : ℕ) → stop ≡ stop_of seconds t₀ → HasRead seconds n t → KeepsFirst stop t t' → HasReadMore stop k t t' → m ≡ n + k → HasRead seconds m t'
+pub read_on : (seconds stop : Option ℕ) (t₀ t t' : Times) (n k m : ℕ) → stop ≡ time_to_stop seconds t₀ → HasRead seconds n t → KeepsFirst stop t t' → HasReadMore stop k t t' → m ≡ n + k → HasRead seconds m t'
 read_on None None t₀ t t' n k m e h goes reads is = rw goes h
 read_on None (Some x) t₀ t t' n k m e h goes reads is = absurd cc
 read_on (Some s) None t₀ t t' n k m e h goes reads is = absurd cc

@@ -11,10 +11,10 @@ use Rattle.ladr_mace4.specs.Story.{Size, between, HasEnded, HaveEnded, models_in
 use Rattle.ladr_mace4.specs.Watching.{IsInTime, HasRead}
 use Rattle.ladr_mace4.specs.declared.ends.SearchEnd.{SearchEnd}
 use Rattle.ladr_mace4.specs.declared.ends.SearchEnd.TheVariants.{MaxModels, Exhausted, AllModels, MaxMegs, MaxSeconds, GroundLimit, ClauseLimit}
+use Rattle.ladr_mace4.specs.declared.ends.SearchOver.{SearchOver}
 use Rattle.ladr_mace4.specs.declared.ends.Step.{Step}
 use Rattle.ladr_mace4.specs.declared.ends.Step.TheVariants.{Over, Ends}
 use Rattle.ladr_mace4.specs.declared.plan.Plan.{Plan}
-use Rattle.ladr_output.proofs.Tellings.{told_behind}
 use Rattle.ladr_output.specs.Telling.{Tells}
 use Rattle.ladr_output.specs.declared.cut.Cut.{Cut}
 use Rattle.ladr_output.specs.declared.cut.Cut.TheVariants.{WriteFault, Memory}
@@ -132,18 +132,18 @@ module _ (p : Stated) (s : Plan) (t : Times) (sizes : List Size) (ended : HaveEn
   comes_in : (end : SearchEnd) (j : ℕ) (u : List ℕ) → SizeEnds p s t n k r (Ends end j) u → SearchComes p s t end j (front ++ u)
   comes_in end j u h = record { sizes = sizes; now = h.0; so_far = record { ended = ended; fewer = fewer; stands = h.1 }; count = h.2; stops = h.3; reads = h.4; text_is = ap (λ (x : List ℕ). front ++ x) h.5 }
 
-  cut_off : (u : List ℕ) → (step : Step) × SizeEnds p s t n k r step u → SearchGoes p s t (front ++ u) ⊎ ((e : SearchEnd × ℕ) × SearchComes p s t e.0 e.1 (front ++ u))
+  cut_off : (u : List ℕ) → (step : Step) × SizeEnds p s t n k r step u → SearchGoes p s t (front ++ u) ⊎ ((e : SearchOver) × SearchComes p s t e.end e.printed (front ++ u))
   cut_off u (Over j, h) = inl (goes_over j u h)
-  cut_off u (Ends end j, h) = inr ((end, j), comes_in end j u h)
+  cut_off u (Ends end j, h) = inr (record { end = end; printed = j }, comes_in end j u h)
 
   -- the output is cut off in the size
-  pub cut_in : (a b c : Outflow) (why : Cut) → Takes a b front → Tells (SizeGoes p s t n k r) (SizeEnds p s t n k r) b c (Err why) → Tells {E = SearchEnd × ℕ} (SearchGoes p s t) (λ e u. SearchComes p s t e.0 e.1 u) a c (Err why)
+  pub cut_in : (a b c : Outflow) (why : Cut) → Takes a b front → Tells (SizeGoes p s t n k r) (SizeEnds p s t n k r) b c (Err why) → Tells {E = SearchOver} (SearchGoes p s t) (λ e u. SearchComes p s t e.end e.printed u) a c (Err why)
   cut_in a b c WriteFault took (u, inl h, x) = (front ++ u, inl (goes_in u h), TakesFront-append a b c front u took x)
   cut_in a b c WriteFault took (u, inr h, x) = (front ++ u, cut_off u h, TakesFront-append a b c front u took x)
   cut_in a b c Memory took h = (front ++ h.0, goes_in h.0 h.1, Takes-append a b c front h.0 took h.2)
 
   -- the search ends in the size
-  pub ends_in : (a b c : Outflow) (end : SearchEnd) (j : ℕ) (step : Step) → step ≡ Ends end j → Takes a b front → Tells (SizeGoes p s t n k r) (SizeEnds p s t n k r) b c (Ok step) → Tells {E = SearchEnd × ℕ} (SearchGoes p s t) (λ e u. SearchComes p s t e.0 e.1 u) a c (Ok (end, j))
+  pub ends_in : (a b c : Outflow) (end : SearchEnd) (j : ℕ) (step : Step) → step ≡ Ends end j → Takes a b front → Tells (SizeGoes p s t n k r) (SizeEnds p s t n k r) b c (Ok step) → Tells {E = SearchOver} (SearchGoes p s t) (λ e u. SearchComes p s t e.end e.printed u) a c (Ok (record { end = end; printed = j }))
   ends_in a b c end j step is took h = (front ++ h.0, comes_in end j h.0 (subst (λ (x : Step). SizeEnds p s t n k r x h.0) is h.1), Takes-append a b c front h.0 took h.2)
 
   -- it goes on behind the size
@@ -153,7 +153,7 @@ module _ (p : Stated) (s : Plan) (t : Times) (sizes : List Size) (ended : HaveEn
       ((h.0, one_more t m k' j h.0 a b c next count h.1 h.2 h.3 h.6 took (subst (Takes b c) h.7 x)), h.4, h.5)
 
   -- all sizes are behind the search
-  pub ends_behind : (a b : Outflow) (m j : ℕ) (end : SearchEnd) → m ≡ n → j ≡ k → IsInTime s.seconds t → HasRead s.seconds r t → s.end < m → AllIsSearched j end → Takes a b front → Tells {E = SearchEnd × ℕ} (SearchGoes p s t) (λ e u. SearchComes p s t e.0 e.1 u) a b (Ok (end, j))
+  pub ends_behind : (a b : Outflow) (m j : ℕ) (end : SearchEnd) → m ≡ n → j ≡ k → IsInTime s.seconds t → HasRead s.seconds r t → s.end < m → AllIsSearched j end → Takes a b front → Tells {E = SearchOver} (SearchGoes p s t) (λ e u. SearchComes p s t e.end e.printed u) a b (Ok (record { end = end; printed = j }))
   ends_behind a b m j end next count early reads over is took = (
     front,
     record {

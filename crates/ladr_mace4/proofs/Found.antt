@@ -1,17 +1,16 @@
 -- The models of a size, as they are found and printed.
-use Rattle.std.proofs.Common.{◌≡◌, ℕ, suc, ◌+◌, ◌<◌, ◌≤◌, List, [], ◌∷◌, ◌++◌, length, Option, None, Result, Ok, Err, IfOk, OnErr, inl, inr, refl, ap, sym, subst, ◌∙◌, append_assoc, append-nil, arith}
-use Rattle.std.specs.Global.{Vec}
-use Rattle.std.specs.declared.alloc.AllocError.{AllocError}
+use Rattle.std.proofs.Common.{◌≡◌, ℕ, suc, ◌+◌, ◌<◌, ◌≤◌, List, [], ◌∷◌, ◌++◌, length, None, Result, Ok, Err, IfOk, inl, inr, refl, ap, sym, subst, ◌∙◌, append_assoc, append-nil, arith}
 use Rattle.fol_core.specs.SkolemAxioms.{SkolemAxiom}
 use Rattle.fol_core.specs.Stated.{Stated}
 use Rattle.ladr_io.proofs.StreamLaws.{Takes-none, Takes-append}
 use Rattle.ladr_io.specs.Streams.{Outflow, Takes}
 use Rattle.ladr_io.specs.Times.{Times}
 use Rattle.ladr_mace4.specs.Lines.{size_line, exhausted_line}
+use Rattle.ladr_mace4.specs.Printed.{IsModelText, IsPrinted}
 use Rattle.ladr_mace4.specs.Rooms.{HasRoomForCells, HasRoomForModels, IsBegun}
-use Rattle.ladr_mace4.specs.Skolems.{all_symbols, all_witnesses, all_cells, AreExpansions, AreFirstExpanded, AreAllExpanded}
+use Rattle.ladr_mace4.specs.Skolems.{all_symbols, all_axioms, all_cells, AreExpansions, AreFirstExpanded, AreAllExpanded}
 use Rattle.ladr_mace4.specs.Story.{inside, searched, models_text, AreTriedFurther, SizeGoes, SizeEnds}
-use Rattle.ladr_mace4.specs.Watching.{stop_of, IsInTime, HasRead}
+use Rattle.ladr_mace4.specs.Watching.{time_to_stop, IsInTime, HasRead}
 use Rattle.ladr_mace4.specs.declared.ends.SearchEnd.TheVariants.{MaxModels, MaxSeconds}
 use Rattle.ladr_mace4.specs.declared.ends.Step.{Step}
 use Rattle.ladr_mace4.specs.declared.ends.Step.TheVariants.{Over, Ends}
@@ -58,7 +57,7 @@ expanded_more ws (s ∷ ts) (v ∷ us) t u h x = (h.0, expanded_more ws ts us t 
 pub record SoFar (p : Stated) (n k : ℕ) (us : List Finite) (search : Search) (printed : ℕ) (a b : Outflow) : Type 0 where
   pub found : List Finite
   pub first : AreFirst p n 0 found
-  pub shown : AreExpansions (all_witnesses p) found us
+  pub shown : AreExpansions (all_axioms p) found us
   pub count : printed ≡ k + length us
   pub took : Takes a b (models_text p k us)
   pub problem : search.problem ≡ p
@@ -88,8 +87,8 @@ next_found p n k ts search printed y a b so_far next =
     let in_n : IsNextModel p n search.ahead y = subst (λ (m : ℕ). IsNextModel p m search.ahead y) so_far.size in_p in
     first_more p n 0 so_far.found y so_far.first (subst (λ (j : ℕ). IsNextModel p n j y) so_far.ahead in_n)
 
-next_of : (p : Stated) (n k : ℕ) (ts : List Finite) (search : Search) (printed : ℕ) (y x : Finite) (a b : Outflow) → SoFar p n k ts search printed a b → IsNextModel search.problem search.size search.ahead y → IsExpansion y (all_witnesses p) x → AreFirstExpanded p n (ts ++ x ∷ [])
-next_of p n k ts search printed y x a b so_far next expanded = (so_far.found ++ y ∷ [], next_found p n k ts search printed y a b so_far next, expanded_more (all_witnesses p) so_far.found ts y x so_far.shown expanded)
+next_of : (p : Stated) (n k : ℕ) (ts : List Finite) (search : Search) (printed : ℕ) (y x : Finite) (a b : Outflow) → SoFar p n k ts search printed a b → IsNextModel search.problem search.size search.ahead y → IsExpansion y (all_axioms p) x → AreFirstExpanded p n (ts ++ x ∷ [])
+next_of p n k ts search printed y x a b so_far next expanded = (so_far.found ++ y ∷ [], next_found p n k ts search printed y a b so_far next, expanded_more (all_axioms p) so_far.found ts y x so_far.shown expanded)
 
 text_of : (p : Stated) (n k : ℕ) (ts : List Finite) (search : Search) (printed : ℕ) (x : Finite) (a b : Outflow) → SoFar p n k ts search printed a b → models_text p k (ts ++ x ∷ []) ≡ models_text p k ts ++ model_text (all_symbols p) (printed + 1) x
 text_of p n k ts search printed x a b so_far =
@@ -98,7 +97,7 @@ text_of p n k ts search printed x a b so_far =
 
 -- one model more
 pub further : (p : Stated) (n k : ℕ) (ts : List Finite) (search search' : Search) (x : Finite) (printed printed' : ℕ) (a b c : Outflow) → SoFar p n k ts search printed a b → IsNextModel search.problem search.size search.ahead search'.tables
-    → search'.problem ≡ search.problem → search'.size ≡ search.size → search'.ahead ≡ suc (table_number search'.tables) → search'.late ≡ None → printed' ≡ printed + 1 → IsExpansion search'.tables (all_witnesses p) x → Takes b c (model_text (all_symbols p) printed' x)
+    → search'.problem ≡ search.problem → search'.size ≡ search.size → search'.ahead ≡ suc (table_number search'.tables) → search'.late ≡ None → printed' ≡ printed + 1 → IsExpansion search'.tables (all_axioms p) x → Takes b c (model_text (all_symbols p) printed' x)
     → SoFar p n k (ts ++ x ∷ []) search' printed' a c
 further p n k ts search search' x printed printed' a b c so_far next e f g h i expanded took =
     let y = search'.tables in
@@ -106,7 +105,7 @@ further p n k ts search search' x printed printed' a b c so_far next e f g h i e
     record {
       found = so_far.found ++ y ∷ [];
       first = next_found p n k ts search printed y a b so_far next;
-      shown = expanded_more (all_witnesses p) so_far.found ts y x so_far.shown expanded;
+      shown = expanded_more (all_axioms p) so_far.found ts y x so_far.shown expanded;
       count = omega (arith, so_far.count, many_more ts x, i);
       took = subst (Takes a c) (sym (text_of p n k ts search printed x a b so_far)) (Takes-append a b c (models_text p k ts) (model_text (all_symbols p) (printed + 1) x) so_far.took took');
       problem = e ∙ so_far.problem;
@@ -114,10 +113,6 @@ further p n k ts search search' x printed printed' a b c so_far next e f g h i e
       ahead = g ∙ sym (behind_more 0 so_far.found y);
       late = h;
     }
-
--- what is known of the text of a model
-abbrev pub Made : Stated → ℕ → Finite → Result (Vec ℕ) AllocError → Type 0
-Made p printed y made = IfOk made (λ v. (u : Finite) × IsExpansion y (all_witnesses p) u × (v.items ≡ model_text (all_symbols p) printed u))
 
 module _ (p : Stated) (s : Plan) (t : Times) (n k r : ℕ) where
   -- what may stand, and what ends, behind the size's line and a text
@@ -128,7 +123,7 @@ module _ (p : Stated) (s : Plan) (t : Times) (n k r : ℕ) where
   ends_behind front step text = SizeEnds p s t n k r step (size_line n ++ (front ++ text))
 
   -- behind models the size goes on
-  pub going : (ts found : List Finite) (tried : ℕ) (text : List ℕ) → IsBegun p s n → HasRoomForModels p s n ts tried → AreFirst p n 0 found → AreExpansions (all_witnesses p) found ts → AreTriedFurther p n found tried → k + length ts ≤ s.wanted → IsInTime s.seconds t → HasRead s.seconds (r + suc tried) t
+  pub going : (ts found : List Finite) (tried : ℕ) (text : List ℕ) → IsBegun p s n → HasRoomForModels p s n ts tried → AreFirst p n 0 found → AreExpansions (all_axioms p) found ts → AreTriedFurther p n found tried → k + length ts ≤ s.wanted → IsInTime s.seconds t → HasRead s.seconds (r + suc tried) t
       → text ≡ models_text p k ts → SizeGoes p s t n k r (size_line n ++ text)
   going ts found tried text begun room first shown how most in_time reads e = (inside ts tried, (begun, room, (found, first, shown, how)), most, in_time, reads, ap (λ (u : List ℕ). size_line n ++ u) e)
 
@@ -164,11 +159,10 @@ module _ (p : Stated) (s : Plan) (t : Times) (n k r : ℕ) where
       by (Err Memory) nothing is = ([], alone, nothing)
 
   -- a model that is found is cut off
-  pub at_model : (ts : List Finite) (search : Search) (y : Finite) (printed : ℕ) (a b c : Outflow) (made : Result (Vec ℕ) AllocError) (why : Cut) → IsBegun p s n → HasRoomForCells s (all_cells n p) → printed < s.wanted → SoFar p n k ts search printed a b
-      → IsNextModel search.problem search.size search.ahead y → Made p (printed + 1) y made → IsInTime s.seconds t → HasRead s.seconds (r + suc (suc (table_number y))) t → ((text : List ℕ) → IfOk made (λ v. v.items ≡ text) → IsPiece {T = Unit {0}} text b c (Err why))
-      → Tells (λ u. SizeGoes p s t n k r (size_line n ++ u)) (λ e u. SizeEnds p s t n k r e (size_line n ++ u)) a c (Err why)
-  at_model ts search y printed a b c made why begun room fewer so_far next is in_time reads piece =
-      told_behind (λ u. SizeGoes p s t n k r (size_line n ++ u)) (λ e u. SizeEnds p s t n k r e (size_line n ++ u)) a b c (models_text p k ts) (Err why) so_far.took (by made is piece)
+  pub at_model : (ts : List Finite) (search : Search) (y : Finite) (printed : ℕ) (a b c : Outflow) (why : Cut) → IsBegun p s n → HasRoomForCells s (all_cells n p) → printed < s.wanted → SoFar p n k ts search printed a b → IsNextModel search.problem search.size search.ahead y → IsInTime s.seconds t
+      → HasRead s.seconds (r + suc (suc (table_number y))) t → IsPrinted (IsModelText p y (printed + 1)) b c (Err why) → Tells (λ u. SizeGoes p s t n k r (size_line n ++ u)) (λ e u. SizeEnds p s t n k r e (size_line n ++ u)) a c (Err why)
+  at_model ts search y printed a b c why begun room fewer so_far next in_time reads piece =
+      told_behind (λ u. SizeGoes p s t n k r (size_line n ++ u)) (λ e u. SizeEnds p s t n k r e (size_line n ++ u)) a b c (models_text p k ts) (Err why) so_far.took (by why piece)
     where
       next_in : IsNextModel p n (behind 0 so_far.found) y
       next_in = subst (λ (j : ℕ). IsNextModel p n j y) so_far.ahead (subst (λ (m : ℕ). IsNextModel p m search.ahead y) so_far.size (subst (λ (q : Stated). IsNextModel q search.size search.ahead y) so_far.problem next))
@@ -176,14 +170,15 @@ module _ (p : Stated) (s : Plan) (t : Times) (n k r : ℕ) where
       alone : goes_behind (models_text p k ts) []
       alone = going ts so_far.found (suc (table_number y)) (models_text p k ts ++ []) begun (room_for p s n ts (suc (table_number y)) room) so_far.first so_far.shown (inr (inl (y, next_in, refl))) (omega (arith, so_far.count, fewer)) in_time reads (append-nil (models_text p k ts))
 
-      whole : (u : Finite) → IsExpansion y (all_witnesses p) u → goes_behind (models_text p k ts) (model_text (all_symbols p) (printed + 1) u)
+      whole : (u : Finite) → IsExpansion y (all_axioms p) u → goes_behind (models_text p k ts) (model_text (all_symbols p) (printed + 1) u)
       whole u x =
           going (ts ++ u ∷ []) (so_far.found ++ y ∷ []) (suc (table_number y)) (models_text p k ts ++ model_text (all_symbols p) (printed + 1) u) begun (room_for p s n (ts ++ u ∷ []) (suc (table_number y)) room) (next_found p n k ts search printed y a b so_far next)
-          (expanded_more (all_witnesses p) so_far.found ts y u so_far.shown x) (inl (sym (behind_more 0 so_far.found y))) (omega (arith, so_far.count, many_more ts u, fewer)) in_time reads (sym (text_of p n k ts search printed u a b so_far))
+          (expanded_more (all_axioms p) so_far.found ts y u so_far.shown x) (inl (sym (behind_more 0 so_far.found y))) (omega (arith, so_far.count, many_more ts u, fewer)) in_time reads (sym (text_of p n k ts search printed u a b so_far))
 
-      by : (made : Result (Vec ℕ) AllocError) → Made p (printed + 1) y made → ((text : List ℕ) → IfOk made (λ v. v.items ≡ text) → IsPiece {T = Unit {0}} text b c (Err why)) → Tells {E = Step} (goes_behind (models_text p k ts)) (ends_behind (models_text p k ts)) b c (Err why)
-      by (Ok v) h piece = cut_by (Unit {0}) (goes_behind (models_text p k ts)) (ends_behind (models_text p k ts)) (model_text (all_symbols p) (printed + 1) h.0) b c why alone (whole h.0 h.1) (piece (model_text (all_symbols p) (printed + 1) h.0) h.2)
-      by (Err e) h piece = cut_by (Unit {0}) (goes_behind (models_text p k ts)) (ends_behind (models_text p k ts)) [] b c why alone alone (piece [] tt)
+      by : (why : Cut) → IsPrinted (IsModelText p y (printed + 1)) b c (Err why) → Tells {E = Step} (goes_behind (models_text p k ts)) (ends_behind (models_text p k ts)) b c (Err why)
+      by why (inl (text, made, piece)) = cut_by (Unit {0}) (goes_behind (models_text p k ts)) (ends_behind (models_text p k ts)) text b c why alone (subst (goes_behind (models_text p k ts)) (sym made.2) (whole made.0 made.1)) piece
+      by Memory (inr (e, took)) = ([], alone, took)
+      by WriteFault (inr (e, took)) = absurd cc
 
   -- as many models as are wanted are printed
   pub at_last : (ts : List Finite) (search : Search) (printed : ℕ) (a b : Outflow) → IsBegun p s n → HasRoomForCells s (all_cells n p) → printed ≡ s.wanted → SoFar p n k ts search printed a b → IsInTime s.seconds t → HasRead s.seconds (r + suc search.ahead) t
@@ -193,7 +188,7 @@ module _ (p : Stated) (s : Plan) (t : Times) (n k r : ℕ) where
 
   -- the time is over
   pub at_late : (ts : List Finite) (search : Search) (tried printed first last : ℕ) (a b : Outflow) → IsBegun p s n → HasRoomForCells s (all_cells n p) → printed < s.wanted → SoFar p n k ts search printed a b
-      → NoneBetween search.problem search.size search.ahead tried → search.ahead ≤ tried → IsLate (stop_of s.seconds t) t last → first ≡ t.first → HasRead s.seconds (r + suc (suc tried)) t
+      → NoneBetween search.problem search.size search.ahead tried → search.ahead ≤ tried → IsLate (time_to_stop s.seconds t) t last → first ≡ t.first → HasRead s.seconds (r + suc (suc tried)) t
       → Tells (λ u. SizeGoes p s t n k r (size_line n ++ u)) (λ e u. SizeEnds p s t n k r e (size_line n ++ u)) a b (Ok (Ends (MaxSeconds first last) printed))
   at_late ts search tried printed first last a b begun room fewer so_far none more late is reads =
       (models_text p k ts, (inside ts (suc tried), (begun, room_for p s n ts (suc tried) room, (so_far.found, so_far.first, so_far.shown, inr (tried, refl, omega (arith, more, so_far.ahead), none_in))), so_far.count, (late, is, tt, fewer), reads, refl), so_far.took)
@@ -201,12 +196,11 @@ module _ (p : Stated) (s : Plan) (t : Times) (n k r : ℕ) where
       none_in : NoneBetween p n (behind 0 so_far.found) tried
       none_in = subst (λ (j : ℕ). NoneBetween p n j tried) so_far.ahead (subst (λ (m : ℕ). NoneBetween p m search.ahead tried) so_far.size (subst (λ (q : Stated). NoneBetween q search.size search.ahead tried) so_far.problem none))
 
--- what is made of tables is made of the same tables
-pub made_of : (p : Stated) (k : ℕ) (z y : Finite) (made : Result (Vec ℕ) AllocError) → z ≡ y → Made p k z made → Made p k y made
-made_of p k z y made e h = subst (λ (x : Finite). Made p k x made) e h
+-- what is printed of tables is printed of the same tables
+pub made_of : (p : Stated) (k : ℕ) (z y : Finite) (a b : Outflow) (r : Result (Unit {0}) Cut) → z ≡ y → IsPrinted (IsModelText p z k) a b r → IsPrinted (IsModelText p y k) a b r
+made_of p k z y a b r e h = subst (λ (x : Finite). IsPrinted (IsModelText p x k) a b r) e h
 
 -- a model that was printed
-pub printed_model : (p : Stated) (k : ℕ) (y : Finite) (made : Result (Vec ℕ) AllocError) (r : Result (Unit {0}) Cut) (a b : Outflow) → Made p k y made → r ≡ Ok tt → ((t : List ℕ) → IfOk made (λ v. v.items ≡ t) → Takes a b t) → OnErr made (r ≡ Err Memory)
-    → (u : Finite) × IsExpansion y (all_witnesses p) u × Takes a b (model_text (all_symbols p) k u)
-printed_model p k y (Ok v) r a b h ok took lacking = (h.0, h.1, took (model_text (all_symbols p) k h.0) h.2)
-printed_model p k y (Err e) r a b h ok took lacking = absurd (cc)
+pub printed_model : (p : Stated) (k : ℕ) (z y : Finite) (a b : Outflow) → z ≡ y → IsPrinted (IsModelText p z k) a b (Ok tt) → (u : Finite) × IsExpansion y (all_axioms p) u × Takes a b (model_text (all_symbols p) k u)
+printed_model p k z y a b e (inl (text, made, took)) = (made.0, subst (λ (x : Finite). IsExpansion x (all_axioms p) made.0) e made.1, subst (Takes a b) made.2 took)
+printed_model p k z y a b e (inr (f, took)) = absurd cc

@@ -4,17 +4,18 @@ use Rattle.clausify.specs.Input.{first_over}
 use Rattle.fol_core.specs.Stated.{Stated}
 use Rattle.ladr_intake.specs.Command.{End, own, refused, read_fault, MayStand, EndsBy}
 use Rattle.ladr_intake.specs.Input.{IsAllRead}
-use Rattle.ladr_intake.specs.Posed.{Posed, poses}
-use Rattle.ladr_intake.specs.Refusals as refusals
+use Rattle.ladr_intake.specs.Language.{IsLanguage}
+use Rattle.ladr_intake.specs.Posed.{Posed}
 use Rattle.ladr_intake.specs.Refusals.{IsRefused}
 use Rattle.ladr_intake.specs.declared.stops.Refused.{Refused}
 use Rattle.ladr_io.specs.Streams.{Inflow, Outflow, greatest}
 use Rattle.ladr_io.specs.Times.{Times, no_times}
+use Rattle.ladr_mace4.proofs.ClockReadings.{readings_of, sought_as}
 use Rattle.ladr_mace4.proofs.GoingOn.{Comes as HasCome, goes_comes, starts_comes}
 use Rattle.ladr_mace4.proofs.Planned.{plan_in_range}
 use Rattle.ladr_mace4.proofs.Seeking.{comes_by}
 use Rattle.ladr_mace4.specs.Finding.{Sought, Seeks}
-use Rattle.ladr_mace4.specs.Fronts.{IsFront, WroteFront}
+use Rattle.ladr_mace4.specs.Fronts.{times_after, IsFront, WroteFront}
 use Rattle.ladr_mace4.specs.Lines.{end_text}
 use Rattle.ladr_mace4.specs.Plans.{plan_of}
 use Rattle.ladr_mace4.specs.declared.ends.SearchEnd.{SearchEnd}
@@ -23,46 +24,26 @@ use Rattle.ladr_mace4.specs.declared.plan.Plan.{Plan}
 use Rattle.ladr_output.specs.Telling.{Tells}
 use Rattle.ladr_output.specs.declared.cut.Cut.{Cut}
 use Rattle.ladr_output.specs.declared.cut.Cut.TheVariants.{WriteFault, Memory}
-use Rattle.ladr_problem.specs.Proper.{IsProper}
-use Rattle.ladr_formulas.specs.declared.styles.Mode.{Mode}
-use Rattle.ladr_formulas.specs.declared.styles.Mode.TheVariants.{Mace}
 use Rattle.ladr_words.specs.Tasks.{HasRanges}
 use Rattle.ladr_words.specs.declared.task.ModelOptions.{ModelOptions}
 use Rattle.ladr_words.specs.declared.task.Task.TheVariants.{Mace4}
 
--- what is known of what bytes pose
-abbrev pub OnePosed : Type 0
-OnePosed = (m : Mode) (bytes : List ℕ) (x y : Posed) → poses m bytes x → poses m bytes y → x ≡ y
-
-abbrev pub Proper : Type 0
-Proper = (m : Mode) (bytes : List ℕ) (x : Posed) → poses m bytes x → IsProper x.stated x.options
-
-abbrev pub Unrefused : Type 0
-Unrefused = (m : Mode) (bytes : List ℕ) (x : Posed) (why : Refused) → poses m bytes x → refusals.refuses m bytes why → ⊥
-
-pub record Posing : Type 0 where
-  pub once : OnePosed
-  pub proper : Proper
-  pub unrefused : Unrefused
-
--- a text that a search may come to, or a front of it, is a front of a whole output
-of_comes : (p : Stated) (s : Plan) (start : 1 ≤ s.start) (step : 1 ≤ s.step) (text : List ℕ) → first_over 1 p.formulas ≡ None → HasCome p s start step text → IsFront p s text
-of_comes p s start step text none h = record {
-  times = h.times;
-  end = h.end;
-  whole = h.more ++ end_text h.printed h.end;
-  sought = (h.printed, (h.more, comes_by p s h.times h.printed h.more h.end none h.comes, refl));
-  rest = h.rest ++ end_text h.printed h.end;
-  parts = ap (λ (u : List ℕ). u ++ end_text h.printed h.end) h.parts ∙ append_assoc text h.rest (end_text h.printed h.end);
-}
-
+-- a front of what a search comes to by some figures of the clock
 of_sought : (p : Stated) (s : Plan) (t : Times) (end : SearchEnd) (whole text rest : List ℕ) → Sought p s t end whole → whole ≡ text ++ rest → IsFront p s text
-of_sought p s t end whole text rest h e = record { times = t; end = end; whole = whole; sought = h; rest = rest; parts = e }
+of_sought p s t end whole text rest h e =
+    let given = readings_of t in
+    record { readings = given.0; end = end; whole = whole; sought = sought_as p s t (times_after no_times given.0) given.1 end whole h; rest = rest; parts = e }
+
+-- a text that a search may come to, or a front of it
+of_comes : (p : Stated) (s : Plan) (start : 1 ≤ s.start) (step : 1 ≤ s.step) (text : List ℕ) → first_over 1 p.formulas ≡ None → HasCome p s start step text → IsFront p s text
+of_comes p s start step text none h =
+    let last = end_text h.printed h.end in
+    of_sought p s h.times h.end (h.more ++ last) text (h.rest ++ last) (h.printed, (h.more, comes_by p s h.times h.printed h.more h.end none h.comes, refl)) (ap (λ (u : List ℕ). u ++ last) h.parts ∙ append_assoc text h.rest last)
 
 shorter : (p : Stated) (s : Plan) (text front rest : List ℕ) → IsFront p s text → text ≡ front ++ rest → IsFront p s front
-shorter p s text front rest h e = record { times = h.times; end = h.end; whole = h.whole; sought = h.sought; rest = rest ++ h.rest; parts = h.parts ∙ ap (λ (u : List ℕ). u ++ h.rest) e ∙ append_assoc front rest h.rest }
+shorter p s text front rest h e = record { readings = h.readings; end = h.end; whole = h.whole; sought = h.sought; rest = rest ++ h.rest; parts = h.parts ∙ ap (λ (u : List ℕ). u ++ h.rest) e ∙ append_assoc front rest h.rest }
 
-module _ (posing : Posing) (bytes : List ℕ) (x : Posed) (posed : poses Mace bytes x) (words : ModelOptions) (ranged : HasRanges (Mace4 words)) (a b : Inflow) (read : IsAllRead a b bytes) (countable : a.faults < greatest) where
+module _ (says : List ℕ → Posed → Type 0) (refuses : List ℕ → Refused → Type 0) (language : IsLanguage says refuses) (bytes : List ℕ) (x : Posed) (posed : says bytes x) (words : ModelOptions) (ranged : HasRanges (Mace4 words)) (a b : Inflow) (read : IsAllRead a b bytes) (countable : a.faults < greatest) where
   abbrev p : Stated
   p = x.stated
 
@@ -70,7 +51,7 @@ module _ (posing : Posing) (bytes : List ℕ) (x : Posed) (posed : poses Mace by
   s = plan_of words x.options
 
   in_range : (1 ≤ s.start) × (1 ≤ s.step) × (1 ≤ s.wanted)
-  in_range = plan_in_range words x.options ranged (posing.proper Mace bytes x posed).ranged
+  in_range = plan_in_range words x.options ranged (language.proper bytes x posed).ranged
 
   -- nothing is printed
   at_start : (o : Option ℕ) → first_over 1 p.formulas ≡ o → (u : List ℕ) → u ≡ [] → IsFront p s u
@@ -89,22 +70,22 @@ module _ (posing : Posing) (bytes : List ℕ) (x : Posed) (posed : poses Mace by
     abbrev ends_of : Posed → SearchEnd → List ℕ → Type 0
     ends_of y = Sought y.stated (plan_of words y.options) t
 
-    stands_front : (u : List ℕ) → MayStand (poses Mace) (refusals.refuses Mace) (t.count ≡ 0) goes_of ends_of a b bytes u → IsFront p s u
+    stands_front : (u : List ℕ) → MayStand says refuses (t.count ≡ 0) goes_of ends_of a b bytes u → IsFront p s u
     stands_front u (inl h) = at_start (first_over 1 p.formulas) refl u h.0
-    stands_front u (inr h) = let y = h.1.0 in seeks_front t u (subst (λ (z : Posed). Seeks z.stated (plan_of words z.options) t u) (posing.once Mace bytes y x h.1.1 posed) h.1.2)
+    stands_front u (inr h) = let y = h.1.0 in seeks_front t u (subst (λ (z : Posed). Seeks z.stated (plan_of words z.options) t u) (language.once bytes y x h.1.1 posed) h.1.2)
 
-    no_refusal : (why : Refused) → IsRefused (refusals.refuses Mace) a b bytes why → ⊥
+    no_refusal : (why : Refused) → IsRefused refuses a b bytes why → ⊥
     no_refusal why (inr h) = omega (arith, h.0.1, read.1)
-    no_refusal why (inl h) = posing.unrefused Mace bytes x why posed h.1
+    no_refusal why (inl h) = language.unrefused bytes x why posed h.1
 
-    ends_front : (e : End SearchEnd) (u : List ℕ) → EndsBy (poses Mace) (refusals.refuses Mace) (t.count ≡ 0) goes_of ends_of a b bytes e u → IsFront p s u
+    ends_front : (e : End SearchEnd) (u : List ℕ) → EndsBy says refuses (t.count ≡ 0) goes_of ends_of a b bytes e u → IsFront p s u
     ends_front (own e) u h =
         let y = h.1.0 in
-        of_sought p s t e u u [] (subst (λ (z : Posed). Sought z.stated (plan_of words z.options) t e u) (posing.once Mace bytes y x h.1.1 posed) h.1.2) (sym (append-nil u))
+        of_sought p s t e u u [] (subst (λ (z : Posed). Sought z.stated (plan_of words z.options) t e u) (language.once bytes y x h.1.1 posed) h.1.2) (sym (append-nil u))
     ends_front (refused why) u h = absurd (no_refusal why h.0)
     ends_front read_fault u h = absurd (omega (arith, h.0.0.failed, read.0.gives.unfailing, countable))
 
-    pub tells_front : (c d : Outflow) (r : Result (End SearchEnd) Cut) → Tells (MayStand (poses Mace) (refusals.refuses Mace) (t.count ≡ 0) goes_of ends_of a b bytes) (EndsBy (poses Mace) (refusals.refuses Mace) (t.count ≡ 0) goes_of ends_of a b bytes) c d r → WroteFront p s c d
+    pub tells_front : (c d : Outflow) (r : Result (End SearchEnd) Cut) → Tells (MayStand says refuses (t.count ≡ 0) goes_of ends_of a b bytes) (EndsBy says refuses (t.count ≡ 0) goes_of ends_of a b bytes) c d r → WroteFront p s c d
     tells_front c d (Ok e) h = record { front = h.0; wrote = h.2.took; whole = ends_front e h.0 h.1 }
     tells_front c d (Err WriteFault) (u, inl g, k) = record { front = k.front; wrote = k.took; whole = shorter p s u k.front k.rest (stands_front u g) k.parts }
     tells_front c d (Err WriteFault) (u, inr g, k) = record { front = k.front; wrote = k.took; whole = shorter p s u k.front k.rest (ends_front g.0 u g.1) k.parts }

@@ -12,14 +12,14 @@ use Rattle.ladr_mace4.proofs.Found as finds
 use Rattle.ladr_mace4.specs.Lines.{size_line, skipped_line, exhausted_line}
 use Rattle.ladr_mace4.specs.Plans.{size_behind}
 use Rattle.ladr_mace4.specs.Rooms.{refused_cells, most_cells, HasRoomForCells, HasRoomForModels, IsCrowded, IsBegun}
-use Rattle.ladr_mace4.specs.Skolems.{all_symbols, all_witnesses, all_cells, AreExpansions}
-use Rattle.ladr_mace4.specs.Story.{Size, skipped, searched, Now, between, opened, inside, models_in, models_in_all, models_text, size_text, sizes_text, HasEnded, HaveEnded, IsAtSize, AreTriedFurther, how_far, Stops, readings_in, readings_in_all, text_by, models_by, readings_by, SearchGoes, SearchComes}
-use Rattle.ladr_mace4.specs.Watching.{stop_of, IsInTime, HasRead}
+use Rattle.ladr_mace4.specs.Skolems.{all_symbols, all_axioms, all_cells, AreExpansions}
+use Rattle.ladr_mace4.specs.Story.{Size, skipped, searched, Now, between, opened, inside, models_in, models_in_all, models_text, size_text, sizes_text, HasEnded, HaveEnded, IsAtSize, AreTriedFurther, how_far, Stops, readings_in_all, text_by, models_by, readings_by, SearchGoes, SearchComes}
+use Rattle.ladr_mace4.specs.Watching.{time_to_stop, IsInTime, HasRead}
 use Rattle.ladr_mace4.specs.declared.ends.SearchEnd.{SearchEnd}
 use Rattle.ladr_mace4.specs.declared.ends.SearchEnd.TheVariants.{MaxModels, Exhausted, AllModels, MaxMegs, MaxSeconds, GroundLimit, ClauseLimit}
 use Rattle.ladr_mace4.specs.declared.plan.Plan.{Plan}
 use Rattle.mace_search.proofs.Next.{in_count, next_or_none}
-use Rattle.mace_search.specs.Models.{AreFirst, NoneFrom, IsNextModel, behind}
+use Rattle.mace_search.specs.Models.{AreFirst, behind}
 use Rattle.mace_search.specs.Plain.{tables_in}
 use Rattle.mace_search.specs.Watch.{IsLate}
 use Rattle.model_tables.proofs.Decided.{some_expansion}
@@ -29,7 +29,7 @@ use Rattle.model_tables.specs.Size.{formulas_of}
 use Rattle.model_tables.specs.Tables.{Finite}
 
 -- a clock that comes to be late with its reading number m
-late_times : (o : Option ℕ) (sec n m : ℕ) (t : Times) → o ≡ Some sec → IsInTime o t → HasRead o n t → 2 ≤ m → (2 < m → m ≤ n + 1) → (t' : Times) × (IsLate (stop_of o t') t' t'.last × HasRead o m t')
+late_times : (o : Option ℕ) (sec n m : ℕ) (t : Times) → o ≡ Some sec → IsInTime o t → HasRead o n t → 2 ≤ m → (2 < m → m ≤ n + 1) → (t' : Times) × (IsLate (time_to_stop o t') t' t'.last × HasRead o m t')
 late_times None sec n m t e in_time reads two few = absurd cc
 late_times (Some x) sec n m t e in_time reads two few =
     let t' : Times = record { count = min m greatest; first = t.first; last = t.first + 1000 * x; between = t.last } in
@@ -177,7 +177,7 @@ module _ (p : Stated) (s : Plan) (start : 1 ≤ s.start) (step : 1 ≤ s.step) w
   room_fewer n (t ∷ ts) tried m room le = room
 
   -- as many models as are wanted are printed
-  enough : (t : Times) (sizes : List Size) (found ts : List Finite) → AreGone sizes → IsBegun p s (next sizes) → HasRoomForModels p s (next sizes) ts (behind 0 found) → models_in_all sizes + length ts ≡ s.wanted → AreFirst p (next sizes) 0 found → AreExpansions (all_witnesses p) found ts → IsInTime s.seconds t → HasRead s.seconds (readings_in_all sizes + suc (behind 0 found)) t
+  enough : (t : Times) (sizes : List Size) (found ts : List Finite) → AreGone sizes → IsBegun p s (next sizes) → HasRoomForModels p s (next sizes) ts (behind 0 found) → models_in_all sizes + length ts ≡ s.wanted → AreFirst p (next sizes) 0 found → AreExpansions (all_axioms p) found ts → IsInTime s.seconds t → HasRead s.seconds (readings_in_all sizes + suc (behind 0 found)) t
       → Comes (front sizes ++ (size_line (next sizes) ++ models_text p (models_in_all sizes) ts))
   enough t sizes found ts gone begun room all first expansions in_time reads = ends_at t sizes (inside ts (behind 0 found)) MaxModels gone (begun, room, (found, first, expansions, refl)) (in_time, tt, all) reads
 
@@ -187,7 +187,7 @@ module _ (p : Stated) (s : Plan) (start : 1 ≤ s.start) (step : 1 ≤ s.step) w
 
   module _ (t : Times) (none : s.seconds ≡ None) (in_time : IsInTime s.seconds t) (read : (m : ℕ) → HasRead s.seconds m t) where
     -- a size with models, where no time is set: the next models are printed, and that it is exhausted
-    enumerated : (more : ℕ) (sizes : List Size) (found ts : List Finite) → AreGone sizes → IsBegun p s (next sizes) → HasRoomForCells s (all_cells (next sizes) p) → models_in_all sizes + length ts + more ≡ s.wanted → AreFirst p (next sizes) 0 found → AreExpansions (all_witnesses p) found ts → GoesOnBehind sizes
+    enumerated : (more : ℕ) (sizes : List Size) (found ts : List Finite) → AreGone sizes → IsBegun p s (next sizes) → HasRoomForCells s (all_cells (next sizes) p) → models_in_all sizes + length ts + more ≡ s.wanted → AreFirst p (next sizes) 0 found → AreExpansions (all_axioms p) found ts → GoesOnBehind sizes
         → Comes (front sizes ++ (size_line (next sizes) ++ models_text p (models_in_all sizes) ts))
     enumerated zero sizes found ts gone begun room all first expansions rest = enough t sizes found ts gone begun (finds.room_for p s (next sizes) ts (behind 0 found) room) (omega (arith, all)) first expansions in_time (read _)
     enumerated (suc more) sizes found ts gone begun room all first expansions rest =
@@ -203,12 +203,12 @@ module _ (p : Stated) (s : Plan) (start : 1 ≤ s.start) (step : 1 ≤ s.step) w
               text_is sizes size ∙ ap (λ (u : List ℕ). front sizes ++ u) (sym (append_assoc (size_line n) texts (exhausted_line n))) ∙ sym (append_assoc (front sizes) (size_line n ++ texts) (exhausted_line n)) in
               shorter (front sizes ++ (size_line n ++ texts)) (exhausted_line n) (subst Comes e (rest (sizes ++ size ∷ []) (gone_more sizes size gone begun.0 is (omega (arith, all))) (length_more sizes size))))
           | inl y ↦ (
-              let u = some_expansion y.0 (all_witnesses p) in
+              let u = some_expansion y.0 (all_axioms p) in
               let text = model_text (all_symbols p) (suc (k + length ts)) u.0 in
               let e : front sizes ++ (size_line n ++ models_text p k (ts ++ u.0 ∷ [])) ≡ (front sizes ++ (size_line n ++ texts)) ++ text =
               ap (λ (v : List ℕ). front sizes ++ (size_line n ++ v)) (finds.text_more p k ts u.0) ∙ ap (λ (v : List ℕ). front sizes ++ v) (sym (append_assoc (size_line n) texts text)) ∙ sym (append_assoc (front sizes) (size_line n ++ texts) text) in
               shorter (front sizes ++ (size_line n ++ texts)) text
-              (subst Comes e (enumerated more sizes (found ++ y.0 ∷ []) (ts ++ u.0 ∷ []) gone begun room (omega (arith, all, finds.many_more ts u.0)) (finds.first_more p n 0 found y.0 first y.1) (finds.expanded_more (all_witnesses p) found ts y.0 u.0 expansions u.1) rest)))
+              (subst Comes e (enumerated more sizes (found ++ y.0 ∷ []) (ts ++ u.0 ∷ []) gone begun room (omega (arith, all, finds.many_more ts u.0)) (finds.first_more p n 0 found y.0 first y.1) (finds.expanded_more (all_axioms p) found ts y.0 u.0 expansions u.1) rest)))
         ]
 
     -- a size whose line is printed
@@ -251,7 +251,7 @@ module _ (p : Stated) (s : Plan) (start : 1 ≤ s.start) (step : 1 ≤ s.step) w
   all_behind t sizes n in_time reads e sizes' gone' more = on_behind (suc s.end) t sizes' gone' (omega arith) in_time (any_read s.seconds n (readings_in_all sizes') t e reads)
 
   -- in a size with models, fewer than are wanted, whether a time is set or not
-  inside_by : (o : Option ℕ) → s.seconds ≡ o → (t : Times) (sizes : List Size) (found ts : List Finite) (tried : ℕ) → AreGone sizes → IsBegun p s (next sizes) → HasRoomForModels p s (next sizes) ts tried → models_in_all sizes + length ts < s.wanted → AreFirst p (next sizes) 0 found → AreExpansions (all_witnesses p) found ts → behind 0 found ≤ tried → IsInTime s.seconds t
+  inside_by : (o : Option ℕ) → s.seconds ≡ o → (t : Times) (sizes : List Size) (found ts : List Finite) (tried : ℕ) → AreGone sizes → IsBegun p s (next sizes) → HasRoomForModels p s (next sizes) ts tried → models_in_all sizes + length ts < s.wanted → AreFirst p (next sizes) 0 found → AreExpansions (all_axioms p) found ts → behind 0 found ≤ tried → IsInTime s.seconds t
       → HasRead s.seconds (readings_in_all sizes + suc tried) t → Comes (front sizes ++ (size_line (next sizes) ++ models_text p (models_in_all sizes) ts))
   inside_by None e t sizes found [] tried gone begun room fewer first expansions least in_time reads =
       let n = next sizes in

@@ -1,8 +1,8 @@
 -- What is asked of a search is in range.
 use Rattle.std.proofs.Common.{◌≡◌, ℕ, zero, suc, ◌≤◌, ◌==◌, ◌||◌, Bool, true, false, if◌then◌else◌, Option, None, Some, unwrap_or, refl, arith}
 use Rattle.std.specs.Prelude.{is_some}
-use Rattle.std.proofs.lemmas.Bool.{true≢false, cases_Bool}
-use Rattle.ladr_mace4.specs.Plans.{plan_of, only_size}
+use Rattle.std.proofs.lemmas.Bool.{true≢false}
+use Rattle.ladr_mace4.specs.Plans.{plan_of}
 use Rattle.ladr_options.specs.Ranges.{AreInRange}
 use Rattle.ladr_options.specs.declared.options.Options.{Options}
 use Rattle.ladr_words.specs.Tasks.{HasRanges, IsFrom}

@@ -1,5 +1,5 @@
 -- What a search amounts to, by what its parts tell.
-use Rattle.std.proofs.Common.{◌≡◌, ℕ, List, [], ◌++◌, None, Some, Result, Ok, Err, inl, inr, refl, sym, subst, append-nil}
+use Rattle.std.proofs.Common.{◌≡◌, ℕ, List, [], ◌++◌, None, Result, Ok, Err, inl, inr, refl, sym, subst, append-nil}
 use Rattle.clausify.specs.Input.{first_over}
 use Rattle.fol_core.specs.Stated.{Stated}
 use Rattle.ladr_io.specs.Streams.{Outflow}
@@ -9,6 +9,7 @@ use Rattle.ladr_mace4.specs.Lines.{end_text}
 use Rattle.ladr_mace4.specs.Story.{SearchGoes, SearchComes}
 use Rattle.ladr_mace4.specs.declared.ends.SearchEnd.{SearchEnd}
 use Rattle.ladr_mace4.specs.declared.ends.SearchEnd.TheVariants.{MaxModels, Exhausted, AllModels, MaxMegs, MaxSeconds, GroundLimit, ClauseLimit}
+use Rattle.ladr_mace4.specs.declared.ends.SearchOver.{SearchOver}
 use Rattle.ladr_mace4.specs.declared.plan.Plan.{Plan}
 use Rattle.ladr_output.proofs.Tellings.{told_behind, told_weaker, ended_by}
 use Rattle.ladr_output.specs.Telling.{Tells, IsEnd}
@@ -26,17 +27,17 @@ comes_by p s t j u (ClauseLimit formula) none h = absurd h.stops
 
 module _ (p : Stated) (s : Plan) (t : Times) where
   -- the sizes are searched
-  pub sizes_seek : (a b : Outflow) (result : Result (SearchEnd × ℕ) Cut) → first_over 1 p.formulas ≡ None → Tells {E = SearchEnd × ℕ} (SearchGoes p s t) (λ e u. SearchComes p s t e.0 e.1 u) a b result → Tells {E = SearchEnd × ℕ} (Seeks p s t) (λ e u. Comes p s t e.0 e.1 u) a b result
-  sizes_seek a b result none told = told_weaker (SearchGoes p s t) (Seeks p s t) (λ (e : SearchEnd × ℕ) u. SearchComes p s t e.0 e.1 u) (λ (e : SearchEnd × ℕ) u. Comes p s t e.0 e.1 u) a b result (λ u h. inr (inl (none, h))) (λ e u h. comes_by p s t e.1 u e.0 none h) told
+  pub sizes_seek : (a b : Outflow) (result : Result SearchOver Cut) → first_over 1 p.formulas ≡ None → Tells {E = SearchOver} (SearchGoes p s t) (λ e u. SearchComes p s t e.end e.printed u) a b result → Tells {E = SearchOver} (Seeks p s t) (λ e u. Comes p s t e.end e.printed u) a b result
+  sizes_seek a b result none told = told_weaker (SearchGoes p s t) (Seeks p s t) (λ (e : SearchOver) u. SearchComes p s t e.end e.printed u) (λ (e : SearchOver) u. Comes p s t e.end e.printed u) a b result (λ u h. inr (inl (none, h))) (λ e u h. comes_by p s t e.printed u e.end none h) told
 
   -- the last lines are printed, or cut off
-  pub last_seek : (a b c : Outflow) (e : SearchEnd × ℕ) (result : Result SearchEnd Cut) → Tells {E = SearchEnd × ℕ} (Seeks p s t) (λ e u. Comes p s t e.0 e.1 u) a b (Ok e) → Tells (λ u. u ≡ []) (IsEnd e.0 (end_text e.1 e.0)) b c result → Tells (Seeks p s t) (Sought p s t) a c result
+  pub last_seek : (a b c : Outflow) (e : SearchOver) (result : Result SearchEnd Cut) → Tells {E = SearchOver} (Seeks p s t) (λ e u. Comes p s t e.end e.printed u) a b (Ok e) → Tells (λ u. u ≡ []) (IsEnd e.end (end_text e.printed e.end)) b c result → Tells (Seeks p s t) (Sought p s t) a c result
   last_seek a b c e result (front, comes, took) told =
       told_behind (Seeks p s t) (Sought p s t) a b c front result took
-      (ended_by (λ u. Seeks p s t (front ++ u)) (λ f u. Sought p s t f (front ++ u)) e.0 (end_text e.1 e.0) b c result (inr (inr (e.0, (e.1, subst (λ (u : List ℕ). Comes p s t e.0 e.1 u) (sym (append-nil front)) comes)))) (e.1, (front, comes, refl)) told)
+      (ended_by (λ u. Seeks p s t (front ++ u)) (λ f u. Sought p s t f (front ++ u)) e.end (end_text e.printed e.end) b c result (inr (inr (e.end, (e.printed, subst (λ (u : List ℕ). Comes p s t e.end e.printed u) (sym (append-nil front)) comes)))) (e.printed, (front, comes, refl)) told)
 
   -- the output is cut off before
-  pub cut_seek : (a b : Outflow) (why : Cut) → Tells {E = SearchEnd × ℕ} (Seeks p s t) (λ e u. Comes p s t e.0 e.1 u) a b (Err why) → Tells (Seeks p s t) (Sought p s t) a b (Err why)
+  pub cut_seek : (a b : Outflow) (why : Cut) → Tells {E = SearchOver} (Seeks p s t) (λ e u. Comes p s t e.end e.printed u) a b (Err why) → Tells (Seeks p s t) (Sought p s t) a b (Err why)
   cut_seek a b WriteFault (u, inl h, x) = (u, inl h, x)
-  cut_seek a b WriteFault (u, inr h, x) = (u, inl (inr (inr (h.0.0, (h.0.1, h.1)))), x)
+  cut_seek a b WriteFault (u, inr h, x) = (u, inl (inr (inr (h.0.end, (h.0.printed, h.1)))), x)
   cut_seek a b Memory h = h

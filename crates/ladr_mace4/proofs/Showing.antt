@@ -3,16 +3,20 @@ use Rattle.std.proofs.Common.{◌≡◌, ℕ, ◌≤◌, Bool, true, false, if�
 use Rattle.std.specs.Prelude.{IfSome}
 use Rattle.fol_core.specs.Stated.{Stated}
 use Rattle.ladr_intake.specs.Command.{End, own, refused, read_fault, end_of, MayStand, EndsBy}
-use Rattle.ladr_intake.specs.Posed.{Posed, poses}
-use Rattle.ladr_intake.specs.Refusals as refusals
+use Rattle.ladr_intake.specs.Language.{IsLanguage}
+use Rattle.ladr_intake.specs.Posed.{Posed}
+use Rattle.ladr_intake.specs.Refusals.{IsRefused, refusal_text}
+use Rattle.ladr_intake.specs.declared.stops.Refused.{Refused}
 use Rattle.ladr_intake.specs.declared.stops.Stop.{Stop}
-use Rattle.ladr_io.specs.Streams.{Inflow, Outflow, Takes, TakesFront}
+use Rattle.ladr_io.specs.Streams.{Inflow, Outflow, AreLastHeld, Takes, TakesFront}
 use Rattle.ladr_io.specs.Times.{Times}
 use Rattle.ladr_mace4.proofs.Blocks.{Laws, IsBounded, goes_shows, comes_shows}
-use Rattle.ladr_mace4.proofs.Fronts.{OnePosed, Proper, Posing, tells_front}
+use Rattle.ladr_mace4.proofs.Fronts.{tells_front}
+use Rattle.ladr_mace4.proofs.SearchBlocks.{SearchBlock, blocks_text, AreGood, Last, nothing, ends, grows, fails, last_text}
+use Rattle.ladr_mace4.proofs.Standing.{exhausted_stands, model_stands}
 use Rattle.ladr_mace4.specs.Finding.{Comes, Sought, Seeks, Searches}
 use Rattle.ladr_mace4.specs.Plans.{plan_of, only_size}
-use Rattle.ladr_mace4.specs.Shown.{SearchBlock, blocks_text, AreGood, Last, nothing, ends, refuses, fails, last_text, ShowsModels, ShowsPosed}
+use Rattle.ladr_mace4.specs.Shown.{ShowsModels, ShowsPosed}
 use Rattle.ladr_mace4.specs.declared.ends.SearchEnd.{SearchEnd}
 use Rattle.ladr_mace4.specs.declared.ends.SearchEnd.TheVariants.{MaxModels, Exhausted, AllModels, MaxMegs, MaxSeconds, GroundLimit, ClauseLimit}
 use Rattle.ladr_mace4.specs.declared.plan.Plan.{Plan}
@@ -21,8 +25,6 @@ use Rattle.ladr_output.specs.declared.cut.Cut.{Cut}
 use Rattle.ladr_output.specs.declared.cut.Cut.TheVariants.{WriteFault, Memory}
 use Rattle.ladr_options.specs.declared.options.Options.{Options}
 use Rattle.ladr_problem.specs.Proper.{IsProper}
-use Rattle.ladr_formulas.specs.declared.styles.Mode.{Mode}
-use Rattle.ladr_formulas.specs.declared.styles.Mode.TheVariants.{Mace}
 use Rattle.ladr_words.specs.Tasks.{HasRanges, IsFrom}
 use Rattle.ladr_words.specs.declared.task.ModelOptions.{ModelOptions}
 use Rattle.ladr_words.specs.declared.task.Task.TheVariants.{Mace4}
@@ -44,12 +46,20 @@ with_last p text front last h e = (h.0, (last, h.1, e ∙ ap (λ (u : List ℕ).
 no_last : (p : Stated) (text : List ℕ) → Blocks p text → Shows p text
 no_last p text h = with_last p text text nothing h (sym (append-nil text))
 
+-- what was written of such a text
+written : (p : Stated) (a b : Outflow) (text front rest : List ℕ) → Shows p text → text ≡ front ++ rest → AreLastHeld a.held b.held front → ShowsModels p a b
+written p a b text front rest h e wrote =
+    let blocks = h.0 in
+    let last = h.1.0 in
+    let parts = sym h.1.2 ∙ e in
+    record { written = front; wrote = wrote; models = model_stands p blocks last h.1.1 front rest parts; exhausted = exhausted_stands p blocks last h.1.1 front rest parts }
+
 -- what the sink took
 whole : (p : Stated) (a b : Outflow) (text : List ℕ) → Shows p text → Takes a b text → ShowsModels p a b
-whole p a b text h took = record { blocks = h.0; last = h.1.0; good = h.1.1; front = text; rest = []; parts = sym h.1.2 ∙ sym (append-nil text); wrote = took.took }
+whole p a b text h took = written p a b text text [] h (sym (append-nil text)) took.took
 
 part : (p : Stated) (a b : Outflow) (text : List ℕ) → Shows p text → TakesFront a b text → ShowsModels p a b
-part p a b text h took = record { blocks = h.0; last = h.1.0; good = h.1.1; front = took.front; rest = took.rest; parts = sym h.1.2 ∙ took.parts; wrote = took.took }
+part p a b text h took = written p a b text took.front took.rest h took.parts took.took
 
 -- what a plan asks for
 at_most : (m d : ℕ) (o : Option ℕ) → d ≤ m → IfSome o (λ n. n ≤ m) → unwrap_or o d ≤ m
@@ -78,9 +88,9 @@ plan_bounded words p o h proper =
     given_more None h = tt
     given_more (Some n) h = omega (arith, h)
 
-module _ (laws : Laws) (once : OnePosed) (proper_law : Proper) (bytes : List ℕ) (x : Posed) (posed : poses Mace bytes x) where
+module _ (laws : Laws) (says : List ℕ → Posed → Type 0) (refuses : List ℕ → Refused → Type 0) (language : IsLanguage says refuses) (bytes : List ℕ) (x : Posed) (posed : says bytes x) where
   proper : IsProper x.stated x.options
-  proper = proper_law Mace bytes x posed
+  proper = language.proper bytes x posed
 
   comes : (s : Plan) (t : Times) (j : ℕ) (u : List ℕ) (end : SearchEnd) → IsBounded s → Comes x.stated s t end j u → Blocks x.stated u
   comes s t j u MaxModels bounded h = comes_shows laws x.stated x.options proper s t MaxModels j u bounded h.1
@@ -112,25 +122,30 @@ module _ (laws : Laws) (once : OnePosed) (proper_law : Proper) (bytes : List ℕ
     abbrev ends_of : Posed → SearchEnd → List ℕ → Type 0
     ends_of y = Sought y.stated (plan_of words y.options) t
 
-    stands : (u : List ℕ) → MayStand (poses Mace) (refusals.refuses Mace) (t.count ≡ 0) goes_of ends_of a b bytes u → Shows x.stated u
+    stands : (u : List ℕ) → MayStand says refuses (t.count ≡ 0) goes_of ends_of a b bytes u → Shows x.stated u
     stands u (inl h) = no_last x.stated u (no_blocks x.stated u h.0)
-    stands u (inr h) = seeks plan t u bounded (subst (λ (y : Posed). Seeks y.stated (plan_of words y.options) t u) (once Mace bytes h.1.0 x h.1.1 posed) h.1.2)
+    stands u (inr h) = seeks plan t u bounded (subst (λ (y : Posed). Seeks y.stated (plan_of words y.options) t u) (language.once bytes h.1.0 x h.1.1 posed) h.1.2)
 
-    ends_with : (e : End SearchEnd) (u : List ℕ) → EndsBy (poses Mace) (refusals.refuses Mace) (t.count ≡ 0) goes_of ends_of a b bytes e u → Shows x.stated u
-    ends_with (own e) u h = sought plan t e u bounded (subst (λ (y : Posed). Sought y.stated (plan_of words y.options) t e u) (once Mace bytes h.1.0 x h.1.1 posed) h.1.2)
-    ends_with (refused why) u h = with_last x.stated u [] (refuses why) (no_blocks x.stated [] refl) h.2
+    -- an input that poses something is refused for its length alone
+    refused_with : (why : Refused) → IsRefused refuses a b bytes why → (u : List ℕ) → u ≡ refusal_text why → Shows x.stated u
+    refused_with why (inl h) u e = absurd (language.unrefused bytes x why posed h.1)
+    refused_with why (inr h) u e = with_last x.stated u [] grows (no_blocks x.stated [] refl) (e ∙ ap refusal_text h.1)
+
+    ends_with : (e : End SearchEnd) (u : List ℕ) → EndsBy says refuses (t.count ≡ 0) goes_of ends_of a b bytes e u → Shows x.stated u
+    ends_with (own e) u h = sought plan t e u bounded (subst (λ (y : Posed). Sought y.stated (plan_of words y.options) t e u) (language.once bytes h.1.0 x h.1.1 posed) h.1.2)
+    ends_with (refused why) u h = refused_with why h.0 u h.2
     ends_with read_fault u h = with_last x.stated u [] fails (no_blocks x.stated [] refl) h.2
 
-    pub tells_shows : (c d : Outflow) (r : Result (End SearchEnd) Cut) → Tells (MayStand (poses Mace) (refusals.refuses Mace) (t.count ≡ 0) goes_of ends_of a b bytes) (EndsBy (poses Mace) (refusals.refuses Mace) (t.count ≡ 0) goes_of ends_of a b bytes) c d r → ShowsModels x.stated c d
+    pub tells_shows : (c d : Outflow) (r : Result (End SearchEnd) Cut) → Tells (MayStand says refuses (t.count ≡ 0) goes_of ends_of a b bytes) (EndsBy says refuses (t.count ≡ 0) goes_of ends_of a b bytes) c d r → ShowsModels x.stated c d
     tells_shows c d (Ok e) h = whole x.stated c d h.0 (ends_with e h.0 h.1) h.2
     tells_shows c d (Err WriteFault) (u, inl g, k) = part x.stated c d u (stands u g) k
     tells_shows c d (Err WriteFault) (u, inr g, k) = part x.stated c d u (ends_with g.0 u g.1) k
     tells_shows c d (Err Memory) h = whole x.stated c d h.0 (stands h.0 h.1) h.2
 
-pub searches_show : Laws → Posing → (words : ModelOptions) → HasRanges (Mace4 words) → (a b : Inflow) (c d : Outflow) (t : Times) (r : Result SearchEnd Stop) → Searches words a b c d t r → ShowsPosed words a b c d
-searches_show laws posing words ranges a b c d t r h = record {
+pub searches_show : Laws → (says : List ℕ → Posed → Type 0) (refuses : List ℕ → Refused → Type 0) → IsLanguage says refuses → (words : ModelOptions) → HasRanges (Mace4 words) → (a b : Inflow) (c d : Outflow) (t : Times) (r : Result SearchEnd Stop) → Searches says refuses words a b c d t r → ShowsPosed says words a b c d
+searches_show laws says refuses language words ranges a b c d t r h = record {
   bytes = h.bytes;
   taken = h.taken;
-  shows = λ x posed. tells_shows laws posing.once posing.proper h.bytes x posed words ranges a b t c d (end_of r) h.tells;
-  fronts = λ x posed read countable. tells_front posing h.bytes x posed words ranges a b read countable t c d (end_of r) h.tells;
+  shows = λ x posed. tells_shows laws says refuses language h.bytes x posed words ranges a b t c d (end_of r) h.tells;
+  fronts = λ x posed read countable. tells_front says refuses language h.bytes x posed words ranges a b read countable t c d (end_of r) h.tells;
 }

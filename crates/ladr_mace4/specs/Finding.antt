@@ -1,11 +1,11 @@
 -- How a run of `mace4` ends, and what it prints.
-use Rattle.std.specs.Prelude.{◌≡◌, ℕ, List, [], ◌++◌, Option, None, Some, ◌⊎◌}
+use Rattle.std.specs.Prelude.{◌≡◌, ℕ, List, [], ◌++◌, None, Some, ◌⊎◌}
 use Rattle.std.specs.declared.result.Result.{Result}
 use Rattle.clausify.specs.Input.{first_over}
 use Rattle.fol_core.specs.Stated.{Stated}
 use Rattle.ladr_intake.specs.Command.{Runs}
-use Rattle.ladr_intake.specs.Posed.{Posed, poses}
-use Rattle.ladr_intake.specs.Refusals.{refuses}
+use Rattle.ladr_intake.specs.Posed.{Posed}
+use Rattle.ladr_intake.specs.declared.stops.Refused.{Refused}
 use Rattle.ladr_intake.specs.declared.stops.Stop.{Stop}
 use Rattle.ladr_io.specs.Streams.{Inflow, Outflow}
 use Rattle.ladr_io.specs.Times.{Times}
@@ -13,9 +13,8 @@ use Rattle.ladr_mace4.specs.Lines.{end_text}
 use Rattle.ladr_mace4.specs.Plans.{plan_of}
 use Rattle.ladr_mace4.specs.Story.{SearchGoes, SearchComes}
 use Rattle.ladr_mace4.specs.declared.ends.SearchEnd.{SearchEnd}
-use Rattle.ladr_mace4.specs.declared.ends.SearchEnd.TheVariants.{MaxModels, Exhausted, AllModels, MaxMegs, MaxSeconds, GroundLimit, ClauseLimit}
+use Rattle.ladr_mace4.specs.declared.ends.SearchEnd.TheVariants.{ClauseLimit}
 use Rattle.ladr_mace4.specs.declared.plan.Plan.{Plan}
-use Rattle.ladr_formulas.specs.declared.styles.Mode.TheVariants.{Mace}
 use Rattle.ladr_words.specs.declared.task.ModelOptions.{ModelOptions}
 
 -- The search for models of what is stated comes to this end, so many models having been printed, with this text before its last lines:
@@ -36,7 +35,7 @@ Seeks p s t text =
     ⊎ (((first_over 1 p.formulas ≡ None) × SearchGoes p s t text)
     ⊎ ((end : SearchEnd) × ((printed : ℕ) × Comes p s t end printed text)))
 
--- So it is with a problem and its options, by the words. The clock gave nothing where there is no problem.
-abbrev pub Searches : ModelOptions → Inflow → Inflow → Outflow → Outflow → Times → Result SearchEnd Stop → Type 0
-Searches words from from' to to' t =
-    Runs (poses Mace) (refuses Mace) (t.count ≡ 0) (λ x. Seeks x.stated (plan_of words x.options) t) (λ x. Sought x.stated (plan_of words x.options) t) from from' to to'
+-- A run of `mace4` with these words, by what bytes say and which are refused. The clock gave nothing where there is no problem.
+abbrev pub Searches : (List ℕ → Posed → Type 0) → (List ℕ → Refused → Type 0) → ModelOptions → Inflow → Inflow → Outflow → Outflow → Times → Result SearchEnd Stop → Type 0
+Searches says refuses words from from' to to' t =
+    Runs says refuses (t.count ≡ 0) (λ x. Seeks x.stated (plan_of words x.options) t) (λ x. Sought x.stated (plan_of words x.options) t) from from' to to'

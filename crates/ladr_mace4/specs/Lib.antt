@@ -2,6 +2,7 @@ pub mod Finding
 pub mod Fronts
 pub mod Lines
 pub mod Plans
+pub mod Printed
 pub mod Rooms
 pub mod Shown
 pub mod Skolems

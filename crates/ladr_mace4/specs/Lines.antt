@@ -3,36 +3,36 @@ use Rattle.std.specs.Prelude.{ℕ, List, ◌++◌, codes}
 use Rattle.std.specs.Fmt.{decimal}
 use Rattle.ladr_mace4.specs.declared.ends.SearchEnd.{SearchEnd}
 use Rattle.ladr_mace4.specs.declared.ends.SearchEnd.TheVariants.{MaxModels, Exhausted, AllModels, MaxMegs, MaxSeconds, GroundLimit, ClauseLimit}
-use Rattle.ladr_output.specs.Telling.{line}
+use Rattle.ladr_output.specs.Telling.{as_line}
 
 -- a size begins; it is skipped; it is searched to its end
 abbrev pub size_line : ℕ → List ℕ
-size_line n = line (codes "% Domain size " ++ decimal n ++ codes ".")
+size_line n = as_line (codes "% Domain size " ++ decimal n ++ codes ".")
 
 abbrev pub skipped_line : ℕ → List ℕ
-skipped_line n = line (codes "% Domain size " ++ decimal n ++ codes " skipped.")
+skipped_line n = as_line (codes "% Domain size " ++ decimal n ++ codes " skipped.")
 
 abbrev pub exhausted_line : ℕ → List ℕ
-exhausted_line n = line (codes "% Domain size " ++ decimal n ++ codes " exhausted.")
+exhausted_line n = as_line (codes "% Domain size " ++ decimal n ++ codes " exhausted.")
 
 -- how many models were printed, and why the search ended
 abbrev pub models_line : ℕ → List ℕ
-models_line k = line (codes "% Models=" ++ decimal k ++ codes ".")
+models_line k = as_line (codes "% Models=" ++ decimal k ++ codes ".")
 
 abbrev pub exit_line : List ℕ → List ℕ
-exit_line reason = line (codes "% Exit " ++ reason ++ codes ".")
+exit_line reason = as_line (codes "% Exit " ++ reason ++ codes ".")
 
 -- the clock's first reading and its last
 abbrev pub seconds_line : ℕ → ℕ → List ℕ
-seconds_line first last = line (codes "% Exit max_seconds " ++ decimal first ++ codes " " ++ decimal last ++ codes ".")
+seconds_line first last = as_line (codes "% Exit max_seconds " ++ decimal first ++ codes " " ++ decimal last ++ codes ".")
 
 -- a size has too many cells by far
 abbrev pub ground_limit_line : ℕ → List ℕ
-ground_limit_line n = line (codes "ladr: ground limit at size " ++ decimal n)
+ground_limit_line n = as_line (codes "ladr: ground limit at size " ++ decimal n)
 
 -- a formula has too many clauses
 abbrev pub clause_limit_line : ℕ → List ℕ
-clause_limit_line formula = line (codes "ladr: clause limit at formula " ++ decimal formula)
+clause_limit_line formula = as_line (codes "ladr: clause limit at formula " ++ decimal formula)
 
 -- the lines that a search ends with, so many models having been printed
 abbrev pub last_lines : ℕ → List ℕ → List ℕ

@@ -1,5 +1,5 @@
 -- How many cells a search takes on.
-use Rattle.std.specs.Prelude.{ℕ, ◌*◌, ◌<◌, ◌≤◌, ◌≡◌, List, [], ◌∷◌}
+use Rattle.std.specs.Prelude.{ℕ, ◌+◌, ◌*◌, ◌<◌, ◌≤◌, ◌≡◌, List, [], ◌∷◌}
 use Rattle.fol_core.specs.Occurs.{size_needed}
 use Rattle.fol_core.specs.Stated.{Stated}
 use Rattle.ladr_mace4.specs.Skolems.{all_cells}
@@ -8,10 +8,11 @@ use Rattle.ladr_mace4.specs.declared.ends.SearchEnd.TheVariants.{MaxMegs, Ground
 use Rattle.ladr_mace4.specs.declared.plan.Plan.{Plan}
 use Rattle.model_tables.specs.Size.{formulas_of}
 use Rattle.model_tables.specs.Tables.{Finite}
+use Rattle.model_tables.specs.declared.limits.TheConstants.{MOST_CELLS}
 
 -- as many cells as are refused, and as end a search for want of room
 abbrev pub refused_cells : ℕ
-refused_cells = 50000001
+refused_cells = MOST_CELLS + 1
 
 abbrev pub most_cells : Plan → ℕ
 most_cells s = s.megs * 65536

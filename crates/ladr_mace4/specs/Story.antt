@@ -6,8 +6,8 @@ use Rattle.ladr_io.specs.Times.{Times}
 use Rattle.ladr_mace4.specs.Lines.{size_line, skipped_line, exhausted_line}
 use Rattle.ladr_mace4.specs.Plans.{size_behind}
 use Rattle.ladr_mace4.specs.Rooms.{HasRoomForCells, IsCrowded, HasRoomForModels, IsBegun}
-use Rattle.ladr_mace4.specs.Skolems.{all_symbols, all_witnesses, all_cells, AreExpansions, AreAllExpanded}
-use Rattle.ladr_mace4.specs.Watching.{stop_of, IsInTime, HasRead}
+use Rattle.ladr_mace4.specs.Skolems.{all_symbols, all_axioms, all_cells, AreExpansions, AreAllExpanded}
+use Rattle.ladr_mace4.specs.Watching.{time_to_stop, IsInTime, HasRead}
 use Rattle.ladr_mace4.specs.declared.ends.SearchEnd.{SearchEnd}
 use Rattle.ladr_mace4.specs.declared.ends.SearchEnd.TheVariants.{MaxModels, Exhausted, AllModels, MaxMegs, MaxSeconds, GroundLimit, ClauseLimit}
 use Rattle.ladr_mace4.specs.declared.ends.Step.{Step}
@@ -99,7 +99,7 @@ HaveEnded p s n (size ∷ sizes) = (n ≤ s.end) × HasEnded p s n size × HaveE
 abbrev pub IsAtSize : (List Finite → ℕ → Type 0) → Stated → Plan → ℕ → Now → Type 0
 IsAtSize How p s n between = Unit {0}
 IsAtSize How p s n opened = IsBegun p s n
-IsAtSize How p s n (inside ts tried) = IsBegun p s n × HasRoomForModels p s n ts tried × ((found : List Finite) × AreFirst p n 0 found × AreExpansions (all_witnesses p) found ts × How found tried)
+IsAtSize How p s n (inside ts tried) = IsBegun p s n × HasRoomForModels p s n ts tried × ((found : List Finite) × AreFirst p n 0 found × AreExpansions (all_axioms p) found ts × How found tried)
 
 -- the tables up to the last of these models were tried
 abbrev pub AreTried : List Finite → ℕ → Type 0
@@ -141,7 +141,7 @@ Stops p s t n j now AllModels = IsInTime s.seconds t × (now ≡ between) × (s.
 Stops p s t n j now Exhausted = IsInTime s.seconds t × (now ≡ between) × (s.end < n) × AllIsSearched j Exhausted
 Stops p s t n j now MaxMegs = IsInTime s.seconds t × (now ≡ inside [] 0) × IsCrowded s n (all_cells n p) MaxMegs
 Stops p s t n j now (GroundLimit size) = IsInTime s.seconds t × (now ≡ inside [] 0) × IsCrowded s n (all_cells n p) (GroundLimit size)
-Stops p s t n j now (MaxSeconds first last) = IsLate (stop_of s.seconds t) t last × (first ≡ t.first) × IsInside now × (j < s.wanted)
+Stops p s t n j now (MaxSeconds first last) = IsLate (time_to_stop s.seconds t) t last × (first ≡ t.first) × IsInside now × (j < s.wanted)
 Stops p s t n j now (ClauseLimit formula) = ⊥
 
 -- What is printed of size n, behind k models and r readings of the clock, while it goes on.

@@ -5,9 +5,9 @@ use Rattle.ladr_io.specs.Times.{Times, later}
 use Rattle.ladr_mace4.specs.declared.watch.Watch.{Watch}
 
 -- when to stop, by the clock's first reading
-abbrev pub stop_of : Option ℕ → Times → Option ℕ
-stop_of None t = None
-stop_of (Some s) t = Some (t.first + 1000 * s)
+abbrev pub time_to_stop : Option ℕ → Times → Option ℕ
+time_to_stop None t = None
+time_to_stop (Some s) t = Some (t.first + 1000 * s)
 
 -- each reading behind the first was before the time
 abbrev pub AreEarly : ℕ → Times → Type 0

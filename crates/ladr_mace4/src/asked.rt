@@ -2,7 +2,7 @@
 ghost use Rattle.std.specs.Prelude.{◌≡◌, ◌-◌, ◌^◌, ℕ, min, None, Some, Err, IfOk, OnOk};
 ghost use Rattle.clausify.specs.Input.{first_over};
 ghost use Rattle.fol_core.specs.Stated.{stated_of, IsWellFormed};
-ghost use Rattle.ladr_mace4.specs.Skolems.{all_symbols, all_witnesses, all_cells};
+ghost use Rattle.ladr_mace4.specs.Skolems.{all_symbols, all_axioms, all_cells};
 ghost use Rattle.model_tables.specs.Expansion.{IsExpansion};
 ghost use Rattle.model_tables.specs.ModelText.{model_text};
 ghost use Rattle.model_tables.specs.Tables.{Finite};
@@ -27,7 +27,7 @@ impl<'a> Model for Asked<'a> {
     ghost use Rattle.fol_core.specs.Stated.{Stated, stated_of};
     ghost use Rattle.fol_core.specs.StatedCodes.{coded_stated};
     ghost use Rattle.fol_core.specs.SkolemAxioms.{AreInOrder};
-    ghost use Rattle.ladr_mace4.specs.Skolems.{all_symbols, all_witnesses};
+    ghost use Rattle.ladr_mace4.specs.Skolems.{all_symbols, all_axioms};
 
     ghost Value = { Stated };
 
@@ -35,7 +35,7 @@ impl<'a> Model for Asked<'a> {
 
     ghost view = { λ a. stated_of a.problem.now };
 
-    ghost invariant = { λ a. record { symbols : a.symbols ≡ all_symbols (stated_of a.problem.now); witnesses : map skolem_axiom_of a.clauses.skolem.items ≡ all_witnesses (stated_of a.problem.now); order : AreInOrder (map skolem_axiom_of a.clauses.skolem.items) } };
+    ghost invariant = { λ a. record { symbols : a.symbols ≡ all_symbols (stated_of a.problem.now); witnesses : map skolem_axiom_of a.clauses.skolem.items ≡ all_axioms (stated_of a.problem.now); order : AreInOrder (map skolem_axiom_of a.clauses.skolem.items) } };
 }
 
 impl<'a> Asked<'a> {
@@ -67,7 +67,7 @@ impl<'a> Asked<'a> {
 
     /// The text of a model with the values of the Skolem symbols.
     pub fn text(&self, alloc: Global, tables: &Tables, k: u64) -> Result<Vec<u8>, AllocError>
-        ensures { IfOk result (λ v. (u : Finite) × IsExpansion tables.now (all_witnesses self.now) u
+        ensures { IfOk result (λ v. (u : Finite) × IsExpansion tables.now (all_axioms self.now) u
             × (v.items ≡ model_text (all_symbols self.now) k u)) }
     {
         let expanded = expand(alloc, tables, &self.clauses)?;

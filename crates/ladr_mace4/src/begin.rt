@@ -9,16 +9,15 @@ ghost use Rattle.ladr_output.specs.Telling.{IsPiece};
 
 use crate::asked::Asked;
 use crate::ends::SearchEnd;
-use crate::lines;
 use crate::plan::Plan;
+use crate::printing::{SearchItem, print_item};
 use crate::watch::Watch;
 use ladr_io::{Clock, Sink};
-use ladr_output::{Cut, piece};
+use ladr_output::Cut;
+use model_tables::MOST_CELLS;
 use std::alloc::Global;
 
-// As many cells as are refused, and as a meg has.
-const REFUSED_CELLS: u64 = 50_000_001;
-
+// As many cells as a meg has.
 const CELLS_OF_A_MEG: u64 = 65_536;
 
 /// Begins a size: its line, a look at the clock, and whether there is room for its cells; answers how the search ends, if it does.
@@ -47,7 +46,7 @@ pub fn begin<K: Sink, C: Clock>(
         Ok(cells) => cells,
         Err(_) => return Err(Cut::Memory),
     };
-    match piece(lines::size(alloc, u64::from(n)), sink) {
+    match print_item(alloc, asked, SearchItem::Begins(n), sink) {
         Ok(()) => {}
         Err(cut) => return Err(cut),
     }
@@ -62,7 +61,7 @@ pub fn begin<K: Sink, C: Clock>(
 fn crowded(plan: Plan, n: u32, cells: u64) -> Option<SearchEnd>
     ensures { MatchOption result (HasRoomForCells plan cells) (IsCrowded plan n cells) }
 {
-    if cells >= REFUSED_CELLS {
+    if cells > MOST_CELLS {
         let size = u64::from(n);
         return Some(SearchEnd::GroundLimit { size });
     }

@@ -38,6 +38,13 @@ impl SearchEnd {
     }
 }
 
+/// How a search ended, and how many models were printed by then.
+#[derive(Clone, Copy, Debug, PartialEq, Eq)]
+pub struct SearchOver {
+    pub end: SearchEnd,
+    pub printed: u64,
+}
+
 /// How a size went: it is over, or the search ended in it; with how many models are printed by then.
 #[derive(Clone, Copy, Debug, PartialEq, Eq)]
 pub enum Step {

@@ -1,5 +1,8 @@
 // What searches amount to, and searches worked out: the functions do nothing, and their contracts are the laws.
 ghost use Rattle.std.specs.Prelude.{◌≡◌, None, Some};
+ghost use Rattle.ladr_formulas.specs.declared.styles.Mode.TheVariants.{Mace};
+ghost use Rattle.ladr_intake.specs.Posed.{poses};
+ghost use Rattle.ladr_intake.specs.Refusals.{refuses};
 ghost use Rattle.ladr_mace4.specs.Plans.{plan_of};
 ghost use Rattle.ladr_mace4.specs.Shown.{SearchesShow};
 ghost use Rattle.ladr_mace4.specs.Skolems.{all_cells};
@@ -7,19 +10,19 @@ ghost use Rattle.ladr_mace4.specs.Story.{sizes_text, readings_in_all};
 ghost use Rattle.ladr_mace4.specs.Worked.{lonely, lonely_sizes, lonely_text, bare};
 ghost use Rattle.ladr_options.specs.Options.{start};
 
-use clausify::{skolems_stand_behind, witnesses_are_in_order};
-use ladr_intake::one_is_posed;
+use clausify::{axioms_are_in_order, skolems_stand_behind};
+use ladr_intake::files_are_a_language;
 use ladr_models::texts_read_back;
 
-/// Where a run printed models of what its input poses, they make each assumption true and each goal false, and read back as they are; where
-/// a size is exhausted, each of its models is printed, its elements renamed. So it is whatever became of the run; and all that it
-/// printed is a front of a whole output.
+/// Where the text of a model stands in the output of a run, it makes each assumption of the input true and each goal false, and reads back
+/// as it is; where the line of an exhausted size stands, each model of it stands before, its elements renamed. So it is whatever became
+/// of the run; and where the input was read whole, all that was printed is a front of a whole output.
 pub fn searches_show()
-    ensures { SearchesShow }
+    ensures { SearchesShow (poses Mace) (refuses Mace) }
 {
-    witnesses_are_in_order();
+    axioms_are_in_order();
     skolems_stand_behind();
-    one_is_posed();
+    files_are_a_language();
     texts_read_back();
 }
 

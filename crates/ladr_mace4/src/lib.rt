@@ -9,6 +9,7 @@ mod lines;
 mod models;
 mod one_size;
 mod plan;
+mod printing;
 mod search;
 mod sizes;
 mod watch;

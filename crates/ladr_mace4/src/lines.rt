@@ -7,13 +7,21 @@ use crate::ends::SearchEnd;
 use ladr_output::{number, text};
 use std::alloc::{AllocError, Global};
 
-/// A size begins.
-pub fn size(alloc: Global, n: u64) -> Result<Vec<u8>, AllocError>
-    ensures { IfOk result (λ v. v.items ≡ size_line n) }
+// The size that a line is about.
+fn domain(alloc: Global, n: u64) -> Result<Vec<u8>, AllocError>
+    ensures { IfOk result (λ v. v.items ≡ codes "% Domain size " ++ decimal n) }
 {
     let mut out = Vec::new(alloc);
     text(&mut out, b"% Domain size ")?;
     number(&mut out, n)?;
+    Ok(out)
+}
+
+/// A size begins.
+pub fn size(alloc: Global, n: u64) -> Result<Vec<u8>, AllocError>
+    ensures { IfOk result (λ v. v.items ≡ size_line n) }
+{
+    let mut out = domain(alloc, n)?;
     text(&mut out, b".\n")?;
     Ok(out)
 }
@@ -22,27 +30,16 @@ pub fn size(alloc: Global, n: u64) -> Result<Vec<u8>, AllocError>
 pub fn skipped(alloc: Global, n: u64) -> Result<Vec<u8>, AllocError>
     ensures { IfOk result (λ v. v.items ≡ skipped_line n) }
 {
-    let mut out = Vec::new(alloc);
-    text(&mut out, b"% Domain size ")?;
-    number(&mut out, n)?;
+    let mut out = domain(alloc, n)?;
     text(&mut out, b" skipped.\n")?;
     Ok(out)
-}
-
-// The size that a line is about.
-fn domain(out: &mut Vec<u8>, n: u64) -> Result<(), AllocError>
-    ensures { OnOk result (out.new.items ≡ out.old.items ++ (codes "% Domain size " ++ decimal n)) }
-{
-    text(out, b"% Domain size ")?;
-    number(out, n)
 }
 
 /// A size was searched to its end.
 pub fn exhausted(alloc: Global, n: u64) -> Result<Vec<u8>, AllocError>
     ensures { IfOk result (λ v. v.items ≡ exhausted_line n) }
 {
-    let mut out = Vec::new(alloc);
-    domain(&mut out, n)?;
+    let mut out = domain(alloc, n)?;
     text(&mut out, b" exhausted.\n")?;
     Ok(out)
 }

@@ -9,11 +9,11 @@ ghost use Rattle.ladr_output.specs.Telling.{IsPiece, Tells};
 
 use crate::asked::Asked;
 use crate::ends::{SearchEnd, Step};
-use crate::lines;
 use crate::plan::Plan;
+use crate::printing::{SearchItem, print_item};
 use crate::watch::Watch;
 use ladr_io::{Clock, Sink};
-use ladr_output::{Cut, piece};
+use ladr_output::Cut;
 use mace_search::{Answer, PlainSearch};
 use std::alloc::Global;
 
@@ -50,7 +50,7 @@ pub fn models<K: Sink, C: Clock>(
     let mut printed = k;
     while printed < plan.wanted {
         match search.next_model(clock) {
-            Answer::Exhausted => return exhausted(alloc, n, printed, sink),
+            Answer::Exhausted => return exhausted(alloc, asked, n, printed, sink),
             Answer::MaxSeconds(last) => {
                 let first = watch.first.unwrap_or(0);
                 return Ok(Step::Ends(SearchEnd::MaxSeconds { first, last }, printed));
@@ -58,7 +58,12 @@ pub fn models<K: Sink, C: Clock>(
             Answer::Model => {}
         }
         printed += 1;
-        match piece(asked.text(alloc, search.tables(), printed), sink) {
+        match print_item(
+            alloc,
+            asked,
+            SearchItem::Shows(search.tables(), printed),
+            sink,
+        ) {
             Ok(()) => {}
             Err(cut) => return Err(cut),
         }
@@ -67,12 +72,18 @@ pub fn models<K: Sink, C: Clock>(
 }
 
 // Prints that a size is exhausted, so many models being printed by then.
-fn exhausted<K: Sink>(alloc: Global, n: u32, printed: u64, sink: &mut K) -> Result<Step, Cut>
+fn exhausted<K: Sink>(
+    alloc: Global,
+    asked: &Asked,
+    n: u32,
+    printed: u64,
+    sink: &mut K,
+) -> Result<Step, Cut>
     requires { (K.outflow sink.old).over ≡ false }
     ensures piece { IsPiece (exhausted_line n) (K.outflow sink.old) (K.outflow sink.new) result }
     ensures step { IfOk result (λ step. step ≡ Step.Over printed) }
 {
-    match piece(lines::exhausted(alloc, u64::from(n)), sink) {
+    match print_item(alloc, asked, SearchItem::Exhausts(n), sink) {
         Ok(()) => Ok(Step::Over(printed)),
         Err(cut) => Err(cut),
     }

@@ -10,12 +10,12 @@ ghost use Rattle.model_tables.specs.Size.{formulas_of};
 use crate::asked::Asked;
 use crate::begin::begin;
 use crate::ends::Step;
-use crate::lines;
 use crate::models::models;
 use crate::plan::Plan;
+use crate::printing::{SearchItem, print_item};
 use crate::watch::Watch;
 use ladr_io::{Clock, Sink};
-use ladr_output::{Cut, piece};
+use ladr_output::Cut;
 use std::alloc::Global;
 
 /// Skips a size that lacks an element which the formulas name, or prints its models behind k others.
@@ -46,7 +46,7 @@ pub fn one_size<K: Sink, C: Clock>(
         → IsWatched watch.new (C.times clock.new) }
 {
     if u64::from(n) < needed {
-        return skipped(alloc, n, k, sink);
+        return skipped(alloc, asked, n, k, sink);
     }
     match begin(alloc, asked, plan, n, watch, sink, clock) {
         Ok(None) => models(alloc, asked, plan, n, k, *watch, sink, clock),
@@ -56,12 +56,18 @@ pub fn one_size<K: Sink, C: Clock>(
 }
 
 // Prints that a size is skipped, so many models being printed by then.
-fn skipped<K: Sink>(alloc: Global, n: u32, printed: u64, sink: &mut K) -> Result<Step, Cut>
+fn skipped<K: Sink>(
+    alloc: Global,
+    asked: &Asked,
+    n: u32,
+    printed: u64,
+    sink: &mut K,
+) -> Result<Step, Cut>
     requires { (K.outflow sink.old).over ≡ false }
     ensures piece { IsPiece (skipped_line n) (K.outflow sink.old) (K.outflow sink.new) result }
     ensures step { IfOk result (λ step. step ≡ Step.Over printed) }
 {
-    match piece(lines::skipped(alloc, u64::from(n)), sink) {
+    match print_item(alloc, asked, SearchItem::Skips(n), sink) {
         Ok(()) => Ok(Step::Over(printed)),
         Err(cut) => Err(cut),
     }

@@ -1,6 +1,9 @@
 // The models of what an input states.
 ghost use Rattle.std.specs.Prelude.{◌≡◌, ◌≤◌, false};
 ghost use Rattle.fol_core.specs.Stated.{stated_of, IsWellFormed};
+ghost use Rattle.ladr_formulas.specs.declared.styles.Mode.TheVariants.{Mace};
+ghost use Rattle.ladr_intake.specs.Posed.{poses};
+ghost use Rattle.ladr_intake.specs.Refusals.{refuses};
 ghost use Rattle.ladr_mace4.specs.Finding.{Comes, Sought, Seeks, Searches};
 ghost use Rattle.ladr_mace4.specs.Plans.{plan_of};
 ghost use Rattle.ladr_options.specs.Ranges.{AreInRange, IsSize};
@@ -8,27 +11,27 @@ ghost use Rattle.ladr_output.specs.Telling.{Tells};
 ghost use Rattle.ladr_words.specs.Tasks.{HasRanges};
 
 use crate::asked::Asked;
-use crate::ends::SearchEnd;
-use crate::lines;
+use crate::ends::{SearchEnd, SearchOver};
 use crate::plan::{Plan, search_plan};
+use crate::printing::print_end;
 use crate::sizes::search_sizes;
 use clausify::ClauseError;
 use fol_core::Problem;
 use ladr_formulas::Mode;
 use ladr_intake::{Stop, refuse, stop_by, take_in};
 use ladr_io::{Clock, Sink, Source};
-use ladr_output::{Cut, ending};
+use ladr_output::Cut;
 use ladr_words::{ModelOptions, Task};
 use std::alloc::Global;
 
-// Searches for models of a problem, and answers how that ends, and how many models are printed.
+// Searches for models of a problem, and answers how that ends.
 fn seek<K: Sink, C: Clock>(
     alloc: Global,
     problem: &Problem,
     plan: Plan,
     sink: &mut K,
     clock: &mut C,
-) -> Result<(SearchEnd, u64), Cut>
+) -> Result<SearchOver, Cut>
     requires well_formed { IsWellFormed (stated_of problem.now) }
     requires start { 1 ≤ plan.start }
     requires end { plan.end ≤ 200 }
@@ -37,12 +40,16 @@ fn seek<K: Sink, C: Clock>(
     requires unread { (C.times clock.old).count ≡ 0 }
     requires sink { (K.outflow sink.old).over ≡ false }
     ensures { Tells (Seeks (stated_of problem.now) plan (C.times clock.new))
-        (λ end text. Comes (stated_of problem.now) plan (C.times clock.new) end.0 end.1 text)
+        (λ over text. Comes (stated_of problem.now) plan (C.times clock.new) over.end over.printed
+        text)
         (K.outflow sink.old) (K.outflow sink.new) result }
 {
     match Asked::new(alloc, problem) {
         Ok(asked) => search_sizes(alloc, &asked, plan, sink, clock),
-        Err(ClauseError::ClauseLimit { formula }) => Ok((SearchEnd::ClauseLimit { formula }, 0)),
+        Err(ClauseError::ClauseLimit { formula }) => Ok(SearchOver {
+            end: SearchEnd::ClauseLimit { formula },
+            printed: 0,
+        }),
         Err(ClauseError::Memory) => Err(Cut::Memory),
     }
 }
@@ -66,7 +73,7 @@ fn find<K: Sink, C: Clock>(
 {
     let plan = search_plan(words, &problem.options);
     match seek(alloc, problem, plan, sink, clock) {
-        Ok(found) => ending(lines::ending(alloc, found.1, found.0), found.0, sink),
+        Ok(over) => print_end(alloc, over, sink),
         Err(cut) => Err(cut),
     }
 }
@@ -83,8 +90,8 @@ pub fn mace4<S: Source, K: Sink, C: Clock>(
     requires unread { (C.times clock.old).count ≡ 0 }
     requires source { (S.inflow source.old).over ≡ false }
     requires sink { (K.outflow sink.old).over ≡ false }
-    ensures { Searches words (S.inflow source.old) (S.inflow source.new) (K.outflow sink.old)
-        (K.outflow sink.new) (C.times clock.new) result }
+    ensures { Searches (poses Mace) (refuses Mace) words (S.inflow source.old) (S.inflow source.new)
+        (K.outflow sink.old) (K.outflow sink.new) (C.times clock.new) result }
 {
     match take_in(alloc, Mode::Mace, source) {
         Ok(read) => match find(alloc, &read.problem, words, sink, clock) {

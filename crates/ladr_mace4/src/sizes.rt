@@ -5,7 +5,7 @@ ghost use Rattle.ladr_options.specs.Ranges.{IsSize};
 ghost use Rattle.ladr_output.specs.Telling.{Tells};
 
 use crate::asked::Asked;
-use crate::ends::{SearchEnd, Step};
+use crate::ends::{SearchEnd, SearchOver, Step};
 use crate::one_size::one_size;
 use crate::plan::Plan;
 use crate::watch::Watch;
@@ -15,14 +15,14 @@ use model_tables::size_needed;
 use std::alloc::Global;
 
 /// Searches the sizes from the first to the last, step by step, for models, and prints how each one goes, till as many as are wanted are
-/// found; answers how the search ends, and how many models are printed.
+/// found; answers how the search ends.
 pub fn search_sizes<K: Sink, C: Clock>(
     alloc: Global,
     asked: &Asked,
     plan: Plan,
     sink: &mut K,
     clock: &mut C,
-) -> Result<(SearchEnd, u64), Cut>
+) -> Result<SearchOver, Cut>
     requires start { 1 ≤ plan.start }
     requires end { plan.end ≤ 200 }
     requires step { IsSize plan.step }
@@ -30,7 +30,7 @@ pub fn search_sizes<K: Sink, C: Clock>(
     requires unread { (C.times clock.old).count ≡ 0 }
     requires sink { (K.outflow sink.old).over ≡ false }
     ensures { Tells (SearchGoes asked.now plan (C.times clock.new))
-        (λ end text. SearchComes asked.now plan (C.times clock.new) end.0 end.1 text)
+        (λ over text. SearchComes asked.now plan (C.times clock.new) over.end over.printed text)
         (K.outflow sink.old) (K.outflow sink.new) result }
 {
     let needed = size_needed(asked.problem);
@@ -45,12 +45,15 @@ pub fn search_sizes<K: Sink, C: Clock>(
             alloc, asked, plan, needed, n, printed, &mut watch, sink, clock,
         ) {
             Ok(Step::Over(now)) => printed = now,
-            Ok(Step::Ends(end, now)) => return Ok((end, now)),
+            Ok(Step::Ends(end, printed)) => return Ok(SearchOver { end, printed }),
             Err(cut) => return Err(cut),
         }
         n += plan.step;
     }
-    Ok((all_searched(printed), printed))
+    Ok(SearchOver {
+        end: all_searched(printed),
+        printed,
+    })
 }
 
 // How a search ends that all sizes are behind.

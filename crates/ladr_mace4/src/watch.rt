@@ -1,7 +1,7 @@
 // The clock of a search.
 ghost use Rattle.std.specs.Prelude.{◌≡◌, ◌+◌, ◌*◌, MatchOption};
 ghost use Rattle.ladr_io.specs.Times.{Times};
-ghost use Rattle.ladr_mace4.specs.Watching.{stop_of, IsLookedAt, IsWatched, HasBegun};
+ghost use Rattle.ladr_mace4.specs.Watching.{time_to_stop, IsLookedAt, IsWatched, HasBegun};
 ghost use Rattle.mace_search.specs.Watch.{IsLate};
 
 use ladr_io::Clock;
@@ -21,7 +21,7 @@ impl Watch {
         ensures looks { IsLookedAt self.old.seconds (C.times clock.old) (C.times clock.new) }
         ensures begun { HasBegun self.new (C.times clock.new) }
         ensures late { MatchOption result (IsWatched self.new (C.times clock.new))
-            (λ last. IsLate (stop_of self.new.seconds (C.times clock.new))
+            (λ last. IsLate (time_to_stop self.new.seconds (C.times clock.new))
             (C.times clock.new) last) }
     {
         let Some(seconds) = self.seconds else {
@@ -41,7 +41,7 @@ impl Watch {
 
     /// When to stop.
     pub fn stop(&self) -> Option<u128>
-        ensures { (t : Times) → HasBegun self.now t → result ≡ stop_of self.now.seconds t }
+        ensures { (t : Times) → HasBegun self.now t → result ≡ time_to_stop self.now.seconds t }
     {
         match (self.seconds, self.first) {
             (Some(seconds), Some(first)) => Some(stop(first, seconds)),

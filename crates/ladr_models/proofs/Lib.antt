@@ -1,5 +1,7 @@
 pub mod Entries
 pub mod Parsing
 pub mod Reading
+pub mod Restating
+pub mod Settled
 pub mod Tabling
 pub mod Writing

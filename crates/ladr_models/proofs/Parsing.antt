@@ -19,9 +19,13 @@ use Rattle.ladr_models.proofs.Writing.{number_token, behind_value, value_tokens,
 use Rattle.model_tables.specs.Size.{AllBelow}
 
 -- values
+value_read : (text read : List ℕ) (onward : List ℕ → Form) (us : List Lexeme) → is_numeral text ≡ true
+    → outcome (values read onward) (symbol ordinary text ∷ us) ≡ outcome (token CommaOrCloseSquare (form.behind_number (read ++ number text ∷ []) onward)) us
+value_read text read onward us h = rw h refl
+
 value_said : (text : List ℕ) (x : ℕ) (read : List ℕ) (onward : List ℕ → Form) (us : List Lexeme) → is_numeral text ≡ true → number text ≡ x
     → outcome (values read onward) (symbol ordinary text ∷ us) ≡ outcome (token CommaOrCloseSquare (form.behind_number (read ++ x ∷ []) onward)) us
-value_said text x read onward us h e = rw h (ap (λ (v : ℕ). outcome (token CommaOrCloseSquare (form.behind_number (read ++ v ∷ []) onward)) us) e)
+value_said text x read onward us h e = value_read text read onward us h ∙ ap (λ (v : ℕ). outcome (token CommaOrCloseSquare (form.behind_number (read ++ v ∷ []) onward)) us) e
 
 decimal_said : (x : ℕ) (read : List ℕ) (onward : List ℕ → Form) (us : List Lexeme) → x < 1000000000
     → outcome (values read onward) (number_token x ∷ us) ≡ outcome (token CommaOrCloseSquare (form.behind_number (read ++ x ∷ []) onward)) us
@@ -83,11 +87,17 @@ list_said n (t ∷ ts) p = first t.head.kind t.head.name t.head.arity t.values p
     first Relation name arity xs s l = name_said n [] Relation (sort_of name) name arity xs (behind_entry ts end_tokens) s l
 
 -- all of it, where the numbers are numerals
+texts_read : (size made : List ℕ) (us : List Lexeme) → is_numeral size ≡ true → is_numeral made ≡ true
+    → outcome interpretation_item (symbol ordinary (codes "interpretation") ∷ open_paren ∷ symbol ordinary size ∷ comma ∷ open_square ∷ symbol ordinary (codes "number")
+    ∷ symbol special (codes "=") ∷ symbol ordinary made ∷ comma ∷ symbol ordinary (codes "seconds") ∷ symbol special (codes "=") ∷ symbol ordinary (codes "0") ∷ close_square ∷ comma ∷ us)
+    ≡ outcome (entry_list (number size)) us
+texts_read size made us h k = rw h (rw k refl)
+
 texts_said : (size made : List ℕ) (n : ℕ) (us : List Lexeme) → is_numeral size ≡ true → is_numeral made ≡ true → number size ≡ n
     → outcome interpretation_item (symbol ordinary (codes "interpretation") ∷ open_paren ∷ symbol ordinary size ∷ comma ∷ open_square ∷ symbol ordinary (codes "number")
     ∷ symbol special (codes "=") ∷ symbol ordinary made ∷ comma ∷ symbol ordinary (codes "seconds") ∷ symbol special (codes "=") ∷ symbol ordinary (codes "0") ∷ close_square ∷ comma ∷ us)
     ≡ outcome (entry_list n) us
-texts_said size made n us h k e = rw h (rw k (ap (λ (m : ℕ). outcome (entry_list m) us) e))
+texts_said size made n us h k e = texts_read size made us h k ∙ ap (λ (m : ℕ). outcome (entry_list m) us) e
 
 pub all_said : (n k : ℕ) (ts : List NamedTable) → n < 1000000000 → k < 2 ^ 64 → ArePlain ts → SaysCommand interpretation_item (all_tokens n k ts) (Interpretation (by_name n ts))
 all_said n k ts l m p =

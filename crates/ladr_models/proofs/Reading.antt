@@ -17,12 +17,12 @@ use Rattle.ladr_models.proofs.Writing.{all_tokens, whole_text, whole_written}
 use Rattle.ladr_models.specs.ReadsBack.{IsPrintable, SayTables, ReadsBack}
 use Rattle.ladr_print.proofs.Writes.{Has}
 use Rattle.ladr_reader.specs.Worked.{lexemes_in}
-use Rattle.model_tables.specs.ModelText.{lines_of, model_text}
+use Rattle.model_tables.specs.ModelText.{entry_lines, model_text}
 use Rattle.model_tables.specs.Tables.{Listing, Finite}
 
-text_is : (ss : List Symbol) (n k : ℕ) (t : Finite) → t.top + 1 ≡ n → model_text ss k t ≡ whole_text n k (lines_of (map table_text (named ss t.rows)))
+text_is : (ss : List Symbol) (n k : ℕ) (t : Finite) → t.top + 1 ≡ n → model_text ss k t ≡ whole_text n k (entry_lines (map table_text (named ss t.rows)))
 unfolding model_text
-text_is ss n k t e = ap₂ (λ (m : ℕ) (ls : List (List ℕ)). whole_text m k (lines_of ls)) e (texts_are ss t.rows)
+text_is ss n k t e = ap₂ (λ (m : ℕ) (ls : List (List ℕ)). whole_text m k (entry_lines ls)) e (texts_are ss t.rows)
 
 -- the tokens of the text say the tables
 tokens_say : (n k : ℕ) (ss : List Symbol) (t : Finite) (ts : List Lexeme) → IsPrintable n k ss t → ts ≡ all_tokens n k (named ss t.rows) → SayTables ts ss t

@@ -17,7 +17,7 @@ use Rattle.ladr_problem.specs.Names.{is_name}
 use Rattle.ladr_print.specs.Spacing.{runs_into}
 use Rattle.ladr_print.proofs.Longest.{longest_front}
 use Rattle.ladr_print.proofs.Writes.{Has, has_none, Alone, before_alone, behind_alone, open_alone, close_alone, comma_alone, stop_alone, space_alone, open_written, close_written, comma_written, stop_written, symbol_written, kind_of}
-use Rattle.model_tables.specs.ModelText.{numbers_behind, numbers_text, further_places, places_text, word_of, entry_text, lines_behind, lines_of}
+use Rattle.model_tables.specs.ModelText.{numbers_behind, numbers_text, further_places, places_text, word_of, entry_text, lines_behind, entry_lines}
 use Rattle.model_tables.specs.Size.{AllBelow}
 
 -- the tokens, in front of others: a number, values up to `]`, places up to `)`, an entry, and entries
@@ -234,7 +234,7 @@ more_lines (e ∷ es) r us p h =
     (indented ((table_text e ++ lines_behind (map table_text es)) ++ r) _
     (again _ _ _ (append_assoc (table_text e) (lines_behind (map table_text es)) r) (entry_written e (lines_behind (map table_text es) ++ r) (behind_entry es us) p.0 (more_lines es r us p.1 h))))
 
-pub lines_written : (es : List NamedTable) (r : List ℕ) (us : List Lexeme) → ArePlain es → Has r us → Has (lines_of (map table_text es) ++ r) (list_tokens es us)
+pub lines_written : (es : List NamedTable) (r : List ℕ) (us : List Lexeme) → ArePlain es → Has r us → Has (entry_lines (map table_text es) ++ r) (list_tokens es us)
 lines_written [] r us p h = h
 lines_written (e ∷ es) r us p h =
     indented ((table_text e ++ lines_behind (map table_text es)) ++ r) _
@@ -281,9 +281,9 @@ start_then : (r : List ℕ) (us : List Lexeme) → Has r us → Has (codes "inte
 unfolding is_ordinary
 start_then r us h = word_then (codes "interpretation") 40 r _ refl open_alone (opened r us h)
 
-pub whole_written : (n k : ℕ) (es : List NamedTable) → n < 2 ^ 64 → k < 2 ^ 64 → ArePlain es → Has (whole_text n k (lines_of (map table_text es))) (all_tokens n k es)
+pub whole_written : (n k : ℕ) (es : List NamedTable) → n < 2 ^ 64 → k < 2 ^ 64 → ArePlain es → Has (whole_text n k (entry_lines (map table_text es))) (all_tokens n k es)
 whole_written n k es ln lk p =
-    let lines = lines_of (map table_text es) in
+    let lines = entry_lines (map table_text es) in
     let behind : Has (codes ",seconds = 0], [" ++ (lines ++ codes "]).\n")) _ = seconds_then _ _ (lines_written es (codes "]).\n") end_tokens p ended) in
     let made = before_comma k (codes "seconds = 0], [" ++ (lines ++ codes "]).\n")) _ lk behind in
     let sized = before_comma n (codes " [number = " ++ (decimal k ++ (codes ",seconds = 0], [" ++ (lines ++ codes "]).\n")))) _ ln (number_then _ _ made) in

@@ -1,5 +1,5 @@
-// Laws of the texts of interpretations: the functions do nothing, and their contracts are the laws.
-ghost use Rattle.std.specs.Prelude.{◌≡◌, ℕ, List, IsTrue};
+// Laws of the texts of interpretations and formulas: the functions do nothing, and their contracts are the laws.
+ghost use Rattle.std.specs.Prelude.{◌≡◌, ℕ, List, [], ◌∷◌, IsTrue, codes};
 ghost use Rattle.fol_core.specs.SymbolTable.{Symbol};
 ghost use Rattle.ladr_commands.specs.ByName.{by_name};
 ghost use Rattle.ladr_commands.specs.Commands.{interpretation_item};
@@ -8,9 +8,16 @@ ghost use Rattle.ladr_commands.specs.declared.command.Command.TheVariants.{Inter
 ghost use Rattle.ladr_lex.specs.Cuts.{pieces_of, Cuts};
 ghost use Rattle.ladr_lex.specs.Lexeme.{lexemes_of};
 ghost use Rattle.ladr_lex.specs.declared.token.Token.{Token};
+ghost use Rattle.ladr_formulas.specs.declared.styles.Mode.{Mode};
+ghost use Rattle.ladr_lex.specs.Operators.{are_lawful};
+ghost use Rattle.ladr_models.specs.Printed.{formula_texts, StateThemselves};
 ghost use Rattle.ladr_models.specs.ReadsBack.{IsPrintable, ReadsBack, SayTables};
 ghost use Rattle.ladr_models.specs.Worked.{pair, pair_tables, pair_text, pair_tokens, pair_entries};
 ghost use Rattle.ladr_interpretations.specs.Good.{is_good, tables_for};
+ghost use Rattle.ladr_print.specs.StatesAs.{KeepsFixed};
+ghost use Rattle.ladr_problem.specs.File.{Says, problem};
+ghost use Rattle.ladr_problem.specs.Sofar.{Sofar};
+ghost use Rattle.ladr_problem.specs.Worked.{labelled_and_goal};
 ghost use Rattle.ladr_reader.specs.Worked.{lexemes_in};
 ghost use Rattle.model_tables.specs.ModelText.{model_text};
 ghost use Rattle.model_tables.specs.Tables.{Finite};
@@ -23,6 +30,18 @@ pub fn texts_read_back()
     ensures tokens { (n k : ℕ) (symbols : List Symbol) (t : Finite) (ts : List Token)
         → IsPrintable n k symbols t → Cuts 0 (model_text symbols k t) (pieces_of ts)
         → SayTables (lexemes_of ts) symbols t }
+{}
+
+/// What a file says of a formula is what its printed text says behind the symbols at the file's end, with its operators and its style
+/// there. These operators are such as the laws of printed texts ask.
+pub fn formulas_state_themselves()
+    ensures formulas { (m : Mode) (bytes : List ℕ) (s : Sofar) → Says m bytes (problem s)
+        → StateThemselves m s }
+    ensures operators { (m : Mode) (bytes : List ℕ) (s : Sofar) → Says m bytes (problem s)
+        → IsTrue (are_lawful s.settings.operators) × KeepsFixed s.settings.operators }
+    // p(a) # label(b), and q(x) with its variable.
+    ensures worked { formula_texts labelled_and_goal
+        ≡ codes "p(a) # label(b)" ∷ codes "q(x)" ∷ [] }
 {}
 
 /// Tables of two elements for a symbol in quotes, one without an entry, `-` and a relation: their text, its tokens, what these

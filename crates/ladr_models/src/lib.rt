@@ -1,6 +1,6 @@
-// What is printed of an interpretation reads back.
+// What is printed of an interpretation, and of a file's formulas, reads back.
 #![tactic(auto)]
 
 mod laws;
 
-pub use laws::{texts_read_back, worked};
+pub use laws::{formulas_state_themselves, texts_read_back, worked};

@@ -7,14 +7,22 @@ use Rattle.ladr_output.specs.declared.cut.Cut.{Cut}
 use Rattle.ladr_output.specs.declared.cut.Cut.TheVariants.{WriteFault, Memory}
 
 -- a line of text with its end
-abbrev pub line : List ℕ → List ℕ
-line text = text ++ 10 ∷ []
+abbrev pub as_line : List ℕ → List ℕ
+as_line text = text ++ 10 ∷ []
 
 -- a piece was printed whole; or a write of it failed; or memory was lacking, and none of it was printed
 abbrev pub IsPiece : {T : Type 0} → List ℕ → Outflow → Outflow → Result T Cut → Type 0
 IsPiece text old new (Ok _) = Takes old new text
 IsPiece text old new (Err WriteFault) = TakesFront old new text
 IsPiece text old new (Err Memory) = Takes old new []
+
+-- A piece tells what becomes of a run: one thing where it was printed, and another by what cut it off.
+abbrev pub result_of_piece : {S : Type 0} → S → (Cut → S) → Result (Unit {0}) Cut → S
+result_of_piece printed cut_off (Ok _) = printed
+result_of_piece printed cut_off (Err cut) = cut_off cut
+
+abbrev pub PieceTells : {S : Type 0} → S → (Cut → S) → List ℕ → Outflow → Outflow → S → Type 0
+PieceTells printed cut_off text old new s = (r : Result (Unit {0}) Cut) × IsPiece text old new r × (s ≡ result_of_piece printed cut_off r)
 
 -- The output of a run, by the texts that may stand while it goes on and those that it ends with: the sink took all of it; a front
 -- of a text of either kind, where a write failed; one that may stand while it goes on, where memory was lacking.

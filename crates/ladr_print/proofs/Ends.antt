@@ -13,9 +13,9 @@ use Rattle.fol_core.specs.Tree.{trees_of}
 use Rattle.fol_core.specs.TermView.{tree_of, tree_list}
 use Rattle.fol_core.specs.declared.term.Term.{Term}
 use Rattle.ladr_print.specs.TermText.{term_raw, terms_raw}
-use Rattle.ladr_print.specs.Spacing.{first_of, last_of, both_join, runs_into}
+use Rattle.ladr_print.specs.Spacing.{first_byte, last_of, both_join, runs_into}
 
-first_get : (xs : List ℕ) → first_of xs ≡ slice_get xs 0
+first_get : (xs : List ℕ) → first_byte xs ≡ slice_get xs 0
 first_get [] = refl
 first_get (x ∷ xs) = refl
 

@@ -1,10 +1,10 @@
 -- A formula that was read is printed with the names that it was read by.
-use Rattle.std.proofs.Common.{◌≡◌, ℕ, suc, ◌+◌, ◌^◌, ◌<◌, ◌≤◌, Bool, true, false, List, [], ◌∷◌, length, Option, Some, None, inl, inr, refl, sym, ap, ap₂, ◌∙◌, subst, arith}
+use Rattle.std.proofs.Common.{◌≡◌, ℕ, suc, ◌+◌, ◌^◌, ◌<◌, Bool, true, false, List, [], ◌∷◌, length, Option, Some, None, inl, inr, refl, sym, ap, ap₂, ◌∙◌, subst, arith}
 use Rattle.std.specs.Prelude.{◌==◌, ◌&&◌, unwrap_or, slice_get, nat_lt, codes}
 use Rattle.std.specs.Option.{option_map_or}
 use Rattle.std.specs.Str.{bytes_eq}
 use Rattle.std.specs.Fmt.{decimal}
-use Rattle.std.proofs.lemmas.Bool.{cases_Bool, and_parts, ne_eqb, cond_both, cond-true, cond-false}
+use Rattle.std.proofs.lemmas.Bool.{false≢true, cases_Bool, and_parts, ne_eqb, cond_both, cond-true, cond-false}
 use Rattle.std.proofs.lemmas.Bool.Decides.{nat_tests}
 use Rattle.std.proofs.lemmas.Option.{slice_get_within}
 use Rattle.std.proofs.lemmas.Slice.Eq.{bytes_eq-Decides}
@@ -22,7 +22,7 @@ use Rattle.fol_core.proofs.SymbolLemmas.{symbol_there, number_of_push}
 use Rattle.ladr_lex.specs.Numeral.{is_numeral, number}
 use Rattle.ladr_lex.specs.declared.misuse.Misuse.{Misuse}
 use Rattle.ladr_lex.specs.declared.misuse.Misuse.TheVariants.{VariableAsFormula, QuantifierInTerm, UnfitNumeral}
-use Rattle.ladr_formulas.specs.Formulas.{Variable, Reading, Made, Bound, meets, bound_number, free_number, is_variable, with_variable, variable_number, with_name, named_variable, with_symbol, symbol_number, arity_of, is_too_great, is_element, constant_as, constant, term_of, terms_of, relation_of, sentence_as, sentence, equation, bound_by, is_denial, connective_of, joined, by_connective, comparison, formula_in}
+use Rattle.ladr_formulas.specs.Formulas.{Variable, Reading, Made, Bound, meets, bound_number, free_number, is_variable, with_variable, variable_number, with_name, named_variable, with_symbol, symbol_number, arity_of, is_too_great, is_element, constant_as, constant, term_of, terms_of, relation_of, sentence_as, sentence, equation_read, bound_by, is_denial, connective_of, connective_read, by_connective, comparison, formula_in}
 use Rattle.ladr_formulas.specs.declared.connectives.Connective.{Connective}
 use Rattle.ladr_formulas.specs.declared.connectives.Connective.TheVariants.{And, Or, IfThen, ThenIf, IfAndOnlyIf}
 use Rattle.ladr_formulas.specs.declared.styles.Style.{Style}
@@ -31,6 +31,15 @@ use Rattle.ladr_print.specs.FormulaText.{two, denial, formula_raw}
 use Rattle.ladr_print.specs.TermText.{Naming, symbol_name, term_raw, terms_raw}
 use Rattle.ladr_lex.proofs.Numerals.{decimal_number}
 use Rattle.ladr_print.proofs.Rereading.{turned, by_one, by_two}
+
+-- a number that isn't above the greatest element
+last_false : (p q r : Bool) → (p && q && r) ≡ false → p ≡ true → q ≡ true → r ≡ false
+last_false true true r h a b = h
+last_false true false r h a b = absurd (false≢true b)
+last_false false q r h a b = absurd (false≢true a)
+
+below_both : (n : ℕ) → nat_lt 999999999 n ≡ false → n < 4294967295
+below_both n h = grind (arith, nat_tests)
 
 -- what is printed with: a table of symbols and names of variables in which all that was read is found
 module _ (T : List Symbol) (v : Naming) where
@@ -111,13 +120,13 @@ module _ (T : List Symbol) (v : Naming) where
         let other : (f.0 == equality) ≡ false = ne_eqb f.0 equality (λ e. omega (arith, within, fewer, e)) in
         ap (symbol_name T) number ∙ rw other called
 
-    bound_element : (st : Style) (name : List ℕ) → st.elements ≡ true → is_numeral name ≡ true → is_too_great st name ≡ false → number name ≤ 999999999
-    bound_element st name a b k = let m : nat_lt 999999999 (number name) ≡ false = rw (a, b) at k in grind (arith, nat_tests)
+    bound_element : (st : Style) (name : List ℕ) → st.elements ≡ true → is_numeral name ≡ true → is_too_great st name ≡ false → number name < 4294967295
+    bound_element st name a b k = below_both (number name) (last_false st.elements (is_numeral name) (nat_lt 999999999 (number name)) k a b)
 
     pub element_back : (st : Style) (name : List ℕ) → is_element st name ≡ true → is_too_great st name ≡ false → decimal (number name) ≡ name
     element_back st name y k =
         let parts = and_parts st.elements (is_numeral name) y in
-        decimal_number name parts.1 (bound_element st name parts.0 parts.1 k)
+        decimal_number name (bound_element st name parts.0 parts.1 k)
 
     -- a name without arguments
     none_back : (st : Style) (name : List ℕ) (s : Reading) → Reaches (constant_as st name None s).reading → term_raw T v (constant_as st name None s).tree ≡ named name no_raws
@@ -170,8 +179,8 @@ module _ (T : List Symbol) (v : Naming) where
         let after = with_symbol name (arity_of ts) Relation met in
         ap₂ named (symbol_back name (arity_of ts) Relation met (before after _ (grows_terms st scope after ts) r)) (terms_back st scope after ts c r)
 
-    equation_back : (st : Style) (scope : List Bound) (t u : RawTree) (s : Reading) → Scoped scope → Reaches (equation st scope t u s).reading →
-        formula_raw T v (equation st scope t u s).tree ≡ two (codes "=") t u
+    equation_back : (st : Style) (scope : List Bound) (t u : RawTree) (s : Reading) → Scoped scope → Reaches (equation_read st scope t u s).reading →
+        formula_raw T v (equation_read st scope t u s).tree ≡ two (codes "=") t u
     equation_back st scope t u s c r =
         let left = term_of st scope s t in
         ap₂ (two (codes "=")) (term_back st scope s t c (before left.reading _ (grows_term st scope left.reading u) r)) (term_back st scope left.reading u c r)
@@ -204,7 +213,7 @@ module _ (T : List Symbol) (v : Naming) where
         (λ j r. relation_back st scope name (more_raws t (more_raws u no_raws)) s c r))
 
     joined_back : (word : List ℕ) (join : Fol → Fol → Fol) (f g : Reading → Made Fol) (t u : RawTree) → ((a b : Fol) → formula_raw T v (join a b) ≡ two word (formula_raw T v a) (formula_raw T v b)) →
-        ((s : Reading) → Grows s (g s).reading) → ((s : Reading) → Backs (f s) t) → ((s : Reading) → Backs (g s) u) → (s : Reading) → Backs (joined join f g s) (two word t u)
+        ((s : Reading) → Grows s (g s).reading) → ((s : Reading) → Backs (f s) t) → ((s : Reading) → Backs (g s) u) → (s : Reading) → Backs (connective_read join f g s) (two word t u)
     joined_back word join f g t u w k x y s r = w (f s).tree (g (f s).reading).tree ∙ ap₂ (two word) (x s (before (f s).reading _ (k (f s).reading) r)) (y (f s).reading r)
 
     connective_back : (o : Option Connective) (f g c : Reading → Made Fol) (t u other : RawTree) → ((s : Reading) → Grows s (f s).reading) → ((s : Reading) → Grows s (g s).reading) →

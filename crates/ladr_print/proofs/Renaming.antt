@@ -18,7 +18,7 @@ use Rattle.fol_core.specs.declared.symbols.Kind.TheVariants.{Function, Relation}
 use Rattle.ladr_lex.specs.Numeral.{number}
 use Rattle.ladr_lex.specs.declared.misuse.Misuse.{Misuse}
 use Rattle.ladr_lex.specs.declared.misuse.Misuse.TheVariants.{TwoKinds, QuantifierInTerm, UnfitAttribute, UnfitNumeral}
-use Rattle.ladr_formulas.specs.Formulas.{Variable, Reading, Made, meets, free_number, is_variable, with_variable, variable_number, with_name, named_variable, with_symbol, symbol_number, arity_of, is_too_great, is_element, constant_as, constant, term_of, terms_of, relation_of, sentence_as, sentence, equation, under, is_denial, connective_of, joined, by_connective, comparison, formula_in}
+use Rattle.ladr_formulas.specs.Formulas.{Variable, Reading, Made, meets, free_number, is_variable, with_variable, variable_number, with_name, named_variable, with_symbol, symbol_number, arity_of, is_too_great, is_element, constant_as, constant, term_of, terms_of, relation_of, sentence_as, sentence, equation_read, under, is_denial, connective_of, connective_read, by_connective, comparison, formula_in}
 use Rattle.ladr_formulas.specs.declared.connectives.Connective.{Connective}
 use Rattle.ladr_formulas.specs.declared.connectives.Connective.TheVariants.{And, Or, IfThen, ThenIf, IfAndOnlyIf}
 use Rattle.ladr_formulas.specs.declared.styles.Style.{Style}
@@ -232,8 +232,8 @@ module _ (st : Style) where
         let after = with_symbol name (arity_of ts) Relation met in
         symbol_back T v fewer name (arity_of ts) Relation met (keeps_before after _ (grows_terms st [] after ts) k).0
 
-    equation_ren : (t u : RawTree) (s : Reading) → Keeps (equation st [] t u s).reading →
-        equation st [] (term_raw T canon (term_of st [] s t).tree) (term_raw T canon (term_of st [] (term_of st [] s t).reading u).tree) (ren s) ≡ made_again (equation st [] t u s)
+    equation_ren : (t u : RawTree) (s : Reading) → Keeps (equation_read st [] t u s).reading →
+        equation_read st [] (term_raw T canon (term_of st [] s t).tree) (term_raw T canon (term_of st [] (term_of st [] s t).reading u).tree) (ren s) ≡ made_again (equation_read st [] t u s)
     equation_ren t u s k =
         let left = term_of st [] s t in
         let right = term_of st [] left.reading u in
@@ -312,8 +312,8 @@ module _ (st : Style) where
         (sym (symbol_variables name (arity_of ts) Relation met ∙ meets_variables (is_element st name) UnfitNumeral s))
         ∙ terms_noted ts after k
 
-    equation_noted : (t u : RawTree) (s : Reading) → Keeps (equation st [] t u s).reading →
-        free.joined (so_far s) (free.joined (variables_of (term_of st [] s t).tree) (free.joined (variables_of (term_of st [] (term_of st [] s t).reading u).tree) [])) ≡ so_far (equation st [] t u s).reading
+    equation_noted : (t u : RawTree) (s : Reading) → Keeps (equation_read st [] t u s).reading →
+        free.joined (so_far s) (free.joined (variables_of (term_of st [] s t).tree) (free.joined (variables_of (term_of st [] (term_of st [] s t).reading u).tree) [])) ≡ so_far (equation_read st [] t u s).reading
     equation_noted t u s k =
         let left = term_of st [] s t in
         let right = term_of st [] left.reading u in
@@ -500,7 +500,7 @@ module _ (st : Style) where
               ∙ ap (λ (xs : List ℕ). free.joined xs (clause_variables (p.second ∷ p.others))) one.1 ∙ other.1 ∙ ap (λ (m : Made Fol). so_far m.reading) (sym d),
         )
       where
-        whole : (z : Reading) → formula_in st [] z (two name t u) ≡ joined disjunction (λ r. formula_in st [] r t) (λ r. formula_in st [] r u) z
+        whole : (z : Reading) → formula_in st [] z (two name t u) ≡ connective_read disjunction (λ r. formula_in st [] r t) (λ r. formula_in st [] r u) z
         whole z = ap (λ (p : Option Connective). by_connective p (λ r. formula_in st [] r t) (λ r. formula_in st [] r u) (comparison st [] name t u) z) o
     two_ren (Some And) name t u s c o f g h k = absurd (let e = ap (λ (p : Option Connective). literals_in (by_connective p (λ r. formula_in st [] r t) (λ r. formula_in st [] r u) (comparison st [] name t u) s).tree) o in let n : None ≡ Some c = sym e ∙ h in cc)
     two_ren (Some IfThen) name t u s c o f g h k = absurd (let e = ap (λ (p : Option Connective). literals_in (by_connective p (λ r. formula_in st [] r t) (λ r. formula_in st [] r u) (comparison st [] name t u) s).tree) o in let n : None ≡ Some c = sym e ∙ h in cc)

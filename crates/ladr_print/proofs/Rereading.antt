@@ -6,7 +6,7 @@ use Rattle.std.proofs.lemmas.Bool.{cases_Bool}
 use Rattle.std.proofs.lemmas.Slice.Eq.{bytes_eq-Decides}
 use Rattle.fol_core.specs.Fol.{Fol, negation, conjunction, disjunction, implication, equivalence}
 use Rattle.fol_core.specs.RawTree.{RawTree, named, quantified, no_raws, more_raws}
-use Rattle.ladr_formulas.specs.Formulas.{Bound, Reading, Made, is_denial, connective_of, joined, under, bound_by, with_variable, by_connective, comparison, formula_in}
+use Rattle.ladr_formulas.specs.Formulas.{Bound, Reading, Made, is_denial, connective_of, connective_read, under, bound_by, with_variable, by_connective, comparison, formula_in}
 use Rattle.ladr_formulas.specs.declared.connectives.Connective.{Connective}
 use Rattle.ladr_formulas.specs.declared.connectives.Connective.TheVariants.{And, Or, IfThen, ThenIf, IfAndOnlyIf}
 use Rattle.ladr_formulas.specs.declared.styles.Style.{Style}
@@ -54,7 +54,7 @@ module _ (st : Style) where
   both_read :
       (join : Fol → Fol → Fol) (scope : List Bound) (s : Reading) (t u t' u' : RawTree) → ((c : List Bound) (r : Reading) → formula_in st c r t' ≡ formula_in st c r t) →
       ((c : List Bound) (r : Reading) → formula_in st c r u' ≡ formula_in st c r u) →
-      joined join (λ r. formula_in st scope r t') (λ r. formula_in st scope r u') s ≡ joined join (λ r. formula_in st scope r t) (λ r. formula_in st scope r u) s
+      connective_read join (λ r. formula_in st scope r t') (λ r. formula_in st scope r u') s ≡ connective_read join (λ r. formula_in st scope r t) (λ r. formula_in st scope r u) s
   both_read join scope s t u t' u' h k =
       ap (λ (m : Made Fol). under (join m.tree) (formula_in st scope m.reading u')) (h scope s)
       ∙ ap (under (join (formula_in st scope s t).tree)) (k scope (formula_in st scope s t).reading)

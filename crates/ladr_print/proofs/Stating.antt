@@ -14,7 +14,7 @@ use Rattle.ladr_lex.specs.Operators.{OperatorRow, operator_of, are_lawful, is_fi
 use Rattle.ladr_lex.specs.declared.operators.Operator.{Operator}
 use Rattle.ladr_lex.specs.declared.operators.OperatorKind.TheVariants.{Infix, InfixRight, Prefix}
 use Rattle.ladr_lex.specs.declared.misuse.Misuse.{Misuse}
-use Rattle.ladr_formulas.specs.Formulas.{Variable, Reading, Made, unread, names_of, is_sound, is_denial, connective_of, formula_reading, IsReadAs}
+use Rattle.ladr_formulas.specs.Formulas.{Variable, Reading, Made, unread, names_of, is_faultless, is_denial, connective_of, formula_reading, IsReadAs}
 use Rattle.ladr_reader.specs.Table.{table_of}
 use Rattle.ladr_formulas.specs.declared.connectives.Connective.{Connective}
 use Rattle.ladr_formulas.specs.declared.connectives.Connective.TheVariants.{And, Or, IfThen, ThenIf, IfAndOnlyIf}
@@ -108,7 +108,7 @@ pub record Sound (s : Reading) : Type 0 where
   pub least : s.least ≡ None
   pub fewer : length s.symbols ≤ 65535
 
-pub sound_parts : (s : Reading) → is_sound s ≡ true → Sound s
+pub sound_parts : (s : Reading) → is_faultless s ≡ true → Sound s
 sound_parts s h =
     let first = and_parts (is_none s.least && not s.large) (nat_le (length s.symbols) 65535) h in
     let fewer = first.1 in

@@ -10,7 +10,7 @@ use Rattle.ladr_lex.specs.Lexeme.{Sort, ordinary, quoted, special, Lexeme, lexem
 use Rattle.ladr_lex.specs.declared.token.TokenKind.{TokenKind}
 use Rattle.ladr_lex.specs.declared.token.TokenKind.TheVariants.{Open, Close, Comma, Stop, Ordinary, Quoted, Special}
 use Rattle.ladr_reader.specs.Worked.{lexemes_in}
-use Rattle.ladr_print.specs.Spacing.{is_wordly, first_of, last_of, both_join, runs_into, beside}
+use Rattle.ladr_print.specs.Spacing.{is_wordly, first_byte, last_of, both_join, runs_into, beside}
 use Rattle.ladr_print.proofs.Longest.{longest_front, ordinary_longest, quoted_longest, special_longest}
 
 -- from any place on the bytes are cut into these tokens
@@ -64,7 +64,7 @@ pub before_alone : (a : List ℕ) (c : ℕ) (r : List ℕ) → Alone c → runs_
 before_alone a c r l = apart_left (last_of a) c l.special l.wordly
 
 pub behind_alone : (c : ℕ) (r : List ℕ) → Alone c → runs_into (c ∷ []) r ≡ false
-behind_alone c r l = apart_right c (first_of r) l.special l.wordly
+behind_alone c r l = apart_right c (first_byte r) l.special l.wordly
 
 pub open_alone : Alone 40
 unfolding is_special is_ordinary
@@ -93,7 +93,7 @@ last_behind (x ∷ []) c cs = refl
 last_behind (x ∷ y ∷ ys) c cs = last_behind (y ∷ ys) c cs
 
 pub behind_last : (a : List ℕ) (c : ℕ) (r : List ℕ) → Alone c → runs_into (a ++ c ∷ []) r ≡ false
-behind_last a c r l = ap (λ (o : Option ℕ). both_join o (first_of r)) (last_behind a c []) ∙ behind_alone c r l
+behind_last a c r l = ap (λ (o : Option ℕ). both_join o (first_byte r)) (last_behind a c []) ∙ behind_alone c r l
 
 -- a text behind another
 pub follow : (a b : List ℕ) (us vs : List Lexeme) → Writes a us → Writes b vs → runs_into a b ≡ false → Writes (a ++ b) (us ++ vs)
@@ -106,8 +106,8 @@ follow a b us vs v w n =
           let end : last_of (a ++ b) ≡ last_of b =
           ap (λ (l : List ℕ). last_of (a ++ l)) w.some ∙ last_behind a w.first w.others ∙ sym (ap last_of w.some)
           in
-          let front : first_of (b ++ r) ≡ first_of b = ap (λ (l : List ℕ). first_of (l ++ r)) w.some ∙ sym (ap first_of w.some) in
-          let back : runs_into b r ≡ false = sym (ap (λ (o : Option ℕ). both_join o (first_of r)) end) ∙ m in
+          let front : first_byte (b ++ r) ≡ first_byte b = ap (λ (l : List ℕ). first_byte (l ++ r)) w.some ∙ sym (ap first_byte w.some) in
+          let back : runs_into b r ≡ false = sym (ap (λ (o : Option ℕ). both_join o (first_byte r)) end) ∙ m in
           let joint : runs_into a (b ++ r) ≡ false = ap (both_join (last_of a)) front ∙ n in
           let all = v.has (b ++ r) (vs ++ ws) joint (w.has r ws back h) in
           subst (λ (l : List ℕ). Has l ((us ++ vs) ++ ws)) (sym (append_assoc a b r))

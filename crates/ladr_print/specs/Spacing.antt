@@ -10,9 +10,9 @@ is_wordly b = is_ordinary b || is_quote b
 abbrev pub joins : ℕ → ℕ → Bool
 joins a b = (is_special a && is_special b) || (is_wordly a && is_wordly b)
 
-abbrev pub first_of : List ℕ → Option ℕ
-first_of [] = None
-first_of (b ∷ bs) = Some b
+abbrev pub first_byte : List ℕ → Option ℕ
+first_byte [] = None
+first_byte (b ∷ bs) = Some b
 
 abbrev pub last_of : List ℕ → Option ℕ
 last_of [] = None
@@ -26,7 +26,7 @@ both_join (Some a) (Some b) = joins a b
 
 -- whether a text would run into the one behind it
 abbrev pub runs_into : List ℕ → List ℕ → Bool
-runs_into left right = both_join (last_of left) (first_of right)
+runs_into left right = both_join (last_of left) (first_byte right)
 
 -- a text with another behind it, and a space between them where they would run together
 abbrev pub beside : List ℕ → List ℕ → List ℕ

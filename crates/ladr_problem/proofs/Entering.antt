@@ -16,7 +16,7 @@ use Rattle.ladr_lex.specs.declared.misuse.Misuse.{Misuse}
 use Rattle.ladr_lex.specs.declared.misuse.Misuse.TheVariants.{QuantifierInTerm, UnfitNumeral}
 use Rattle.ladr_problem.proofs.Named.{IsNamed, AreNamed}
 use Rattle.ladr_problem.specs.Names.{is_name, AreTellable}
-use Rattle.ladr_formulas.specs.Formulas.{Reading, Bound, Made, meets, with_variable, with_name, with_symbol, symbol_number, is_variable, variable_number, is_too_great, is_element, named_variable, constant_as, arity_of, term_of, terms_of, relation_of, sentence_as, equation, under, is_denial, connective_of, by_connective, comparison, formula_in}
+use Rattle.ladr_formulas.specs.Formulas.{Reading, Bound, Made, meets, with_variable, with_name, with_symbol, symbol_number, is_variable, variable_number, is_too_great, is_element, named_variable, constant_as, arity_of, term_of, terms_of, relation_of, sentence_as, equation_read, under, is_denial, connective_of, by_connective, comparison, formula_in}
 use Rattle.ladr_formulas.specs.declared.styles.Style.{Style}
 use Rattle.ladr_formulas.specs.declared.connectives.Connective.{Connective}
 use Rattle.ladr_formulas.specs.declared.connectives.Connective.TheVariants.{And, Or, IfThen, ThenIf, IfAndOnlyIf}
@@ -103,13 +103,13 @@ sentence_tells st scope name None s h told = by (bytes_eq name (codes "$T")) (by
     by false true = told
     by false false = relation_tells st scope name no_raws s h tt told
 
-equation_tells : (st : Style) (scope : List Bound) (t u : RawTree) (s : Reading) → IsNamed t → IsNamed u → Tells s → Tells (equation st scope t u s).reading
+equation_tells : (st : Style) (scope : List Bound) (t u : RawTree) (s : Reading) → IsNamed t → IsNamed u → Tells s → Tells (equation_read st scope t u s).reading
 equation_tells st scope t u s h k told = term_tells st scope (term_of st scope s t).reading u k (term_tells st scope s t h told)
 
 comparison_tells : (st : Style) (scope : List Bound) (name : List ℕ) (t u : RawTree) (s : Reading) → is_name name ≡ true → IsNamed t → IsNamed u → Tells s → Tells (comparison st scope name t u s).reading
 comparison_tells st scope name t u s n h k told = by (bytes_eq name (codes "=")) (bytes_eq name (codes "!="))
   where
-    by : (a b : Bool) → TellsWith Fol (if a then equation st scope t u s else (if b then under negation (equation st scope t u s) else relation_of st scope name (more_raws t (more_raws u no_raws)) s))
+    by : (a b : Bool) → TellsWith Fol (if a then equation_read st scope t u s else (if b then under negation (equation_read st scope t u s) else relation_of st scope name (more_raws t (more_raws u no_raws)) s))
     by true b = equation_tells st scope t u s h k told
     by false true = equation_tells st scope t u s h k told
     by false false = relation_tells st scope name (more_raws t (more_raws u no_raws)) s n (h, (k, tt)) told

@@ -27,8 +27,8 @@ abbrev pub labelled_and_goal : Sofar
 labelled_and_goal = record lists_read {
   symbols = symbol (codes "p") 1 Relation ∷ symbol (codes "a") 0 Function ∷ symbol (codes "q") 1 Relation ∷ [];
   formulas =
-      (Assumption, record (plain 23 (relation 0 (app 1 none))) { label = Some (unary "label" (constant "b")) })
-      ∷ (Goal, record (plain 70 (relation 2 (var 0))) { names = codes "x" ∷ [] })
+      (Assumption, record (plain 15 (relation 0 (app 1 none))) { label = Some (unary "label" (constant "b")) })
+      ∷ (Goal, record (plain 62 (relation 2 (var 0))) { names = codes "x" ∷ [] })
       ∷ [];
 }
 

@@ -5,7 +5,7 @@ ghost use Rattle.ladr_lex.specs.Lexed.{lexed};
 ghost use Rattle.ladr_lex.specs.Lexeme.{Lexeme, lexemes_of};
 ghost use Rattle.ladr_lex.specs.declared.token.Token.{Token};
 ghost use Rattle.ladr_reader.specs.Table.{OperatorTable};
-ghost use Rattle.ladr_reader.specs.Worked.{line, constant, unary, standard};
+ghost use Rattle.ladr_reader.specs.Worked.{lexemes_of_text, constant, unary, standard};
 ghost use Rattle.ladr_reader.specs.declared.fault.TermFault.TheVariants.{Bad};
 ghost use Rattle.ladr_problem.specs.Items.{items_of, lexemes};
 ghost use Rattle.ladr_problem.specs.ListItem.{ListItem, closing, term, IsListItem, IsItemFault};
@@ -29,16 +29,16 @@ pub fn worked_cuts()
 
 /// Items of lists. `end_of_list.` ends a list also where `end_of_list` is an operator.
 pub fn worked_items()
-    ensures end { IsListItem standard (line "end_of_list.") closing }
-    ensures term { IsListItem standard (line "p(a).") (term (unary "p" (constant "a"))) }
-    ensures operator { IsListItem with_prefix (line "end_of_list.") closing }
-    ensures argument { IsListItem with_prefix (line "end_of_list a.")
+    ensures end { IsListItem standard (lexemes_of_text "end_of_list.") closing }
+    ensures term { IsListItem standard (lexemes_of_text "p(a).") (term (unary "p" (constant "a"))) }
+    ensures operator { IsListItem with_prefix (lexemes_of_text "end_of_list.") closing }
+    ensures argument { IsListItem with_prefix (lexemes_of_text "end_of_list a.")
         (term (unary "end_of_list" (constant "a"))) }
 {}
 
 /// Tokens that are no item of a list, each with its first bad one.
 pub fn worked_item_faults()
-    ensures cut_off { IsItemFault standard (line "end_of_list") (Bad 1) }
-    ensures operator { IsItemFault with_prefix (line "end_of_list. a.") (Bad 2) }
-    ensures further { IsItemFault standard (line "end_of_list a.") (Bad 1) }
+    ensures cut_off { IsItemFault standard (lexemes_of_text "end_of_list") (Bad 1) }
+    ensures operator { IsItemFault with_prefix (lexemes_of_text "end_of_list. a.") (Bad 2) }
+    ensures further { IsItemFault standard (lexemes_of_text "end_of_list a.") (Bad 1) }
 {}

@@ -36,13 +36,16 @@ pub fn worked()
 /// Files with formulas, worked out. What is refused has the first byte of its item as place, or that of its first bad token.
 pub fn worked_formulas()
     // The symbols are numbered as they come, and the label is kept.
-    ensures listed { Says Prover (codes "formulas(assumptions).\np(a) # label(b).\nend_of_list.\nformulas(goals).\nq(x).\nend_of_list.\n") (problem labelled_and_goal) }
+    ensures listed { Says Prover (codes
+        "formulas(sos).\np(a) # label(b).\nend_of_list.\nformulas(goals).\nq(x).\nend_of_list.\n")
+        (problem labelled_and_goal) }
     // f stands for a relation, and then for a function.
     ensures clash { Says Prover (codes "formulas(sos).\nf(a).\nf(a) = b.\nend_of_list.\n")
         (misused 21 TwoKinds) }
     // A formula for another program enters no symbol.
     ensures for_another { Says Prover (codes
-        "if(Mace4).\nformulas(sos).\nf(a).\nend_of_list.\nend_if.\nformulas(sos).\nf(a) = b.\nend_of_list.\n") (problem one_equation) }
+        "if(Mace4). formulas(sos). f(a). end_of_list. end_if. formulas(sos). f(a)=b. end_of_list.")
+        (problem one_equation) }
     // p & q is no clause, and x = f(x) no demodulator.
     ensures hint { Says Prover (codes "formulas(hints).\np | -q.\np & q.\nend_of_list.\n")
         (misused 25 UnfitHint) }
@@ -55,7 +58,9 @@ pub fn worked_formulas()
     ensures weighed_twice { Says Prover (codes "list(kbo_weights).\nf = 2.\nf = 3.\nend_of_list.\n")
         (misused 26 UnfitRule) }
     // The interpretation lacks p.
-    ensures lacking { Says Tester (codes "interpretation(2,[],[]).\nformulas(sos).\np.\nend_of_list.\n") (misused 40 Uncovered) }
+    ensures lacking { Says Tester (codes
+        "interpretation(2,[],[]).\nformulas(sos).\np.\nend_of_list.\n")
+        (misused 40 Uncovered) }
     // q can't stand behind p(a).
     ensures not_read { Says Mace (codes "formulas(sos).\np(a) q.\nend_of_list.\n") (unreadable 20) }
 {}

@@ -17,8 +17,8 @@ lexemes_in [] = []
 lexemes_in (p ∷ ps) = lexeme p.kind p.text ∷ lexemes_in ps
 
 -- the tokens of a text
-abbrev pub line : String → List Lexeme
-line text = lexemes_in (lexed (codes text))
+abbrev pub lexemes_of_text : String → List Lexeme
+lexemes_of_text text = lexemes_in (lexed (codes text))
 
 -- a name with arguments, with none, with one, with two; a quantifier with its variable and body
 abbrev pub term : String → List RawTree → RawTree
@@ -38,7 +38,7 @@ binder word x body = quantified word (codes x) body
 
 -- these are no item, and this token is the first bad one
 abbrev pub IsBadAt : OperatorTable → String → ℕ → Type 0
-IsBadAt g text k = IsTermFault g (line text) (Bad k)
+IsBadAt g text k = IsTermFault g (lexemes_of_text text) (Bad k)
 
 -- the operators at the start
 abbrev pub standard : OperatorTable

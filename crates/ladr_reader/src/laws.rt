@@ -9,14 +9,14 @@ ghost use Rattle.ladr_lex.specs.Operators.{OperatorRow, are_lawful};
 ghost use Rattle.ladr_reader.specs.Capped.{disjuncts};
 ghost use Rattle.ladr_reader.specs.Reads.{Reads, Item};
 ghost use Rattle.ladr_reader.specs.Table.{OperatorTable, table_of};
-ghost use Rattle.ladr_reader.specs.Worked.{line, constant, unary, binary, binder, IsBadAt, standard, with_declared};
+ghost use Rattle.ladr_reader.specs.Worked.{lexemes_of_text, constant, unary, binary, binder, IsBadAt, standard, with_declared};
 
 /// Tokens are at most one term, of one precedence, and an item has one tree.
 pub fn one_reading()
     ensures terms { (g : OperatorTable) (ts : List Lexeme) (t u : RawTree) (p q : ℕ) →
         Reads g ts t p → Reads g ts u q → (t ≡ u) × (p ≡ q) }
-    ensures items { (g : OperatorTable) (ts : List Lexeme) (t u : RawTree) → Item g ts t → Item g ts u
-        → t ≡ u }
+    ensures items { (g : OperatorTable) (ts : List Lexeme) (t u : RawTree) → Item g ts t
+        → Item g ts u → t ≡ u }
 {}
 
 /// What a quoted symbol is whatever is declared: no operator, no word of a quantifier, no variable of one, and no numeral.
@@ -41,38 +41,38 @@ pub fn worked_disjuncts()
 
 /// Items with the operators at the start.
 pub fn worked_terms()
-    ensures quantified { Item standard (line "all x p(x,f(y)) = a.")
+    ensures quantified { Item standard (lexemes_of_text "all x p(x,f(y)) = a.")
         (binder All "x" (binary "=" (binary "p" (constant "x") (unary "f" (constant "y")))
         (constant "a"))) }
-    ensures in_parentheses { Item standard (line "(exists x p(x)).")
+    ensures in_parentheses { Item standard (lexemes_of_text "(exists x p(x)).")
         (binder Exists "x" (unary "p" (constant "x"))) }
-    ensures head { Item standard (line "=(a,b).") (binary "=" (constant "a") (constant "b")) }
-    ensures argument { Item standard (line "p(=,\"=\").")
+    ensures head { Item standard (lexemes_of_text "=(a,b).") (binary "=" (constant "a") (constant "b")) }
+    ensures argument { Item standard (lexemes_of_text "p(=,\"=\").")
         (binary "p" (constant "=") (constant "\"=\"")) }
-    ensures body { Item standard (line "all x p(x) | q(x).")
+    ensures body { Item standard (lexemes_of_text "all x p(x) | q(x).")
         (binary "|" (binder All "x" (unary "p" (constant "x"))) (unary "q" (constant "x"))) }
-    ensures denied { Item standard (line "-(all x p(x)).")
+    ensures denied { Item standard (lexemes_of_text "-(all x p(x)).")
         (unary "-" (binder All "x" (unary "p" (constant "x")))) }
-    ensures twice { Item standard (line "- -p.") (unary "-" (unary "-" (constant "p"))) }
-    ensures dashes { Item standard (line "p|--q.")
+    ensures twice { Item standard (lexemes_of_text "- -p.") (unary "-" (unary "-" (constant "p"))) }
+    ensures dashes { Item standard (lexemes_of_text "p|--q.")
         (binary "|" (constant "p") (unary "-" (unary "-" (constant "q")))) }
-    ensures arrows { Item standard (line "a<->(b<-c).")
+    ensures arrows { Item standard (lexemes_of_text "a<->(b<-c).")
         (binary "<->" (constant "a") (binary "<-" (constant "b") (constant "c"))) }
-    ensures apostrophes { Item standard (line "-f''.")
+    ensures apostrophes { Item standard (lexemes_of_text "-f''.")
         (unary "-" (unary "'" (unary "'" (constant "f")))) }
-    ensures to_the_right { Item standard (line "a | b | c.")
+    ensures to_the_right { Item standard (lexemes_of_text "a | b | c.")
         (binary "|" (constant "a") (binary "|" (constant "b") (constant "c"))) }
 {}
 
 /// Items once `@@` is infix_left of 750, `~` is prefix_paren of 400 and `!` is postfix of 350. An argument of just an operator's
 /// precedence stands on the left of `@@`; a last argument doesn't go on with `@@` or `!` of just the precedence around it.
 pub fn worked_declared()
-    ensures to_the_left { Item with_declared (line "a @@ b @@ c.")
+    ensures to_the_left { Item with_declared (lexemes_of_text "a @@ b @@ c.")
         (binary "@@" (binary "@@" (constant "a") (constant "b")) (constant "c")) }
-    ensures body { Item with_declared (line "all x p @@ q.")
+    ensures body { Item with_declared (lexemes_of_text "all x p @@ q.")
         (binary "@@" (binder All "x" (constant "p")) (constant "q")) }
-    ensures postfix { Item with_declared (line "- a !.") (unary "!" (unary "-" (constant "a"))) }
-    ensures below { Item with_declared (line "~ - a.") (unary "~" (unary "-" (constant "a"))) }
+    ensures postfix { Item with_declared (lexemes_of_text "- a !.") (unary "!" (unary "-" (constant "a"))) }
+    ensures below { Item with_declared (lexemes_of_text "~ - a.") (unary "~" (unary "-" (constant "a"))) }
     ensures not_below { IsBadAt with_declared "~ ~ a." 1 }
 {}
 

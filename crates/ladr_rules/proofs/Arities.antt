@@ -10,7 +10,7 @@ use Rattle.ladr_formulas.specs.Formulas.{Variable}
 use Rattle.ladr_formulas.proofs.TermLemmas.{arity_is_length}
 use Rattle.fol_core.specs.Weights.{number}
 use Rattle.ladr_rules.specs.Rules.{equation_sides, sides_of, kbo_sides, kbo_rule, single_value, is_value, value_of}
-use Rattle.ladr_rules.specs.Attributes.{is_label, whole_number, hint_weight}
+use Rattle.ladr_rules.specs.Attributes.{is_label, limited_number, hint_weight}
 use Rattle.ladr_rules.specs.Seen.{is_joined}
 
 no_one : (n : ℕ) → (suc (suc n) == 1) ≡ false
@@ -24,9 +24,9 @@ label_by_length s [] = refl
 label_by_length s (t ∷ []) = refl
 label_by_length s (t ∷ u ∷ ts) = ap (λ (b : Bool). b && bytes_eq s (codes "label")) (sym (no_one (length ts)))
 
-pub number_by_length : (greatest : ℕ) (s : List ℕ) (ts : List RawTree) → whole_number greatest (named s (raws_of ts)) ≡ (if length ts == 0 then whole_number greatest (named s (raws_of [])) else None)
+pub number_by_length : (greatest : ℕ) (s : List ℕ) (ts : List RawTree) → limited_number greatest (named s (raws_of ts)) ≡ (if length ts == 0 then limited_number greatest (named s (raws_of [])) else None)
 number_by_length greatest s [] = refl
-number_by_length greatest s (t ∷ ts) = ap (λ (b : Bool). if b then whole_number greatest (named s (raws_of [])) else None) (sym (no_none (length ts)))
+number_by_length greatest s (t ∷ ts) = ap (λ (b : Bool). if b then limited_number greatest (named s (raws_of [])) else None) (sym (no_none (length ts)))
 
 pub no_weight : (s : List ℕ) (ts : List RawTree) → (length ts == 1) ≡ false → hint_weight (named s (raws_of ts)) ≡ None
 no_weight s [] h = refl

@@ -3,8 +3,8 @@ use Rattle.std.specs.Prelude.{ℕ, Bool, true, false, ◌&&◌, nat_le, if◌the
 use Rattle.std.specs.List.{list_any}
 use Rattle.std.specs.Str.{bytes_eq}
 use Rattle.fol_core.specs.RawTree.{RawTree, named, quantified, no_raws, more_raws}
-use Rattle.ladr_commands.specs.Whole.{whole}
-use Rattle.ladr_lex.specs.Numeral.{is_numeral}
+use Rattle.ladr_lex.specs.Numeral.{whole_number}
+use Rattle.ladr_rules.specs.declared.bounds.TheConstants.{MOST_WEIGHT}
 
 -- a formula without its attributes, and these in their order
 pub record Attributed : Type 0 where
@@ -41,10 +41,15 @@ abbrev pub label_of : List RawTree → Option RawTree
 label_of [] = None
 label_of (t ∷ ts) = if is_label t then Some t else label_of ts
 
--- the whole number that a term is, up to the greatest
-abbrev pub whole_number : ℕ → RawTree → Option ℕ
-whole_number greatest (named s no_raws) = if is_numeral s && nat_le (whole s) greatest then Some (whole s) else None
-whole_number greatest t = None
+-- a number, unless it is above the greatest
+abbrev pub limited : ℕ → Option ℕ → Option ℕ
+limited greatest None = None
+limited greatest (Some n) = if nat_le n greatest then Some n else None
+
+-- the whole number that a term is, unless it is above the greatest
+abbrev pub limited_number : ℕ → RawTree → Option ℕ
+limited_number greatest (named s no_raws) = limited greatest (whole_number s)
+limited_number greatest t = None
 
 abbrev pub is_hint_weight : RawTree → Bool
 is_hint_weight (named s ts) = bytes_eq s (codes "bsub_hint_wt")
@@ -52,7 +57,7 @@ is_hint_weight (quantified q x t) = false
 
 -- the number of `bsub_hint_wt(n)`, and none where it has another shape
 abbrev pub hint_weight : RawTree → Option ℕ
-hint_weight (named s (more_raws t no_raws)) = whole_number 2147483647 t
+hint_weight (named s (more_raws t no_raws)) = limited_number MOST_WEIGHT t
 hint_weight t = None
 
 abbrev is_lost : Option ℕ → Bool

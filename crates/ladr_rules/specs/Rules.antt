@@ -11,7 +11,8 @@ use Rattle.ladr_lex.specs.declared.misuse.Misuse.{Misuse}
 use Rattle.ladr_lex.specs.declared.misuse.Misuse.TheVariants.{TwoKinds, UnfitNumeral}
 use Rattle.ladr_formulas.specs.Formulas.{Made, Variable, is_free_name, is_too_great, terms_of, unread, free_number}
 use Rattle.ladr_formulas.specs.declared.styles.Style.{Style}
-use Rattle.ladr_rules.specs.Attributes.{whole_number}
+use Rattle.ladr_rules.specs.declared.bounds.TheConstants.{MOST_SYMBOL_WEIGHT, MOST_WEIGHT}
+use Rattle.ladr_rules.specs.Attributes.{limited_number}
 
 abbrev mutual
   -- whether a quantifier stands in a term
@@ -39,10 +40,10 @@ abbrev pub single_value : List (List ℕ) → List ℕ → RawTree → Bool
 single_value names s (named x no_raws) = bytes_eq s (codes "weight") && is_in x names
 single_value names s t = false
 
--- whether a term is a value: whole numbers up to 2,147,483,647, `+`, `*`, and `weight(x)` for one of these variables
+-- whether a term is a value: whole numbers up to the greatest weight, `+`, `*`, and `weight(x)` for one of these variables
 abbrev pub is_value : List (List ℕ) → RawTree → Bool
 is_value names (quantified q x t) = false
-is_value names (named s no_raws) = is_some (whole_number 2147483647 (named s no_raws))
+is_value names (named s no_raws) = is_some (limited_number MOST_WEIGHT (named s no_raws))
 is_value names (named s (more_raws t no_raws)) = single_value names s t
 is_value names (named s (more_raws t (more_raws u no_raws))) = (bytes_eq s (codes "+") || bytes_eq s (codes "*")) && is_value names t && is_value names u
 is_value names (named s (more_raws t (more_raws u (more_raws v ts)))) = false
@@ -59,7 +60,7 @@ combined s v w = if bytes_eq s (codes "+") then plus v w else times v w
 -- the weight that a value is, with the numbers of the variables
 abbrev pub value_of : List Variable → RawTree → WeightTree
 value_of vs (quantified q x t) = number 0
-value_of vs (named s no_raws) = number (unwrap_or (whole_number 2147483647 (named s no_raws)) 0)
+value_of vs (named s no_raws) = number (unwrap_or (limited_number MOST_WEIGHT (named s no_raws)) 0)
 value_of vs (named s (more_raws t no_raws)) = single_weight vs t
 value_of vs (named s (more_raws t (more_raws u no_raws))) = combined s (value_of vs t) (value_of vs u)
 value_of vs (named s (more_raws t (more_raws u (more_raws v ts)))) = number 0
@@ -129,9 +130,15 @@ shaped_sides st t = option_map_or (λ r. if is_shaped st r then Some r else None
 abbrev pub rule_in : Style → List Symbol → RawTree → Option (Made Rule)
 rule_in st table t = option_map (rule_made st table) (shaped_sides st t)
 
--- `name = number` with a number from 1 to 65,535
+-- the weight of a symbol that a term is, and 0 where it is none
+abbrev pub symbol_weight : RawTree → ℕ
+symbol_weight value = unwrap_or (limited_number MOST_SYMBOL_WEIGHT value) 0
+
+-- `name = number` with a number from 1 to the greatest weight of a symbol
 abbrev pub kbo_sides : List ℕ → RawTree → RawTree → Option (List ℕ × ℕ)
-kbo_sides s (named f no_raws) value = if bytes_eq s (codes "=") && not (unwrap_or (whole_number 65535 value) 0 == 0) then Some (f, unwrap_or (whole_number 65535 value) 0) else None
+kbo_sides s (named f no_raws) value =
+    if bytes_eq s (codes "=") && not (symbol_weight value == 0) then Some (f, symbol_weight value)
+    else None
 kbo_sides s t value = None
 
 abbrev pub kbo_rule : RawTree → Option (List ℕ × ℕ)

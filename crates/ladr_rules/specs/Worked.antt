@@ -1,5 +1,5 @@
 -- Words for examples.
-use Rattle.std.specs.Prelude.{ℕ, List, [], Option, None}
+use Rattle.std.specs.Prelude.{List, [], Option, None}
 use Rattle.std.specs.Option.{option_map, option_map_or}
 use Prim.Native.String.{String}
 use Rattle.fol_core.specs.Fol.{Fol}
@@ -56,8 +56,8 @@ abbrev pub formula : RawTree → Fol
 formula t = (formula_reading for_prover [] t).tree
 
 -- the rule that a term is; how its pattern is misused, and the symbols that it enters
-abbrev pub rule_of : Style → RawTree → Option Rule
-rule_of style t = option_map (λ m. m.tree) (rule_in style [] t)
+abbrev pub weight_rule_in : Style → RawTree → Option Rule
+weight_rule_in style t = option_map (λ m. m.tree) (rule_in style [] t)
 
 abbrev pub misuse_of : Style → RawTree → Option Misuse
 misuse_of style t = option_map_or (λ m. m.reading.least) (rule_in style [] t) None

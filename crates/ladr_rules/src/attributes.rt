@@ -1,16 +1,14 @@
 // Formulas with attributes, `formula # t # t`, taken apart.
 ghost use Rattle.std.specs.Prelude.{◌≡◌, [], ◌∷◌, length, None, Some, false, true, ◌||◌, if◌then◌else◌};
 ghost use Rattle.std.specs.Option.{option_map};
-ghost use Rattle.fol_core.specs.RawTree.{named, no_raws, raws_of};
+ghost use Rattle.fol_core.specs.RawTree.{named, raws_of};
 ghost use Rattle.fol_core.specs.RawView.{raw_of};
-ghost use Rattle.ladr_rules.specs.Attributes.{attributed, attributes_in, is_label, label_of, whole_number, is_hint_weight, hint_weight, has_unfit_weight, hint_weight_of};
+ghost use Rattle.ladr_rules.specs.Attributes.{attributed, attributes_in, is_label, label_of, limited, limited_number, is_hint_weight, hint_weight, has_unfit_weight, hint_weight_of};
 ghost use Rattle.ladr_rules.specs.Seen.{is_joined, IsSplit};
 
+use crate::bounds::MOST_WEIGHT;
 use fol_core::{Raw, Raws};
-use ladr_commands::whole;
-use ladr_lex::is_numeral;
-
-const MOST: u32 = 2_147_483_647;
+use ladr_lex::whole_number;
 
 /// A formula without its attributes; the first label among them, whether one of them breaks row 12, and the number of the first
 /// `bsub_hint_wt`.
@@ -189,7 +187,7 @@ fn hint_weight(raw: &Raw) -> Option<u32>
 {
     match raw {
         Raw::App(_, args) => match args.as_slice() {
-            [number] => whole_number(MOST, number),
+            [number] => limited_number(MOST_WEIGHT, number),
             _ => None,
         },
         Raw::Quant(_, _, _) => None,
@@ -197,14 +195,14 @@ fn hint_weight(raw: &Raw) -> Option<u32>
 }
 
 #[tactic(auto, using(crate::proofs::Arities::number_by_length))]
-/// The whole number that a term is, up to the greatest.
-pub fn whole_number(greatest: u32, raw: &Raw) -> Option<u32>
-    ensures { result ≡ whole_number greatest (raw_of raw.now) }
+/// The whole number that a term is, unless it is above the greatest.
+pub fn limited_number(greatest: u32, raw: &Raw) -> Option<u32>
+    ensures { result ≡ limited_number greatest (raw_of raw.now) }
 {
     match raw {
         Raw::App(name, args) => {
             if args.len() == 0 {
-                number_up_to(greatest, name.bytes())
+                limited(greatest, whole_number(name.bytes()))
             } else {
                 None
             }
@@ -213,13 +211,12 @@ pub fn whole_number(greatest: u32, raw: &Raw) -> Option<u32>
     }
 }
 
-fn number_up_to(greatest: u32, text: &[u8]) -> Option<u32>
-    ensures { result ≡ whole_number greatest (named text.now no_raws) }
+// A number, unless it is above the greatest.
+fn limited(greatest: u32, number: Option<u64>) -> Option<u32>
+    ensures { result ≡ limited greatest number }
 {
-    let number = whole(text);
-    if is_numeral(text) && number <= u64::from(greatest) {
-        Some(number as u32)
-    } else {
-        None
+    match number {
+        Some(n) if n <= u64::from(greatest) => Some(n as u32),
+        _ => None,
     }
 }

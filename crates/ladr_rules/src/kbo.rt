@@ -6,11 +6,10 @@ ghost use Rattle.fol_core.specs.RawView.{raw_of};
 ghost use Rattle.ladr_rules.specs.RuleSeen.{kbo_of};
 ghost use Rattle.ladr_rules.specs.Rules.{kbo_sides, kbo_rule};
 
-use crate::attributes::whole_number;
+use crate::attributes::limited_number;
+use crate::bounds::MOST_SYMBOL_WEIGHT;
 use fol_core::{KboWeight, Name, Raw};
 use std::alloc::{AllocError, Global};
-
-const MOST: u32 = 65_535;
 
 #[tactic(auto, using(crate::proofs::Arities::no_kbo))]
 /// The weight of a name that a term states, if it states one.
@@ -57,7 +56,7 @@ fn symbol_weight(
     ensures { IfOk result (λ r. option_map kbo_of r
         ≡ kbo_sides name.now (named symbol.now no_raws) (raw_of right.now)) }
 {
-    let weight = whole_number(MOST, right).unwrap_or(0);
+    let weight = limited_number(MOST_SYMBOL_WEIGHT, right).unwrap_or(0);
     if name == b"=".as_slice() && weight != 0 {
         let name = Name::from_slice(alloc, symbol)?;
         Ok(Some(KboWeight { name, weight }))

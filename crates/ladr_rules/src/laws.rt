@@ -6,17 +6,17 @@ ghost use Rattle.fol_core.specs.Weights.{number, of_variable, plus, times};
 ghost use Rattle.fol_core.specs.declared.symbols.Kind.TheVariants.{Function};
 ghost use Rattle.ladr_lex.specs.declared.misuse.Misuse.TheVariants.{UnfitNumeral};
 ghost use Rattle.ladr_reader.specs.Reads.{Item};
-ghost use Rattle.ladr_reader.specs.Worked.{line, constant, unary, binary, standard};
+ghost use Rattle.ladr_reader.specs.Worked.{lexemes_of_text, constant, unary, binary, standard};
 ghost use Rattle.ladr_formulas.specs.WorkedFormulas.{for_tester, for_prover, in_prolog};
 ghost use Rattle.ladr_rules.specs.Attributes.{attributed, label_of, has_unfit_weight, hint_weight_of};
 ghost use Rattle.ladr_rules.specs.Rules.{kbo_rule};
 ghost use Rattle.ladr_rules.specs.Shapes.{is_hint, is_demodulator};
-ghost use Rattle.ladr_rules.specs.Worked.{p, q, a, b, x, y, f, weighing, weight, weight_is, one_and_twice, formula, rule_of, misuse_of, symbols_of};
+ghost use Rattle.ladr_rules.specs.Worked.{p, q, a, b, x, y, f, weighing, weight, weight_is, one_and_twice, formula, weight_rule_in, misuse_of, symbols_of};
 
 /// What attributes say, and which formulas hints and demodulators may be.
 pub fn worked()
     // p # a # b
-    ensures text { Item standard (line "p # a # b.") (binary "#" p (binary "#" a b)) }
+    ensures text { Item standard (lexemes_of_text "p # a # b.") (binary "#" p (binary "#" a b)) }
     ensures attributes { attributed (binary "#" p (binary "#" a b))
         ≡ record { formula = p; attributes = a ∷ b ∷ [] } }
     // (p # a) # b: the inner `#` stays in the formula.
@@ -44,8 +44,8 @@ pub fn worked()
 /// Rules of weights.
 pub fn worked_rules()
     // weight(g(y,x)) = 1 + (2 * weight(x)), where y is variable 0 and x is variable 1
-    ensures text { Item standard (line "weight(g(y,x)) = 1 + (2 * weight(x)).") one_and_twice }
-    ensures rule { rule_of for_prover one_and_twice
+    ensures text { Item standard (lexemes_of_text "weight(g(y,x)) = 1 + (2 * weight(x)).") one_and_twice }
+    ensures rule { weight_rule_in for_prover one_and_twice
         ≡ Some (record {
           head = codes "g";
           arguments = more (var 0)
@@ -53,7 +53,7 @@ pub fn worked_rules()
           weight = plus (number 1) (times (number 2) (of_variable 1));
         }) }
     // weight(g(x,X)) = weight(X) and weight(f(x)) = weight(x), with the variables of Prolog
-    ensures prolog { rule_of in_prolog (weight_is (binary "g" x (constant "X"))
+    ensures prolog { weight_rule_in in_prolog (weight_is (binary "g" x (constant "X"))
         (weight (constant "X")))
         ≡ Some (record {
           head = codes "g";
@@ -61,11 +61,11 @@ pub fn worked_rules()
               (more (var 0) none);
           weight = of_variable 0;
         }) }
-    ensures no_variable { rule_of in_prolog (weight_is (f x) (weight x)) ≡ None }
+    ensures no_variable { weight_rule_in in_prolog (weight_is (f x) (weight x)) ≡ None }
     // weight(x) = 1, weight(f(x)) = weight(y) and weight(f(x)) = 2147483648
-    ensures variable_pattern { rule_of for_prover (weight_is x (constant "1")) ≡ None }
-    ensures other_variable { rule_of for_prover (weight_is (f x) (weight y)) ≡ None }
-    ensures great_value { rule_of for_prover (weight_is (f x) (constant "2147483648")) ≡ None }
+    ensures variable_pattern { weight_rule_in for_prover (weight_is x (constant "1")) ≡ None }
+    ensures other_variable { weight_rule_in for_prover (weight_is (f x) (weight y)) ≡ None }
+    ensures great_value { weight_rule_in for_prover (weight_is (f x) (constant "2147483648")) ≡ None }
     // weight(f(1000000000)) = 1: for the prover the numeral is a constant. The head of the pattern isn't entered.
     ensures numeral { misuse_of for_tester (weight_is (f (constant "1000000000")) (constant "1"))
         ≡ Some UnfitNumeral }

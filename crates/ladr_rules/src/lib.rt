@@ -2,6 +2,7 @@
 #![tactic(auto)]
 
 mod attributes;
+mod bounds;
 mod kbo;
 mod laws;
 mod patterns;

@@ -6,13 +6,12 @@ ghost use Rattle.fol_core.specs.WeightView.{weight_of};
 ghost use Rattle.fol_core.specs.NamesOnce.{is_in, names_of};
 ghost use Rattle.ladr_rules.specs.Rules.{single_value, is_value, single_weight, combined, value_of};
 
-use crate::attributes::whole_number;
+use crate::attributes::limited_number;
+use crate::bounds::MOST_WEIGHT;
 use fol_core::{Raw, Weight, WeightSub};
 use indexmap::IndexSet;
 use ladr_formulas::Variables;
 use std::alloc::{AllocError, Global};
-
-const MOST: u32 = 2_147_483_647;
 
 #[tactic(auto, using(crate::proofs::Arities::no_value))]
 /// Whether a term is a value, with the names of a pattern's variables.
@@ -21,7 +20,7 @@ pub fn is_value(names: &IndexSet<Vec<u8>>, raw: &Raw) -> bool
 {
     match raw {
         Raw::App(name, args) => match args.as_slice() {
-            [] => whole_number(MOST, raw).is_some(),
+            [] => limited_number(MOST_WEIGHT, raw).is_some(),
             [part] => is_single(names, name.bytes(), part),
             [left, right] => {
                 is_operation(name.bytes()) && is_value(names, left) && is_value(names, right)
@@ -71,7 +70,7 @@ pub fn value_of(alloc: Global, variables: &Variables, raw: &Raw) -> Result<Weigh
 {
     match raw {
         Raw::App(name, args) => match args.as_slice() {
-            [] => Ok(Weight::Number(whole_number(MOST, raw).unwrap_or(0))),
+            [] => Ok(Weight::Number(limited_number(MOST_WEIGHT, raw).unwrap_or(0))),
             [part] => Ok(single(variables, part)),
             [left, right] => {
                 let left = value_of(alloc, variables, left)?;

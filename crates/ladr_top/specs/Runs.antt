@@ -1,30 +1,35 @@
 -- What a run amounts to.
-use Rattle.std.specs.Prelude.{◌≡◌, []}
+use Rattle.std.specs.Prelude.{◌≡◌}
 use Rattle.std.specs.declared.result.Result.{Result}
 use Rattle.ladr_clausetester.specs.Testing.{Tests}
 use Rattle.ladr_clausetester.specs.declared.testing.Tested.{Tested}
+use Rattle.ladr_formulas.specs.declared.styles.Mode.TheVariants.{Tester, Mace}
+use Rattle.ladr_intake.specs.Posed.{poses, interprets}
+use Rattle.ladr_intake.specs.Refusals.{refuses, stop_of_cut}
 use Rattle.ladr_intake.specs.declared.stops.Stop.{Stop}
-use Rattle.ladr_io.specs.Streams.{Inflow, Outflow, Takes, TakesFront}
+use Rattle.ladr_io.specs.Streams.{Inflow, Outflow}
 use Rattle.ladr_io.specs.Times.{Times}
 use Rattle.ladr_mace4.specs.Finding.{Searches}
+use Rattle.ladr_mace4.specs.Shown.{ShowsPosed}
 use Rattle.ladr_mace4.specs.declared.ends.SearchEnd.{SearchEnd}
-use Rattle.ladr_top.specs.Causes.{cause_by}
+use Rattle.ladr_output.specs.Telling.{PieceTells}
+use Rattle.ladr_top.specs.Causes.{cause_of, cause_by}
 use Rattle.ladr_top.specs.Words.{no_command_line}
 use Rattle.ladr_top.specs.declared.cause.Cause.{Cause}
-use Rattle.ladr_top.specs.declared.cause.Cause.TheVariants.{Words, WriteFault, Memory, Clausetester, Mace4}
+use Rattle.ladr_top.specs.declared.cause.Cause.TheVariants.{Words, Clausetester, Mace4}
 use Rattle.ladr_words.specs.declared.task.ModelOptions.{ModelOptions}
 
--- Words that are no command: the line is printed, or a front of it, or nothing.
+-- words that are no command: their line is printed, or what cut it off is the cause
 abbrev pub RefusesWords : Outflow → Outflow → Cause → Type 0
-RefusesWords old new Words = Takes old new no_command_line
-RefusesWords old new WriteFault = TakesFront old new no_command_line
-RefusesWords old new Memory = Takes old new []
-RefusesWords old new cause = ⊥
+RefusesWords = PieceTells Words (λ cut. cause_of (stop_of_cut cut)) no_command_line
 
--- a run of `clausetester`
+-- The input is a file in the language of this program: of `clausetester`, or of `mace4` with these words.
 abbrev pub RunsClausetester : Inflow → Inflow → Outflow → Outflow → Cause → Type 0
-RunsClausetester from from' to to' cause = (r : Result Tested Stop) × Tests from from' to to' r × (cause ≡ cause_by Clausetester r)
+RunsClausetester from from' to to' cause = (r : Result Tested Stop) × Tests interprets (refuses Tester) from from' to to' r × (cause ≡ cause_by Clausetester r)
 
--- a run of `mace4` with these words
 abbrev pub RunsMace4 : ModelOptions → Inflow → Inflow → Outflow → Outflow → Times → Cause → Type 0
-RunsMace4 words from from' to to' t cause = (r : Result SearchEnd Stop) × Searches words from from' to to' t r × (cause ≡ cause_by Mace4 r)
+RunsMace4 words from from' to to' t cause = (r : Result SearchEnd Stop) × Searches (poses Mace) (refuses Mace) words from from' to to' t r × (cause ≡ cause_by Mace4 r)
+
+-- what stands in the output of `mace4` with these words
+abbrev pub ShowsMace4 : ModelOptions → Inflow → Inflow → Outflow → Outflow → Type 0
+ShowsMace4 = ShowsPosed (poses Mace)

@@ -1,6 +1,6 @@
 -- Words that are no command.
 use Rattle.std.specs.Prelude.{ℕ, List, codes}
-use Rattle.ladr_output.specs.Telling.{line}
+use Rattle.ladr_output.specs.Telling.{as_line}
 
 abbrev pub no_command_line : List ℕ
-no_command_line = line (codes "ladr: no such command")
+no_command_line = as_line (codes "ladr: no such command")

@@ -1,9 +1,8 @@
 // The one call of the program.
 ghost use Rattle.std.specs.Prelude.{◌≡◌, ◌≢◌, false, None, Some, map};
 ghost use Rattle.std.specs.String.{string_bytes};
-ghost use Rattle.ladr_mace4.specs.Shown.{ShowsPosed};
 ghost use Rattle.ladr_top.specs.Causes.{cause_by, status_of};
-ghost use Rattle.ladr_top.specs.Runs.{RefusesWords, RunsClausetester, RunsMace4};
+ghost use Rattle.ladr_top.specs.Runs.{RefusesWords, RunsClausetester, RunsMace4, ShowsMace4};
 ghost use Rattle.ladr_words.specs.Tasks.{task_of};
 ghost use Rattle.ladr_words.specs.declared.task.ModelOptions.{ModelOptions};
 ghost use Rattle.ladr_words.specs.declared.task.Task.TheVariants.{Clausetester, Mace4};
@@ -20,7 +19,7 @@ use ladr_words::{Task, WordsError, task_of};
 use std::alloc::Global;
 
 /// All that the program does: reads the source, if the words are a command, and prints to the sink. `any` is any
-/// interpretation: what the clauses say of it holds for every one. The streams are open, and nothing read the clock before.
+/// interpretation: no clause speaks of it alone, since they speak of every lawful one. The streams are open, and nothing read the clock before.
 pub fn run<I: Interpretation, S: Source, K: Sink, C: Clock>(
     alloc: Global,
     words: &[String],
@@ -49,11 +48,11 @@ pub fn run<I: Interpretation, S: Source, K: Sink, C: Clock>(
         → RunsMace4 o (S.inflow source.old) (S.inflow source.new) (K.outflow sink.old)
         (K.outflow sink.new) (C.times clock.new) result.cause }
 
-    // What it prints as models of the input makes each assumption true and each goal false, and reads back as it is; where a size is
-    // exhausted, each model of it is printed, its elements renamed. So it is whatever became of the run; and what it prints by then is
-    // a front of a whole output.
+    // Where the text of a model stands in what was written, it makes each assumption of the input true and each goal false, and reads
+    // back as it is; where the line of an exhausted size stands, each model of it stands before, its elements renamed. So it is whatever
+    // became of the run; and where the input was read whole, what was written is a front of a whole output.
     ensures models { (o : ModelOptions) → task_of (map string_bytes words.now) ≡ Some (Mace4 o)
-        → ShowsPosed o (S.inflow source.old) (S.inflow source.new) (K.outflow sink.old)
+        → ShowsMace4 o (S.inflow source.old) (S.inflow source.new) (K.outflow sink.old)
         (K.outflow sink.new) }
 
     // The clock isn't asked but for a search.

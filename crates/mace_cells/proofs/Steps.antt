@@ -4,7 +4,7 @@ use Rattle.std.proofs.lemmas.Bool.{cases_lt}
 use Rattle.fol_core.specs.Meaning.{Meaning}
 use Rattle.mace_cells.specs.Choices.{Choice, AgreesWith, IsAhead, IsOpen, decisions}
 use Rattle.mace_cells.specs.Leaves.{LeavesOpen, FindsModel, IsOver}
-use Rattle.mace_cells.specs.Solutions.{IsRenamed, CoversRenamed}
+use Rattle.mace_cells.specs.Solutions.{AreIsomorphic, CoversIsomorphic}
 use Rattle.mace_cells.specs.World.{World, Solves, AreAlike, IsSettled, IsRefuted, AreRefuted, IsBound}
 use Rattle.mace_ground.specs.Cells.{Cell, value_at}
 
@@ -12,7 +12,7 @@ map_back : (f g : ℕ → ℕ) → ((x : ℕ) → f (g x) ≡ x) → (xs : List 
 map_back f g h [] = refl
 map_back f g h (x ∷ xs) = rw (h x, map_back f g h xs) refl
 
-pub carried_itself : (k : ℕ) (m : Meaning) → IsRenamed k m m
+pub carried_itself : (k : ℕ) (m : Meaning) → AreIsomorphic k m m
 carried_itself k m = (
   λ x. x,
   (
@@ -36,7 +36,7 @@ map_both : (f g : ℕ → ℕ) (xs : List ℕ) → map (λ x. f (g x)) xs ≡ ma
 map_both f g [] = refl
 map_both f g (x ∷ xs) = ap (λ (ys : List ℕ). f (g x) ∷ ys) (map_both f g xs)
 
-pub carried_both : (k : ℕ) (m u v : Meaning) → IsRenamed k m u → IsRenamed k u v → IsRenamed k m v
+pub carried_both : (k : ℕ) (m u v : Meaning) → AreIsomorphic k m u → AreIsomorphic k u v → AreIsomorphic k m v
 carried_both k m u v (r, (back, c)) (s, (forth, d)) = (
   λ x. s (r x),
   (
@@ -153,7 +153,7 @@ module _ (w : World) where
     behind = λ m h. leaves.behind m (inr h);
   }
     where
-      covers : CoversRenamed w.size w.clauses w.fixed (IsOpen live cs) (λ u. AreAlike w u t ⊎ IsAhead u cs')
+      covers : CoversIsomorphic w.size w.clauses w.fixed (IsOpen live cs) (λ u. AreAlike w u t ⊎ IsAhead u cs')
       covers m s h =
           let u = leaves.covers m s h in
           (u.0, (u.1.0, elim u.1.1 [ inl now ↦ inl (settled.2 u.0 u.1.0 now.1) | inr ahead ↦ inr ahead ], u.1.2))

@@ -2,7 +2,7 @@
 use Rattle.std.specs.Prelude.{◌⊎◌, Bool, List, map}
 use Rattle.fol_core.specs.Meaning.{Meaning}
 use Rattle.mace_cells.specs.Choices.{Decision, Choice, IsAhead, IsOpen, decisions}
-use Rattle.mace_cells.specs.Solutions.{CoversRenamed}
+use Rattle.mace_cells.specs.Solutions.{CoversIsomorphic}
 use Rattle.mace_cells.specs.World.{World, Solves, AreAlike, cell_of}
 use Rattle.mace_cells.specs.declared.frame.Frame.{Frame}
 
@@ -18,7 +18,7 @@ decisions_of w fs = decisions (choices_of w fs)
 
 -- each solution that was open has a renaming that still is, and what is open now was open before
 pub record LeavesOpen (w : World) (live : Bool) (cs : List Choice) (live' : Bool) (cs' : List Choice) : Type 0 where
-  pub covers : CoversRenamed w.size w.clauses w.fixed (IsOpen live cs) (IsOpen live' cs')
+  pub covers : CoversIsomorphic w.size w.clauses w.fixed (IsOpen live cs) (IsOpen live' cs')
   pub behind : (m : Meaning) → IsOpen live' cs' m → IsOpen live cs m
 
 -- A solution was open, and is ahead no more; each that was open has a renaming that is like it or is ahead now; what is ahead
@@ -27,7 +27,7 @@ pub record FindsModel (w : World) (live : Bool) (cs : List Choice) (t : Meaning)
   pub solves : Solves w t
   pub open_before : IsOpen live cs t
   pub no_more : IsAhead t cs' → ⊥
-  pub covers : CoversRenamed w.size w.clauses w.fixed (IsOpen live cs) (λ u. AreAlike w u t ⊎ IsAhead u cs')
+  pub covers : CoversIsomorphic w.size w.clauses w.fixed (IsOpen live cs) (λ u. AreAlike w u t ⊎ IsAhead u cs')
   pub behind : (m : Meaning) → IsAhead m cs' → IsOpen live cs m
 
 -- no solution was open

@@ -20,9 +20,9 @@ pub record IsCarried (k : ℕ) (r back : ℕ → ℕ) (m m' : Meaning) : Type 0 
   pub relations : (s : ℕ) (xs : List ℕ) → m'.relation s (map r xs) ≡ m.relation s xs
 
 -- some renaming of the first that leaves the elements below k is the second
-abbrev pub IsRenamed : ℕ → Meaning → Meaning → Type 0
-IsRenamed k m m' = (r : ℕ → ℕ) × ((back : ℕ → ℕ) × IsCarried k r back m m')
+abbrev pub AreIsomorphic : ℕ → Meaning → Meaning → Type 0
+AreIsomorphic k m m' = (r : ℕ → ℕ) × ((back : ℕ → ℕ) × IsCarried k r back m m')
 
 -- each solution that is P has a renaming that is a solution and is Q
-abbrev pub CoversRenamed : ℕ → List ClauseTree → ℕ → (Meaning → Type 0) → (Meaning → Type 0) → Type 0
-CoversRenamed n clauses k P Q = (m : Meaning) → IsSolution n clauses m → P m → (m' : Meaning) × (IsSolution n clauses m' × Q m' × IsRenamed k m m')
+abbrev pub CoversIsomorphic : ℕ → List ClauseTree → ℕ → (Meaning → Type 0) → (Meaning → Type 0) → Type 0
+CoversIsomorphic n clauses k P Q = (m : Meaning) → IsSolution n clauses m → P m → (m' : Meaning) × (IsSolution n clauses m' × Q m' × AreIsomorphic k m m')

@@ -3,7 +3,7 @@ use Rattle.std.specs.Prelude.{ℕ, suc, ◌≡◌, ◌<◌, ◌≤◌, List, Opt
 use Rattle.fol_core.specs.Literals.{ClauseTree}
 use Rattle.fol_core.specs.Meaning.{Meaning}
 use Rattle.mace_cells.specs.Choices.{Decision, AgreesWith}
-use Rattle.mace_cells.specs.Solutions.{IsSolution, CoversRenamed}
+use Rattle.mace_cells.specs.Solutions.{IsSolution, CoversIsomorphic}
 use Rattle.mace_ground.specs.Cells.{Block, Cell, cell_at, cells_in, value_at}
 
 -- how many elements there are, below which of them a renaming moves none, the clauses, and the cells
@@ -41,7 +41,7 @@ AreRefuted w ds c v u = (m : Meaning) → Solves w m → AgreesWith m ds → v �
 
 -- each that agrees with them has a renaming that does so too and has at most this value in the cell
 abbrev pub IsBound : World → List Decision → Cell → ℕ → Type 0
-IsBound w ds c most = CoversRenamed w.size w.clauses w.fixed (λ m. AgreesWith m ds) (λ m. AgreesWith m ds × (value_at m c ≤ most))
+IsBound w ds c most = CoversIsomorphic w.size w.clauses w.fixed (λ m. AgreesWith m ds) (λ m. AgreesWith m ds × (value_at m c ≤ most))
 
 -- the least value from v on, up to the greatest, that isn't known to be refuted
 abbrev pub IsNextValue : World → List Decision → Cell → ℕ → ℕ → Option ℕ → Type 0

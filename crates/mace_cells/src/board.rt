@@ -25,11 +25,14 @@ pub trait Board {
 
     ghost is_open: { Self → ℕ → Type 0 };
 
+    ghost is_full: { Self → Type 0 };
+
     fn status(&mut self) -> Status
         ensures world { world self.new ≡ world self.old }
         ensures decided { decided self.new ≡ decided self.old }
         ensures told { IsAsSaid (world self.old) (decided self.old) (found self.new) result }
-        ensures open { (cell : ℕ) → result ≡ Status.Choose cell → is_open self.new cell };
+        ensures open { (cell : ℕ) → result ≡ Status.Choose cell → is_open self.new cell }
+        ensures full { result ≡ Status.Settled → is_full self.new };
 
     fn most(&self, cell: u32) -> u8
         requires { cell < many_cells (world self.now) }

@@ -5,6 +5,7 @@ ghost use Rattle.mace_cells.specs.Searches.{HasFound, IsTimed};
 ghost use Rattle.mace_cells.specs.Stacked.{rest_of};
 ghost use Rattle.mace_cells.specs.Standing.{IsStanding, place, beyond};
 ghost use Rattle.mace_cells.specs.World.{many_cells, IsRefuted};
+ghost use Rattle.mace_search.specs.declared.answer.Answer.TheVariants.{Model};
 ghost use Rattle.mace_search.specs.Watch.{IsEarly, KeepsFirst};
 
 use crate::board::{Board, Status};
@@ -137,6 +138,7 @@ fn descend<B: Board, C: Clock>(
     ensures found { HasFound (B.world board.old) true
         (choices_of (B.world board.old) frames.old.list) (B.found board.new) result
         (choices_of (B.world board.old) frames.new.list) }
+    ensures full { result ≡ Model → B.is_full board.new }
     ensures late { IsTimed stop result (C.times clock.new) }
 {
     loop {
@@ -188,6 +190,7 @@ pub fn next_model<B: Board, C: Clock>(
     ensures found { HasFound (B.world board.old) live
         (choices_of (B.world board.old) frames.old.list) (B.found board.new) result
         (choices_of (B.world board.old) frames.new.list) }
+    ensures full { result ≡ Model → B.is_full board.new }
     ensures late { IsTimed stop result (C.times clock.new) }
 {
     if begin(board, frames, live) {

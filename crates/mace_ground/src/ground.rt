@@ -4,6 +4,7 @@ ghost use Rattle.fol_core.specs.SymbolTable.{arity_at, kind_at};
 ghost use Rattle.mace_ground.specs.Cells.{blocks_of, cells_in};
 ghost use Rattle.mace_ground.specs.Count.{blocks_in, clauses_in, ground_count};
 ghost use Rattle.mace_ground.specs.Spans.{placed, block_of};
+ghost use Rattle.model_tables.specs.declared.limits.TheConstants.{MOST_CELLS};
 
 use crate::blocks::{Block, Blocks};
 use crate::counting::arity;
@@ -39,7 +40,7 @@ impl<'a> Ground<'a> {
         symbols: &Symbols,
         size: u32,
     ) -> Result<Ground<'a>, AllocError>
-        requires { ground_count size symbols.now clauses.now ≤ 50000000 }
+        requires { ground_count size symbols.now clauses.now ≤ MOST_CELLS }
         ensures { IfOk result (λ g. g ≡ record {
           size = size;
           blocks = blocks_in symbols.now

@@ -2,10 +2,10 @@
 use Rattle.std.proofs.Common.{◌≡◌, ◌≢◌, ℕ, suc, ◌<◌, ◌≤◌, List, [], ◌∷◌, inl, inr, subst, ap, arith}
 use Rattle.std.proofs.lemmas.Bool.{cases_lt}
 use Rattle.fol_core.specs.Stated.{Stated}
-use Rattle.mace_search.specs.Complete.{AreModels, IsNewModel, AreDifferent, HasRenaming, AreComplete}
+use Rattle.mace_search.specs.Complete.{AreModels, IsNewModel, AreDifferent, HasIsomorphic, AreComplete}
 use Rattle.mace_search.specs.Models.{IsModel, AreFirst, AreAll, behind}
-use Rattle.model_tables.specs.Order.{first_of, table_number}
-use Rattle.model_tables.specs.Renaming.{IsIsomorphism}
+use Rattle.model_tables.specs.Order.{first_tables, table_number}
+use Rattle.model_tables.specs.Isomorphism.{IsIsomorphism}
 use Rattle.model_tables.specs.Size.{IsInterpretation}
 use Rattle.model_tables.specs.Tables.{Finite}
 use Rattle.model_tables.proofs.Exchange.{in_place}
@@ -34,12 +34,12 @@ pub by_number : (p : Stated) (n : ℕ) (t u : Finite) → IsInterpretation n p t
 by_number p n t u h k e =
     let a = interpretation_shape n p t h in
     let b = interpretation_shape n p u k in
-    number_decides t u (shape_joined t (first_of n p) u (shape_turned (first_of n p) t a.0) b.0) a.1 b.1 e
+    number_decides t u (shape_joined t (first_tables n p) u (shape_turned (first_tables n p) t a.0) b.0) a.1 b.1 e
 
 pub itself : (p : Stated) (n : ℕ) (t u : Finite) → t ≡ u → (r : ℕ → ℕ) × IsIsomorphism n p r t u
 itself p n t u e = ((λ x. x), subst (λ (v : Finite). IsIsomorphism n p (λ x. x) t v) e (in_place n p t))
 
-among : (p : Stated) (n k : ℕ) (ts : List Finite) (u : Finite) → AreFirst p n k ts → IsModel p n u → k ≤ table_number u → table_number u < behind k ts → HasRenaming p n u ts
+among : (p : Stated) (n k : ℕ) (ts : List Finite) (u : Finite) → AreFirst p n k ts → IsModel p n u → k ≤ table_number u → table_number u < behind k ts → HasIsomorphic p n u ts
 among p n k [] u h is from before = omega (arith, from, before)
 among p n k (t ∷ ts) u h is from before =
     elim (cases_lt (table_number u) (table_number t)) [

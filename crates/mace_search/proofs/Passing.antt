@@ -8,7 +8,7 @@ use Rattle.mace_search.specs.Plain.{Search, Answers, FindsNext, NoneAmong, table
 use Rattle.mace_search.specs.PlainView.{ahead_of, search_of, state_after}
 use Rattle.mace_search.specs.declared.answer.Answer.{Answer}
 use Rattle.mace_search.specs.declared.answer.Answer.TheVariants.{Model, Exhausted, MaxSeconds}
-use Rattle.model_tables.specs.Order.{first_of, table_number, table_count, IsSameShape, IsFilled}
+use Rattle.model_tables.specs.Order.{first_tables, table_number, table_count, IsSameShape, IsFilled}
 use Rattle.model_tables.specs.Size.{IsInterpretation}
 use Rattle.model_tables.specs.Tables.{Finite, meaning_of}
 use Rattle.model_tables.proofs.Orders.{interpretation_shape, shape_interpretation, shape_turned, shape_joined, number_decides, number_in_count, shape_count}
@@ -32,7 +32,7 @@ pub model_shape : (p : Stated) (n : ℕ) (t u : Finite) → IsInterpretation n p
 model_shape p n t u h k =
     let a = interpretation_shape n p t h in
     let b = interpretation_shape n p u k in
-    (shape_joined t (first_of n p) u (shape_turned (first_of n p) t a.0) b.0, b.1)
+    (shape_joined t (first_tables n p) u (shape_turned (first_tables n p) t a.0) b.0, b.1)
 
 pub none_between : (p : Stated) (n : ℕ) (t : Finite) (k j : ℕ) → IsInterpretation n p t → NoneAmong p.formulas t k j → NoneBetween p n k j
 none_between p n t k j h none u model from before =
@@ -54,14 +54,14 @@ none_past p n t k h past u model from =
 pub stays : (p : Stated) (n : ℕ) (t u : Finite) → 1 ≤ n → IsInterpretation n p t → IsSameShape t u → IsFilled u → IsInterpretation n p u
 stays p n t u one h same filled =
     let a = interpretation_shape n p t h in
-    shape_interpretation n p u one (shape_joined (first_of n p) t u a.0 same) filled
+    shape_interpretation n p u one (shape_joined (first_tables n p) t u a.0 same) filled
 
 pub filled_of : (p : Stated) (n : ℕ) (t : Finite) → IsInterpretation n p t → IsFilled t
 filled_of p n t h = (interpretation_shape n p t h).1
 
 -- all interpretations of a size have as many tables of their shape
 pub count_in : (p : Stated) (n : ℕ) (t : Finite) → IsInterpretation n p t → table_count t ≡ tables_in n p
-count_in p n t h = sym (shape_count (first_of n p) t (interpretation_shape n p t h).0)
+count_in p n t h = sym (shape_count (first_tables n p) t (interpretation_shape n p t h).0)
 
 -- what was found is what a search answers
 pub found_answers : (s : Search) (t' : Finite) (answer : Answer) (times : Times) → IsInterpretation s.size s.problem s.tables → 1 ≤ s.size → s.ahead ≡ table_number s.tables → IsSameShape s.tables t' → IsFilled t'

@@ -10,7 +10,7 @@ use Rattle.mace_search.specs.Complete.{AreComplete}
 use Rattle.mace_search.specs.Models.{IsModel, AreFirst, AreAll}
 use Rattle.mace_search.specs.Worked.{spared, tables}
 use Rattle.model_tables.specs.Order.{table_number, table_count}
-use Rattle.model_tables.specs.Renaming.{IsIsomorphism, carried}
+use Rattle.model_tables.specs.Isomorphism.{IsIsomorphism, carried}
 use Rattle.model_tables.specs.Size.{AllBelow, IsInterpretation}
 use Rattle.model_tables.specs.Tables.{Finite, has, listed, listing, meaning_of}
 use Rattle.model_tables.specs.Worked.{exchange}

@@ -2,7 +2,7 @@
 use Rattle.std.specs.Prelude.{◌≢◌, ℕ, List, [], ◌∷◌, ◌⊎◌}
 use Rattle.fol_core.specs.Stated.{Stated}
 use Rattle.mace_search.specs.Models.{IsModel}
-use Rattle.model_tables.specs.Renaming.{IsIsomorphism}
+use Rattle.model_tables.specs.Isomorphism.{IsIsomorphism}
 use Rattle.model_tables.specs.Tables.{Finite}
 
 -- each of these tables is a model of size n
@@ -20,14 +20,14 @@ abbrev pub AreDifferent : List Finite → Type 0
 AreDifferent [] = Unit {0}
 AreDifferent (t ∷ ts) = IsNewModel t ts × AreDifferent ts
 
--- u is a renaming of one of these
-abbrev pub HasRenaming : Stated → ℕ → Finite → List Finite → Type 0
-HasRenaming p n u [] = ⊥
-HasRenaming p n u (t ∷ ts) = ((r : ℕ → ℕ) × IsIsomorphism n p r t u) ⊎ HasRenaming p n u ts
+-- u is isomorphic to one of these
+abbrev pub HasIsomorphic : Stated → ℕ → Finite → List Finite → Type 0
+HasIsomorphic p n u [] = ⊥
+HasIsomorphic p n u (t ∷ ts) = ((r : ℕ → ℕ) × IsIsomorphism n p r t u) ⊎ HasIsomorphic p n u ts
 
 -- These are models, no two the same, and every interpretation of the size in which each assumption is true and each goal is
--- false is a renaming of one of them.
+-- false is isomorphic to one of them.
 pub record AreComplete (p : Stated) (n : ℕ) (ts : List Finite) : Type 0 where
   pub models : AreModels p n ts
   pub different : AreDifferent ts
-  pub every : (u : Finite) → IsModel p n u → HasRenaming p n u ts
+  pub every : (u : Finite) → IsModel p n u → HasIsomorphic p n u ts

@@ -6,7 +6,7 @@ use Rattle.mace_search.specs.Models.{NoneFrom, NoneBetween, IsNextModel}
 use Rattle.mace_search.specs.Watch.{IsEarly, IsLate}
 use Rattle.mace_search.specs.declared.answer.Answer.{Answer}
 use Rattle.mace_search.specs.declared.answer.Answer.TheVariants.{Model, Exhausted, MaxSeconds}
-use Rattle.model_tables.specs.Order.{first_of, table_number, table_count, IsSameShape, IsFilled}
+use Rattle.model_tables.specs.Order.{first_tables, table_number, table_count, IsSameShape, IsFilled}
 use Rattle.model_tables.specs.Tables.{Finite, meaning_of}
 
 -- what is stated, how many elements there are, the tables at hand, the number of the first tables still to come, when to
@@ -21,7 +21,7 @@ pub record Search : Type 0 where
 
 -- how many tables of size n there are
 abbrev pub tables_in : ℕ → Stated → ℕ
-tables_in n p = table_count (first_of n p)
+tables_in n p = table_count (first_tables n p)
 
 -- the same search, further on
 abbrev pub IsSame : Search → Search → Type 0

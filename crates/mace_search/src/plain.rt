@@ -5,8 +5,9 @@ ghost use Rattle.mace_search.specs.Plain.{IsSame, Answers, readings_until};
 ghost use Rattle.mace_search.specs.PlainView.{state_after};
 ghost use Rattle.mace_search.specs.Watch.{IsEarly, KeepsFirst, HasReadMore};
 ghost use Rattle.mace_search.specs.declared.answer.Answer.TheVariants.{Exhausted, MaxSeconds};
-ghost use Rattle.model_tables.specs.Order.{first_of, table_number, table_count};
+ghost use Rattle.model_tables.specs.Order.{first_tables, table_number, table_count};
 ghost use Rattle.model_tables.specs.Size.{cell_count};
+ghost use Rattle.model_tables.specs.declared.limits.TheConstants.{MOST_CELLS};
 
 use crate::answer::Answer;
 use crate::check::Check;
@@ -72,11 +73,11 @@ impl<'a> PlainSearch<'a> {
         stop: Option<u128>,
     ) -> Result<PlainSearch<'a>, AllocError>
         requires size { 1 ≤ size }
-        requires cells { cell_count size (stated_of problem.now) ≤ 50000000 }
+        requires cells { cell_count size (stated_of problem.now) ≤ MOST_CELLS }
         ensures { IfOk result (λ s. s ≡ record {
           problem = stated_of problem.now;
           size = size;
-          tables = first_of size (stated_of problem.now);
+          tables = first_tables size (stated_of problem.now);
           ahead = 0;
           stop = stop;
           late = None;

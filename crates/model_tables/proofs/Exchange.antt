@@ -5,7 +5,7 @@ use Rattle.fol_core.specs.Stated.{Stated}
 use Rattle.fol_core.specs.SymbolTable.{arity_at, kind_at}
 use Rattle.fol_core.specs.declared.symbols.Kind.{Kind}
 use Rattle.fol_core.specs.declared.symbols.Kind.TheVariants.{Function, Relation}
-use Rattle.model_tables.specs.Renaming.{IsIsomorphism, carried}
+use Rattle.model_tables.specs.Isomorphism.{IsIsomorphism, carried}
 use Rattle.model_tables.specs.Size.{AllBelow}
 use Rattle.model_tables.specs.Tables.{Finite, has, listed}
 use Rattle.model_tables.specs.Worked.{apart, tables, exchange}

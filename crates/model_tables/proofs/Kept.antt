@@ -10,7 +10,7 @@ use Rattle.fol_core.specs.SymbolTable.{Symbol, kind_at}
 use Rattle.model_tables.proofs.Exchange.{list_itself, carried_itself}
 use Rattle.model_tables.proofs.Expanding.{used_apart, same_top, kept_row}
 use Rattle.model_tables.specs.Expansion.{IsExpansion}
-use Rattle.model_tables.specs.Renaming.{IsIsomorphism}
+use Rattle.model_tables.specs.Isomorphism.{IsIsomorphism}
 use Rattle.model_tables.specs.Size.{cells_for, AreListings, formulas_of, IsInterpretation}
 use Rattle.model_tables.specs.Tables.{Listing, Finite, has, listed, place_from}
 

@@ -8,7 +8,7 @@ use Rattle.fol_core.specs.SymbolTable.{Symbol}
 use Rattle.fol_core.specs.declared.symbols.Kind.{Kind}
 use Rattle.fol_core.specs.declared.symbols.Kind.TheVariants.{Function, Relation}
 use Rattle.model_tables.specs.Digits.{AreDigits, count, number}
-use Rattle.model_tables.specs.Order.{bounds_of, cells_of, IsFilled, table_count, table_number, HaveSameCells, IsSameShape, zeros_for, first_of, GoesOn, EachComesOnce}
+use Rattle.model_tables.specs.Order.{bounds_of, cells_of, IsFilled, table_count, table_number, HaveSameCells, IsSameShape, zeros_for, first_tables, GoesOn, EachComesOnce}
 use Rattle.model_tables.specs.Size.{bound_of, cells_for, AllBelow, AreListings, formulas_of, IsInterpretation}
 use Rattle.model_tables.specs.Tables.{Listing, listing, Finite}
 use Rattle.model_tables.proofs.Numbers.{number_below, number_same}
@@ -41,13 +41,13 @@ cells_listings n fs k (s ∷ ss) (l ∷ ls) h f =
     ((sym h.0, sym h.1 ∙ length-replicate (cells_for n s.arity (occurs_in k fs)) 0, below), cells_listings n fs (suc k) ss ls h.2 f.1)
 
 -- tables are an interpretation of the size where they have the cells of the first ones, filled
-pub interpretation_shape : (n : ℕ) (p : Stated) (t : Finite) → IsInterpretation n p t → IsSameShape (first_of n p) t × IsFilled t
+pub interpretation_shape : (n : ℕ) (p : Stated) (t : Finite) → IsInterpretation n p t → IsSameShape (first_tables n p) t × IsFilled t
 interpretation_shape n p t h =
     let parts = listings_cells n (formulas_of p) 0 p.symbols t.rows h.1 in
     let filled : AreDigits (bounds_of n t.rows) (cells_of t.rows) = whole_filled n t.rows parts.1 in
     ((omega (arith, h.0), parts.0), rw h.0 filled)
 
-pub shape_interpretation : (n : ℕ) (p : Stated) (t : Finite) → 1 ≤ n → IsSameShape (first_of n p) t → IsFilled t → IsInterpretation n p t
+pub shape_interpretation : (n : ℕ) (p : Stated) (t : Finite) → 1 ≤ n → IsSameShape (first_tables n p) t → IsFilled t → IsInterpretation n p t
 shape_interpretation n p t one same filled =
     let size : t.top + 1 ≡ n = omega (arith, same.0) in
     (size, cells_listings n (formulas_of p) 0 p.symbols t.rows same.1 (parts_filled n t.rows (rw size at filled)))
@@ -64,7 +64,7 @@ zeros_filled : (n : ℕ) (fs : List Fol) (k : ℕ) (ss : List Symbol) → 1 ≤ 
 zeros_filled n fs k [] h = tt
 zeros_filled n fs k (s ∷ ss) h = (zeros_digits (bound_of n s.kind) (cells_for n s.arity (occurs_in k fs)) (bound_least n s.kind h), zeros_filled n fs (suc k) ss h)
 
-pub first_filled : (n : ℕ) (p : Stated) → 1 ≤ n → IsFilled (first_of n p)
+pub first_filled : (n : ℕ) (p : Stated) → 1 ≤ n → IsFilled (first_tables n p)
 first_filled n p h = let size : n - 1 + 1 ≡ n = omega arith in rw size (whole_filled n (zeros_for n (formulas_of p) 0 p.symbols) (zeros_filled n (formulas_of p) 0 p.symbols h))
 
 AreZeros : List ℕ → Type 0
@@ -92,7 +92,7 @@ zeros_number [] xs h = refl
 zeros_number (b ∷ bs) [] h = refl
 zeros_number (b ∷ bs) (x ∷ xs) h = omega (arith, ap (λ (y : ℕ). y * count bs) h.0, zeros_number bs xs h.1)
 
-pub first_number : (n : ℕ) (p : Stated) → table_number (first_of n p) ≡ 0
+pub first_number : (n : ℕ) (p : Stated) → table_number (first_tables n p) ≡ 0
 first_number n p = zeros_number (bounds_of (n - 1 + 1) (zeros_for n (formulas_of p) 0 p.symbols)) (cells_of (zeros_for n (formulas_of p) 0 p.symbols)) (zeros_cells n (formulas_of p) 0 p.symbols)
 
 same_turned : (ls ms : List Listing) → HaveSameCells ls ms → HaveSameCells ms ls
@@ -168,23 +168,23 @@ run_many : (t : Finite) (us : List Finite) → GoesOn t us → table_count t ≡
 run_many t [] h = omega (arith, h)
 run_many t (u ∷ us) h = omega (arith, run_many u us h.1, shape_count t u h.0.0, h.0.2)
 
-pub each_once : (n : ℕ) (p : Stated) (ts : List Finite) → 1 ≤ n → GoesOn (first_of n p) ts → EachComesOnce n p (first_of n p ∷ ts)
+pub each_once : (n : ℕ) (p : Stated) (ts : List Finite) → 1 ≤ n → GoesOn (first_tables n p) ts → EachComesOnce n p (first_tables n p ∷ ts)
 each_once n p ts one run = (each, once)
   where
-    filled : IsFilled (first_of n p)
+    filled : IsFilled (first_tables n p)
     filled = first_filled n p one
 
-    each : (t : Finite) → IsInterpretation n p t → (k : ℕ) × (k < suc (length ts)) × (get_or (first_of n p ∷ ts) k (first_of n p) ≡ t)
+    each : (t : Finite) → IsInterpretation n p t → (k : ℕ) × (k < suc (length ts)) × (get_or (first_tables n p ∷ ts) k (first_tables n p) ≡ t)
     each t h =
         let shape = interpretation_shape n p t h in
         let less : table_number t < suc (length ts) =
-        omega (arith, run_many (first_of n p) ts run, first_number n p, number_in_count t shape.1, shape_count (first_of n p) t shape.0) in
-        let x = get_or (first_of n p ∷ ts) (table_number t) (first_of n p) in
-        let there = run_at (first_of n p) ts (table_number t) (first_of n p) run filled less in
-        (table_number t, less, number_decides x t (shape_joined x (first_of n p) t (shape_turned (first_of n p) x there.0) shape.0) there.1 shape.1 (omega (arith, there.2, first_number n p)))
+        omega (arith, run_many (first_tables n p) ts run, first_number n p, number_in_count t shape.1, shape_count (first_tables n p) t shape.0) in
+        let x = get_or (first_tables n p ∷ ts) (table_number t) (first_tables n p) in
+        let there = run_at (first_tables n p) ts (table_number t) (first_tables n p) run filled less in
+        (table_number t, less, number_decides x t (shape_joined x (first_tables n p) t (shape_turned (first_tables n p) x there.0) shape.0) there.1 shape.1 (omega (arith, there.2, first_number n p)))
 
-    once : (j k : ℕ) → j < suc (length ts) → k < suc (length ts) → get_or (first_of n p ∷ ts) j (first_of n p) ≡ get_or (first_of n p ∷ ts) k (first_of n p) → j ≡ k
+    once : (j k : ℕ) → j < suc (length ts) → k < suc (length ts) → get_or (first_tables n p ∷ ts) j (first_tables n p) ≡ get_or (first_tables n p ∷ ts) k (first_tables n p) → j ≡ k
     once j k lj lk e =
-        let at_j = run_at (first_of n p) ts j (first_of n p) run filled lj in
-        let at_k = run_at (first_of n p) ts k (first_of n p) run filled lk in
+        let at_j = run_at (first_tables n p) ts j (first_tables n p) run filled lj in
+        let at_k = run_at (first_tables n p) ts k (first_tables n p) run filled lk in
         omega (arith, at_j.2, at_k.2, ap table_number e)

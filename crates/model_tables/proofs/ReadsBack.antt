@@ -10,8 +10,8 @@ use Rattle.fol_core.specs.Fol.{Fol}
 use Rattle.fol_core.specs.SymbolTable.{Symbol}
 use Rattle.fol_core.specs.declared.symbols.Kind.{Kind}
 use Rattle.fol_core.specs.declared.symbols.Kind.TheVariants.{Function, Relation}
-use Rattle.model_tables.specs.ModelText.{numbers_behind, numbers_text, places_text, word_of, entry_text, entries_of, lines_of, lines_behind, model_text}
-use Rattle.model_tables.specs.Order.{HaveSameCells, first_of}
+use Rattle.model_tables.specs.ModelText.{numbers_behind, numbers_text, places_text, word_of, entry_text, entries_of, entry_lines, lines_behind, model_text}
+use Rattle.model_tables.specs.Order.{HaveSameCells, first_tables}
 use Rattle.model_tables.specs.Reads.{TextTells}
 use Rattle.model_tables.specs.Size.{AllBelow, AreListings, bound_of, formulas_of}
 use Rattle.model_tables.specs.Tables.{Listing, Finite, listing}
@@ -186,14 +186,14 @@ head_same x y j k r s lx ly lj lk e =
 pub tells : TextTells
 unfolding model_text
 tells p m n j k t u ht hu lm ln lj lk e =
-    let lines : Finite → List ℕ = λ v. lines_of (entries_of p.symbols v.rows) in
+    let lines : Finite → List ℕ = λ v. entry_lines (entries_of p.symbols v.rows) in
     let open_t = append_assoc (head (t.top + 1) j) (lines t) (codes "]).\n") in
     let open_u = append_assoc (head (u.top + 1) k) (lines u) (codes "]).\n") in
     let parts = head_same (t.top + 1) (u.top + 1) j k (lines t ++ codes "]).\n") (lines u ++ codes "]).\n") (omega (arith, ht.0)) (omega (arith, hu.0)) lj lk (sym open_t ∙ e ∙ open_u) in
     let size : m ≡ n = omega (arith, parts.0, ht.0, hu.0) in
     let shape_t = (interpretation_shape m p t ht).0 in
     let shape_u = (interpretation_shape n p u hu).0 in
-    let shape = shape_joined t (first_of n p) u (shape_turned (first_of n p) t (rw size at shape_t)) shape_u in
+    let shape = shape_joined t (first_tables n p) u (shape_turned (first_tables n p) t (rw size at shape_t)) shape_u in
     let small_t = small_listings m (formulas_of p) 0 p.symbols t.rows lm ht.1 in
     let small_u = small_listings n (formulas_of p) 0 p.symbols u.rows ln hu.1 in
     let rows = lines_same p.symbols t.rows u.rows false (codes "]).\n") (codes "]).\n") shape.1 small_t.1 small_t.0 small_u.0 parts.2 in

@@ -2,7 +2,7 @@
 use Rattle.std.proofs.Common.{◌≡◌, ℕ, zero, suc, ◌+◌, ◌<◌, ◌≤◌, ◌==◌, ◌||◌, not, Bool, true, false, if◌then◌else◌, List, [], ◌∷◌, ◌++◌, length, min, drop, get_or, codes, refl, sym, ap, ◌∙◌, append_assoc, arith}
 use Rattle.std.proofs.lemmas.List.{drop_all}
 use Rattle.fol_core.specs.SymbolTable.{Symbol, name_at, arity_at}
-use Rattle.model_tables.specs.ModelText.{entry_text, line_of, entries_of, lines_of, lines_behind}
+use Rattle.model_tables.specs.ModelText.{entry_text, entry_line, entries_of, entry_lines, lines_behind}
 use Rattle.model_tables.specs.Tables.{Listing}
 
 -- the entries from i on
@@ -11,7 +11,7 @@ rest_of ss ls i = entries_of (drop i ss) (drop i ls)
 
 -- their lines, where an entry stands before or none does
 abbrev pub lines_from : Bool → List (List ℕ) → List ℕ
-lines_from before es = if before then lines_behind es else lines_of es
+lines_from before es = if before then lines_behind es else entry_lines es
 
 next : (ss : List Symbol) (ls : List Listing) (i : ℕ) (l : Listing) → i < length ls → i < length ss → l ≡ get_or ls i l
     → rest_of ss ls i ≡ (if length l.values == 0 then rest_of ss ls (i + 1) else entry_text (name_at ss i) (arity_at ss i) l.kind l.values ∷ rest_of ss ls (i + 1))
@@ -29,7 +29,7 @@ step false false e es = sym (append_assoc (codes "\n    ") e (lines_behind es))
 
 -- the lines from i on are the line of i, if it has values, and those behind it
 pub lines_next : (ss : List Symbol) (ls : List Listing) (i : ℕ) (l : Listing) (before : Bool) → i < length ls → i < length ss → l ≡ get_or ls i l
-    → lines_from before (rest_of ss ls i) ≡ line_of before (name_at ss i) (arity_at ss i) l ++ lines_from (before || not (length l.values == 0)) (rest_of ss ls (i + 1))
+    → lines_from before (rest_of ss ls i) ≡ entry_line before (name_at ss i) (arity_at ss i) l ++ lines_from (before || not (length l.values == 0)) (rest_of ss ls (i + 1))
 lines_next ss ls i l before a b e =
     ap (lines_from before) (next ss ls i l a b e) ∙ step before (length l.values == 0) (entry_text (name_at ss i) (arity_at ss i) l.kind l.values) (rest_of ss ls (i + 1))
 

@@ -41,9 +41,9 @@ abbrev pub with_values : Finite → ℕ → List ℕ → Finite
 with_values t s values = record { top = t.top; rows = with_row t.rows s (listing Function values) }
 
 -- how many values are put in for all of them
-abbrev pub witness_cells : ℕ → List SkolemAxiom → ℕ
-witness_cells n [] = 0
-witness_cells n (w ∷ ws) = n ^ length w.variables + witness_cells n ws
+abbrev pub skolem_cells : ℕ → List SkolemAxiom → ℕ
+skolem_cells n [] = 0
+skolem_cells n (w ∷ ws) = n ^ length w.variables + skolem_cells n ws
 
 -- the second tables are the first ones with the least witnesses for each symbol, one symbol after the other
 abbrev pub IsExpansion : Finite → List SkolemAxiom → Finite → Type 0

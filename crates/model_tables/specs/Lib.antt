@@ -3,7 +3,7 @@ pub mod Expansion
 pub mod ModelText
 pub mod Order
 pub mod Reads
-pub mod Renaming
+pub mod Isomorphism
 pub mod Size
 pub mod Tables
 pub mod TablesCodes

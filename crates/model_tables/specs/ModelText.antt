@@ -43,15 +43,15 @@ abbrev pub lines_behind : List (List ℕ) → List ℕ
 lines_behind [] = codes "\n"
 lines_behind (e ∷ es) = codes ",\n    " ++ e ++ lines_behind es
 
-abbrev pub lines_of : List (List ℕ) → List ℕ
-lines_of [] = []
-lines_of (e ∷ es) = codes "\n    " ++ e ++ lines_behind es
+abbrev pub entry_lines : List (List ℕ) → List ℕ
+entry_lines [] = []
+entry_lines (e ∷ es) = codes "\n    " ++ e ++ lines_behind es
 
 -- the line of a symbol with values, where an entry stands before, or none
-abbrev pub line_of : Bool → List ℕ → ℕ → Listing → List ℕ
-line_of before name arity l = if length l.values == 0 then [] else (if before then codes ",\n    " else codes "\n    ") ++ entry_text name arity l.kind l.values
+abbrev pub entry_line : Bool → List ℕ → ℕ → Listing → List ℕ
+entry_line before name arity l = if length l.values == 0 then [] else (if before then codes ",\n    " else codes "\n    ") ++ entry_text name arity l.kind l.values
 
 -- the text of tables for these symbols, as model number k
 unfoldable pub model_text : List Symbol → ℕ → Finite → List ℕ
 model_text ss k t =
-    codes "interpretation(" ++ decimal (t.top + 1) ++ codes ", [number = " ++ decimal k ++ codes ",seconds = 0], [" ++ lines_of (entries_of ss t.rows) ++ codes "]).\n"
+    codes "interpretation(" ++ decimal (t.top + 1) ++ codes ", [number = " ++ decimal k ++ codes ",seconds = 0], [" ++ entry_lines (entries_of ss t.rows) ++ codes "]).\n"

@@ -62,8 +62,8 @@ zeros_for n fs k [] = []
 zeros_for n fs k (s ∷ ss) = listing s.kind (replicate (cells_for n s.arity (occurs_in k fs)) 0) ∷ zeros_for n fs (suc k) ss
 
 -- the first tables of a size
-abbrev pub first_of : ℕ → Stated → Finite
-first_of n p = record { top = n - 1; rows = zeros_for n (formulas_of p) 0 p.symbols }
+abbrev pub first_tables : ℕ → Stated → Finite
+first_tables n p = record { top = n - 1; rows = zeros_for n (formulas_of p) 0 p.symbols }
 
 -- one tables after the other, each next after the one before, up to the last
 abbrev pub GoesOn : Finite → List Finite → Type 0
@@ -73,5 +73,5 @@ GoesOn t (u ∷ us) = IsNext t u × GoesOn u us
 -- every interpretation of a size comes in such a run, and no two tables of it are the same
 abbrev pub EachComesOnce : ℕ → Stated → List Finite → Type 0
 EachComesOnce n p ts =
-    ((t : Finite) → IsInterpretation n p t → (k : ℕ) × (k < length ts) × (slice_index_or ts k (first_of n p) ≡ t))
-    × ((j k : ℕ) → j < length ts → k < length ts → slice_index_or ts j (first_of n p) ≡ slice_index_or ts k (first_of n p) → j ≡ k)
+    ((t : Finite) → IsInterpretation n p t → (k : ℕ) × (k < length ts) × (slice_index_or ts k (first_tables n p) ≡ t))
+    × ((j k : ℕ) → j < length ts → k < length ts → slice_index_or ts j (first_tables n p) ≡ slice_index_or ts k (first_tables n p) → j ≡ k)

@@ -4,17 +4,17 @@ ghost use Rattle.fol_core.specs.Stated.{Stated, IsCountermodel};
 ghost use Rattle.fol_core.specs.declared.symbols.Kind.TheVariants.{Function};
 ghost use Rattle.model_tables.specs.Expansion.{IsExpansion, OneExpansion, ExpansionPicks, ExpansionKeeps, ExpansionSays};
 ghost use Rattle.model_tables.specs.ModelText.{model_text};
-ghost use Rattle.model_tables.specs.Order.{first_of, GoesOn, EachComesOnce, table_count, table_number};
+ghost use Rattle.model_tables.specs.Order.{first_tables, GoesOn, EachComesOnce, table_count, table_number};
 ghost use Rattle.model_tables.specs.Reads.{TextTells};
-ghost use Rattle.model_tables.specs.Renaming.{IsIsomorphism};
+ghost use Rattle.model_tables.specs.Isomorphism.{IsIsomorphism};
 ghost use Rattle.model_tables.specs.Size.{IsInterpretation, cell_count};
 ghost use Rattle.model_tables.specs.Tables.{Finite, listing, meaning_of};
 ghost use Rattle.model_tables.specs.Worked.{apart, tables, exchange, tables_text, group_symbols, group, group_text, one, single, seekers, expanded};
 
 /// From the first tables of a size to the last, one step after the other, every interpretation of the size comes just once.
 pub fn each_comes_once()
-    ensures { (n : ℕ) (p : Stated) (ts : List Finite) → 1 ≤ n → GoesOn (first_of n p) ts
-        → EachComesOnce n p (first_of n p ∷ ts) }
+    ensures { (n : ℕ) (p : Stated) (ts : List Finite) → 1 ≤ n → GoesOn (first_tables n p) ts
+        → EachComesOnce n p (first_tables n p ∷ ts) }
 {}
 
 /// The text of an interpretation tells its tables and its number.
@@ -22,7 +22,7 @@ pub fn text_tells()
     ensures { TextTells }
 {}
 
-/// Tables are a renaming of themselves.
+/// Tables are isomorphic to themselves.
 pub fn is_isomorphic_to_itself()
     ensures { (n : ℕ) (p : Stated) (t : Finite) → IsIsomorphism n p (λ x. x) t t }
 {}

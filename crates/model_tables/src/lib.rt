@@ -6,6 +6,7 @@ mod env;
 mod evaluate;
 mod existence;
 mod laws;
+mod limits;
 mod order;
 mod room;
 mod sizes;
@@ -18,6 +19,7 @@ pub use evaluate::{truth, value};
 pub use laws::{
     each_comes_once, expansions, is_isomorphic_to_itself, text_tells, worked, worked_expansions,
 };
+pub use limits::MOST_CELLS;
 pub use order::bound;
 pub use room::reserve_closure;
 pub use sizes::{cell_count, size_needed, skolem_cell_count};

@@ -3,10 +3,11 @@ ghost use Rattle.std.specs.Prelude.{◌≡◌, ◌≤◌, ◌^◌, ◌-◌, ◌<
 ghost use Rattle.fol_core.specs.EntryView.{skolem_axiom_of};
 ghost use Rattle.fol_core.specs.Occurs.{occurs_in, AreMarked, size_needed};
 ghost use Rattle.fol_core.specs.Stated.{all_said, stated_of};
-ghost use Rattle.model_tables.specs.Expansion.{witness_cells};
-ghost use Rattle.model_tables.specs.Order.{IsFilled, first_of, zeros_for};
+ghost use Rattle.model_tables.specs.Expansion.{skolem_cells};
+ghost use Rattle.model_tables.specs.Order.{IsFilled, first_tables, zeros_for};
 ghost use Rattle.model_tables.specs.Size.{cells_for, cell_count, formulas_of, used_from};
 ghost use Rattle.model_tables.specs.Tables.{listing};
+ghost use Rattle.model_tables.specs.declared.limits.TheConstants.{MOST_CELLS};
 
 use crate::tables::{Row, Tables};
 use fol_core::{Clauses, Input, Problem, Sym, above_numerals, mark_symbols};
@@ -16,8 +17,8 @@ impl Tables {
     /// The first tables of a size, each value 0: the symbols that stand in the formulas have cells.
     pub fn first(alloc: Global, problem: &Problem, size: u32) -> Result<Tables, AllocError>
         requires size { 1 ≤ size }
-        requires cells { cell_count size (stated_of problem.now) ≤ 50000000 }
-        ensures zeros { IfOk result (λ t. t ≡ first_of size (stated_of problem.now)) }
+        requires cells { cell_count size (stated_of problem.now) ≤ MOST_CELLS }
+        ensures zeros { IfOk result (λ t. t ≡ first_tables size (stated_of problem.now)) }
         ensures filled { IfOk result IsFilled }
     {
         let used = used_symbols(alloc, problem)?;
@@ -30,7 +31,7 @@ impl Tables {
 fn zeros(alloc: Global, problem: &Problem, used: &[bool], size: u32) -> Result<Vec<Row>, AllocError>
     requires used { used.now ≡ used_from (formulas_of
         (stated_of problem.now)) 0 problem.now.symbols }
-    requires cells { cell_count size (stated_of problem.now) ≤ 50000000 }
+    requires cells { cell_count size (stated_of problem.now) ≤ MOST_CELLS }
     ensures { IfOk result (λ rows. rows.items
         ≡ zeros_for size (formulas_of (stated_of problem.now)) 0 problem.now.symbols) }
 {
@@ -68,7 +69,7 @@ fn sum_of_cells(problem: &Problem, used: &[bool], size: u32) -> u64
 
 /// How many cells the Skolem symbols have at a size, or the greatest u64 if there are more.
 pub fn skolem_cell_count(clauses: &Clauses, size: u32) -> u64
-    ensures { result ≡ min (witness_cells size (map skolem_axiom_of clauses.now.skolem.items))
+    ensures { result ≡ min (skolem_cells size (map skolem_axiom_of clauses.now.skolem.items))
         (2 ^ 64 - 1) }
 {
     let mut all: u64 = 0;

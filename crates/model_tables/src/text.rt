@@ -2,7 +2,7 @@
 ghost use Rattle.std.specs.Prelude.{◌≡◌, ◌≤◌, ◌<◌, ◌==◌, ◌||◌, ◌++◌, not, [], length, codes, if◌then◌else◌, OnOk, IfOk};
 ghost use Rattle.std.specs.Fmt.{decimal};
 ghost use Rattle.fol_core.specs.SymbolTable.{name_at, arity_at};
-ghost use Rattle.model_tables.specs.ModelText.{numbers_text, further_places, places_text, word_of, entry_text, line_of, entries_of, lines_of, model_text};
+ghost use Rattle.model_tables.specs.ModelText.{numbers_text, further_places, places_text, word_of, entry_text, entry_line, entries_of, entry_lines, model_text};
 
 use crate::tables::{Row, Tables};
 use fol_core::{Kind, Sym, Symbols};
@@ -31,7 +31,7 @@ pub fn interpretation_text(
 // The lines of the entries of the symbols that have values.
 fn entries(out: &mut Vec<u8>, symbols: &Symbols, rows: &[Row]) -> Result<(), AllocError>
     ensures { OnOk result (out.new.items ≡ out.old.items
-        ++ lines_of (entries_of symbols.now rows.now)) }
+        ++ entry_lines (entries_of symbols.now rows.now)) }
 {
     let mut before = false;
     for number in 0..rows.len().min(symbols.len()) {
@@ -51,7 +51,7 @@ fn line(
 ) -> Result<bool, AllocError>
     requires { symbol.0 < length symbols.now }
     ensures text { OnOk result (out.new.items ≡ out.old.items
-        ++ line_of before (name_at symbols.now symbol.0) (arity_at symbols.now symbol.0) row.now) }
+        ++ entry_line before (name_at symbols.now symbol.0) (arity_at symbols.now symbol.0) row.now) }
     ensures now { IfOk result (λ now. now ≡ (before || not (length row.now.values == 0))) }
 {
     if row.is_empty() {

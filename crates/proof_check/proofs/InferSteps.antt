@@ -11,8 +11,8 @@ use Rattle.derivation.specs.Refused.{Fails, are_there, all_parents}
 use Rattle.derivation.specs.View.{later_of}
 use Rattle.derivation.specs.declared.words.Later.{Later}
 use Rattle.derivation.specs.declared.words.Satellite.{Satellite}
-use Rattle.proof_check.specs.Judged.{LeadsAs, JudgedAs, rule_of, parents_of}
-use Rattle.proof_check.specs.Found.{AfterAs, InferredAs, inference_by}
+use Rattle.proof_check.specs.Judged.{inference_by, LeadsAs, JudgedAs, rule_by, parents_by}
+use Rattle.proof_check.specs.Found.{AfterAs, InferredAs}
 use Rattle.proof_check.specs.declared.judging.Judged.TheVariants.{Misplaced, Differs, Made}
 
 -- the words from one on
@@ -89,15 +89,15 @@ pub numbers_end : (n : ℕ) (ss : List Satellite) (i : ℕ) → length ss ≤ i 
 numbers_end n ss i h = ap (λ ts. n ∷ map (λ (s : Satellite). s.clause) ts) (take_all i ss h)
 
 module _ (ls : List LineTree) (w : FirstWord) (ws : List LaterWord) (content : ContentTree) where
-  split : are_there ls (all_parents (inference_by w) ws) ≡ (are_there ls (parents_of w) && are_there ls (flat_map later_parents ws))
-  split = list_all-append (λ n. is_some (clause_at ls n)) (parents_of w) (flat_map later_parents ws)
+  split : are_there ls (all_parents (inference_by w) ws) ≡ (are_there ls (parents_by w) && are_there ls (flat_map later_parents ws))
+  split = list_all-append (λ n. is_some (clause_at ls n)) (parents_by w) (flat_map later_parents ws)
 
   -- parents that aren't there
-  pub parents_missing : are_there ls (parents_of w) ≡ false → InferredAs ls w ws content (Some 3)
-  parents_missing e = inl (refl, split ∙ and_left (are_there ls (parents_of w)) (are_there ls (flat_map later_parents ws)) e)
+  pub parents_missing : are_there ls (parents_by w) ≡ false → InferredAs ls w ws content (Some 3)
+  parents_missing e = inl (refl, split ∙ and_left (are_there ls (parents_by w)) (are_there ls (flat_map later_parents ws)) e)
 
   pub words_missing : are_there ls (flat_map later_parents ws) ≡ false → InferredAs ls w ws content (Some 3)
-  words_missing e = inl (refl, split ∙ and_right (are_there ls (parents_of w)) (are_there ls (flat_map later_parents ws)) e)
+  words_missing e = inl (refl, split ∙ and_right (are_there ls (parents_by w)) (are_there ls (flat_map later_parents ws)) e)
 
   there_of : (ns : List ℕ) (cs : List ClauseTree) → AreClauses ls ns cs → IsTrue (are_there ls ns)
   there_of [] [] are = refl
@@ -105,18 +105,18 @@ module _ (ls : List LineTree) (w : FirstWord) (ws : List LaterWord) (content : C
   there_of (n ∷ ns) [] are = absurd are
   there_of (n ∷ ns) (c ∷ cs) are = and_from (is_some (clause_at ls n)) (are_there ls ns) (ap is_some are.0) (there_of ns cs are.1)
 
-  pub all_there : (cs : List ClauseTree) → AreClauses ls (parents_of w) cs → are_there ls (flat_map later_parents ws) ≡ true → IsTrue (are_there ls (all_parents (inference_by w) ws))
-  all_there cs are e = split ∙ and_from (are_there ls (parents_of w)) (are_there ls (flat_map later_parents ws)) (there_of (parents_of w) cs are) e
+  pub all_there : (cs : List ClauseTree) → AreClauses ls (parents_by w) cs → are_there ls (flat_map later_parents ws) ≡ true → IsTrue (are_there ls (all_parents (inference_by w) ws))
+  all_there cs are e = split ∙ and_from (are_there ls (parents_by w)) (are_there ls (flat_map later_parents ws)) (there_of (parents_by w) cs are) e
 
   -- what the rule and the words come to
-  pub rule_misplaced : (cs : List ClauseTree) → AreClauses ls (parents_of w) cs → IsTrue (are_there ls (all_parents (inference_by w) ws)) → JudgedAs (rule_of w) cs Misplaced → InferredAs ls w ws content (Some 6)
+  pub rule_misplaced : (cs : List ClauseTree) → AreClauses ls (parents_by w) cs → IsTrue (are_there ls (all_parents (inference_by w) ws)) → JudgedAs (rule_by w) cs Misplaced → InferredAs ls w ws content (Some 6)
   rule_misplaced cs are there judged = inr (there, (cs, are, inl (refl, judged)))
 
-  pub rule_differs : (cs : List ClauseTree) → AreClauses ls (parents_of w) cs → IsTrue (are_there ls (all_parents (inference_by w) ws)) → JudgedAs (rule_of w) cs Differs → InferredAs ls w ws content (Some 7)
+  pub rule_differs : (cs : List ClauseTree) → AreClauses ls (parents_by w) cs → IsTrue (are_there ls (all_parents (inference_by w) ws)) → JudgedAs (rule_by w) cs Differs → InferredAs ls w ws content (Some 7)
   rule_differs cs are there judged = inr (there, (cs, are, inr (inl (refl, judged.0, judged.1))))
 
-  pub rule_after : (cs : List ClauseTree) (c : ClauseTree) (o : Option ℕ) → AreClauses ls (parents_of w) cs → IsTrue (are_there ls (all_parents (inference_by w) ws)) → JudgedAs (rule_of w) cs (Made c)
+  pub rule_after : (cs : List ClauseTree) (c : ClauseTree) (o : Option ℕ) → AreClauses ls (parents_by w) cs → IsTrue (are_there ls (all_parents (inference_by w) ws)) → JudgedAs (rule_by w) cs (Made c)
       → AfterAs ls ws c content o → InferredAs ls w ws content o
   rule_after cs c None are there judged after = (cs, c, are, judged.0, judged.1, after)
   rule_after cs c (Some row) are there judged (inl fails) = inr (there, (cs, are, inr (inr (judged.0, (c, judged.1, fails)))))
-  rule_after cs c (Some row) are there judged (inr missing) = inl (missing.0, split ∙ and_right (are_there ls (parents_of w)) (are_there ls (flat_map later_parents ws)) missing.1)
+  rule_after cs c (Some row) are there judged (inr missing) = inl (missing.0, split ∙ and_right (are_there ls (parents_by w)) (are_there ls (flat_map later_parents ws)) missing.1)

@@ -4,17 +4,14 @@ use Rattle.std.specs.List.{flat_map}
 use Rattle.fol_core.specs.Literals.{ClauseTree}
 use Rattle.fol_core.specs.Stated.{Said}
 use Rattle.derivation.specs.Later.{LaterWord, later_parents}
-use Rattle.derivation.specs.Lines.{FirstWord, Inference, inference, ContentTree, LineTree, InputRow, After, IsInferred, IsStated, IsInputOf, IsLine}
+use Rattle.derivation.specs.Lines.{FirstWord, ContentTree, LineTree, InputRow, After, IsInferred, IsStated, IsInputOf, IsLine}
 use Rattle.derivation.specs.Refused.{Fails, are_there, InferenceFails, StatedFails, InputFails, LineFails, IsRefusedLine, IsAccepted}
-use Rattle.proof_check.specs.Judged.{rule_of, parents_of}
+use Rattle.proof_check.specs.Judged.{inference_by}
 
 -- of the words behind a clause; row 3 where a clause that they take isn't there
 abbrev pub AfterAs : List LineTree → List LaterWord → ClauseTree → ContentTree → Option ℕ → Type 0
 AfterAs ls ws d content o =
     MatchOption o (After ls ws d content) (λ row. Fails ls ws d content row ⊎ ((row ≡ 3) × (are_there ls (flat_map later_parents ws) ≡ false)))
-
-abbrev pub inference_by : FirstWord → Inference
-inference_by w = inference (parents_of w) (rule_of w)
 
 -- of a rule with its words
 abbrev pub InferredAs : List LineTree → FirstWord → List LaterWord → ContentTree → Option ℕ → Type 0

@@ -1,12 +1,13 @@
 -- What is found of a step.
-use Rattle.std.specs.Prelude.{ℕ, ◌≡◌, IsTrue, false, List, [], ◌∷◌, map}
+use Rattle.std.specs.Prelude.{ℕ, ◌≡◌, IsTrue, false, List, []}
+use Rattle.std.specs.Option.{unwrap_or}
 use Rattle.fol_core.specs.Literals.{ClauseTree}
 use Rattle.fol_core.specs.Tree.{trees_of}
 use Rattle.derivation.specs.Apart.{lefts, rights}
 use Rattle.derivation.specs.Later.{LaterWord, later_fits, Leads}
-use Rattle.derivation.specs.Lines.{FirstWord, assumed, wanted, clausified, denied, copied, resolved, factored, paramodulated, xx_resolved}
+use Rattle.derivation.specs.Lines.{FirstWord, Inference, inference, inference_of}
 use Rattle.derivation.specs.Rule.{InferenceRule, Own, UnifiesFamily, Concludes}
-use Rattle.derivation.specs.Words.{Clash, copy_rule, clash_rule, factor_rule, xx_rule, para_rule}
+use Rattle.derivation.specs.Words.{Clash, copy_rule}
 use Rattle.derivation.specs.declared.words.Satellite.{Satellite}
 use Rattle.proof_check.specs.declared.judging.Judged.{Judged}
 use Rattle.proof_check.specs.declared.judging.Judged.TheVariants.{Misplaced, Differs, Made}
@@ -16,28 +17,15 @@ use Rattle.proof_check.specs.declared.building.Pending.{Pending}
 abbrev pub clash_of : Satellite → Clash
 clash_of s = (s.place, s.literal)
 
--- the rule of a first word, and the lines that it takes; of the four without a rule any one
-abbrev pub rule_of : FirstWord → InferenceRule
-rule_of (resolved n ss) = clash_rule (map clash_of ss)
-rule_of (factored n a b) = factor_rule a b
-rule_of (paramodulated n a side m b path) = para_rule a side b path
-rule_of (xx_resolved n a) = xx_rule a
-rule_of (copied n) = copy_rule
-rule_of assumed = copy_rule
-rule_of wanted = copy_rule
-rule_of (clausified n) = copy_rule
-rule_of (denied n) = copy_rule
+-- the lines that a first word takes and its rule; of the four without a rule none, and any one
+abbrev pub inference_by : FirstWord → Inference
+inference_by w = unwrap_or (inference_of w) (inference [] copy_rule)
 
-abbrev pub parents_of : FirstWord → List ℕ
-parents_of (resolved n ss) = n ∷ map (λ s. s.clause) ss
-parents_of (factored n a b) = n ∷ []
-parents_of (paramodulated n a side m b path) = n ∷ m ∷ []
-parents_of (xx_resolved n a) = n ∷ []
-parents_of (copied n) = n ∷ []
-parents_of assumed = []
-parents_of wanted = []
-parents_of (clausified n) = []
-parents_of (denied n) = []
+abbrev pub rule_by : FirstWord → InferenceRule
+rule_by w = (inference_by w).rule
+
+abbrev pub parents_by : FirstWord → List ℕ
+parents_by w = (inference_by w).parents
 
 -- what a rule makes of clauses, with what has to be equal
 abbrev pub IsPending : InferenceRule → List ClauseTree → Pending → Type 0

@@ -5,7 +5,7 @@ use Rattle.fol_core.specs.Meaning.{Meaning, IsLawful}
 use Rattle.fol_core.specs.SkolemAxioms.{PicksWitnesses}
 use Rattle.fol_core.specs.Stated.{Said, Stated, AreWellFormed, IsWellFormed, IsCountermodel}
 use Rattle.fol_core.specs.SymbolTable.{Symbol}
-use Rattle.clausify.specs.Input.{ClauseRow, all_rows, all_skolem_axioms, clauses_in_table, witnesses_in_table}
+use Rattle.clausify.specs.Input.{ClauseRow, all_rows, all_skolem_axioms, clauses_in_table, axioms_in_table}
 use Rattle.derivation.specs.Laws.{LinesNameWithin}
 use Rattle.derivation.specs.Lines.{LineTree, IsRefutation}
 
@@ -18,4 +18,4 @@ RefutationsLeaveNone m = (symbols : List ℕ) (ss : List Said) (ls : List LineTr
 -- these lines leave no such interpretation of what is stated, whose clauses these are
 abbrev pub LeaveNone : Stated → List ClauseRow → List LineTree → Type 0
 LeaveNone p rows ls = (m : Meaning) (table : List Symbol) → IsLawful m → IsWellFormed p → length p.symbols ≤ equality → rows ≡ clauses_in_table table p
-    → LinesNameWithin m ls → PicksWitnesses m (witnesses_in_table table p) → ¬ IsCountermodel m p.formulas
+    → LinesNameWithin m ls → PicksWitnesses m (axioms_in_table table p) → ¬ IsCountermodel m p.formulas

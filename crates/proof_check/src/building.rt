@@ -4,9 +4,9 @@ ghost use Rattle.fol_core.specs.TermView.{tree_of};
 ghost use Rattle.fol_core.specs.Tree.{trees_of};
 ghost use Rattle.fol_core.specs.Free.{is_in};
 ghost use Rattle.derivation.specs.Places.{others};
-ghost use Rattle.derivation.specs.View.{first_of};
+ghost use Rattle.derivation.specs.View.{first_word_of};
 ghost use Rattle.derivation.specs.Words.{only_of, first_of_two, second_of_two, copy_rule, clash_pairs, satellite_rests, clash_rule, factor_rule, xx_rule, para_rest, para_rule};
-ghost use Rattle.proof_check.specs.Judged.{clash_of, rule_of, IsPending};
+ghost use Rattle.proof_check.specs.Judged.{clash_of, rule_by, IsPending};
 
 use crate::equations::{copy_below, copy_left, copy_other_side, copy_right, copy_side, replaced};
 use crate::places::{copy_atom, others, with_atom};
@@ -224,8 +224,8 @@ fn clash_pending(
 
 /// What the rule of a first word makes of clauses that fit it.
 pub fn build(alloc: Global, first: &First, parents: &[Clause]) -> Result<Pending, AllocError>
-    requires { IsTrue ((rule_of (first_of first.now)).fits parents.now) }
-    ensures { IfOk result (λ p. IsPending (rule_of (first_of first.now)) parents.now p) }
+    requires { IsTrue ((rule_by (first_word_of first.now)).fits parents.now) }
+    ensures { IfOk result (λ p. IsPending (rule_by (first_word_of first.now)) parents.now p) }
 {
     match first {
         First::Assumption => copy_pending(alloc, parents),

@@ -11,7 +11,7 @@ use fol_core::Clause;
 use std::alloc::{AllocError, Global};
 
 /// The line of a number, among lines whose numbers rise.
-pub fn line_of(earlier: &[Line], number: u64) -> Option<&Line>
+pub fn line_at(earlier: &[Line], number: u64) -> Option<&Line>
     requires { AreRising (lines_of earlier.now) }
     ensures { option_map (λ l. line_of l.now) result ≡ line_at (lines_of earlier.now) number }
 {
@@ -22,11 +22,11 @@ pub fn line_of(earlier: &[Line], number: u64) -> Option<&Line>
 }
 
 /// The clause of the line of a number.
-pub fn clause_of(earlier: &[Line], number: u64) -> Option<&Clause>
+pub fn clause_at(earlier: &[Line], number: u64) -> Option<&Clause>
     requires { AreRising (lines_of earlier.now) }
     ensures { option_map (λ c. c.now) result ≡ clause_at (lines_of earlier.now) number }
 {
-    match line_of(earlier, number) {
+    match line_at(earlier, number) {
         None => None,
         Some(line) => match &line.content {
             Content::Formula(_, _) => None,
@@ -41,7 +41,7 @@ pub fn are_there(earlier: &[Line], numbers: &[u64]) -> bool
     ensures { result ≡ are_there (lines_of earlier.now) numbers.now }
 {
     for number in numbers {
-        match clause_of(earlier, *number) {
+        match clause_at(earlier, *number) {
             Some(_) => {}
             None => return false,
         }
@@ -51,7 +51,7 @@ pub fn are_there(earlier: &[Line], numbers: &[u64]) -> bool
 
 /// Copies of the clauses of some lines, where they are there.
 #[tactic(auto, using(crate::proofs::EarlierSteps::finding_start, crate::proofs::EarlierSteps::clauses_next, crate::proofs::EarlierSteps::clauses_missing, crate::proofs::EarlierSteps::clauses_all))]
-pub fn clauses_of(
+pub fn copied_clauses(
     alloc: Global,
     earlier: &[Line],
     numbers: &[u64],
@@ -62,7 +62,7 @@ pub fn clauses_of(
 {
     let mut found = Vec::new(alloc);
     for number in numbers {
-        match clause_of(earlier, *number) {
+        match clause_at(earlier, *number) {
             Some(clause) => found.push(clause.copy(alloc)?)?,
             None => return Ok(None),
         }

@@ -1,9 +1,9 @@
 // Whether the places of a rule are there in its parents, of the kinds and signs that it takes.
 ghost use Rattle.std.specs.Prelude.{◌≡◌, IfOk, map, length};
 ghost use Rattle.fol_core.specs.Free.{is_in};
-ghost use Rattle.derivation.specs.View.{first_of};
+ghost use Rattle.derivation.specs.View.{first_word_of};
 ghost use Rattle.derivation.specs.Words.{copy_rule, clashes_fit, clash_rule, factor_rule, xx_rule, para_rule, para_fits};
-ghost use Rattle.proof_check.specs.Judged.{clash_of, rule_of};
+ghost use Rattle.proof_check.specs.Judged.{clash_of, rule_by};
 
 use crate::equations::{is_equation, is_no_variable};
 use crate::places::{are_alike, are_opposite, copy_atom, has_literal, has_place};
@@ -123,7 +123,7 @@ fn clash_fits(parents: &[Clause], satellites: &[Satellite]) -> bool
 
 /// Whether the parents fit the rule of a first word; of the words without a rule nothing is said.
 pub fn fits(alloc: Global, first: &First, parents: &[Clause]) -> Result<bool, AllocError>
-    ensures { IfOk result (λ fits. fits ≡ (rule_of (first_of first.now)).fits parents.now) }
+    ensures { IfOk result (λ fits. fits ≡ (rule_by (first_word_of first.now)).fits parents.now) }
 {
     match first {
         First::Assumption => Ok(copy_fits(parents)),

@@ -4,12 +4,12 @@ ghost use Rattle.std.specs.List.{flat_map};
 ghost use Rattle.derivation.specs.Later.{later_parents};
 ghost use Rattle.derivation.specs.Lines.{IsClause, AreClauses};
 ghost use Rattle.derivation.specs.Refused.{are_there, all_parents};
-ghost use Rattle.derivation.specs.View.{first_of, later_of, content_of, lines_of};
-ghost use Rattle.proof_check.specs.Judged.{parents_of};
-ghost use Rattle.proof_check.specs.Found.{AfterAs, InferredAs, inference_by};
+ghost use Rattle.derivation.specs.View.{first_word_of, later_of, content_of, lines_of};
+ghost use Rattle.proof_check.specs.Judged.{inference_by, parents_by};
+ghost use Rattle.proof_check.specs.Found.{AfterAs, InferredAs};
 ghost use Rattle.proof_check.specs.Reached.{AreRising};
 
-use crate::earlier::{are_there, clauses_of};
+use crate::earlier::{are_there, copied_clauses};
 use crate::following::follow;
 use crate::judging::{Judged, judge};
 use derivation::{Content, First, Just, Later, Line, Satellite};
@@ -76,7 +76,7 @@ fn after(
     let mut clause = clause;
     for word in words {
         let numbers = later_numbers(alloc, word)?;
-        let Some(parents) = clauses_of(alloc, earlier, numbers.as_slice())? else {
+        let Some(parents) = copied_clauses(alloc, earlier, numbers.as_slice())? else {
             return Ok(Some(3));
         };
         match follow(alloc, word, &clause, parents.as_slice())? {
@@ -127,7 +127,7 @@ fn two_numbers(alloc: Global, n: u64, m: u64) -> Result<Vec<u64>, AllocError>
 }
 
 fn parent_numbers(alloc: Global, first: &First) -> Result<Vec<u64>, AllocError>
-    ensures { IfOk result (λ ns. ns.items ≡ parents_of (first_of first.now)) }
+    ensures { IfOk result (λ ns. ns.items ≡ parents_by (first_word_of first.now)) }
 {
     match first {
         First::Assumption => Ok(Vec::new(alloc)),
@@ -157,11 +157,11 @@ fn rule_and_words(
 ) -> Result<Option<u64>, AllocError>
     requires rising { AreRising (lines_of earlier.now) }
     requires parents { AreClauses (lines_of earlier.now)
-        (parents_of (first_of just.now.first)) parents.now }
+        (parents_by (first_word_of just.now.first)) parents.now }
     requires there { IsTrue (are_there (lines_of earlier.now)
-        (all_parents (inference_by (first_of just.now.first))
+        (all_parents (inference_by (first_word_of just.now.first))
         (map later_of just.now.steps.items))) }
-    ensures { IfOk result (InferredAs (lines_of earlier.now) (first_of just.now.first)
+    ensures { IfOk result (InferredAs (lines_of earlier.now) (first_word_of just.now.first)
         (map later_of just.now.steps.items) (content_of content.now)) }
 {
     match judge(alloc, &just.first, parents)? {
@@ -180,11 +180,11 @@ pub fn infer(
     content: &Content,
 ) -> Result<Option<u64>, AllocError>
     requires { AreRising (lines_of earlier.now) }
-    ensures { IfOk result (InferredAs (lines_of earlier.now) (first_of just.now.first)
+    ensures { IfOk result (InferredAs (lines_of earlier.now) (first_word_of just.now.first)
         (map later_of just.now.steps.items) (content_of content.now)) }
 {
     let numbers = parent_numbers(alloc, &just.first)?;
-    let Some(parents) = clauses_of(alloc, earlier, numbers.as_slice())? else {
+    let Some(parents) = copied_clauses(alloc, earlier, numbers.as_slice())? else {
         return Ok(Some(3));
     };
     if !later_there(alloc, earlier, just.steps.as_slice())? {

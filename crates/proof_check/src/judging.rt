@@ -1,7 +1,7 @@
 // What is found of a step.
 ghost use Rattle.std.specs.Prelude.{◌≡◌, IsTrue, IfOk};
-ghost use Rattle.derivation.specs.View.{first_of};
-ghost use Rattle.proof_check.specs.Judged.{rule_of, IsPending, JudgedAs};
+ghost use Rattle.derivation.specs.View.{first_word_of};
+ghost use Rattle.proof_check.specs.Judged.{rule_by, IsPending, JudgedAs};
 ghost use Rattle.proof_check.specs.Interleaved.{apart_of};
 
 use crate::apart::renamed_apart;
@@ -28,9 +28,10 @@ fn conclude(
     parents: &[Clause],
     waiting: Pending,
 ) -> Result<Judged, AllocError>
-    requires fits { IsTrue ((rule_of (first_of first.now)).fits parents.now) }
-    requires pending { IsPending (rule_of (first_of first.now)) (apart_of parents.now) waiting }
-    ensures { IfOk result (JudgedAs (rule_of (first_of first.now)) parents.now) }
+    requires fits { IsTrue ((rule_by (first_word_of first.now)).fits parents.now) }
+    requires pending { IsPending (rule_by (first_word_of first.now)) (apart_of parents.now)
+        waiting }
+    ensures { IfOk result (JudgedAs (rule_by (first_word_of first.now)) parents.now) }
 {
     let Pending {
         lefts,
@@ -46,7 +47,7 @@ fn conclude(
 /// What the rule of a first word comes to on its parents.
 #[tactic(auto, using(crate::proofs::JudgeSteps::apart_fit))]
 pub fn judge(alloc: Global, first: &First, parents: &[Clause]) -> Result<Judged, AllocError>
-    ensures { IfOk result (JudgedAs (rule_of (first_of first.now)) parents.now) }
+    ensures { IfOk result (JudgedAs (rule_by (first_word_of first.now)) parents.now) }
 {
     if !fits(alloc, first, parents)? {
         return Ok(Judged::Misplaced);

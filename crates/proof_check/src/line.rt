@@ -2,7 +2,7 @@
 ghost use Rattle.std.specs.Prelude.{◌↔◌, IsTrue, IfOk, map};
 ghost use Rattle.fol_core.specs.Stated.{all_said};
 ghost use Rattle.derivation.specs.Lines.{IsAbove};
-ghost use Rattle.derivation.specs.View.{first_of, later_of, content_of, line_of, lines_of};
+ghost use Rattle.derivation.specs.View.{first_word_of, later_of, content_of, line_of, lines_of};
 ghost use Rattle.proof_check.specs.Found.{StatedAs, InputAs, LineAs, FoundAs};
 ghost use Rattle.proof_check.specs.Reached.{AreRising};
 
@@ -62,7 +62,7 @@ fn words(
 ) -> Result<Option<u64>, AllocError>
     requires { AreRising (lines_of earlier.now) }
     ensures { IfOk result (LineAs (all_said inputs.now) rows.now (lines_of earlier.now)
-        (first_of line.now.just.first) (map later_of line.now.just.steps.items)
+        (first_word_of line.now.just.first) (map later_of line.now.just.steps.items)
         (content_of line.now.content)) }
 {
     match &line.just.first {

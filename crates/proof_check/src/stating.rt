@@ -4,10 +4,10 @@ ghost use Rattle.std.specs.Option.{option_map};
 ghost use Rattle.fol_core.specs.FormulaView.{fol_of};
 ghost use Rattle.fol_core.specs.Stated.{all_said, said_of};
 ghost use Rattle.derivation.specs.Lines.{assumed, wanted, is_goal, IsSaid, IsAmongSaid, IsStated, said_at, IsRowOf, IsInput, is_formula_at, IsInputOf};
-ghost use Rattle.derivation.specs.View.{first_of, content_of, lines_of};
+ghost use Rattle.derivation.specs.View.{first_word_of, content_of, lines_of};
 ghost use Rattle.proof_check.specs.Reached.{AreRising};
 
-use crate::earlier::line_of;
+use crate::earlier::line_at;
 use crate::inferring::is_clause;
 use crate::sameness::same_shape;
 use derivation::{Content, First, Line};
@@ -118,7 +118,7 @@ fn is_input(
 
 // Whether a word states a goal, or another formula.
 fn states(first: &First, goal: bool) -> bool
-    ensures { IsTrue result ↔ (first_of first.now ≡ (if goal then wanted else assumed)) }
+    ensures { IsTrue result ↔ (first_word_of first.now ≡ (if goal then wanted else assumed)) }
 {
     if goal {
         let First::Goal = first else {
@@ -138,7 +138,7 @@ pub fn is_formula_at(earlier: &[Line], number: u64) -> bool
     requires { AreRising (lines_of earlier.now) }
     ensures { result ≡ is_formula_at (lines_of earlier.now) number }
 {
-    match line_of(earlier, number) {
+    match line_at(earlier, number) {
         None => false,
         Some(line) => match &line.content {
             Content::Formula(_, _) => true,
@@ -162,7 +162,7 @@ pub fn is_input_of(
     ensures { IfOk result (λ is. IsTrue is ↔ IsInputOf (all_said inputs.now) rows.now
         (lines_of earlier.now) goal number (content_of content.now)) }
 {
-    let Some(line) = line_of(earlier, number) else {
+    let Some(line) = line_at(earlier, number) else {
         return Ok(false);
     };
     match &line.content {

@@ -6,7 +6,7 @@ use Rattle.fol_core.specs.TermView.{tree_of, tree_list}
 use Rattle.fol_core.specs.Tree.{Tree, none, trees_of}
 use Rattle.fol_core.specs.declared.term.Term.{Term}
 use Rattle.substitutions.specs.Bindings.{Binding, by_bindings}
-use Rattle.unifiers.specs.Matching.{same_tree, term_of, bound_to, matched, matched_all}
+use Rattle.unifiers.specs.Matching.{same_tree, bound_term, bound_to, matched, matched_all}
 use Rattle.unifiers.proofs.Matches.{tree_same, same_itself, match_makes, match_found}
 use Rattle.fol_core.specs.Substitutions.{substitute}
 use Rattle.term_unifiers.specs.Solved.{HasNoMatch}
@@ -51,10 +51,10 @@ pub match_end : (ls rs : List Term) (i : ℕ) (bs : List Binding) → length ls 
 match_end ls rs i bs h k = ap₂ (λ a b. matched_all (trees_of (tree_list a)) (trees_of (tree_list b)) bs) (drop_all i ls h) (drop_all i rs k)
 
 -- a variable that is given the same term, and one that is given another
-pub bound_same : (bs : List Binding) (x : ℕ) (t u : Tree) → term_of bs x ≡ Some u → u ≡ t → bound_to (term_of bs x) x t bs ≡ Some bs
+pub bound_same : (bs : List Binding) (x : ℕ) (t u : Tree) → bound_term bs x ≡ Some u → u ≡ t → bound_to (bound_term bs x) x t bs ≡ Some bs
 bound_same bs x t u is same = ap (λ o. bound_to o x t bs) is ∙ ap (λ b. if b then Some bs else None) (subst (λ v. IsTrue (same_tree u v)) same (same_itself u))
 
-pub bound_other : (bs : List Binding) (x : ℕ) (t u : Tree) → term_of bs x ≡ Some u → (u ≡ t → ⊥) → bound_to (term_of bs x) x t bs ≡ None
+pub bound_other : (bs : List Binding) (x : ℕ) (t u : Tree) → bound_term bs x ≡ Some u → (u ≡ t → ⊥) → bound_to (bound_term bs x) x t bs ≡ None
 bound_other bs x t u is apart = ap (λ o. bound_to o x t bs) is ∙ ap (λ b. if b then Some bs else None) (false_from_ne_true (same_tree u t) (λ h. apart (tree_same u t h)))
 
 pub match_made : (s t : Tree) (bs : List Binding) → matched s t [] ≡ Some bs → substitute (by_bindings bs) s ≡ t

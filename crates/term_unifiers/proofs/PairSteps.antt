@@ -5,13 +5,13 @@ use Rattle.std.proofs.lemmas.List.{length-append, map-append}
 use Rattle.std.proofs.lemmas.List.Folds.{list_any-append}
 use Rattle.fol_core.specs.Free.{is_in}
 use Rattle.fol_core.specs.Substitutions.{Substitution, substitute, substitute_all}
-use Rattle.fol_core.specs.TermView.{tree_of, tree_list}
 use Rattle.fol_core.specs.Tree.{Tree, var, elem, app, Trees, more, trees_of, list_of, nodes, nodes_of_list}
-use Rattle.fol_core.specs.declared.term.Term.{Term}
 use Rattle.substitutions.specs.Occurring.{has_variable, have_variable}
 use Rattle.substitutions.proofs.Composing.{arguments_same, heads_same}
-use Rattle.term_unifiers.specs.Pairs.{MakesSame, have, AreAmong, Leaves, Binds, Compared}
-use Rattle.term_unifiers.specs.declared.comparing.Differing.TheVariants.{Same}
+use Rattle.term_bank.specs.Bank.{tree_at}
+use Rattle.term_bank.specs.declared.id.TermId.{TermId}
+use Rattle.term_unifiers.specs.Numbered.{trees_at}
+use Rattle.term_unifiers.specs.Pairs.{MakesSame, have, AreAmong, Leaves, Binds, BindsAt, AreNeverSame, Lessens}
 
 -- lists of one length with others behind them
 fronts_same : (xs ys cs bs : List Tree) → length xs ≡ length ys → xs ++ cs ≡ ys ++ bs → (xs ≡ ys) × (cs ≡ bs)
@@ -51,6 +51,14 @@ among_both xs ls cs h k y i = elim (or_cases (have y ls) (have y cs) (sym (list_
   | inr j ↦ k y j
 ]
 
+-- terms by number, one list behind another
+pub at_append : (bank : List Tree) (js ks : List TermId) → trees_at bank (js ++ ks) ≡ trees_at bank js ++ trees_at bank ks
+at_append bank js ks = map-append (λ (k : TermId). tree_at bank k.0) js ks
+
+pub length_at : (bank : List Tree) (ks : List TermId) → length (trees_at bank ks) ≡ length ks
+length_at bank [] = refl
+length_at bank (k ∷ ks) = ap suc (length_at bank ks)
+
 -- arguments as a list
 pub each_argument : (u : Substitution) (ts : List Tree) → substitute_all u (trees_of ts) ≡ trees_of (map (substitute u) ts)
 each_argument u [] = refl
@@ -85,82 +93,36 @@ dropped ls rs s t e is = record {
   among = λ xs h k. (among_front xs ls (s ∷ []) h, among_front xs rs (t ∷ []) k);
 }
 
-pub variables_same : (ls rs : List Tree) (x y : ℕ) → length ls ≡ length rs → x ≡ y → Compared Same (ls ++ var x ∷ []) (rs ++ var y ∷ []) ls rs
-variables_same ls rs x y e is = (dropped ls rs (var x) (var y) e (ap var is), one_less ls (var x))
-
-pub elements_same : (ls rs : List Tree) (k n : ℕ) → length ls ≡ length rs → k ≡ n → Compared Same (ls ++ elem k ∷ []) (rs ++ elem n ∷ []) ls rs
-elements_same ls rs k n e is = (dropped ls rs (elem k) (elem n) e (ap elem is), one_less ls (elem k))
-
 -- pairs that nothing makes the same
 apart : (ls rs : List Tree) (s t : Tree) → length ls ≡ length rs → ((u : Substitution) → substitute u s ≡ substitute u t → ⊥) → (u : Substitution) → MakesSame u (ls ++ s ∷ []) (rs ++ t ∷ []) → ⊥
 apart ls rs s t e never u h = let last = (made_apart u ls rs (s ∷ []) (t ∷ []) e h).1 in never u cc
-
-pub elements_differ : (ls rs : List Tree) (k n : ℕ) → length ls ≡ length rs → (k ≡ n → ⊥) → (u : Substitution) → MakesSame u (ls ++ elem k ∷ []) (rs ++ elem n ∷ []) → ⊥
-elements_differ ls rs k n e differ = apart ls rs (elem k) (elem n) e (λ u h. let same : k ≡ n = cc in differ same)
-
-pub element_application : (ls rs : List Tree) (k g : ℕ) (ts : Trees) → length ls ≡ length rs → (u : Substitution) → MakesSame u (ls ++ elem k ∷ []) (rs ++ app g ts ∷ []) → ⊥
-element_application ls rs k g ts e = apart ls rs (elem k) (app g ts) e (λ u h. cc)
-
-pub application_element : (ls rs : List Tree) (f n : ℕ) (ss : Trees) → length ls ≡ length rs → (u : Substitution) → MakesSame u (ls ++ app f ss ∷ []) (rs ++ elem n ∷ []) → ⊥
-application_element ls rs f n ss e = apart ls rs (app f ss) (elem n) e (λ u h. cc)
-
-pub other_heads : (ls rs : List Tree) (f g : ℕ) (ss ts : Trees) → length ls ≡ length rs → (f ≡ g → ⊥) → (u : Substitution) → MakesSame u (ls ++ app f ss ∷ []) (rs ++ app g ts ∷ []) → ⊥
-other_heads ls rs f g ss ts e differ = apart ls rs (app f ss) (app g ts) e (λ u h. differ (heads_same f g (substitute_all u ss) (substitute_all u ts) h))
 
 same_arguments : (u : Substitution) (f g : ℕ) (cs bs : List Tree) → substitute u (app f (trees_of cs)) ≡ substitute u (app g (trees_of bs)) → MakesSame u cs bs
 same_arguments u f g cs bs h =
     let args = arguments_same f g (substitute_all u (trees_of cs)) (substitute_all u (trees_of bs)) h in
     sym (listed (map (substitute u) cs)) ∙ ap list_of (sym (each_argument u cs) ∙ args ∙ each_argument u bs) ∙ listed (map (substitute u) bs)
 
-pub other_counts : (ls rs : List Tree) (f g : ℕ) (cs bs : List Tree) → length ls ≡ length rs → (length cs ≡ length bs → ⊥) → (u : Substitution)
-    → MakesSame u (ls ++ app f (trees_of cs) ∷ []) (rs ++ app g (trees_of bs) ∷ []) → ⊥
-other_counts ls rs f g cs bs e differ = apart ls rs (app f (trees_of cs)) (app g (trees_of bs)) e
-    (λ u h. let counts = ap length (same_arguments u f g cs bs h) in differ (omega (arith, length_map u cs, length_map u bs)))
-
 -- a pair of applications, of which the arguments are left
-pub taken_apart : (ls rs : List Tree) (f g : ℕ) (cs bs : List Tree) → length ls ≡ length rs → f ≡ g → length cs ≡ length bs
-    → Compared Same (ls ++ app f (trees_of cs) ∷ []) (rs ++ app g (trees_of bs) ∷ []) (ls ++ cs) (rs ++ bs)
-taken_apart ls rs f g cs bs e is counts = (
-  record {
-    even = omega (arith, length-append ls cs, length-append rs bs);
-    onward = λ u h.
-        let parts = made_apart u ls rs (app f (trees_of cs) ∷ []) (app g (trees_of bs) ∷ []) e h in
-        let last : substitute u (app f (trees_of cs)) ≡ substitute u (app g (trees_of bs)) = let one = parts.1 in cc in
-        made_together u ls rs cs bs parts.0 (same_arguments u f g cs bs last);
-    back = λ u h.
-        let parts = made_apart u ls rs cs bs e h in
-        made_together u ls rs (app f (trees_of cs) ∷ []) (app g (trees_of bs) ∷ []) parts.0
-        (ap₂ (λ k us. app k us ∷ []) is (each_argument u cs ∙ ap trees_of parts.1 ∙ sym (each_argument u bs)));
-    among = λ xs h k. (
-      among_both xs ls cs (among_front xs ls (app f (trees_of cs) ∷ []) h) (inside xs ls f cs h),
-      among_both xs rs bs (among_front xs rs (app g (trees_of bs) ∷ []) k) (inside xs rs g bs k),
-    );
-  },
-  let e1 = nodes_append ls cs in let e2 = nodes_append ls (app f (trees_of cs) ∷ []) in omega arith,
-)
+taken_apart : (ls rs : List Tree) (f g : ℕ) (cs bs : List Tree) → length ls ≡ length rs → f ≡ g → length cs ≡ length bs
+    → Leaves (ls ++ app f (trees_of cs) ∷ []) (rs ++ app g (trees_of bs) ∷ []) (ls ++ cs) (rs ++ bs)
+taken_apart ls rs f g cs bs e is counts = record {
+  even = omega (arith, length-append ls cs, length-append rs bs);
+  onward = λ u h.
+      let parts = made_apart u ls rs (app f (trees_of cs) ∷ []) (app g (trees_of bs) ∷ []) e h in
+      let last : substitute u (app f (trees_of cs)) ≡ substitute u (app g (trees_of bs)) = let one = parts.1 in cc in
+      made_together u ls rs cs bs parts.0 (same_arguments u f g cs bs last);
+  back = λ u h.
+      let parts = made_apart u ls rs cs bs e h in
+      made_together u ls rs (app f (trees_of cs) ∷ []) (app g (trees_of bs) ∷ []) parts.0
+      (ap₂ (λ k us. app k us ∷ []) is (each_argument u cs ∙ ap trees_of parts.1 ∙ sym (each_argument u bs)));
+  among = λ xs h k. (
+    among_both xs ls cs (among_front xs ls (app f (trees_of cs) ∷ []) h) (inside xs ls f cs h),
+    among_both xs rs bs (among_front xs rs (app g (trees_of bs) ∷ []) k) (inside xs rs g bs k),
+  );
+}
   where
     inside : (xs : List ℕ) (ks : List Tree) (n : ℕ) (ts : List Tree) → AreAmong xs (ks ++ app n (trees_of ts) ∷ []) → AreAmong xs ts
     inside xs ks n ts h y i = among_behind xs ks (app n (trees_of ts) ∷ []) h y (or_left (have_variable y (trees_of ts)) false (have_argument y ts ∙ i))
-
-pub tree_count : (us : List Term) → length (tree_list us) ≡ length us
-tree_count [] = refl
-tree_count (u ∷ us) = ap suc (tree_count us)
-
-tree_append : (ts us : List Term) → tree_list (ts ++ us) ≡ tree_list ts ++ tree_list us
-tree_append ts us = map-append tree_of ts us
-
-pub tree_push : (ts : List Term) (t : Term) → tree_list (ts ++ t ∷ []) ≡ tree_list ts ++ tree_of t ∷ []
-tree_push ts t = tree_append ts (t ∷ [])
-
-pub arguments_left : (ls rs ks qs cs bs : List Term) (f g : ℕ) (ss ts : List Tree) → length ls ≡ length rs → f ≡ g → tree_list cs ≡ ss → tree_list bs ≡ ts → length ss ≡ length ts
-    → ks ≡ ls ++ cs → qs ≡ rs ++ bs
-    → Compared Same (tree_list ls ++ app f (trees_of ss) ∷ []) (tree_list rs ++ app g (trees_of ts) ∷ []) (tree_list ks) (tree_list qs)
-arguments_left ls rs ks qs cs bs f g ss ts e is left right counts made other =
-    subst (λ us. Compared Same (tree_list ls ++ app f (trees_of ss) ∷ []) (tree_list rs ++ app g (trees_of ts) ∷ []) us (tree_list qs))
-    (sym (ap tree_list made ∙ tree_append ls cs ∙ ap (λ us. tree_list ls ++ us) left))
-    (subst (λ us. Compared Same (tree_list ls ++ app f (trees_of ss) ∷ []) (tree_list rs ++ app g (trees_of ts) ∷ []) (tree_list ls ++ ss) us)
-    (sym (ap tree_list other ∙ tree_append rs bs ∙ ap (λ us. tree_list rs ++ us) right))
-    (taken_apart (tree_list ls) (tree_list rs) f g ss ts (omega (arith, tree_count ls, tree_count rs)) is counts))
 
 -- a pair with a variable
 variable_of_one : (xs : List ℕ) (x : ℕ) → AreAmong xs (var x ∷ []) → IsTrue (is_in x xs)
@@ -200,20 +162,69 @@ binds_right ls rs y s e proper = record {
   );
 }
 
-pub variables_differ : (ls rs : List Tree) (x y : ℕ) → length ls ≡ length rs → (x ≡ y → ⊥) → Binds x (var y) (ls ++ var x ∷ []) (rs ++ var y ∷ []) ls rs
-variables_differ ls rs x y e differ = binds_left ls rs x (var y) e (λ h. let same : x ≡ y = cc in differ same)
+-- the same of pairs by number
+module _ (bank : List Tree) (ls rs : List TermId) (l r : TermId) (even : length ls ≡ length rs) where
+  trees_even : length (trees_at bank ls) ≡ length (trees_at bank rs)
+  trees_even = length_at bank ls ∙ even ∙ sym (length_at bank rs)
 
-pub variable_element : (ls rs : List Tree) (x k : ℕ) → length ls ≡ length rs → Binds x (elem k) (ls ++ var x ∷ []) (rs ++ elem k ∷ []) ls rs
-variable_element ls rs x k e = binds_left ls rs x (elem k) e (λ h. cc)
+  -- what is said of the pairs with the last one behind
+  at_ends : (P : List Tree → List Tree → Type 0) → P (trees_at bank ls ++ tree_at bank l.0 ∷ []) (trees_at bank rs ++ tree_at bank r.0 ∷ []) → P (trees_at bank (ls ++ l ∷ [])) (trees_at bank (rs ++ r ∷ []))
+  at_ends P p = subst (λ us. P us (trees_at bank (rs ++ r ∷ []))) (sym (at_append bank ls (l ∷ []))) (subst (λ us. P (trees_at bank ls ++ tree_at bank l.0 ∷ []) us) (sym (at_append bank rs (r ∷ []))) p)
 
-pub variable_application : (ls rs : List Tree) (x g : ℕ) (ts : Trees) → length ls ≡ length rs → Binds x (app g ts) (ls ++ var x ∷ []) (rs ++ app g ts ∷ []) ls rs
-variable_application ls rs x g ts e = binds_left ls rs x (app g ts) e (λ h. cc)
+  pub same_pair : tree_at bank l.0 ≡ tree_at bank r.0 → Lessens bank (ls ++ l ∷ []) (rs ++ r ∷ []) ls rs
+  same_pair is = record {
+    leaves = at_ends (λ us vs. Leaves us vs (trees_at bank ls) (trees_at bank rs)) (dropped (trees_at bank ls) (trees_at bank rs) (tree_at bank l.0) (tree_at bank r.0) trees_even is);
+    fewer = subst (λ us. suc (nodes_of_list (trees_at bank ls)) ≤ nodes_of_list us) (sym (at_append bank ls (l ∷ []))) (one_less (trees_at bank ls) (tree_at bank l.0));
+  }
 
-pub element_variable : (ls rs : List Tree) (k y : ℕ) → length ls ≡ length rs → Binds y (elem k) (ls ++ elem k ∷ []) (rs ++ var y ∷ []) ls rs
-element_variable ls rs k y e = binds_right ls rs y (elem k) e (λ h. cc)
+  pub variable_left : (x : ℕ) → var x ≡ tree_at bank l.0 → (tree_at bank l.0 ≡ tree_at bank r.0 → ⊥) → BindsAt bank record { variable = x; term = r } (ls ++ l ∷ []) (rs ++ r ∷ []) ls rs
+  variable_left x is differ = at_ends (λ us vs. Binds x (tree_at bank r.0) us vs (trees_at bank ls) (trees_at bank rs))
+      (subst (λ t. Binds x (tree_at bank r.0) (trees_at bank ls ++ t ∷ []) (trees_at bank rs ++ tree_at bank r.0 ∷ []) (trees_at bank ls) (trees_at bank rs)) is
+      (binds_left (trees_at bank ls) (trees_at bank rs) x (tree_at bank r.0) trees_even (λ h. differ (sym is ∙ sym h))))
 
-pub application_variable : (ls rs : List Tree) (f y : ℕ) (ss : Trees) → length ls ≡ length rs → Binds y (app f ss) (ls ++ app f ss ∷ []) (rs ++ var y ∷ []) ls rs
-application_variable ls rs f y ss e = binds_right ls rs y (app f ss) e (λ h. cc)
+  pub variable_right : (y : ℕ) → var y ≡ tree_at bank r.0 → (tree_at bank l.0 ≡ tree_at bank r.0 → ⊥) → BindsAt bank record { variable = y; term = l } (ls ++ l ∷ []) (rs ++ r ∷ []) ls rs
+  variable_right y is differ = at_ends (λ us vs. Binds y (tree_at bank l.0) us vs (trees_at bank ls) (trees_at bank rs))
+      (subst (λ t. Binds y (tree_at bank l.0) (trees_at bank ls ++ tree_at bank l.0 ∷ []) (trees_at bank rs ++ t ∷ []) (trees_at bank ls) (trees_at bank rs)) is
+      (binds_right (trees_at bank ls) (trees_at bank rs) y (tree_at bank l.0) trees_even (λ h. differ (h ∙ is))))
+
+  pub apart_pair : ((u : Substitution) → substitute u (tree_at bank l.0) ≡ substitute u (tree_at bank r.0) → ⊥) → AreNeverSame bank (ls ++ l ∷ []) (rs ++ r ∷ [])
+  apart_pair never = at_ends (λ us vs. (u : Substitution) → MakesSame u us vs → ⊥) (apart (trees_at bank ls) (trees_at bank rs) (tree_at bank l.0) (tree_at bank r.0) trees_even never)
+
+  pub elements_differ : (k n : ℕ) → elem k ≡ tree_at bank l.0 → elem n ≡ tree_at bank r.0 → (tree_at bank l.0 ≡ tree_at bank r.0 → ⊥) → AreNeverSame bank (ls ++ l ∷ []) (rs ++ r ∷ [])
+  elements_differ k n is was differ = apart_pair (λ u h. differ (sym is ∙ ap (substitute u) is ∙ h ∙ sym (ap (substitute u) was) ∙ was))
+
+  pub element_application : (k g : ℕ) (ts : Trees) → elem k ≡ tree_at bank l.0 → app g ts ≡ tree_at bank r.0 → AreNeverSame bank (ls ++ l ∷ []) (rs ++ r ∷ [])
+  element_application k g ts is was = apart_pair (λ u h. let e : elem k ≡ app g (substitute_all u ts) = ap (substitute u) is ∙ h ∙ sym (ap (substitute u) was) in cc)
+
+  pub application_element : (f n : ℕ) (ss : Trees) → app f ss ≡ tree_at bank l.0 → elem n ≡ tree_at bank r.0 → AreNeverSame bank (ls ++ l ∷ []) (rs ++ r ∷ [])
+  application_element f n ss is was = apart_pair (λ u h. let e : app f (substitute_all u ss) ≡ elem n = ap (substitute u) is ∙ h ∙ sym (ap (substitute u) was) in cc)
+
+  pub other_heads : (f g : ℕ) (ss ts : Trees) → app f ss ≡ tree_at bank l.0 → app g ts ≡ tree_at bank r.0 → (f ≡ g → ⊥) → AreNeverSame bank (ls ++ l ∷ []) (rs ++ r ∷ [])
+  other_heads f g ss ts is was differ = apart_pair (λ u h. differ (heads_same f g (substitute_all u ss) (substitute_all u ts) (ap (substitute u) is ∙ h ∙ sym (ap (substitute u) was))))
+
+  pub other_counts : (f g : ℕ) (cs bs : List TermId) → app f (trees_of (trees_at bank cs)) ≡ tree_at bank l.0 → app g (trees_of (trees_at bank bs)) ≡ tree_at bank r.0 → (length cs ≡ length bs → ⊥) → AreNeverSame bank (ls ++ l ∷ []) (rs ++ r ∷ [])
+  other_counts f g cs bs is was differ = apart_pair (λ u h.
+      let counts = ap length (same_arguments u f g (trees_at bank cs) (trees_at bank bs) (ap (substitute u) is ∙ h ∙ sym (ap (substitute u) was))) in
+      differ (sym (length_at bank cs) ∙ sym (length_map u (trees_at bank cs)) ∙ counts ∙ length_map u (trees_at bank bs) ∙ length_at bank bs))
+
+  pub arguments_left : (f g : ℕ) (cs bs : List TermId) → app f (trees_of (trees_at bank cs)) ≡ tree_at bank l.0 → app g (trees_of (trees_at bank bs)) ≡ tree_at bank r.0 → f ≡ g → length cs ≡ length bs
+      → Lessens bank (ls ++ l ∷ []) (rs ++ r ∷ []) (ls ++ cs) (rs ++ bs)
+  arguments_left f g cs bs is was heads counts = record {
+    leaves = at_ends (λ us vs. Leaves us vs (trees_at bank (ls ++ cs)) (trees_at bank (rs ++ bs)))
+        (subst (λ us. Leaves ends.0 ends.1 us (trees_at bank (rs ++ bs))) (sym (at_append bank ls cs))
+        (subst (λ us. Leaves ends.0 ends.1 (trees_at bank ls ++ trees_at bank cs) us) (sym (at_append bank rs bs))
+        (subst (λ t. Leaves (trees_at bank ls ++ t ∷ []) ends.1 (trees_at bank ls ++ trees_at bank cs) (trees_at bank rs ++ trees_at bank bs)) is
+        (subst (λ t. Leaves (trees_at bank ls ++ app f (trees_of (trees_at bank cs)) ∷ []) (trees_at bank rs ++ t ∷ []) (trees_at bank ls ++ trees_at bank cs) (trees_at bank rs ++ trees_at bank bs)) was
+        (taken_apart (trees_at bank ls) (trees_at bank rs) f g (trees_at bank cs) (trees_at bank bs) trees_even heads (length_at bank cs ∙ counts ∙ sym (length_at bank bs)))))));
+    fewer =
+        let here : nodes_of_list (trees_at bank (ls ++ cs)) ≡ nodes_of_list (trees_at bank ls) + nodes_of_list (trees_at bank cs) = ap nodes_of_list (at_append bank ls cs) ∙ nodes_append (trees_at bank ls) (trees_at bank cs) in
+        let before : nodes_of_list (trees_at bank (ls ++ l ∷ [])) ≡ nodes_of_list (trees_at bank ls) + nodes_of_list (tree_at bank l.0 ∷ []) = ap nodes_of_list (at_append bank ls (l ∷ [])) ∙ nodes_append (trees_at bank ls) (tree_at bank l.0 ∷ []) in
+        let last : nodes_of_list (app f (trees_of (trees_at bank cs)) ∷ []) ≡ nodes_of_list (tree_at bank l.0 ∷ []) = ap (λ t. nodes_of_list (t ∷ [])) is in
+        omega arith;
+  }
+    where
+      ends : List Tree × List Tree
+      ends = (trees_at bank ls ++ tree_at bank l.0 ∷ [], trees_at bank rs ++ tree_at bank r.0 ∷ [])
 
 -- one after the other
 pub leaves_start : (ls rs : List Tree) → length ls ≡ length rs → Leaves ls rs ls rs
@@ -242,3 +253,10 @@ leaves_binds x t ls rs ks qs ms ns leaves binds = record {
   back = λ u is h. leaves.back u (binds.back u is h);
   among = λ xs h k. let both = leaves.among xs h k in binds.among xs both.0 both.1;
 }
+
+-- the same of pairs by number
+pub start_at : (bank : List Tree) (ls rs : List TermId) → length ls ≡ length rs → Leaves (trees_at bank ls) (trees_at bank rs) (trees_at bank ls) (trees_at bank rs)
+start_at bank ls rs e = leaves_start (trees_at bank ls) (trees_at bank rs) (length_at bank ls ∙ e ∙ sym (length_at bank rs))
+
+pub even_at : (bank : List Tree) (ks qs : List TermId) → length (trees_at bank ks) ≡ length (trees_at bank qs) → length ks ≡ length qs
+even_at bank ks qs e = sym (length_at bank ks) ∙ e ∙ length_at bank qs

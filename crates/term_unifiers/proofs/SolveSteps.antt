@@ -1,19 +1,22 @@
 -- Rounds of putting in a term for a variable.
 use Rattle.std.proofs.Common.{◌≡◌, inl, inr, ◌⊎◌, ℕ, ◌+◌, ◌<◌, ◌≤◌, ◌==◌, ◌||◌, Bool, true, false, if◌then◌else◌, IsTrue, List, [], ◌∷◌, ◌++◌, map, length, refl, sym, ap, ap₂, ◌∙◌, subst, arith}
 use Rattle.std.proofs.lemmas.Bool.{or_left, or_right, or_cases, eq-eqb, ne_eqb, eqb-true, false≢true, true≢false, both_ways, cases_Bool}
+use Rattle.std.proofs.lemmas.List.{length-map}
 use Rattle.std.proofs.lemmas.List.Folds.{list_any-append}
 use Rattle.fol_core.specs.Free.{is_in, variables_of_all}
-use Rattle.fol_core.specs.Literals.{ClauseTree}
+use Rattle.fol_core.specs.Literals.{Lit, ClauseTree}
 use Rattle.fol_core.specs.Substitutions.{Substitution, substitute, substitute_all}
 use Rattle.fol_core.specs.Tree.{Tree, var, elem, app, Trees, none, more, trees_of, list_of}
-use Rattle.substitutions.specs.Instances.{substitute_clause, followed}
+use Rattle.substitutions.specs.Instances.{substitute_literal, substitute_clause, followed}
 use Rattle.substitutions.specs.Occurring.{has_variable, have_variable}
-use Rattle.substitutions.proofs.Composing.{substitute_variables, substitute_variables_clause, substitute_twice, substitute_twice_clause, substitute_alike, have_listed}
+use Rattle.substitutions.proofs.Composing.{substitute_variables, substitute_twice, substitute_alike, have_listed}
+use Rattle.term_bank.specs.declared.id.TermId.{TermId}
 use Rattle.unifiers.specs.Unifier.{Unifies, IsCovered, only}
 use Rattle.unifiers.proofs.Differences.{is_variable, no_cycle, after_only}
+use Rattle.term_unifiers.specs.Numbered.{trees_at, AreAt, atoms_of, with_atoms}
 use Rattle.term_unifiers.specs.Pairs.{MakesSame, have, AreAmong, Binds}
-use Rattle.term_unifiers.specs.Solved.{IsUnified, HasNone}
-use Rattle.term_unifiers.proofs.PairSteps.{length_map, each_argument, listed, have_argument}
+use Rattle.term_unifiers.specs.Solved.{IsUnified, HasNoUnifier}
+use Rattle.term_unifiers.proofs.PairSteps.{length_at, length_map, each_argument, listed, have_argument}
 
 -- pairs of a list, and of arguments
 unifies_list : (u : Substitution) (ls rs : List Tree) → Unifies u (trees_of ls) (trees_of rs) → MakesSame u ls rs
@@ -39,20 +42,24 @@ names_right : (ls rs : List Tree) → AreAmong (names_of ls rs) rs
 names_right ls rs y i = list_any-append (λ x. y == x) (variables_of_all (trees_of ls)) (variables_of_all (trees_of rs))
     ∙ or_right (is_in y (variables_of_all (trees_of ls))) (is_in y (variables_of_all (trees_of rs))) (sym (have_listed y (trees_of rs)) ∙ have_argument y rs ∙ i)
 
+all_stay : (ts : List Tree) → map (substitute var) ts ≡ ts
+all_stay [] = refl
+all_stay (t ∷ ts) = ap₂ (λ a b. a ∷ b) (substitute_variables t) (all_stay ts)
+
 -- What the rounds keep: what solves the pairs that are left, put in behind what was found, solves those at the start.
-pub record Going (ls0 rs0 : List Tree) (c0 : ClauseTree) (ls rs : List Tree) (c : ClauseTree) : Type 0 where
+pub record Going (ls0 rs0 : List Tree) (cs0 : List Tree) (ls rs : List Tree) (cs : List Tree) : Type 0 where
   pub found : Substitution
-  pub clause : c ≡ substitute_clause found c0
+  pub atoms : cs ≡ map (substitute found) cs0
   pub even : length ls ≡ length rs
   pub solved : (s : Substitution) → Solves s ls rs → Solves (followed found s) ls0 rs0
   pub never : ((u : Substitution) → MakesSame u ls rs → ⊥) → (u : Substitution) → MakesSame u ls0 rs0 → ⊥
   pub lefts : AreAmong (names_of ls0 rs0) ls
   pub rights : AreAmong (names_of ls0 rs0) rs
 
-pub going_start : (ls rs : List Tree) (c : ClauseTree) → length ls ≡ length rs → Going ls rs c ls rs c
-going_start ls rs c e = record {
+pub going_start : (ls rs cs : List Tree) → length ls ≡ length rs → Going ls rs cs ls rs cs
+going_start ls rs cs e = record {
   found = var;
-  clause = sym (substitute_variables_clause c);
+  atoms = sym (all_stay cs);
   even = e;
   solved = λ s h. h;
   never = λ h. h;
@@ -134,7 +141,7 @@ map_twice s u [] = refl
 map_twice s u (t ∷ ts) = ap₂ (λ a b. a ∷ b) (substitute_twice s u t) (map_twice s u ts)
 
 -- a term that hasn't the variable stays
-only_stays : (x : ℕ) (t u : Tree) → has_variable x u ≡ false → substitute (only x t) u ≡ u
+pub only_stays : (x : ℕ) (t u : Tree) → has_variable x u ≡ false → substitute (only x t) u ≡ u
 only_stays x t u e = substitute_alike (only x t) var u (λ y i. by y i (y == x) refl) ∙ substitute_variables u
   where
     by : (y : ℕ) → IsTrue (has_variable y u) → (b : Bool) → (y == x) ≡ b → (if b then t else var y) ≡ var y
@@ -170,11 +177,11 @@ followed_all : (f g h : Substitution) → followed (followed f g) h ≡ followed
 followed_all f g h = λ i y. substitute_twice g h (f y) i
 
 -- a round
-pub going_bind : (ls0 rs0 : List Tree) (c0 : ClauseTree) (ls rs : List Tree) (c : ClauseTree) (x : ℕ) (t : Tree) (ks qs ms ns : List Tree) (d : ClauseTree) → Going ls0 rs0 c0 ls rs c → Binds x t ls rs ks qs
-    → has_variable x t ≡ false → ms ≡ map (substitute (only x t)) ks → ns ≡ map (substitute (only x t)) qs → d ≡ substitute_clause (only x t) c → Going ls0 rs0 c0 ms ns d
-going_bind ls0 rs0 c0 ls rs c x t ks qs ms ns d going binds e left right made = record {
+pub going_bind : (ls0 rs0 : List Tree) (cs0 : List Tree) (ls rs : List Tree) (cs : List Tree) (x : ℕ) (t : Tree) (ks qs ms ns : List Tree) (bs : List Tree) → Going ls0 rs0 cs0 ls rs cs → Binds x t ls rs ks qs
+    → has_variable x t ≡ false → ms ≡ map (substitute (only x t)) ks → ns ≡ map (substitute (only x t)) qs → bs ≡ map (substitute (only x t)) cs → Going ls0 rs0 cs0 ms ns bs
+going_bind ls0 rs0 cs0 ls rs cs x t ks qs ms ns bs going binds e left right made = record {
   found = followed going.found (only x t);
-  clause = made ∙ ap (substitute_clause (only x t)) going.clause ∙ substitute_twice_clause going.found (only x t) c0;
+  atoms = made ∙ ap (map (substitute (only x t))) going.atoms ∙ map_twice going.found (only x t) cs0;
   even = ap length left ∙ length_map (only x t) ks ∙ binds.even ∙ sym (length_map (only x t) qs) ∙ sym (ap length right);
   solved = λ s solves.
       subst (λ (f : Substitution). Solves f ls0 rs0) (sym (followed_all going.found (only x t) s))
@@ -191,31 +198,36 @@ going_bind ls0 rs0 c0 ls rs c x t ks qs ms ns d going binds e left right made = 
 unchanged : (f : Substitution) → f ≡ followed f var
 unchanged f = λ i y. sym (substitute_variables (f y)) i
 
+atoms_put : (f : Substitution) (c : ClauseTree) → with_atoms c (map (substitute f) (atoms_of c)) ≡ substitute_clause f c
+atoms_put f [] = refl
+atoms_put f (l ∷ ls) = ap (λ (ms : ClauseTree). substitute_literal f l ∷ ms) (atoms_put f ls)
+
 -- the ends: the clause is unified, or nothing unifies
-pub going_done : (ls0 rs0 : List Tree) (c0 : ClauseTree) (ls rs : List Tree) (c : ClauseTree) → Going ls0 rs0 c0 ls rs c → ((u : Substitution) → MakesSame u ls rs) → IsUnified (trees_of ls0) (trees_of rs0) c0 c
-going_done ls0 rs0 c0 ls rs c going all =
+pub going_done : (ls0 rs0 : List Tree) (c0 d : ClauseTree) (ls rs cs : List Tree) → Going ls0 rs0 (atoms_of c0) ls rs cs → ((u : Substitution) → MakesSame u ls rs) → d ≡ with_atoms c0 cs
+    → IsUnified (trees_of ls0) (trees_of rs0) c0 d
+going_done ls0 rs0 c0 d ls rs cs going all made =
     let solves = going.solved var (record { makes = all var; covers = λ u h. (u, λ x. refl) }) in (
       followed going.found var,
       record {
         unifies = list_unifies (followed going.found var) ls0 rs0 solves.makes;
         covers = λ u h. solves.covers u (unifies_list u ls0 rs0 h);
       },
-      going.clause ∙ ap (λ (f : Substitution). substitute_clause f c0) (unchanged going.found),
+      made ∙ ap (with_atoms c0) going.atoms ∙ atoms_put going.found c0 ∙ ap (λ (f : Substitution). substitute_clause f c0) (unchanged going.found),
     )
 
-pub going_never : (ls0 rs0 : List Tree) (c0 : ClauseTree) (ls rs : List Tree) (c : ClauseTree) → Going ls0 rs0 c0 ls rs c → ((u : Substitution) → MakesSame u ls rs → ⊥) → HasNone (trees_of ls0) (trees_of rs0)
-going_never ls0 rs0 c0 ls rs c going apart u h = going.never apart u (unifies_list u ls0 rs0 h)
+pub going_never : (ls0 rs0 : List Tree) (cs0 : List Tree) (ls rs : List Tree) (cs : List Tree) → Going ls0 rs0 cs0 ls rs cs → ((u : Substitution) → MakesSame u ls rs → ⊥) → HasNoUnifier (trees_of ls0) (trees_of rs0)
+going_never ls0 rs0 cs0 ls rs cs going apart u h = going.never apart u (unifies_list u ls0 rs0 h)
 
-proper_of : (x : ℕ) (t : Tree) → (t ≡ var x → ⊥) → is_variable x t ≡ false
+pub proper_of : (x : ℕ) (t : Tree) → (t ≡ var x → ⊥) → is_variable x t ≡ false
 proper_of x (var y) h = ne_eqb x y (λ e. h (ap var (sym e)))
 proper_of x (elem k) h = refl
 proper_of x (app f ts) h = refl
 
-pub going_cycle : (ls0 rs0 : List Tree) (c0 : ClauseTree) (ls rs : List Tree) (c : ClauseTree) (x : ℕ) (t : Tree) (ks qs : List Tree) → Going ls0 rs0 c0 ls rs c → Binds x t ls rs ks qs
-    → has_variable x t ≡ true → HasNone (trees_of ls0) (trees_of rs0)
-going_cycle ls0 rs0 c0 ls rs c x t ks qs going binds e = going_never ls0 rs0 c0 ls rs c going (λ u h. no_cycle u x t e (proper_of x t binds.proper) (binds.onward u h).0)
+pub going_cycle : (ls0 rs0 : List Tree) (cs0 : List Tree) (ls rs : List Tree) (cs : List Tree) (x : ℕ) (t : Tree) (ks qs : List Tree) → Going ls0 rs0 cs0 ls rs cs → Binds x t ls rs ks qs
+    → has_variable x t ≡ true → HasNoUnifier (trees_of ls0) (trees_of rs0)
+going_cycle ls0 rs0 cs0 ls rs cs x t ks qs going binds e = going_never ls0 rs0 cs0 ls rs cs going (λ u h. no_cycle u x t e (proper_of x t binds.proper) (binds.onward u h).0)
 
-pub uneven : (ls rs : List Tree) → (length ls ≡ length rs → ⊥) → HasNone (trees_of ls) (trees_of rs)
+pub uneven : (ls rs : List Tree) → (length ls ≡ length rs → ⊥) → HasNoUnifier (trees_of ls) (trees_of rs)
 uneven ls rs e u h = let same = ap length (unifies_list u ls rs h) in e (omega (arith, length_map u ls, length_map u rs))
 
 -- how many of some numbers pass a test
@@ -264,9 +276,9 @@ names_stand ls rs y i =
     ap₂ (λ a b. a || b) (sym (have_argument y ls) ∙ have_listed y (trees_of ls)) (sym (have_argument y rs) ∙ have_listed y (trees_of rs))
     ∙ sym (list_any-append (λ x. y == x) (variables_of_all (trees_of ls)) (variables_of_all (trees_of rs))) ∙ i
 
-pub going_smaller : (ls0 rs0 : List Tree) (c0 : ClauseTree) (ls rs : List Tree) (c : ClauseTree) (x : ℕ) (t : Tree) (ks qs ms ns : List Tree) → Going ls0 rs0 c0 ls rs c → Binds x t ls rs ks qs
+pub going_smaller : (ls0 rs0 : List Tree) (cs0 : List Tree) (ls rs : List Tree) (cs : List Tree) (x : ℕ) (t : Tree) (ks qs ms ns : List Tree) → Going ls0 rs0 cs0 ls rs cs → Binds x t ls rs ks qs
     → has_variable x t ≡ false → ms ≡ map (substitute (only x t)) ks → ns ≡ map (substitute (only x t)) qs → left_of ls0 rs0 ms ns < left_of ls0 rs0 ls rs
-going_smaller ls0 rs0 c0 ls rs c x t ks qs ms ns going binds e left right =
+going_smaller ls0 rs0 cs0 ls rs cs x t ks qs ms ns going binds e left right =
     fewer (stands ls rs) (stands ms ns) x (names_of ls0 rs0) stood (binds.among (names_of ls0 rs0) going.lefts going.rights).0 (names_stand ls rs x inside.0) gone
   where
     inside : IsTrue (is_in x (names_of ls rs)) × AreAmong (names_of ls rs) (t ∷ []) × AreAmong (names_of ls rs) ks × AreAmong (names_of ls rs) qs
@@ -280,3 +292,14 @@ going_smaller ls0 rs0 c0 ls rs c x t ks qs ms ns going binds e left right =
 
     gone : stands ms ns x ≡ false
     gone = ap₂ (λ a b. a || b) (ap (have x) left ∙ have_gone x t ks e) (ap (have x) right ∙ have_gone x t qs e)
+
+-- the same of pairs by number
+pub going_at : (bank : List Tree) (ls rs cs : List TermId) (us vs ws : List Tree) → AreAt bank ls us → AreAt bank rs vs → AreAt bank cs ws → length us ≡ length vs → Going us vs ws (trees_at bank ls) (trees_at bank rs) (trees_at bank cs)
+going_at bank ls rs cs us vs ws left right atoms e =
+    subst (λ ks. Going us vs ws ks (trees_at bank rs) (trees_at bank cs)) (sym left.trees)
+    (subst (λ ks. Going us vs ws us ks (trees_at bank cs)) (sym right.trees)
+    (subst (Going us vs ws us vs) (sym atoms.trees) (going_start us vs ws e)))
+
+pub going_many : (ls0 rs0 : List Tree) (c0 : ClauseTree) (ls rs : List Tree) (bank : List Tree) (cs : List TermId) → Going ls0 rs0 (atoms_of c0) ls rs (trees_at bank cs) → length cs ≡ length c0
+going_many ls0 rs0 c0 ls rs bank cs going =
+    sym (length_at bank cs) ∙ ap length going.atoms ∙ length_map going.found (atoms_of c0) ∙ length-map c0 (λ (l : Lit). l.atom)

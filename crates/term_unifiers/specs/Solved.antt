@@ -12,8 +12,8 @@ abbrev pub IsUnified : Trees → Trees → ClauseTree → ClauseTree → Type 0
 IsUnified ss ts c d = (s : Substitution) × IsMostGeneral s ss ts × (d ≡ substitute_clause s c)
 
 -- or nothing unifies
-abbrev pub HasNone : Trees → Trees → Type 0
-HasNone ss ts = (s : Substitution) → ¬ Unifies s ss ts
+abbrev pub HasNoUnifier : Trees → Trees → Type 0
+HasNoUnifier ss ts = (s : Substitution) → ¬ Unifies s ss ts
 
 -- a match is found, with these bindings, or none is
 abbrev pub IsMatch : Bool → Option (List Binding) → List Binding → Type 0

@@ -3,9 +3,11 @@
 
 mod comparing;
 mod matching;
+mod numbering;
+mod occurring;
 mod putting;
 mod unifying;
 
 pub use matching::match_of;
-pub use putting::has_variable;
+pub use occurring::has_variable;
 pub use unifying::unify;

@@ -4,7 +4,7 @@ ghost use Rattle.fol_core.specs.Substitutions.{substitute};
 ghost use Rattle.substitutions.specs.Bindings.{by_bindings};
 ghost use Rattle.std.specs.Option.{option_map};
 ghost use Rattle.fol_core.specs.TermView.{tree_of};
-ghost use Rattle.unifiers.specs.Matching.{term_of, bound_to, matched};
+ghost use Rattle.unifiers.specs.Matching.{bound_term, bound_to, matched};
 ghost use Rattle.term_unifiers.specs.Solved.{IsMatch, HasNoMatch};
 
 use fol_core::Term;
@@ -13,7 +13,7 @@ use substitutions::{Subst, same};
 
 // The term that is given for a variable.
 fn given(bindings: &Subst, x: u64) -> Option<&Term>
-    ensures { option_map (λ t. tree_of t.now) result ≡ term_of bindings.now x }
+    ensures { option_map (λ t. tree_of t.now) result ≡ bound_term bindings.now x }
 {
     for (y, term) in &bindings.terms {
         if x == *y {
@@ -27,7 +27,7 @@ fn given(bindings: &Subst, x: u64) -> Option<&Term>
 #[tactic(auto, using(crate::proofs::MatchSteps::bound_same, crate::proofs::MatchSteps::bound_other))]
 fn bind(alloc: Global, x: u64, term: &Term, bindings: &mut Subst) -> Result<bool, AllocError>
     ensures { IfOk result (λ found. IsMatch found
-        (bound_to (term_of bindings.old x) x (tree_of term.now) bindings.old) bindings.new) }
+        (bound_to (bound_term bindings.old x) x (tree_of term.now) bindings.old) bindings.new) }
 {
     match given(bindings, x) {
         Some(old) => { if same(old, term) { Ok(true) } else { Ok(false) } }

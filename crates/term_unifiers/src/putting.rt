@@ -1,80 +1,94 @@
-// A term put in for a variable.
-ghost use Rattle.std.specs.Prelude.{◌≡◌, IfOk, map};
-ghost use Rattle.fol_core.specs.TermView.{tree_of, tree_list};
-ghost use Rattle.fol_core.specs.Substitutions.{substitute};
-ghost use Rattle.substitutions.specs.Instances.{substitute_clause};
-ghost use Rattle.substitutions.specs.Occurring.{has_variable};
-ghost use Rattle.unifiers.specs.Unifier.{only};
+// A term put in for a variable, in the terms of a bank: of each term that others have in common it is done once.
+ghost use Rattle.std.specs.Prelude.{◌<◌, IfOk, length};
+ghost use Rattle.term_unifiers.specs.Numbered.{AreIn, AreImages, replacing, IsPut, ArePut};
+ghost use Rattle.term_bank.specs.Cells.{AreNumbersBelow, numbers};
 
-use fol_core::{Clause, Literal, Term, Terms};
+use smallvec::SmallVec;
 use std::alloc::{AllocError, Global};
+use term_bank::{Bank, Node, TermId};
 
-/// Whether the term has the variable.
-#[tactic(auto, using(crate::proofs::Variables::variable_here, crate::proofs::Variables::variable_behind, crate::proofs::Variables::variable_end))]
-pub fn has_variable(term: &Term, x: u64) -> bool
-    ensures { result ≡ has_variable x (tree_of term.now) }
-{
-    match term {
-        Term::Var(y) => x == *y,
-        Term::Elem(_) => false,
-        Term::App(_, terms) => {
-            for term in &terms.items {
-                if has_variable(term, x) {
-                    return true;
-                }
-            }
-            false
-        }
-    }
+/// A variable, and the number of the term that is put in for it.
+#[derive(Clone, Copy)]
+pub struct Replacement {
+    pub variable: u64,
+    pub term: TermId,
 }
 
-// The term with another one put in for a variable.
-fn put(alloc: Global, term: &Term, x: u64, new: &Term) -> Result<Term, AllocError>
-    ensures { IfOk result (λ t. tree_of t ≡ substitute (only x (tree_of new.now))
-        (tree_of term.now)) }
+/// The number of a term with the replacement put in. What was made of each term so far is remembered.
+#[cycle(replace)]
+pub fn put_in(
+    alloc: Global,
+    replacement: Replacement,
+    id: TermId,
+    bank: &mut Bank,
+    images: &mut Vec<Option<TermId>>,
+) -> Result<TermId, AllocError>
+    requires term { replacement.term.0 < length bank.old }
+    requires id { id.0 < length images.old.items }
+    requires images { AreImages (replacing bank.old replacement) bank.old images.old.items }
+    ensures { IfOk result (IsPut replacement bank.old id.0 images.old.items
+        bank.new images.new.items) }
 {
-    match term {
-        Term::Var(y) => {
-            if *y == x {
-                new.copy(alloc)
+    if let Some(image) = images[id.0 as usize] {
+        return Ok(image);
+    }
+    let image = put_below(alloc, replacement, id, bank, images)?;
+    images[id.0 as usize] = Some(image);
+    Ok(image)
+}
+
+// The same of a term of which nothing is remembered.
+#[cycle(replace)]
+fn put_below(
+    alloc: Global,
+    replacement: Replacement,
+    id: TermId,
+    bank: &mut Bank,
+    images: &mut Vec<Option<TermId>>,
+) -> Result<TermId, AllocError>
+    requires term { replacement.term.0 < length bank.old }
+    requires id { id.0 < length images.old.items }
+    requires images { AreImages (replacing bank.old replacement) bank.old images.old.items }
+    ensures { IfOk result (IsPut replacement bank.old id.0 images.old.items
+        bank.new images.new.items) }
+{
+    match bank.node(id) {
+        Node::Var(x) => {
+            if x == replacement.variable {
+                Ok(replacement.term)
             } else {
-                Ok(Term::Var(*y))
+                Ok(id)
             }
         }
-        Term::Elem(k) => Ok(Term::Elem(*k)),
-        Term::App(s, terms) => {
-            let mut made = Terms::new(alloc);
-            for term in &terms.items {
-                made.push(put(alloc, term, x, new)?)?;
+        Node::Elem(_) => Ok(id),
+        Node::App(f, arguments) => {
+            let arguments: SmallVec<TermId, 3> = SmallVec::from_slice(alloc, arguments)?;
+            let mut made: SmallVec<TermId, 3> = SmallVec::new(alloc);
+            for argument in arguments.as_slice() {
+                made.push(put_in(alloc, replacement, *argument, bank, images)?)?;
             }
-            Ok(Term::App(*s, made))
+            bank.apply(f, made.as_slice())
         }
     }
 }
 
-// So of each of several terms.
-pub fn put_each(alloc: Global, terms: &[Term], x: u64, new: &Term) -> Result<Vec<Term>, AllocError>
-    ensures { IfOk result (λ ts. tree_list ts.items ≡ map (substitute (only x (tree_of new.now)))
-        (tree_list terms.now)) }
+/// The numbers of several terms with the replacement put in.
+pub fn put_each(
+    alloc: Global,
+    replacement: Replacement,
+    ids: &[TermId],
+    bank: &mut Bank,
+    images: &mut Vec<Option<TermId>>,
+) -> Result<Vec<TermId>, AllocError>
+    requires term { replacement.term.0 < length bank.old }
+    requires ids { AreNumbersBelow (length images.old.items) (numbers ids.now) }
+    requires images { AreImages (replacing bank.old replacement) bank.old images.old.items }
+    ensures { IfOk result (λ made. ArePut replacement bank.old ids.now images.old.items
+        bank.new images.new.items made.items) }
 {
     let mut made = Vec::new(alloc);
-    for term in terms {
-        made.push(put(alloc, term, x, new)?)?;
-    }
-    Ok(made)
-}
-
-// And of a clause.
-pub fn put_clause(alloc: Global, clause: &Clause, x: u64, new: &Term) -> Result<Clause, AllocError>
-    ensures { IfOk result (λ c. c ≡ substitute_clause (only x (tree_of new.now)) clause.now) }
-{
-    let mut made = Clause::new(alloc);
-    for literal in &clause.literals {
-        let atom = put(alloc, &literal.atom, x, new)?;
-        made.push(Literal {
-            positive: literal.positive,
-            atom,
-        })?;
+    for id in ids {
+        made.push(put_in(alloc, replacement, *id, bank, images)?)?;
     }
     Ok(made)
 }

@@ -1,41 +1,80 @@
 // Most general unifiers: one variable after the other is put in, in the pairs that are left and in a clause.
-ghost use Rattle.std.specs.Prelude.{◌≡◌, IfOk, MatchOption};
-ghost use Rattle.fol_core.specs.Tree.{trees_of};
-ghost use Rattle.term_unifiers.specs.Solved.{IsUnified, HasNone};
+ghost use Rattle.std.specs.Prelude.{◌≡◌, ◌<◌, IfOk, MatchOption, length};
+ghost use Rattle.fol_core.specs.Tree.{var, trees_of};
+ghost use Rattle.term_bank.specs.Bank.{tree_at};
+ghost use Rattle.term_unifiers.specs.Numbered.{AreIn, IsPutThrough};
+ghost use Rattle.term_unifiers.specs.Solved.{IsUnified, HasNoUnifier};
 
 use crate::comparing::{Differing, reduce};
-use crate::putting::{has_variable, put_clause, put_each};
+use crate::numbering::{numbers_of, numbers_of_atoms, with_atoms};
+use crate::putting::{Replacement, put_each, put_in};
 use fol_core::{Clause, Terms};
 use std::alloc::{AllocError, Global};
+use term_bank::{Bank, TermId};
+
+// Puts a term in for a variable, in pairs and atoms, unless the term has the variable.
+fn put_through(
+    alloc: Global,
+    replacement: Replacement,
+    bank: &mut Bank,
+    lefts: &mut Vec<TermId>,
+    rights: &mut Vec<TermId>,
+    atoms: &mut Vec<TermId>,
+) -> Result<bool, AllocError>
+    requires term { replacement.term.0 < length bank.old }
+    requires proper { tree_at bank.old replacement.term.0 ≡ var replacement.variable → ⊥ }
+    requires lefts { AreIn bank.old lefts.old.items }
+    requires rights { AreIn bank.old rights.old.items }
+    requires atoms { AreIn bank.old atoms.old.items }
+    ensures { IfOk result (IsPutThrough replacement
+        bank.old lefts.old.items rights.old.items atoms.old.items
+        bank.new lefts.new.items rights.new.items atoms.new.items) }
+{
+    let mut images: Vec<Option<TermId>> = vec![in alloc; None; bank.len()]?;
+    let image = put_in(alloc, replacement, replacement.term, bank, &mut images)?;
+    if !bank.same(image, replacement.term) {
+        return Ok(false);
+    }
+    *lefts = put_each(alloc, replacement, lefts.as_slice(), bank, &mut images)?;
+    *rights = put_each(alloc, replacement, rights.as_slice(), bank, &mut images)?;
+    *atoms = put_each(alloc, replacement, atoms.as_slice(), bank, &mut images)?;
+    Ok(true)
+}
 
 /// The clause under a most general unifier of terms, each and each, if they have one.
-#[tactic(auto, using(crate::proofs::SolveSteps::going_start, crate::proofs::SolveSteps::going_bind, crate::proofs::SolveSteps::going_done, crate::proofs::SolveSteps::going_never, crate::proofs::SolveSteps::going_cycle, crate::proofs::SolveSteps::going_smaller, crate::proofs::SolveSteps::uneven))]
 pub fn unify(
     alloc: Global,
     lefts: Terms,
     rights: Terms,
     rest: Clause,
 ) -> Result<Option<Clause>, AllocError>
-    ensures { IfOk result (λ o. MatchOption o (HasNone (trees_of lefts) (trees_of rights))
+    ensures { IfOk result (λ o. MatchOption o (HasNoUnifier (trees_of lefts) (trees_of rights))
         (λ c. IsUnified (trees_of lefts) (trees_of rights) rest c)) }
 {
-    let mut lefts = lefts.into_items();
-    let mut rights = rights.into_items();
-    let mut rest = rest;
     if lefts.len() != rights.len() {
         return Ok(None);
     }
+    let mut bank = Bank::new(alloc);
+    let mut left_ids = numbers_of(alloc, lefts.as_slice(), &mut bank)?;
+    let mut right_ids = numbers_of(alloc, rights.as_slice(), &mut bank)?;
+    let mut atoms = numbers_of_atoms(alloc, &rest, &mut bank)?;
     loop {
-        match reduce(&mut lefts, &mut rights)? {
-            Differing::Same => return Ok(Some(rest)),
+        match reduce(&bank, &mut left_ids, &mut right_ids)? {
+            Differing::Same => {
+                return Ok(Some(with_atoms(alloc, &bank, &rest, atoms.as_slice())?));
+            }
             Differing::Clash => return Ok(None),
-            Differing::Bind(x, term) => {
-                if has_variable(&term, x) {
+            Differing::Bind(replacement) => {
+                if !put_through(
+                    alloc,
+                    replacement,
+                    &mut bank,
+                    &mut left_ids,
+                    &mut right_ids,
+                    &mut atoms,
+                )? {
                     return Ok(None);
                 }
-                lefts = put_each(alloc, lefts.as_slice(), x, &term)?;
-                rights = put_each(alloc, rights.as_slice(), x, &term)?;
-                rest = put_clause(alloc, &rest, x, &term)?;
             }
         }
     }

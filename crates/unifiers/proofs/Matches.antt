@@ -6,7 +6,7 @@ use Rattle.fol_core.specs.Substitutions.{Substitution, substitute, substitute_al
 use Rattle.fol_core.specs.Tree.{Tree, var, elem, app, Trees, none, more}
 use Rattle.substitutions.specs.Bindings.{Binding, by_bindings}
 use Rattle.substitutions.proofs.Composing.{first_same, others_same, arguments_same, heads_same}
-use Rattle.unifiers.specs.Matching.{same_tree, same_trees, term_of, bound_to, matched, matched_all, Agrees}
+use Rattle.unifiers.specs.Matching.{same_tree, same_trees, bound_term, bound_to, matched, matched_all, Agrees}
 
 mutual
   pub tree_same : (s t : Tree) → IsTrue (same_tree s t) → s ≡ t
@@ -38,13 +38,13 @@ mutual
 
 -- what is given stays given
 abbrev pub Keeps : List Binding → List Binding → Type 0
-Keeps bs cs = (x : ℕ) (u : Tree) → term_of bs x ≡ Some u → term_of cs x ≡ Some u
+Keeps bs cs = (x : ℕ) (u : Tree) → bound_term bs x ≡ Some u → bound_term cs x ≡ Some u
 
-given : (cs : List Binding) (x : ℕ) (u : Tree) → term_of cs x ≡ Some u → by_bindings cs x ≡ u
+given : (cs : List Binding) (x : ℕ) (u : Tree) → bound_term cs x ≡ Some u → by_bindings cs x ≡ u
 given [] x u h = cc
 given (c ∷ cs) x u h = by (x == c.0) (given cs x u) h
   where
-    by : (b : Bool) → (term_of cs x ≡ Some u → by_bindings cs x ≡ u) → (if b then Some c.1 else term_of cs x) ≡ Some u → (if b then c.1 else by_bindings cs x) ≡ u
+    by : (b : Bool) → (bound_term cs x ≡ Some u → by_bindings cs x ≡ u) → (if b then Some c.1 else bound_term cs x) ≡ Some u → (if b then c.1 else by_bindings cs x) ≡ u
     by true rest h = ap (λ o. unwrap_or o u) h
     by false rest h = rest h
 
@@ -52,15 +52,15 @@ keeps_push : (bs : List Binding) (b : Binding) → Keeps bs (bs ++ b ∷ [])
 keeps_push [] b x u h = cc
 keeps_push (c ∷ cs) b x u h = by (x == c.0) (keeps_push cs b x u) h
   where
-    by : (d : Bool) → (term_of cs x ≡ Some u → term_of (cs ++ b ∷ []) x ≡ Some u) → (if d then Some c.1 else term_of cs x) ≡ Some u → (if d then Some c.1 else term_of (cs ++ b ∷ []) x) ≡ Some u
+    by : (d : Bool) → (bound_term cs x ≡ Some u → bound_term (cs ++ b ∷ []) x ≡ Some u) → (if d then Some c.1 else bound_term cs x) ≡ Some u → (if d then Some c.1 else bound_term (cs ++ b ∷ []) x) ≡ Some u
     by true rest h = h
     by false rest h = rest h
 
-pushed : (bs : List Binding) (x : ℕ) (t : Tree) → term_of bs x ≡ None → term_of (bs ++ (x, t) ∷ []) x ≡ Some t
+pushed : (bs : List Binding) (x : ℕ) (t : Tree) → bound_term bs x ≡ None → bound_term (bs ++ (x, t) ∷ []) x ≡ Some t
 pushed [] x t h = ap (λ b. if b then Some t else None) (eq-eqb x x refl)
 pushed (c ∷ cs) x t h = by (x == c.0) (pushed cs x t) h
   where
-    by : (b : Bool) → (term_of cs x ≡ None → term_of (cs ++ (x, t) ∷ []) x ≡ Some t) → (if b then Some c.1 else term_of cs x) ≡ None → (if b then Some c.1 else term_of (cs ++ (x, t) ∷ []) x) ≡ Some t
+    by : (b : Bool) → (bound_term cs x ≡ None → bound_term (cs ++ (x, t) ∷ []) x ≡ Some t) → (if b then Some c.1 else bound_term cs x) ≡ None → (if b then Some c.1 else bound_term (cs ++ (x, t) ∷ []) x) ≡ Some t
     by true rest h = cc
     by false rest h = rest h
 
@@ -71,10 +71,10 @@ Makes bs cs s t = Keeps bs cs × ((ds : List Binding) → Keeps cs ds → substi
 abbrev MakesAll : List Binding → List Binding → Trees → Trees → Type 0
 MakesAll bs cs ss ts = Keeps bs cs × ((ds : List Binding) → Keeps cs ds → substitute_all (by_bindings ds) ss ≡ ts)
 
-bound_makes : (x : ℕ) (t : Tree) (bs cs : List Binding) → bound_to (term_of bs x) x t bs ≡ Some cs → Makes bs cs (var x) t
-bound_makes x t bs cs h = by (term_of bs x) refl h
+bound_makes : (x : ℕ) (t : Tree) (bs cs : List Binding) → bound_to (bound_term bs x) x t bs ≡ Some cs → Makes bs cs (var x) t
+bound_makes x t bs cs h = by (bound_term bs x) refl h
   where
-    by : (o : Option Tree) → term_of bs x ≡ o → bound_to o x t bs ≡ Some cs → Makes bs cs (var x) t
+    by : (o : Option Tree) → bound_term bs x ≡ o → bound_to o x t bs ≡ Some cs → Makes bs cs (var x) t
     by None is h =
         let e : bs ++ (x, t) ∷ [] ≡ cs = cc in
         subst (λ cs. Makes bs cs (var x) t) e (keeps_push bs (x, t), λ ds keeps. given ds x t (keeps x t (pushed bs x t is)))
@@ -122,11 +122,11 @@ pub match_makes : (s t : Tree) (bs : List Binding) → matched s t [] ≡ Some b
 match_makes s t bs h = (makes s t [] bs h).1 bs (λ x u k. k)
 
 -- what is given is what the substitution gives
-agrees_given : (u : Substitution) (bs : List Binding) (x : ℕ) (t : Tree) → Agrees u bs → term_of bs x ≡ Some t → u x ≡ t
+agrees_given : (u : Substitution) (bs : List Binding) (x : ℕ) (t : Tree) → Agrees u bs → bound_term bs x ≡ Some t → u x ≡ t
 agrees_given u [] x t agrees h = cc
 agrees_given u (b ∷ bs) x t agrees h = by (x == b.0) refl h (agrees_given u bs x t agrees.1)
   where
-    by : (c : Bool) → (x == b.0) ≡ c → (if c then Some b.1 else term_of bs x) ≡ Some t → (term_of bs x ≡ Some t → u x ≡ t) → u x ≡ t
+    by : (c : Bool) → (x == b.0) ≡ c → (if c then Some b.1 else bound_term bs x) ≡ Some t → (bound_term bs x ≡ Some t → u x ≡ t) → u x ≡ t
     by true e h rest = ap u (eqb-true x b.0 e) ∙ agrees.0 ∙ ap (λ o. unwrap_or o t) h
     by false e h rest = rest h
 
@@ -137,10 +137,10 @@ agrees_push u (b ∷ bs) x t agrees h = (agrees.0, agrees_push u bs x t agrees.1
 abbrev pub Finds : Substitution → Option (List Binding) → Type 0
 Finds u o = (cs : List Binding) × (o ≡ Some cs) × Agrees u cs
 
-bound_found : (u : Substitution) (x : ℕ) (t : Tree) (bs : List Binding) → u x ≡ t → Agrees u bs → Finds u (bound_to (term_of bs x) x t bs)
-bound_found u x t bs h agrees = by (term_of bs x) refl
+bound_found : (u : Substitution) (x : ℕ) (t : Tree) (bs : List Binding) → u x ≡ t → Agrees u bs → Finds u (bound_to (bound_term bs x) x t bs)
+bound_found u x t bs h agrees = by (bound_term bs x) refl
   where
-    by : (o : Option Tree) → term_of bs x ≡ o → Finds u (bound_to o x t bs)
+    by : (o : Option Tree) → bound_term bs x ≡ o → Finds u (bound_to o x t bs)
     by None is = (bs ++ (x, t) ∷ [], refl, agrees_push u bs x t agrees h)
     by (Some v) is =
         let same : v ≡ t = sym (agrees_given u bs x v agrees is) ∙ h in

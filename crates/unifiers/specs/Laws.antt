@@ -18,14 +18,14 @@ abbrev pub FindsWhatIsThere : Type 0
 FindsWhatIsThere = (ss ts : Trees) (u : Substitution) → unifier_of ss ts ≡ None → ¬ Unifies u ss ts
 
 -- terms and a clause, and others, are made of each other by putting in terms
-pub record AreRenamed (ss ts : Trees) (c : ClauseTree) (us vs : Trees) (d : ClauseTree) (there : Substitution) : Type 0 where
+pub record AreInstancesBy (ss ts : Trees) (c : ClauseTree) (us vs : Trees) (d : ClauseTree) (there : Substitution) : Type 0 where
   pub left : us ≡ substitute_all there ss
   pub right : vs ≡ substitute_all there ts
   pub clause : d ≡ substitute_clause there c
 
 -- A numbered conclusion depends neither on the most general unifier nor on how the parents were renamed.
 abbrev pub ConclusionsAgree : Type 0
-ConclusionsAgree = (ss ts us vs : Trees) (c d : ClauseTree) (there back s u : Substitution) → AreRenamed ss ts c us vs d there → AreRenamed us vs d ss ts c back
+ConclusionsAgree = (ss ts us vs : Trees) (c d : ClauseTree) (there back s u : Substitution) → AreInstancesBy ss ts c us vs d there → AreInstancesBy us vs d ss ts c back
     → IsMostGeneral s ss ts → IsMostGeneral u us vs → renumbered (substitute_clause s c) ≡ renumbered (substitute_clause u d)
 
 -- a match makes of the first term the second

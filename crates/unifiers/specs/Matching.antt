@@ -19,9 +19,9 @@ abbrev mutual
   same_trees ss ts = false
 
 -- the term that is given for a variable
-abbrev pub term_of : List Binding → ℕ → Option Tree
-term_of [] x = None
-term_of (b ∷ bs) x = if x == b.0 then Some b.1 else term_of bs x
+abbrev pub bound_term : List Binding → ℕ → Option Tree
+bound_term [] x = None
+bound_term (b ∷ bs) x = if x == b.0 then Some b.1 else bound_term bs x
 
 -- a variable with a term: as given, or from now on
 abbrev pub bound_to : Option Tree → ℕ → Tree → List Binding → Option (List Binding)
@@ -31,7 +31,7 @@ bound_to (Some u) x t bs = if same_tree u t then Some bs else None
 abbrev mutual
   -- the bindings, and those that make of the first term the second one
   pub matched : Tree → Tree → List Binding → Option (List Binding)
-  matched (var x) t bs = bound_to (term_of bs x) x t bs
+  matched (var x) t bs = bound_to (bound_term bs x) x t bs
   matched (elem k) (elem n) bs = if k == n then Some bs else None
   matched (app f ss) (app g ts) bs = if f == g then matched_all ss ts bs else None
   matched s t bs = None

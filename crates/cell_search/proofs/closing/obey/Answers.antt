@@ -1,4 +1,4 @@
-use Rattle.std.proofs.Common.{◌≡◌, ◌==◌, ℕ, Some, ap, ◌∙◌, subst}
+use Rattle.std.proofs.Common.{◌==◌, ℕ, ap, ◌∙◌}
 use Rattle.cell_search.proofs.Leaving.{given, refused, beq-false}
 use Rattle.cell_search.proofs.closing.obey.Goals as goal
 

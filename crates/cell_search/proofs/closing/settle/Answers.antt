@@ -1,4 +1,4 @@
-use Rattle.std.proofs.Common.{◌<◌, sym, ◌∙◌, subst, arith}
+use Rattle.std.proofs.Common.{sym, ◌∙◌, subst, arith}
 use Rattle.mace_cells.specs.Trails.{Partial}
 use Rattle.cell_search.specs.Sound.{IsBoard}
 use Rattle.cell_search.proofs.Boarding.{assigned}

@@ -1,4 +1,4 @@
-use Rattle.std.proofs.Common.{◌≡◌, List, ap, subst}
+use Rattle.std.proofs.Common.{List, ap, subst}
 use Rattle.mace_cells.specs.Choices.{Decision}
 use Rattle.mace_cells.specs.Trails.{Partial}
 use Rattle.mace_cells.specs.World.{IsRefuted}

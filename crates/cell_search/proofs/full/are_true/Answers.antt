@@ -1,6 +1,6 @@
-use Rattle.std.proofs.Common.{◌≡◌, List, length, map, sym, ◌∙◌, subst, arith}
+use Rattle.std.proofs.Common.{List, length, sym, subst, arith}
 use Rattle.fol_core.specs.Literals.{ClauseTree}
-use Rattle.mace_ground.specs.Instances.{assigned_by, variables_in}
+use Rattle.mace_ground.specs.Instances.{assigned_by}
 use Rattle.cell_search.specs.Full.{IsDueClause, IsTrueFrom, HaveVariables}
 use Rattle.cell_search.proofs.Rows.{due, has_room, true_more}
 use Rattle.cell_search.proofs.full.are_true.Goals as goal

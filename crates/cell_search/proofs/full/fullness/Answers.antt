@@ -1,4 +1,4 @@
-use Rattle.std.proofs.Common.{◌≡◌, ◌<◌, ◌≤◌, sym, ◌∙◌, arith}
+use Rattle.std.proofs.Common.{◌<◌, ◌≤◌, sym, arith}
 use Rattle.cell_search.proofs.Filling.{decided_few, full_more}
 use Rattle.cell_search.proofs.Leaving.{given, out_of_range}
 use Rattle.cell_search.proofs.full.fullness.Goals as goal

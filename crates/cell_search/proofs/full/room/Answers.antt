@@ -1,4 +1,4 @@
-use Rattle.std.proofs.Common.{◌≤◌, arith}
+use Rattle.std.proofs.Common.{arith}
 use Rattle.cell_search.proofs.Rows.{room_more}
 use Rattle.cell_search.proofs.full.room.Goals as goal
 

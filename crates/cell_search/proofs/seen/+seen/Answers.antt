@@ -1,7 +1,6 @@
-use Rattle.std.proofs.Common.{◌≡◌, ◌+◌, ◌≤◌, ◌<◌, ℕ, List, Option, Some, IfSome, length, sym, ap, ◌∙◌, subst, arith}
-use Rattle.fol_core.specs.Tree.{Tree, trees_of, nodes, nodes_of}
-use Rattle.fol_core.specs.TermView.{tree_of}
-use Rattle.mace_cells.specs.World.{World, many_cells}
+use Rattle.std.proofs.Common.{◌<◌, ℕ, List, Option, IfSome, sym, ap, ◌∙◌, subst, arith}
+use Rattle.fol_core.specs.Tree.{Tree, trees_of, nodes_of}
+use Rattle.mace_cells.specs.World.{many_cells}
 use Rattle.mace_ground.specs.Cells.{found}
 use Rattle.mace_ground.specs.Instances.{assigned_by}
 use Rattle.mace_ground.specs.Spans.{span_of}

@@ -1,8 +1,8 @@
 use Rattle.std.proofs.Common.{◌+◌, ◌++◌, ap, ◌∙◌, length, map, drop}
 use Rattle.fol_core.specs.EntryView.{skolem_axiom_of}
 use Rattle.fol_core.specs.Stated.{all_said}
-use Rattle.clausify.specs.Input.{rows_from, witnesses_from}
-use Rattle.clausify.proofs.Rows.{rows_next, witnesses_next}
+use Rattle.clausify.specs.Input.{rows_from, axioms_from}
+use Rattle.clausify.proofs.Rows.{rows_next, axioms_next}
 use Rattle.clausify.proofs.inputs.all_clauses.Goals as goal
 
 pub loop-place-preserved : goal.loop-place-preserved
@@ -16,7 +16,7 @@ loop-place-preserved c =
       rows = ap (λ rs. rs ++ rows_from symbols ((place + 1) + 1) after (all_said (drop (place + 1) inputs))) c.in_ok-entries.ensures.rows
           ∙ rows_next symbols c.loop-place.rows.items inputs place before after c.index-inputs-place.result c.loop-place-test.true c.index-inputs-place.is c.in_ok-entries.ensures.count
           ∙ c.loop-place.invariant.rows;
-      witnesses = ap (λ ws. ws ++ witnesses_from symbols after (all_said (drop (place + 1) inputs))) c.in_ok-entries.ensures.entries
-          ∙ witnesses_next symbols (map skolem_axiom_of c.loop-place.entries.items) inputs place before after c.index-inputs-place.result c.loop-place-test.true c.index-inputs-place.is c.in_ok-entries.ensures.count
+      witnesses = ap (λ ws. ws ++ axioms_from symbols after (all_said (drop (place + 1) inputs))) c.in_ok-entries.ensures.entries
+          ∙ axioms_next symbols (map skolem_axiom_of c.loop-place.entries.items) inputs place before after c.index-inputs-place.result c.loop-place-test.true c.index-inputs-place.is c.in_ok-entries.ensures.count
           ∙ c.loop-place.invariant.witnesses;
     }

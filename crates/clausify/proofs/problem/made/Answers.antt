@@ -6,12 +6,12 @@ use Rattle.fol_core.specs.Stated.{Stated, stated_of, IsWellFormed, AreNewTo}
 use Rattle.fol_core.specs.SymbolTable.{Symbol, KeepsNumbers}
 use Rattle.fol_core.specs.SkolemAxioms.{AreInOrder}
 use Rattle.fol_core.specs.declared.clause.Entry.{Entry}
-use Rattle.clausify.specs.Input.{witnesses_in_table}
+use Rattle.clausify.specs.Input.{axioms_in_table}
 use Rattle.clausify.proofs.Fresh.{all_in_order}
 use Rattle.clausify.proofs.problem.made.Goals as goal
 
 -- what is noted is in order, and new to the formulas
-noted : (table : List Symbol) (p : Stated) (es : List Entry) → length es ≤ equality → map skolem_axiom_of es ≡ witnesses_in_table table p → length p.symbols ≤ equality → IsWellFormed p → KeepsNumbers p.symbols table
+noted : (table : List Symbol) (p : Stated) (es : List Entry) → length es ≤ equality → map skolem_axiom_of es ≡ axioms_in_table table p → length p.symbols ≤ equality → IsWellFormed p → KeepsNumbers p.symbols table
     → AreInOrder (map skolem_axiom_of es) × AreNewTo p.formulas (map skolem_axiom_of es)
 noted table p es few told small well_formed keeps =
     let all = all_in_order p.symbols table p.formulas small well_formed keeps (omega (arith, few, length-map es skolem_axiom_of, ap length told)) in

@@ -1,5 +1,8 @@
+use Rattle.ladr_formulas.specs.declared.styles.Mode.TheVariants.{Mace}
+use Rattle.ladr_intake.specs.Posed.{poses}
+use Rattle.ladr_intake.specs.Refusals.{refuses}
 use Rattle.ladr_mace4.proofs.Showing.{searches_show}
 use Rattle.ladr_mace4.proofs.laws.searches_show.Goals as goal
 
 pub returns : goal.returns
-returns c = searches_show (record { new = c.witnesses_are_in_order.ensures.new; behind = c.skolems_stand_behind.ensures; back = c.texts_read_back.ensures.text }) (record { once = c.one_is_posed.ensures.once; proper = c.one_is_posed.ensures.proper; unrefused = c.one_is_posed.ensures.unrefused })
+returns c = searches_show (record { new = c.axioms_are_in_order.ensures.new; behind = c.skolems_stand_behind.ensures; back = c.texts_read_back.ensures.text }) (poses Mace) (refuses Mace) (c.files_are_a_language.ensures Mace)

@@ -5,5 +5,5 @@ use Rattle.ladr_mace4.proofs.lines.exhausted.Goals as goal
 
 pub returns : goal.returns
 returns c =
-    let size = codes "% Domain size " ++ decimal c.args.n in
-    c.in_ok-text.ensures ∙ ap (λ (l : List ℕ). l ++ codes " exhausted.\n") (c.in_ok-domain.ensures ∙ ap (λ (l : List ℕ). l ++ size) c.new-out.ensures.items) ∙ sym (append_assoc size (codes " exhausted.") (10 ∷ []))
+    let domain = codes "% Domain size " ++ decimal c.args.n in
+    c.in_ok-text.ensures ∙ ap (λ (l : List ℕ). l ++ codes " exhausted.\n") c.in_ok-out.ensures ∙ sym (append_assoc domain (codes " exhausted.") (10 ∷ []))

@@ -1,4 +1,4 @@
-use Rattle.std.proofs.Common.{◌≡◌, ◌<◌, ◌≤◌, ℕ, sym, subst, arith}
+use Rattle.std.proofs.Common.{◌<◌, sym, subst, arith}
 use Rattle.fol_core.specs.Occurs.{size_needed}
 use Rattle.ladr_mace4.proofs.Begun.{at_skipped, at_line, at_beginning, behind_line}
 use Rattle.ladr_mace4.proofs.Clocks.{in_time, looked_on}

@@ -1,9 +1,7 @@
-use Rattle.std.proofs.Common.{◌≡◌, ◌<◌, ℕ, [], ◌∷◌, ◌++◌, Result, Ok, Err, ap, subst, sym, refl, rules, ◌∙◌, arith}
-use Rattle.ladr_io.specs.Streams.{Outflow}
+use Rattle.std.proofs.Common.{◌<◌, [], ◌∷◌, ◌++◌, Ok, Err, ap, refl, rules, ◌∙◌, arith}
 use Rattle.ladr_mace4.proofs.Clocks.{in_time, unread}
 use Rattle.ladr_mace4.proofs.Ended.{none_ended, told_at, cut_in, ends_in, more_in, ends_behind}
 use Rattle.ladr_mace4.specs.Story.{models_in_all}
-use Rattle.ladr_mace4.specs.declared.ends.Step.TheVariants.{Over, Ends}
 use Rattle.ladr_mace4.proofs.sizes.search_sizes.Goals as goal
 
 pub loop-n-init : goal.loop-n-init
@@ -40,7 +38,7 @@ returns-in-Ok-Ends g c =
     let few : models_in_all so_far.0 < c.args.plan.wanted = omega (arith, ended.count, c.loop-n.invariant.fewer) in
     let t' = g.C.Clock.times c.one_size.new.clock in
     let told = told_at c.args.asked.now c.args.plan t' c.loop-n.n c.loop-n.printed so_far.0 _ _ _ (Ok c.in-Ok-Ends.field-0) ended.next ended.count (c.in-Ok-Ends.ensures.tells _ ended.reads) in
-    ends_in c.args.asked.now c.args.plan t' so_far.0 ended.ended few _ _ _ c.in-Ok-Ends.end c.in-Ok-Ends.now c.in-Ok-Ends.field-0 c.in-Ok-Ends.field-0-is ended.took told
+    ends_in c.args.asked.now c.args.plan t' so_far.0 ended.ended few _ _ _ c.in-Ok-Ends.end c.in-Ok-Ends.printed c.in-Ok-Ends.field-0 c.in-Ok-Ends.field-0-is ended.took told
 
 pub returns-in-Err : goal.returns-in-Err
 returns-in-Err g c =

@@ -3,7 +3,7 @@ use Rattle.std.proofs.Common.{refl, lit≤}
 use Rattle.ladr_lex.specs.Bytes.{is_blank, is_ordinary, is_special}
 use Rattle.ladr_lex.specs.Lexed.{start_of}
 use Rattle.ladr_lex.specs.Operators.{standard_rows}
-use Rattle.ladr_reader.specs.Worked.{line, standard}
+use Rattle.ladr_reader.specs.Worked.{lexemes_of_text, standard}
 use Rattle.ladr_reader.specs.declared.fault.TermFault.TheVariants.{Bad}
 use Rattle.ladr_reader.proofs.Lawful.{standard_lawful}
 use Rattle.ladr_reader.proofs.Live.{table_names}
@@ -16,9 +16,9 @@ pub returns : goal.returns
 unfolding start_of is_blank is_ordinary is_special
 returns c =
     record {
-      cut_off = fault_of_term standard_rows refl (line "end_of_list") (λ e. cc) (Bad 1)
-          (bad_end 500 standard standard_lawful (table_names standard_rows) (line "end_of_list") 1 _ _ refl refl (λ t q e. absurd (cc)));
-      operator = bad_behind with_prefix (line "end_of_list. a.") refl (lit≤ tt);
-      further = fault_of_term standard_rows refl (line "end_of_list a.") (λ e. cc) (Bad 1)
-          (bad_at 500 standard standard_lawful (table_names standard_rows) (line "end_of_list a.") 1 _ _ (lit≤ tt) refl refl);
+      cut_off = fault_of_term standard_rows refl (lexemes_of_text "end_of_list") (λ e. cc) (Bad 1)
+          (bad_end 500 standard standard_lawful (table_names standard_rows) (lexemes_of_text "end_of_list") 1 _ _ refl refl (λ t q e. absurd (cc)));
+      operator = bad_behind with_prefix (lexemes_of_text "end_of_list. a.") refl (lit≤ tt);
+      further = fault_of_term standard_rows refl (lexemes_of_text "end_of_list a.") (λ e. cc) (Bad 1)
+          (bad_at 500 standard standard_lawful (table_names standard_rows) (lexemes_of_text "end_of_list a.") 1 _ _ (lit≤ tt) refl refl);
     }

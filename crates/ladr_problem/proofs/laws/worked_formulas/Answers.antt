@@ -17,14 +17,14 @@ use Rattle.ladr_reader.proofs.Lawful.{standard_lawful}
 use Rattle.ladr_reader.proofs.Live.{table_names}
 use Rattle.ladr_reader.proofs.Runs.{bad_at}
 use Rattle.ladr_formulas.specs.Formulas.{named_variable}
-use Rattle.ladr_reader.specs.Worked.{line, constant, unary, binary, standard}
+use Rattle.ladr_reader.specs.Worked.{lexemes_of_text, constant, unary, binary, standard}
 use Rattle.ladr_reader.specs.declared.fault.TermFault.TheVariants.{Bad}
 
 pub returns-clause-listed : goal.returns-clause-listed
 unfolding start_of is_blank is_ordinary is_special named_variable
 returns-clause-listed _ =
-    says _ (codes "formulas(assumptions).\np(a) # label(b).\nend_of_list.\nformulas(goals).\nq(x).\nend_of_list.\n") _ refl
-    (goes_on (command (Formulas (codes "assumptions"))) _ (refl, refl) refl
+    says _ (codes "formulas(sos).\np(a) # label(b).\nend_of_list.\nformulas(goals).\nq(x).\nend_of_list.\n") _ refl
+    (goes_on (command (Formulas (codes "sos"))) _ (refl, refl) refl
     (goes_on (within (term (binary "#" (unary "p" (constant "a")) (unary "label" (constant "b"))))) _ (refl, read 810 (λ e. cc) refl) refl
     (goes_on (within closing) _ (refl, refl) refl
     (goes_on (command (Formulas (codes "goals"))) _ (refl, refl) refl
@@ -43,7 +43,7 @@ returns-clause-clash _ =
 pub returns-clause-for_another : goal.returns-clause-for_another
 unfolding start_of is_blank is_ordinary is_special named_variable
 returns-clause-for_another _ =
-    says _ (codes "if(Mace4).\nformulas(sos).\nf(a).\nend_of_list.\nend_if.\nformulas(sos).\nf(a) = b.\nend_of_list.\n") _ refl
+    says _ (codes "if(Mace4). formulas(sos). f(a). end_of_list. end_if. formulas(sos). f(a)=b. end_of_list.") _ refl
     (goes_on (command (If (codes "Mace4"))) _ (refl, refl) refl
     (goes_on (command (Formulas (codes "sos"))) _ (refl, refl) refl
     (goes_on (within (term (unary "f" (constant "a")))) _ (refl, read 0 (λ e. cc) refl) refl
@@ -103,4 +103,4 @@ unfolding start_of is_blank is_ordinary is_special named_variable
 returns-clause-not_read _ =
     says _ (codes "formulas(sos).\np(a) q.\nend_of_list.\n") _ refl
     (goes_on (command (Formulas (codes "sos"))) _ (refl, refl) refl
-    (bad 4 (fault_of_term standard_rows refl (line "p(a) q.") (λ e. cc) (Bad 4) (bad_at 500 standard standard_lawful (table_names standard_rows) (line "p(a) q.") 4 _ _ (lit≤ tt) refl refl))))
+    (bad 4 (fault_of_term standard_rows refl (lexemes_of_text "p(a) q.") (λ e. cc) (Bad 4) (bad_at 500 standard standard_lawful (table_names standard_rows) (lexemes_of_text "p(a) q.") 4 _ _ (lit≤ tt) refl refl))))

@@ -2,7 +2,7 @@
 use Rattle.std.proofs.Common.{refl, lit≤}
 use Rattle.ladr_lex.specs.Bytes.{is_blank, is_ordinary, is_special}
 use Rattle.ladr_lex.specs.Lexed.{start_of}
-use Rattle.ladr_reader.specs.Worked.{line, declared_rows, with_declared}
+use Rattle.ladr_reader.specs.Worked.{lexemes_of_text, declared_rows, with_declared}
 use Rattle.ladr_reader.proofs.Lawful.{Lawful, table_lawful}
 use Rattle.ladr_reader.proofs.Live.{table_names}
 use Rattle.ladr_reader.proofs.Runs.{run_item, bad_at}
@@ -20,5 +20,5 @@ returns c =
       body = run_item with_declared lawful _ _ 750 refl;
       postfix = run_item with_declared lawful _ _ 350 refl;
       below = run_item with_declared lawful _ _ 400 refl;
-      not_below = bad_at 500 with_declared lawful (table_names declared_rows) (line "~ ~ a.") 1 _ _ (lit≤ tt) refl refl;
+      not_below = bad_at 500 with_declared lawful (table_names declared_rows) (lexemes_of_text "~ ~ a.") 1 _ _ (lit≤ tt) refl refl;
     }

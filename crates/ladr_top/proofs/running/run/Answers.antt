@@ -1,10 +1,15 @@
 use Rattle.std.proofs.Common.{◌≡◌, Err, subst}
 use Rattle.ladr_intake.specs.declared.stops.Stop.TheVariants as stops
-use Rattle.ladr_mace4.specs.Shown.{ShowsPosed}
+use Rattle.ladr_io.proofs.StreamLaws.{Takes-none}
+use Rattle.ladr_output.specs.declared.cut.Cut.TheVariants as cuts
 use Rattle.ladr_top.proofs.Lacking.{lacking, none_shown}
+use Rattle.ladr_top.specs.Runs.{ShowsMace4}
 use Rattle.ladr_words.specs.Tasks.{HasRanges}
 use Rattle.ladr_top.proofs.running.run.Goals as goal
 use Rattle.ladr_words.specs.declared.task.ModelOptions.{ModelOptions}
+
+pub returns-in-Err-Memory-clause-words : goal.returns-in-Err-Memory-clause-words
+returns-in-Err-Memory-clause-words g c = λ e. (Err cuts.Memory, Takes-none _, c.exit-in-Err-Memory.ensures.cause)
 
 pub returns-in-Err-Memory-clause-clausetester : goal.returns-in-Err-Memory-clause-clausetester
 returns-in-Err-Memory-clause-clausetester g c = λ e. (Err stops.Memory, lacking _ _ _ _ _ _ _ tt, c.exit-in-Err-Memory.ensures.cause)
@@ -20,5 +25,5 @@ returns-in-Ok-Mace4-clause-models g c = λ o e.
     let task = c.in-Ok-Mace4.ensures.task in
     let is = c.in-Ok-Mace4.field-0-is in
     let same : c.in-Ok-Mace4.options ≡ o = cc in
-    subst (λ (words : ModelOptions). ShowsPosed words (g.S.Source.inflow c.args.source.now) (g.S.Source.inflow c.mace4.new.source) (g.K.Sink.outflow c.args.sink.now) (g.K.Sink.outflow c.mace4.new.sink)) same
+    subst (λ (words : ModelOptions). ShowsMace4 words (g.S.Source.inflow c.args.source.now) (g.S.Source.inflow c.mace4.new.source) (g.K.Sink.outflow c.args.sink.now) (g.K.Sink.outflow c.mace4.new.sink)) same
     (c.searches_show.ensures c.in-Ok-Mace4.options (subst HasRanges is c.in-Ok-Mace4.ensures.ranges) _ _ _ _ (g.C.Clock.times c.mace4.new.clock) c.mace4.result c.mace4.ensures)

@@ -1,6 +1,4 @@
-use Rattle.std.proofs.Common.{true, refl, ◌∙◌, ap, subst, sym, List}
-use Rattle.mace_cells.specs.Choices.{Decision}
-use Rattle.mace_cells.specs.World.{World, IsSettled, IsRefuted, many_cells}
+use Rattle.std.proofs.Common.{true, refl, ◌∙◌}
 use Rattle.mace_search.proofs.Watching.{goes_none, goes_both}
 use Rattle.mace_cells.proofs.Steps.{itself}
 use Rattle.mace_cells.proofs.Drives.{both, at_end, smaller, few_choices, still, refuted_still, few_still}

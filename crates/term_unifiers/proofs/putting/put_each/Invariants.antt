@@ -1,9 +1,7 @@
--- The first terms are made.
-use Rattle.std.proofs.Common.{◌≡◌, map, take}
-use Rattle.fol_core.specs.Substitutions.{substitute}
-use Rattle.fol_core.specs.TermView.{tree_of, tree_list}
-use Rattle.unifiers.specs.Unifier.{only}
+-- The first terms are put in.
+use Rattle.std.proofs.Common.{take}
+use Rattle.term_unifiers.specs.Numbered.{ArePut}
 use Rattle.term_unifiers.proofs.putting.put_each.Given as goal
 
-abbrev pub invariant-loop-term : goal.invariant-loop-term
-invariant-loop-term l = tree_list l.made.items ≡ map (substitute (only l.x (tree_of l.new))) (tree_list (take l.term-index l.terms))
+abbrev pub invariant-loop-id : goal.invariant-loop-id
+invariant-loop-id l = ArePut l.replacement l.fn.bank (take l.id-index l.ids) l.fn.images.items l.bank l.images.items l.made.items

@@ -1,68 +1,109 @@
-use Rattle.std.proofs.Common.{◌≡◌, ◌∙◌, false, sym, ap, subst, length, map, arith}
-use Rattle.fol_core.specs.TermView.{tree_of, tree_list}
-use Rattle.fol_core.specs.Substitutions.{substitute}
+-- The rounds go on where a variable is put in, and end where nothing is left.
+use Rattle.std.proofs.Common.{◌≡◌, ◌∙◌, true, sym, ap, subst, length}
+use Rattle.fol_core.specs.TermView.{tree_list}
 use Rattle.substitutions.specs.Occurring.{has_variable}
-use Rattle.unifiers.specs.Unifier.{only}
-use Rattle.term_unifiers.specs.Pairs.{Binds, Reduced}
-use Rattle.term_unifiers.proofs.PairSteps.{tree_count}
-use Rattle.term_unifiers.proofs.SolveSteps.{Going, going_start, going_done, going_never, going_cycle, going_smaller, uneven}
+use Rattle.term_bank.specs.Bank.{tree_at}
+use Rattle.term_unifiers.specs.Numbered.{trees_at, AreAt, HavePut, IsPutThrough, atoms_of, with_atoms}
+use Rattle.term_unifiers.specs.Pairs.{BindsAt, Reduced}
+use Rattle.term_unifiers.proofs.Numbers.{all_grows}
+use Rattle.term_unifiers.proofs.SolveSteps.{going_at, going_many, going_bind, going_done, going_never, going_cycle, going_smaller, uneven}
 use Rattle.term_unifiers.proofs.unifying.unify.Goals as goal
 
 pub returns-then-len : goal.returns-then-len
-returns-then-len c = uneven c.args.lefts c.args.rights (λ h.
-    let lefts = ap length c.into_items-lefts.ensures in
-    let rights = ap length c.into_items-rights.ensures in
-    c.if-len.true (omega (arith, tree_count c.into_items-lefts.result.items, tree_count c.into_items-rights.result.items)))
+returns-then-len c = uneven c.args.lefts c.args.rights (λ h. c.if-len.true (c.len.ensures ∙ h ∙ sym c.len-2.ensures))
 
-pub loop-rest-init : goal.loop-rest-init
-loop-rest-init c =
-    let lefts = ap length c.into_items-lefts.ensures in
-    let rights = ap length c.into_items-rights.ensures in
-    let even : length c.args.lefts ≡ length c.args.rights = omega (arith, tree_count c.into_items-lefts.result.items, tree_count c.into_items-rights.result.items) in
-    subst (λ ls. Going c.args.lefts c.args.rights c.args.rest ls (tree_list c.into_items-rights.result.items) c.args.rest) (sym c.into_items-lefts.ensures)
-    (subst (λ rs. Going c.args.lefts c.args.rights c.args.rest c.args.lefts rs c.args.rest) (sym c.into_items-rights.ensures) (going_start c.args.lefts c.args.rights c.args.rest even))
+pub loop-atoms-init : goal.loop-atoms-init
+loop-atoms-init c =
+    let first = c.numbers_of.new.bank in
+    let second = c.numbers_of-2.new.bank in
+    let bank = c.numbers_of_atoms.new.bank in
+    let lefts : AreAt bank c.in_ok-left_ids.left_ids.items c.args.lefts =
+    subst (AreAt bank c.in_ok-left_ids.left_ids.items) c.as_slice.ensures.trees
+    (all_grows second bank c.in_ok-left_ids.left_ids.items _ c.in_ok-atoms.ensures.grows (all_grows first second c.in_ok-left_ids.left_ids.items _ c.in_ok-right_ids.ensures.grows c.in_ok-left_ids.ensures.terms)) in
+    let rights : AreAt bank c.in_ok-right_ids.right_ids.items c.args.rights =
+    subst (AreAt bank c.in_ok-right_ids.right_ids.items) c.as_slice-2.ensures.trees (all_grows second bank c.in_ok-right_ids.right_ids.items _ c.in_ok-atoms.ensures.grows c.in_ok-right_ids.ensures.terms) in
+    let atoms = c.in_ok-atoms.ensures.atoms in
+    record {
+      going = going_at bank c.in_ok-left_ids.left_ids.items c.in_ok-right_ids.right_ids.items c.in_ok-atoms.atoms.items c.args.lefts c.args.rights (atoms_of c.args.rest) lefts rights atoms
+          (sym c.len.ensures ∙ c.if-len.false ∙ c.len-2.ensures);
+      lefts = lefts.within;
+      rights = rights.within;
+      atoms = atoms.within;
+    }
+
+pub with_atoms-requires-clause-each : goal.with_atoms-requires-clause-each
+with_atoms-requires-clause-each c =
+    ap length c.as_slice-in-Same.ensures.value
+    ∙ going_many c.args.lefts c.args.rights c.args.rest (trees_at c.loop-atoms.bank c.loop-atoms.left_ids.items) (trees_at c.loop-atoms.bank c.loop-atoms.right_ids.items) c.loop-atoms.bank c.loop-atoms.atoms.items c.loop-atoms.invariant.going
 
 pub returns-in-Same : goal.returns-in-Same
 returns-in-Same c =
-    going_done c.args.lefts c.args.rights c.args.rest (tree_list c.loop-rest.lefts.items) (tree_list c.loop-rest.rights.items) c.loop-rest.rest c.loop-rest.invariant
-    (subst (λ d. Reduced d (tree_list c.loop-rest.lefts.items) (tree_list c.loop-rest.rights.items) (tree_list c.reduce.new.lefts.items) (tree_list c.reduce.new.rights.items)) c.in-Same.is c.in_ok-reduce.ensures)
+    let bank = c.loop-atoms.bank in
+    let ls = trees_at bank c.loop-atoms.left_ids.items in
+    let rs = trees_at bank c.loop-atoms.right_ids.items in
+    let cs = trees_at bank c.loop-atoms.atoms.items in
+    going_done c.args.lefts c.args.rights c.args.rest c.in_ok-with_atoms-in-Same.field-0 ls rs cs c.loop-atoms.invariant.going
+    (subst (λ d. Reduced bank d c.loop-atoms.left_ids.items c.loop-atoms.right_ids.items c.reduce.new.lefts.items c.reduce.new.rights.items) c.in-Same.is c.in_ok-reduce.ensures.reduced)
+    (c.in_ok-with_atoms-in-Same.ensures ∙ ap (λ ids. with_atoms c.args.rest (trees_at bank ids)) c.as_slice-in-Same.ensures.value)
 
 pub returns-in-Clash : goal.returns-in-Clash
 returns-in-Clash c =
-    going_never c.args.lefts c.args.rights c.args.rest (tree_list c.loop-rest.lefts.items) (tree_list c.loop-rest.rights.items) c.loop-rest.rest c.loop-rest.invariant
-    (subst (λ d. Reduced d (tree_list c.loop-rest.lefts.items) (tree_list c.loop-rest.rights.items) (tree_list c.reduce.new.lefts.items) (tree_list c.reduce.new.rights.items)) c.in-Clash.is c.in_ok-reduce.ensures)
+    let bank = c.loop-atoms.bank in
+    let ls = trees_at bank c.loop-atoms.left_ids.items in
+    let rs = trees_at bank c.loop-atoms.right_ids.items in
+    let cs = trees_at bank c.loop-atoms.atoms.items in
+    going_never c.args.lefts c.args.rights (atoms_of c.args.rest) ls rs cs c.loop-atoms.invariant.going
+    (subst (λ d. Reduced bank d c.loop-atoms.left_ids.items c.loop-atoms.right_ids.items c.reduce.new.lefts.items c.reduce.new.rights.items) c.in-Clash.is c.in_ok-reduce.ensures.reduced)
 
-pub returns-then-has_variable : goal.returns-then-has_variable
-returns-then-has_variable c =
-    going_cycle c.args.lefts c.args.rights c.args.rest (tree_list c.loop-rest.lefts.items) (tree_list c.loop-rest.rights.items) c.loop-rest.rest c.in-Bind.x (tree_of c.in-Bind.term)
-    (tree_list c.reduce.new.lefts.items) (tree_list c.reduce.new.rights.items) c.loop-rest.invariant
-    (subst (λ d. Reduced d (tree_list c.loop-rest.lefts.items) (tree_list c.loop-rest.rights.items) (tree_list c.reduce.new.lefts.items) (tree_list c.reduce.new.rights.items)) c.in-Bind.is c.in_ok-reduce.ensures)
-    (sym c.has_variable.ensures ∙ c.if-has_variable.true)
+pub returns-then-not-branch : goal.returns-then-not-branch
+returns-then-not-branch c =
+    let bank = c.loop-atoms.bank in
+    let ls = trees_at bank c.loop-atoms.left_ids.items in
+    let rs = trees_at bank c.loop-atoms.right_ids.items in
+    let cs = trees_at bank c.loop-atoms.atoms.items in
+    let r = c.in-Bind.replacement in
+    let ks = trees_at bank c.reduce.new.lefts.items in
+    let qs = trees_at bank c.reduce.new.rights.items in
+    let binds : BindsAt bank r c.loop-atoms.left_ids.items c.loop-atoms.right_ids.items c.reduce.new.lefts.items c.reduce.new.rights.items =
+    subst (λ d. Reduced bank d c.loop-atoms.left_ids.items c.loop-atoms.right_ids.items c.reduce.new.lefts.items c.reduce.new.rights.items) c.in-Bind.is c.in_ok-reduce.ensures.reduced in
+    let there : has_variable r.variable (tree_at bank r.term.0) ≡ true =
+    subst (IsPutThrough r bank c.reduce.new.lefts.items c.reduce.new.rights.items c.loop-atoms.atoms.items c.put_through.new.bank c.put_through.new.lefts.items c.put_through.new.rights.items c.put_through.new.atoms.items)
+    c.if-not-branch.true c.in_ok-put_through-in-Bind.ensures in
+    going_cycle c.args.lefts c.args.rights (atoms_of c.args.rest) ls rs cs r.variable (tree_at bank r.term.0) ks qs c.loop-atoms.invariant.going binds there
 
-pub loop-rest-smaller-in_ok-rest-in-Bind : goal.loop-rest-smaller-in_ok-rest-in-Bind
-loop-rest-smaller-in_ok-rest-in-Bind c =
-    let ls = tree_list c.loop-rest.lefts.items in
-    let rs = tree_list c.loop-rest.rights.items in
-    let ks = tree_list c.reduce.new.lefts.items in
-    let qs = tree_list c.reduce.new.rights.items in
-    let x = c.in-Bind.x in
-    let t = tree_of c.in-Bind.term in
-    let binds : Binds x t ls rs ks qs = subst (λ d. Reduced d ls rs ks qs) c.in-Bind.is c.in_ok-reduce.ensures in
-    let apart : has_variable x t ≡ false = sym c.has_variable.ensures ∙ c.if-has_variable.false in
-    going_smaller c.args.lefts c.args.rights c.args.rest ls rs c.loop-rest.rest x t ks qs (tree_list c.in_ok-lefts-in-Bind.lefts.items) (tree_list c.in_ok-rights-in-Bind.rights.items) c.loop-rest.invariant binds apart
-    (c.in_ok-lefts-in-Bind.ensures ∙ ap (λ ts. map (substitute (only x t)) (tree_list ts)) c.as_slice.ensures.value)
-    (c.in_ok-rights-in-Bind.ensures ∙ ap (λ ts. map (substitute (only x t)) (tree_list ts)) c.as_slice-in-Bind.ensures.value)
+pub loop-atoms-smaller : goal.loop-atoms-smaller
+loop-atoms-smaller c =
+    let bank = c.loop-atoms.bank in
+    let ls = trees_at bank c.loop-atoms.left_ids.items in
+    let rs = trees_at bank c.loop-atoms.right_ids.items in
+    let cs = trees_at bank c.loop-atoms.atoms.items in
+    let r = c.in-Bind.replacement in
+    let ks = trees_at bank c.reduce.new.lefts.items in
+    let qs = trees_at bank c.reduce.new.rights.items in
+    let binds : BindsAt bank r c.loop-atoms.left_ids.items c.loop-atoms.right_ids.items c.reduce.new.lefts.items c.reduce.new.rights.items =
+    subst (λ d. Reduced bank d c.loop-atoms.left_ids.items c.loop-atoms.right_ids.items c.reduce.new.lefts.items c.reduce.new.rights.items) c.in-Bind.is c.in_ok-reduce.ensures.reduced in
+    let put : HavePut r bank c.reduce.new.lefts.items c.reduce.new.rights.items c.loop-atoms.atoms.items c.put_through.new.bank c.put_through.new.lefts.items c.put_through.new.rights.items c.put_through.new.atoms.items =
+    subst (IsPutThrough r bank c.reduce.new.lefts.items c.reduce.new.rights.items c.loop-atoms.atoms.items c.put_through.new.bank c.put_through.new.lefts.items c.put_through.new.rights.items c.put_through.new.atoms.items)
+    c.if-not-branch.false c.in_ok-put_through-in-Bind.ensures in
+    going_smaller c.args.lefts c.args.rights (atoms_of c.args.rest) ls rs cs r.variable (tree_at bank r.term.0) ks qs _ _ c.loop-atoms.invariant.going binds put.apart put.lefts.trees put.rights.trees
 
-pub loop-rest-smaller : goal.loop-rest-smaller
-loop-rest-smaller c =
-    let ls = tree_list c.loop-rest.lefts.items in
-    let rs = tree_list c.loop-rest.rights.items in
-    let ks = tree_list c.reduce.new.lefts.items in
-    let qs = tree_list c.reduce.new.rights.items in
-    let x = c.in-Bind.x in
-    let t = tree_of c.in-Bind.term in
-    let binds : Binds x t ls rs ks qs = subst (λ d. Reduced d ls rs ks qs) c.in-Bind.is c.in_ok-reduce.ensures in
-    let apart : has_variable x t ≡ false = sym c.has_variable.ensures ∙ c.if-has_variable.false in
-    going_smaller c.args.lefts c.args.rights c.args.rest ls rs c.loop-rest.rest x t ks qs (tree_list c.in_ok-lefts-in-Bind.lefts.items) (tree_list c.in_ok-rights-in-Bind.rights.items) c.loop-rest.invariant binds apart
-    (c.in_ok-lefts-in-Bind.ensures ∙ ap (λ ts. map (substitute (only x t)) (tree_list ts)) c.as_slice.ensures.value)
-    (c.in_ok-rights-in-Bind.ensures ∙ ap (λ ts. map (substitute (only x t)) (tree_list ts)) c.as_slice-in-Bind.ensures.value)
+pub loop-atoms-preserved : goal.loop-atoms-preserved
+loop-atoms-preserved c =
+    let bank = c.loop-atoms.bank in
+    let ls = trees_at bank c.loop-atoms.left_ids.items in
+    let rs = trees_at bank c.loop-atoms.right_ids.items in
+    let cs = trees_at bank c.loop-atoms.atoms.items in
+    let r = c.in-Bind.replacement in
+    let ks = trees_at bank c.reduce.new.lefts.items in
+    let qs = trees_at bank c.reduce.new.rights.items in
+    let binds : BindsAt bank r c.loop-atoms.left_ids.items c.loop-atoms.right_ids.items c.reduce.new.lefts.items c.reduce.new.rights.items =
+    subst (λ d. Reduced bank d c.loop-atoms.left_ids.items c.loop-atoms.right_ids.items c.reduce.new.lefts.items c.reduce.new.rights.items) c.in-Bind.is c.in_ok-reduce.ensures.reduced in
+    let put : HavePut r bank c.reduce.new.lefts.items c.reduce.new.rights.items c.loop-atoms.atoms.items c.put_through.new.bank c.put_through.new.lefts.items c.put_through.new.rights.items c.put_through.new.atoms.items =
+    subst (IsPutThrough r bank c.reduce.new.lefts.items c.reduce.new.rights.items c.loop-atoms.atoms.items c.put_through.new.bank c.put_through.new.lefts.items c.put_through.new.rights.items c.put_through.new.atoms.items)
+    c.if-not-branch.false c.in_ok-put_through-in-Bind.ensures in
+    record {
+      going = going_bind c.args.lefts c.args.rights (atoms_of c.args.rest) ls rs cs r.variable (tree_at bank r.term.0) ks qs _ _ _ c.loop-atoms.invariant.going binds put.apart put.lefts.trees put.rights.trees put.atoms.trees;
+      lefts = put.lefts.within;
+      rights = put.rights.within;
+      atoms = put.atoms.within;
+    }

@@ -3,10 +3,11 @@ use Rattle.mace_cells.specs.Boards.{IsAsSaid}
 use Rattle.mace_cells.specs.Trails.{value_in}
 use Rattle.mace_cells.specs.World.{IsRefuted}
 use Rattle.mace_cells.specs.declared.board.Status.{Status}
-use Rattle.cell_search.specs.Finites.{meaning_by_cells}
+use Rattle.cell_search.specs.Finites.{finite_of, meaning_by_cells, AreTablesFor}
 use Rattle.cell_search.specs.Positions.{Position}
 use Rattle.cell_search.specs.Sound.{decided_in}
 use Rattle.cell_search.proofs.Boards.{settled, none_settled}
+use Rattle.cell_search.proofs.Tabling.{tables_whole}
 use Rattle.cell_search.proofs.cells.Cells.ends.Goals.{then-are_true, else-are_true}
 use Rattle.cell_search.proofs.cells.Cells.ends.Goals as goal
 
@@ -32,3 +33,9 @@ returns-after-are_true-clause-told c =
           (none_settled a.setup a.trail c.self.invariant.board v.if-are_true.ensures.truth)
     ]
     )
+
+pub returns-after-are_true-clause-full : goal.returns-after-are_true-clause-full
+returns-after-are_true-clause-full c = λ e.
+    let a = c.self.inside in
+    subst (λ (p : Position). AreTablesFor p.world (finite_of p.world p.table.entries)) c.self.view_is
+    (tables_whole a.setup a.trail.entries c.self.invariant.board.some c.in-Full.ensures)

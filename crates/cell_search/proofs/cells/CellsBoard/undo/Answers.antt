@@ -1,7 +1,7 @@
-use Rattle.std.proofs.Common.{◌≡◌, ℕ, ◌<◌, None, List, length, sym, ap, ◌∙◌, subst}
+use Rattle.std.proofs.Common.{◌<◌, length, sym, ap, ◌∙◌, subst}
 use Rattle.mace_cells.specs.Choices.{IsLatest}
 use Rattle.mace_cells.specs.Stacked.{rest_of}
-use Rattle.mace_cells.specs.Trails.{Partial, value_in, before_decision}
+use Rattle.mace_cells.specs.Trails.{Partial, value_in}
 use Rattle.mace_cells.specs.World.{cell_of, many_cells}
 use Rattle.cell_search.specs.Positions.{Position}
 use Rattle.cell_search.specs.Sound.{decided_in, IsBoard}

@@ -1,4 +1,4 @@
-use Rattle.std.proofs.Common.{◌≡◌, ap, ◌∙◌, subst}
+use Rattle.std.proofs.Common.{ap, ◌∙◌, subst}
 use Rattle.cell_search.specs.Courses.{Course, AnswersByCells, live_in, late_in}
 use Rattle.mace_cells.specs.Leaves.{choices_of}
 use Rattle.cell_search.specs.Finites.{finite_of}
@@ -20,4 +20,5 @@ returns-clause-gives g c =
     subst (λ (s : Course). AnswersByCells s next c.next_model-answer.result (g.C.Clock.times new.clock)) c.self.view_is
     (gives_by a.cells.world new.board.world a.cells.table.entries new.board.table.entries a.frames.list new.frames.list c.args.live (live_in a.state) a.stop (late_in a.state) (g.C.Clock.times new.clock) c.next_model-answer.result
     c.len.result c.follows_after-self-inside.result c.next_model-answer.ensures.world (ap (λ (s : Course). s.live) c.self.view_is ∙ c.requires.live) c.follows_after-self-inside.ensures c.next_model-answer.ensures.found
+    c.next_model-answer.ensures.full
     c.next_model-answer.ensures.late)

@@ -1,8 +1,7 @@
-use Rattle.std.proofs.Common.{◌≡◌, ℕ, ◌<◌, ◌≤◌, List, length, get_or, max, sym, ap, ◌∙◌, subst, arith}
+use Rattle.std.proofs.Common.{◌≡◌, ℕ, ◌<◌, List, length, get_or, sym, ap, ◌∙◌, subst, arith}
 use Rattle.mace_cells.specs.World.{World, cell_of, many_cells}
 use Rattle.mace_ground.specs.Cells.{cells_in, cell_at}
 use Rattle.model_tables.specs.Size.{bound_of}
-use Rattle.cell_search.specs.Bounds.{cell_bounds}
 use Rattle.cell_search.proofs.Bounding.{bounds_many, bound_at, bound_fits, bound_some}
 use Rattle.cell_search.proofs.setup.Setup.bound.Goals as goal
 

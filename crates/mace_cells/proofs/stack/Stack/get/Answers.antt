@@ -1,4 +1,4 @@
-use Rattle.std.proofs.Common.{◌≡◌, suc, ◌<◌, List, ◌∷◌, ◌++◌, length, reverse, take, drop, get_or, sym, ap, ◌∙◌, subst, rules, arith}
+use Rattle.std.proofs.Common.{suc, ◌<◌, ◌∷◌, ◌++◌, length, reverse, take, drop, sym, ap, ◌∙◌, subst}
 use Rattle.std.proofs.lemmas.List.{get_or-take}
 use Rattle.mace_cells.specs.Stacked.{Stacked}
 use Rattle.mace_cells.proofs.Stacks.{one_of, within_top}

@@ -1,4 +1,4 @@
-use Rattle.std.proofs.Common.{◌<◌, sym, ap, ◌∙◌, subst}
+use Rattle.std.proofs.Common.{◌<◌, subst}
 use Rattle.mace_cells.specs.Trails.{Partial}
 use Rattle.mace_cells.proofs.Making.{made_within}
 use Rattle.mace_cells.proofs.trail.Trail.cell_at.Goals as goal

@@ -1,4 +1,4 @@
-use Rattle.std.proofs.Common.{◌≡◌, ◌<◌, Option, None, Some, IfNone, length, refl, sym, ap, ◌∙◌, subst, ℕ, get_or}
+use Rattle.std.proofs.Common.{◌<◌, Option, None, IfNone, length, sym, ap, ◌∙◌, subst, ℕ}
 use Rattle.std.proofs.lemmas.List.{get_or_default}
 use Rattle.mace_cells.specs.Trails.{Partial, value_in}
 use Rattle.mace_cells.proofs.Making.{value_read, room_at}

@@ -1,0 +1,10 @@
+pub mod Carrying
+pub mod Celled
+pub mod Clausal
+pub mod Covering
+pub mod Files
+pub mod Listed
+pub mod Readings
+pub mod Solving
+pub mod Uses
+pub mod Whole

@@ -1,0 +1,4 @@
+pub mod Fitting
+pub mod Showing
+pub mod Uses
+pub mod Worlds

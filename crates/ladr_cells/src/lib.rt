@@ -1,0 +1,6 @@
+// Problems by cells: what an input states uses symbols as its table has them, so that each term of its clauses has a cell.
+#![tactic(auto)]
+
+mod laws;
+
+pub use laws::{cells_for_all, problems_fit, renamings_are_isomorphisms, solutions_are_models};

@@ -1,0 +1,171 @@
+-- A model with the values of the Skolem symbols reads back from its text.
+use Rattle.std.proofs.Common.{◌≡◌, ◌⊎◌, inl, inr, ℕ, zero, suc, ◌+◌, ◌^◌, ◌<◌, ◌≤◌, Bool, true, false, if◌then◌else◌, List, [], ◌∷◌, ◌++◌, length, map, slice_index, refl, sym, ap, ap₂, ◌∙◌, subst, append_assoc, append-nil, arith}
+use Rattle.std.specs.Prelude.{nat_le}
+use Rattle.std.specs.Char.{is_ascii_digit}
+use Rattle.std.specs.Fmt.{decimal}
+use Rattle.std.specs.List.{AllByRecursion, list_all}
+use Rattle.std.proofs.lemmas.Bool.{and_from, or_left}
+use Rattle.std.proofs.lemmas.Bool.Decides.{nat_tests}
+use Rattle.std.proofs.lemmas.Fmt.{decimal_is_IsNumeral_wide}
+use Rattle.std.proofs.lemmas.List.{length-map}
+use Rattle.std.proofs.lemmas.List.Folds.{list_all-append}
+use Rattle.clausify.specs.Behind.{AreFor, HasOwnName, StandBehind}
+use Rattle.clausify.specs.Input.{skolems}
+use Rattle.clausify.specs.Names.{numbered}
+use Rattle.fol_core.specs.Fol.{Fol}
+use Rattle.fol_core.specs.Occurs.{occurs_in}
+use Rattle.fol_core.specs.SkolemAxioms.{SkolemAxiom}
+use Rattle.fol_core.specs.Stated.{Stated}
+use Rattle.fol_core.specs.SymbolTable.{Symbol}
+use Rattle.fol_core.specs.Truth.{Assignment}
+use Rattle.fol_core.specs.declared.symbols.Kind.{Kind}
+use Rattle.fol_core.specs.declared.symbols.Kind.TheVariants.{Function}
+use Rattle.ladr_lex.proofs.Numerals.{own}
+use Rattle.ladr_lex.specs.Bytes.{is_ordinary}
+use Rattle.ladr_lex.specs.Cuts.{is_run, is_symbol, is_quoted}
+use Rattle.ladr_mace4.specs.Skolems.{all_symbols, all_axioms}
+use Rattle.ladr_models.specs.ReadsBack.{IsRow, AreRows, IsPrintable}
+use Rattle.ladr_problem.specs.Names.{is_name, are_named, AreTellable}
+use Rattle.model_tables.proofs.Expanding.{row_own, same_top}
+use Rattle.model_tables.proofs.Filling.{one_expansion}
+use Rattle.model_tables.specs.Expansion.{assigned, IsLeastWitness, AreLeastWitnesses, with_row, with_values, IsExpansion}
+use Rattle.model_tables.specs.Size.{AllBelow, AreListings, IsInterpretation, bound_of, formulas_of}
+use Rattle.model_tables.specs.Tables.{Listing, Finite, listing, row_of, place_from, element}
+
+-- least witnesses are elements: those in whose place 0 stands where there is no such element are least witnesses too
+element_same : (t : Finite) (v : ℕ) → v ≤ t.top → element t v ≡ v
+element_same t v h = grind (arith, nat_tests)
+
+element_below : (t : Finite) (v : ℕ) → element t v < t.top + 1
+element_below t v = by (nat_le v t.top) refl
+  where
+    by : (b : Bool) → nat_le v t.top ≡ b → (if b then v else 0) < t.top + 1
+    by true e = grind (arith, nat_tests)
+    by false e = omega arith
+
+element_zero : (t : Finite) → element t 0 ≡ 0
+element_zero t = element_same t 0 (omega arith)
+
+elements_below : (t : Finite) (vs : List ℕ) → AllBelow (t.top + 1) (map (element t) vs)
+elements_below t [] = tt
+elements_below t (v ∷ vs) = (element_below t v, elements_below t vs)
+
+element_at : (t : Finite) (vs : List ℕ) (p : ℕ) → slice_index (map (element t) vs) p ≡ element t (slice_index vs p)
+element_at t [] p = sym (element_zero t)
+element_at t (v ∷ vs) zero = refl
+element_at t (v ∷ vs) (suc p) = element_at t vs p
+
+least_element : (t : Finite) (e : Assignment) (w : SkolemAxiom) (v : ℕ) → IsLeastWitness t e w v → element t v ≡ v
+least_element t e w v (inl h) = element_same t v h.0
+least_element t e w v (inr h) = subst (λ (n : ℕ). element t n ≡ n) (sym h.0) (element_zero t)
+
+elements_least : (t : Finite) (w : SkolemAxiom) (values : List ℕ) → AreLeastWitnesses t w values → AreLeastWitnesses t w (map (element t) values)
+elements_least t w values h = (length-map values (element t) ∙ h.0, each)
+  where
+    each : (ns : List ℕ) → length ns ≡ length w.variables → AllBelow (t.top + 1) ns → IsLeastWitness t (assigned w.variables ns) w (slice_index (map (element t) values) (place_from (t.top + 1) 0 ns))
+    each ns many below =
+        let p = place_from (t.top + 1) 0 ns in
+        let least = h.1 ns many below in
+        subst (IsLeastWitness t (assigned w.variables ns) w) (sym (element_at t values p ∙ least_element t (assigned w.variables ns) w (slice_index values p) least)) least
+
+values_below : (t : Finite) (w : SkolemAxiom) (values : List ℕ) → AreLeastWitnesses t w values → AllBelow (t.top + 1) values
+values_below t w values h = subst (AllBelow (t.top + 1)) (sym same) (elements_below t values)
+  where
+    elements : List ℕ
+    elements = map (element t) values
+
+    both : with_values t w.symbol values ≡ with_values t w.symbol elements
+    both = one_expansion (w ∷ []) t (with_values t w.symbol values) (with_values t w.symbol elements) (values, (h, refl)) (elements, (elements_least t w values h, refl))
+
+    same : values ≡ elements
+    same = sym (row_own t.rows t.top w.symbol (listing Function values)) ∙ ap (λ (u : Finite). row_of u w.symbol) both ∙ row_own t.rows t.top w.symbol (listing Function elements)
+
+-- rows, and one more
+listings_rows : (n : ℕ) (fs : List Fol) (k : ℕ) (ss : List Symbol) (ls : List Listing) → AreListings n fs k ss ls → AreRows n ss ls
+listings_rows n fs k [] [] h = tt
+listings_rows n fs k [] (l ∷ ls) h = absurd h
+listings_rows n fs k (s ∷ ss) [] h = absurd h
+listings_rows n fs k (s ∷ ss) (l ∷ ls) h = ((occurs_in k fs, h.0), listings_rows n fs (suc k) ss ls h.1)
+
+rows_many : (n : ℕ) (ss : List Symbol) (ls : List Listing) → AreRows n ss ls → length ls ≡ length ss
+rows_many n [] [] h = refl
+rows_many n [] (l ∷ ls) h = absurd h
+rows_many n (s ∷ ss) [] h = absurd h
+rows_many n (s ∷ ss) (l ∷ ls) h = ap suc (rows_many n ss ls h.1)
+
+rows_more : (n : ℕ) (ss : List Symbol) (ls : List Listing) (s : Symbol) (l : Listing) → AreRows n ss ls → IsRow n s l → AreRows n (ss ++ s ∷ []) (ls ++ l ∷ [])
+rows_more n [] [] s l h r = (r, tt)
+rows_more n [] (m ∷ ls) s l h r = absurd h
+rows_more n (u ∷ ss) [] s l h r = absurd h
+rows_more n (u ∷ ss) (m ∷ ls) s l h r = (h.0, rows_more n ss ls s l h.1 r)
+
+row_last : (ls : List Listing) (l : Listing) → with_row ls (length ls) l ≡ ls ++ l ∷ []
+row_last [] l = refl
+row_last (m ∷ ls) l = ap (λ (rows : List Listing). m ∷ rows) (row_last ls l)
+
+-- the row of a Skolem symbol
+witness_row : (n : ℕ) (u : Finite) (s : Symbol) (w : SkolemAxiom) (values : List ℕ) → u.top + 1 ≡ n → s.kind ≡ Function → length w.variables ≡ s.arity → AreLeastWitnesses u w values → IsRow n s (listing Function values)
+witness_row n u s w values size kind many least = (
+  true,
+  (
+    sym kind,
+    least.0 ∙ ap₂ (λ (m k : ℕ). m ^ k) size many,
+    subst (λ (k : Kind). AllBelow (bound_of n k) values) (sym kind) (subst (λ (m : ℕ). AllBelow m values) size (values_below u w values least)),
+  ),
+)
+
+-- an expansion has rows for all symbols
+pub expanded_rows : (n : ℕ) (ss more : List Symbol) (ws : List SkolemAxiom) (u t : Finite) → u.top + 1 ≡ n → AreRows n ss u.rows → AreFor (length ss) more ws → IsExpansion u ws t → AreRows n (ss ++ more) t.rows
+expanded_rows n ss [] [] u t size rows f x = subst (λ (us : List Symbol). AreRows n us t.rows) (sym (append-nil ss)) (subst (λ (v : Finite). AreRows n ss v.rows) (sym x) rows)
+expanded_rows n ss [] (w ∷ ws) u t size rows f x = absurd f
+expanded_rows n ss (s ∷ more) [] u t size rows f x = absurd f
+expanded_rows n ss (s ∷ more) (w ∷ ws) u t size rows f x =
+    let l = listing Function x.0 in
+    let last : with_row u.rows w.symbol l ≡ u.rows ++ l ∷ [] = ap (λ (k : ℕ). with_row u.rows k l) (f.0 ∙ sym (rows_many n ss u.rows rows)) ∙ row_last u.rows l in
+    let all = subst (AreRows n (ss ++ s ∷ [])) (sym last) (rows_more n ss u.rows s l rows (witness_row n u s w x.0 size f.1 f.2 x.1.0)) in
+    subst (λ (us : List Symbol). AreRows n us t.rows) (append_assoc ss (s ∷ []) more)
+    (expanded_rows n (ss ++ s ∷ []) more ws (with_values u w.symbol x.0) t size all (subst (λ (k : ℕ). AreFor k more ws) (one_more ss s) f.3) x.1.1)
+  where
+    one_more : (ss : List Symbol) (s : Symbol) → suc (length ss) ≡ length (ss ++ s ∷ [])
+    one_more [] s = refl
+    one_more (u ∷ ss) s = ap suc (one_more ss s)
+
+-- the names of Skolem symbols are ordinary symbols
+digits_ordinary : (ds : List ℕ) → list_all is_ascii_digit ds ≡ true → list_all is_ordinary ds ≡ true
+unfolding is_ordinary
+digits_ordinary [] h = refl
+digits_ordinary (d ∷ ds) h = grind (arith, nat_tests, digits_ordinary ds)
+
+letter_ordinary : (letter : ℕ) → (letter ≡ 99) ⊎ (letter ≡ 102) → is_ordinary letter ≡ true
+unfolding is_ordinary
+letter_ordinary letter (inl e) = rw e refl
+letter_ordinary letter (inr e) = rw e refl
+
+numbered_name : (letter n : ℕ) → (letter ≡ 99) ⊎ (letter ≡ 102) → n < 10 ^ 64 → is_name (numbered letter n) ≡ true
+numbered_name letter n h l =
+    let digits = own.from (decimal n) (decimal_is_IsNumeral_wide n l).0.1 in
+    let ordinary : is_run is_ordinary (numbered letter n) ≡ true = and_from (is_ordinary letter) (list_all is_ordinary (decimal n)) (letter_ordinary letter h) (digits_ordinary (decimal n) digits) in
+    or_left (is_symbol (numbered letter n)) (is_quoted (numbered letter n)) (or_left (is_run is_ordinary (numbered letter n)) _ ordinary)
+
+own_named : (table ss : List Symbol) → AllByRecursion (HasOwnName table) ss → are_named ss ≡ true
+own_named table [] h = refl
+own_named table (s ∷ ss) h =
+    and_from (is_name s.name) (are_named ss)
+    (subst (λ (name : List ℕ). is_name name ≡ true) (sym h.0.1.4) (numbered_name h.0.1.0 h.0.1.1 h.0.1.2 h.0.1.3)) (own_named table ss h.1)
+
+-- all symbols can be told apart
+all_tellable : (p : Stated) → StandBehind p → AreTellable p.symbols → AreTellable (all_symbols p)
+all_tellable p behind told = record {
+  different = behind.different told.different;
+  named = ap are_named behind.table ∙ list_all-append (λ (s : Symbol). is_name s.name) p.symbols (skolems p.symbols p.formulas) ∙ and_from _ _ told.named (own_named p.symbols (skolems p.symbols p.formulas) behind.names);
+}
+
+pub model_printable : (n k : ℕ) (p : Stated) (u t : Finite) → StandBehind p → AreTellable p.symbols → n ≤ 200 → k < 2 ^ 64 → IsInterpretation n p u → IsExpansion u (all_axioms p) t → IsPrintable n k (all_symbols p) t
+model_printable n k p u t behind told most number is x = record {
+  most = most;
+  number = number;
+  tellable = all_tellable p behind told;
+  size = ap (λ (top : ℕ). top + 1) (same_top (all_axioms p) u t x) ∙ is.0;
+  rows = subst (λ (ss : List Symbol). AreRows n ss t.rows) (sym behind.table)
+      (expanded_rows n p.symbols (skolems p.symbols p.formulas) (all_axioms p) u t is.0 (listings_rows n (formulas_of p) 0 p.symbols u.rows is.1) behind.witnesses x);
+}

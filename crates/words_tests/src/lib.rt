@@ -1,0 +1,5 @@
+// The words of a proof's lines, with ample memory. Tests are proved with all that they stand on, so they have a crate of their own.
+#![tactic(auto)]
+
+#[cfg(test)]
+mod words;
