@@ -141,7 +141,8 @@ impl<'a> Search<'a> {
         ensures same { IsSameCourse self.old self.new }
         ensures clock { self.old.late ≡ None
             → KeepsFirst self.old.stop (C.times clock.old) (C.times clock.new) }
-        ensures gives { self.old.late ≡ None → AnswersByCells self.old self.new result (C.times clock.new) }
+        ensures gives { self.old.late ≡ None
+            → AnswersByCells self.old self.new result (C.times clock.new) }
         // An answer that ends the search comes again, with no reading.
         ensures over { self.old.late ≡ None → self.old.live ≡ false → self.old.choices ≡ []
             → (result ≡ Exhausted) × (self.new ≡ self.old) × (C.times clock.new

@@ -85,6 +85,8 @@ pub fn clauses_of(
     // A formula over the limit is named, and comes to nothing else but want of memory.
     ensures limit { (n : ℕ) → result ≡ Err (ClauseError.ClauseLimit n)
         → first_over 1 (stated_of problem.now).formulas ≡ Some n }
+    ensures unentered { (n : ℕ) → result ≡ Err (ClauseError.ClauseLimit n)
+        → symbols.new ≡ symbols.old }
     ensures within { OnOk result (first_over 1 (stated_of problem.now).formulas ≡ None) }
 
     // Clauses and formulas say the same, in every interpretation.

@@ -15,7 +15,8 @@ use Rattle.substitutions.proofs.Variants.{instances_same}
 use Rattle.derivation.specs.Equations.{is_equation, left_of, right_of, below, is_there, term_below}
 use Rattle.derivation.specs.Later.{LaterWord, flipped, merged, reflexive, unit_deleted, rewritten, later_fits, Leads, is_unit, is_rule_equation}
 use Rattle.derivation.specs.Places.{has_literal, has_place, atom_at, others, with_atom, are_alike, are_opposite}
-use Rattle.derivation.specs.Rule.{InferenceRule, instances, Concludes}
+use Rattle.substitutions.specs.Apart.{instances}
+use Rattle.derivation.specs.Rule.{InferenceRule, Concludes}
 use Rattle.derivation.specs.Words.{only_of, is_one, first_of_two, second_of_two, are_two, copy_rule, Clash, clashes_fit, clash_fits, clash_pairs, all_clash_pairs, clash_rest, satellite_rests, clash_rule, factor_rule, xx_rule, side_of, other_side_of, para_fits, para_rest, para_rule}
 use Rattle.derivation.proofs.LaterSound.{left_put, right_put}
 use Rattle.derivation.proofs.Lawful.{IsLawfulRule, ParaFits, para_parts, only_kept, first_kept, second_kept}

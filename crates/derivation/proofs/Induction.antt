@@ -16,7 +16,7 @@ use Rattle.substitutions.proofs.Variants.{variants_instances}
 use Rattle.derivation.specs.Laws.{ContentNamesWithin, LinesNameWithin, RowsAreAtoms}
 use Rattle.derivation.specs.Later.{LaterWord, later_parents}
 use Rattle.derivation.specs.Lines.{FirstWord, assumed, wanted, clausified, denied, copied, resolved, factored, paramodulated, xx_resolved, Inference, copy_inference, clash_inference, factor_inference, para_inference, xx_inference, ContentTree, formula, clause, LineTree, line_at, content_clause, clause_at, AreClauses, IsClause, After, IsInferred, InputRow, IsStated, IsInput, IsLine, AreLines, is_empty_clause, ends_empty}
-use Rattle.derivation.specs.Rule.{Own, instances}
+use Rattle.substitutions.specs.Apart.{Own, instances}
 use Rattle.derivation.proofs.LaterSound.{word_sound, word_atoms, InstancesTrue}
 use Rattle.derivation.proofs.Lawful.{IsLawfulRule, copy_lawful, clash_lawful, factor_lawful, xx_lawful, para_lawful}
 use Rattle.derivation.proofs.RuleSound.{AllTrue, AllAtoms}

@@ -11,7 +11,8 @@ use Rattle.substitutions.specs.Instances.{substitute_clause}
 use Rattle.substitutions.specs.Paths.{replaced}
 use Rattle.derivation.specs.Equations.{is_equation, below, is_no_variable, term_below}
 use Rattle.derivation.specs.Places.{has_literal, has_place, atom_at, others, with_atom, are_alike}
-use Rattle.derivation.specs.Rule.{InferenceRule, Own, instances}
+use Rattle.substitutions.specs.Apart.{Own, instances}
+use Rattle.derivation.specs.Rule.{InferenceRule}
 use Rattle.derivation.specs.Words.{only_of, is_one, first_of_two, second_of_two, are_two, copy_rule, Clash, clashes_fit, clash_fits, clash_rest, satellite_rests, clash_rule, factor_rule, xx_rule, other_side_of, para_fits, para_rule}
 use Rattle.derivation.proofs.LaterSound.{equation_put, replaced_is_atom}
 use Rattle.derivation.proofs.Naturality.{has_put, place_put, atom_of_put, atom_at_put, no_variable_put, there_below, alike_put, opposites_put}

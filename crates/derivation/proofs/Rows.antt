@@ -9,7 +9,8 @@ use Rattle.fol_core.specs.Stated.{Said}
 use Rattle.derivation.specs.Later.{LaterWord, later_parents, later_fits, Leads}
 use Rattle.derivation.specs.Lines.{FirstWord, assumed, wanted, clausified, denied, copied, resolved, factored, paramodulated, xx_resolved, Inference, inference_of, copy_inference, clash_inference, factor_inference, para_inference, xx_inference, ContentTree, is_formula, is_formula_at, LineTree, clause_at, AreClauses, After, IsInferred, InputRow, IsStated, IsFormulaAt, IsInputOf, IsLine, AreLines, is_empty_clause, ends_empty, IsRefutation}
 use Rattle.derivation.specs.Refused.{Fails, StepFails, all_parents, are_there, InferenceFails, StatedFails, InputFails, LineFails, IsRefusedLine, IsAccepted, HasFault, IsFault}
-use Rattle.derivation.specs.Rule.{Own, UnifiesFamily, Concludes}
+use Rattle.substitutions.specs.Apart.{Own}
+use Rattle.derivation.specs.Rule.{UnifiesFamily, Concludes}
 use Rattle.derivation.specs.Words.{Clash}
 use Rattle.derivation.proofs.Conclusions.{IsNatural, copy_natural, clash_natural, factor_natural, xx_natural, para_natural, one_conclusion, one_lead}
 use Rattle.derivation.proofs.Lawful.{IsLawfulRule, copy_lawful, clash_lawful, factor_lawful, xx_lawful, para_lawful}

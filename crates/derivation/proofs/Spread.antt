@@ -7,8 +7,9 @@ use Rattle.fol_core.specs.Tree.{Tree, more}
 use Rattle.substitutions.specs.Instances.{substitute_clause, followed}
 use Rattle.substitutions.proofs.Composing.{substitute_twice_clause, substitute_alike_clause, first_same, others_same}
 use Rattle.unifiers.specs.Unifier.{Unifies, IsMostGeneral}
-use Rattle.derivation.specs.Apart.{lefts, rights, AreRenamedApart}
-use Rattle.derivation.specs.Rule.{InferenceRule, Own, instances, AreSame, Concludes}
+use Rattle.substitutions.specs.Apart.{Own, instances, AreRenamedApart}
+use Rattle.derivation.specs.Apart.{lefts, rights}
+use Rattle.derivation.specs.Rule.{InferenceRule, AreSame, Concludes}
 use Rattle.derivation.proofs.Conclusions.{pair_put, IsNatural}
 use Rattle.derivation.proofs.Lawful.{IsLawfulRule}
 

@@ -7,7 +7,8 @@ use Rattle.fol_core.specs.Tree.{Tree, Trees, trees_of}
 use Rattle.substitutions.specs.Instances.{substitute_clause}
 use Rattle.unifiers.specs.Unifier.{Unifies, IsMostGeneral}
 use Rattle.derivation.specs.Lines.{FirstWord, Inference, inference_of}
-use Rattle.derivation.specs.Rule.{Own, instances, AreSame, Concludes}
+use Rattle.substitutions.specs.Apart.{Own, instances, AreRenamedApart}
+use Rattle.derivation.specs.Rule.{AreSame, Concludes}
 
 -- the sides of pairs
 abbrev pub lefts : List (Tree × Tree) → Trees
@@ -15,10 +16,6 @@ lefts ps = trees_of (map (λ p. p.0) ps)
 
 abbrev pub rights : List (Tree × Tree) → Trees
 rights ps = trees_of (map (λ p. p.1) ps)
-
--- Parents are renamed apart where one substitution makes of them what any family, one for each, makes of the parents.
-abbrev pub AreRenamedApart : List ClauseTree → Own → Type 0
-AreRenamedApart cs apart = (other : Own) → (s : Substitution) × (instances other cs ≡ map (substitute_clause s) (instances apart cs))
 
 -- what a most general unifier of parents renamed apart makes of them, numbered, is the rule's conclusion
 abbrev pub UnifierConcludes : Type 0

@@ -6,7 +6,8 @@ use Rattle.fol_core.specs.Literals.{ClauseTree}
 use Rattle.fol_core.specs.Stated.{Said}
 use Rattle.derivation.specs.Later.{LaterWord, later_parents, later_fits, Leads}
 use Rattle.derivation.specs.Lines.{FirstWord, assumed, wanted, clausified, denied, copied, resolved, factored, paramodulated, xx_resolved, Inference, copy_inference, clash_inference, factor_inference, para_inference, xx_inference, ContentTree, LineTree, clause_at, AreClauses, IsClause, InputRow, IsStated, IsInputOf, IsAbove, IsLine, is_empty_clause, is_formula_at}
-use Rattle.derivation.specs.Rule.{Own, UnifiesFamily, Concludes}
+use Rattle.substitutions.specs.Apart.{Own}
+use Rattle.derivation.specs.Rule.{UnifiesFamily, Concludes}
 
 -- Rows 6 to 8 of the words behind a clause. 6: a literal, path or side that isn't there or isn't taken; 7: no match, or what has
 -- to be equal isn't; 8: the line's clause isn't what the words lead to.

@@ -4,6 +4,7 @@ use Rattle.fol_core.specs.Literals.{ClauseTree}
 use Rattle.fol_core.specs.Renumbered.{renumbered}
 use Rattle.fol_core.specs.Substitutions.{Substitution}
 use Rattle.fol_core.specs.Tree.{Tree}
+use Rattle.substitutions.specs.Apart.{Own, instances}
 use Rattle.substitutions.specs.Instances.{substitute_clause}
 
 -- A rule: whether the places are there in the parents and of the kinds and signs that it takes; which terms have to be equal
@@ -12,14 +13,6 @@ pub record InferenceRule : Type 0 where
   pub fits : List ClauseTree → Bool
   pub pairs : List ClauseTree → List (Tree × Tree)
   pub rest : List ClauseTree → ClauseTree
-
--- a substitution for each parent, by its place: so a variable of one parent is none of another's
-abbrev pub Own : Type 0
-Own = ℕ → Substitution
-
-abbrev pub instances : Own → List ClauseTree → List ClauseTree
-instances own [] = []
-instances own (c ∷ cs) = substitute_clause (own 0) c ∷ instances (λ k. own (suc k)) cs
 
 -- the terms of each pair are the same
 abbrev pub AreSame : List (Tree × Tree) → Type 0

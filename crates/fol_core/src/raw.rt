@@ -132,12 +132,4 @@ impl RawSub {
     {
         &self.raw
     }
-
-    /// The body by value.
-    pub fn into_raw(self) -> Raw
-        ensures { raw_of result ≡ self }
-    {
-        let RawSub { raw } = self;
-        Box::into_inner(raw)
-    }
 }

@@ -50,7 +50,7 @@ pub fn solutions_are_models()
     clauses_follow();
 }
 
-/// Tables with the values that a renaming of an expanded interpretation has are the renamed interpretation.
+/// Tables with the values of an interpretation that is isomorphic to an expanded one are isomorphic to the tables expanded.
 pub fn renamings_are_isomorphisms()
     ensures { (p : Stated) (n : ℕ) → 0 < n → StandBehind p
         → AreNewTo p.formulas (axioms_in_table p.symbols p) → (t e u : Finite)

@@ -119,10 +119,6 @@ IsMember ts name last rest =
     (read : List (List ℕ)) (onward : List (List ℕ) → Form)
     → outcome (members Symbol read onward) ts ≡ outcome (if last then onward (read ++ name ∷ []) else members Symbol (read ++ name ∷ []) onward) rest
 
--- further values are read, and the list of them ends
-abbrev pub ReadsValues : List Lexeme → List ℕ → List Lexeme → Type 0
-ReadsValues ts vs rest = (onward : List ℕ → Form) → outcome (values [] onward) ts ≡ outcome (onward vs) rest
-
 -- a value, and behind it `]` if it is the last one, else a comma
 abbrev pub IsValue : List Lexeme → ℕ → Bool → List Lexeme → Type 0
 IsValue ts v last rest =

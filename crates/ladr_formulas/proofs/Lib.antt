@@ -1,4 +1,5 @@
 pub mod Behind
+pub mod ClauseElements
 pub mod ClauseLemmas
 pub mod FormulaLemmas
 pub mod Growing

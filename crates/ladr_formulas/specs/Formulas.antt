@@ -244,9 +244,9 @@ names_of (v ∷ vs) = v.name ∷ names_of vs
 abbrev pub is_faultless : Reading → Bool
 is_faultless s = is_none s.least && not s.large && nat_le (length s.symbols) MOST_SYMBOLS
 
--- a sound reading is this formula, with these names and behind it this table
+-- a reading without faults is this formula, with these names and behind it this table
 pub record IsReadAs (m : Made Fol) (f : Fol) (names : List (List ℕ)) (table : List Symbol) : Type 0 where
-  pub sound : IsTrue (is_faultless m.reading)
+  pub faultless : IsTrue (is_faultless m.reading)
   pub formula : f ≡ m.tree
   pub named : names ≡ names_of m.reading.variables
   pub symbols : table ≡ m.reading.symbols

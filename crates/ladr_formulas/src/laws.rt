@@ -1,9 +1,12 @@
 // Laws of the definitions.
-ghost use Rattle.std.specs.Prelude.{◌≡◌, ℕ, Bool, true, false, List, []};
-ghost use Rattle.fol_core.specs.Occurs.{names, names_in_any};
+ghost use Rattle.std.specs.Prelude.{◌≡◌, ℕ, Bool, Some, true, false, List, []};
+ghost use Rattle.std.specs.List.{list_any};
+ghost use Rattle.fol_core.specs.Literals.{ClauseTree};
+ghost use Rattle.fol_core.specs.Occurs.{names, names_in, names_in_any};
 ghost use Rattle.fol_core.specs.RawTree.{RawTree, RawTrees};
 ghost use Rattle.fol_core.specs.SymbolTable.{Symbol, KeepsNumbers};
 ghost use Rattle.ladr_lex.specs.Cuts.{is_quoted};
+ghost use Rattle.ladr_formulas.specs.ClauseIn.{clause_in};
 ghost use Rattle.ladr_formulas.specs.Formulas.{Style, is_free_name, formula_reading, terms_of, unread, style_of};
 
 use crate::styles::Mode;
@@ -30,4 +33,7 @@ pub fn prover_names_no_element()
         names k (formula_reading (style_of Mode.Prover prolog) table t).tree ≡ false }
     ensures terms { (prolog : Bool) (table : List Symbol) (ts : RawTrees) (k : ℕ) →
         names_in_any k (terms_of (style_of Mode.Prover prolog) [] (unread table) ts).tree ≡ false }
+    ensures clauses { (prolog : Bool) (table : List Symbol) (t : RawTree) (c : ClauseTree) →
+        clause_in (formula_reading (style_of Mode.Prover prolog) table t).tree ≡ Some c →
+        (k : ℕ) → list_any (λ l. names_in k l.atom) c ≡ false }
 {}

@@ -13,7 +13,8 @@ use Rattle.ladr_lex.specs.Misuses.{row_of}
 use Rattle.ladr_output.specs.Telling.{as_line, PieceTells}
 use Rattle.ladr_output.specs.declared.cut.Cut.{Cut}
 use Rattle.ladr_output.specs.declared.cut.Cut.TheVariants.{WriteFault, Memory}
-use Rattle.ladr_problem.specs.File.{Says, unreadable, misused, too_large, most_bytes}
+use Rattle.ladr_lex.specs.declared.limits.TheConstants.{MOST_BYTES}
+use Rattle.ladr_problem.specs.File.{Says, unreadable, misused, too_large}
 use Rattle.ladr_problem.specs.Places.{IsPlace}
 use Rattle.ladr_problem.specs.declared.refusal.Limit.{Limit}
 use Rattle.ladr_problem.specs.declared.refusal.Limit.TheVariants as limits
@@ -57,7 +58,7 @@ refuses m bytes (TooLarge byte what) = Says m bytes (too_large byte what)
 
 -- An input is refused: it was read, and is refused by a language; or one byte too many was read.
 abbrev pub IsRefused : (List ℕ → Refused → Type 0) → Inflow → Inflow → List ℕ → Refused → Type 0
-IsRefused refuses old new bytes why = (IsAllRead old new bytes × refuses bytes why) ⊎ (IsTooLong old new bytes × (why ≡ TooLarge most_bytes limits.Input))
+IsRefused refuses old new bytes why = (IsAllRead old new bytes × refuses bytes why) ⊎ (IsTooLong old new bytes × (why ≡ TooLarge MOST_BYTES limits.Input))
 
 -- there is no problem to go on with; nothing is said of memory
 abbrev pub IsNoInput : (List ℕ → Refused → Type 0) → Inflow → Inflow → List ℕ → NoInput → Type 0

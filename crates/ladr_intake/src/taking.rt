@@ -11,7 +11,8 @@ ghost use Rattle.ladr_formulas.specs.declared.styles.Mode.TheVariants.{Tester};
 use crate::stops::{NoInput, Refused};
 use ladr_formulas::Mode;
 use ladr_io::{ReadAll, Source, read_all};
-use ladr_problem::{FileRead, Limit, MOST_BYTES, ReadError, read_problem};
+use ladr_lex::MOST_BYTES;
+use ladr_problem::{FileRead, Limit, ReadError, read_problem};
 use std::alloc::Global;
 
 /// Reads the input, and what it says to a program.

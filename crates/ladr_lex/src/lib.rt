@@ -15,7 +15,7 @@ mod token;
 pub use laws::{one_cutting, one_numeral, one_operator, worked, worked_clauses, worked_operators};
 pub use limits::{MOST_ARGUMENTS, MOST_BYTES, MOST_ELEMENT, MOST_LEVELS, MOST_SYMBOLS};
 pub use misuse::Misuse;
-pub use numeral::{is_numeral, number, value, whole_number};
+pub use numeral::{is_numeral, number, whole_number};
 pub use operators::{DeclareError, Operator, OperatorKind, Ops};
 pub use places::{Position, place_of};
 pub use scan::{Lex, tokens, tokens_from};

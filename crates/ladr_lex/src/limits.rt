@@ -1,7 +1,7 @@
 // The limits of the language, each by its name.
 
 /// The most bytes that an input may have.
-pub const MOST_BYTES: usize = 16_777_216;
+pub const MOST_BYTES: u64 = 16_777_216;
 
 /// The most levels that a term of an item may have, and the most parentheses that may be open at once in its tokens.
 pub const MOST_LEVELS: u16 = 500;

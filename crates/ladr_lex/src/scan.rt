@@ -34,7 +34,7 @@ pub fn tokens<'a>(alloc: Global, bytes: &'a [u8]) -> Result<Vec<Token<'a>>, Lex>
     ensures cut { IfOk result (λ found. Cuts 0 bytes.now (pieces_of found.items)) }
     ensures input { (result ≡ Err Lex.Input) ↔ (MOST_BYTES < length bytes.now) }
 {
-    if bytes.len() > MOST_BYTES {
+    if bytes.len() as u64 > MOST_BYTES {
         return Err(Lex::Input);
     }
     let found = tokens_from(alloc, bytes, 0)?;

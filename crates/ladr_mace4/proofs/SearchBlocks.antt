@@ -7,7 +7,7 @@ use Rattle.ladr_mace4.specs.Lines.{size_line, skipped_line, exhausted_line, end_
 use Rattle.ladr_mace4.specs.Shown.{IsShown}
 use Rattle.ladr_mace4.specs.Skolems.{all_symbols}
 use Rattle.ladr_mace4.specs.declared.ends.SearchEnd.{SearchEnd}
-use Rattle.ladr_problem.specs.File.{most_bytes}
+use Rattle.ladr_lex.specs.declared.limits.TheConstants.{MOST_BYTES}
 use Rattle.ladr_problem.specs.Names.{are_named}
 use Rattle.ladr_problem.specs.declared.refusal.Limit.TheVariants as limits
 use Rattle.mace_search.specs.Models.{IsModel}
@@ -64,5 +64,5 @@ pub data Last : Type 0 where
 abbrev pub last_text : Last → List ℕ
 last_text nothing = []
 last_text (ends k end) = end_text k end
-last_text grows = refusal_text (TooLarge most_bytes limits.Input)
+last_text grows = refusal_text (TooLarge MOST_BYTES limits.Input)
 last_text fails = read_fault_line

@@ -14,7 +14,7 @@ use Rattle.ladr_mace4.specs.declared.ends.SearchEnd.TheVariants.{MaxModels, Exha
 use Rattle.ladr_output.proofs.Standing.{is_unbroken, unbroken_append, decimal_unbroken, decimal_glyphs, glyphs_end, lines_append, line_ends, line_off, IsPassed, passed_line, one_front}
 use Rattle.ladr_output.specs.Standing.{AreWholeLines, StandsAfter, Stands}
 use Rattle.ladr_output.specs.Telling.{as_line}
-use Rattle.ladr_problem.specs.File.{most_bytes}
+use Rattle.ladr_lex.specs.declared.limits.TheConstants.{MOST_BYTES}
 use Rattle.mace_search.specs.Models.{IsModel}
 use Rattle.model_tables.specs.ModelText.{model_text}
 use Rattle.model_tables.specs.Isomorphism.{IsIsomorphism}
@@ -138,8 +138,8 @@ other_behind nothing b tail lines e = other_none b tail e
 other_behind (ends k end) b tail lines e = other_end k end b tail lines e
 other_behind fails b tail lines e = other_line (codes "ladr: read fault") b tail refl (inr (inl refl)) lines e
 other_behind grows b tail lines e =
-    let opening = codes "ladr: too large at byte " ++ decimal most_bytes in
-    let unbroken = unbroken_append (opening ++ codes ": ") (codes "input") (unbroken_append opening (codes ": ") (unbroken_append (codes "ladr: too large at byte ") (decimal most_bytes) refl (decimal_unbroken most_bytes)) refl) refl in
+    let opening = codes "ladr: too large at byte " ++ decimal MOST_BYTES in
+    let unbroken = unbroken_append (opening ++ codes ": ") (codes "input") (unbroken_append opening (codes ": ") (unbroken_append (codes "ladr: too large at byte ") (decimal MOST_BYTES) refl (decimal_unbroken MOST_BYTES)) refl) refl in
     other_line (opening ++ codes ": " ++ codes "input") b tail unbroken (inr (inl refl)) lines e
 
 -- lines of sizes tell the size

@@ -170,7 +170,7 @@ restated rows st table l lawful fixed few x =
     let sound : is_faultless (behind table m).reading ≡ true =
     and_from _ _ (and_from _ _ (ap (λ (o : Option Misuse). is_none o) x.clean) (ap not x.fits)) fewer
     in
-    let states : IsReadAs (behind table m) l.formula l.names table = record { sound = sound; formula = sym x.formula; named = sym x.names; symbols = refl } in
+    let states : IsReadAs (behind table m) l.formula l.names table = record { faultless = sound; formula = sym x.formula; named = sym x.names; symbols = refl } in
     let text : text_of g (printing.attributed l.label (formula_raw table (name_in (names_of m.reading.variables)) m.tree)) ≡ listed_text rows table l =
     λ i. text_of g (printing.attributed l.label (formula_raw table (name_in (x.names i)) (x.formula i)))
     in

@@ -367,7 +367,7 @@ pub clause_back :
 clause_back rows st table other c after l k frees s few =
     let x = s.states in
     let m = formula_reading st table x.tree in
-    let parts = sound_parts m.reading x.states.sound in
+    let parts = sound_parts m.reading x.states.faultless in
     let among : IsAmong m.reading after = record {
       clean = parts.least;
       kept = subst (KeepsNumbers m.reading.symbols) (sym x.states.symbols) (λ n y e. e);
@@ -376,7 +376,7 @@ clause_back rows st table other c after l k frees s few =
     let size : length m.reading.variables ≤ 2 ^ 64 = omega (arith, few, ap length x.states.named, names_length m.reading.variables) in
     let a = clause_again rows st table after other x.tree x.precedence c l k x.reads among frees size (ap clause_in (sym x.states.formula) ∙ s.clause) in
     let read : IsReadAs (record { tree = m.tree; reading = record m.reading { variables = a.variables } }) s.formula (names_of a.variables) after =
-    record { sound = x.states.sound; formula = x.states.formula; named = refl; symbols = x.states.symbols }
+    record { faultless = x.states.faultless; formula = x.states.formula; named = refl; symbols = x.states.symbols }
     in
     record {
       formula = s.formula;

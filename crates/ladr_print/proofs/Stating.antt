@@ -99,7 +99,7 @@ module _ (rows : List OperatorRow) (b : Brings rows) where
   attributed_printable None t u f p = f p
   attributed_printable (Some l) t u f p = (p.0, (f p.1.0, p.1.1))
 
--- a sound reading
+-- a reading without faults
 no_row : (o : Option Misuse) → is_none o ≡ true → o ≡ None
 no_row None h = refl
 no_row (Some n) h = cc
@@ -155,7 +155,7 @@ pub states_back :
 states_back rows st table other label f names after l k s =
     let g = table_of rows in
     let m = formula_reading st table s.tree in
-    let parts = sound_parts m.reading s.states.sound in
+    let parts = sound_parts m.reading s.states.faultless in
     let among : IsAmong m.reading after = record {
       clean = parts.least;
       kept = subst (KeepsNumbers m.reading.symbols) (sym s.states.symbols) (λ n x e. e);

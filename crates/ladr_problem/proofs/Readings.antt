@@ -3,7 +3,8 @@ use Rattle.std.proofs.Common.{ℕ, ◌≤◌, List, length, sym, subst}
 use Rattle.ladr_lex.specs.declared.misuse.Misuse as misuses
 use Rattle.ladr_problem.specs.Items.{items_of}
 use Rattle.ladr_lex.specs.Cuts.{Piece, Cuts}
-use Rattle.ladr_problem.specs.File.{Outcome, unreadable, misused, Says, items, most_bytes}
+use Rattle.ladr_lex.specs.declared.limits.TheConstants.{MOST_BYTES}
+use Rattle.ladr_problem.specs.File.{Outcome, unreadable, misused, Says, items}
 use Rattle.ladr_problem.specs.Places.{IsPlaced, IsReadError}
 use Rattle.ladr_problem.specs.Sofar.{nothing_read}
 use Rattle.ladr_problem.specs.Stops.{IsStop}
@@ -17,7 +18,7 @@ use Rattle.ladr_problem.specs.File.{too_large}
 use Rattle.ladr_formulas.specs.declared.styles.Mode.{Mode}
 
 module _ (m : Mode) (bytes : List ℕ) where
-  pub says_of : (tokens : List Piece) → length bytes ≤ most_bytes → Cuts 0 bytes tokens → (o : Outcome) → IsFinished m (length bytes) nothing_read (items_of tokens) o → Says m bytes o
+  pub says_of : (tokens : List Piece) → length bytes ≤ MOST_BYTES → Cuts 0 bytes tokens → (o : Outcome) → IsFinished m (length bytes) nothing_read (items_of tokens) o → Says m bytes o
   says_of tokens within cut o h = subst (Says m bytes) h.2 (items tokens within cut h.1)
 
   pub placed_error : (why : RefusalAt) (e : ReadError) → IsStop (Says m bytes) why → IsPlaced bytes why e → IsReadError m bytes e

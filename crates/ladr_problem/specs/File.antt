@@ -82,13 +82,9 @@ finished Prover end o = o
 finished Mace end o = o
 finished Tester end o = tested end o
 
--- the most bytes that an input may have
-abbrev pub most_bytes : ℕ
-most_bytes = MOST_BYTES
-
 -- the bytes say this to the program
 pub data Says (m : Mode) (bytes : List ℕ) : Outcome → Type 0 where
-  too_long : most_bytes < length bytes → Says m bytes (too_large most_bytes limit.Input)
+  too_long : MOST_BYTES < length bytes → Says m bytes (too_large MOST_BYTES limit.Input)
   items :
-      {o : Outcome} (tokens : List Piece) → length bytes ≤ most_bytes → Cuts 0 bytes tokens →
+      {o : Outcome} (tokens : List Piece) → length bytes ≤ MOST_BYTES → Cuts 0 bytes tokens →
       File m (length bytes) nothing_read (items_of tokens) o → Says m bytes (finished m (length bytes) o)

@@ -4,9 +4,9 @@ ghost use Rattle.fol_core.specs.Stated.{stated_of, IsWellFormed};
 ghost use Rattle.ladr_problem.specs.Items.{items_of};
 ghost use Rattle.ladr_lex.specs.Cuts.{Cuts, piece_of, pieces_of};
 ghost use Rattle.ladr_lex.specs.Places.{line_of, column_of};
-ghost use Rattle.ladr_lex.specs.declared.limits.TheConstants.{MOST_SYMBOLS};
+ghost use Rattle.ladr_lex.specs.declared.limits.TheConstants.{MOST_BYTES, MOST_SYMBOLS};
 ghost use Rattle.ladr_problem.specs.Draft.{sofar_of};
-ghost use Rattle.ladr_problem.specs.File.{Says, problem, first_lacking, tested, most_bytes};
+ghost use Rattle.ladr_problem.specs.File.{Says, problem, first_lacking, tested};
 ghost use Rattle.ladr_options.specs.Ranges.{AreInRange};
 ghost use Rattle.ladr_problem.specs.Names.{AreTellable};
 ghost use Rattle.ladr_formulas.specs.declared.styles.Mode.{Mode};
@@ -23,13 +23,10 @@ use crate::stop::RefusalAt;
 use fol_core::{Input, Name, Problem};
 use ladr_formulas::Mode;
 use ladr_interpretations::{Named, bind, covers};
-use ladr_lex::{Lex, Misuse, Ops, Token, TokenKind, place_of, tokens};
+use ladr_lex::{Lex, MOST_BYTES, Misuse, Ops, Token, TokenKind, place_of, tokens};
 use ladr_settings::Settings;
 use model_tables::Tables;
 use std::alloc::{AllocError, Global};
-
-/// The most bytes that an input may have.
-pub const MOST_BYTES: u64 = ladr_lex::MOST_BYTES as u64;
 
 /// What a file says: its problem, the operators as they are at its end, and the interpretation, if there is one.
 #[derive(Drop)]
@@ -221,7 +218,7 @@ fn finish(draft: Draft) -> FileRead
 // The tokens of a file, unless it has too many bytes.
 fn cut<'a>(alloc: Global, bytes: &'a [u8]) -> Result<Vec<Token<'a>>, ReadError>
     ensures cut { IfOk result (λ tokens. Cuts 0 bytes.now (pieces_of tokens.items)) }
-    ensures within { OnOk result (length bytes.now ≤ most_bytes) }
+    ensures within { OnOk result (length bytes.now ≤ MOST_BYTES) }
     ensures refused { (m : Mode) → IfErr result (IsReadError m bytes.now) }
 {
     match tokens(alloc, bytes) {

@@ -46,7 +46,8 @@ pub fn worked_terms()
         (constant "a"))) }
     ensures in_parentheses { Item standard (lexemes_of_text "(exists x p(x)).")
         (binder Exists "x" (unary "p" (constant "x"))) }
-    ensures head { Item standard (lexemes_of_text "=(a,b).") (binary "=" (constant "a") (constant "b")) }
+    ensures head { Item standard (lexemes_of_text "=(a,b).")
+        (binary "=" (constant "a") (constant "b")) }
     ensures argument { Item standard (lexemes_of_text "p(=,\"=\").")
         (binary "p" (constant "=") (constant "\"=\"")) }
     ensures body { Item standard (lexemes_of_text "all x p(x) | q(x).")
@@ -71,8 +72,10 @@ pub fn worked_declared()
         (binary "@@" (binary "@@" (constant "a") (constant "b")) (constant "c")) }
     ensures body { Item with_declared (lexemes_of_text "all x p @@ q.")
         (binary "@@" (binder All "x" (constant "p")) (constant "q")) }
-    ensures postfix { Item with_declared (lexemes_of_text "- a !.") (unary "!" (unary "-" (constant "a"))) }
-    ensures below { Item with_declared (lexemes_of_text "~ - a.") (unary "~" (unary "-" (constant "a"))) }
+    ensures postfix { Item with_declared (lexemes_of_text "- a !.")
+        (unary "!" (unary "-" (constant "a"))) }
+    ensures below { Item with_declared (lexemes_of_text "~ - a.")
+        (unary "~" (unary "-" (constant "a"))) }
     ensures not_below { IsBadAt with_declared "~ ~ a." 1 }
 {}
 

@@ -44,7 +44,8 @@ pub fn worked()
 /// Rules of weights.
 pub fn worked_rules()
     // weight(g(y,x)) = 1 + (2 * weight(x)), where y is variable 0 and x is variable 1
-    ensures text { Item standard (lexemes_of_text "weight(g(y,x)) = 1 + (2 * weight(x)).") one_and_twice }
+    ensures text { Item standard (lexemes_of_text "weight(g(y,x)) = 1 + (2 * weight(x)).")
+        one_and_twice }
     ensures rule { weight_rule_in for_prover one_and_twice
         ≡ Some (record {
           head = codes "g";
@@ -65,7 +66,8 @@ pub fn worked_rules()
     // weight(x) = 1, weight(f(x)) = weight(y) and weight(f(x)) = 2147483648
     ensures variable_pattern { weight_rule_in for_prover (weight_is x (constant "1")) ≡ None }
     ensures other_variable { weight_rule_in for_prover (weight_is (f x) (weight y)) ≡ None }
-    ensures great_value { weight_rule_in for_prover (weight_is (f x) (constant "2147483648")) ≡ None }
+    ensures great_value { weight_rule_in for_prover (weight_is (f x) (constant "2147483648"))
+        ≡ None }
     // weight(f(1000000000)) = 1: for the prover the numeral is a constant. The head of the pattern isn't entered.
     ensures numeral { misuse_of for_tester (weight_is (f (constant "1000000000")) (constant "1"))
         ≡ Some UnfitNumeral }

@@ -1,4 +1,4 @@
--- The interpretations that are searched for, and renamings of their elements.
+-- The interpretations that are searched for, and those isomorphic to them.
 use Rattle.std.specs.Prelude.{ℕ, ◌≡◌, ◌<◌, nat_lt, List, map}
 use Rattle.fol_core.specs.Literals.{ClauseTree, AreTrueClauses}
 use Rattle.fol_core.specs.Meaning.{Meaning, IsLawful}
@@ -19,10 +19,10 @@ pub record IsCarried (k : ℕ) (r back : ℕ → ℕ) (m m' : Meaning) : Type 0 
   pub functions : (f : ℕ) (xs : List ℕ) → m'.function f (map r xs) ≡ r (m.function f xs)
   pub relations : (s : ℕ) (xs : List ℕ) → m'.relation s (map r xs) ≡ m.relation s xs
 
--- some renaming of the first that leaves the elements below k is the second
+-- some permutation of the elements that leaves those below k carries the first to the second
 abbrev pub AreIsomorphic : ℕ → Meaning → Meaning → Type 0
 AreIsomorphic k m m' = (r : ℕ → ℕ) × ((back : ℕ → ℕ) × IsCarried k r back m m')
 
--- each solution that is P has a renaming that is a solution and is Q
+-- each solution that is P is isomorphic to a solution that is Q
 abbrev pub CoversIsomorphic : ℕ → List ClauseTree → ℕ → (Meaning → Type 0) → (Meaning → Type 0) → Type 0
 CoversIsomorphic n clauses k P Q = (m : Meaning) → IsSolution n clauses m → P m → (m' : Meaning) × (IsSolution n clauses m' × Q m' × AreIsomorphic k m m')

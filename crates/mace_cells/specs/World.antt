@@ -6,7 +6,7 @@ use Rattle.mace_cells.specs.Choices.{Decision, AgreesWith}
 use Rattle.mace_cells.specs.Solutions.{IsSolution, CoversIsomorphic}
 use Rattle.mace_ground.specs.Cells.{Block, Cell, cell_at, cells_in, value_at}
 
--- how many elements there are, below which of them a renaming moves none, the clauses, and the cells
+-- how many elements there are, below which of them an isomorphism moves none, the clauses, and the cells
 pub record World : Type 0 where
   pub size : ℕ
   pub fixed : ℕ
@@ -39,7 +39,7 @@ IsRefuted w ds = (m : Meaning) → Solves w m → AgreesWith m ds → ⊥
 abbrev pub AreRefuted : World → List Decision → Cell → ℕ → ℕ → Type 0
 AreRefuted w ds c v u = (m : Meaning) → Solves w m → AgreesWith m ds → v ≤ value_at m c → value_at m c < u → ⊥
 
--- each that agrees with them has a renaming that does so too and has at most this value in the cell
+-- each that agrees with them is isomorphic to one that does so too and has at most this value in the cell
 abbrev pub IsBound : World → List Decision → Cell → ℕ → Type 0
 IsBound w ds c most = CoversIsomorphic w.size w.clauses w.fixed (λ m. AgreesWith m ds) (λ m. AgreesWith m ds × (value_at m c ≤ most))
 

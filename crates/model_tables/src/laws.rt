@@ -36,7 +36,7 @@ pub fn worked()
         × (table_number (tables 0 1) ≡ 9) }
     ensures text { model_text apart.symbols 7 (tables 0 1) ≡ tables_text }
     ensures operation { model_text group_symbols 1 group ≡ group_text }
-    ensures renaming { IsIsomorphism 3 apart exchange (tables 0 1) (tables 1 0) }
+    ensures isomorphism { IsIsomorphism 3 apart exchange (tables 0 1) (tables 1 0) }
 {}
 
 /// The tables with the values of Skolem symbols are the only ones that have them, pick witnesses, and keep the tables of all other

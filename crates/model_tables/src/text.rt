@@ -51,7 +51,8 @@ fn line(
 ) -> Result<bool, AllocError>
     requires { symbol.0 < length symbols.now }
     ensures text { OnOk result (out.new.items ≡ out.old.items
-        ++ entry_line before (name_at symbols.now symbol.0) (arity_at symbols.now symbol.0) row.now) }
+        ++ entry_line before (name_at symbols.now symbol.0) (arity_at symbols.now symbol.0)
+        row.now) }
     ensures now { IfOk result (λ now. now ≡ (before || not (length row.now.values == 0))) }
 {
     if row.is_empty() {

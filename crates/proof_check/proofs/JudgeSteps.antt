@@ -8,15 +8,15 @@ use Rattle.substitutions.specs.Instances.{substitute_clause}
 use Rattle.unifiers.specs.Unifier.{IsMostGeneral}
 use Rattle.derivation.specs.Apart.{lefts, rights}
 use Rattle.derivation.specs.Lines.{FirstWord, assumed, wanted, clausified, denied, copied, resolved, factored, paramodulated, xx_resolved}
-use Rattle.derivation.specs.Rule.{Own, instances, AreSame, Concludes}
+use Rattle.substitutions.specs.Apart.{Own, instances, interleaved, apart_of}
+use Rattle.derivation.specs.Rule.{AreSame, Concludes}
 use Rattle.derivation.proofs.Conclusions.{IsNatural, copy_natural, clash_natural, factor_natural, xx_natural, para_natural}
 use Rattle.derivation.proofs.Lawful.{IsLawfulRule, copy_lawful, clash_lawful, factor_lawful, xx_lawful, para_lawful}
 use Rattle.derivation.proofs.Spread.{concludes_apart, none_apart}
-use Rattle.proof_check.specs.Interleaved.{interleaved, apart_of}
 use Rattle.proof_check.specs.Judged.{clash_of, rule_by, IsPending}
 use Rattle.term_unifiers.specs.Solved.{IsUnified, HasNoUnifier}
 use Rattle.proof_check.specs.declared.building.Pending.{Pending}
-use Rattle.proof_check.proofs.ApartSteps.{interleaving_is_apart}
+use Rattle.substitutions.proofs.Interleaving.{interleaving_is_apart}
 
 pub rule_lawful : (w : FirstWord) → IsLawfulRule (rule_by w)
 rule_lawful (resolved n ss) = clash_lawful (map clash_of ss)

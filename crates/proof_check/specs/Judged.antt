@@ -6,7 +6,8 @@ use Rattle.fol_core.specs.Tree.{trees_of}
 use Rattle.derivation.specs.Apart.{lefts, rights}
 use Rattle.derivation.specs.Later.{LaterWord, later_fits, Leads}
 use Rattle.derivation.specs.Lines.{FirstWord, Inference, inference, inference_of}
-use Rattle.derivation.specs.Rule.{InferenceRule, Own, UnifiesFamily, Concludes}
+use Rattle.substitutions.specs.Apart.{Own}
+use Rattle.derivation.specs.Rule.{InferenceRule, UnifiesFamily, Concludes}
 use Rattle.derivation.specs.Words.{Clash, copy_rule}
 use Rattle.derivation.specs.declared.words.Satellite.{Satellite}
 use Rattle.proof_check.specs.declared.judging.Judged.{Judged}

@@ -1,5 +1,4 @@
 pub mod Found
-pub mod Interleaved
 pub mod Judged
 pub mod Laws
 pub mod Reached

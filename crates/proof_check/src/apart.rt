@@ -3,7 +3,7 @@ ghost use Rattle.std.specs.Prelude.{◌≡◌, ◌+◌, ◌*◌, IfOk, length};
 ghost use Rattle.fol_core.specs.TermView.{tree_of};
 ghost use Rattle.fol_core.specs.Substitutions.{substitute};
 ghost use Rattle.substitutions.specs.Instances.{substitute_clause};
-ghost use Rattle.proof_check.specs.Interleaved.{interleaved, apart_of};
+ghost use Rattle.substitutions.specs.Apart.{interleaved, apart_of};
 
 use fol_core::{Clause, Literal, Term, Terms};
 use std::alloc::{AllocError, Global};

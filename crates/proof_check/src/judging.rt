@@ -2,7 +2,7 @@
 ghost use Rattle.std.specs.Prelude.{◌≡◌, IsTrue, IfOk};
 ghost use Rattle.derivation.specs.View.{first_word_of};
 ghost use Rattle.proof_check.specs.Judged.{rule_by, IsPending, JudgedAs};
-ghost use Rattle.proof_check.specs.Interleaved.{apart_of};
+ghost use Rattle.substitutions.specs.Apart.{apart_of};
 
 use crate::apart::renamed_apart;
 use crate::building::{Pending, build};

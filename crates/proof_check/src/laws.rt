@@ -1,9 +1,5 @@
 // What a refutation of a problem shows: the contract is the law.
-ghost use Rattle.std.specs.Prelude.{List, length};
-ghost use Rattle.derivation.specs.Apart.{AreRenamedApart};
-ghost use Rattle.fol_core.specs.Literals.{ClauseTree};
 ghost use Rattle.fol_core.specs.Meaning.{Meaning, IsLawful};
-ghost use Rattle.proof_check.specs.Interleaved.{interleaved};
 ghost use Rattle.proof_check.specs.Laws.{RefutationsLeaveNone};
 
 use clausify::clauses_follow;
@@ -17,8 +13,3 @@ pub fn no_countermodel()
     clauses_follow();
     refutation_is_sound();
 }
-
-/// Interleaving the variables of parents renames them apart, so that a most general unifier makes their conclusion.
-pub fn parents_are_apart()
-    ensures { (cs : List ClauseTree) → AreRenamedApart cs (interleaved (length cs)) }
-{}

@@ -20,4 +20,4 @@ mod stating;
 
 pub use checking::check;
 pub use error::CheckError;
-pub use laws::{no_countermodel, parents_are_apart};
+pub use laws::no_countermodel;

@@ -1,5 +1,6 @@
 pub mod Composing
 pub mod Elements
+pub mod Interleaving
 pub mod Numbering
 pub mod PathLemmas
 pub mod Replacing

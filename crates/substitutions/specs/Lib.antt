@@ -1,3 +1,4 @@
+pub mod Apart
 pub mod Atoms
 pub mod Bindings
 pub mod Instances

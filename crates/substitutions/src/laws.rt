@@ -1,5 +1,6 @@
 // Laws of substitution, numbering and replacement: the functions do nothing, and their contracts are the laws.
 ghost use Rattle.fol_core.specs.Meaning.{Meaning};
+ghost use Rattle.substitutions.specs.Apart.{InterleavingIsApart};
 ghost use Rattle.substitutions.specs.Laws.{InstancesHaveValues, InstancesHaveTruth, ReplacingKeepsValues, NumberingKeepsTruth, SubstitutionsCompose, VariablesDecide, NumbersStay, MutualInstancesAreVariants};
 ghost use Rattle.substitutions.specs.Worked.{WorkedPaths, WorkedSubstitutions, WorkedNumbers};
 
@@ -26,6 +27,12 @@ pub fn clauses_are_decided()
     ensures variables { VariablesDecide }
     ensures numbers { NumbersStay }
     ensures variants { MutualInstancesAreVariants }
+{}
+
+/// Interleaving the variables of clauses renames them apart: one substitution makes of them what any family, one for each
+/// clause, makes of the clauses.
+pub fn clauses_are_renamed_apart()
+    ensures { InterleavingIsApart }
 {}
 
 /// Some terms and clauses worked out.

@@ -7,8 +7,8 @@ mod sameness;
 mod subst;
 
 pub use laws::{
-    clauses_are_decided, instances_have_truth, numbering_keeps_truth, replacing_keeps_values,
-    worked,
+    clauses_are_decided, clauses_are_renamed_apart, instances_have_truth, numbering_keeps_truth,
+    replacing_keeps_values, worked,
 };
 pub use paths::{replace_at, subterm_at};
 pub use sameness::{same, same_clause, same_literal};

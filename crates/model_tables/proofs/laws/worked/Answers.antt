@@ -12,5 +12,5 @@ pub returns-clause-operation : goal.returns-clause-operation
 unfolding model_text digits
 returns-clause-operation c = refl
 
-pub returns-clause-renaming : goal.returns-clause-renaming
-returns-clause-renaming c = exchanged
+pub returns-clause-isomorphism : goal.returns-clause-isomorphism
+returns-clause-isomorphism c = exchanged

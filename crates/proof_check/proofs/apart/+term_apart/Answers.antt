@@ -3,7 +3,7 @@ use Rattle.fol_core.specs.Tree.{app, trees_of}
 use Rattle.fol_core.specs.TermView.{tree_of, tree_list}
 use Rattle.fol_core.specs.Substitutions.{substitute, substitute_all}
 use Rattle.fol_core.proofs.Putting.{put_made}
-use Rattle.proof_check.specs.Interleaved.{interleaved}
+use Rattle.substitutions.specs.Apart.{interleaved}
 use Rattle.proof_check.proofs.apart.+term_apart.Goals as goal
 
 pub returns-after-loop-term : goal.returns-after-loop-term

@@ -2,7 +2,7 @@
 use Rattle.std.proofs.Common.{◌≡◌, map, take}
 use Rattle.fol_core.specs.Substitutions.{substitute}
 use Rattle.fol_core.specs.TermView.{tree_of}
-use Rattle.proof_check.specs.Interleaved.{interleaved}
+use Rattle.substitutions.specs.Apart.{interleaved}
 use Rattle.proof_check.proofs.apart.+term_apart.Given as goal
 
 abbrev pub invariant-loop-term : goal.invariant-loop-term

@@ -2,7 +2,7 @@
 use Rattle.std.proofs.Common.{◌≡◌, map, take}
 use Rattle.fol_core.specs.ClauseView.{literal_of}
 use Rattle.substitutions.specs.Instances.{substitute_clause}
-use Rattle.proof_check.specs.Interleaved.{interleaved}
+use Rattle.substitutions.specs.Apart.{interleaved}
 use Rattle.proof_check.proofs.apart.clause_apart.Given as goal
 
 abbrev pub invariant-loop-literal : goal.invariant-loop-literal

@@ -1,7 +1,6 @@
 -- The first parents are renamed.
 use Rattle.std.proofs.Common.{◌≡◌, take, length}
-use Rattle.derivation.specs.Rule.{instances}
-use Rattle.proof_check.specs.Interleaved.{interleaved}
+use Rattle.substitutions.specs.Apart.{instances, interleaved}
 use Rattle.proof_check.proofs.apart.renamed_apart.Given as goal
 
 abbrev pub invariant-loop-place : goal.invariant-loop-place
