@@ -40,9 +40,9 @@ impl Class {
     }
 }
 
-// Whether a byte is a letter, a digit, `_` or `$`.
+/// Whether a byte is a letter, a digit, `_` or `$`.
 #[tactic(auto, unfolding(crate::specs::Bytes::is_ordinary))]
-fn is_ordinary(byte: u8) -> bool
+pub fn is_ordinary(byte: u8) -> bool
     ensures { result ≡ is_ordinary byte }
 {
     byte.is_ascii_alphanumeric() || byte == b'_' || byte == b'$'

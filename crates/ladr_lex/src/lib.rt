@@ -12,6 +12,7 @@ mod places;
 mod scan;
 mod token;
 
+pub use bytes::{is_ordinary, is_special};
 pub use laws::{one_cutting, one_numeral, one_operator, worked, worked_clauses, worked_operators};
 pub use limits::{MOST_ARGUMENTS, MOST_BYTES, MOST_ELEMENT, MOST_LEVELS, MOST_SYMBOLS};
 pub use misuse::Misuse;

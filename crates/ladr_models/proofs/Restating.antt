@@ -26,7 +26,8 @@ use Rattle.ladr_lex.specs.declared.limits.TheConstants.{MOST_LEVELS, MOST_SYMBOL
 use Rattle.ladr_lex.specs.declared.misuse.Misuse.{Misuse}
 use Rattle.ladr_lex.specs.declared.misuse.Misuse.TheVariants.{UnfitAttribute, UnfitHint, UnfitDemodulator, UnfitRule}
 use Rattle.ladr_lex.specs.declared.operators.OperatorKind.TheVariants.{InfixRight}
-use Rattle.ladr_print.proofs.Printing.{Named, Printable, is_written, printable, cuts_written, printed_reads}
+use Rattle.ladr_print.proofs.Printing.{is_written, has_text, cuts_written, printed_reads}
+use Rattle.ladr_print.specs.HasText.{CanName, HasText}
 use Rattle.ladr_print.proofs.Stating.{named_between, formula_again}
 use Rattle.ladr_print.specs.FormulaText.{formula_raw}
 use Rattle.ladr_print.specs.FormulaText as printing
@@ -94,7 +95,7 @@ front_of (t ∷ ts) us h = let parts = and_parts (is_written t) (list_all is_wri
 -- the parts of a term with attributes may be printed, and the formula with its label
 module _ (rows : List OperatorRow) (fixed : KeepsFixed rows) where
   abbrev P : RawTree → Type 0
-  P t = Printable (table_of rows) t
+  P t = HasText (table_of rows) t
 
   abbrev AllP : List RawTree → Type 0
   AllP [] = Unit {0}
@@ -119,7 +120,7 @@ module _ (rows : List OperatorRow) (fixed : KeepsFixed rows) where
       by true later = all.0
       by false later = later
 
-  hash : Named (table_of rows) (codes "#") 2
+  hash : CanName (table_of rows) (codes "#") 2
   unfolding is_special is_ordinary
   hash = named_between rows fixed (codes "#") (record { precedence = 810; kind = InfixRight }) refl refl refl refl
 
@@ -148,7 +149,7 @@ module _ (rows : List OperatorRow) (fixed : KeepsFixed rows) where
 record IsFrom (rows : List OperatorRow) (st : Style) (table : List Symbol) (l : Listed) : Type 0 where
   before : List Symbol
   tree : RawTree
-  may : Printable (table_of rows) (printing.attributed l.label tree)
+  may : HasText (table_of rows) (printing.attributed l.label tree)
   formula : (formula_reading st before tree).tree ≡ l.formula
   names : names_of (formula_reading st before tree).reading.variables ≡ l.names
   clean : (formula_reading st before tree).reading.least ≡ None
@@ -274,7 +275,7 @@ module _ (m : Mode) (byte : ℕ) (s : Sofar) (good : IsKept m s) where
   listed_kept Goals table l w k listed x = added Goal table l k listed x
   listed_kept Hints table l w k listed x = hinted table l w k listed x
 
-  formula_kept : (list : Option FormulaList) (t : RawTree) → is_some s.settings.list ≡ true → Printable (table_of s.settings.operators) t → IfOk (after_formula m list byte s t) K
+  formula_kept : (list : Option FormulaList) (t : RawTree) → is_some s.settings.list ≡ true → HasText (table_of s.settings.operators) t → IfOk (after_formula m list byte s t) K
   formula_kept list t some may =
       let made = formula_made m s t in
       let a = attributed t in
@@ -317,7 +318,7 @@ module _ (m : Mode) (byte : ℕ) (s : Sofar) (good : IsKept m s) where
       (λ meant. by_option K (added_kbo s) (kbo_rule t) (Err (Misused UnfitRule)) (λ r e. by_test K (is_weighed r.0 s.kbo_weights) _ _ (λ d. tt) (λ d. good)) (λ e. tt))
       (λ other. good)
 
-  term_kept : (list : OpenList) (t : RawTree) → is_some s.settings.list ≡ true → Printable (table_of s.settings.operators) t → IfOk (after_term m list byte s t) K
+  term_kept : (list : OpenList) (t : RawTree) → is_some s.settings.list ≡ true → HasText (table_of s.settings.operators) t → IfOk (after_term m list byte s t) K
   term_kept Weights t some may = rule_kept (shaped_sides st t)
   term_kept KboWeights t some may = kbo_kept t
   term_kept OtherRules t some may = good
@@ -383,7 +384,7 @@ module _ (m : Mode) (byte : ℕ) (s : Sofar) (good : IsKept m s) where
       let item = read.1.1 in
       let own = front_of item.tokens (full_stop ∷ []) (subst AreWritten item.stops written) in
       by_test K (nat_lt MOST_LEVELS (nesting ts t)) _ _ (λ deep. tt)
-      (λ shallow. by_option K (λ l. after_term m l byte s t) s.settings.list (Ok s) (λ l e. term_kept l t read.0 (printable (table_of s.settings.operators) item.reads own)) (λ e. good))
+      (λ shallow. by_option K (λ l. after_term m l byte s t) s.settings.list (Ok s) (λ l e. term_kept l t read.0 (has_text (table_of s.settings.operators) item.reads own)) (λ e. good))
 
 abbrev IfProblem : Mode → Outcome → Type 0
 IfProblem m (problem s) = IsKept m s

@@ -1,5 +1,6 @@
 pub mod Arguments
 pub mod Clausal
+pub mod Derived
 pub mod Disjunctions
 pub mod Ends
 pub mod Letters

@@ -21,13 +21,14 @@ use Rattle.ladr_reader.specs.Table.{OperatorTable, table_of, left, right, takes,
 use Rattle.ladr_reader.specs.Worked.{lexemes_in}
 use Rattle.ladr_reader.specs.declared.sides.Side.TheVariants.{Nothing, UpTo}
 use Rattle.ladr_reader.proofs.Lawful.{Lawful, table_lawful, prefix_is, after_is, prefix_room, up_to_room, reads_at_most}
+use Rattle.ladr_print.specs.HasText.{kind_of, CanStand, plain, before, behind, between, CanName, CanBind, HasText, HaveTexts}
 use Rattle.ladr_print.specs.Precedences.{is_infix, count, own_precedence, precedence}
 use Rattle.ladr_print.specs.RawText.{Printed, wrapped, left_argument, right_argument, body, word, commas, application, with_one, with_two, arranged, text_of, printed, printed_all}
 use Rattle.ladr_print.specs.RawText as text
 use Rattle.ladr_print.specs.ReadsAs.{ReadsAs, ItemAs}
 use Rattle.ladr_print.specs.Spacing.{beside}
 use Rattle.ladr_print.proofs.Operands.{prefix_one, infix_after, postfix_one, no_right, infix_two, left_room, right_room, after_kind, no_prefix, prefix_kind}
-use Rattle.ladr_print.proofs.Writes.{Writes, follow, spaced_follow, beside_written, symbol_written, open_written, close_written, comma_written, kind_of, before_alone, behind_alone, behind_last, open_alone, close_alone, comma_alone, stop_alone, stop_written, whole_has}
+use Rattle.ladr_print.proofs.Writes.{Writes, follow, spaced_follow, beside_written, symbol_written, open_written, close_written, comma_written, before_alone, behind_alone, behind_last, open_alone, close_alone, comma_alone, stop_alone, stop_written, whole_has}
 
 -- a text that is this term, of this precedence
 pub record Shows (g : OperatorTable) (bytes : List ℕ) (t : RawTree) (p : ℕ) : Type 0 where
@@ -242,69 +243,40 @@ is_written unreadable = true
 written_parts : (ts us : List Lexeme) → list_all is_written (ts ++ us) ≡ true → (list_all is_written ts ≡ true) × (list_all is_written us ≡ true)
 written_parts ts us h = and_parts _ _ (sym (list_all-append is_written ts us) ∙ h)
 
--- how a name that stands so may be read
-pub data Allowed (g : OperatorTable) (s : List ℕ) (n : ℕ) : Type 0 where
-  plain : g.word s ≡ None → if_prefix (g.op s) ≡ None → Allowed g s n
-  before : (o : Operator) → g.word s ≡ None → g.op s ≡ Some o → is_prefix o.kind ≡ true → n ≡ 1 → Allowed g s n
-  behind : (o : Operator) → g.op s ≡ Some o → is_prefix o.kind ≡ false → right o.kind ≡ Nothing → n ≡ 1 → Allowed g s n
-  between : (o : Operator) → g.op s ≡ Some o → is_infix o.kind ≡ true → n ≡ 2 → Allowed g s n
-
--- a name with so many arguments is a symbol that may be read so
-pub record Named (g : OperatorTable) (s : List ℕ) (n : ℕ) : Type 0 where
-  pub sort : Sort
-  pub written : can_be (Some (kind_of sort)) s ≡ true
-  pub allowed : Allowed g s n
-
--- a quantifier's variable is a symbol that may be one
-pub record Bindable (g : OperatorTable) (x : List ℕ) : Type 0 where
-  pub sort : Sort
-  pub written : can_be (Some (kind_of sort)) x ≡ true
-  pub allowed : g.variable sort x ≡ true
-
--- all names of a tree are so
-abbrev mutual
-  pub Printable : OperatorTable → RawTree → Type 0
-  Printable g (named s ts) = Named g s (count ts) × PrintableAll g ts
-  Printable g (quantified q x t) = Bindable g x × Printable g t
-
-  pub PrintableAll : OperatorTable → RawTrees → Type 0
-  PrintableAll g no_raws = Unit {0}
-  PrintableAll g (more_raws t ts) = Printable g t × PrintableAll g ts
-
-printable_last : (g : OperatorTable) (ks : List RawTree) (t : RawTree) → PrintableAll g (raws_of ks) → Printable g t → PrintableAll g (raws_of (ks ++ t ∷ []))
-printable_last g [] t a x = (x, tt)
-printable_last g (k ∷ ks) t a x = (a.0, printable_last g ks t a.1 x)
+have_texts_last : (g : OperatorTable) (ks : List RawTree) (t : RawTree) → HaveTexts g (raws_of ks) → HasText g t → HaveTexts g (raws_of (ks ++ t ∷ []))
+have_texts_last g [] t a x = (x, tt)
+have_texts_last g (k ∷ ks) t a x = (a.0, have_texts_last g ks t a.1 x)
 
 -- what tokens are is
 mutual
-  pub printable : (g : OperatorTable) {ts : List Lexeme} {t : RawTree} {p : ℕ} → Reads g ts t p → list_all is_written ts ≡ true → Printable g t
-  printable g (atom k s none pre) w = (record { sort = k; written = (and_parts _ _ w).0; allowed = plain none pre }, tt)
-  printable g (applied {ts} {us} k s none pre rs) w =
+  pub has_text : (g : OperatorTable) {ts : List Lexeme} {t : RawTree} {p : ℕ} → Reads g ts t p → list_all is_written ts ≡ true → HasText g t
+  has_text g (atom k s none pre) w = (record { sort = k; written = (and_parts _ _ w).0; allowed = plain none pre }, tt)
+  has_text g (applied {ts} {us} k s none pre rs) w =
       let parts = and_parts (can_be (Some (kind_of k)) s) (list_all is_written (open_paren ∷ (ts ++ close_paren ∷ []))) w in
-      (record { sort = k; written = parts.0; allowed = plain none pre }, all_printable g rs (written_parts ts (close_paren ∷ []) parts.1).0)
-  printable g (group {ts} r) w = printable g r (written_parts ts (close_paren ∷ []) w).0
-  printable g (bound {ts} {t} k j q s x e v r fits) w =
+      (record { sort = k; written = parts.0; allowed = plain none pre }, have_texts g rs (written_parts ts (close_paren ∷ []) parts.1).0)
+  has_text g (group {ts} r) w = has_text g r (written_parts ts (close_paren ∷ []) w).0
+  has_text g (bound {ts} {t} k j q s x e v r fits) w =
       let outer = and_parts (can_be (Some (kind_of k)) s) (list_all is_written (symbol j x ∷ ts)) w in
       let parts = and_parts (can_be (Some (kind_of j)) x) (list_all is_written ts) outer.1 in
-      (record { sort = j; written = parts.0; allowed = v }, printable g r parts.1)
-  printable g (prefixed {ts} {t} k s o none e r fits) w =
+      (record { sort = j; written = parts.0; allowed = v }, has_text g r parts.1)
+  has_text g (prefixed {ts} {t} k s o none e r fits) w =
       let parts = and_parts (can_be (Some (kind_of k)) s) (list_all is_written ts) w in
-      (record { sort = k; written = parts.0; allowed = before o none (prefix_is (g.op s) o e) (prefix_kind (g.op s) o e) refl }, (printable g r parts.1, tt))
-  printable g (postfixed {ts} {t} k s o e n r takes_it) w =
+      (record { sort = k; written = parts.0; allowed = before o none (prefix_is (g.op s) o e) (prefix_kind (g.op s) o e) refl }, (has_text g r parts.1, tt))
+  has_text g (postfixed {ts} {t} k s o e n r takes_it) w =
       let parts = written_parts ts (symbol k s ∷ []) w in
-      (record { sort = k; written = (and_parts _ _ parts.1).0; allowed = behind o (after_is (g.op s) o e) (after_kind (g.op s) o e) n refl }, (printable g r parts.0, tt))
-  printable g (infixed {ts} {us} {t} {u} {p} {q} k s o e r takes_it r' fits) w =
+      (record { sort = k; written = (and_parts _ _ parts.1).0; allowed = behind o (after_is (g.op s) o e) (after_kind (g.op s) o e) n refl }, (has_text g r parts.0, tt))
+  has_text g (infixed {ts} {us} {t} {u} {p} {q} k s o e r takes_it r' fits) w =
       let parts = written_parts ts (symbol k s ∷ us) w in
       let inner = and_parts (can_be (Some (kind_of k)) s) (list_all is_written us) parts.1 in (
         record { sort = k; written = inner.0; allowed = between o (after_is (g.op s) o e) (infix_two o.kind o.precedence q (tree_grows g u) (after_kind (g.op s) o e) fits) refl },
-        (printable g r parts.0, (printable g r' inner.1, tt)),
+        (has_text g r parts.0, (has_text g r' inner.1, tt)),
       )
 
-  pub all_printable : (g : OperatorTable) {ts : List Lexeme} {us : List RawTree} → ReadsAll g ts us → list_all is_written ts ≡ true → PrintableAll g (raws_of us)
-  all_printable g (single r m) w = (printable g r w, tt)
-  all_printable g (further {ts} {us} {ks} {t} rs r m) w =
+  pub have_texts : (g : OperatorTable) {ts : List Lexeme} {us : List RawTree} → ReadsAll g ts us → list_all is_written ts ≡ true → HaveTexts g (raws_of us)
+  have_texts g (single r m) w = (has_text g r w, tt)
+  have_texts g (further {ts} {us} {ks} {t} rs r m) w =
       let parts = written_parts ts (comma ∷ us) w in
-      printable_last g ks t (all_printable g rs parts.0) (printable g r parts.1)
+      have_texts_last g ks t (have_texts g rs parts.0) (has_text g r parts.1)
 
 -- and what is so, reads back as printed
 abbrev raws_list : RawTrees → List RawTree
@@ -319,7 +291,7 @@ count_list : (us : List RawTree) → count (raws_of us) ≡ length us
 count_list [] = refl
 count_list (u ∷ us) = ap suc (count_list us)
 
-good_named : (g : OperatorTable) → Lawful g → (k : Sort) (s : List ℕ) (us : List RawTree) → can_be (Some (kind_of k)) s ≡ true → Allowed g s (count (raws_of us)) → AllGood g us → Good g (named s (raws_of us))
+good_named : (g : OperatorTable) → Lawful g → (k : Sort) (s : List ℕ) (us : List RawTree) → can_be (Some (kind_of k)) s ≡ true → CanStand g s (count (raws_of us)) → AllGood g us → Good g (named s (raws_of us))
 good_named g l k s us w (plain none pre) a = by_operator g l k s (g.op s) us none refl pre w a
 good_named g l k s [] w (before o none e pre n) a = absurd (cc)
 good_named g l k s (t ∷ []) w (before o none e pre n) a = good_before g l k s o t none e pre w a.0
@@ -333,13 +305,13 @@ good_named g l k s (t ∷ u ∷ []) w (between o e two n) a = good_between g l k
 good_named g l k s (t ∷ u ∷ v ∷ us) w (between o e two n) a = absurd (omega arith)
 
 mutual
-  pub good : (g : OperatorTable) → Lawful g → HasWords g → (t : RawTree) → Printable g t → Good g t
+  pub good : (g : OperatorTable) → Lawful g → HasWords g → (t : RawTree) → HasText g t → Good g t
   good g l h (quantified q x t) p = good_quantified g h p.0.sort q x t p.0.allowed p.0.written (good g l h t p.1)
   good g l h (named s ts) p =
       subst (λ (us : RawTrees). Good g (named s us)) (raws_back ts)
-      (good_named g l p.0.sort s (raws_list ts) p.0.written (subst (λ (us : RawTrees). Allowed g s (count us)) (sym (raws_back ts)) p.0.allowed) (all_good g l h ts p.1))
+      (good_named g l p.0.sort s (raws_list ts) p.0.written (subst (λ (us : RawTrees). CanStand g s (count us)) (sym (raws_back ts)) p.0.allowed) (all_good g l h ts p.1))
 
-  all_good : (g : OperatorTable) → Lawful g → HasWords g → (ts : RawTrees) → PrintableAll g ts → AllGood g (raws_list ts)
+  all_good : (g : OperatorTable) → Lawful g → HasWords g → (ts : RawTrees) → HaveTexts g ts → AllGood g (raws_list ts)
   all_good g l h no_raws p = tt
   all_good g l h (more_raws t ts) p = (good g l h t p.0, all_good g l h ts p.1)
 
@@ -370,11 +342,11 @@ table_words rows = record { spelled = λ q. word_spelled q }
     word_spelled Exists = refl
 
 -- a tree that a text reads as may be printed
-pub text_printable : (rows : List OperatorRow) {bytes : List ℕ} {t : RawTree} {p : ℕ} → ReadsAs (table_of rows) bytes t p → Printable (table_of rows) t
-text_printable rows r = printable (table_of rows) r.reads (cuts_written r.cuts)
+pub text_has : (rows : List OperatorRow) {bytes : List ℕ} {t : RawTree} {p : ℕ} → ReadsAs (table_of rows) bytes t p → HasText (table_of rows) t
+text_has rows r = has_text (table_of rows) r.reads (cuts_written r.cuts)
 
 pub printed_reads :
-    (rows : List OperatorRow) (t : RawTree) → are_lawful rows ≡ true → Printable (table_of rows) t →
+    (rows : List OperatorRow) (t : RawTree) → are_lawful rows ≡ true → HasText (table_of rows) t →
     ReadsAs (table_of rows) (text_of (table_of rows) t) t (precedence (table_of rows) t)
 printed_reads rows t l p =
     let x = good (table_of rows) (table_lawful rows l) (table_words rows) t p in
@@ -384,7 +356,7 @@ printed_reads rows t l p =
 pub reads_back :
     (rows : List OperatorRow) (bytes : List ℕ) (t : RawTree) (p : ℕ) → are_lawful rows ≡ true → ReadsAs (table_of rows) bytes t p →
     ReadsAs (table_of rows) (text_of (table_of rows) t) t (precedence (table_of rows) t)
-reads_back rows bytes t p l r = printed_reads rows t l (text_printable rows r)
+reads_back rows bytes t p l r = printed_reads rows t l (text_has rows r)
 
 -- with a full stop it is an item
 pub is_item :
@@ -393,6 +365,6 @@ pub is_item :
 is_item rows bytes t p l r =
     let g = table_of rows in
     let lawful = table_lawful rows l in
-    let x = good g lawful (table_words rows) t (text_printable rows r) in
+    let x = good g lawful (table_words rows) t (text_has rows r) in
     let h = whole_has (text_of g t ++ codes ".") (x.tokens ++ full_stop ∷ []) (follow (text_of g t) (codes ".") x.tokens (full_stop ∷ []) x.writes stop_written (before_alone (text_of g t) 46 [] stop_alone)) 0 in
     record { pieces = h.pieces; cuts = h.cuts; item = record { tokens = x.tokens; precedence = precedence g t; reads = x.reads; bounded = reads_at_most g lawful x.reads; stops = h.are } }

@@ -10,6 +10,7 @@ use Rattle.ladr_lex.specs.Lexeme.{Sort, ordinary, quoted, special, Lexeme, lexem
 use Rattle.ladr_lex.specs.declared.token.TokenKind.{TokenKind}
 use Rattle.ladr_lex.specs.declared.token.TokenKind.TheVariants.{Open, Close, Comma, Stop, Ordinary, Quoted, Special}
 use Rattle.ladr_reader.specs.Worked.{lexemes_in}
+use Rattle.ladr_print.specs.HasText.{kind_of}
 use Rattle.ladr_print.specs.Spacing.{is_wordly, first_byte, last_of, both_join, runs_into, beside}
 use Rattle.ladr_print.proofs.Longest.{longest_front, ordinary_longest, quoted_longest, special_longest}
 
@@ -162,12 +163,6 @@ beside_written a b us vs v w =
       | inl y ↦ rw y (spaced_follow a b us vs v w)
       | inr n ↦ rw n (subst (λ (l : List ℕ). Writes (l ++ b) (us ++ vs)) (sym (append-nil a)) (follow a b us vs v w n))
     ]
-
--- the kind of a symbol's token
-abbrev pub kind_of : Sort → TokenKind
-kind_of ordinary = Ordinary
-kind_of quoted = Quoted
-kind_of special = Special
 
 symbol_of : (k : TokenKind) (s : List ℕ) (l : Lexeme) → lexeme k s ≡ l → can_be (Some k) s ≡ true →
     ((r : List ℕ) → runs_into s r ≡ false → IsLongest (Some k) s r) → (b : ℕ) (m : List ℕ) → s ≡ b ∷ m → Writes s (l ∷ [])

@@ -1,5 +1,6 @@
 pub mod ClauseText
 pub mod FormulaText
+pub mod HasText
 pub mod Precedences
 pub mod RawText
 pub mod ReadsAgain

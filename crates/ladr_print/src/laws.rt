@@ -1,5 +1,5 @@
 // Laws of the definitions, and texts worked out.
-ghost use Rattle.std.specs.Prelude.{◌≡◌, ◌<◌, ◌≤◌, ◌^◌, length, Option, false, ℕ, List, [], ◌∷◌, IsTrue, ◌++◌, codes};
+ghost use Rattle.std.specs.Prelude.{◌≡◌, ◌<◌, ◌≤◌, ◌^◌, length, Option, Bool, false, ℕ, List, [], ◌∷◌, IsTrue, ◌++◌, codes};
 ghost use Rattle.fol_core.specs.RawTree.{RawTree};
 ghost use Rattle.fol_core.specs.Fol.{Fol};
 ghost use Rattle.fol_core.specs.SymbolTable.{Symbol, KeepsNumbers};
@@ -8,9 +8,10 @@ ghost use Rattle.ladr_print.specs.ReadsAgain.{IsAmong, behind, ReadsFormula, Rea
 ghost use Rattle.ladr_formulas.specs.Formulas.{Made, names_of};
 ghost use Rattle.ladr_lex.specs.Operators.{OperatorRow, are_lawful, standard_rows, is_unfit_symbol, declared};
 ghost use Rattle.ladr_print.specs.FormulaText.{attributed, formula_raw};
-ghost use Rattle.fol_core.specs.Literals.{ClauseTree};
+ghost use Rattle.fol_core.specs.Literals.{ClauseTree, equality};
 ghost use Rattle.fol_core.specs.Renumbered.{renumbered};
-ghost use Rattle.ladr_print.specs.ClauseText.{clause_bytes};
+ghost use Rattle.ladr_print.specs.ClauseText.{clause_bytes, clause_raw};
+ghost use Rattle.ladr_print.specs.HasText.{HasText, HasNames, IsClauseOver};
 ghost use Rattle.ladr_print.specs.StatesAs.{KeepsFixed, StatesAs};
 ghost use Rattle.ladr_print.specs.StatesClause.{StatesClause, FreesVariables};
 ghost use Rattle.ladr_print.specs.TermText.{name_in, clause_variable, term_raw};
@@ -31,6 +32,23 @@ pub fn printed_reads_back()
     ensures item { (rows : List OperatorRow) (text : List ℕ) (t : RawTree) (p : ℕ)
         → IsTrue (are_lawful rows) → ReadsAs (table_of rows) text t p →
         ItemAs (table_of rows) (text_of (table_of rows) t ++ codes ".") t }
+{}
+
+/// A term as read has a text exactly where each of its names may stand so, and then the printed one is such a text.
+pub fn terms_have_texts()
+    ensures printed { (rows : List OperatorRow) (t : RawTree) → IsTrue (are_lawful rows)
+        → HasText (table_of rows) t →
+        ReadsAs (table_of rows) (text_of (table_of rows) t) t (precedence (table_of rows) t) }
+    ensures read { (rows : List OperatorRow) (text : List ℕ) (t : RawTree) (p : ℕ)
+        → ReadsAs (table_of rows) text t p → HasText (table_of rows) t }
+{}
+
+/// Each clause over a table whose symbols can have their names has a text, whatever text made them known.
+pub fn clauses_have_texts()
+    ensures { (rows : List OperatorRow) (prolog : Bool) (table : List Symbol) (c : ClauseTree)
+        → KeepsFixed rows → FreesVariables prolog rows → length table ≤ equality
+        → HasNames (table_of rows) table → IsClauseOver table c
+        → HasText (table_of rows) (clause_raw table (clause_variable prolog) c) }
 {}
 
 /// Terms with their texts, with the operators at the start.

@@ -12,8 +12,8 @@ mod terms;
 pub use clauses::clause_text;
 pub use formulas::formula_text;
 pub use laws::{
-    printed_clause_states_again, printed_reads_again, printed_reads_back, printed_states_again,
-    worked, worked_declared, worked_formulas,
+    clauses_have_texts, printed_clause_states_again, printed_reads_again, printed_reads_back,
+    printed_states_again, terms_have_texts, worked, worked_declared, worked_formulas,
 };
 pub use raw::raw_text;
 pub use terms::term_text;

@@ -1,43 +1,16 @@
 // Which texts would run together, and how a space keeps them apart.
 ghost use Rattle.std.specs.Prelude.{◌≡◌, ◌++◌, ◌||◌, OnOk};
-ghost use Rattle.ladr_lex.specs.Bytes.{is_ordinary, is_special, is_quote};
+ghost use Rattle.ladr_lex.specs.Bytes.{is_ordinary, is_special};
 ghost use Rattle.ladr_print.specs.Spacing.{is_wordly, joins, runs_into, beside};
 
+use ladr_lex::{is_ordinary, is_special};
 use std::alloc::AllocError;
 
-// Whether a byte is special; `'`, which is a token by itself, isn't meant.
-#[tactic(auto, unfolding(ladr_lex::specs::Bytes::is_special))]
-fn is_special(byte: u8) -> bool
-    ensures { result ≡ is_special byte }
-{
-    matches!(
-        byte,
-        b'+' | b'-'
-            | b'*'
-            | b'/'
-            | b'\\'
-            | b'^'
-            | b'<'
-            | b'>'
-            | b'='
-            | b'~'
-            | b'?'
-            | b'@'
-            | b'&'
-            | b'|'
-            | b'!'
-            | b'#'
-            | b';'
-            | b'`'
-    )
-}
-
 // Whether a byte is one of an ordinary symbol, or a quote.
-#[tactic(auto, unfolding(ladr_lex::specs::Bytes::is_ordinary))]
 fn is_wordly(byte: u8) -> bool
     ensures { result ≡ is_wordly byte }
 {
-    byte.is_ascii_alphanumeric() || byte == b'_' || byte == b'$' || byte == b'"'
+    is_ordinary(byte) || byte == b'"'
 }
 
 // Whether two bytes that meet run together.
