@@ -16,7 +16,8 @@ use Rattle.ladr_models.proofs.Entries.{table_text, IsPlain, ArePlain}
 use Rattle.ladr_problem.specs.Names.{is_name}
 use Rattle.ladr_print.specs.Spacing.{runs_into}
 use Rattle.ladr_print.proofs.Longest.{longest_front}
-use Rattle.ladr_print.proofs.Writes.{Has, has_none, Alone, before_alone, behind_alone, open_alone, close_alone, comma_alone, stop_alone, space_alone, open_written, close_written, comma_written, stop_written, symbol_written, kind_of}
+use Rattle.ladr_print.proofs.Writes.{Has, has_none, Alone, before_alone, behind_alone, open_alone, close_alone, comma_alone, stop_alone, space_alone, open_written, close_written, comma_written, stop_written, symbol_written}
+use Rattle.ladr_print.specs.HasText.{kind_of}
 use Rattle.model_tables.specs.ModelText.{numbers_behind, numbers_text, further_places, places_text, word_of, entry_text, lines_behind, entry_lines}
 use Rattle.model_tables.specs.Size.{AllBelow}
 
