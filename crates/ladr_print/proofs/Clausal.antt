@@ -45,9 +45,10 @@ use Rattle.ladr_print.proofs.Naming.{Reaches, formula_back, term_back}
 use Rattle.ladr_print.proofs.Rereading.{turned}
 use Rattle.fol_core.specs.SymbolTable.{KeepsNumbers}
 use Rattle.ladr_lex.proofs.Numerals.{own}
-use Rattle.ladr_print.proofs.Printing.{Named, plain, Printable, PrintableAll, printed_reads, text_printable}
+use Rattle.ladr_print.specs.HasText.{plain, CanName, HasText, HaveTexts}
+use Rattle.ladr_print.proofs.Printing.{printed_reads, text_has}
 use Rattle.ladr_print.proofs.Renaming.{or_parts, formula_ren, term_ren, term_noted}
-use Rattle.ladr_print.proofs.Stating.{turned_printable, sound_parts, names_found, brings, named_between, denial_printable}
+use Rattle.ladr_print.proofs.Stating.{turned_has, sound_parts, names_found, brings, named_between, denial_has}
 use Rattle.ladr_print.proofs.Upto.{upto, not_in, own_place}
 
 -- each variable of a clause is listed once
@@ -100,11 +101,11 @@ module _ (rows : List OperatorRow) (k : KeepsFixed rows) (prolog : Bool) (frees 
   abbrev g : OperatorTable
   g = table_of rows
 
-  variable_named : (n : ℕ) → n < 2 ^ 64 → Named g (clause_variable prolog n) 0
+  pub variable_named : (n : ℕ) → n < 2 ^ 64 → CanName g (clause_variable prolog n) 0
   unfolding is_ordinary
   variable_named n h = by prolog n h (frees n h)
     where
-      by : (q : Bool) (n : ℕ) → n < 2 ^ 64 → if_prefix (operator_of rows (clause_variable q n)) ≡ None → Named g (clause_variable q n) 0
+      by : (q : Bool) (n : ℕ) → n < 2 ^ 64 → if_prefix (operator_of rows (clause_variable q n)) ≡ None → CanName g (clause_variable q n) 0
       by true zero h f = record { sort = ordinary; written = refl; allowed = plain refl f }
       by false zero h f = record { sort = ordinary; written = refl; allowed = plain refl f }
       by true (suc zero) h f = record { sort = ordinary; written = refl; allowed = plain refl f }
@@ -130,53 +131,53 @@ module _ (rows : List OperatorRow) (k : KeepsFixed rows) (prolog : Bool) (frees 
     count_same (more t ts) = ap suc (count_same ts)
 
     mutual
-      term_printable : (t : Tree) → ((x : ℕ) → is_in x (variables_of t) ≡ true → x < 2 ^ 64) → Printable g (term_raw T v t) → Printable g (term_raw T canon t)
-      term_printable (var x) few p = (variable_named x (few x (at_first x)), tt)
+      term_has : (t : Tree) → ((x : ℕ) → is_in x (variables_of t) ≡ true → x < 2 ^ 64) → HasText g (term_raw T v t) → HasText g (term_raw T canon t)
+      term_has (var x) few p = (variable_named x (few x (at_first x)), tt)
         where
           at_first : (x : ℕ) → is_in x (x ∷ []) ≡ true
           at_first x = grind (arith, nat_tests)
-      term_printable (elem j) few p = p
-      term_printable (app s ts) few p = (subst (Named g (symbol_name T s)) (count_same ts) p.0, terms_printable ts few p.1)
+      term_has (elem j) few p = p
+      term_has (app s ts) few p = (subst (CanName g (symbol_name T s)) (count_same ts) p.0, terms_has ts few p.1)
 
-      terms_printable : (ts : Trees) → ((x : ℕ) → is_in x (variables_of_all ts) ≡ true → x < 2 ^ 64) → PrintableAll g (terms_raw T v ts) → PrintableAll g (terms_raw T canon ts)
-      terms_printable none few p = tt
-      terms_printable (more t ts) few p = (
-        term_printable t (λ x e. few x (is_in_joined x (variables_of t) (variables_of_all ts) ∙ or_left _ _ e)) p.0,
-        terms_printable ts (λ x e. few x (is_in_joined x (variables_of t) (variables_of_all ts) ∙ or_right _ _ e)) p.1,
+      terms_has : (ts : Trees) → ((x : ℕ) → is_in x (variables_of_all ts) ≡ true → x < 2 ^ 64) → HaveTexts g (terms_raw T v ts) → HaveTexts g (terms_raw T canon ts)
+      terms_has none few p = tt
+      terms_has (more t ts) few p = (
+        term_has t (λ x e. few x (is_in_joined x (variables_of t) (variables_of_all ts) ∙ or_left _ _ e)) p.0,
+        terms_has ts (λ x e. few x (is_in_joined x (variables_of t) (variables_of_all ts) ∙ or_right _ _ e)) p.1,
       )
 
-    equals_named : Named g (codes "=") 2
+    pub equals_named : CanName g (codes "=") 2
     unfolding is_special is_ordinary
     equals_named = named_between rows k (codes "=") (record { precedence = 700; kind = Infix }) refl refl refl refl
 
-    undenied : (t : RawTree) → Printable g (denial t) → Printable g t
+    undenied : (t : RawTree) → HasText g (denial t) → HasText g t
     undenied (quantified q x t) p = p.1.0
     undenied (named n no_raws) p = p.1.0
     undenied (named n (more_raws t no_raws)) p = p.1.0
     undenied (named n (more_raws t (more_raws u no_raws))) p = by (bytes_eq n (codes "=")) refl p
       where
-        by : (b : Bool) → bytes_eq n (codes "=") ≡ b → Printable g (denial (two n t u)) → Printable g (two n t u)
+        by : (b : Bool) → bytes_eq n (codes "=") ≡ b → HasText g (denial (two n t u)) → HasText g (two n t u)
         by true e q =
-            let r : Printable g (two (codes "!=") t u) = rw e at q in
-            subst (λ (m : List ℕ). Printable g (two m t u)) (sym ((bytes_eq-Decides n (codes "=")).0 e)) (equals_named, r.1)
-        by false e q = let r : Printable g (named (codes "-") (more_raws (two n t u) no_raws)) = rw e at q in r.1.0
+            let r : HasText g (two (codes "!=") t u) = rw e at q in
+            subst (λ (m : List ℕ). HasText g (two m t u)) (sym ((bytes_eq-Decides n (codes "=")).0 e)) (equals_named, r.1)
+        by false e q = let r : HasText g (named (codes "-") (more_raws (two n t u) no_raws)) = rw e at q in r.1.0
     undenied (named n (more_raws t (more_raws u (more_raws w ts)))) p = p.1.0
 
-    literal_printable : (l : Lit) → ((x : ℕ) → is_in x (variables_of l.atom) ≡ true → x < 2 ^ 64) → Printable g (literal_raw T v l) → Printable g (literal_raw T canon l)
-    literal_printable l few p = by l.positive refl p
+    literal_has : (l : Lit) → ((x : ℕ) → is_in x (variables_of l.atom) ≡ true → x < 2 ^ 64) → HasText g (literal_raw T v l) → HasText g (literal_raw T canon l)
+    literal_has l few p = by l.positive refl p
       where
-        by : (b : Bool) → l.positive ≡ b → Printable g (literal_raw T v l) → Printable g (literal_raw T canon l)
-        by true e q = rw e (term_printable l.atom few (rw e at q))
-        by false e q = rw e (denial_printable rows (brings rows k) (term_raw T canon l.atom) (term_printable l.atom few (undenied (term_raw T v l.atom) (rw e at q))))
+        by : (b : Bool) → l.positive ≡ b → HasText g (literal_raw T v l) → HasText g (literal_raw T canon l)
+        by true e q = rw e (term_has l.atom few (rw e at q))
+        by false e q = rw e (denial_has rows (brings rows k) (term_raw T canon l.atom) (term_has l.atom few (undenied (term_raw T v l.atom) (rw e at q))))
 
-    pub clause_printable : (c : ClauseTree) → ((x : ℕ) → is_in x (clause_variables c) ≡ true → x < 2 ^ 64) → Printable g (clause_raw T v c) → Printable g (clause_raw T canon c)
-    clause_printable [] few p = p
-    clause_printable (l ∷ []) few p = literal_printable l (λ x e. few x (is_in_joined x (variables_of l.atom) [] ∙ or_left _ _ e)) p
-    clause_printable (l ∷ m ∷ ls) few p = (
+    pub clause_has : (c : ClauseTree) → ((x : ℕ) → is_in x (clause_variables c) ≡ true → x < 2 ^ 64) → HasText g (clause_raw T v c) → HasText g (clause_raw T canon c)
+    clause_has [] few p = p
+    clause_has (l ∷ []) few p = literal_has l (λ x e. few x (is_in_joined x (variables_of l.atom) [] ∙ or_left _ _ e)) p
+    clause_has (l ∷ m ∷ ls) few p = (
       p.0,
       (
-        literal_printable l (λ x e. few x (is_in_joined x (variables_of l.atom) (clause_variables (m ∷ ls)) ∙ or_left _ _ e)) p.1.0,
-        (clause_printable (m ∷ ls) (λ x e. few x (is_in_joined x (variables_of l.atom) (clause_variables (m ∷ ls)) ∙ or_right _ _ e)) p.1.1.0, tt),
+        literal_has l (λ x e. few x (is_in_joined x (variables_of l.atom) (clause_variables (m ∷ ls)) ∙ or_left _ _ e)) p.1.0,
+        (clause_has (m ∷ ls) (λ x e. few x (is_in_joined x (variables_of l.atom) (clause_variables (m ∷ ls)) ∙ or_right _ _ e)) p.1.1.0, tt),
       ),
     )
 
@@ -284,7 +285,7 @@ module _ (rows : List OperatorRow) (st : Style) (table T : List Symbol) (other :
   empty_again f e =
       let g = table_of rows in
       let is : x ≡ named (codes "$F") no_raws = falsum_is st T canonical among.few x (unread table) f in
-      let may : Printable g (named (codes "$F") no_raws) = subst (Printable g) is (text_printable rows given) in
+      let may : HasText g (named (codes "$F") no_raws) = subst (HasText g) is (text_has rows given) in
       let text : clause_bytes g T canonical (renumbered c) ≡ text_of g (named (codes "$F") no_raws) = ap (λ (d : ClauseTree). clause_bytes g T canonical (renumbered d)) e ∙ clause_is rows k T canonical [] in
       record {
         tree = named (codes "$F") no_raws;
@@ -305,11 +306,11 @@ module _ (rows : List OperatorRow) (st : Style) (table T : List Symbol) (other :
       let listed : clause_variables c ≡ upto n = sym (clause_once c) ∙ both.1 in
       let same : renumbered c ≡ c = numbered_already c n listed in
       let printed : formula_raw T v M.tree ≡ turned x = formula_back T v among.few st x [] (unread table) (λ name i e. absurd (cc)) reaches in
-      let first : Printable g (clause_raw T v c) =
-      subst (Printable g) (sym (literals_raw st T v among.few M.tree c h ∙ printed)) (turned_printable rows (brings rows k) x (text_printable rows given))
+      let first : HasText g (clause_raw T v c) =
+      subst (HasText g) (sym (literals_raw st T v among.few M.tree c h ∙ printed)) (turned_has rows (brings rows k) x (text_has rows given))
       in
-      let may : Printable g (clause_raw T canonical c) =
-      clause_printable rows k st.prolog frees T v c (λ y e. omega (arith, size, below n y (ap (is_in y) (sym listed) ∙ e))) first
+      let may : HasText g (clause_raw T canonical c) =
+      clause_has rows k st.prolog frees T v c (λ y e. omega (arith, size, below n y (ap (is_in y) (sym listed) ∙ e))) first
       in
       let text : clause_bytes g T canonical (renumbered c) ≡ text_of g (clause_raw T canonical c) = ap (clause_bytes g T canonical) same ∙ clause_is rows k T canonical c in
       record {
@@ -411,10 +412,10 @@ term_both rows st table other t after n T l k frees s kept few size =
     let listed : variables_of t ≡ upto (length m.reading.variables) =
     sym (once t) ∙ ap (λ (u : Tree). joined [] (variables_of u)) (sym s.term) ∙ term_noted st T v few s.tree (unread table) (reaches, small)
     in
-    let first : Printable g (term_raw T v t) =
-    subst (Printable g) (sym (ap (term_raw T v) (sym s.term) ∙ term_back T v few st [] (unread table) s.tree (λ name i e. absurd (cc)) reaches)) (text_printable rows s.reads)
+    let first : HasText g (term_raw T v t) =
+    subst (HasText g) (sym (ap (term_raw T v) (sym s.term) ∙ term_back T v few st [] (unread table) s.tree (λ name i e. absurd (cc)) reaches)) (text_has rows s.reads)
     in
-    let may : Printable g raw = term_printable rows k st.prolog frees T v t (λ y e. omega (arith, small, below (length m.reading.variables) y (ap (is_in y) (sym listed) ∙ e))) first in
+    let may : HasText g raw = term_has rows k st.prolog frees T v t (λ y e. omega (arith, small, below (length m.reading.variables) y (ap (is_in y) (sym listed) ∙ e))) first in
     let read : Made Tree = record { tree = m.tree; reading = record m.reading { variables = first_variables st.prolog (length m.reading.variables) } } in
     let count : length (first_variables st.prolog (length m.reading.variables)) ≡ n = first_length st.prolog (length m.reading.variables) ∙ s.reading.count in
     let larger : term_of st [] (unread T) raw ≡ behind T read =

@@ -21,7 +21,7 @@ use Rattle.ladr_reader.specs.Table.{OperatorTable, table_of, left, right, takes,
 use Rattle.ladr_reader.specs.Worked.{lexemes_in}
 use Rattle.ladr_reader.specs.declared.sides.Side.TheVariants.{Nothing, UpTo}
 use Rattle.ladr_reader.proofs.Lawful.{Lawful, table_lawful, prefix_is, after_is, prefix_room, up_to_room, reads_at_most}
-use Rattle.ladr_print.specs.HasText.{kind_of, CanStand, plain, before, behind, between, CanName, CanBind, HasText, HaveTexts}
+use Rattle.ladr_print.specs.HasText.{kind_of, CanStand, plain, before, behind, between, HasText, HaveTexts}
 use Rattle.ladr_print.specs.Precedences.{is_infix, count, own_precedence, precedence}
 use Rattle.ladr_print.specs.RawText.{Printed, wrapped, left_argument, right_argument, body, word, commas, application, with_one, with_two, arranged, text_of, printed, printed_all}
 use Rattle.ladr_print.specs.RawText as text

@@ -29,21 +29,22 @@ use Rattle.ladr_print.specs.StatesAs.{KeepsFixed, StatesAs}
 use Rattle.ladr_print.specs.TermText.{name_in}
 use Rattle.ladr_formulas.proofs.Behind.{read_behind}
 use Rattle.ladr_print.proofs.Naming.{Reaches, formula_back}
-use Rattle.ladr_print.proofs.Printing.{Named, before, between, Printable, printed_reads, text_printable}
+use Rattle.ladr_print.specs.HasText.{before, between, CanName, HasText}
+use Rattle.ladr_print.proofs.Printing.{printed_reads, text_has}
 use Rattle.ladr_print.proofs.Rereading.{turned, by_one, by_two, reread}
 
 -- the fixed symbols may be printed where the printer brings them
 pub named_between : (rows : List OperatorRow) → KeepsFixed rows → (s : List ℕ) (o : Operator) → is_fixed s ≡ true → operator_of standard_rows s ≡ Some o →
-    is_infix o.kind ≡ true → can_be (Some Special) s ≡ true → Named (table_of rows) s 2
+    is_infix o.kind ≡ true → can_be (Some Special) s ≡ true → CanName (table_of rows) s 2
 named_between rows k s o f e two w = record { sort = special; written = w; allowed = between o (k s f ∙ e) two refl }
 
 pub record Brings (rows : List OperatorRow) : Type 0 where
-  pub conjunction : Named (table_of rows) (codes "&") 2
-  pub disjunction : Named (table_of rows) (codes "|") 2
-  pub implication : Named (table_of rows) (codes "->") 2
-  pub equivalence : Named (table_of rows) (codes "<->") 2
-  pub difference : Named (table_of rows) (codes "!=") 2
-  pub minus : Named (table_of rows) (codes "-") 1
+  pub conjunction : CanName (table_of rows) (codes "&") 2
+  pub disjunction : CanName (table_of rows) (codes "|") 2
+  pub implication : CanName (table_of rows) (codes "->") 2
+  pub equivalence : CanName (table_of rows) (codes "<->") 2
+  pub difference : CanName (table_of rows) (codes "!=") 2
+  pub minus : CanName (table_of rows) (codes "-") 1
 
 pub brings : (rows : List OperatorRow) → KeepsFixed rows → Brings rows
 unfolding is_special is_ordinary
@@ -59,45 +60,45 @@ brings rows k =
 
 module _ (rows : List OperatorRow) (b : Brings rows) where
   abbrev P : RawTree → Type 0
-  P t = Printable (table_of rows) t
+  P t = HasText (table_of rows) t
 
-  pub two_printable : (s : List ℕ) (t u : RawTree) → Named (table_of rows) s 2 → P t → P u → P (two s t u)
-  two_printable s t u n p q = (n, (p, (q, tt)))
+  pub two_has : (s : List ℕ) (t u : RawTree) → CanName (table_of rows) s 2 → P t → P u → P (two s t u)
+  two_has s t u n p q = (n, (p, (q, tt)))
 
-  pub denial_printable : (t : RawTree) → P t → P (denial t)
-  denial_printable (quantified q x t) p = (b.minus, (p, tt))
-  denial_printable (named n no_raws) p = (b.minus, (p, tt))
-  denial_printable (named n (more_raws t no_raws)) p = (b.minus, (p, tt))
-  denial_printable (named n (more_raws t (more_raws u no_raws))) p =
+  pub denial_has : (t : RawTree) → P t → P (denial t)
+  denial_has (quantified q x t) p = (b.minus, (p, tt))
+  denial_has (named n no_raws) p = (b.minus, (p, tt))
+  denial_has (named n (more_raws t no_raws)) p = (b.minus, (p, tt))
+  denial_has (named n (more_raws t (more_raws u no_raws))) p =
       elim (cases_Bool (bytes_eq n (codes "="))) [
-        | inl y ↦ rw y (two_printable (codes "!=") t u b.difference p.1.0 p.1.1.0)
+        | inl y ↦ rw y (two_has (codes "!=") t u b.difference p.1.0 p.1.1.0)
         | inr k ↦ rw k (b.minus, (p, tt))
       ]
-  denial_printable (named n (more_raws t (more_raws u (more_raws w ts)))) p = (b.minus, (p, tt))
+  denial_has (named n (more_raws t (more_raws u (more_raws w ts)))) p = (b.minus, (p, tt))
 
-  by_two_printable : (o : Option Connective) (t u other : RawTree) → P t → P u → P other → P (by_two o t u other)
-  by_two_printable None t u other p q r = r
-  by_two_printable (Some And) t u other p q r = two_printable (codes "&") t u b.conjunction p q
-  by_two_printable (Some Or) t u other p q r = two_printable (codes "|") t u b.disjunction p q
-  by_two_printable (Some IfThen) t u other p q r = two_printable (codes "->") t u b.implication p q
-  by_two_printable (Some ThenIf) t u other p q r = two_printable (codes "->") u t b.implication q p
-  by_two_printable (Some IfAndOnlyIf) t u other p q r = two_printable (codes "<->") t u b.equivalence p q
+  by_two_has : (o : Option Connective) (t u other : RawTree) → P t → P u → P other → P (by_two o t u other)
+  by_two_has None t u other p q r = r
+  by_two_has (Some And) t u other p q r = two_has (codes "&") t u b.conjunction p q
+  by_two_has (Some Or) t u other p q r = two_has (codes "|") t u b.disjunction p q
+  by_two_has (Some IfThen) t u other p q r = two_has (codes "->") t u b.implication p q
+  by_two_has (Some ThenIf) t u other p q r = two_has (codes "->") u t b.implication q p
+  by_two_has (Some IfAndOnlyIf) t u other p q r = two_has (codes "<->") t u b.equivalence p q
 
-  by_one_printable : (c : Bool) (s : List ℕ) (t u : RawTree) → P (named s (more_raws t no_raws)) → P u → P (by_one c s t u)
-  by_one_printable true s t u p q = denial_printable u q
-  by_one_printable false s t u p q = p
+  by_one_has : (c : Bool) (s : List ℕ) (t u : RawTree) → P (named s (more_raws t no_raws)) → P u → P (by_one c s t u)
+  by_one_has true s t u p q = denial_has u q
+  by_one_has false s t u p q = p
 
-  pub turned_printable : (t : RawTree) → P t → P (turned t)
-  turned_printable (quantified q x t) p = (p.0, turned_printable t p.1)
-  turned_printable (named n no_raws) p = p
-  turned_printable (named n (more_raws t no_raws)) p = by_one_printable (is_denial n) n t (turned t) p (turned_printable t p.1.0)
-  turned_printable (named n (more_raws t (more_raws u no_raws))) p =
-      by_two_printable (connective_of n) (turned t) (turned u) (two n t u) (turned_printable t p.1.0) (turned_printable u p.1.1.0) p
-  turned_printable (named n (more_raws t (more_raws u (more_raws w ts)))) p = p
+  pub turned_has : (t : RawTree) → P t → P (turned t)
+  turned_has (quantified q x t) p = (p.0, turned_has t p.1)
+  turned_has (named n no_raws) p = p
+  turned_has (named n (more_raws t no_raws)) p = by_one_has (is_denial n) n t (turned t) p (turned_has t p.1.0)
+  turned_has (named n (more_raws t (more_raws u no_raws))) p =
+      by_two_has (connective_of n) (turned t) (turned u) (two n t u) (turned_has t p.1.0) (turned_has u p.1.1.0) p
+  turned_has (named n (more_raws t (more_raws u (more_raws w ts)))) p = p
 
-  attributed_printable : (label : Option RawTree) (t u : RawTree) → (P t → P u) → P (attributed label t) → P (attributed label u)
-  attributed_printable None t u f p = f p
-  attributed_printable (Some l) t u f p = (p.0, (f p.1.0, p.1.1))
+  attributed_has : (label : Option RawTree) (t u : RawTree) → (P t → P u) → P (attributed label t) → P (attributed label u)
+  attributed_has None t u f p = f p
+  attributed_has (Some l) t u f p = (p.0, (f p.1.0, p.1.1))
 
 -- a reading without faults
 no_row : (o : Option Misuse) → is_none o ≡ true → o ≡ None
@@ -135,8 +136,8 @@ formula_again rows st first other label m T l k s among =
     ap (λ (r : Made Fol). formula_raw T v r.tree) (sym s.made) ∙ formula_back T v among.few st s.tree [] (unread first) (λ name n e. absurd (cc)) reaches
     in
     let again : formula_reading st first (turned s.tree) ≡ m = reread st s.tree [] (unread first) ∙ s.made in
-    let may : Printable g (attributed label (turned s.tree)) =
-    attributed_printable rows (brings rows k) label s.tree (turned s.tree) (turned_printable rows (brings rows k) s.tree) (text_printable rows s.reads)
+    let may : HasText g (attributed label (turned s.tree)) =
+    attributed_has rows (brings rows k) label s.tree (turned s.tree) (turned_has rows (brings rows k) s.tree) (text_has rows s.reads)
     in
     let larger : formula_reading st T (turned s.tree) ≡ behind T m =
     read_behind T st first (turned s.tree) (subst (λ (r : Made Fol). KeepsNumbers r.reading.symbols T) (sym again) among.kept) ∙ ap (behind T) again

@@ -1,6 +1,6 @@
 -- Which terms as read, and which clauses, have a text.
-use Rattle.std.specs.Prelude.{◌≡◌, ℕ, ◌<◌, ◌≤◌, ◌^◌, true, List, [], ◌∷◌, length, None, Some, ◌⊎◌}
-use Rattle.fol_core.specs.Literals.{Lit, ClauseTree, equality}
+use Rattle.std.specs.Prelude.{◌≡◌, ◌⊎◌, ℕ, suc, ◌<◌, ◌^◌, true, false, List, [], ◌∷◌, length, None, Some}
+use Rattle.fol_core.specs.Literals.{ClauseTree, equality}
 use Rattle.fol_core.specs.RawTree.{RawTree, named, quantified, RawTrees, no_raws, more_raws}
 use Rattle.fol_core.specs.SymbolTable.{Symbol, name_at, arity_at}
 use Rattle.fol_core.specs.Tree.{Tree, var, elem, app, Trees, none, more}
