@@ -33,5 +33,5 @@ abbrev pub constant : Stated
 constant =
     stated (symbol (codes "p") 2 Relation ∷ symbol (codes "f") 1 Function ∷ []) (said Assumption (forall 0 (atom 0 (more (var 0) (more (g (var 1)) none)))) ∷ said Goal (exists 0 (equal (g (var 0)) (var 1))) ∷ [])
 
-abbrev pub zeros : ByName
-zeros = by_name 2 (table Function (codes "f") 1 (0 ∷ 0 ∷ []) ∷ table Relation (codes "p") 2 (1 ∷ 0 ∷ 1 ∷ 0 ∷ []) ∷ [])
+abbrev pub constant_tables : ByName
+constant_tables = by_name 2 (table Function (codes "f") 1 (0 ∷ 0 ∷ []) ∷ table Relation (codes "p") 2 (1 ∷ 0 ∷ 1 ∷ 0 ∷ []) ∷ [])

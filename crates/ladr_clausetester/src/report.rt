@@ -4,7 +4,7 @@ ghost use Rattle.std.specs.Fmt.{decimal};
 ghost use Rattle.ladr_clausetester.specs.Report.{verdict_line, verdict_lines, report};
 ghost use Rattle.ladr_output.specs.Telling.{as_line};
 
-use ladr_output::{number, text};
+use ladr_output::{decimal, text};
 use std::alloc::{AllocError, Global};
 
 // Puts the line of a formula behind the text.
@@ -12,7 +12,7 @@ fn formula(out: &mut Vec<u8>, k: u64, holds: bool) -> Result<(), AllocError>
     ensures { OnOk result (out.new.items ≡ out.old.items ++ verdict_line k holds) }
 {
     text(out, b"formula ")?;
-    number(out, k)?;
+    decimal(out, k)?;
     if holds {
         text(out, b" true\n")
     } else {
@@ -27,9 +27,9 @@ fn ending(out: &mut Vec<u8>, holding: u64, failing: u64) -> Result<(), AllocErro
         ++ codes ".") ++ as_line (codes "% Exit tested.")) }
 {
     text(out, b"% True=")?;
-    number(out, holding)?;
+    decimal(out, holding)?;
     text(out, b". False=")?;
-    number(out, failing)?;
+    decimal(out, failing)?;
     text(out, b".\n% Exit tested.\n")
 }
 

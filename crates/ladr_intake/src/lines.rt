@@ -3,7 +3,7 @@ ghost use Rattle.std.specs.Prelude.{◌≡◌, IfOk};
 ghost use Rattle.ladr_intake.specs.Refusals.{limit_text, unreadable_line, misuse_line, too_large_line, read_fault_line, refusal_text};
 
 use crate::stops::Refused;
-use ladr_output::{number, text};
+use ladr_output::{decimal, text};
 use ladr_problem::{Limit, Place};
 use std::alloc::{AllocError, Global};
 
@@ -14,11 +14,11 @@ fn unreadable(alloc: Global, place: &Place) -> Result<Vec<u8>, AllocError>
 {
     let mut out = Vec::new(alloc);
     text(&mut out, b"ladr: unreadable at byte ")?;
-    number(&mut out, place.byte)?;
+    decimal(&mut out, place.byte)?;
     text(&mut out, b", line ")?;
-    number(&mut out, place.line)?;
+    decimal(&mut out, place.line)?;
     text(&mut out, b", column ")?;
-    number(&mut out, place.column)?;
+    decimal(&mut out, place.column)?;
     text(&mut out, b": ")?;
     text(&mut out, place.token.bytes())?;
     text(&mut out, b"\n")?;
@@ -32,13 +32,13 @@ fn misuse(alloc: Global, row: u8, place: &Place) -> Result<Vec<u8>, AllocError>
 {
     let mut out = Vec::new(alloc);
     text(&mut out, b"ladr: misuse ")?;
-    number(&mut out, u64::from(row))?;
+    decimal(&mut out, u64::from(row))?;
     text(&mut out, b" at byte ")?;
-    number(&mut out, place.byte)?;
+    decimal(&mut out, place.byte)?;
     text(&mut out, b", line ")?;
-    number(&mut out, place.line)?;
+    decimal(&mut out, place.line)?;
     text(&mut out, b", column ")?;
-    number(&mut out, place.column)?;
+    decimal(&mut out, place.column)?;
     text(&mut out, b"\n")?;
     Ok(out)
 }
@@ -60,7 +60,7 @@ fn too_large(alloc: Global, byte: u64, what: &[u8]) -> Result<Vec<u8>, AllocErro
 {
     let mut out = Vec::new(alloc);
     text(&mut out, b"ladr: too large at byte ")?;
-    number(&mut out, byte)?;
+    decimal(&mut out, byte)?;
     text(&mut out, b": ")?;
     text(&mut out, what)?;
     text(&mut out, b"\n")?;

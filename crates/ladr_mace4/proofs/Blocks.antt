@@ -10,7 +10,7 @@ use Rattle.fol_core.specs.SkolemAxioms.{SkolemAxiom}
 use Rattle.fol_core.specs.Stated.{Stated, IsWellFormed, AreNewTo}
 use Rattle.fol_core.specs.SymbolTable.{Symbol, KeepsNumbers}
 use Rattle.ladr_io.specs.Times.{Times}
-use Rattle.ladr_mace4.proofs.Printable.{model_printable}
+use Rattle.ladr_mace4.proofs.Printable.{model_printable, without_same}
 use Rattle.ladr_mace4.proofs.SearchBlocks.{SearchBlock, begins, skips, shows, exhausts, block_text, blocks_text, IsShownAmong, AreGood}
 use Rattle.ladr_mace4.specs.Plans.{size_behind}
 use Rattle.ladr_mace4.specs.Rooms.{refused_cells, HasRoomForModels}
@@ -26,12 +26,13 @@ use Rattle.ladr_problem.specs.Names.{are_named}
 use Rattle.ladr_problem.specs.Proper.{IsProper}
 use Rattle.mace_search.proofs.Completing.{by_number}
 use Rattle.mace_search.specs.Models.{IsModel, AreFirst, behind}
-use Rattle.model_tables.proofs.Expanding.{same_top, kept_countermodel}
+use Rattle.model_tables.proofs.Expanding.{kept_countermodel}
 use Rattle.model_tables.proofs.Kept.{expansion_isomorphic}
 use Rattle.model_tables.specs.Expansion.{skolem_cells, IsExpansion}
 use Rattle.model_tables.specs.ModelText.{model_text}
 use Rattle.model_tables.specs.Isomorphism.{IsIsomorphism}
 use Rattle.model_tables.specs.Order.{table_number}
+use Rattle.model_tables.specs.Size.{IsInterpretation}
 use Rattle.model_tables.specs.Tables.{Finite}
 
 some_cells : (n k : ℕ) → 1 ≤ n → 1 ≤ n ^ k
@@ -175,10 +176,11 @@ module _ (laws : Laws) (p : Stated) (o : Options) (proper : IsProper p o) where
 
   shown : (n k : ℕ) (u t : Finite) → n ≤ 200 → k < 2 ^ 64 → all_cells n p < refused_cells → IsModel p n u → IsExpansion u (all_axioms p) t → IsShown p n k t
   shown n k u t most number room is x =
-      let ws = all_axioms p in (
-        omega (arith, is.0.0, same_top ws u t x),
+      let ws = all_axioms p in
+      let behind = laws.behind p few (few_skolems n u room is) in (
+        subst (IsInterpretation n p) (sym (without_same n p u t behind is.0 x)) is.0,
         subst (λ (T : Type 0). T) (sym (kept_countermodel ws u t x p.formulas (apart n u room is))) is.1,
-        laws.back n k (all_symbols p) t (model_printable n k p u t (laws.behind p few (few_skolems n u room is)) proper.tellable most number is.0 x),
+        laws.back n k (all_symbols p) t (model_printable n k p u t behind proper.tellable most number is.0 x),
       )
 
   -- no name of a symbol breaks a line

@@ -6,7 +6,7 @@ use Rattle.ladr_io.proofs.StreamLaws.{Takes-none, Takes-append}
 use Rattle.ladr_io.specs.Streams.{Outflow, Takes}
 use Rattle.ladr_io.specs.Times.{Times}
 use Rattle.ladr_mace4.specs.Lines.{size_line, exhausted_line}
-use Rattle.ladr_mace4.specs.Printed.{IsModelText, IsPrinted}
+use Rattle.ladr_mace4.specs.ItemTexts.{IsModelText, IsPrinted}
 use Rattle.ladr_mace4.specs.Rooms.{HasRoomForCells, HasRoomForModels, IsBegun}
 use Rattle.ladr_mace4.specs.Skolems.{all_symbols, all_axioms, all_cells, AreExpansions, AreFirstExpanded, AreAllExpanded}
 use Rattle.ladr_mace4.specs.Story.{inside, searched, models_text, AreTriedFurther, SizeGoes, SizeEnds}
@@ -188,11 +188,14 @@ module _ (p : Stated) (s : Plan) (t : Times) (n k r : ℕ) where
 
   -- the time is over
   pub at_late : (ts : List Finite) (search : Search) (tried printed first last : ℕ) (a b : Outflow) → IsBegun p s n → HasRoomForCells s (all_cells n p) → printed < s.wanted → SoFar p n k ts search printed a b
-      → NoneBetween search.problem search.size search.ahead tried → search.ahead ≤ tried → IsLate (time_to_stop s.seconds t) t last → first ≡ t.first → HasRead s.seconds (r + suc (suc tried)) t
+      → NoneBetween search.problem search.size search.ahead tried → search.ahead ≤ tried → tried < tables_in search.size search.problem → IsLate (time_to_stop s.seconds t) t last → first ≡ t.first → HasRead s.seconds (r + suc (suc tried)) t
       → Tells (λ u. SizeGoes p s t n k r (size_line n ++ u)) (λ e u. SizeEnds p s t n k r e (size_line n ++ u)) a b (Ok (Ends (MaxSeconds first last) printed))
-  at_late ts search tried printed first last a b begun room fewer so_far none more late is reads =
-      (models_text p k ts, (inside ts (suc tried), (begun, room_for p s n ts (suc tried) room, (so_far.found, so_far.first, so_far.shown, inr (tried, refl, omega (arith, more, so_far.ahead), none_in))), so_far.count, (late, is, tt, fewer), reads, refl), so_far.took)
+  at_late ts search tried printed first last a b begun room fewer so_far none more left late is reads =
+      (models_text p k ts, (inside ts (suc tried), (begun, room_for p s n ts (suc tried) room, (so_far.found, so_far.first, so_far.shown, inr (tried, refl, omega (arith, more, so_far.ahead), left_in, none_in))), so_far.count, (late, is, tt, fewer), reads, refl), so_far.took)
     where
+      left_in : tried < tables_in n p
+      left_in = subst (λ (q : Stated). tried < tables_in n q) so_far.problem (subst (λ (m : ℕ). tried < tables_in m search.problem) so_far.size left)
+
       none_in : NoneBetween p n (behind 0 so_far.found) tried
       none_in = subst (λ (j : ℕ). NoneBetween p n j tried) so_far.ahead (subst (λ (m : ℕ). NoneBetween p m search.ahead tried) so_far.size (subst (λ (q : Stated). NoneBetween q search.size search.ahead tried) so_far.problem none))
 

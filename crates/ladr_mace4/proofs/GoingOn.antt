@@ -18,8 +18,8 @@ use Rattle.ladr_mace4.specs.Watching.{time_to_stop, IsInTime, HasRead}
 use Rattle.ladr_mace4.specs.declared.ends.SearchEnd.{SearchEnd}
 use Rattle.ladr_mace4.specs.declared.ends.SearchEnd.TheVariants.{MaxModels, Exhausted, AllModels, MaxMegs, MaxSeconds, GroundLimit, ClauseLimit}
 use Rattle.ladr_mace4.specs.declared.plan.Plan.{Plan}
-use Rattle.mace_search.proofs.Next.{in_count, next_or_none}
-use Rattle.mace_search.specs.Models.{AreFirst, behind}
+use Rattle.mace_search.proofs.Next.{in_count, some_tables, next_or_none}
+use Rattle.mace_search.specs.Models.{AreFirst, NoneFrom, behind}
 use Rattle.mace_search.specs.Plain.{tables_in}
 use Rattle.mace_search.specs.Watch.{IsLate}
 use Rattle.model_tables.proofs.Decided.{some_expansion}
@@ -119,6 +119,13 @@ module _ (p : Stated) (s : Plan) (start : 1 ≤ s.start) (step : 1 ≤ s.step) w
   gone_more : (sizes : List Size) (size : Size) → AreGone sizes → next sizes ≤ s.end → HasEnded p s (next sizes) size → models_in_all sizes + models_in size < s.wanted → AreGone (sizes ++ size ∷ [])
   gone_more sizes size gone within is fewer = (ended_more p s s.start sizes size gone.0 within is, omega (arith, fewer, many_more sizes size))
 
+  -- that a size is exhausted stands behind its models
+  exhausted_is : (sizes : List Size) (ts : List Finite) (tried : ℕ) → front (sizes ++ searched ts tried ∷ []) ≡ (front sizes ++ (size_line (next sizes) ++ models_text p (models_in_all sizes) ts)) ++ exhausted_line (next sizes)
+  exhausted_is sizes ts tried =
+      let n = next sizes in
+      let texts = models_text p (models_in_all sizes) ts in
+      text_is sizes (searched ts tried) ∙ ap (λ (u : List ℕ). front sizes ++ u) (sym (append_assoc (size_line n) texts (exhausted_line n))) ∙ sym (append_assoc (front sizes) (size_line n ++ texts) (exhausted_line n))
+
   -- all sizes are behind it
   over : (t : Times) (sizes : List Size) → AreGone sizes → s.end < next sizes → IsInTime s.seconds t → HasRead s.seconds (readings_in_all sizes) t → Comes (front sizes)
   over t sizes gone behind_all in_time reads =
@@ -164,7 +171,7 @@ module _ (p : Stated) (s : Plan) (start : 1 ≤ s.start) (step : 1 ≤ s.step) w
           | inl room ↦ (
               let late = late_times s.seconds sec r 2 t set in_time reads (omega arith) (λ more. absurd (omega (arith, more))) in
               let t' = late.0 in
-              ends_at t' sizes (inside [] 1) (MaxSeconds t'.first t'.last) gone (begun, (λ more. room), ([], tt, tt, inr (0, refl, omega arith, λ u is from before. absurd (omega (arith, before))))) (late.1.0, refl, tt, none) (read_same t' 2 (r + 2) (omega (arith, few)) late.1.1))
+              ends_at t' sizes (inside [] 1) (MaxSeconds t'.first t'.last) gone (begun, (λ more. room), ([], tt, tt, inr (0, refl, omega arith, some_tables p n (omega (arith, start)), λ u is from before. absurd (omega (arith, before))))) (late.1.0, refl, tt, none) (read_same t' 2 (r + 2) (omega (arith, few)) late.1.1))
           | inr crowded ↦ (
               let first = first_times s.seconds sec t set in
               crowded_end first.0 sizes crowded.0 crowded.1 gone begun first.1.0 (read_same first.0 1 (r + 1) (omega (arith, few)) first.1.1))
@@ -199,9 +206,7 @@ module _ (p : Stated) (s : Plan) (start : 1 ≤ s.start) (step : 1 ≤ s.step) w
           | inr never ↦ (
               let size = searched ts (tables_in n p) in
               let is : HasEnded p s n size = ((begun.1, room), (found, (first, never), expansions), refl) in
-              let e : front (sizes ++ size ∷ []) ≡ (front sizes ++ (size_line n ++ texts)) ++ exhausted_line n =
-              text_is sizes size ∙ ap (λ (u : List ℕ). front sizes ++ u) (sym (append_assoc (size_line n) texts (exhausted_line n))) ∙ sym (append_assoc (front sizes) (size_line n ++ texts) (exhausted_line n)) in
-              shorter (front sizes ++ (size_line n ++ texts)) (exhausted_line n) (subst Comes e (rest (sizes ++ size ∷ []) (gone_more sizes size gone begun.0 is (omega (arith, all))) (length_more sizes size))))
+              shorter (front sizes ++ (size_line n ++ texts)) (exhausted_line n) (subst Comes (exhausted_is sizes ts (tables_in n p)) (rest (sizes ++ size ∷ []) (gone_more sizes size gone begun.0 is (omega (arith, all))) (length_more sizes size))))
           | inl y ↦ (
               let u = some_expansion y.0 (all_axioms p) in
               let text = model_text (all_symbols p) (suc (k + length ts)) u.0 in
@@ -250,6 +255,18 @@ module _ (p : Stated) (s : Plan) (start : 1 ≤ s.start) (step : 1 ≤ s.step) w
   all_behind : (t : Times) (sizes : List Size) (n : ℕ) → IsInTime s.seconds t → HasRead s.seconds n t → s.seconds ≡ None → GoesOnBehind sizes
   all_behind t sizes n in_time reads e sizes' gone' more = on_behind (suc s.end) t sizes' gone' (omega arith) in_time (any_read s.seconds n (readings_in_all sizes') t e reads)
 
+  -- in a size of which all tables were tried
+  all_tried : (t : Times) (sizes : List Size) (found ts : List Finite) (tried : ℕ) → AreGone sizes → IsBegun p s (next sizes) → HasRoomForCells s (all_cells (next sizes) p) → models_in_all sizes + length ts < s.wanted → AreFirst p (next sizes) 0 found → AreExpansions (all_axioms p) found ts → tables_in (next sizes) p ≤ behind 0 found → behind 0 found ≤ tried
+      → IsInTime s.seconds t → HasRead s.seconds (readings_in_all sizes + suc tried) t → Comes (front sizes ++ (size_line (next sizes) ++ models_text p (models_in_all sizes) ts))
+  all_tried t sizes found ts tried gone begun room fewer first expansions all least in_time reads =
+      let n = next sizes in
+      let size = searched ts (tables_in n p) in
+      let never : NoneFrom p n (behind 0 found) = λ u is from. (let less = in_count p n u is in omega (arith, less, from, all)) in
+      let is : HasEnded p s n size = ((begun.1, room), (found, (first, never), expansions), refl) in
+      let before = earlier_times s.seconds (readings_in_all sizes + suc tried) (readings_in_all (sizes ++ size ∷ [])) t in_time reads (omega (arith, reads_more sizes size, all, least)) in
+      let rest = on_behind (suc s.end) before.0 (sizes ++ size ∷ []) (gone_more sizes size gone begun.0 is fewer) (omega arith) before.1.0 before.1.1 in
+      shorter (front sizes ++ (size_line n ++ models_text p (models_in_all sizes) ts)) (exhausted_line n) (subst Comes (exhausted_is sizes ts (tables_in n p)) rest)
+
   -- in a size with models, fewer than are wanted, whether a time is set or not
   inside_by : (o : Option ℕ) → s.seconds ≡ o → (t : Times) (sizes : List Size) (found ts : List Finite) (tried : ℕ) → AreGone sizes → IsBegun p s (next sizes) → HasRoomForModels p s (next sizes) ts tried → models_in_all sizes + length ts < s.wanted → AreFirst p (next sizes) 0 found → AreExpansions (all_axioms p) found ts → behind 0 found ≤ tried → IsInTime s.seconds t
       → HasRead s.seconds (readings_in_all sizes + suc tried) t → Comes (front sizes ++ (size_line (next sizes) ++ models_text p (models_in_all sizes) ts))
@@ -267,9 +284,13 @@ module _ (p : Stated) (s : Plan) (start : 1 ≤ s.start) (step : 1 ≤ s.step) w
   inside_by (Some sec) e t sizes found (u ∷ ts) tried gone begun room fewer first expansions least in_time reads =
       let r = readings_in_all sizes in
       let tables = behind 0 found in
-      let late = late_times s.seconds sec (r + suc tried) (r + suc (suc tables)) t e in_time reads (omega arith) (λ more. omega (arith, least)) in
-      let t' = late.0 in
-      ends_at t' sizes (inside (u ∷ ts) (suc tables)) (MaxSeconds t'.first t'.last) gone (begun, room, (found, first, expansions, inr (tables, refl, omega arith, λ v is from before. absurd (omega (arith, from, before))))) (late.1.0, refl, tt, fewer) late.1.1
+      elim (cases_lt tables (tables_in (next sizes) p)) [
+        | inl left ↦ (
+            let late = late_times s.seconds sec (r + suc tried) (r + suc (suc tables)) t e in_time reads (omega arith) (λ more. omega (arith, least)) in
+            let t' = late.0 in
+            ends_at t' sizes (inside (u ∷ ts) (suc tables)) (MaxSeconds t'.first t'.last) gone (begun, room, (found, first, expansions, inr (tables, refl, omega arith, left, λ v is from before. absurd (omega (arith, from, before))))) (late.1.0, refl, tt, fewer) late.1.1)
+        | inr all ↦ all_tried t sizes found (u ∷ ts) tried gone begun room fewer first expansions all least in_time reads
+      ]
 
   goes_at : (t : Times) (sizes : List Size) (now : Now) → AreGone sizes → IsAtSize (AreTriedFurther p (next sizes)) p s (next sizes) now → models_by sizes now ≤ s.wanted → IsInTime s.seconds t → HasRead s.seconds (readings_by sizes now) t → Comes (text_by p s sizes now)
   goes_at t sizes between gone stands most in_time reads = subst Comes (sym (append-nil (front sizes))) (on_behind (suc s.end) t sizes gone (omega arith) in_time (read_same t (readings_by sizes between) (readings_in_all sizes) (omega arith) reads))

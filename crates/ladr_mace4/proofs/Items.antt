@@ -3,7 +3,7 @@ use Rattle.std.proofs.Common.{◌≡◌, List, ℕ, [], Result, Ok, Err, IfOk, O
 use Rattle.std.specs.Global.{Vec}
 use Rattle.std.specs.declared.alloc.AllocError.{AllocError}
 use Rattle.ladr_io.specs.Streams.{Outflow, Takes, TakesFront}
-use Rattle.ladr_mace4.specs.Printed.{IsPrinted}
+use Rattle.ladr_mace4.specs.ItemTexts.{IsPrinted}
 use Rattle.ladr_output.specs.Telling.{IsPiece}
 use Rattle.ladr_output.specs.declared.cut.Cut.{Cut}
 use Rattle.ladr_output.specs.declared.cut.Cut.TheVariants.{WriteFault, Memory}

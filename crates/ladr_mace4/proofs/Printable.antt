@@ -1,5 +1,5 @@
 -- A model with the values of the Skolem symbols reads back from its text.
-use Rattle.std.proofs.Common.{◌≡◌, ◌⊎◌, inl, inr, ℕ, zero, suc, ◌+◌, ◌^◌, ◌<◌, ◌≤◌, Bool, true, false, if◌then◌else◌, List, [], ◌∷◌, ◌++◌, length, map, slice_index, refl, sym, ap, ap₂, ◌∙◌, subst, append_assoc, append-nil, arith}
+use Rattle.std.proofs.Common.{◌≡◌, ◌⊎◌, inl, inr, ℕ, zero, suc, ◌+◌, ◌^◌, ◌<◌, ◌≤◌, Bool, true, false, if◌then◌else◌, List, [], ◌∷◌, ◌++◌, length, map, take, slice_index, refl, sym, ap, ap₂, ◌∙◌, subst, append_assoc, append-nil, arith}
 use Rattle.std.specs.Prelude.{nat_le}
 use Rattle.std.specs.Char.{is_ascii_digit}
 use Rattle.std.specs.Fmt.{decimal}
@@ -7,7 +7,7 @@ use Rattle.std.specs.List.{AllByRecursion, list_all}
 use Rattle.std.proofs.lemmas.Bool.{and_from, or_left}
 use Rattle.std.proofs.lemmas.Bool.Decides.{nat_tests}
 use Rattle.std.proofs.lemmas.Fmt.{decimal_is_IsNumeral_wide}
-use Rattle.std.proofs.lemmas.List.{length-map}
+use Rattle.std.proofs.lemmas.List.{length-map, take_all}
 use Rattle.std.proofs.lemmas.List.Folds.{list_all-append}
 use Rattle.clausify.specs.Behind.{AreFor, HasOwnName, StandBehind}
 use Rattle.clausify.specs.Input.{skolems}
@@ -23,7 +23,7 @@ use Rattle.fol_core.specs.declared.symbols.Kind.TheVariants.{Function}
 use Rattle.ladr_lex.proofs.Numerals.{own}
 use Rattle.ladr_lex.specs.Bytes.{is_ordinary}
 use Rattle.ladr_lex.specs.Cuts.{is_run, is_symbol, is_quoted}
-use Rattle.ladr_mace4.specs.Skolems.{all_symbols, all_axioms}
+use Rattle.ladr_mace4.specs.Skolems.{all_symbols, all_axioms, without_skolems}
 use Rattle.ladr_models.specs.ReadsBack.{IsRow, AreRows, IsPrintable}
 use Rattle.ladr_problem.specs.Names.{is_name, are_named, AreTellable}
 use Rattle.model_tables.proofs.Expanding.{row_own, same_top}
@@ -129,6 +129,34 @@ expanded_rows n ss (s ∷ more) (w ∷ ws) u t size rows f x =
     one_more : (ss : List Symbol) (s : Symbol) → suc (length ss) ≡ length (ss ++ s ∷ [])
     one_more [] s = refl
     one_more (u ∷ ss) s = ap suc (one_more ss s)
+
+-- an expansion keeps the rows of the symbols that stand before all Skolem symbols
+row_longer : (ls : List Listing) (s : ℕ) (l : Listing) → length ls ≤ length (with_row ls s l)
+row_longer [] s l = omega arith
+row_longer (m ∷ ls) zero l = omega arith
+row_longer (m ∷ ls) (suc s) l = omega (arith, row_longer ls s l)
+
+row_before : (ls : List Listing) (s j : ℕ) (l : Listing) → j ≤ s → j ≤ length ls → take j (with_row ls s l) ≡ take j ls
+row_before [] s zero l le few = refl
+row_before [] s (suc j) l le few = absurd (omega (arith, few))
+row_before (m ∷ ls) s zero l le few = refl
+row_before (m ∷ ls) zero (suc j) l le few = absurd (omega (arith, le))
+row_before (m ∷ ls) (suc s) (suc j) l le few = ap (λ (rows : List Listing). m ∷ rows) (row_before ls s j l (omega (arith, le)) (omega (arith, few)))
+
+rows_before : (j m : ℕ) (more : List Symbol) (ws : List SkolemAxiom) (u t : Finite) → j ≤ m → j ≤ length u.rows → AreFor m more ws → IsExpansion u ws t → take j t.rows ≡ take j u.rows
+rows_before j m more [] u t le few f x = ap (λ (v : Finite). take j v.rows) x
+rows_before j m [] (w ∷ ws) u t le few f x = absurd f
+rows_before j m (s ∷ more) (w ∷ ws) u t le few f x =
+    let l = listing Function x.0 in
+    rows_before j (suc m) more ws (with_values u w.symbol x.0) t (omega (arith, le)) (omega (arith, few, row_longer u.rows w.symbol l)) f.3 x.1.1 ∙ row_before u.rows w.symbol j l (omega (arith, le, f.0)) few
+
+-- so without the rows of the Skolem symbols it is the tables that it expands
+pub without_same : (n : ℕ) (p : Stated) (u t : Finite) → StandBehind p → IsInterpretation n p u → IsExpansion u (all_axioms p) t → without_skolems p t ≡ u
+without_same n p u t behind is x =
+    let many : length u.rows ≡ length p.symbols = rows_many n p.symbols u.rows (listings_rows n (formulas_of p) 0 p.symbols u.rows is.1) in
+    let kept = rows_before (length p.symbols) (length p.symbols) (skolems p.symbols p.formulas) (all_axioms p) u t (omega arith) (omega (arith, many)) behind.witnesses x in
+    let rows : take (length p.symbols) t.rows ≡ u.rows = kept ∙ take_all (length p.symbols) u.rows (omega (arith, many)) in
+    ap₂ (λ (top : ℕ) (ls : List Listing). record { top = top; rows = ls }) (same_top (all_axioms p) u t x) rows
 
 -- the names of Skolem symbols are ordinary symbols
 digits_ordinary : (ds : List ℕ) → list_all is_ascii_digit ds ≡ true → list_all is_ordinary ds ≡ true

@@ -12,7 +12,8 @@ abbrev pub times_after : Times → List ℕ → Times
 times_after t [] = t
 times_after t (now ∷ readings) = times_after (later t now) readings
 
--- The text is a front of a whole output: a search for models of what is stated comes to it, if the clock gives these readings.
+-- The text is a front of a whole output: a search for models of what is stated comes to it, if the
+-- clock gives these readings.
 pub record IsFront (p : Stated) (s : Plan) (text : List ℕ) : Type 0 where
   pub readings : List ℕ
   pub end : SearchEnd

@@ -1,8 +1,8 @@
 pub mod Finding
 pub mod Fronts
+pub mod ItemTexts
 pub mod Lines
 pub mod Plans
-pub mod Printed
 pub mod Rooms
 pub mod Shown
 pub mod Skolems

@@ -24,7 +24,8 @@ exit_line reason = as_line (codes "% Exit " ++ reason ++ codes ".")
 
 -- the clock's first reading and its last
 abbrev pub seconds_line : ℕ → ℕ → List ℕ
-seconds_line first last = as_line (codes "% Exit max_seconds " ++ decimal first ++ codes " " ++ decimal last ++ codes ".")
+seconds_line first last =
+    as_line (codes "% Exit max_seconds " ++ decimal first ++ codes " " ++ decimal last ++ codes ".")
 
 -- a size has too many cells by far
 abbrev pub ground_limit_line : ℕ → List ℕ

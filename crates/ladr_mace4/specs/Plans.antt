@@ -5,15 +5,19 @@ use Rattle.ladr_mace4.specs.declared.plan.Plan.{Plan}
 use Rattle.ladr_options.specs.declared.options.Options.{Options}
 use Rattle.ladr_words.specs.declared.task.ModelOptions.{ModelOptions}
 
--- The one size that an input asks for by `domain_size`, if it isn't 0; a word for the first or for the last size cancels it.
+-- The one size that an input asks for by `domain_size`, if it isn't 0; a word for the first or for
+-- the last size cancels it.
 abbrev pub only_size : ModelOptions → Options → Option ℕ
-only_size words o = if is_some words.start_size || is_some words.end_size || o.domain_size == 0 then None else Some o.domain_size
+only_size words o =
+    if is_some words.start_size || is_some words.end_size || o.domain_size == 0 then None
+    else Some o.domain_size
 
 -- the seconds of an input, where 4,294,967,295 stands for no clock
 abbrev pub seconds_of : Options → Option ℕ
 seconds_of o = if o.max_seconds == 4294967295 then None else Some o.max_seconds
 
--- The words stand in place of the input's options. The sizes are the one that is asked for, or those from the first to the last.
+-- The words stand in place of the input's options. The sizes are the one that is asked for, or
+-- those from the first to the last.
 abbrev pub plan_of : ModelOptions → Options → Plan
 plan_of words o = record {
   start = unwrap_or (only_size words o) (unwrap_or words.start_size o.start_size);

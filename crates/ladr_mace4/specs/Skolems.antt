@@ -1,5 +1,5 @@
 -- The Skolem symbols of a problem, and the cells of all its symbols.
-use Rattle.std.specs.Prelude.{ℕ, ◌+◌, List, [], ◌∷◌}
+use Rattle.std.specs.Prelude.{ℕ, ◌+◌, List, [], ◌∷◌, length, take}
 use Rattle.clausify.specs.Input.{with_skolems, axioms_in_table}
 use Rattle.fol_core.specs.Stated.{Stated}
 use Rattle.fol_core.specs.SymbolTable.{Symbol}
@@ -17,6 +17,10 @@ all_symbols p = with_skolems p.symbols p
 abbrev pub all_axioms : Stated → List SkolemAxiom
 all_axioms p = axioms_in_table p.symbols p
 
+-- the tables of the problem's own symbols, those of the Skolem symbols behind them left out
+abbrev pub without_skolems : Stated → Finite → Finite
+without_skolems p t = record { top = t.top; rows = take (length p.symbols) t.rows }
+
 -- how many cells the symbols of the formulas have at a size, with those of the Skolem symbols
 abbrev pub all_cells : ℕ → Stated → ℕ
 all_cells n p = cell_count n p + skolem_cells n (all_axioms p)
@@ -28,9 +32,11 @@ AreExpansions ws [] (u ∷ us) = ⊥
 AreExpansions ws (t ∷ ts) [] = ⊥
 AreExpansions ws (t ∷ ts) (u ∷ us) = IsExpansion t ws u × AreExpansions ws ts us
 
--- these are the first models of size n in order, with the values of the Skolem symbols; or all of them
+-- these are the first models of size n in order, with the values of the Skolem symbols; or all of
+-- them
 abbrev pub AreFirstExpanded : Stated → ℕ → List Finite → Type 0
-AreFirstExpanded p n us = (ts : List Finite) × AreFirst p n 0 ts × AreExpansions (all_axioms p) ts us
+AreFirstExpanded p n us =
+    (ts : List Finite) × AreFirst p n 0 ts × AreExpansions (all_axioms p) ts us
 
 abbrev pub AreAllExpanded : Stated → ℕ → List Finite → Type 0
 AreAllExpanded p n us = (ts : List Finite) × AreAll p n ts × AreExpansions (all_axioms p) ts us

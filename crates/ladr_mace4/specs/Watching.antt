@@ -13,12 +13,14 @@ time_to_stop (Some s) t = Some (t.first + 1000 * s)
 abbrev pub AreEarly : ℕ → Times → Type 0
 AreEarly s t = 1 < t.count → (t.last < t.first + 1000 * s) × (t.between < t.first + 1000 * s)
 
--- The clock isn't asked where no time is set; else none of its readings behind the first reached the time.
+-- The clock isn't asked where no time is set; else none of its readings behind the first reached
+-- the time.
 abbrev pub IsInTime : Option ℕ → Times → Type 0
 IsInTime None t = t.count ≡ 0
 IsInTime (Some s) t = AreEarly s t
 
--- Where a time is set the clock gave so many readings, as far as its count can tell; else it gave none.
+-- Where a time is set the clock gave so many readings, as far as its count can tell; else it gave
+-- none.
 abbrev pub HasRead : Option ℕ → ℕ → Times → Type 0
 HasRead None n t = t.count ≡ 0
 HasRead (Some s) n t = min t.count greatest ≡ min n greatest
@@ -28,8 +30,8 @@ abbrev pub IsLookedAt : Option ℕ → Times → Times → Type 0
 IsLookedAt None t t' = t' ≡ t
 IsLookedAt (Some s) t t' = t' ≡ later t t'.last
 
--- There was no reading where no time is set, nor before the first one; else the first one is kept, and no later one reached
--- the time.
+-- There was no reading where no time is set, nor before the first one; else the first one is kept,
+-- and no later one reached the time.
 abbrev pub IsWatchedBy : Option ℕ → Option ℕ → Times → Type 0
 IsWatchedBy None first t = t.count ≡ 0
 IsWatchedBy (Some s) None t = t.count ≡ 0

@@ -35,7 +35,11 @@ impl<'a> Model for Asked<'a> {
 
     ghost view = { λ a. stated_of a.problem.now };
 
-    ghost invariant = { λ a. record { symbols : a.symbols ≡ all_symbols (stated_of a.problem.now); witnesses : map skolem_axiom_of a.clauses.skolem.items ≡ all_axioms (stated_of a.problem.now); order : AreInOrder (map skolem_axiom_of a.clauses.skolem.items) } };
+    ghost invariant = { λ a. record {
+      symbols : a.symbols ≡ all_symbols (stated_of a.problem.now);
+      witnesses : map skolem_axiom_of a.clauses.skolem.items ≡ all_axioms (stated_of a.problem.now);
+      order : AreInOrder (map skolem_axiom_of a.clauses.skolem.items);
+    } };
 }
 
 impl<'a> Asked<'a> {

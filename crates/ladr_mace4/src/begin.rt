@@ -20,7 +20,8 @@ use std::alloc::Global;
 // As many cells as a meg has.
 const CELLS_OF_A_MEG: u64 = 65_536;
 
-/// Begins a size: its line, a look at the clock, and whether there is room for its cells; answers how the search ends, if it does.
+/// Begins a size: its line, a look at the clock, and whether there is room for its cells; answers
+/// how the search ends, if it does.
 pub fn begin<K: Sink, C: Clock>(
     alloc: Global,
     asked: &Asked,

@@ -45,7 +45,8 @@ pub struct SearchOver {
     pub printed: u64,
 }
 
-/// How a size went: it is over, or the search ended in it; with how many models are printed by then.
+/// How a size went: it is over, or the search ended in it; with how many models are printed by
+/// then.
 #[derive(Clone, Copy, Debug, PartialEq, Eq)]
 pub enum Step {
     Over(u64),

@@ -1,4 +1,5 @@
-// What searches amount to, and searches worked out: the functions do nothing, and their contracts are the laws.
+// What searches amount to, and searches worked out: the functions do nothing, and their contracts
+// are the laws.
 ghost use Rattle.std.specs.Prelude.{◌≡◌, None, Some};
 ghost use Rattle.ladr_formulas.specs.declared.styles.Mode.TheVariants.{Mace};
 ghost use Rattle.ladr_intake.specs.Posed.{poses};
@@ -14,9 +15,10 @@ use clausify::{axioms_are_in_order, skolems_stand_behind};
 use ladr_intake::files_are_a_language;
 use ladr_models::texts_read_back;
 
-/// Where the text of a model stands in the output of a run, it makes each assumption of the input true and each goal false, and reads back
-/// as it is; where the line of an exhausted size stands, each model of it stands before, its elements renamed. So it is whatever became
-/// of the run; and where the input was read whole, all that was printed is a front of a whole output.
+/// Where the text of a model stands in the output of a run, it makes each assumption of the input
+/// true and each goal false, and reads back as it is; where the line of an exhausted size stands,
+/// each model of it stands before, its elements renamed. So it is whatever became of the run; and
+/// where the input was read whole, all that was printed is a front of a whole output.
 pub fn searches_show()
     ensures { SearchesShow (poses Mace) (refuses Mace) }
 {
@@ -32,7 +34,8 @@ pub fn worked()
     ensures searched { sizes_text lonely 1 1 0 lonely_sizes ≡ lonely_text }
     ensures readings { readings_in_all lonely_sizes ≡ 4 }
     ensures cells { all_cells 2 lonely ≡ 1 }
-    // What is asked where neither words nor input set anything, by an input for one size, and where a word cancels that size.
+    // What is asked where neither words nor input set anything, by an input for one size, and where
+    // a word cancels that size.
     ensures unset { plan_of bare start ≡ record
         { start = 2; end = 10; step = 1; wanted = 1; seconds = None; megs = 500 } }
     ensures one_size { plan_of bare (record start
@@ -40,5 +43,12 @@ pub fn worked()
         ≡ record { start = 5; end = 5; step = 3; wanted = 1; seconds = Some 60; megs = 0 } }
     ensures words { plan_of (record bare { end_size = Some 4; max_seconds = Some 0 })
         (record start { domain_size = 5; max_models = 4294967295; max_seconds = 60 })
-        ≡ record { start = 2; end = 4; step = 1; wanted = 4294967295; seconds = Some 0; megs = 500 } }
+        ≡ record {
+          start = 2;
+          end = 4;
+          step = 1;
+          wanted = 4294967295;
+          seconds = Some 0;
+          megs = 500;
+        } }
 {}

@@ -4,7 +4,7 @@ ghost use Rattle.std.specs.Fmt.{decimal};
 ghost use Rattle.ladr_mace4.specs.Lines.{size_line, skipped_line, exhausted_line, models_line, seconds_line, ground_limit_line, clause_limit_line, last_lines, end_text};
 
 use crate::ends::SearchEnd;
-use ladr_output::{number, text};
+use ladr_output::{decimal, text};
 use std::alloc::{AllocError, Global};
 
 // The size that a line is about.
@@ -13,12 +13,12 @@ fn domain(alloc: Global, n: u64) -> Result<Vec<u8>, AllocError>
 {
     let mut out = Vec::new(alloc);
     text(&mut out, b"% Domain size ")?;
-    number(&mut out, n)?;
+    decimal(&mut out, n)?;
     Ok(out)
 }
 
 /// A size begins.
-pub fn size(alloc: Global, n: u64) -> Result<Vec<u8>, AllocError>
+pub fn size_line(alloc: Global, n: u64) -> Result<Vec<u8>, AllocError>
     ensures { IfOk result (λ v. v.items ≡ size_line n) }
 {
     let mut out = domain(alloc, n)?;
@@ -27,7 +27,7 @@ pub fn size(alloc: Global, n: u64) -> Result<Vec<u8>, AllocError>
 }
 
 /// A size is skipped.
-pub fn skipped(alloc: Global, n: u64) -> Result<Vec<u8>, AllocError>
+pub fn skipped_line(alloc: Global, n: u64) -> Result<Vec<u8>, AllocError>
     ensures { IfOk result (λ v. v.items ≡ skipped_line n) }
 {
     let mut out = domain(alloc, n)?;
@@ -36,7 +36,7 @@ pub fn skipped(alloc: Global, n: u64) -> Result<Vec<u8>, AllocError>
 }
 
 /// A size was searched to its end.
-pub fn exhausted(alloc: Global, n: u64) -> Result<Vec<u8>, AllocError>
+pub fn exhausted_line(alloc: Global, n: u64) -> Result<Vec<u8>, AllocError>
     ensures { IfOk result (λ v. v.items ≡ exhausted_line n) }
 {
     let mut out = domain(alloc, n)?;
@@ -50,7 +50,7 @@ fn ground_limit(alloc: Global, n: u64) -> Result<Vec<u8>, AllocError>
 {
     let mut out = Vec::new(alloc);
     text(&mut out, b"ladr: ground limit at size ")?;
-    number(&mut out, n)?;
+    decimal(&mut out, n)?;
     text(&mut out, b"\n")?;
     Ok(out)
 }
@@ -61,7 +61,7 @@ fn clause_limit(alloc: Global, formula: u64) -> Result<Vec<u8>, AllocError>
 {
     let mut out = Vec::new(alloc);
     text(&mut out, b"ladr: clause limit at formula ")?;
-    number(&mut out, formula)?;
+    decimal(&mut out, formula)?;
     text(&mut out, b"\n")?;
     Ok(out)
 }
@@ -71,7 +71,7 @@ fn models(out: &mut Vec<u8>, k: u64) -> Result<(), AllocError>
     ensures { OnOk result (out.new.items ≡ out.old.items ++ models_line k) }
 {
     text(out, b"% Models=")?;
-    number(out, k)?;
+    decimal(out, k)?;
     text(out, b".\n")
 }
 
@@ -93,7 +93,7 @@ fn first_reading(out: &mut Vec<u8>, first: u64) -> Result<(), AllocError>
         ++ (codes "% Exit max_seconds " ++ decimal first)) }
 {
     text(out, b"% Exit max_seconds ")?;
-    number(out, first)?;
+    decimal(out, first)?;
     Ok(())
 }
 
@@ -103,7 +103,7 @@ fn seconds(out: &mut Vec<u8>, first: u64, last: u64) -> Result<(), AllocError>
 {
     first_reading(out, first)?;
     text(out, b" ")?;
-    number(out, last)?;
+    decimal(out, last)?;
     text(out, b".\n")?;
     Ok(())
 }
@@ -119,7 +119,7 @@ fn time_is_over(alloc: Global, k: u64, first: u64, last: u64) -> Result<Vec<u8>,
 }
 
 /// What a search ends with, k models having been printed.
-pub fn ending(alloc: Global, k: u64, end: SearchEnd) -> Result<Vec<u8>, AllocError>
+pub fn end_text(alloc: Global, k: u64, end: SearchEnd) -> Result<Vec<u8>, AllocError>
     ensures { IfOk result (λ v. v.items ≡ end_text k end) }
 {
     match end {

@@ -17,8 +17,8 @@ use ladr_output::Cut;
 use mace_search::{Answer, PlainSearch};
 use std::alloc::Global;
 
-/// Prints the models of a size, behind its line and k models before them, and that it is exhausted, unless the search ends
-/// by then.
+/// Prints the models of a size, behind its line and k models before them, and that it is exhausted,
+/// unless the search ends by then.
 pub fn models<K: Sink, C: Clock>(
     alloc: Global,
     asked: &Asked,

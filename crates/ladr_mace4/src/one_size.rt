@@ -18,7 +18,8 @@ use ladr_io::{Clock, Sink};
 use ladr_output::Cut;
 use std::alloc::Global;
 
-/// Skips a size that lacks an element which the formulas name, or prints its models behind k others.
+/// Skips a size that lacks an element which the formulas name, or prints its models behind k
+/// others.
 pub fn one_size<K: Sink, C: Clock>(
     alloc: Global,
     asked: &Asked,

@@ -14,8 +14,8 @@ use ladr_output::Cut;
 use model_tables::size_needed;
 use std::alloc::Global;
 
-/// Searches the sizes from the first to the last, step by step, for models, and prints how each one goes, till as many as are wanted are
-/// found; answers how the search ends.
+/// Searches the sizes from the first to the last, step by step, for models, and prints how each one
+/// goes, till as many as are wanted are found; answers how the search ends.
 pub fn search_sizes<K: Sink, C: Clock>(
     alloc: Global,
     asked: &Asked,

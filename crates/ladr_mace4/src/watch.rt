@@ -6,7 +6,8 @@ ghost use Rattle.mace_search.specs.Watch.{IsLate};
 
 use ladr_io::Clock;
 
-/// After how many seconds to stop, if a time is set, and the clock's first reading, once there is one.
+/// After how many seconds to stop, if a time is set, and the clock's first reading, once there is
+/// one.
 #[derive(Clone, Copy, Debug, PartialEq, Eq)]
 pub struct Watch {
     pub seconds: Option<u64>,
@@ -14,7 +15,8 @@ pub struct Watch {
 }
 
 impl Watch {
-    /// Reads the clock where a time is set: the first reading is kept, and a later one that reached the time is answered.
+    /// Reads the clock where a time is set: the first reading is kept, and a later one that reached
+    /// the time is answered.
     pub fn look<C: Clock>(&mut self, clock: &mut C) -> Option<u64>
         requires { IsWatched self.old (C.times clock.old) }
         ensures same { self.new.seconds ≡ self.old.seconds }

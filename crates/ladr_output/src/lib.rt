@@ -6,5 +6,5 @@ mod parts;
 mod pieces;
 
 pub use cut::Cut;
-pub use parts::{number, text};
+pub use parts::{decimal, text};
 pub use pieces::{ending, piece};

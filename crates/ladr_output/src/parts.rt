@@ -11,8 +11,8 @@ pub fn text(out: &mut Vec<u8>, bytes: &[u8]) -> Result<(), AllocError>
     out.extend_from_slice(bytes)
 }
 
-/// Puts a number behind the text.
-pub fn number(out: &mut Vec<u8>, n: u64) -> Result<(), AllocError>
+/// Puts the digits of a number behind the text.
+pub fn decimal(out: &mut Vec<u8>, n: u64) -> Result<(), AllocError>
     ensures { OnOk result (out.new.items ≡ out.old.items ++ decimal n) }
 {
     let mut buffer = itoa::Buffer::new();

@@ -20,6 +20,10 @@ in_count p n t is =
     let shape = interpretation_shape n p t is.0 in
     omega (arith, number_in_count t shape.1, shape_count (first_tables n p) t shape.0)
 
+-- there are tables of each size
+pub some_tables : (p : Stated) (n : ℕ) → 1 ≤ n → 0 < table_count (first_tables n p)
+some_tables p n one = omega (arith, number_in_count (first_tables n p) (first_filled n p one))
+
 decided_model : (p : Stated) (n k j : ℕ) → 1 ≤ n → Decided (HasModel p n k j)
 decided_model p n k j one = elim (cases_lt j (table_count (first_tables n p))) [
   | inr ge ↦ inr (λ h. let less = in_count p n h.1.0 h.1.1.0 in omega (arith, less, ge, h.1.1.1))

@@ -69,7 +69,9 @@ pub found_answers : (s : Search) (t' : Finite) (answer : Answer) (times : Times)
 found_answers s t' Model times h one e same filled f =
     (((stays s.problem s.size s.tables t' one h same filled, f.0), rw e f.1, rw e (none_between s.problem s.size s.tables (table_number s.tables) (table_number t') h f.2)), refl, refl, f.3)
 found_answers s t' Exhausted times h one e same filled f = (rw e (none_from s.problem s.size s.tables (table_number s.tables) h f.0), count_in s.problem s.size t' (stays s.problem s.size s.tables t' one h same filled), refl, f.1)
-found_answers s t' (MaxSeconds last) times h one e same filled f = (rw e (none_between s.problem s.size s.tables (table_number s.tables) (table_number t') h f.1), omega (arith, e, f.0), refl, f.2)
+found_answers s t' (MaxSeconds last) times h one e same filled f =
+    let count = count_in s.problem s.size t' (stays s.problem s.size s.tables t' one h same filled) in
+    (rw e (none_between s.problem s.size s.tables (table_number s.tables) (table_number t') h f.1), omega (arith, e, f.0), refl, f.2, omega (arith, f.3, count))
 
 -- no tables come again
 pub none_again : (ss : List Said) (stop : Option ℕ) (t t' : Finite) (answer : Answer) (times : Times) → IsSameShape t t' → IsFilled t → FindsNext ss stop t t' answer times → table_number t ≤ ahead_of (state_after answer) t'

@@ -6,16 +6,13 @@ use Rattle.std.proofs.lemmas.Bool.Decides.{nat_tests}
 use Rattle.fol_core.specs.Stated.{IsCountermodel}
 use Rattle.fol_core.specs.SymbolTable.{arity_at, kind_at}
 use Rattle.fol_core.specs.declared.symbols.Kind.TheVariants.{Function, Relation}
-use Rattle.mace_search.specs.Complete.{AreComplete}
 use Rattle.mace_search.specs.Models.{IsModel, AreFirst, AreAll}
 use Rattle.mace_search.specs.Worked.{spared, tables}
 use Rattle.model_tables.specs.Order.{table_number, table_count}
-use Rattle.model_tables.specs.Isomorphism.{IsIsomorphism, carried}
 use Rattle.model_tables.specs.Size.{AllBelow, IsInterpretation}
 use Rattle.model_tables.specs.Tables.{Finite, has, listed, listing, meaning_of}
-use Rattle.model_tables.specs.Worked.{exchange}
 use Rattle.model_tables.proofs.Orders.{number_in_count, shape_count}
-use Rattle.mace_search.proofs.Completing.{by_number, itself}
+use Rattle.mace_search.proofs.Completing.{by_number}
 use Rattle.mace_search.proofs.Passing.{model_shape}
 
 interpretation : (x y z : ℕ) → AllBelow 2 (x ∷ y ∷ z ∷ []) → IsInterpretation 2 spared (tables x y z)
@@ -78,48 +75,6 @@ both_models = (
 -- with either of them left out
 pub left_out : ¬ AreFirst spared 2 0 (tables 1 1 0 ∷ []) × ¬ AreAll spared 2 (tables 0 0 1 ∷ [])
 left_out = (λ h. h.0.2 (tables 0 0 1) first_model (omega arith) (omega arith), λ h. h.1 (tables 1 1 0) second_model (omega arith))
-
--- exchanging the elements leads from the first model to the second
-within : (x : ℕ) → x < 2 → exchange x < 2
-within zero h = omega arith
-within (suc zero) h = omega arith
-within (suc (suc x)) h = absurd (omega arith)
-
-twice : (x : ℕ) → x < 2 → exchange (exchange x) ≡ x
-twice zero h = refl
-twice (suc zero) h = refl
-twice (suc (suc x)) h = absurd (omega arith)
-
-of_one : (x : ℕ) → x < 2 → listed (tables 1 1 0) 1 (exchange x ∷ []) ≡ listed (tables 0 0 1) 1 (x ∷ [])
-of_one zero h = refl
-of_one (suc zero) h = refl
-of_one (suc (suc x)) h = absurd (omega arith)
-
-carries : (s : ℕ) (xs : List ℕ) → IsTrue (has (tables 0 0 1) s) → length xs ≡ arity_at spared.symbols s → AllBelow 2 xs
-    → listed (tables 1 1 0) s (map exchange xs) ≡ carried (kind_at spared.symbols s) exchange (listed (tables 0 0 1) s xs)
-carries zero [] l e b = refl
-carries zero (x ∷ xs) l e b = absurd (omega arith)
-carries (suc zero) [] l e b = absurd (omega arith)
-carries (suc zero) (x ∷ []) l e b = of_one x b.0
-carries (suc zero) (x ∷ y ∷ xs) l e b = absurd (omega arith)
-carries (suc (suc s)) xs l e b = absurd (false≢true l)
-
-exchanged : IsIsomorphism 2 spared exchange (tables 0 0 1) (tables 1 1 0)
-exchanged = record {
-  permutes = (within, λ x y lx ly e. sym (twice x lx) ∙ ap exchange e ∙ twice y ly);
-  fixes = λ k named. absurd (false≢true named);
-  carries = carries;
-}
-
-pub up_to_names : AreComplete spared 2 (tables 0 0 1 ∷ [])
-up_to_names = record {
-  models = (first_model, tt);
-  different = (tt, tt);
-  every = λ u m. elim (either_one u m) [
-    | inl e ↦ inl (itself spared 2 (tables 0 0 1) u e)
-    | inr e ↦ inl (exchange, subst (λ (v : Finite). IsIsomorphism 2 spared exchange (tables 0 0 1) v) e exchanged)
-  ];
-}
 
 -- one element
 single : ℕ → Finite

@@ -9,5 +9,5 @@ mod plain;
 mod sentence;
 
 pub use answer::Answer;
-pub use laws::{all_models, first_models, worked, worked_readings};
+pub use laws::{worked, worked_readings};
 pub use plain::PlainSearch;

@@ -10,5 +10,5 @@ returns c =
     let second = first ++ codes " " in
     let third = second ++ decimal c.args.last in
     let e1 = c.in_ok-text.ensures ∙ ap (λ (l : List ℕ). l ++ codes " ") c.in_ok-first_reading.ensures ∙ append_assoc out first (codes " ") in
-    let e2 = c.in_ok-number.ensures ∙ ap (λ (l : List ℕ). l ++ decimal c.args.last) e1 ∙ append_assoc out second (decimal c.args.last) in
+    let e2 = c.in_ok-decimal.ensures ∙ ap (λ (l : List ℕ). l ++ decimal c.args.last) e1 ∙ append_assoc out second (decimal c.args.last) in
     c.in_ok-text-2.ensures ∙ ap (λ (l : List ℕ). l ++ codes ".\n") e2 ∙ append_assoc out third (codes ".\n") ∙ ap (λ (l : List ℕ). out ++ l) (sym (append_assoc third (codes ".") (10 ∷ [])))

@@ -95,7 +95,7 @@ returns-in-MaxSeconds-clause-tells g c = λ r reads.
     let keeps = c.in-MaxSeconds.ensures.clock so_far.1.late in
     let stop : search.stop ≡ time_to_stop c.args.plan.seconds t₀ = subst (λ (s : Option ℕ). search.stop ≡ time_to_stop s t₀) c.requires.seconds c.loop-printed.invariant.stop in
     let late = late_on c.args.watch c.args.plan.seconds search.stop t₀ t' c.in-MaxSeconds.last c.requires.seconds c.requires.looked c.loop-printed.invariant.stop (keeps_both search.stop t₀ t t' c.loop-printed.invariant.goes keeps) tells.3 in
-    at_late c.args.asked.now c.args.plan t' c.args.n c.args.k r so_far.0 search further_on.ahead c.loop-printed.printed _ _ _ _ c.requires.begun c.requires.room c.loop-printed-test.true so_far.1 tells.0 tells.1 late.0 (c.unwrap_or-first.ensures ∙ late.1)
+    at_late c.args.asked.now c.args.plan t' c.args.n c.args.k r so_far.0 search further_on.ahead c.loop-printed.printed _ _ _ _ c.requires.begun c.requires.room c.loop-printed-test.true so_far.1 tells.0 tells.1 tells.4 late.0 (c.unwrap_or-first.ensures ∙ late.1)
     (read_on c.args.plan.seconds search.stop t₀ t t' (r + 1 + search.ahead) (suc (further_on.ahead - search.ahead)) _ stop (c.loop-printed.invariant.reads (r + 1) reads) keeps (c.in-MaxSeconds.ensures.reads so_far.1.late) (omega (arith, tells.1)))
 
 pub returns-clause-tells : goal.returns-clause-tells

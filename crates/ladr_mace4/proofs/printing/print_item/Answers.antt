@@ -1,5 +1,5 @@
 use Rattle.ladr_mace4.proofs.Items.{text_printed}
-use Rattle.ladr_mace4.specs.Printed.{IsItemText}
+use Rattle.ladr_mace4.specs.ItemTexts.{IsItemText}
 use Rattle.ladr_mace4.proofs.printing.print_item.Goals as goal
 
 pub returns : goal.returns

@@ -19,6 +19,9 @@ loop-last-init g c = record {
   none = none_yet c.args.check.now c.args.tables.now;
 }
 
+pub returns-in-Some-clause-finds : goal.returns-in-Some-clause-finds
+returns-in-Some-clause-finds g c = (c.loop-last.invariant.behind, c.loop-last.invariant.none, c.in-Some.ensures.late, number_in_count c.loop-last.tables c.loop-last.invariant.filled)
+
 pub returns-then-not-advance-clause-shape : goal.returns-then-not-advance-clause-shape
 returns-then-not-advance-clause-shape g c = shape_joined c.args.tables.now c.loop-last.tables c.advance.new.self c.loop-last.invariant.shape c.advance.ensures.shape
 

@@ -1,5 +1,5 @@
 use Rattle.std.proofs.Common.{refl, arith}
-use Rattle.mace_search.proofs.Spared.{both_models, left_out, up_to_names, none_single}
+use Rattle.mace_search.proofs.Spared.{both_models, left_out, none_single}
 use Rattle.mace_search.proofs.laws.worked.Goals as goal
 
 pub returns-clause-all : goal.returns-clause-all
@@ -7,9 +7,6 @@ returns-clause-all c = both_models
 
 pub returns-clause-left_out : goal.returns-clause-left_out
 returns-clause-left_out c = left_out
-
-pub returns-clause-complete : goal.returns-clause-complete
-returns-clause-complete c = up_to_names
 
 pub returns-clause-single : goal.returns-clause-single
 returns-clause-single c = none_single

@@ -17,7 +17,8 @@ use Rattle.model_tables.specs.Tables.{Finite}
 
 -- the text of tables as model k, with the values of the Skolem symbols
 abbrev pub IsModelText : Stated → Finite → ℕ → List ℕ → Type 0
-IsModelText p t k text = (u : Finite) × IsExpansion t (all_axioms p) u × (text ≡ model_text (all_symbols p) k u)
+IsModelText p t k text =
+    (u : Finite) × IsExpansion t (all_axioms p) u × (text ≡ model_text (all_symbols p) k u)
 
 abbrev pub IsItemText : Stated → SearchItem → List ℕ → Type 0
 IsItemText p (Begins n) text = text ≡ size_line n
@@ -27,4 +28,5 @@ IsItemText p (Exhausts n) text = text ≡ exhausted_line n
 
 -- such a text was a piece of the output; or memory was lacking for it, and none was printed
 abbrev pub IsPrinted : (List ℕ → Type 0) → Outflow → Outflow → Result (Unit {0}) Cut → Type 0
-IsPrinted IsText old new r = ((text : List ℕ) × IsText text × IsPiece text old new r) ⊎ ((r ≡ Err Memory) × Takes old new [])
+IsPrinted IsText old new r =
+    ((text : List ℕ) × IsText text × IsPiece text old new r) ⊎ ((r ≡ Err Memory) × Takes old new [])

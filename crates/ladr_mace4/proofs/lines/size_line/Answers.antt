@@ -1,7 +1,7 @@
 use Rattle.std.proofs.Common.{◌++◌, ◌∷◌, [], ap, sym, ◌∙◌, List, ℕ, append_assoc}
 use Rattle.std.specs.Prelude.{codes}
 use Rattle.std.specs.Fmt.{decimal}
-use Rattle.ladr_mace4.proofs.lines.size.Goals as goal
+use Rattle.ladr_mace4.proofs.lines.size_line.Goals as goal
 
 pub returns : goal.returns
 returns c =
