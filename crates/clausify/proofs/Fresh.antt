@@ -136,8 +136,8 @@ name_new : (input : List Symbol) (c f a : ℕ) → c + (length input + 1) < 10 ^
 name_new input c f a h k = by (a == 0)
   where
     by : (b : Bool) → IsNewName input (if b then numbered 99 (next_free input 99 c) else numbered 102 (next_free input 102 f))
-    by true = record { letter = 99; number = next_free input 99 c; skolem = inl refl; is = refl; free = next_is_free input 99 c (omega (arith, h)) }
-    by false = record { letter = 102; number = next_free input 102 f; skolem = inr refl; is = refl; free = next_is_free input 102 f (omega (arith, k)) }
+    by true = record { letter = 99; number = next_free input 99 c; skolem = inl refl; is = refl; few = omega (arith, h, next_upto input 99 c); free = next_is_free input 99 c (omega (arith, h)) }
+    by false = record { letter = 102; number = next_free input 102 f; skolem = inr refl; is = refl; few = omega (arith, k, next_upto input 102 f); free = next_is_free input 102 f (omega (arith, k)) }
 
 -- a symbol more takes no more numbers than the table is long, and one
 constant_upto : (input : List Symbol) (c a : ℕ) → next_constant input c a ≤ c + (length input + 1)

@@ -21,7 +21,7 @@ no_clash input table name arity none new = by (number_of table name arity) refl
 
     kinds : (n : ℕ) (k : Kind) → kind_at table n ≡ k → number_of table name arity ≡ Some n → not (is_same_kind k Function) ≡ false
     kinds n Function k e = refl
-    kinds n Relation k e = absurd (true≢false (sym (none n new.letter new.number k new.skolem (same n e ∙ new.is)) ∙ ap (is_named input) (sym new.is) ∙ new.free))
+    kinds n Relation k e = absurd (true≢false (sym (none n new.letter new.number new.few k new.skolem (same n e ∙ new.is)) ∙ ap (is_named input) (sym new.is) ∙ new.free))
 
     by : (o : Option ℕ) → number_of table name arity ≡ o → option_map_or (λ n. not (is_same_kind (kind_at table n) Function)) o false ≡ false
     by None e = refl
@@ -39,7 +39,7 @@ still_none input table name arity none = by (is_some (number_of table name arity
 
     by : (b : Bool) → HasNoSkolemRelation input (if b then table else table ++ symbol name arity Function ∷ [])
     by true = none
-    by false = λ r letter n k l e. let before = kind_before table r k in none r letter n before.0 l (sym before.1 ∙ e)
+    by false = λ r letter n few k l e. let before = kind_before table r k in none r letter n few before.0 l (sym before.1 ∙ e)
 
 pub kept_through : (a b c : List Symbol) → KeepsNumbers a b → KeepsNumbers b c → KeepsNumbers a c
 kept_through a b c h k n s e = k n s (h n s e)

@@ -1,5 +1,5 @@
 -- The names of Skolem symbols, and their numbers in a table.
-use Rattle.std.specs.Prelude.{ℕ, zero, suc, ◌≡◌, ◌⊎◌, ◌+◌, ◌==◌, Bool, true, false, if◌then◌else◌, length, List, [], ◌∷◌, unwrap_or}
+use Rattle.std.specs.Prelude.{ℕ, zero, suc, ◌≡◌, ◌⊎◌, ◌+◌, ◌^◌, ◌<◌, ◌==◌, Bool, true, false, if◌then◌else◌, length, List, [], ◌∷◌, unwrap_or}
 use Rattle.std.specs.List.{list_any}
 use Rattle.std.specs.Str.{bytes_eq}
 use Rattle.std.specs.Fmt.{decimal}
@@ -55,9 +55,9 @@ abbrev pub entered_numbers : List Symbol → List Symbol → List ℕ
 entered_numbers table [] = []
 entered_numbers table (s ∷ ss) = unwrap_or (number_of (entered table s) s.name s.arity) 0 ∷ entered_numbers (entered table s) ss
 
--- A relation of the table that is named like a Skolem symbol has a name of the input.
+-- A relation of the table that is named like a Skolem symbol, with a number of at most 64 digits, has a name of the input.
 abbrev pub HasNoSkolemRelation : List Symbol → List Symbol → Type 0
-HasNoSkolemRelation input table = (r letter n : ℕ) → kind_at table r ≡ Relation → (letter ≡ 99) ⊎ (letter ≡ 102) → name_at table r ≡ numbered letter n
+HasNoSkolemRelation input table = (r letter n : ℕ) → n < 10 ^ 64 → kind_at table r ≡ Relation → (letter ≡ 99) ⊎ (letter ≡ 102) → name_at table r ≡ numbered letter n
     → is_named input (numbered letter n) ≡ true
 
 -- the name is one of a Skolem symbol, and no name of the input
@@ -66,4 +66,5 @@ pub record IsNewName (input : List Symbol) (name : List ℕ) : Type 0 where
   pub number : ℕ
   pub skolem : (letter ≡ 99) ⊎ (letter ≡ 102)
   pub is : name ≡ numbered letter number
+  pub few : number < 10 ^ 64
   pub free : is_named input name ≡ false

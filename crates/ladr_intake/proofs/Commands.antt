@@ -2,7 +2,7 @@
 use Rattle.std.proofs.Common.{◌≡◌, ℕ, List, [], Result, Ok, Err, inl, inr, refl, sym, subst}
 use Rattle.ladr_intake.specs.Command.{End, own, refused, read_fault, end_of, MayStand, EndsBy, Runs}
 use Rattle.ladr_intake.specs.Input.{AreTaken, IsAllRead}
-use Rattle.ladr_intake.specs.Refusals.{IsNoInput, IsToldBy, stop_of_cut, refusal_text, read_fault_line}
+use Rattle.ladr_intake.specs.Refusals.{IsNoInput, IsToldBy, refuses_none, stop_of_cut, refusal_text, read_fault_line}
 use Rattle.ladr_intake.specs.declared.stops.NoInput.{NoInput}
 use Rattle.ladr_intake.specs.declared.stops.NoInput.TheVariants as none
 use Rattle.ladr_intake.specs.declared.stops.Refused.{Refused}
@@ -22,6 +22,13 @@ no_input_taken refuses a b bytes (none.Refused why) (inl h) = read_taken a b byt
 no_input_taken refuses a b bytes (none.Refused why) (inr h) = inl h.0.0
 no_input_taken refuses a b bytes none.ReadFault h = inr h.0
 no_input_taken refuses a b bytes none.Memory h = h
+
+-- what is refused for nothing that it says is refused in every language
+pub in_every_language : (refuses : List ℕ → Refused → Type 0) (a b : Inflow) (bytes : List ℕ) (why : NoInput) → IsNoInput refuses_none a b bytes why → IsNoInput refuses a b bytes why
+in_every_language refuses a b bytes (none.Refused why) (inl h) = absurd h.1
+in_every_language refuses a b bytes (none.Refused why) (inr h) = inr h
+in_every_language refuses a b bytes none.ReadFault h = h
+in_every_language refuses a b bytes none.Memory h = h
 
 -- what is told of this input
 pub told_of : (why why' : NoInput) (a b : Outflow) (stop : Stop) → why' ≡ why → IsToldBy why a b stop → IsToldBy why' a b stop

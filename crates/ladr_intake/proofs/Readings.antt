@@ -20,7 +20,7 @@ use Rattle.ladr_formulas.specs.declared.styles.Mode.TheVariants.{Tester}
 same_said : (s : Sofar) (r : FileRead) → IsOf s r → all_said r.problem.inputs.items ≡ said_in s
 same_said s r of = sym (said_same r.problem.inputs.items) ∙ ap (map (λ f. said f.0 f.1.formula)) of.formulas
 
-same_stated : (s : Sofar) (r : FileRead) → IsOf s r → stated_in s ≡ stated_of r.problem
+pub same_stated : (s : Sofar) (r : FileRead) → IsOf s r → stated_in s ≡ stated_of r.problem
 same_stated s r of = sym (λ i. stated (of.symbols i) (same_said s r of i))
 
 pub poses_read : (m : Mode) (bytes : List ℕ) (r : FileRead) → (s : Sofar) × Says m bytes (problem s) × IsOf s r → poses m bytes (posed_by r)

@@ -44,6 +44,10 @@ too_large_line byte what = as_line (codes "ladr: too large at byte " ++ decimal 
 abbrev pub read_fault_line : List ℕ
 read_fault_line = as_line (codes "ladr: read fault")
 
+-- a formula has too many clauses, for a command that makes clauses
+abbrev pub clause_limit_line : ℕ → List ℕ
+clause_limit_line formula = as_line (codes "ladr: clause limit at formula " ++ decimal formula)
+
 -- the line of a refusal
 abbrev pub refusal_text : Refused → List ℕ
 refusal_text (Unreadable place) = unreadable_line place.byte place.line place.column place.token
@@ -55,6 +59,10 @@ abbrev pub refuses : Mode → List ℕ → Refused → Type 0
 refuses m bytes (Unreadable place) = Says m bytes (unreadable place.byte) × IsPlace bytes place
 refuses m bytes (Misuse place why) = Says m bytes (misused place.byte why) × IsPlace bytes place
 refuses m bytes (TooLarge byte what) = Says m bytes (too_large byte what)
+
+-- nothing is refused for what it says
+abbrev pub refuses_none : List ℕ → Refused → Type 0
+refuses_none bytes why = ⊥
 
 -- An input is refused: it was read, and is refused by a language; or one byte too many was read.
 abbrev pub IsRefused : (List ℕ → Refused → Type 0) → Inflow → Inflow → List ℕ → Refused → Type 0

@@ -1,6 +1,6 @@
 // The lines of the refusals.
 ghost use Rattle.std.specs.Prelude.{◌≡◌, IfOk};
-ghost use Rattle.ladr_intake.specs.Refusals.{limit_text, unreadable_line, misuse_line, too_large_line, read_fault_line, refusal_text};
+ghost use Rattle.ladr_intake.specs.Refusals.{limit_text, unreadable_line, misuse_line, too_large_line, read_fault_line, clause_limit_line, refusal_text};
 
 use crate::stops::Refused;
 use ladr_output::{decimal, text};
@@ -84,5 +84,16 @@ pub fn read_fault(alloc: Global) -> Result<Vec<u8>, AllocError>
 {
     let mut out = Vec::new(alloc);
     text(&mut out, b"ladr: read fault\n")?;
+    Ok(out)
+}
+
+/// For a formula that has too many clauses, in the commands that make clauses.
+pub fn clause_limit(alloc: Global, formula: u64) -> Result<Vec<u8>, AllocError>
+    ensures { IfOk result (λ v. v.items ≡ clause_limit_line formula) }
+{
+    let mut out = Vec::new(alloc);
+    text(&mut out, b"ladr: clause limit at formula ")?;
+    decimal(&mut out, formula)?;
+    text(&mut out, b"\n")?;
     Ok(out)
 }

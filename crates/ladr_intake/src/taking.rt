@@ -4,7 +4,7 @@ ghost use Rattle.fol_core.specs.Stated.{stated_of, IsWellFormed};
 ghost use Rattle.ladr_commands.specs.ByName.{ByName};
 ghost use Rattle.ladr_intake.specs.Input.{IsAllRead};
 ghost use Rattle.ladr_intake.specs.Posed.{poses, interprets, posed_by, interpreted_by};
-ghost use Rattle.ladr_intake.specs.Refusals.{IsNoInput, refuses, no_input_of};
+ghost use Rattle.ladr_intake.specs.Refusals.{IsNoInput, refuses, refuses_none, no_input_of};
 ghost use Rattle.ladr_options.specs.Ranges.{AreInRange};
 ghost use Rattle.ladr_formulas.specs.declared.styles.Mode.TheVariants.{Tester};
 
@@ -14,6 +14,24 @@ use ladr_io::{ReadAll, Source, read_all};
 use ladr_lex::MOST_BYTES;
 use ladr_problem::{FileRead, Limit, ReadError, read_problem};
 use std::alloc::Global;
+
+/// Reads all of the input.
+pub fn take_bytes<S: Source>(alloc: Global, source: &mut S) -> Result<Vec<u8>, NoInput>
+    requires { (S.inflow source.old).over ≡ false }
+    ensures read { IfOk result (λ v. IsAllRead (S.inflow source.old) (S.inflow source.new) v.items) }
+    ensures none { IfErr result (λ why. (bytes : List ℕ)
+        × IsNoInput refuses_none (S.inflow source.old) (S.inflow source.new) bytes why) }
+{
+    match read_all(alloc, source, MOST_BYTES) {
+        Ok(bytes) => Ok(bytes),
+        Err(ReadAll::TooLarge) => Err(NoInput::Refused(Refused::TooLarge {
+            byte: MOST_BYTES,
+            what: Limit::Input,
+        })),
+        Err(ReadAll::Failed) => Err(NoInput::ReadFault),
+        Err(ReadAll::Memory) => Err(NoInput::Memory),
+    }
+}
 
 /// Reads the input, and what it says to a program.
 pub fn take_in<S: Source>(alloc: Global, program: Mode, source: &mut S) -> Result<FileRead, NoInput>
@@ -31,22 +49,17 @@ pub fn take_in<S: Source>(alloc: Global, program: Mode, source: &mut S) -> Resul
     ensures none { IfErr result (λ why. (bytes : List ℕ)
         × IsNoInput (refuses program) (S.inflow source.old) (S.inflow source.new) bytes why) }
 {
-    match read_all(alloc, source, MOST_BYTES) {
+    match take_bytes(alloc, source) {
         Ok(bytes) => match read_problem(alloc, program, &bytes) {
             Ok(read) => Ok(read),
-            Err(error) => Err(refused(error)),
+            Err(error) => Err(no_input(error)),
         },
-        Err(ReadAll::TooLarge) => Err(NoInput::Refused(Refused::TooLarge {
-            byte: MOST_BYTES,
-            what: Limit::Input,
-        })),
-        Err(ReadAll::Failed) => Err(NoInput::ReadFault),
-        Err(ReadAll::Memory) => Err(NoInput::Memory),
+        Err(why) => Err(why),
     }
 }
 
-// What is read states no problem.
-fn refused(error: ReadError) -> NoInput
+/// What is read states no problem.
+pub fn no_input(error: ReadError) -> NoInput
     ensures { result ≡ no_input_of error }
 {
     match error {

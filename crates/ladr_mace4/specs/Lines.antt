@@ -1,6 +1,7 @@
 -- What is printed of a search, models apart.
 use Rattle.std.specs.Prelude.{ℕ, List, ◌++◌, codes}
 use Rattle.std.specs.Fmt.{decimal}
+use Rattle.ladr_intake.specs.Refusals.{clause_limit_line}
 use Rattle.ladr_mace4.specs.declared.ends.SearchEnd.{SearchEnd}
 use Rattle.ladr_mace4.specs.declared.ends.SearchEnd.TheVariants.{MaxModels, Exhausted, AllModels, MaxMegs, MaxSeconds, GroundLimit, ClauseLimit}
 use Rattle.ladr_output.specs.Telling.{as_line}
@@ -30,10 +31,6 @@ seconds_line first last =
 -- a size has too many cells by far
 abbrev pub ground_limit_line : ℕ → List ℕ
 ground_limit_line n = as_line (codes "ladr: ground limit at size " ++ decimal n)
-
--- a formula has too many clauses
-abbrev pub clause_limit_line : ℕ → List ℕ
-clause_limit_line formula = as_line (codes "ladr: clause limit at formula " ++ decimal formula)
 
 -- the lines that a search ends with, so many models having been printed
 abbrev pub last_lines : ℕ → List ℕ → List ℕ

@@ -1,9 +1,10 @@
 // The lines of a search for models.
 ghost use Rattle.std.specs.Prelude.{◌≡◌, ◌++◌, OnOk, IfOk, codes};
 ghost use Rattle.std.specs.Fmt.{decimal};
-ghost use Rattle.ladr_mace4.specs.Lines.{size_line, skipped_line, exhausted_line, models_line, seconds_line, ground_limit_line, clause_limit_line, last_lines, end_text};
+ghost use Rattle.ladr_mace4.specs.Lines.{size_line, skipped_line, exhausted_line, models_line, seconds_line, ground_limit_line, last_lines, end_text};
 
 use crate::ends::SearchEnd;
+use ladr_intake::clause_limit;
 use ladr_output::{decimal, text};
 use std::alloc::{AllocError, Global};
 
@@ -51,17 +52,6 @@ fn ground_limit(alloc: Global, n: u64) -> Result<Vec<u8>, AllocError>
     let mut out = Vec::new(alloc);
     text(&mut out, b"ladr: ground limit at size ")?;
     decimal(&mut out, n)?;
-    text(&mut out, b"\n")?;
-    Ok(out)
-}
-
-// A formula has too many clauses.
-fn clause_limit(alloc: Global, formula: u64) -> Result<Vec<u8>, AllocError>
-    ensures { IfOk result (λ v. v.items ≡ clause_limit_line formula) }
-{
-    let mut out = Vec::new(alloc);
-    text(&mut out, b"ladr: clause limit at formula ")?;
-    decimal(&mut out, formula)?;
     text(&mut out, b"\n")?;
     Ok(out)
 }

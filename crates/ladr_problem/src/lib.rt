@@ -17,5 +17,5 @@ mod take;
 
 pub use item_laws::{one_item, same_tokens, worked_cuts, worked_item_faults, worked_items};
 pub use laws::{one_outcome, problems_are_proper, worked, worked_formulas};
-pub use read::{FileRead, read_problem};
+pub use read::{FileRead, read_problem, shown, shown_byte};
 pub use refusal::{Limit, Place, ReadError};

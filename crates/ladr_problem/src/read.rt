@@ -90,8 +90,8 @@ fn take_file(
     }
 }
 
-// A byte as it is shown.
-fn shown_byte(byte: u8) -> u8
+/// A byte as it is shown.
+pub fn shown_byte(byte: u8) -> u8
     ensures { result ≡ shown_byte byte }
 {
     if (33..=126).contains(&byte) {
@@ -121,8 +121,8 @@ fn front<'a>(text: &'a [u8], most: usize) -> &'a [u8]
     }
 }
 
-// What is shown of a token.
-fn shown(alloc: Global, token: &Token) -> Result<Name, AllocError>
+/// What is shown of a token.
+pub fn shown(alloc: Global, token: &Token) -> Result<Name, AllocError>
     ensures { IfOk result (λ name. name ≡ shown (piece_of token.now)) }
 {
     let mut bytes = Vec::new(alloc);

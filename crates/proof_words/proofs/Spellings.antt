@@ -11,8 +11,9 @@ use Rattle.proof_words.specs.Classes.{is_of}
 use Rattle.proof_words.specs.Faults.{BeginsWords, AreFirstWords, HoldsNoWords, IsBadWordToken}
 use Rattle.proof_words.specs.Spelling.{Spelling, complete, wants, satellites, path, rewritings, words, number_then, satellite_then, subterm_then, behind_satellites, behind_path, behind_rewritings, more_or, one_more, no_more, after, at_end, outcome, WordsOutcome, reads, stops, SaysWords}
 use Rattle.proof_words.specs.Written.{Written, WrittenFirst, written, satellite}
+use Rattle.proof_words.specs.declared.names.ContentKind.TheVariants.{Formula, Clause, Either}
 use Rattle.proof_words.specs.declared.class.TokenClass.{TokenClass}
-use Rattle.proof_words.specs.declared.class.TokenClass.TheVariants.{Open, Close, OpenSquare, CloseSquare, Comma, Stop, Number, LiteralName, LineWord, FormulaWord, StepWord, CommaOrClose, CommaOrCloseSquare}
+use Rattle.proof_words.specs.declared.class.TokenClass.TheVariants.{Open, Close, OpenSquare, CloseSquare, Comma, Stop, Number, LiteralName, FirstWord, StepWord, CommaOrClose, CommaOrCloseSquare}
 
 -- a token of each class
 abbrev pub example : TokenClass → Lexeme
@@ -24,8 +25,9 @@ example Comma = comma
 example Stop = full_stop
 example Number = symbol ordinary (codes "0")
 example LiteralName = symbol ordinary (codes "a")
-example LineWord = symbol ordinary (codes "goal")
-example FormulaWord = symbol ordinary (codes "goal")
+example (FirstWord Formula) = symbol ordinary (codes "goal")
+example (FirstWord Clause) = symbol ordinary (codes "copy")
+example (FirstWord Either) = symbol ordinary (codes "goal")
 example StepWord = symbol ordinary (codes "xx")
 example CommaOrClose = close_paren
 example CommaOrCloseSquare = close_square
@@ -39,8 +41,9 @@ example_is Comma = refl
 example_is Stop = refl
 example_is Number = refl
 example_is LiteralName = refl
-example_is LineWord = refl
-example_is FormulaWord = refl
+example_is (FirstWord Formula) = refl
+example_is (FirstWord Clause) = refl
+example_is (FirstWord Either) = refl
 example_is StepWord = refl
 example_is CommaOrClose = refl
 example_is CommaOrCloseSquare = refl

@@ -5,10 +5,11 @@ use Rattle.derivation.specs.Later.{LaterWord, flipped, merged, reflexive, unit_d
 use Rattle.derivation.specs.declared.words.Satellite.{Satellite}
 use Rattle.ladr_commands.specs.Wanted.{is_comma}
 use Rattle.ladr_lex.specs.Lexeme.{Lexeme}
-use Rattle.proof_words.specs.Classes.{is_of, number_of, place_of, first_named, formula_named, later_named}
+use Rattle.proof_words.specs.Classes.{is_of, number_of, place_of, first_named, later_named}
 use Rattle.proof_words.specs.Written.{Written, WrittenFirst, written, satellite, as_assumption, as_goal, by_clausify, by_deny, by_copy, by_back_rewrite, by_back_unit_del, by_resolve, by_hyper, by_ur, by_factor, by_para, by_xx_res}
 use Rattle.proof_words.specs.declared.class.TokenClass.{TokenClass}
-use Rattle.proof_words.specs.declared.class.TokenClass.TheVariants.{Open, Close, OpenSquare, CloseSquare, Comma, Stop, Number, LiteralName, LineWord, FormulaWord, StepWord, CommaOrClose, CommaOrCloseSquare}
+use Rattle.proof_words.specs.declared.class.TokenClass.TheVariants.{Open, Close, OpenSquare, CloseSquare, Comma, Stop, Number, LiteralName, FirstWord, StepWord, CommaOrClose, CommaOrCloseSquare}
+use Rattle.proof_words.specs.declared.names.ContentKind.{ContentKind}
 use Rattle.proof_words.specs.declared.names.FirstName.{FirstName}
 use Rattle.proof_words.specs.declared.names.FirstName.TheVariants as first
 use Rattle.proof_words.specs.declared.names.LaterName.{LaterName}
@@ -131,12 +132,12 @@ named first.Factor = two_places (λ n a b. behind_first (by_factor n a b))
 named first.Para = paramodulation (λ n a s m b p. behind_first (by_para n a s m b p))
 named first.XxRes = number_and_place (λ n a. behind_first (by_xx_res n a))
 
--- the words behind a clause, or behind another formula
-abbrev pub behind_line : Bool → Spelling
-behind_line clausal = if clausal then wants LineWord (λ t. named (first_named t)) else wants FormulaWord (λ t. named (formula_named t))
+-- the words behind content of a kind
+abbrev pub behind_content : ContentKind → Spelling
+behind_content kind = wants (FirstWord kind) (λ t. named (first_named t))
 
-abbrev pub line_words : Bool → Spelling
-line_words clausal = passing OpenSquare (behind_line clausal)
+abbrev pub line_words : ContentKind → Spelling
+line_words kind = passing OpenSquare (behind_content kind)
 
 -- what may stand behind a token, if it may stand here
 abbrev pub after : Spelling → Lexeme → Option Spelling

@@ -1,5 +1,5 @@
 -- The words of a line as they are written.
-use Rattle.std.specs.Prelude.{ℕ, List, [], ◌∷◌, map}
+use Rattle.std.specs.Prelude.{ℕ, Bool, true, false, not, List, [], ◌∷◌, map}
 use Rattle.derivation.specs.Later.{LaterWord}
 use Rattle.derivation.specs.Lines.{FirstWord, assumed, wanted, clausified, denied, copied, resolved, factored, paramodulated, xx_resolved}
 use Rattle.derivation.specs.View.{later_of}
@@ -7,6 +7,8 @@ use Rattle.derivation.specs.declared.line.Just.{Just}
 use Rattle.derivation.specs.declared.words.First.{First}
 use Rattle.derivation.specs.declared.words.First.TheVariants.{Assumption, Goal, Clausify, Deny, Copy, BackRewrite, BackUnitDel, Resolve, Hyper, Ur, Factor, Para, XxRes}
 use Rattle.derivation.specs.declared.words.Satellite.{Satellite}
+use Rattle.proof_words.specs.declared.names.ContentKind.{ContentKind}
+use Rattle.proof_words.specs.declared.names.ContentKind.TheVariants.{Formula, Clause, Either}
 
 -- the first word with its numbers, places, side and path
 pub data WrittenFirst : Type 0 where
@@ -35,6 +37,18 @@ written first later = record { first = first; later = later }
 -- a literal of the nucleus, and the clause and the literal that meet it
 abbrev pub satellite : ℕ → ℕ → ℕ → Satellite
 satellite place clause literal = record { place = place; clause = clause; literal = literal }
+
+-- `assumption` and `goal` stand behind formulas, all others behind clauses
+abbrev pub states_formula : WrittenFirst → Bool
+states_formula as_assumption = true
+states_formula as_goal = true
+states_formula w = false
+
+-- whether a first word may stand behind content of a kind
+abbrev pub suits : ContentKind → WrittenFirst → Bool
+suits Formula w = states_formula w
+suits Clause w = not (states_formula w)
+suits Either w = true
 
 -- how the code's words are written
 abbrev pub written_first : First → WrittenFirst

@@ -3,7 +3,7 @@ ghost use Rattle.std.specs.Prelude.{◌≡◌};
 ghost use Rattle.ladr_lex.specs.Lexeme.{lexeme_of};
 ghost use Rattle.proof_words.specs.Classes.{is_of, word_text};
 
-use crate::names::{first_name, formula_name, is_literal_name, later_name};
+use crate::names::{ContentKind, first_name, is_literal_name, later_name};
 use ladr_lex::{Token, TokenKind, whole_number};
 
 /// A class of tokens that may stand at a place.
@@ -17,8 +17,7 @@ pub enum TokenClass {
     Stop,
     Number,
     LiteralName,
-    LineWord,
-    FormulaWord,
+    FirstWord(ContentKind),
     StepWord,
     CommaOrClose,
     CommaOrCloseSquare,
@@ -38,8 +37,10 @@ impl TokenClass {
             TokenClass::Stop => token.kind == TokenKind::Stop,
             TokenClass::Number => whole_number(word_text(token)).is_some(),
             TokenClass::LiteralName => is_literal_name(word_text(token)),
-            TokenClass::LineWord => first_name(word_text(token)).is_some(),
-            TokenClass::FormulaWord => formula_name(word_text(token)).is_some(),
+            TokenClass::FirstWord(kind) => match first_name(word_text(token)) {
+                Some(name) => kind.takes(name),
+                None => false,
+            },
             TokenClass::StepWord => later_name(word_text(token)).is_some(),
             TokenClass::CommaOrClose => {
                 token.kind == TokenKind::Comma || token.kind == TokenKind::Close

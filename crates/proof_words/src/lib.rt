@@ -12,4 +12,5 @@ mod steps;
 
 pub use fault::WordsFault;
 pub use laws::{one_reading, words_mean, worked};
+pub use names::ContentKind;
 pub use reading::read_words;

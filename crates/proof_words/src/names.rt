@@ -3,7 +3,7 @@ ghost use Rattle.std.specs.Prelude.{◌≡◌, ◌+◌, ◌*◌, ◌-◌};
 ghost use Rattle.std.specs.Char.{is_ascii_lowercase};
 ghost use Rattle.std.specs.List.{list_all};
 ghost use Rattle.ladr_lex.specs.Numeral.{fitting};
-ghost use Rattle.proof_words.specs.Classes.{first_name, formula_name, later_name};
+ghost use Rattle.proof_words.specs.Classes.{first_name, later_name, names_formula, may_begin};
 ghost use Rattle.proof_words.specs.Names.{is_literal_name, place_named};
 
 /// The word that a line's words begin with.
@@ -22,6 +22,35 @@ pub enum FirstName {
     Factor,
     Para,
     XxRes,
+}
+
+// Whether the word is one of formulas.
+fn names_formula(name: FirstName) -> bool
+    ensures { result ≡ names_formula name }
+{
+    matches!(name, FirstName::Assumption | FirstName::Goal)
+}
+
+/// What the words of a line stand behind: a formula that is no clause, a clause that is no formula, or content that may be
+/// either.
+#[derive(Clone, Copy, Debug, PartialEq, Eq)]
+pub enum ContentKind {
+    Formula,
+    Clause,
+    Either,
+}
+
+impl ContentKind {
+    /// Whether words behind it may begin with this one.
+    pub fn takes(self, name: FirstName) -> bool
+        ensures { result ≡ may_begin self name }
+    {
+        match self {
+            ContentKind::Formula => names_formula(name),
+            ContentKind::Clause => !names_formula(name),
+            ContentKind::Either => true,
+        }
+    }
 }
 
 /// A word behind the first.
@@ -64,19 +93,6 @@ pub fn first_name(text: &[u8]) -> Option<FirstName>
         Some(FirstName::Para)
     } else if text == b"xx_res".as_slice() {
         Some(FirstName::XxRes)
-    } else {
-        None
-    }
-}
-
-/// The first word of a formula that a text is.
-pub fn formula_name(text: &[u8]) -> Option<FirstName>
-    ensures { result ≡ formula_name text.now }
-{
-    if text == b"assumption".as_slice() {
-        Some(FirstName::Assumption)
-    } else if text == b"goal".as_slice() {
-        Some(FirstName::Goal)
     } else {
         None
     }

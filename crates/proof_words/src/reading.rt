@@ -1,35 +1,37 @@
 // Reading the words of a line.
-ghost use Rattle.std.specs.Prelude.{◌≡◌, ℕ, List, Err, IfOk, IfErr};
+ghost use Rattle.std.specs.Prelude.{◌≡◌, true, false, ℕ, List, Err, IfOk, IfErr};
 ghost use Rattle.derivation.specs.declared.words.Satellite.{Satellite};
 ghost use Rattle.ladr_lex.specs.Lexeme.{lexemes_of};
+ghost use Rattle.proof_words.specs.Classes.{names_formula, may_begin};
 ghost use Rattle.proof_words.specs.Faults.{IsWordsFault, AreFirstWords};
-ghost use Rattle.proof_words.specs.Spelling.{Spelling, line_words, behind_line, behind_first, named, takes_steps, clash, equation_then, outcome, reads, stops};
-ghost use Rattle.proof_words.specs.Written.{written_of, written_first};
+ghost use Rattle.proof_words.specs.Spelling.{Spelling, line_words, behind_content, behind_first, named, takes_steps, clash, equation_then, outcome, reads, stops};
+ghost use Rattle.proof_words.specs.Written.{written_of, written_first, states_formula, suits};
 ghost use Rattle.proof_words.specs.declared.fault.Halt.TheVariants.{Bad};
 ghost use Rattle.proof_words.specs.declared.names.FirstName.TheVariants.{Resolve, Factor, Para, XxRes};
 
 use crate::class::{TokenClass, word_text};
 use crate::cursor::Walk;
 use crate::fault::{Halt, WordsFault};
-use crate::names::{FirstName, first_name, formula_name};
+use crate::names::{ContentKind, FirstName, first_name};
 use crate::parts::{number, one_number, pass, place, read_subterm, satellite, satellites};
 use crate::steps::{steps, stop};
 use derivation::{First, Just, Paramodulation, Satellite};
 use ladr_lex::Token;
 use std::alloc::Global;
 
-/// The words of a line that tokens begin with, behind a clause or behind another formula, and how many tokens they are.
+/// The words of a line that tokens begin with, behind content of a kind, and how many tokens they are.
 pub fn read_words(
     alloc: Global,
-    clausal: bool,
+    kind: ContentKind,
     tokens: &[Token],
 ) -> Result<(Just, usize), WordsFault>
-    ensures read { IfOk result (λ r. AreFirstWords (line_words clausal) (lexemes_of tokens.now)
+    ensures read { IfOk result (λ r. AreFirstWords (line_words kind) (lexemes_of tokens.now)
         (written_of r.0) r.1) }
-    ensures fault { IfErr result (IsWordsFault (line_words clausal) (lexemes_of tokens.now)) }
+    ensures suits { IfOk result (λ r. suits kind (written_first r.0.first) ≡ true) }
+    ensures fault { IfErr result (IsWordsFault (line_words kind) (lexemes_of tokens.now)) }
 {
     let mut walk = Walk::new(tokens);
-    match line(alloc, clausal, &mut walk) {
+    match line(alloc, kind, &mut walk) {
         Ok(just) => Ok((just, tokens.len() - walk.left())),
         Err(Halt::Bad) => Err(WordsFault::Bad(tokens.len() - walk.left())),
         Err(Halt::Memory) => Err(WordsFault::Memory),
@@ -37,36 +39,34 @@ pub fn read_words(
 }
 
 // All words.
-fn line(alloc: Global, clausal: bool, walk: &mut Walk) -> Result<Just, Halt>
-    ensures ok { IfOk result (λ j. outcome (line_words clausal) walk.old
+fn line(alloc: Global, kind: ContentKind, walk: &mut Walk) -> Result<Just, Halt>
+    ensures ok { IfOk result (λ j. outcome (line_words kind) walk.old
         ≡ reads (written_of j) walk.new) }
-    ensures bad { result ≡ Err Bad → outcome (line_words clausal) walk.old ≡ stops walk.new }
+    ensures suits { IfOk result (λ j. suits kind (written_first j.first) ≡ true) }
+    ensures bad { result ≡ Err Bad → outcome (line_words kind) walk.old ≡ stops walk.new }
 {
     pass(walk, TokenClass::OpenSquare)?;
-    let name = name(clausal, walk)?;
+    let name = name(kind, walk)?;
     let first = named(alloc, walk, name)?;
     behind_first(alloc, walk, first)
 }
 
 // The name of the first one.
-fn name(clausal: bool, walk: &mut Walk) -> Result<FirstName, Halt>
-    ensures ok { IfOk result (λ name. outcome (behind_line clausal) walk.old
+fn name(kind: ContentKind, walk: &mut Walk) -> Result<FirstName, Halt>
+    ensures ok { IfOk result (λ name. outcome (behind_content kind) walk.old
         ≡ outcome (named name) walk.new) }
-    ensures bad { result ≡ Err Bad → outcome (behind_line clausal) walk.old ≡ stops walk.new }
+    ensures begins { IfOk result (λ name. may_begin kind name ≡ true) }
+    ensures bad { result ≡ Err Bad → outcome (behind_content kind) walk.old ≡ stops walk.new }
 {
-    if clausal {
-        let token = walk.take(TokenClass::LineWord)?;
-        Ok(first_name(word_text(&token)).unwrap_or(FirstName::Assumption))
-    } else {
-        let token = walk.take(TokenClass::FormulaWord)?;
-        Ok(formula_name(word_text(&token)).unwrap_or(FirstName::Assumption))
-    }
+    let token = walk.take(TokenClass::FirstWord(kind))?;
+    Ok(first_name(word_text(&token)).unwrap_or(FirstName::Assumption))
 }
 
 // `(n,a,m,b)`
 fn resolve(walk: &mut Walk) -> Result<First, Halt>
     ensures ok { IfOk result (λ first. outcome (named Resolve) walk.old
         ≡ outcome (behind_first (written_first first)) walk.new) }
+    ensures sort { IfOk result (λ first. states_formula (written_first first) ≡ false) }
     ensures bad { result ≡ Err Bad → outcome (named Resolve) walk.old ≡ stops walk.new }
 {
     pass(walk, TokenClass::Open)?;
@@ -95,6 +95,7 @@ fn clash(alloc: Global, walk: &mut Walk) -> Result<(u64, Vec<Satellite>), Halt>
 fn factor(walk: &mut Walk) -> Result<First, Halt>
     ensures ok { IfOk result (λ first. outcome (named Factor) walk.old
         ≡ outcome (behind_first (written_first first)) walk.new) }
+    ensures sort { IfOk result (λ first. states_formula (written_first first) ≡ false) }
     ensures bad { result ≡ Err Bad → outcome (named Factor) walk.old ≡ stops walk.new }
 {
     pass(walk, TokenClass::Open)?;
@@ -111,6 +112,7 @@ fn factor(walk: &mut Walk) -> Result<First, Halt>
 fn xx_res(walk: &mut Walk) -> Result<First, Halt>
     ensures ok { IfOk result (λ first. outcome (named XxRes) walk.old
         ≡ outcome (behind_first (written_first first)) walk.new) }
+    ensures sort { IfOk result (λ first. states_formula (written_first first) ≡ false) }
     ensures bad { result ≡ Err Bad → outcome (named XxRes) walk.old ≡ stops walk.new }
 {
     pass(walk, TokenClass::Open)?;
@@ -141,6 +143,7 @@ fn equation(walk: &mut Walk) -> Result<(u64, u64, u64), Halt>
 fn para(alloc: Global, walk: &mut Walk) -> Result<First, Halt>
     ensures ok { IfOk result (λ first. outcome (named Para) walk.old
         ≡ outcome (behind_first (written_first first)) walk.new) }
+    ensures sort { IfOk result (λ first. states_formula (written_first first) ≡ false) }
     ensures bad { result ≡ Err Bad → outcome (named Para) walk.old ≡ stops walk.new }
 {
     pass(walk, TokenClass::Open)?;
@@ -162,6 +165,8 @@ fn para(alloc: Global, walk: &mut Walk) -> Result<First, Halt>
 fn named(alloc: Global, walk: &mut Walk, name: FirstName) -> Result<First, Halt>
     ensures ok { IfOk result (λ first. outcome (named name) walk.old
         ≡ outcome (behind_first (written_first first)) walk.new) }
+    ensures sort { IfOk result (λ first. states_formula (written_first first)
+        ≡ names_formula name) }
     ensures bad { result ≡ Err Bad → outcome (named name) walk.old ≡ stops walk.new }
 {
     match name {
@@ -201,6 +206,7 @@ fn takes_steps(first: &First) -> bool
 fn behind_first(alloc: Global, walk: &mut Walk, first: First) -> Result<Just, Halt>
     ensures ok { IfOk result (λ j. outcome (behind_first (written_first first)) walk.old
         ≡ reads (written_of j) walk.new) }
+    ensures first { IfOk result (λ j. written_first j.first ≡ written_first first) }
     ensures bad { result ≡ Err Bad → outcome (behind_first (written_first first)) walk.old
         ≡ stops walk.new }
 {

@@ -1,6 +1,6 @@
 use derivation::First;
 use ladr_lex::tokens;
-use proof_words::{WordsFault, read_words};
+use proof_words::{ContentKind, WordsFault, read_words};
 use std::test::Fail;
 
 // What stands behind the words is left.
@@ -8,7 +8,7 @@ use std::test::Fail;
 fn words_are_read(rt: HostRuntime) -> Result<(), Fail> {
     let text = b"[hyper(4,a,5,b,c,6,a),flip(a)]. 8 p.";
     let tokens = tokens(rt.alloc(), text).map_err(|_| "memory")?;
-    let (just, count) = read_words(rt.alloc(), true, &tokens).map_err(|_| "words")?;
+    let (just, count) = read_words(rt.alloc(), ContentKind::Either, &tokens).map_err(|_| "words")?;
     assert_eq!(rt; count, 24);
     assert!(rt; matches!(&just.first, First::Hyper(4, satellites) if satellites.len() == 2));
     assert_eq!(rt; just.steps.len(), 1);
@@ -18,7 +18,7 @@ fn words_are_read(rt: HostRuntime) -> Result<(), Fail> {
 #[test]
 fn the_first_bad_token_is_told(rt: HostRuntime) -> Result<(), Fail> {
     let tokens = tokens(rt.alloc(), b"[copy(07)].").map_err(|_| "memory")?;
-    let read = read_words(rt.alloc(), true, &tokens);
+    let read = read_words(rt.alloc(), ContentKind::Either, &tokens);
     assert!(rt; matches!(read, Err(WordsFault::Bad(3))));
     Ok(())
 }

@@ -1,8 +1,9 @@
-use Rattle.std.proofs.Common.{refl, true, false}
+use Rattle.std.proofs.Common.{refl}
 use Rattle.ladr_lex.specs.Bytes.{is_blank, is_ordinary, is_special}
 use Rattle.ladr_lex.specs.Lexed.{start_of}
 use Rattle.proof_words.specs.Spelling.{line_words}
 use Rattle.proof_words.specs.Worked.{tokens_of}
+use Rattle.proof_words.specs.declared.names.ContentKind.TheVariants.{Formula, Clause, Either}
 use Rattle.proof_words.proofs.Spellings.{first_bad}
 use Rattle.proof_words.proofs.laws.worked.Goals as goal
 
@@ -58,26 +59,34 @@ pub returns-clause-far : goal.returns-clause-far
 unfolding start_of is_blank is_ordinary is_special
 returns-clause-far _ = refl
 
+pub returns-clause-clause : goal.returns-clause-clause
+unfolding start_of is_blank is_ordinary is_special
+returns-clause-clause _ = refl
+
+pub returns-clause-no_formula : goal.returns-clause-no_formula
+unfolding start_of is_blank is_ordinary is_special
+returns-clause-no_formula _ = let bad = first_bad (line_words Clause) (tokens_of "[goal].") _ refl in bad
+
 pub returns-clause-formula : goal.returns-clause-formula
 unfolding start_of is_blank is_ordinary is_special
-returns-clause-formula _ = let bad = first_bad (line_words false) (tokens_of "[copy(5)].") _ refl in bad
+returns-clause-formula _ = let bad = first_bad (line_words Formula) (tokens_of "[copy(5)].") _ refl in bad
 
 pub returns-clause-no_group : goal.returns-clause-no_group
 unfolding start_of is_blank is_ordinary is_special
-returns-clause-no_group _ = let bad = first_bad (line_words true) (tokens_of "[hyper(4)].") _ refl in bad
+returns-clause-no_group _ = let bad = first_bad (line_words Either) (tokens_of "[hyper(4)].") _ refl in bad
 
 pub returns-clause-no_rewriting : goal.returns-clause-no_rewriting
 unfolding start_of is_blank is_ordinary is_special
-returns-clause-no_rewriting _ = let bad = first_bad (line_words true) (tokens_of "[copy(1),rewrite([])].") _ refl in bad
+returns-clause-no_rewriting _ = let bad = first_bad (line_words Either) (tokens_of "[copy(1),rewrite([])].") _ refl in bad
 
 pub returns-clause-zeros : goal.returns-clause-zeros
 unfolding start_of is_blank is_ordinary is_special
-returns-clause-zeros _ = let bad = first_bad (line_words true) (tokens_of "[copy(07)].") _ refl in bad
+returns-clause-zeros _ = let bad = first_bad (line_words Either) (tokens_of "[copy(07)].") _ refl in bad
 
 pub returns-clause-none_behind : goal.returns-clause-none_behind
 unfolding start_of is_blank is_ordinary is_special
-returns-clause-none_behind _ = let bad = first_bad (line_words true) (tokens_of "[deny(2),flip(a)].") _ refl in bad
+returns-clause-none_behind _ = let bad = first_bad (line_words Either) (tokens_of "[deny(2),flip(a)].") _ refl in bad
 
 pub returns-clause-cut_off : goal.returns-clause-cut_off
 unfolding start_of is_blank is_ordinary is_special
-returns-clause-cut_off _ = let bad = first_bad (line_words true) (tokens_of "[xx_res(2,a") _ refl in bad
+returns-clause-cut_off _ = let bad = first_bad (line_words Either) (tokens_of "[xx_res(2,a") _ refl in bad

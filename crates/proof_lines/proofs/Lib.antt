@@ -1,0 +1,10 @@
+pub mod BadTokens
+pub mod ClauseReadings
+pub mod Clauses
+pub mod Contents
+pub mod FirstWords
+pub mod Levels
+pub mod OneLine
+pub mod PartLemmas
+pub mod Steps
+pub mod Stops

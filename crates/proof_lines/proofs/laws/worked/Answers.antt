@@ -1,0 +1,89 @@
+use Rattle.std.proofs.Common.{◌≡◌, refl, subst, inl, inr, lit≤, IsTrue}
+use Rattle.ladr_lex.specs.Bytes.{is_blank, is_ordinary, is_special}
+use Rattle.ladr_lex.specs.Lexed.{start_of}
+use Rattle.ladr_lex.specs.Operators.{standard_rows}
+use Rattle.ladr_reader.specs.Worked.{constant, binary, standard}
+use Rattle.ladr_reader.proofs.Complete.{item_one}
+use Rattle.ladr_reader.proofs.Lawful.{standard_lawful}
+use Rattle.ladr_reader.proofs.Live.{HasNames, table_names}
+use Rattle.ladr_reader.proofs.Runs.{run_item, bad_at}
+use Rattle.proof_lines.specs.ContentTokens.{HasKind}
+use Rattle.proof_lines.specs.Literals.{may_be_clause}
+use Rattle.proof_lines.specs.WorkedLines.{at_start}
+use Rattle.proof_words.specs.Spelling.{line_words}
+use Rattle.proof_words.specs.Worked.{tokens_of}
+use Rattle.proof_words.specs.declared.names.ContentKind.TheVariants.{Formula}
+use Rattle.proof_words.proofs.Spellings.{first_bad}
+use Rattle.std.proofs.lemmas.Bool.{false≢true}
+use Rattle.proof_lines.proofs.laws.worked.Goals as goal
+
+names : HasNames standard
+names = table_names standard_rows
+
+pub returns-clause-clause : goal.returns-clause-clause
+unfolding start_of is_blank is_ordinary is_special
+returns-clause-clause _ = record {
+  number = _;
+  item = tokens_of "p(x) | -q.";
+  words = tokens_of "[copy(5)].";
+  split = refl;
+  is_number = refl;
+  number_is = refl;
+  content = (run_item standard standard_lawful _ _ 790 refl, refl);
+  says = refl;
+}
+
+pub returns-clause-formula : goal.returns-clause-formula
+unfolding start_of is_blank is_ordinary is_special
+returns-clause-formula _ = record {
+  number = _;
+  item = tokens_of "p & q # label(a).";
+  words = tokens_of "[goal].";
+  split = refl;
+  is_number = refl;
+  number_is = refl;
+  content = run_item standard standard_lawful _ _ 810 refl;
+  says = refl;
+}
+
+pub returns-clause-empty : goal.returns-clause-empty
+unfolding start_of is_blank is_ordinary is_special
+returns-clause-empty _ = record {
+  number = _;
+  item = tokens_of "$F.";
+  words = tokens_of "[xx_res(8,a)].";
+  split = refl;
+  is_number = refl;
+  number_is = refl;
+  content = (run_item standard standard_lawful _ _ 0 refl, refl);
+  says = refl;
+}
+
+pub returns-clause-no_number : goal.returns-clause-no_number
+unfolding start_of is_blank is_ordinary is_special
+returns-clause-no_number _ = inl (refl, refl)
+
+pub returns-clause-zeros : goal.returns-clause-zeros
+unfolding start_of is_blank is_ordinary is_special
+returns-clause-zeros _ = inl (refl, refl)
+
+pub returns-clause-content : goal.returns-clause-content
+unfolding start_of is_blank is_ordinary is_special
+returns-clause-content _ =
+    let none = bad_at 500 standard standard_lawful names (tokens_of "p q.") 1 _ _ (lit≤ tt) refl refl in
+    inr (refl, (1, refl, inl (record { formula = 1; clause = 1; no_formula = none; no_clause = inl none; later = refl })))
+
+both_read : HasKind at_start (tokens_of "p & q.") Formula
+unfolding start_of is_blank is_ordinary is_special
+both_read =
+    let item = run_item standard standard_lawful (tokens_of "p & q.") (binary "&" (constant "p") (constant "q")) 780 refl in (
+      (binary "&" (constant "p") (constant "q"), item),
+      λ t is. (let same : binary "&" (constant "p") (constant "q") ≡ t = item_one standard (tokens_of "p & q.") _ t item is.0 in
+          subst (λ u. IsTrue (may_be_clause u) → ⊥) same (λ h. false≢true h) is.1),
+    )
+
+pub returns-clause-no_clause : goal.returns-clause-no_clause
+unfolding start_of is_blank is_ordinary is_special
+returns-clause-no_clause _ =
+    let bad = first_bad (line_words Formula) (tokens_of "[copy(5)].") _ refl in
+    inr (refl, (5, refl, inr (record { kind = Formula; token = 1; content = both_read; bad = bad; behind = refl })))

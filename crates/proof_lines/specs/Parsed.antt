@@ -1,0 +1,118 @@
+-- The content and the words of a line as the code has them.
+use Rattle.std.specs.Prelude.{◌≡◌, ℕ, ◌+◌, ◌≤◌, Bool, true, false, List, [], ◌∷◌, ◌++◌, length, take, Option, Some, None}
+use Rattle.std.specs.Global.{Vec}
+use Rattle.fol_core.specs.RawTree.{RawTree}
+use Rattle.fol_core.specs.RawView.{raw_of, raw_list}
+use Rattle.fol_core.specs.declared.raw.Raw.{Raw}
+use Rattle.fol_core.specs.SymbolTable.{Symbol}
+use Rattle.derivation.specs.declared.line.Content.{Content}
+use Rattle.ladr_formulas.specs.declared.styles.Style.{Style}
+use Rattle.ladr_lex.specs.Lexeme.{Lexeme}
+use Rattle.ladr_lex.specs.Numeral.{whole_number}
+use Rattle.ladr_reader.specs.Capped.{disjuncts}
+use Rattle.proof_lines.specs.ContentTokens.{LineTables, IsContent}
+use Rattle.proof_lines.specs.Literals.{read_as_clause}
+use Rattle.proof_lines.specs.Stated.{is_too_deep, line_made, line_misuse, IsContentOf}
+use Rattle.proof_lines.specs.declared.content.ContentRead.{ContentRead}
+use Rattle.proof_lines.specs.declared.content.ContentRead.TheVariants as seen
+use Rattle.proof_lines.specs.declared.content.Terms.{Terms}
+use Rattle.proof_lines.specs.declared.content.Terms.TheVariants.{Formula, Clause}
+use Rattle.proof_lines.specs.declared.fault.LineFault.{LineFault}
+use Rattle.proof_lines.specs.declared.fault.LineFault.TheVariants as fault
+use Rattle.proof_lines.specs.declared.fault.PartFault.{PartFault}
+use Rattle.proof_lines.specs.declared.fault.PartFault.TheVariants.{Bad, Memory}
+use Rattle.proof_lines.specs.Lines.{LineParts, IsFirstLine}
+use Rattle.proof_lines.specs.declared.parts.Behind.{Behind}
+use Rattle.proof_lines.specs.declared.parts.Parts.{Parts}
+use Rattle.proof_words.specs.Classes.{word_text}
+use Rattle.proof_words.specs.Spelling.{SaysWords, line_words}
+use Rattle.proof_words.specs.Written.{written_of, written_first, states_formula}
+use Rattle.proof_words.specs.declared.names.ContentKind.{ContentKind}
+use Rattle.proof_words.specs.declared.names.ContentKind.TheVariants as kind
+
+-- the number that tokens begin with
+abbrev pub first_number : List Lexeme → Option ℕ
+first_number [] = None
+first_number (t ∷ ts) = whole_number (word_text t)
+
+-- the code has the term, or nothing where it is too deep
+abbrev pub IsTermRead : RawTree → Option Raw → Type 0
+IsTermRead t (Some raw) = (raw_of raw ≡ t) × (is_too_deep true t ≡ false)
+IsTermRead t None = is_too_deep true t ≡ true
+
+-- the code has the literals, or nothing where one is too deep
+abbrev pub AreLiteralsRead : RawTree → Option (Vec Raw) → Type 0
+AreLiteralsRead t (Some literals) = (raw_list literals.items ≡ disjuncts t) × (read_as_clause (disjuncts t) ≡ true) × (is_too_deep false t ≡ false)
+AreLiteralsRead t None = is_too_deep false t ≡ true
+
+-- the content is one of a formula, and the code has it; so of a clause
+abbrev pub IsFormulaSeen : LineTables → List Lexeme → Option Raw → Type 0
+IsFormulaSeen g ts o = (t : RawTree) × IsContent g true ts t × IsTermRead t o
+
+abbrev pub IsClauseSeen : LineTables → List Lexeme → Option (Vec Raw) → Type 0
+IsClauseSeen g ts o = (t : RawTree) × IsContent g false ts t × AreLiteralsRead t o
+
+abbrev pub IsContentSeen : LineTables → List Lexeme → ContentRead → Type 0
+IsContentSeen g ts (seen.Formula f) = IsFormulaSeen g ts f × ((t : RawTree) → ¬ IsContent g false ts t)
+IsContentSeen g ts (seen.Clause c) = IsClauseSeen g ts c × ((t : RawTree) → ¬ IsContent g true ts t)
+IsContentSeen g ts (seen.Either f c) = IsFormulaSeen g ts f × IsClauseSeen g ts c
+
+abbrev pub kind_seen : ContentRead → ContentKind
+kind_seen (seen.Formula f) = kind.Formula
+kind_seen (seen.Clause c) = kind.Clause
+kind_seen (seen.Either f c) = kind.Either
+
+-- what is left of the content behind the words: the term of a formula, or the literals of a clause
+abbrev pub AreTermsRead : Bool → RawTree → Terms → Type 0
+AreTermsRead true t (Formula f) = IsTermRead t f
+AreTermsRead false t (Clause c) = AreLiteralsRead t c
+AreTermsRead by_formula t terms = ⊥
+
+abbrev pub AreTermsSeen : LineTables → Bool → List Lexeme → Terms → Type 0
+AreTermsSeen g by_formula ts terms = (t : RawTree) × IsContent g by_formula ts t × AreTermsRead by_formula t terms
+
+-- the tokens begin with content and words, and the code has both
+pub record IsBehindRead (g : LineTables) (ts : List Lexeme) (b : Behind) : Type 0 where
+  pub item : List Lexeme
+  pub words : List Lexeme
+  pub within : b.len ≤ length ts
+  pub split : take b.len ts ≡ item ++ words
+  pub content : AreTermsSeen g (states_formula (written_first b.just.first)) item b.terms
+  pub says : SaysWords (line_words kind.Either) words (written_of b.just)
+
+-- the tokens begin with a line, and the code has its parts
+pub record IsPartsRead (g : LineTables) (ts : List Lexeme) (p : Parts) : Type 0 where
+  pub line : LineParts
+  pub first : IsFirstLine g ts line (p.behind.len + 1)
+  pub number_is : line.number ≡ p.number
+  pub words_are : line.words ≡ written_of p.behind.just
+  pub terms_are : AreTermsRead (states_formula line.words.first) line.content p.behind.terms
+
+-- nothing is said of memory
+abbrev pub IsPartFault : (ℕ → Type 0) → PartFault → Type 0
+IsPartFault IsBad (Bad k) = IsBad k
+IsPartFault IsBad Memory = Unit {0}
+
+-- the code has the disjuncts of a term that is a clause
+abbrev pub IsClauseTerm : RawTree → List Raw → Type 0
+IsClauseTerm t literals = (raw_list literals ≡ disjuncts t) × (read_as_clause (disjuncts t) ≡ true)
+
+-- the term breaks no row, the code has what it states, and behind it this table
+pub record IsStated (st : Style) (problem table : List Symbol) (by_formula : Bool) (t : RawTree) (content : Content) (after : List Symbol) : Type 0 where
+  pub sound : line_misuse st problem table by_formula t ≡ None
+  pub content_is : IsContentOf by_formula t (line_made st table by_formula t) content
+  pub symbols : after ≡ (line_made st table by_formula t).reading.symbols
+
+-- the term breaks this row at least; nothing is said of memory
+abbrev pub IsStatedFault : Style → List Symbol → List Symbol → Bool → RawTree → LineFault → Type 0
+IsStatedFault st problem table by_formula t (fault.Misused misuse) = line_misuse st problem table by_formula t ≡ Some misuse
+IsStatedFault st problem table by_formula t fault.Memory = Unit {0}
+IsStatedFault st problem table by_formula t other = ⊥
+
+-- it is too deep, or else breaks a row
+abbrev pub IsTermFaultOf : Style → List Symbol → List Symbol → Bool → RawTree → LineFault → Type 0
+IsTermFaultOf st problem table by_formula t (fault.Bad k) = ⊥
+IsTermFaultOf st problem table by_formula t fault.Deep = is_too_deep by_formula t ≡ true
+IsTermFaultOf st problem table by_formula t (fault.Misused misuse) =
+    (is_too_deep by_formula t ≡ false) × (line_misuse st problem table by_formula t ≡ Some misuse)
+IsTermFaultOf st problem table by_formula t fault.Memory = Unit {0}

@@ -1,0 +1,171 @@
+// The content of a line: a formula, a clause, or what may be either.
+ghost use Rattle.std.specs.Prelude.{◌≡◌, ◌≤◌, ℕ, suc, true, false, IsTrue, List, IfOk, IfErr, length, take, drop};
+ghost use Rattle.fol_core.specs.RawTree.{RawTree};
+ghost use Rattle.fol_core.specs.RawView.{raw_list};
+ghost use Rattle.ladr_lex.specs.Lexeme.{Lexeme, lexeme_of, lexemes_of};
+ghost use Rattle.ladr_commands.specs.Wanted.{is_stop};
+ghost use Rattle.ladr_reader.specs.Capped.{disjuncts, all_within};
+ghost use Rattle.ladr_reader.specs.Reads.{Item};
+ghost use Rattle.ladr_reader.specs.Table.{OperatorTable, table_of};
+ghost use Rattle.proof_lines.specs.ContentTokens.{LineTables, IsClauseItem, tables_of, content_in, behind_content_in};
+ghost use Rattle.proof_lines.specs.Faults.{IsNoItem, IsNoClause, IsNoContent};
+ghost use Rattle.proof_lines.specs.Parsed.{IsTermRead, AreLiteralsRead, IsContentSeen, kind_seen, AreTermsSeen, IsPartFault};
+ghost use Rattle.proof_lines.specs.Literals.{may_be_clause};
+ghost use Rattle.proof_lines.specs.declared.literals.TheConstants.{MOST_LITERAL_LEVELS};
+
+use crate::fault::PartFault;
+use crate::literals::{MOST_LITERAL_LEVELS, are_shallow, read_as_clause};
+use crate::operators::LineOperators;
+use fol_core::Raw;
+use ladr_lex::{MOST_LEVELS, Ops, Token, TokenKind};
+use ladr_reader::{TermFault, read_literals, read_tree};
+use proof_words::ContentKind;
+use std::alloc::Global;
+
+/// Content as it is read: of a formula that is no clause, of a clause that is no formula, or of what may be either. There is
+/// nothing in it where it is nested too deep.
+#[derive(Drop)]
+pub enum ContentRead {
+    Formula(Option<Raw>),
+    Clause(Option<Vec<Raw>>),
+    Either(Option<Raw>, Option<Vec<Raw>>),
+}
+
+/// The term of a formula, or the literals of a clause, unless they are nested too deep.
+#[derive(Drop)]
+pub enum Terms {
+    Formula(Option<Raw>),
+    Clause(Option<Vec<Raw>>),
+}
+
+impl ContentRead {
+    /// What words may stand behind it.
+    pub fn kind(&self) -> ContentKind
+        ensures { result ≡ kind_seen self.now }
+    {
+        match self {
+            ContentRead::Formula(_) => ContentKind::Formula,
+            ContentRead::Clause(_) => ContentKind::Clause,
+            ContentRead::Either(_, _) => ContentKind::Either,
+        }
+    }
+
+    /// The content of a formula, or else of a clause.
+    pub fn into_terms(self, of_formula: bool) -> Terms
+        requires { (kind_seen self ≡ ContentKind.Formula → of_formula ≡ true)
+            × (kind_seen self ≡ ContentKind.Clause → of_formula ≡ false) }
+        ensures { (g : LineTables) (ts : List Lexeme) → IsContentSeen g ts self
+            → AreTermsSeen g of_formula ts result }
+    {
+        match self {
+            ContentRead::Formula(formula) => Terms::Formula(formula),
+            ContentRead::Clause(clause) => Terms::Clause(clause),
+            ContentRead::Either(formula, clause) => {
+                if of_formula {
+                    Terms::Formula(formula)
+                } else {
+                    Terms::Clause(clause)
+                }
+            }
+        }
+    }
+}
+
+// Whether a token is a full stop.
+fn is_stop(token: &Token) -> bool
+    ensures { result ≡ is_stop (lexeme_of token.now) }
+{
+    token.kind == TokenKind::Stop
+}
+
+/// Where the content that tokens begin with ends: behind the first full stop, or with them.
+pub fn content_end(tokens: &[Token]) -> usize
+    ensures content { lexemes_of (take result tokens.now) ≡ content_in (lexemes_of tokens.now) }
+    ensures behind { lexemes_of (drop result tokens.now)
+        ≡ behind_content_in (lexemes_of tokens.now) }
+    ensures within { result ≤ length tokens.now }
+{
+    for (i, token) in tokens.iter().enumerate() {
+        if is_stop(token) {
+            return i + 1;
+        }
+    }
+    tokens.len()
+}
+
+// The term of a formula that the tokens are.
+fn formula_seen(alloc: Global, ops: &Ops, tokens: &[Token]) -> Result<Option<Raw>, PartFault>
+    ensures read { IfOk result (λ o. (t : RawTree) × Item (table_of ops.now)
+        (lexemes_of tokens.now) t × IsTermRead t o) }
+    ensures fault { IfErr result (IsPartFault (IsNoItem (table_of ops.now)
+        (lexemes_of tokens.now))) }
+{
+    match read_tree(alloc, ops, tokens, MOST_LEVELS) {
+        Ok(raw) => Ok(Some(raw)),
+        Err(TermFault::Deep) => Ok(None),
+        Err(TermFault::Bad(k)) => Err(PartFault::Bad(k)),
+        Err(TermFault::Memory) => Err(PartFault::Memory),
+    }
+}
+
+// The literals of a clause that the tokens are.
+fn clause_seen(alloc: Global, ops: &Ops, tokens: &[Token]) -> Result<Option<Vec<Raw>>, PartFault>
+    ensures read { IfOk result (λ o. (t : RawTree) × IsClauseItem (table_of ops.now)
+        (lexemes_of tokens.now) t × AreLiteralsRead t o) }
+    ensures fault { IfErr result (IsPartFault (IsNoClause (table_of ops.now)
+        (lexemes_of tokens.now))) }
+{
+    match read_literals(alloc, ops, tokens, MOST_LITERAL_LEVELS) {
+        Ok(literals) => as_clause(literals, tokens),
+        Err(TermFault::Deep) => Ok(None),
+        Err(TermFault::Bad(k)) => Err(PartFault::Bad(k)),
+        Err(TermFault::Memory) => Err(PartFault::Memory),
+    }
+}
+
+// Disjuncts as literals.
+fn as_clause(literals: Vec<Raw>, tokens: &[Token]) -> Result<Option<Vec<Raw>>, PartFault>
+    requires { (g : OperatorTable) × (t : RawTree) × Item g (lexemes_of tokens.now) t }
+    ensures read { (t : RawTree) → raw_list literals.items ≡ disjuncts t
+        → IfOk result (λ o. IsTrue (may_be_clause t) × AreLiteralsRead t o) }
+    ensures fault { (t : RawTree) → raw_list literals.items ≡ disjuncts t
+        → all_within MOST_LITERAL_LEVELS (disjuncts t) ≡ true
+        → IfErr result (IsPartFault (λ k. (suc k ≡ length (lexemes_of tokens.now))
+        × (may_be_clause t ≡ false))) }
+{
+    if !read_as_clause(&literals) {
+        return Err(PartFault::Bad(tokens.len() - 1));
+    }
+    if are_shallow(&literals) {
+        Ok(Some(literals))
+    } else {
+        Ok(None)
+    }
+}
+
+/// What the tokens of content are.
+#[tactic(auto, using(crate::proofs::Clauses::no_clause_none, crate::proofs::Clauses::no_item_within, crate::proofs::Clauses::no_clause_within, crate::proofs::Contents::lexemes_long))]
+pub fn read_content(
+    alloc: Global,
+    operators: &LineOperators,
+    tokens: &[Token],
+) -> Result<ContentRead, PartFault>
+    ensures read { IfOk result (IsContentSeen (tables_of operators.now) (lexemes_of tokens.now)) }
+    ensures fault { IfErr result (IsPartFault (IsNoContent (tables_of operators.now)
+        (lexemes_of tokens.now))) }
+    ensures within { IfErr result (IsPartFault (λ k. k ≤ length tokens.now)) }
+{
+    match formula_seen(alloc, &operators.formulas, tokens) {
+        Ok(formula) => match clause_seen(alloc, &operators.clauses, tokens) {
+            Ok(clause) => Ok(ContentRead::Either(formula, clause)),
+            Err(PartFault::Bad(_)) => Ok(ContentRead::Formula(formula)),
+            Err(PartFault::Memory) => Err(PartFault::Memory),
+        },
+        Err(PartFault::Bad(k)) => match clause_seen(alloc, &operators.clauses, tokens) {
+            Ok(clause) => Ok(ContentRead::Clause(clause)),
+            Err(PartFault::Bad(j)) => Err(PartFault::Bad(k.max(j))),
+            Err(PartFault::Memory) => Err(PartFault::Memory),
+        },
+        Err(PartFault::Memory) => Err(PartFault::Memory),
+    }
+}

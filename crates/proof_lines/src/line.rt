@@ -1,0 +1,62 @@
+// The line that tokens begin with.
+ghost use Rattle.std.specs.Prelude.{◌≡◌, IfOk, IfErr};
+ghost use Rattle.fol_core.specs.SymbolTable.{KeepsNumbers};
+ghost use Rattle.ladr_formulas.specs.Formulas.{style_of};
+ghost use Rattle.ladr_formulas.specs.declared.styles.Mode.TheVariants.{Prover};
+ghost use Rattle.ladr_lex.specs.Lexeme.{lexemes_of};
+ghost use Rattle.proof_lines.specs.ContentTokens.{tables_of};
+ghost use Rattle.proof_lines.specs.Faults.{IsLineFault, IsLineRead};
+
+use crate::fault::{LineFault, PartFault};
+use crate::operators::LineOperators;
+use crate::parts::{Behind, Parts, read_parts};
+use crate::stating::state;
+use derivation::Line;
+use fol_core::{Problem, Symbols};
+use ladr_lex::Token;
+use std::alloc::Global;
+
+/// A line, and how many tokens it is.
+#[derive(Drop)]
+pub struct LineRead {
+    pub line: Line,
+    pub len: usize,
+}
+
+/// The line of a proof of this problem that tokens begin with, read behind lines with these symbols; its symbols are entered.
+pub fn read_line(
+    alloc: Global,
+    operators: &LineOperators,
+    problem: &Problem,
+    symbols: &mut Symbols,
+    tokens: &[Token],
+) -> Result<LineRead, LineFault>
+    ensures read { IfOk result (λ r. IsLineRead (tables_of operators.now) (style_of Prover
+        problem.now.options.prolog_style_variables) problem.now.symbols symbols.old
+        (lexemes_of tokens.now) r symbols.new) }
+    ensures fault { IfErr result (IsLineFault (tables_of operators.now) (style_of Prover
+        problem.now.options.prolog_style_variables) problem.now.symbols symbols.old
+        (lexemes_of tokens.now)) }
+    // Whatever the answer, the old symbols keep their numbers.
+    ensures kept { KeepsNumbers symbols.old symbols.new }
+{
+    match read_parts(alloc, operators, tokens) {
+        Ok(parts) => {
+            let Parts { number, behind } = parts;
+            let Behind { terms, just, len } = behind;
+            match state(alloc, terms, problem, symbols) {
+                Ok(content) => Ok(LineRead {
+                    line: Line {
+                        number,
+                        content,
+                        just,
+                    },
+                    len: len + 1,
+                }),
+                Err(fault) => Err(fault),
+            }
+        }
+        Err(PartFault::Bad(k)) => Err(LineFault::Bad(k)),
+        Err(PartFault::Memory) => Err(LineFault::Memory),
+    }
+}

@@ -1,0 +1,107 @@
+// What the content of a line states.
+ghost use Rattle.std.specs.Prelude.{◌≡◌, Bool, true, false, IfOk, IfErr};
+ghost use Rattle.fol_core.specs.RawTree.{RawTree};
+ghost use Rattle.fol_core.specs.RawView.{raw_of};
+ghost use Rattle.fol_core.specs.SymbolTable.{KeepsNumbers};
+ghost use Rattle.ladr_formulas.specs.Formulas.{Reading, meets, style_of};
+ghost use Rattle.ladr_formulas.specs.declared.styles.Mode.TheVariants.{Prover};
+ghost use Rattle.proof_lines.specs.Parsed.{AreTermsRead, IsClauseTerm, IsStated, IsStatedFault, IsTermFaultOf};
+ghost use Rattle.proof_lines.specs.Stated.{is_too_deep};
+
+use crate::content::Terms;
+use crate::fault::LineFault;
+use crate::strays::brings_stray;
+use derivation::Content;
+use fol_core::{Problem, Raw, Symbols};
+use ladr_formulas::{Mode, clause_of, read_formula};
+use ladr_lex::Misuse;
+use ladr_rules::LabelledFormula;
+use std::alloc::Global;
+
+// The misuse of the least row, where one more is met.
+fn meet(test: bool, misuse: Misuse, least: Option<Misuse>) -> Option<Misuse>
+    ensures { (s : Reading) → s.least ≡ least → result ≡ (meets test misuse s).least }
+{
+    if test {
+        Some(misuse.earlier(least))
+    } else {
+        least
+    }
+}
+
+// The formula of a line with its label.
+fn formula(
+    alloc: Global,
+    raw: Raw,
+    problem: &Problem,
+    symbols: &mut Symbols,
+) -> Result<Content, LineFault>
+    ensures stated { IfOk result (λ content. IsStated (style_of Prover
+        problem.now.options.prolog_style_variables) problem.now.symbols symbols.old true
+        (raw_of raw) content symbols.new) }
+    ensures fault { IfErr result (IsStatedFault (style_of Prover
+        problem.now.options.prolog_style_variables) problem.now.symbols symbols.old true
+        (raw_of raw)) }
+    ensures kept { KeepsNumbers symbols.old symbols.new }
+{
+    let before = symbols.len();
+    let stated = LabelledFormula::of(raw);
+    let prolog = problem.options.prolog_style_variables;
+    let read = read_formula(alloc, &stated.formula, symbols, Mode::Prover, prolog)?;
+    let least = meet(stated.misused, Misuse::UnfitAttribute, read.least);
+    let strays = brings_stray(&problem.symbols, before, symbols);
+    match meet(strays, Misuse::TwoKinds, least) {
+        Some(misuse) => Err(LineFault::Misused(misuse)),
+        None => Ok(Content::Formula(read.formula, stated.label)),
+    }
+}
+
+// The clause of a line.
+fn clause(
+    alloc: Global,
+    literals: &[Raw],
+    problem: &Problem,
+    symbols: &mut Symbols,
+) -> Result<Content, LineFault>
+    requires { (t : RawTree) × IsClauseTerm t literals.now }
+    ensures stated { (t : RawTree) → IsClauseTerm t literals.now → IfOk result (λ content.
+        IsStated (style_of Prover problem.now.options.prolog_style_variables)
+        problem.now.symbols symbols.old false t content symbols.new) }
+    ensures fault { (t : RawTree) → IsClauseTerm t literals.now → IfErr result
+        (IsStatedFault (style_of Prover problem.now.options.prolog_style_variables)
+        problem.now.symbols symbols.old false t) }
+    ensures kept { KeepsNumbers symbols.old symbols.new }
+{
+    let before = symbols.len();
+    let prolog = problem.options.prolog_style_variables;
+    let read = clause_of(alloc, literals, symbols, Mode::Prover, prolog)?;
+    let strays = brings_stray(&problem.symbols, before, symbols);
+    match meet(strays, Misuse::TwoKinds, read.least) {
+        Some(misuse) => Err(LineFault::Misused(misuse)),
+        None => Ok(Content::Clause(read.clause.unwrap())),
+    }
+}
+
+/// What the content of a line states, unless it is too deep or misused.
+pub fn state(
+    alloc: Global,
+    terms: Terms,
+    problem: &Problem,
+    symbols: &mut Symbols,
+) -> Result<Content, LineFault>
+    requires { (by_formula : Bool) × (t : RawTree) × AreTermsRead by_formula t terms }
+    ensures stated { (by_formula : Bool) (t : RawTree) → AreTermsRead by_formula t terms
+        → IfOk result (λ content. (is_too_deep by_formula t ≡ false)
+        × IsStated (style_of Prover problem.now.options.prolog_style_variables)
+        problem.now.symbols symbols.old by_formula t content symbols.new) }
+    ensures fault { (by_formula : Bool) (t : RawTree) → AreTermsRead by_formula t terms
+        → IfErr result (IsTermFaultOf (style_of Prover
+        problem.now.options.prolog_style_variables) problem.now.symbols symbols.old by_formula t) }
+    ensures kept { KeepsNumbers symbols.old symbols.new }
+{
+    match terms {
+        Terms::Formula(Some(raw)) => formula(alloc, raw, problem, symbols),
+        Terms::Clause(Some(literals)) => clause(alloc, &literals, problem, symbols),
+        Terms::Formula(None) | Terms::Clause(None) => Err(LineFault::Deep),
+    }
+}
