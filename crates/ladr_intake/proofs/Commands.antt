@@ -12,6 +12,8 @@ use Rattle.ladr_io.specs.Streams.{Inflow, Outflow}
 use Rattle.ladr_output.specs.Telling.{PieceTells, Tells}
 use Rattle.ladr_output.specs.declared.cut.Cut.{Cut}
 use Rattle.ladr_output.specs.declared.cut.Cut.TheVariants.{WriteFault, Memory}
+use Rattle.ladr_output.proofs.Tellings.{first_cut}
+use Rattle.std.specs.Prelude.{◌⊎◌, ◌++◌}
 
 -- what is read is taken
 pub read_taken : (a b : Inflow) (bytes : List ℕ) → IsAllRead a b bytes → AreTaken a b bytes
@@ -52,7 +54,7 @@ module _ {A E : Type 0} (says : List ℕ → A → Type 0) (refuses : List ℕ �
   line_tells : (printed : Stop) (text : List ℕ) (e : End E) (c d : Outflow) (stop : Stop) → end_of {E = E} (Err printed) ≡ Ok e → idle → Ends e text → PieceTells printed stop_of_cut text c d stop → Tells Goes Ends c d (end_of {E = E} (Err stop))
   line_tells printed text e c d stop is i whole (Ok u, took, same) =
       subst (λ (x : Stop). Tells Goes Ends c d (end_of {E = E} (Err x))) (sym same) (subst (λ (x : Result (End E) Cut). Tells Goes Ends c d x) (sym is) (text, whole, took))
-  line_tells printed text e c d stop is i whole (Err WriteFault, front, same) = subst (λ (x : Stop). Tells Goes Ends c d (end_of {E = E} (Err x))) (sym same) (text, inr (e, whole), front)
+  line_tells printed text e c d stop is i whole (Err WriteFault, front, same) = subst (λ (x : Stop). Tells Goes Ends c d (end_of {E = E} (Err x))) (sym same) (first_cut Goes Ends text c d (inl (refl, i)) (inr (e, whole)) front)
   line_tells printed text e c d stop is i whole (Err Memory, nothing, same) = subst (λ (x : Stop). Tells Goes Ends c d (end_of {E = E} (Err x))) (sym same) ([], inl (refl, i), nothing)
 
   -- there is no problem, as it is told
@@ -66,10 +68,21 @@ module _ {A E : Type 0} (says : List ℕ → A → Type 0) (refuses : List ℕ �
   none_runs why c d stop i h told = record { bytes = bytes; taken = no_input_taken refuses a b bytes why h; tells = none_tells why c d stop i h told }
 
   -- what is told of what the input says
+  own_meant : (x : A) → IsAllRead a b bytes → says bytes x → (t : List ℕ) → goes x t ⊎ ((e : E) × ends x e t) → Goes t ⊎ ((e : End E) × Ends e t)
+  own_meant x read said t (inl g) = inl (inr (read, (x, said, g)))
+  own_meant x read said t (inr g) = inr (own g.0, (read, (x, said, g.1)))
+
   own_tells : (x : A) (c d : Outflow) (r : Result E Cut) (r' : Result E Stop) → IsAllRead a b bytes → says bytes x → IsHandedOn r r' → Tells (goes x) (ends x) c d r → Tells Goes Ends c d (end_of r')
   own_tells x c d (Ok e) (Ok f) read said is h = (h.0, (read, (x, said, subst (λ i. ends x i h.0) is h.1)), h.2)
-  own_tells x c d (Err WriteFault) (Err stops.WriteFault) read said is (t, inl g, k) = (t, inl (inr (read, (x, said, g))), k)
-  own_tells x c d (Err WriteFault) (Err stops.WriteFault) read said is (t, inr g, k) = (t, inr (own g.0, (read, (x, said, g.1))), k)
+  own_tells x c d (Err WriteFault) (Err stops.WriteFault) read said is h = record {
+    before = h.before;
+    piece = h.piece;
+    middle = h.middle;
+    stood = inr (read, (x, said, h.stood));
+    meant = own_meant x read said (h.before ++ h.piece) h.meant;
+    took = h.took;
+    front = h.front;
+  }
   own_tells x c d (Err Memory) (Err stops.Memory) read said is h = (h.0, inr (read, (x, said, h.1)), h.2)
   own_tells x c d (Ok e) (Err stop) read said is h = absurd is
   own_tells x c d (Err cut) (Ok e) read said is h = absurd is

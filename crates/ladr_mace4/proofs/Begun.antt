@@ -13,7 +13,7 @@ use Rattle.ladr_mace4.specs.declared.ends.SearchEnd.TheVariants.{MaxModels, Exha
 use Rattle.ladr_mace4.specs.declared.ends.Step.{Step}
 use Rattle.ladr_mace4.specs.declared.ends.Step.TheVariants.{Over, Ends}
 use Rattle.ladr_mace4.specs.declared.plan.Plan.{Plan}
-use Rattle.ladr_output.proofs.Tellings.{told_behind, cut_by}
+use Rattle.ladr_output.proofs.Tellings.{told_behind, cut_by, first_cut}
 use Rattle.ladr_output.specs.Telling.{IsPiece, Tells}
 use Rattle.ladr_output.specs.declared.cut.Cut.{Cut}
 use Rattle.ladr_output.specs.declared.cut.Cut.TheVariants.{WriteFault, Memory}
@@ -43,7 +43,7 @@ module _ (p : Stated) (s : Plan) (t : Times) (n k r : ℕ) where
 
       by : (result : Result Step Cut) → IsPiece (skipped_line n) a b result → IfOk result (λ step. step ≡ Over k) → Tells (SizeGoes p s t n k r) (SizeEnds p s t n k r) a b result
       by (Ok step) took is = (skipped_line n, subst (λ (e : Step). SizeEnds p s t n k r e (skipped_line n)) (sym is) over, took)
-      by (Err WriteFault) front is = (skipped_line n, inr (Over k, over), front)
+      by (Err WriteFault) front is = first_cut {E = Step} (SizeGoes p s t n k r) (SizeEnds p s t n k r) (skipped_line n) a b (nothing fewer in_time reads) (inr (Over k, over)) front
       by (Err Memory) none is = ([], nothing fewer in_time reads, none)
 
   -- the size's line is cut off

@@ -3,7 +3,7 @@ use Rattle.std.proofs.Common.{◌≡◌, ℕ, suc, ◌+◌, ◌*◌, ◌≤◌, 
 use Rattle.std.proofs.Math.Nat.{suc-mul}
 use Rattle.std.specs.Prelude.{◌⊎◌}
 use Rattle.fol_core.specs.Stated.{Stated}
-use Rattle.ladr_io.proofs.StreamLaws.{Takes-append, Takes-none, TakesFront-append}
+use Rattle.ladr_io.proofs.StreamLaws.{Takes-append, Takes-none}
 use Rattle.ladr_io.specs.Streams.{Outflow, Takes}
 use Rattle.ladr_io.specs.Times.{Times}
 use Rattle.ladr_mace4.specs.Plans.{size_behind}
@@ -136,10 +136,21 @@ module _ (p : Stated) (s : Plan) (t : Times) (sizes : List Size) (ended : HaveEn
   cut_off u (Over j, h) = inl (goes_over j u h)
   cut_off u (Ends end j, h) = inr (record { end = end; printed = j }, comes_in end j u h)
 
+  meant_in : (u : List ℕ) → SizeGoes p s t n k r u ⊎ ((step : Step) × SizeEnds p s t n k r step u) → SearchGoes p s t (front ++ u) ⊎ ((e : SearchOver) × SearchComes p s t e.end e.printed (front ++ u))
+  meant_in u (inl h) = inl (goes_in u h)
+  meant_in u (inr h) = cut_off u h
+
   -- the output is cut off in the size
   pub cut_in : (a b c : Outflow) (why : Cut) → Takes a b front → Tells (SizeGoes p s t n k r) (SizeEnds p s t n k r) b c (Err why) → Tells {E = SearchOver} (SearchGoes p s t) (λ e u. SearchComes p s t e.end e.printed u) a c (Err why)
-  cut_in a b c WriteFault took (u, inl h, x) = (front ++ u, inl (goes_in u h), TakesFront-append a b c front u took x)
-  cut_in a b c WriteFault took (u, inr h, x) = (front ++ u, cut_off u h, TakesFront-append a b c front u took x)
+  cut_in a b c WriteFault took h = record {
+    before = front ++ h.before;
+    piece = h.piece;
+    middle = h.middle;
+    stood = goes_in h.before h.stood;
+    meant = subst (λ (u : List ℕ). SearchGoes p s t u ⊎ ((e : SearchOver) × SearchComes p s t e.end e.printed u)) (sym (append_assoc front h.before h.piece)) (meant_in (h.before ++ h.piece) h.meant);
+    took = Takes-append a b h.middle front h.before took h.took;
+    front = h.front;
+  }
   cut_in a b c Memory took h = (front ++ h.0, goes_in h.0 h.1, Takes-append a b c front h.0 took h.2)
 
   -- the search ends in the size

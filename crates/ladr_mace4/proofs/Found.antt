@@ -15,7 +15,7 @@ use Rattle.ladr_mace4.specs.declared.ends.SearchEnd.TheVariants.{MaxModels, MaxS
 use Rattle.ladr_mace4.specs.declared.ends.Step.{Step}
 use Rattle.ladr_mace4.specs.declared.ends.Step.TheVariants.{Over, Ends}
 use Rattle.ladr_mace4.specs.declared.plan.Plan.{Plan}
-use Rattle.ladr_output.proofs.Tellings.{told_behind, cut_by}
+use Rattle.ladr_output.proofs.Tellings.{told_behind, cut_by, first_cut}
 use Rattle.ladr_output.specs.Telling.{IsPiece, Tells}
 use Rattle.ladr_output.specs.declared.cut.Cut.{Cut}
 use Rattle.ladr_output.specs.declared.cut.Cut.TheVariants.{WriteFault, Memory}
@@ -155,7 +155,7 @@ module _ (p : Stated) (s : Plan) (t : Times) (n k r : ℕ) where
 
       by : (result : Result Step Cut) → IsPiece (exhausted_line n) b c result → IfOk result (λ step. step ≡ Over printed) → Tells (goes_behind (models_text p k ts)) (ends_behind (models_text p k ts)) b c result
       by (Ok step) took is = (exhausted_line n, subst (λ (e : Step). ends_behind (models_text p k ts) e (exhausted_line n)) (sym is) over, took)
-      by (Err WriteFault) front is = (exhausted_line n, inr (Over printed, over), front)
+      by (Err WriteFault) front is = first_cut {E = Step} (goes_behind (models_text p k ts)) (ends_behind (models_text p k ts)) (exhausted_line n) b c alone (inr (Over printed, over)) front
       by (Err Memory) nothing is = ([], alone, nothing)
 
   -- a model that is found is cut off

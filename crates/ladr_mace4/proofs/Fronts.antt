@@ -8,7 +8,7 @@ use Rattle.ladr_intake.specs.Language.{IsLanguage}
 use Rattle.ladr_intake.specs.Posed.{Posed}
 use Rattle.ladr_intake.specs.Refusals.{IsRefused}
 use Rattle.ladr_intake.specs.declared.stops.Refused.{Refused}
-use Rattle.ladr_io.specs.Streams.{Inflow, Outflow, greatest}
+use Rattle.ladr_io.specs.Streams.{Inflow, Outflow, greatest, TakesFront}
 use Rattle.ladr_io.specs.Times.{Times, no_times}
 use Rattle.ladr_mace4.proofs.ClockReadings.{readings_of, sought_as}
 use Rattle.ladr_mace4.proofs.GoingOn.{Comes as HasCome, goes_comes, starts_comes}
@@ -27,6 +27,8 @@ use Rattle.ladr_output.specs.declared.cut.Cut.TheVariants.{WriteFault, Memory}
 use Rattle.ladr_words.specs.Tasks.{HasRanges}
 use Rattle.ladr_words.specs.declared.task.ModelOptions.{ModelOptions}
 use Rattle.ladr_words.specs.declared.task.Task.TheVariants.{Mace4}
+use Rattle.ladr_output.proofs.Tellings.{cut_text}
+use Rattle.std.specs.Prelude.{◌⊎◌}
 
 -- a front of what a search comes to by some figures of the clock
 of_sought : (p : Stated) (s : Plan) (t : Times) (end : SearchEnd) (whole text rest : List ℕ) → Sought p s t end whole → whole ≡ text ++ rest → IsFront p s text
@@ -85,8 +87,17 @@ module _ (says : List ℕ → Posed → Type 0) (refuses : List ℕ → Refused 
     ends_front (refused why) u h = absurd (no_refusal why h.0)
     ends_front read_fault u h = absurd (omega (arith, h.0.0.failed, read.0.gives.unfailing, countable))
 
+    abbrev goes_all : List ℕ → Type 0
+    goes_all = MayStand says refuses (t.count ≡ 0) goes_of ends_of a b bytes
+
+    abbrev ends_all : End SearchEnd → List ℕ → Type 0
+    ends_all = EndsBy says refuses (t.count ≡ 0) goes_of ends_of a b bytes
+
+    cut_front : (c d : Outflow) (u : List ℕ) → goes_all u ⊎ ((e : End SearchEnd) × ends_all e u) → TakesFront c d u → WroteFront p s c d
+    cut_front c d u (inl g) k = record { front = k.front; wrote = k.took; whole = shorter p s u k.front k.rest (stands_front u g) k.parts }
+    cut_front c d u (inr g) k = record { front = k.front; wrote = k.took; whole = shorter p s u k.front k.rest (ends_front g.0 u g.1) k.parts }
+
     pub tells_front : (c d : Outflow) (r : Result (End SearchEnd) Cut) → Tells (MayStand says refuses (t.count ≡ 0) goes_of ends_of a b bytes) (EndsBy says refuses (t.count ≡ 0) goes_of ends_of a b bytes) c d r → WroteFront p s c d
     tells_front c d (Ok e) h = record { front = h.0; wrote = h.2.took; whole = ends_front e h.0 h.1 }
-    tells_front c d (Err WriteFault) (u, inl g, k) = record { front = k.front; wrote = k.took; whole = shorter p s u k.front k.rest (stands_front u g) k.parts }
-    tells_front c d (Err WriteFault) (u, inr g, k) = record { front = k.front; wrote = k.took; whole = shorter p s u k.front k.rest (ends_front g.0 u g.1) k.parts }
+    tells_front c d (Err WriteFault) h = let y = cut_text goes_all ends_all c d h in cut_front c d y.0 y.1 y.2
     tells_front c d (Err Memory) h = record { front = h.0; wrote = h.2.took; whole = stands_front h.0 h.1 }

@@ -15,6 +15,7 @@ use Rattle.ladr_output.proofs.Tellings.{told_behind, told_weaker, ended_by}
 use Rattle.ladr_output.specs.Telling.{Tells, IsEnd}
 use Rattle.ladr_output.specs.declared.cut.Cut.{Cut}
 use Rattle.ladr_output.specs.declared.cut.Cut.TheVariants.{WriteFault, Memory}
+use Rattle.std.specs.Prelude.{◌⊎◌}
 
 pub comes_by : (p : Stated) (s : Plan) (t : Times) (j : ℕ) (u : List ℕ) (end : SearchEnd) → first_over 1 p.formulas ≡ None → SearchComes p s t end j u → Comes p s t end j u
 comes_by p s t j u MaxModels none h = (none, h)
@@ -38,6 +39,17 @@ module _ (p : Stated) (s : Plan) (t : Times) where
 
   -- the output is cut off before
   pub cut_seek : (a b : Outflow) (why : Cut) → Tells {E = SearchOver} (Seeks p s t) (λ e u. Comes p s t e.end e.printed u) a b (Err why) → Tells (Seeks p s t) (Sought p s t) a b (Err why)
-  cut_seek a b WriteFault (u, inl h, x) = (u, inl h, x)
-  cut_seek a b WriteFault (u, inr h, x) = (u, inl (inr (inr (h.0.end, (h.0.printed, h.1)))), x)
+  cut_seek a b WriteFault h = record {
+    before = h.before;
+    piece = h.piece;
+    middle = h.middle;
+    stood = h.stood;
+    meant = meant_seek (h.before ++ h.piece) h.meant;
+    took = h.took;
+    front = h.front;
+  }
+    where
+      meant_seek : (u : List ℕ) → Seeks p s t u ⊎ ((e : SearchOver) × Comes p s t e.end e.printed u) → Seeks p s t u ⊎ ((e : SearchEnd) × Sought p s t e u)
+      meant_seek u (inl g) = inl g
+      meant_seek u (inr g) = inl (inr (inr (g.0.end, (g.0.printed, g.1))))
   cut_seek a b Memory h = h

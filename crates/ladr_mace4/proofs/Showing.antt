@@ -1,6 +1,6 @@
 -- What a run of the command shows.
 use Rattle.std.proofs.Common.{◌≡◌, ℕ, ◌≤◌, Bool, true, false, if◌then◌else◌, List, [], ◌++◌, Option, Some, None, unwrap_or, Result, Ok, Err, inl, inr, refl, sym, subst, ap, ◌∙◌, append-nil, arith}
-use Rattle.std.specs.Prelude.{IfSome}
+use Rattle.std.specs.Prelude.{IfSome, ◌⊎◌}
 use Rattle.fol_core.specs.Stated.{Stated}
 use Rattle.ladr_intake.specs.Command.{End, own, refused, read_fault, end_of, MayStand, EndsBy}
 use Rattle.ladr_intake.specs.Language.{IsLanguage}
@@ -28,6 +28,7 @@ use Rattle.ladr_problem.specs.Proper.{IsProper}
 use Rattle.ladr_words.specs.Tasks.{HasRanges, IsFrom}
 use Rattle.ladr_words.specs.declared.task.ModelOptions.{ModelOptions}
 use Rattle.ladr_words.specs.declared.task.Task.TheVariants.{Mace4}
+use Rattle.ladr_output.proofs.Tellings.{cut_text}
 
 -- the text is good blocks and some last lines
 abbrev Shows : Stated → List ℕ → Type 0
@@ -136,10 +137,19 @@ module _ (laws : Laws) (says : List ℕ → Posed → Type 0) (refuses : List �
     ends_with (refused why) u h = refused_with why h.0 u h.2
     ends_with read_fault u h = with_last x.stated u [] fails (no_blocks x.stated [] refl) h.2
 
+    abbrev goes_all : List ℕ → Type 0
+    goes_all = MayStand says refuses (t.count ≡ 0) goes_of ends_of a b bytes
+
+    abbrev ends_all : End SearchEnd → List ℕ → Type 0
+    ends_all = EndsBy says refuses (t.count ≡ 0) goes_of ends_of a b bytes
+
+    cut_shows : (c d : Outflow) (u : List ℕ) → goes_all u ⊎ ((e : End SearchEnd) × ends_all e u) → TakesFront c d u → ShowsModels x.stated c d
+    cut_shows c d u (inl g) k = part x.stated c d u (stands u g) k
+    cut_shows c d u (inr g) k = part x.stated c d u (ends_with g.0 u g.1) k
+
     pub tells_shows : (c d : Outflow) (r : Result (End SearchEnd) Cut) → Tells (MayStand says refuses (t.count ≡ 0) goes_of ends_of a b bytes) (EndsBy says refuses (t.count ≡ 0) goes_of ends_of a b bytes) c d r → ShowsModels x.stated c d
     tells_shows c d (Ok e) h = whole x.stated c d h.0 (ends_with e h.0 h.1) h.2
-    tells_shows c d (Err WriteFault) (u, inl g, k) = part x.stated c d u (stands u g) k
-    tells_shows c d (Err WriteFault) (u, inr g, k) = part x.stated c d u (ends_with g.0 u g.1) k
+    tells_shows c d (Err WriteFault) h = let y = cut_text goes_all ends_all c d h in cut_shows c d y.0 y.1 y.2
     tells_shows c d (Err Memory) h = whole x.stated c d h.0 (stands h.0 h.1) h.2
 
 pub searches_show : Laws → (says : List ℕ → Posed → Type 0) (refuses : List ℕ → Refused → Type 0) → IsLanguage says refuses → (words : ModelOptions) → HasRanges (Mace4 words) → (a b : Inflow) (c d : Outflow) (t : Times) (r : Result SearchEnd Stop) → Searches says refuses words a b c d t r → ShowsPosed says words a b c d

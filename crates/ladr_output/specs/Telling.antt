@@ -24,11 +24,22 @@ result_of_piece printed cut_off (Err cut) = cut_off cut
 abbrev pub PieceTells : {S : Type 0} → S → (Cut → S) → List ℕ → Outflow → Outflow → S → Type 0
 PieceTells printed cut_off text old new s = (r : Result (Unit {0}) Cut) × IsPiece text old new r × (s ≡ result_of_piece printed cut_off r)
 
--- The output of a run, by the texts that may stand while it goes on and those that it ends with: the sink took all of it; a front
--- of a text of either kind, where a write failed; one that may stand while it goes on, where memory was lacking.
+-- What a failed write leaves: the sink took a text that may stand while the run goes on, and then a
+-- front of one piece, with which the text may stand too or is a whole output.
+pub record IsCutOff {E : Type 0} (goes : List ℕ → Type 0) (ends : E → List ℕ → Type 0) (old new : Outflow) : Type 0 where
+  pub before : List ℕ
+  pub piece : List ℕ
+  pub middle : Outflow
+  pub stood : goes before
+  pub meant : goes (before ++ piece) ⊎ ((e : E) × ends e (before ++ piece))
+  pub took : Takes old middle before
+  pub front : TakesFront middle new piece
+
+-- The output of a run, by the texts that may stand while it goes on and those that it ends with: the
+-- sink took all of it; a write failed in a piece of it; or memory was lacking for the next piece.
 abbrev pub Tells : {E : Type 0} → (List ℕ → Type 0) → (E → List ℕ → Type 0) → Outflow → Outflow → Result E Cut → Type 0
 Tells goes ends old new (Ok e) = (text : List ℕ) × ends e text × Takes old new text
-Tells {E} goes ends old new (Err WriteFault) = (text : List ℕ) × (goes text ⊎ ((e : E) × ends e text)) × TakesFront old new text
+Tells goes ends old new (Err WriteFault) = IsCutOff goes ends old new
 Tells goes ends old new (Err Memory) = (text : List ℕ) × goes text × Takes old new text
 
 -- this end, with this text

@@ -23,6 +23,7 @@ pub fn piece<K: Sink>(text: Result<Vec<u8>, AllocError>, sink: &mut K) -> Result
 }
 
 /// Prints the text that a run ends with, if memory sufficed for it, and hands on how it ends.
+#[tactic(auto, using(crate::proofs::Tellings::end_cut))]
 pub fn ending<E: Drop, K: Sink>(
     text: Result<Vec<u8>, AllocError>,
     end: E,

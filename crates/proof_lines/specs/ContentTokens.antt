@@ -21,7 +21,9 @@ pub record LineTables : Type 0 where
 abbrev pub line_tables : Bool → List OperatorRow → LineTables
 line_tables prolog rows = record {
   formulas = table_of rows;
-  clauses = record (table_of rows) { op = λ name. clause_operator prolog name (operator_of rows name) };
+  clauses = record (table_of rows) {
+    op = λ name. clause_operator prolog name (operator_of rows name);
+  };
 }
 
 abbrev pub tables_of : LineOperators → LineTables
@@ -38,9 +40,12 @@ IsContent g false ts t = IsClauseItem g.clauses ts t
 
 -- the tokens are content of this kind
 abbrev pub HasKind : LineTables → List Lexeme → ContentKind → Type 0
-HasKind g ts Formula = ((t : RawTree) × IsContent g true ts t) × ((t : RawTree) → ¬ IsContent g false ts t)
-HasKind g ts Clause = ((t : RawTree) → ¬ IsContent g true ts t) × ((t : RawTree) × IsContent g false ts t)
-HasKind g ts Either = ((t : RawTree) × IsContent g true ts t) × ((t : RawTree) × IsContent g false ts t)
+HasKind g ts Formula =
+    ((t : RawTree) × IsContent g true ts t) × ((t : RawTree) → ¬ IsContent g false ts t)
+HasKind g ts Clause =
+    ((t : RawTree) → ¬ IsContent g true ts t) × ((t : RawTree) × IsContent g false ts t)
+HasKind g ts Either =
+    ((t : RawTree) × IsContent g true ts t) × ((t : RawTree) × IsContent g false ts t)
 
 -- the tokens up to the first full stop, and those behind it
 abbrev pub content_in : List Lexeme → List Lexeme

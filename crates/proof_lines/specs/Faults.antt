@@ -26,7 +26,9 @@ IsNoItem g ts k = IsBadToken g ts k × ((t : RawTree) → ¬ Item g ts t)
 
 -- they are no clause: no term, or one that is no clause, which is told at its full stop
 abbrev pub IsNoClause : OperatorTable → List Lexeme → ℕ → Type 0
-IsNoClause g ts k = IsNoItem g ts k ⊎ ((suc k ≡ length ts) × ((t : RawTree) × Item g ts t × (may_be_clause t ≡ false)))
+IsNoClause g ts k =
+    IsNoItem g ts k
+    ⊎ ((suc k ≡ length ts) × ((t : RawTree) × Item g ts t × (may_be_clause t ≡ false)))
 
 -- they are neither: of the two bad tokens the later one is told
 pub record IsNoContent (g : LineTables) (ts : List Lexeme) (k : ℕ) : Type 0 where
@@ -63,7 +65,8 @@ pub record BeginsLine (g : LineTables) (ts : List Lexeme) : Type 0 where
 
 -- no front of the tokens is a line
 abbrev pub HoldsNoLine : LineTables → List Lexeme → Type 0
-HoldsNoLine g ts = (front rest : List Lexeme) (l : LineParts) → ts ≡ front ++ rest → ¬ IsProofLine g front l
+HoldsNoLine g ts =
+    (front rest : List Lexeme) (l : LineParts) → ts ≡ front ++ rest → ¬ IsProofLine g front l
 
 -- What is true of a bad token: no line begins with the tokens up to and with it, nor are tokens before it a line themselves.
 pub record IsBadLineToken (g : LineTables) (ts : List Lexeme) (k : ℕ) : Type 0 where
@@ -72,20 +75,26 @@ pub record IsBadLineToken (g : LineTables) (ts : List Lexeme) (k : ℕ) : Type 0
 
 -- The tokens begin with no line, and this one is bad; or with a line that is too deep, or is misused by this row at least. Nothing
 -- is said of memory.
-abbrev pub IsLineFault : LineTables → Style → List Symbol → List Symbol → List Lexeme → LineFault → Type 0
+abbrev pub IsLineFault :
+    LineTables → Style → List Symbol → List Symbol → List Lexeme → LineFault → Type 0
 IsLineFault g st problem table ts (Bad k) = IsBadOfLine g ts k
 IsLineFault g st problem table ts Deep =
-    (l : LineParts) × (n : ℕ) × IsFirstLine g ts l n × (is_too_deep (states_formula l.words.first) l.content ≡ true)
+    (l : LineParts) × (n : ℕ) × IsFirstLine g ts l n
+    × (is_too_deep (states_formula l.words.first) l.content ≡ true)
 IsLineFault g st problem table ts (Misused misuse) =
-    (l : LineParts) × (n : ℕ) × IsFirstLine g ts l n × (is_too_deep (states_formula l.words.first) l.content ≡ false)
+    (l : LineParts) × (n : ℕ) × IsFirstLine g ts l n
+    × (is_too_deep (states_formula l.words.first) l.content ≡ false)
     × (line_misuse st problem table (states_formula l.words.first) l.content ≡ Some misuse)
 IsLineFault g st problem table ts Memory = Unit {0}
 
 -- The tokens begin with a line that is neither too deep nor misused, the code has it, and behind it this table.
-pub record IsLineRead (g : LineTables) (st : Style) (problem table : List Symbol) (ts : List Lexeme) (r : LineRead) (after : List Symbol) : Type 0 where
+pub record IsLineRead
+    (g : LineTables) (st : Style) (problem table : List Symbol) (ts : List Lexeme) (r : LineRead)
+    (after : List Symbol) : Type 0 where
   pub parts : LineParts
   pub first : IsFirstLine g ts parts r.len
   pub shallow : is_too_deep (states_formula parts.words.first) parts.content ≡ false
   pub sound : line_misuse st problem table (states_formula parts.words.first) parts.content ≡ None
   pub line : IsLineOf st table parts r.line
-  pub symbols : after ≡ (line_made st table (states_formula parts.words.first) parts.content).reading.symbols
+  pub symbols :
+      after ≡ (line_made st table (states_formula parts.words.first) parts.content).reading.symbols

@@ -10,8 +10,9 @@ use Rattle.proof_lines.specs.declared.literals.TheConstants.{MOST_ATOM_LEVELS, M
 -- whether a name with two arguments joins formulas, or a formula and its attributes, or denies an equation
 abbrev pub joins : List ℕ → Bool
 joins s =
-    bytes_eq s (codes "&") || bytes_eq s (codes "|") || bytes_eq s (codes "->") || bytes_eq s (codes "<-") || bytes_eq s (codes "<->")
-    || bytes_eq s (codes "!=") || bytes_eq s (codes "#")
+    bytes_eq s (codes "&") || bytes_eq s (codes "|") || bytes_eq s (codes "->")
+    || bytes_eq s (codes "<-") || bytes_eq s (codes "<->") || bytes_eq s (codes "!=")
+    || bytes_eq s (codes "#")
 
 -- whether a name with so many arguments is that of a relation, or of an equation; one without may be a variable's, which is misused
 abbrev pub names_atom : List ℕ → ℕ → Bool

@@ -42,7 +42,9 @@ IsTermRead t None = is_too_deep true t ≡ true
 
 -- the code has the literals, or nothing where one is too deep
 abbrev pub AreLiteralsRead : RawTree → Option (Vec Raw) → Type 0
-AreLiteralsRead t (Some literals) = (raw_list literals.items ≡ disjuncts t) × (read_as_clause (disjuncts t) ≡ true) × (is_too_deep false t ≡ false)
+AreLiteralsRead t (Some literals) =
+    (raw_list literals.items ≡ disjuncts t) × (read_as_clause (disjuncts t) ≡ true)
+    × (is_too_deep false t ≡ false)
 AreLiteralsRead t None = is_too_deep false t ≡ true
 
 -- the content is one of a formula, and the code has it; so of a clause
@@ -53,7 +55,8 @@ abbrev pub IsClauseSeen : LineTables → List Lexeme → Option (Vec Raw) → Ty
 IsClauseSeen g ts o = (t : RawTree) × IsContent g false ts t × AreLiteralsRead t o
 
 abbrev pub IsContentSeen : LineTables → List Lexeme → ContentRead → Type 0
-IsContentSeen g ts (seen.Formula f) = IsFormulaSeen g ts f × ((t : RawTree) → ¬ IsContent g false ts t)
+IsContentSeen g ts (seen.Formula f) =
+    IsFormulaSeen g ts f × ((t : RawTree) → ¬ IsContent g false ts t)
 IsContentSeen g ts (seen.Clause c) = IsClauseSeen g ts c × ((t : RawTree) → ¬ IsContent g true ts t)
 IsContentSeen g ts (seen.Either f c) = IsFormulaSeen g ts f × IsClauseSeen g ts c
 
@@ -69,7 +72,8 @@ AreTermsRead false t (Clause c) = AreLiteralsRead t c
 AreTermsRead by_formula t terms = ⊥
 
 abbrev pub AreTermsSeen : LineTables → Bool → List Lexeme → Terms → Type 0
-AreTermsSeen g by_formula ts terms = (t : RawTree) × IsContent g by_formula ts t × AreTermsRead by_formula t terms
+AreTermsSeen g by_formula ts terms =
+    (t : RawTree) × IsContent g by_formula ts t × AreTermsRead by_formula t terms
 
 -- the tokens begin with content and words, and the code has both
 pub record IsBehindRead (g : LineTables) (ts : List Lexeme) (b : Behind) : Type 0 where
@@ -98,14 +102,17 @@ abbrev pub IsClauseTerm : RawTree → List Raw → Type 0
 IsClauseTerm t literals = (raw_list literals ≡ disjuncts t) × (read_as_clause (disjuncts t) ≡ true)
 
 -- the term breaks no row, the code has what it states, and behind it this table
-pub record IsStated (st : Style) (problem table : List Symbol) (by_formula : Bool) (t : RawTree) (content : Content) (after : List Symbol) : Type 0 where
+pub record IsStated
+    (st : Style) (problem table : List Symbol) (by_formula : Bool) (t : RawTree) (content : Content)
+    (after : List Symbol) : Type 0 where
   pub sound : line_misuse st problem table by_formula t ≡ None
   pub content_is : IsContentOf by_formula t (line_made st table by_formula t) content
   pub symbols : after ≡ (line_made st table by_formula t).reading.symbols
 
 -- the term breaks this row at least; nothing is said of memory
 abbrev pub IsStatedFault : Style → List Symbol → List Symbol → Bool → RawTree → LineFault → Type 0
-IsStatedFault st problem table by_formula t (fault.Misused misuse) = line_misuse st problem table by_formula t ≡ Some misuse
+IsStatedFault st problem table by_formula t (fault.Misused misuse) =
+    line_misuse st problem table by_formula t ≡ Some misuse
 IsStatedFault st problem table by_formula t fault.Memory = Unit {0}
 IsStatedFault st problem table by_formula t other = ⊥
 

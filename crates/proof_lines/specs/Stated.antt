@@ -40,12 +40,14 @@ is_unfit false t = false
 abbrev pub line_misuse : Style → List Symbol → List Symbol → Bool → RawTree → Option Misuse
 line_misuse st problem table by_formula t =
     let made = line_made st table by_formula t in
-    (meets (brings_stray problem (length table) made.reading.symbols) TwoKinds (meets (is_unfit by_formula t) UnfitAttribute made.reading)).least
+    let strays = brings_stray problem (length table) made.reading.symbols in
+    (meets strays TwoKinds (meets (is_unfit by_formula t) UnfitAttribute made.reading)).least
 
 -- the code's content is the formula with its names and label; the clause
 abbrev pub IsContentOf : Bool → RawTree → Made Fol → Content → Type 0
 IsContentOf true t m (Formula f label) =
-    (fol_of f.shape ≡ m.tree) × (f.names ≡ names_of m.reading.variables) × (option_map raw_of label ≡ label_of (attributed t).attributes)
+    (fol_of f.shape ≡ m.tree) × (f.names ≡ names_of m.reading.variables)
+    × (option_map raw_of label ≡ label_of (attributed t).attributes)
 IsContentOf false t m (Clause c) = clause_in m.tree ≡ Some c
 IsContentOf by_formula t m content = ⊥
 
@@ -53,4 +55,6 @@ IsContentOf by_formula t m content = ⊥
 pub record IsLineOf (st : Style) (table : List Symbol) (l : LineParts) (line : Line) : Type 0 where
   pub number : line.number ≡ l.number
   pub words : written_of line.just ≡ l.words
-  pub content : IsContentOf (states_formula l.words.first) l.content (line_made st table (states_formula l.words.first) l.content) line.content
+  pub content :
+      IsContentOf (states_formula l.words.first) l.content
+      (line_made st table (states_formula l.words.first) l.content) line.content

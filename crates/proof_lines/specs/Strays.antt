@@ -17,7 +17,8 @@ has_name table name = list_any (λ s. bytes_eq s.name name) table
 
 -- a relation named `c` or `f` with a number, where no symbol of the problem has the name
 abbrev pub is_stray_relation : List Symbol → Symbol → Bool
-is_stray_relation problem s = is_same_kind s.kind Relation && (is_skolem_name s.name && not (has_name problem s.name))
+is_stray_relation problem s =
+    is_same_kind s.kind Relation && (is_skolem_name s.name && not (has_name problem s.name))
 
 -- whether one stands behind the first n symbols
 abbrev pub brings_stray : List Symbol → ℕ → List Symbol → Bool
