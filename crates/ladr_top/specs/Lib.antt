@@ -1,3 +1,4 @@
 pub mod Causes
+pub mod Limits
 pub mod Runs
 pub mod Words

@@ -2,6 +2,7 @@
 #![tactic(auto)]
 
 mod cause;
+mod limits;
 mod lines;
 mod running;
 

@@ -2,12 +2,14 @@
 ghost use Rattle.std.specs.Prelude.{◌≡◌, ◌≢◌, false, None, Some, map};
 ghost use Rattle.std.specs.String.{string_bytes};
 ghost use Rattle.ladr_top.specs.Causes.{cause_by, status_of};
+ghost use Rattle.ladr_top.specs.Limits.{AreLimits};
 ghost use Rattle.ladr_top.specs.Runs.{RefusesWords, RunsClausetester, RunsMace4, ShowsMace4};
 ghost use Rattle.ladr_words.specs.Tasks.{task_of};
 ghost use Rattle.ladr_words.specs.declared.task.ModelOptions.{ModelOptions};
 ghost use Rattle.ladr_words.specs.declared.task.Task.TheVariants.{Clausetester, Mace4};
 
 use crate::cause::{Cause, Exit, cause_of, status};
+use crate::limits::limits_are_told;
 use crate::lines::no_command;
 use fol_core::Interpretation;
 use ladr_clausetester::{Tested, clausetester};
@@ -32,6 +34,9 @@ pub fn run<I: Interpretation, S: Source, K: Sink, C: Clock>(
     requires source { (S.inflow source.old).over ≡ false }
     requires sink { (K.outflow sink.old).over ≡ false }
     ensures status { result.status ≡ status_of result.cause }
+
+    // The limits that the other clauses name, by their numbers.
+    ensures limits { AreLimits }
 
     // Words that are no command are refused, and nothing is read.
     ensures words { task_of (map string_bytes words.now) ≡ None
@@ -60,6 +65,7 @@ pub fn run<I: Interpretation, S: Source, K: Sink, C: Clock>(
         → C.times clock.new ≡ C.times clock.old }
 {
     searches_show();
+    limits_are_told();
     match task_of(alloc, words) {
         Ok(Task::Clausetester) => exit(tested(clausetester(alloc, source, sink))),
         Ok(Task::Mace4 { options }) => exit(searched(mace4(alloc, options, source, sink, clock))),

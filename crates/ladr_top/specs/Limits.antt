@@ -1,0 +1,16 @@
+-- The limits that the definitions name.
+use Rattle.std.specs.Prelude.{◌≡◌}
+use Rattle.clausify.specs.declared.limit.TheConstants.{MOST_CLAUSES}
+use Rattle.ladr_lex.specs.declared.limits.TheConstants.{MOST_BYTES, MOST_LEVELS, MOST_SYMBOLS, MOST_ARGUMENTS, MOST_ELEMENT}
+use Rattle.model_tables.specs.declared.limits.TheConstants.{MOST_CELLS}
+
+-- bytes of an input, levels of a term, symbols of a problem and arguments of a symbol, the greatest
+-- element that a numeral names
+abbrev pub AreOfTheLanguage : Type 0
+AreOfTheLanguage =
+    (MOST_BYTES ≡ 16777216) × (MOST_LEVELS ≡ 500) × (MOST_SYMBOLS ≡ 65535)
+    × (MOST_ARGUMENTS ≡ 255) × (MOST_ELEMENT ≡ 999999999)
+
+-- and clauses of a formula, and cells of a size
+abbrev pub AreLimits : Type 0
+AreLimits = AreOfTheLanguage × (MOST_CLAUSES ≡ 20000) × (MOST_CELLS ≡ 50000000)
