@@ -9,7 +9,8 @@ ghost use Rattle.ladr_clausetester.specs.Worked.{meaning_in, involution, exchang
 pub fn worked()
     ensures told { AreTrueAsTold (meaning_in involution exchange) involution.formulas (true ∷ false
         ∷ []) }
-    ensures free { AreTrueAsTold (meaning_in constant constant_tables) constant.formulas (true ∷ false ∷ []) }
+    ensures free { AreTrueAsTold (meaning_in constant constant_tables) constant.formulas
+        (true ∷ false ∷ []) }
     ensures printed { report (true ∷ false ∷ [])
         ≡ codes "formula 1 true\nformula 2 false\n% True=1. False=1.\n% Exit tested.\n" }
 {}

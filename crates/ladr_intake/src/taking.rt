@@ -18,7 +18,8 @@ use std::alloc::Global;
 /// Reads all of the input.
 pub fn take_bytes<S: Source>(alloc: Global, source: &mut S) -> Result<Vec<u8>, NoInput>
     requires { (S.inflow source.old).over ≡ false }
-    ensures read { IfOk result (λ v. IsAllRead (S.inflow source.old) (S.inflow source.new) v.items) }
+    ensures read { IfOk result (λ v.
+        IsAllRead (S.inflow source.old) (S.inflow source.new) v.items) }
     ensures none { IfErr result (λ why. (bytes : List ℕ)
         × IsNoInput refuses_none (S.inflow source.old) (S.inflow source.new) bytes why) }
 {

@@ -94,7 +94,7 @@ pub record IsLineRead
   pub parts : LineParts
   pub first : IsFirstLine g ts parts r.len
   pub shallow : is_too_deep (states_formula parts.words.first) parts.content ≡ false
-  pub sound : line_misuse st problem table (states_formula parts.words.first) parts.content ≡ None
+  pub unmisused : line_misuse st problem table (states_formula parts.words.first) parts.content ≡ None
   pub line : IsLineOf st table parts r.line
   pub symbols :
       after ≡ (line_made st table (states_formula parts.words.first) parts.content).reading.symbols

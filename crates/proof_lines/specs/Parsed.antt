@@ -105,7 +105,7 @@ IsClauseTerm t literals = (raw_list literals ≡ disjuncts t) × (read_as_clause
 pub record IsStated
     (st : Style) (problem table : List Symbol) (by_formula : Bool) (t : RawTree) (content : Content)
     (after : List Symbol) : Type 0 where
-  pub sound : line_misuse st problem table by_formula t ≡ None
+  pub unmisused : line_misuse st problem table by_formula t ≡ None
   pub content_is : IsContentOf by_formula t (line_made st table by_formula t) content
   pub symbols : after ≡ (line_made st table by_formula t).reading.symbols
 

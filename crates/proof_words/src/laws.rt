@@ -28,7 +28,8 @@ pub fn worked()
         (written (by_clausify 3) []) }
     ensures hyper { SaysWords (line_words Either) (tokens_of "[hyper(4,a,5,b,c,6,a),flip(a)].")
         (written (by_hyper 4 (satellite 0 5 1 ∷ satellite 2 6 0 ∷ [])) (flipped 0 ∷ [])) }
-    ensures para { SaysWords (line_words Either) (tokens_of "[para(7(a,1),8(b,2,1)),merge(c),xx(a)].")
+    ensures para { SaysWords (line_words Either)
+        (tokens_of "[para(7(a,1),8(b,2,1)),merge(c),xx(a)].")
         (written (by_para 7 0 1 8 1 (2 ∷ 1 ∷ [])) (merged 2 ∷ reflexive 0 ∷ [])) }
     ensures rewrite { SaysWords (line_words Either)
         (tokens_of "[back_rewrite(4),rewrite([5(a,1,2),6(b,1)]),unit_del(b,9)].")
@@ -36,7 +37,8 @@ pub fn worked()
         ∷ unit_deleted 1 9 ∷ [])) }
     ensures stated { SaysWords (line_words Either) (tokens_of "[assumption].")
         (written as_assumption []) }
-    ensures denial { SaysWords (line_words Either) (tokens_of "[deny(3)].") (written (by_deny 3) []) }
+    ensures denial { SaysWords (line_words Either) (tokens_of "[deny(3)].")
+        (written (by_deny 3) []) }
     ensures copy { SaysWords (line_words Either) (tokens_of "[copy(3)].") (written (by_copy 3) []) }
     ensures deleted { SaysWords (line_words Either) (tokens_of "[back_unit_del(3)].")
         (written (by_back_unit_del 3) []) }
@@ -53,7 +55,8 @@ pub fn worked()
     ensures no_formula { IsBadWordToken (line_words Clause) (tokens_of "[goal].") 1 }
     ensures formula { IsBadWordToken (line_words Formula) (tokens_of "[copy(5)].") 1 }
     ensures no_group { IsBadWordToken (line_words Either) (tokens_of "[hyper(4)].") 4 }
-    ensures no_rewriting { IsBadWordToken (line_words Either) (tokens_of "[copy(1),rewrite([])].") 9 }
+    ensures no_rewriting { IsBadWordToken (line_words Either)
+        (tokens_of "[copy(1),rewrite([])].") 9 }
     ensures zeros { IsBadWordToken (line_words Either) (tokens_of "[copy(07)].") 3 }
     ensures none_behind { IsBadWordToken (line_words Either) (tokens_of "[deny(2),flip(a)].") 5 }
     ensures cut_off { IsBadWordToken (line_words Either) (tokens_of "[xx_res(2,a") 6 }
