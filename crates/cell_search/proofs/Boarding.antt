@@ -11,7 +11,7 @@ use Rattle.mace_cells.specs.Trails.{Partial, partial, value_in, is_struck_off, e
 use Rattle.mace_cells.specs.World.{World, Solves, cell_of, many_cells}
 use Rattle.mace_cells.specs.declared.trail.TrailEntry.{TrailEntry}
 use Rattle.mace_ground.specs.Cells.{Cell, value_at}
-use Rattle.cell_search.specs.Sound.{Extends, Spares, decision_of, decided_in, LosesNone, LostNone, AreFresh, IsBoard}
+use Rattle.cell_search.specs.Losses.{Extends, Spares, decision_of, decided_in, LosesNone, LostNone, AreFresh, IsBoard}
 
 abbrev pub entry : ℕ → ℕ → Bool → ℕ → TrailEntry
 entry cell value decided mark = record { cell = cell; value = value; decided = decided; mark = mark }
@@ -61,7 +61,7 @@ module _ (w : World) (t : Partial) (board : IsBoard w t) where
     many = board.many;
     stride = board.stride;
     fresh = (within, blank, board.fresh);
-    sound = λ m s agrees. let old = board.sound m s agrees in (extends_more w m (entry cell v false mark) t.entries old.0 (only m s agrees), old.1);
+    present = λ m s agrees. let old = board.present m s agrees in (extends_more w m (entry cell v false mark) t.entries old.0 (only m s agrees), old.1);
     before = board.before;
   }
 
@@ -73,7 +73,7 @@ module _ (w : World) (t : Partial) (board : IsBoard w t) where
     many = board.many;
     stride = board.stride;
     fresh = board.fresh;
-    sound = λ m s agrees. let old = board.sound m s agrees in (old.0, spares_more w m t.stride cell v t.crossings fits old.1 (other m s agrees));
+    present = λ m s agrees. let old = board.present m s agrees in (old.0, spares_more w m t.stride cell v t.crossings fits old.1 (other m s agrees));
     before = lost_more w t.stride (cell * t.stride + v) t.entries t.crossings board.before;
   }
 
@@ -85,8 +85,8 @@ module _ (w : World) (t : Partial) (board : IsBoard w t) where
         many = board.many;
         stride = board.stride;
         fresh = (within, blank, board.fresh);
-        sound = λ m s agrees. let old = board.sound m s agrees.1 in (extends_more w m (entry cell v true (length t.crossings)) t.entries old.0 agrees.0, old.1);
-        before = (omega arith, subst (λ (js : List ℕ). LosesNone w t.stride t.entries js) (sym same) board.sound, subst (λ (js : List ℕ). LostNone w t.stride t.entries js) (sym same) board.before);
+        present = λ m s agrees. let old = board.present m s agrees.1 in (extends_more w m (entry cell v true (length t.crossings)) t.entries old.0 agrees.0, old.1);
+        before = (omega arith, subst (λ (js : List ℕ). LosesNone w t.stride t.entries js) (sym same) board.present, subst (λ (js : List ℕ). LostNone w t.stride t.entries js) (sym same) board.before);
       }
 
 pub struck_off : (w : World) (t t' : Partial) (end cell v : ℕ) → IsBoard w t → v < end → end ≤ max w.size 2 → ((m : Meaning) → Solves w m → AgreesWith m (decided_in w t.entries) → value_at m (cell_of w cell) ≡ v → ⊥)
@@ -96,7 +96,7 @@ struck_off w t t' end cell v board below fits other is = rw is (crossed w t boar
 -- what is left when the latest decision is taken back
 record IsTakenBack (w : World) (stride : ℕ) (es : List TrailEntry) (ks : List ℕ) : Type 0 where
   pub fresh : AreFresh w (before_decision es)
-  pub sound : LosesNone w stride (before_decision es) (cut_to (latest_mark es) ks)
+  pub present : LosesNone w stride (before_decision es) (cut_to (latest_mark es) ks)
   pub before : LostNone w stride (before_decision es) (cut_to (latest_mark es) ks)
   pub decided : decided_in w (before_decision es) ≡ rest_of (decided_in w es)
   pub reopened : (j : ℕ) × ((j < many_cells w) × (value_in (before_decision es) j ≡ None) × IsLatest (decided_in w es) (cell_of w j))
@@ -107,13 +107,13 @@ taken_back w stride (e ∷ es) ks fresh lost some = by e.decided refl lost some 
   where
     by : (b : Bool) → e.decided ≡ b → MatchBool b ((e.mark ≤ length ks) × LosesNone w stride es (earliest e.mark ks) × LostNone w stride es (earliest e.mark ks)) (LostNone w stride es ks)
         → 0 < length (if b then decision_of w e ∷ decided_in w es else decided_in w es) → (LostNone w stride es ks → 0 < length (decided_in w es) → IsTakenBack w stride es ks) → IsTakenBack w stride (e ∷ es) ks
-    by true t l s rest = rw t record { fresh = fresh.2; sound = l.1; before = l.2; decided = refl; reopened = (e.cell, (fresh.0, fresh.1, refl)) }
-    by false t l s rest = let r = rest l s in rw t record { fresh = r.fresh; sound = r.sound; before = r.before; decided = r.decided; reopened = r.reopened }
+    by true t l s rest = rw t record { fresh = fresh.2; present = l.1; before = l.2; decided = refl; reopened = (e.cell, (fresh.0, fresh.1, refl)) }
+    by false t l s rest = let r = rest l s in rw t record { fresh = r.fresh; present = r.present; before = r.before; decided = r.decided; reopened = r.reopened }
 
 pub taken : (w : World) (t : Partial) → IsBoard w t → 0 < length (decided_in w t.entries) → IsBoard w (undone t) × (decided_in w (before_decision t.entries) ≡ rest_of (decided_in w t.entries))
 taken w t board some =
     let b = taken_back w t.stride t.entries t.crossings board.fresh board.before some in
-    (record { some = board.some; many = board.many; stride = board.stride; fresh = b.fresh; sound = b.sound; before = b.before }, b.decided)
+    (record { some = board.some; many = board.many; stride = board.stride; fresh = b.fresh; present = b.present; before = b.before }, b.decided)
 
 -- the cell of the latest decision has no value then
 pub reopened : (w : World) (t : Partial) → IsBoard w t → ((j k : ℕ) → j < many_cells w → k < many_cells w → cell_of w j ≡ cell_of w k → j ≡ k) → 0 < length (decided_in w t.entries)

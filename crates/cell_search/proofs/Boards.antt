@@ -13,7 +13,7 @@ use Rattle.cell_search.specs.Finites.{finite_of, meaning_by_cells}
 use Rattle.cell_search.specs.Full.{IsFull, MakesTrue, HasNoSolution}
 use Rattle.cell_search.specs.Positions.{AreCrossed, IsLeast}
 use Rattle.cell_search.specs.Searchable.{HasAllCells}
-use Rattle.cell_search.specs.Sound.{decided_in, IsBoard}
+use Rattle.cell_search.specs.Losses.{decided_in, IsBoard}
 use Rattle.cell_search.proofs.Boarding.{agrees_all}
 use Rattle.cell_search.proofs.Bounding.{value_below}
 use Rattle.cell_search.proofs.Tabling.{tables_extend, tables_within}
@@ -25,18 +25,18 @@ module _ (w : World) (t : Partial) (board : IsBoard w t) where
       let extends = tables_extend w t.entries searchable.some searchable.once full in (
         record { size = tables_within w t.entries searchable.some; lawful = tables_lawful (finite_of w t.entries); holds = makes (meaning_by_cells w t.entries) (tables_within w t.entries searchable.some) extends },
         agrees_all w (meaning_by_cells w t.entries) t.entries board.fresh extends,
-        λ u solves agrees k within. let v = full k within in (board.sound u solves agrees).0 k v.0 within v.1.0 ∙ sym (extends k v.0 within v.1.0),
+        λ u solves agrees k within. let v = full k within in (board.present u solves agrees).0 k v.0 within v.1.0 ∙ sym (extends k v.0 within v.1.0),
       )
 
   pub none_settled : HasNoSolution w t.entries → IsRefuted w (decided_in w t.entries)
-  none_settled none = λ m solves agrees. none m solves (board.sound m solves agrees).0
+  none_settled none = λ m solves agrees. none m solves (board.present m solves agrees).0
 
   -- every value is below the bound of the cell
   pub bound_is : (k most end : ℕ) → k < many_cells w → end ≡ bound_of w.size (cell_of w k).kind → most + 1 ≡ end → IsBound w (decided_in w t.entries) (cell_of w k) most
   bound_is k most end within is same = λ m solves agrees. (m, (solves, (agrees, let below = value_below w m k board.some solves within in omega (arith, below, is, same)), carried_itself w.fixed m))
 
   crossed_refutes : (k v u : ℕ) → k < many_cells w → AreCrossed t k v u → AreRefuted w (decided_in w t.entries) (cell_of w k) v u
-  crossed_refutes k v u within crossed = λ m solves agrees h g. let x = crossed (value_at m (cell_of w k)) h g in (board.sound m solves agrees).1 k (value_at m (cell_of w k)) within x.0 x.1 refl
+  crossed_refutes k v u within crossed = λ m solves agrees h g. let x = crossed (value_at m (cell_of w k)) h g in (board.present m solves agrees).1 k (value_at m (cell_of w k)) within x.0 x.1 refl
 
   pub least_refutes : (k v most : ℕ) (o : Option ℕ) → k < many_cells w → IsLeast t k v most o → IsNextValue w (decided_in w t.entries) (cell_of w k) v most o
   least_refutes k v most None within least = crossed_refutes k v (suc most) within least
@@ -49,7 +49,7 @@ board_at_first w some = record {
   many = refl;
   stride = refl;
   fresh = tt;
-  sound = λ m solves agrees. ((λ k v within given. absurd (none-some _ given)), (λ k v within fits struck here. let h : false ≡ true = struck in cc));
+  present = λ m solves agrees. ((λ k v within given. absurd (none-some _ given)), (λ k v within fits struck here. let h : false ≡ true = struck in cc));
   before = tt;
 }
 

@@ -25,7 +25,7 @@ use Rattle.model_tables.specs.Tables.{place_from}
 use Rattle.cell_search.specs.Full.{IsFull, NoneIsTrue, IsDueClause, IsTrueFrom, IsTrueBelow, HasNoSolution}
 use Rattle.cell_search.specs.Known.{number_of_cell, cell_number, joined_seen, seen, all_seen, cell_seen, compared, equation_seen, atom_seen, literal_seen}
 use Rattle.cell_search.specs.Searchable.{count_of, HasCells, IsOfCells, AreOfCells, IsEquationOfCells, IsAtomOfCells, IsClauseOfCells}
-use Rattle.cell_search.specs.Sound.{Extends, decided_in}
+use Rattle.cell_search.specs.Losses.{Extends, decided_in}
 use Rattle.cell_search.proofs.Sounding.{cell_named, literal_so}
 
 pub decided_few : (w : World) (es : List TrailEntry) → length (decided_in w es) ≤ length es

@@ -11,7 +11,7 @@ use Rattle.mace_cells.specs.World.{World, Solves, cell_of, many_cells, IsRefuted
 use Rattle.mace_ground.specs.Cells.{value_at}
 use Rattle.model_tables.specs.Size.{bound_of}
 use Rattle.cell_search.specs.Asking.{IsDue, IsOnly, AreCrossedBut}
-use Rattle.cell_search.specs.Sound.{decided_in, IsBoard}
+use Rattle.cell_search.specs.Losses.{decided_in, IsBoard}
 use Rattle.cell_search.specs.declared.asks.Ask.{Ask}
 use Rattle.cell_search.proofs.Bounding.{value_below}
 
@@ -20,14 +20,14 @@ module _ (w : World) (t : Partial) (board : IsBoard w t) (k : ℕ) (within : k <
   out_of_range v end only is past = λ m s agrees. omega (arith, only m s agrees, is, past, value_below w m k board.some s within)
 
   pub struck_out : (v : ℕ) → IsOnly w t.entries k v → v < t.stride → is_struck_off (k * t.stride + v) t.crossings ≡ true → IsRefuted w (decided_in w t.entries)
-  struck_out v only fits struck = λ m s agrees. (board.sound m s agrees).1 k v within fits struck (only m s agrees)
+  struck_out v only fits struck = λ m s agrees. (board.present m s agrees).1 k v within fits struck (only m s agrees)
 
   left_by : (end : ℕ) (only : Option ℕ) → end ≡ bound_of w.size (cell_of w k).kind → end ≤ t.stride → AreCrossedBut t k end only
       → (m : Meaning) → Solves w m → AgreesWith m (decided_in w t.entries) → only ≡ Some (value_at m (cell_of w k))
   left_by end only is fits crossed m s agrees =
       let v = value_at m (cell_of w k) in
       let below : v < end = omega (arith, is, value_below w m k board.some s within) in
-      elim (crossed v below) [ inl struck ↦ absurd ((board.sound m s agrees).1 k v within (omega (arith, below, fits)) struck refl) | inr here ↦ here ]
+      elim (crossed v below) [ inl struck ↦ absurd ((board.present m s agrees).1 k v within (omega (arith, below, fits)) struck refl) | inr here ↦ here ]
 
   pub fits_in : (end : ℕ) → end ≤ max w.size 2 → end ≤ t.stride
   fits_in end fits = omega (arith, fits, board.stride)
@@ -40,7 +40,7 @@ module _ (w : World) (t : Partial) (board : IsBoard w t) (k : ℕ) (within : k <
 
   -- what the table has
   pub given : (v : ℕ) → Some v ≡ value_in t.entries k → IsOnly w t.entries k v
-  given v is = λ m s agrees. (board.sound m s agrees).0 k v within (sym is)
+  given v is = λ m s agrees. (board.present m s agrees).0 k v within (sym is)
 
 -- a cell that has a value, and is asked for another
 pub refused : (w : World) (t : Partial) (a : Ask) (v : ℕ) → IsOnly w t.entries a.cell v → IsDue w t.entries a → ((v == a.value) ≡ a.positive → ⊥) → IsRefuted w (decided_in w t.entries)

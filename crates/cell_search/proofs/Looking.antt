@@ -16,7 +16,7 @@ use Rattle.mace_cells.specs.declared.trail.TrailEntry.{TrailEntry}
 use Rattle.mace_ground.specs.Cells.{value_at}
 use Rattle.cell_search.specs.Asking.{Passes, AreSides, IsAsked}
 use Rattle.cell_search.specs.Known.{seen, cell_seen, equation_seen, literal_seen}
-use Rattle.cell_search.specs.Sound.{Extends}
+use Rattle.cell_search.specs.Losses.{Extends}
 use Rattle.cell_search.specs.declared.asks.Ask.{Ask}
 use Rattle.cell_search.proofs.Sounding.{seen_so, cell_so, literal_so}
 

@@ -19,7 +19,7 @@ use Rattle.mace_ground.proofs.Numbering.{by_number}
 use Rattle.model_tables.specs.Size.{AllBelow}
 use Rattle.model_tables.specs.Tables.{place_from}
 use Rattle.cell_search.specs.Known.{place_within, number_of_cell, cell_number, seen, all_seen, cell_seen, compared, equation_seen, atom_seen, literal_seen}
-use Rattle.cell_search.specs.Sound.{Extends}
+use Rattle.cell_search.specs.Losses.{Extends}
 use Rattle.cell_search.proofs.Seeing.{joined_some, both_true}
 
 kinds_same : (a b : Kind) → is_same_kind a b ≡ true → a ≡ b

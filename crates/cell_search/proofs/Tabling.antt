@@ -20,7 +20,7 @@ use Rattle.model_tables.specs.Size.{bound_of, AllBelow}
 use Rattle.model_tables.specs.Tables.{Listing, listing, place_from, listed, row_of}
 use Rattle.cell_search.specs.Finites.{cell_values, values_in, values_of_symbol, above_symbols, finite_of, meaning_by_cells, IsRowFor, AreTablesFor}
 use Rattle.cell_search.specs.Full.{IsFull}
-use Rattle.cell_search.specs.Sound.{Extends}
+use Rattle.cell_search.specs.Losses.{Extends}
 use Rattle.cell_search.proofs.Seeing.{found_within}
 
 -- a cell by its block and its place in it

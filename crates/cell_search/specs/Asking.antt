@@ -9,7 +9,7 @@ use Rattle.mace_cells.specs.Trails.{Partial, is_struck_off}
 use Rattle.mace_cells.specs.World.{World, Solves, cell_of, many_cells}
 use Rattle.mace_cells.specs.declared.trail.TrailEntry.{TrailEntry}
 use Rattle.mace_ground.specs.Cells.{value_at}
-use Rattle.cell_search.specs.Sound.{Extends, decided_in}
+use Rattle.cell_search.specs.Losses.{Extends, decided_in}
 use Rattle.cell_search.specs.declared.asks.Ask.{Ask}
 use Rattle.cell_search.specs.declared.closing.Rest.{Rest}
 use Rattle.cell_search.specs.declared.closing.Rest.TheVariants.{Nothing, One, Several}

@@ -11,7 +11,7 @@ use Rattle.model_tables.specs.Size.{bound_of}
 use Rattle.mace_ground.specs.Instances.{variables_in}
 use Rattle.cell_search.specs.Known.{literal_seen}
 use Rattle.cell_search.specs.Searchable.{IsClauseOfCells}
-use Rattle.cell_search.specs.Sound.{Extends, decided_in}
+use Rattle.cell_search.specs.Losses.{Extends, decided_in}
 use Rattle.cell_search.specs.declared.full.Filled.{Filled}
 use Rattle.cell_search.specs.declared.full.Filled.TheVariants.{Open, Amiss, Full}
 

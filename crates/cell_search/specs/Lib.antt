@@ -7,4 +7,4 @@ pub mod Known
 pub mod Positions
 pub mod SearchCodes
 pub mod Searchable
-pub mod Sound
+pub mod Losses

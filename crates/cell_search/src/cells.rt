@@ -3,7 +3,7 @@ ghost use Rattle.std.specs.Prelude.{ℕ, ◌≡◌, ◌<◌, ◌≤◌, [], None
 ghost use Rattle.cell_search.specs.Finites.{finite_of, meaning_by_cells, tables_over, AreTablesFor};
 ghost use Rattle.cell_search.specs.Positions.{position, IsLeast};
 ghost use Rattle.cell_search.specs.Searchable.{HasAllCells};
-ghost use Rattle.cell_search.specs.Sound.{decided_in};
+ghost use Rattle.cell_search.specs.Losses.{decided_in};
 ghost use Rattle.mace_cells.specs.Boards.{IsAsSaid};
 ghost use Rattle.mace_cells.specs.Trails.{partial, value_in};
 ghost use Rattle.mace_cells.specs.World.{many_cells, IsRefuted};
@@ -39,7 +39,7 @@ impl<'a> Model for Cells<'a> {
     ghost use Rattle.cell_search.specs.Positions.{Position};
     ghost use Rattle.cell_search.specs.SearchCodes.{coded_position};
     ghost use Rattle.cell_search.specs.Searchable.{HasAllCells};
-    ghost use Rattle.cell_search.specs.Sound.{IsBoard};
+    ghost use Rattle.cell_search.specs.Losses.{IsBoard};
     ghost use Rattle.model_tables.specs.Size.{AllBelow};
 
     ghost Value = { Position };
@@ -174,7 +174,7 @@ fn least(trail: &Trail, cell: u32, from: u32, most: u8) -> Option<u8>
 
 impl<'a> Board for Cells<'a> {
     ghost use Rattle.cell_search.specs.Finites.{finite_of, meaning_by_cells, AreTablesFor};
-    ghost use Rattle.cell_search.specs.Sound.{decided_in};
+    ghost use Rattle.cell_search.specs.Losses.{decided_in};
     ghost use Rattle.mace_cells.specs.Trails.{value_in};
     ghost use Rattle.std.specs.Prelude.{◌≡◌, None};
 

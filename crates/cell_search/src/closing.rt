@@ -1,7 +1,7 @@
 // Values that are given to cells, or crossed off them, since clauses ask for it.
 ghost use Rattle.std.specs.Prelude.{◌≡◌, ◌<◌, ◌≤◌, ◌^◌, true, false, None};
 ghost use Rattle.cell_search.specs.Asking.{IsDue, IsOnly, IsNone, IsRest};
-ghost use Rattle.cell_search.specs.Sound.{IsBoard, decided_in};
+ghost use Rattle.cell_search.specs.Losses.{IsBoard, decided_in};
 ghost use Rattle.mace_cells.specs.Trails.{value_in};
 ghost use Rattle.mace_cells.specs.World.{cell_of, many_cells, IsRefuted};
 ghost use Rattle.model_tables.specs.Size.{bound_of};

@@ -2,7 +2,7 @@
 ghost use Rattle.std.specs.Prelude.{◌≡◌, ◌<◌, ◌≤◌, ℕ, IfOk, IsTrue, MatchBool, length, map};
 ghost use Rattle.cell_search.specs.Full.{IsFull, IsFilledAs, NoneIsTrue, IsDueClause, IsTrueFrom, HasNoSolution, MakesTrue, HaveVariables};
 ghost use Rattle.cell_search.specs.Searchable.{HasAllCells};
-ghost use Rattle.cell_search.specs.Sound.{IsBoard, Extends};
+ghost use Rattle.cell_search.specs.Losses.{IsBoard, Extends};
 ghost use Rattle.fol_core.specs.ClauseView.{literal_of};
 ghost use Rattle.fol_core.specs.Literals.{is_true_clause};
 ghost use Rattle.fol_core.specs.Meaning.{Meaning};

@@ -1,6 +1,6 @@
 // Going over the instances of clauses, and doing what they ask.
 ghost use Rattle.std.specs.Prelude.{◌≡◌, ◌<◌, ◌≤◌, false, length};
-ghost use Rattle.cell_search.specs.Sound.{IsBoard, decided_in};
+ghost use Rattle.cell_search.specs.Losses.{IsBoard, decided_in};
 ghost use Rattle.mace_cells.specs.World.{IsRefuted};
 ghost use Rattle.model_tables.specs.Size.{AllBelow};
 

@@ -64,7 +64,7 @@ impl<'a> Model for Search<'a> {
     ghost use Rattle.cell_search.specs.Courses.{Course, live_in, late_in, IsStateOf};
     ghost use Rattle.cell_search.specs.Finites.{finite_of};
     ghost use Rattle.cell_search.specs.SearchCodes.{coded_course};
-    ghost use Rattle.cell_search.specs.Sound.{decided_in};
+    ghost use Rattle.cell_search.specs.Losses.{decided_in};
     ghost use Rattle.mace_cells.specs.Leaves.{choices_of};
     ghost use Rattle.mace_cells.specs.Standing.{IsStanding};
 

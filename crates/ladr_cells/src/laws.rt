@@ -51,7 +51,7 @@ pub fn solutions_are_models()
 }
 
 /// Tables with the values of an interpretation that is isomorphic to an expanded one are isomorphic to the tables expanded.
-pub fn renamings_are_isomorphisms()
+pub fn isomorphisms_are_carried()
     ensures { (p : Stated) (n : ℕ) → 0 < n → StandBehind p
         → AreNewTo p.formulas (axioms_in_table p.symbols p) → (t e u : Finite)
         → IsInterpretation n p t → IsExpansion t (axioms_in_table p.symbols p) e

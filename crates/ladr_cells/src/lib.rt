@@ -3,4 +3,4 @@
 
 mod laws;
 
-pub use laws::{cells_for_all, problems_fit, renamings_are_isomorphisms, solutions_are_models};
+pub use laws::{cells_for_all, isomorphisms_are_carried, problems_fit, solutions_are_models};

@@ -1,6 +1,6 @@
 use Rattle.std.proofs.Common.{sym, ◌∙◌, subst, arith}
 use Rattle.mace_cells.specs.Trails.{Partial}
-use Rattle.cell_search.specs.Sound.{IsBoard}
+use Rattle.cell_search.specs.Losses.{IsBoard}
 use Rattle.cell_search.proofs.Boarding.{assigned}
 use Rattle.cell_search.proofs.Leaving.{out_of_range, struck_out}
 use Rattle.cell_search.proofs.closing.settle.Goals as goal

@@ -2,7 +2,7 @@ use Rattle.std.proofs.Common.{List, ap, subst}
 use Rattle.mace_cells.specs.Choices.{Decision}
 use Rattle.mace_cells.specs.Trails.{Partial}
 use Rattle.mace_cells.specs.World.{IsRefuted}
-use Rattle.cell_search.specs.Sound.{decided_in}
+use Rattle.cell_search.specs.Losses.{decided_in}
 use Rattle.cell_search.proofs.Boarding.{struck_off}
 use Rattle.cell_search.proofs.Leaving.{fits_in, nothing_left, one_left}
 use Rattle.cell_search.proofs.closing.strike.Goals as goal

@@ -1,6 +1,6 @@
 -- one variable fewer is left; nothing is lost, nothing decided, and the variables have elements
 use Rattle.std.proofs.Common.{◌≡◌, suc, ◌-◌, length}
-use Rattle.cell_search.specs.Sound.{IsBoard, decided_in}
+use Rattle.cell_search.specs.Losses.{IsBoard, decided_in}
 use Rattle.model_tables.specs.Size.{AllBelow}
 use Rattle.cell_search.proofs.going.+go.Given as goal
 

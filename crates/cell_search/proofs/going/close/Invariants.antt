@@ -1,6 +1,6 @@
 -- nothing is lost, nothing decided, and the variables have elements; no more steps come than there are cells
 use Rattle.std.proofs.Common.{◌≡◌, suc, ◌-◌}
-use Rattle.cell_search.specs.Sound.{IsBoard, decided_in}
+use Rattle.cell_search.specs.Losses.{IsBoard, decided_in}
 use Rattle.model_tables.specs.Size.{AllBelow}
 use Rattle.mace_cells.specs.World.{many_cells}
 use Rattle.cell_search.proofs.going.close.Given as goal

@@ -5,7 +5,7 @@ use Rattle.mace_cells.specs.World.{IsRefuted}
 use Rattle.mace_cells.specs.declared.board.Status.{Status}
 use Rattle.cell_search.specs.Finites.{finite_of, meaning_by_cells, AreTablesFor}
 use Rattle.cell_search.specs.Positions.{Position}
-use Rattle.cell_search.specs.Sound.{decided_in}
+use Rattle.cell_search.specs.Losses.{decided_in}
 use Rattle.cell_search.proofs.Boards.{settled, none_settled}
 use Rattle.cell_search.proofs.Tabling.{tables_whole}
 use Rattle.cell_search.proofs.cells.Cells.ends.Goals.{then-are_true, else-are_true}

@@ -1,7 +1,7 @@
 use Rattle.std.proofs.Common.{subst}
 use Rattle.mace_cells.specs.World.{IsRefuted}
 use Rattle.cell_search.specs.Positions.{Position}
-use Rattle.cell_search.specs.Sound.{decided_in}
+use Rattle.cell_search.specs.Losses.{decided_in}
 use Rattle.cell_search.proofs.cells.Cells.go_on.Goals as goal
 
 pub returns-clause-refuted : goal.returns-clause-refuted

@@ -2,7 +2,7 @@ use Rattle.std.proofs.Common.{◌≡◌, ℕ, [], List, length, max, sym, ap, �
 use Rattle.std.proofs.lemmas.List.{length-replicate}
 use Rattle.mace_cells.specs.Trails.{Partial, partial}
 use Rattle.mace_cells.specs.World.{many_cells}
-use Rattle.cell_search.specs.Sound.{IsBoard}
+use Rattle.cell_search.specs.Losses.{IsBoard}
 use Rattle.cell_search.proofs.Boards.{board_at_first, zeros_below}
 use Rattle.cell_search.proofs.cells.Cells.new.Goals as goal
 

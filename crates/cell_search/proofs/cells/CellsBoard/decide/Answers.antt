@@ -2,7 +2,7 @@ use Rattle.std.proofs.Common.{◌≡◌, ◌<◌, None, sym, subst}
 use Rattle.mace_cells.specs.Trails.{Partial, value_in}
 use Rattle.mace_cells.specs.World.{many_cells}
 use Rattle.cell_search.specs.Positions.{Position}
-use Rattle.cell_search.specs.Sound.{IsBoard}
+use Rattle.cell_search.specs.Losses.{IsBoard}
 use Rattle.cell_search.proofs.Boarding.{decided}
 use Rattle.cell_search.proofs.cells.CellsBoard.decide.Goals as goal
 

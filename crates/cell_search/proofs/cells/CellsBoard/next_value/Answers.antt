@@ -1,7 +1,7 @@
 use Rattle.std.proofs.Common.{◌<◌, sym, subst}
 use Rattle.mace_cells.specs.World.{many_cells, cell_of, IsNextValue}
 use Rattle.cell_search.specs.Positions.{Position}
-use Rattle.cell_search.specs.Sound.{decided_in}
+use Rattle.cell_search.specs.Losses.{decided_in}
 use Rattle.cell_search.proofs.Boards.{least_refutes}
 use Rattle.cell_search.proofs.cells.CellsBoard.next_value.Goals as goal
 

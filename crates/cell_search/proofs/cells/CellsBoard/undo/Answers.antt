@@ -4,7 +4,7 @@ use Rattle.mace_cells.specs.Stacked.{rest_of}
 use Rattle.mace_cells.specs.Trails.{Partial, value_in}
 use Rattle.mace_cells.specs.World.{cell_of, many_cells}
 use Rattle.cell_search.specs.Positions.{Position}
-use Rattle.cell_search.specs.Sound.{decided_in, IsBoard}
+use Rattle.cell_search.specs.Losses.{decided_in, IsBoard}
 use Rattle.cell_search.proofs.Boarding.{taken, reopened}
 use Rattle.cell_search.proofs.Tabling.{cells_differ}
 use Rattle.cell_search.proofs.cells.CellsBoard.undo.Goals as goal

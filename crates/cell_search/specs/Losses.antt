@@ -44,5 +44,5 @@ pub record IsBoard (w : World) (t : Partial) : Type 0 where
   pub many : t.many ≡ many_cells w
   pub stride : t.stride ≡ max w.size 2
   pub fresh : AreFresh w t.entries
-  pub sound : LosesNone w t.stride t.entries t.crossings
+  pub present : LosesNone w t.stride t.entries t.crossings
   pub before : LostNone w t.stride t.entries t.crossings
