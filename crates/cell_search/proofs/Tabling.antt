@@ -17,7 +17,7 @@ use Rattle.mace_cells.specs.declared.trail.TrailEntry.{TrailEntry}
 use Rattle.mace_ground.proofs.Numbering.{place_split}
 use Rattle.mace_ground.specs.Cells.{Block, Cell, cell, cells_in, cell_at, digits, found, found_from, value_at, value_of_kind}
 use Rattle.model_tables.specs.Size.{bound_of, AllBelow}
-use Rattle.model_tables.specs.Tables.{Listing, listing, place_from, listed, row_of}
+use Rattle.model_tables.specs.Tables.{Listing, listing, place_from, listed_value, row_of}
 use Rattle.cell_search.specs.Finites.{cell_values, values_in, values_of_symbol, above_symbols, finite_of, meaning_by_cells, IsRowFor, AreTablesFor}
 use Rattle.cell_search.specs.Full.{IsFull}
 use Rattle.cell_search.specs.Losses.{Extends}
@@ -127,7 +127,7 @@ module _ (w : World) (es : List TrailEntry) where
   row_at : (s : ℕ) (q : ℕ × Block) → found w.size w.blocks s ≡ Some q → row_of (finite_of w es) s ≡ cell_values es q.0 (w.size ^ q.1.arity)
   row_at s q h = row_is s ∙ ap (values_in w es) h
 
-  listed_at : (s : ℕ) (xs : List ℕ) (q : ℕ × Block) (place v : ℕ) → 0 < w.size → found w.size w.blocks s ≡ Some q → place_from w.size 0 xs ≡ place → place < w.size ^ q.1.arity → value_in es (q.0 + place) ≡ Some v → listed (finite_of w es) s xs ≡ v
+  listed_at : (s : ℕ) (xs : List ℕ) (q : ℕ × Block) (place v : ℕ) → 0 < w.size → found w.size w.blocks s ≡ Some q → place_from w.size 0 xs ≡ place → place < w.size ^ q.1.arity → value_in es (q.0 + place) ≡ Some v → listed_value (finite_of w es) s xs ≡ v
   listed_at s xs q place v some h is within given =
       let top : w.size - 1 + 1 ≡ w.size = omega (arith, some) in
       let f : ℕ → ℕ = λ j. unwrap_or (value_in es j) 0 in
@@ -148,7 +148,7 @@ module _ (w : World) (es : List TrailEntry) where
       let below : v < bound_of w.size l.block.kind = subst (λ (c : Cell). v < bound_of w.size c.kind) l.names (omega (arith, same, u.1.1)) in
       ap (value_at (meaning_by_cells w es)) l.names ∙ by l.block.kind l.block.symbol (digits w.size l.block.arity l.place) v listed_is below
     where
-      by : (kind : Kind) (s : ℕ) (xs : List ℕ) (v : ℕ) → listed (finite_of w es) s xs ≡ v → v < bound_of w.size kind → value_of_kind (meaning_by_cells w es) kind s xs ≡ v
+      by : (kind : Kind) (s : ℕ) (xs : List ℕ) (v : ℕ) → listed_value (finite_of w es) s xs ≡ v → v < bound_of w.size kind → value_of_kind (meaning_by_cells w es) kind s xs ≡ v
       by Function s xs v is below = rw is (let le : nat_le v (w.size - 1) ≡ true = grind (arith, nat_tests) in rw le refl)
       by Relation s xs zero is below = rw is refl
       by Relation s xs (suc zero) is below = rw is refl

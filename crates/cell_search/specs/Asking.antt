@@ -18,21 +18,32 @@ use Rattle.cell_search.specs.declared.look.Verdict.TheVariants.{Quiet, Contradic
 
 -- an interpretation has the value in the cell, or hasn't it, as it is asked
 abbrev pub Passes : World → Meaning → Ask → Type 0
-Passes w m a = MatchBool a.positive (value_at m (cell_of w a.cell) ≡ a.value) (value_at m (cell_of w a.cell) ≡ a.value → ⊥)
+Passes w m a =
+    MatchBool a.positive (value_at m (cell_of w a.cell) ≡ a.value)
+    (value_at m (cell_of w a.cell) ≡ a.value → ⊥)
 
--- the first term is that of a cell, and the other has a value, in whatever has the values of the table
+-- the first term is that of a cell, and the other has a value, in whatever has the values of the
+-- table
 abbrev pub AreSides : World → List TrailEntry → Assignment → Tree → Tree → ℕ × ℕ → Type 0
-AreSides w es e s t p = (p.0 < many_cells w) × ((m : Meaning) → Extends w m es → (value_at m (cell_of w p.0) ≡ value_of m e s) × (value_of m e t ≡ p.1))
+AreSides w es e s t p =
+    (p.0 < many_cells w)
+    × ((m : Meaning) → Extends w m es → (value_at m (cell_of w p.0) ≡ value_of m e s)
+    × (value_of m e t ≡ p.1))
 
 -- whatever has the values of the table and makes the literal true passes
 abbrev pub IsAsked : World → List TrailEntry → Assignment → Lit → Ask → Type 0
-IsAsked w es e l a = (a.cell < many_cells w) × ((m : Meaning) → Extends w m es → IsTrue (is_true_literal m e l) → Passes w m a)
+IsAsked w es e l a =
+    (a.cell < many_cells w)
+    × ((m : Meaning) → Extends w m es → IsTrue (is_true_literal m e l) → Passes w m a)
 
 -- it can't make the clause true, or where it does it passes
 abbrev pub InstanceTells : World → List TrailEntry → Assignment → ClauseTree → Verdict → Type 0
 InstanceTells w es e c Quiet = Unit {0}
-InstanceTells w es e c Contradiction = (m : Meaning) → Extends w m es → IsTrue (is_true_clause m e c) → ⊥
-InstanceTells w es e c (Asks a) = (a.cell < many_cells w) × ((m : Meaning) → Extends w m es → IsTrue (is_true_clause m e c) → Passes w m a)
+InstanceTells w es e c Contradiction =
+    (m : Meaning) → Extends w m es → IsTrue (is_true_clause m e c) → ⊥
+InstanceTells w es e c (Asks a) =
+    (a.cell < many_cells w)
+    × ((m : Meaning) → Extends w m es → IsTrue (is_true_clause m e c) → Passes w m a)
 
 -- each solution that agrees with what was decided passes
 abbrev pub IsDue : World → List TrailEntry → Ask → Type 0
@@ -40,15 +51,18 @@ IsDue w es a = (m : Meaning) → Solves w m → AgreesWith m (decided_in w es) �
 
 -- each of them has this value in a cell
 abbrev pub IsOnly : World → List TrailEntry → ℕ → ℕ → Type 0
-IsOnly w es k v = (m : Meaning) → Solves w m → AgreesWith m (decided_in w es) → value_at m (cell_of w k) ≡ v
+IsOnly w es k v =
+    (m : Meaning) → Solves w m → AgreesWith m (decided_in w es) → value_at m (cell_of w k) ≡ v
 
 -- none of them has it
 abbrev pub IsNone : World → List TrailEntry → ℕ → ℕ → Type 0
-IsNone w es k v = (m : Meaning) → Solves w m → AgreesWith m (decided_in w es) → value_at m (cell_of w k) ≡ v → ⊥
+IsNone w es k v =
+    (m : Meaning) → Solves w m → AgreesWith m (decided_in w es) → value_at m (cell_of w k) ≡ v → ⊥
 
 -- each value of the cell is crossed off, but this one if there is one
 abbrev pub AreCrossedBut : Partial → ℕ → ℕ → Option ℕ → Type 0
-AreCrossedBut t k end only = (v : ℕ) → v < end → (is_struck_off (k * t.stride + v) t.crossings ≡ true) ⊎ (only ≡ Some v)
+AreCrossedBut t k end only =
+    (v : ℕ) → v < end → (is_struck_off (k * t.stride + v) t.crossings ≡ true) ⊎ (only ≡ Some v)
 
 -- what values a cell has left
 abbrev pub IsRest : Partial → ℕ → ℕ → Rest → Type 0

@@ -7,7 +7,7 @@ use Rattle.mace_cells.specs.Choices.{Choice}
 use Rattle.mace_cells.specs.Leaves.{LeavesOpen, FindsModel, IsOver}
 use Rattle.mace_cells.specs.World.{World}
 use Rattle.mace_cells.specs.declared.frame.Frame.{Frame}
-use Rattle.mace_ground.specs.Count.{blocks_in, clauses_in}
+use Rattle.mace_ground.specs.Count.{blocks_in, clause_trees}
 use Rattle.mace_search.specs.Watch.{IsEarly, IsLate}
 use Rattle.mace_search.specs.declared.answer.Answer.{Answer}
 use Rattle.mace_search.specs.declared.answer.Answer.TheVariants as answers
@@ -24,10 +24,16 @@ above_numeral (Some k) = suc k
 
 -- what a search is about among n elements; the clauses' symbols stand in the table
 abbrev pub world_of : List Symbol → Clauses → ℕ → World
-world_of table c n = record { size = n; fixed = above_numeral c.numeral; clauses = clauses_in c; blocks = blocks_in table c }
+world_of table c n =
+    record {
+      size = n;
+      fixed = above_numeral c.numeral;
+      clauses = clause_trees c;
+      blocks = blocks_in table c;
+    }
 
--- what is searched for; whether the decisions are still being followed, and the choices that stand; the tables of the values so
--- far; when to stop, and the reading by which the time is over
+-- what is searched for; whether the decisions are still being followed, and the choices that stand;
+-- the tables of the values so far; when to stop, and the reading by which the time is over
 pub record Course : Type 0 where
   pub world : World
   pub live : Bool
@@ -40,13 +46,18 @@ pub record Course : Type 0 where
 abbrev pub IsSameCourse : Course → Course → Type 0
 IsSameCourse s s' = (s'.world ≡ s.world) × (s'.stop ≡ s.stop)
 
--- What an answer says: the tables have a value for each cell, and are a model that was ahead, and is ahead no more; none was
--- ahead; or the time is over, and nothing was passed over.
+-- What an answer says: the tables have a value for each cell, and are a model that was ahead, and
+-- is ahead no more; none was ahead; or the time is over, and nothing was passed over.
 abbrev pub AnswersByCells : Course → Course → Answer → Times → Type 0
 AnswersByCells s s' Model t =
-    FindsModel s.world s.live s.choices (meaning_of s'.tables) s'.choices × AreTablesFor s.world s'.tables × (s'.live ≡ false) × (s'.late ≡ None) × IsEarly s.stop t
-AnswersByCells s s' answers.Exhausted t = IsOver s.world s.live s.choices × (s'.live ≡ false) × (s'.choices ≡ []) × (s'.late ≡ None) × IsEarly s.stop t
-AnswersByCells s s' (MaxSeconds last) t = LeavesOpen s.world s.live s.choices true s'.choices × (s'.live ≡ true) × (s'.late ≡ Some last) × IsLate s.stop t last
+    FindsModel s.world s.live s.choices (meaning_of s'.tables) s'.choices
+    × AreTablesFor s.world s'.tables × (s'.live ≡ false) × (s'.late ≡ None) × IsEarly s.stop t
+AnswersByCells s s' answers.Exhausted t =
+    IsOver s.world s.live s.choices × (s'.live ≡ false) × (s'.choices ≡ []) × (s'.late ≡ None)
+    × IsEarly s.stop t
+AnswersByCells s s' (MaxSeconds last) t =
+    LeavesOpen s.world s.live s.choices true s'.choices × (s'.live ≡ true) × (s'.late ≡ Some last)
+    × IsLate s.stop t last
 
 -- whether decisions are being followed, and whether the time is over, in a state of the code
 abbrev pub live_in : State → Bool

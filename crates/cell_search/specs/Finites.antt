@@ -30,7 +30,12 @@ above_symbols (b ∷ bs) = max (suc b.symbol) (above_symbols bs)
 
 -- up to the last of these, whatever kinds they have
 abbrev pub finite_of : World → List TrailEntry → Finite
-finite_of w es = record { top = w.size - 1; rows = map (λ s. listing Function (values_of_symbol w es s)) (range_with_len 0 (above_symbols w.blocks)) }
+finite_of w es =
+    record {
+      top = w.size - 1;
+      rows = map (λ s. listing Function (values_of_symbol w es s))
+          (range_with_len 0 (above_symbols w.blocks));
+    }
 
 -- and as an interpretation
 abbrev pub meaning_by_cells : World → List TrailEntry → Meaning
@@ -38,7 +43,11 @@ meaning_by_cells w es = meaning_of (finite_of w es)
 
 -- the same values for the symbols of a table, each with its kind
 abbrev pub tables_over : List Symbol → Finite → Finite
-tables_over table t = record { top = t.top; rows = map (λ s. listing (kind_at table s) (row_of t s)) (range_with_len 0 (length table)) }
+tables_over table t =
+    record {
+      top = t.top;
+      rows = map (λ s. listing (kind_at table s) (row_of t s)) (range_with_len 0 (length table));
+    }
 
 -- a value for each cell of a symbol, none too great; none where it has no cells
 abbrev pub IsRowFor : World → Option (ℕ × Block) → List ℕ → Type 0

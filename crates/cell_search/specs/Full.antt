@@ -17,11 +17,14 @@ use Rattle.cell_search.specs.declared.full.Filled.TheVariants.{Open, Amiss, Full
 
 -- each cell has a value, and one that it can have
 abbrev pub IsFull : World → List TrailEntry → Type 0
-IsFull w es = (k : ℕ) → k < many_cells w → (v : ℕ) × ((value_in es k ≡ Some v) × (v < bound_of w.size (cell_of w k).kind))
+IsFull w es =
+    (k : ℕ) → k < many_cells w → (v : ℕ)
+    × ((value_in es k ≡ Some v) × (v < bound_of w.size (cell_of w k).kind))
 
 -- a cell has none, or one has a value that it can't have, or neither
 abbrev pub IsFilledAs : World → List TrailEntry → Filled → Type 0
-IsFilledAs w es (Open k) = (k < many_cells w) × (length (decided_in w es) < many_cells w) × (value_in es k ≡ None)
+IsFilledAs w es (Open k) =
+    (k < many_cells w) × (length (decided_in w es) < many_cells w) × (value_in es k ≡ None)
 IsFilledAs w es Amiss = IsRefuted w (decided_in w es)
 IsFilledAs w es Full = IsFull w es
 
@@ -34,16 +37,18 @@ NoneIsTrue w es e (l ∷ c) = (literal_seen w es e l ≡ Some true → ⊥) × N
 abbrev pub IsDueClause : World → ClauseTree → Type 0
 IsDueClause w c = IsClauseOfCells w c × ((m : Meaning) → Solves w m → IsTrueClause m c)
 
--- whatever elements the variables from `at` on have, those before having the elements of f, the clause is true in each
--- interpretation that has the values of the table
+-- whatever elements the variables from `at` on have, those before having the elements of f, the
+-- clause is true in each interpretation that has the values of the table
 abbrev pub IsTrueFrom : World → List TrailEntry → ClauseTree → Assignment → ℕ → Type 0
 IsTrueFrom w es c f at =
-    (m : Meaning) → Extends w m es → (e : Assignment) → ((x : ℕ) → e x < w.size) → ((x : ℕ) → x < at → e x ≡ f x) → IsTrue (is_true_clause m e c)
+    (m : Meaning) → Extends w m es → (e : Assignment) → ((x : ℕ) → e x < w.size) →
+    ((x : ℕ) → x < at → e x ≡ f x) → IsTrue (is_true_clause m e c)
 
 -- as long as that one has an element below v
 abbrev pub IsTrueBelow : World → List TrailEntry → ClauseTree → Assignment → ℕ → ℕ → Type 0
 IsTrueBelow w es c f at v =
-    (m : Meaning) → Extends w m es → (e : Assignment) → ((x : ℕ) → e x < w.size) → ((x : ℕ) → x < at → e x ≡ f x) → e at < v → IsTrue (is_true_clause m e c)
+    (m : Meaning) → Extends w m es → (e : Assignment) → ((x : ℕ) → e x < w.size) →
+    ((x : ℕ) → x < at → e x ≡ f x) → e at < v → IsTrue (is_true_clause m e c)
 
 -- no solution has the values of the table
 abbrev pub HasNoSolution : World → List TrailEntry → Type 0
@@ -51,7 +56,8 @@ HasNoSolution w es = (m : Meaning) → Solves w m → Extends w m es → ⊥
 
 -- each interpretation of the size that has the values of the table makes the clauses true
 abbrev pub MakesTrue : World → List TrailEntry → List ClauseTree → Type 0
-MakesTrue w es cs = (m : Meaning) → ((x : ℕ) → m.within x ≡ nat_lt x w.size) → Extends w m es → AreTrueClauses m cs
+MakesTrue w es cs =
+    (m : Meaning) → ((x : ℕ) → m.within x ≡ nat_lt x w.size) → Extends w m es → AreTrueClauses m cs
 
 -- so many variables suffice for each of the clauses
 abbrev pub HaveVariables : List ClauseTree → ℕ → Type 0

@@ -18,10 +18,13 @@ use Rattle.model_tables.specs.Tables.{place_from}
 abbrev pub place_within : ℕ → ℕ → List ℕ → Option ℕ
 place_within n p xs = if list_all (λ x. nat_lt x n) xs then Some (place_from n p xs) else None
 
--- the number of the cell that the block has for some arguments, where its symbol is of this kind; its first cell has number q.0
+-- the number of the cell that the block has for some arguments, where its symbol is of this kind;
+-- its first cell has number q.0
 abbrev pub number_of_cell : ℕ → Kind → List ℕ → Option (ℕ × Block) → Option ℕ
 number_of_cell n kind xs None = None
-number_of_cell n kind xs (Some q) = if is_same_kind q.1.kind kind && length xs == q.1.arity then option_map (λ p. q.0 + p) (place_within n 0 xs) else None
+number_of_cell n kind xs (Some q) =
+    if is_same_kind q.1.kind kind && length xs == q.1.arity
+    then option_map (λ p. q.0 + p) (place_within n 0 xs) else None
 
 -- the number of a symbol's cell
 abbrev pub cell_number : World → Kind → ℕ → List ℕ → Option ℕ
@@ -37,7 +40,9 @@ abbrev mutual
   pub seen : World → List TrailEntry → Assignment → Tree → Option ℕ
   seen w es e (var x) = Some (e x)
   seen w es e (elem k) = Some k
-  seen w es e (app s ts) = option_and_then (value_in es) (option_and_then (cell_number w Function s) (all_seen w es e ts))
+  seen w es e (app s ts) =
+      option_and_then (value_in es)
+      (option_and_then (cell_number w Function s) (all_seen w es e ts))
 
   pub all_seen : World → List TrailEntry → Assignment → Trees → Option (List ℕ)
   all_seen w es e none = Some []
@@ -58,7 +63,9 @@ equation_seen w es e ts = None
 
 -- the truth of an atom, where it is known: a relation has the value 1 where it holds
 abbrev pub atom_seen : World → List TrailEntry → Assignment → Tree → Option Bool
-atom_seen w es e (app r ts) = if r == equality then equation_seen w es e ts else option_map (λ v. v == 1) (option_and_then (value_in es) (cell_seen w es e Relation r ts))
+atom_seen w es e (app r ts) =
+    if r == equality then equation_seen w es e ts
+    else option_map (λ v. v == 1) (option_and_then (value_in es) (cell_seen w es e Relation r ts))
 atom_seen w es e t = None
 
 abbrev pub literal_seen : World → List TrailEntry → Assignment → Lit → Option Bool

@@ -9,11 +9,14 @@ use Rattle.mace_ground.specs.Cells.{value_at}
 
 -- an interpretation has in each cell the value that was given to it
 abbrev pub Extends : World → Meaning → List TrailEntry → Type 0
-Extends w m es = (k v : ℕ) → k < many_cells w → value_in es k ≡ Some v → value_at m (cell_of w k) ≡ v
+Extends w m es =
+    (k v : ℕ) → k < many_cells w → value_in es k ≡ Some v → value_at m (cell_of w k) ≡ v
 
 -- and none that was crossed off
 abbrev pub Spares : World → Meaning → ℕ → List ℕ → Type 0
-Spares w m stride ks = (k v : ℕ) → k < many_cells w → v < stride → is_struck_off (k * stride + v) ks ≡ true → value_at m (cell_of w k) ≡ v → ⊥
+Spares w m stride ks =
+    (k v : ℕ) → k < many_cells w → v < stride → is_struck_off (k * stride + v) ks ≡ true →
+    value_at m (cell_of w k) ≡ v → ⊥
 
 abbrev pub decision_of : World → TrailEntry → Decision
 decision_of w e = record { cell = cell_of w e.cell; value = e.value }
@@ -23,15 +26,20 @@ abbrev pub decided_in : World → List TrailEntry → List Decision
 decided_in w [] = []
 decided_in w (e ∷ es) = if e.decided then decision_of w e ∷ decided_in w es else decided_in w es
 
--- each solution that agrees with what was decided has the values of the table, and none that is crossed off
+-- each solution that agrees with what was decided has the values of the table, and none that is
+-- crossed off
 abbrev pub LosesNone : World → ℕ → List TrailEntry → List ℕ → Type 0
-LosesNone w stride es ks = (m : Meaning) → Solves w m → AgreesWith m (decided_in w es) → Extends w m es × Spares w m stride ks
+LosesNone w stride es ks =
+    (m : Meaning) → Solves w m → AgreesWith m (decided_in w es) → Extends w m es
+    × Spares w m stride ks
 
 -- and so it was at each decision
 abbrev pub LostNone : World → ℕ → List TrailEntry → List ℕ → Type 0
 LostNone w stride [] ks = Unit {0}
 LostNone w stride (e ∷ es) ks =
-    MatchBool e.decided ((e.mark ≤ length ks) × LosesNone w stride es (earliest e.mark ks) × LostNone w stride es (earliest e.mark ks)) (LostNone w stride es ks)
+    MatchBool e.decided
+    ((e.mark ≤ length ks) × LosesNone w stride es (earliest e.mark ks)
+    × LostNone w stride es (earliest e.mark ks)) (LostNone w stride es ks)
 
 -- each step gave a value to a cell that had none
 abbrev pub AreFresh : World → List TrailEntry → Type 0

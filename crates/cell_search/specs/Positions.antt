@@ -13,7 +13,8 @@ position world table = record { world = world; table = table }
 
 -- the values of a cell from v on and below u are crossed off
 abbrev pub AreCrossed : Partial → ℕ → ℕ → ℕ → Type 0
-AreCrossed t k v u = (x : ℕ) → v ≤ x → x < u → (x < t.stride) × (is_struck_off (k * t.stride + x) t.crossings ≡ true)
+AreCrossed t k v u =
+    (x : ℕ) → v ≤ x → x < u → (x < t.stride) × (is_struck_off (k * t.stride + x) t.crossings ≡ true)
 
 -- the least value from v on, up to the greatest, that isn't
 abbrev pub IsLeast : Partial → ℕ → ℕ → ℕ → Option ℕ → Type 0

@@ -15,7 +15,10 @@ count_of (more t ts) = suc (count_of ts)
 
 -- a symbol of this kind with so many arguments has cells
 abbrev pub HasCells : World → Kind → ℕ → ℕ → Type 0
-HasCells w kind s arity = (first : ℕ) × ((b : Block) × ((found w.size w.blocks s ≡ Some (first, b)) × (b.kind ≡ kind) × (b.arity ≡ arity)))
+HasCells w kind s arity =
+    (first : ℕ)
+    × ((b : Block)
+    × ((found w.size w.blocks s ≡ Some (first, b)) × (b.kind ≡ kind) × (b.arity ≡ arity)))
 
 abbrev mutual
   -- a term of functions that have cells, and of elements
@@ -35,7 +38,9 @@ IsEquationOfCells w ts = ⊥
 
 -- or an atom of a relation that has cells
 abbrev pub IsAtomOfCells : World → Tree → Type 0
-IsAtomOfCells w (app r ts) = MatchBool (r == equality) (IsEquationOfCells w ts) (HasCells w Relation r (count_of ts) × AreOfCells w ts)
+IsAtomOfCells w (app r ts) =
+    MatchBool (r == equality) (IsEquationOfCells w ts)
+    (HasCells w Relation r (count_of ts) × AreOfCells w ts)
 IsAtomOfCells w t = ⊥
 
 abbrev pub IsClauseOfCells : World → ClauseTree → Type 0

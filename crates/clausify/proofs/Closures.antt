@@ -6,7 +6,7 @@ use Rattle.fol_core.specs.Fol.{Fol}
 use Rattle.fol_core.specs.Free.{closed_over}
 use Rattle.fol_core.specs.Stated.{said_of, all_said}
 use Rattle.fol_core.specs.declared.problem.Input.{Input}
-use Rattle.clausify.specs.Capped.{capped}
+use Rattle.clausify.specs.Capped.{count_capped}
 use Rattle.clausify.specs.Forms.{nnf_of, clause_count}
 use Rattle.clausify.specs.Input.{form, first_over, all_arities}
 use Rattle.fol_core.specs.Substitutions.{Substitution}
@@ -22,22 +22,22 @@ closed_count false (x ∷ xs) f = closed_count false xs f
 rest_at : (inputs : List Input) (i : ℕ) (x : Input) → i < length inputs → x ≡ get_or inputs i x → drop i inputs ≡ x ∷ drop (i + 1) inputs
 rest_at inputs i x lt is = rw (add-one, drop-cons inputs i x) (ap (λ s. s ∷ drop (suc i) inputs) (sym is))
 
-capped_test : (n : ℕ) → nat_lt 20000 (capped n) ≡ nat_lt 20000 n
+capped_test : (n : ℕ) → nat_lt 20000 (count_capped n) ≡ nat_lt 20000 n
 capped_test n = grind (arith, nat_tests)
 
-at_front : (inputs : List Input) (i : ℕ) (x : Input) (n : ℕ) → i < length inputs → x ≡ get_or inputs i x → n ≡ capped (clause_count (form (said_of x)))
+at_front : (inputs : List Input) (i : ℕ) (x : Input) (n : ℕ) → i < length inputs → x ≡ get_or inputs i x → n ≡ count_capped (clause_count (form (said_of x)))
     → first_over (i + 1) (all_said (drop i inputs)) ≡ (if nat_lt 20000 n then Some (i + 1) else first_over ((i + 1) + 1) (all_said (drop (i + 1) inputs)))
 at_front inputs i x n lt is counted = ap (λ s. first_over (i + 1) (all_said s)) (rest_at inputs i x lt is)
     ∙ ap (λ b. if b then Some (i + 1) else first_over ((i + 1) + 1) (all_said (drop (i + 1) inputs))) (sym (ap (nat_lt 20000) counted ∙ capped_test (clause_count (form (said_of x)))))
 
 -- a formula that is over the limit, and one that isn't
-pub over_here : (inputs : List Input) (i : ℕ) (x : Input) (n : ℕ) → i < length inputs → x ≡ get_or inputs i x → n ≡ capped (clause_count (form (said_of x))) → 20000 < n
+pub over_here : (inputs : List Input) (i : ℕ) (x : Input) (n : ℕ) → i < length inputs → x ≡ get_or inputs i x → n ≡ count_capped (clause_count (form (said_of x))) → 20000 < n
     → first_over (i + 1) (all_said (drop i inputs)) ≡ Some (i + 1)
 over_here inputs i x n lt is counted over =
     let so : nat_lt 20000 n ≡ true = grind (arith, nat_tests) in
     at_front inputs i x n lt is counted ∙ ap (λ b. if b then Some (i + 1) else first_over ((i + 1) + 1) (all_said (drop (i + 1) inputs))) so
 
-pub over_next : (inputs : List Input) (i : ℕ) (x : Input) (n : ℕ) → i < length inputs → x ≡ get_or inputs i x → n ≡ capped (clause_count (form (said_of x))) → n ≤ 20000
+pub over_next : (inputs : List Input) (i : ℕ) (x : Input) (n : ℕ) → i < length inputs → x ≡ get_or inputs i x → n ≡ count_capped (clause_count (form (said_of x))) → n ≤ 20000
     → first_over ((i + 1) + 1) (all_said (drop (i + 1) inputs)) ≡ first_over (i + 1) (all_said (drop i inputs))
 over_next inputs i x n lt is counted under =
     let so : nat_lt 20000 n ≡ false = grind (arith, nat_tests) in

@@ -9,7 +9,7 @@ use Rattle.clausify.specs.Clausal.{clauses_in}
 use Rattle.clausify.specs.Forms.{nnf_of}
 use Rattle.clausify.specs.Made.{axioms_at, BeginsWork, LeadsWork}
 use Rattle.clausify.specs.Skolem.{substitute_in, skolem_axioms, skolem_term}
-use Rattle.clausify.specs.View.{terms_of}
+use Rattle.clausify.specs.View.{substitution_kept}
 use Rattle.clausify.specs.declared.clausal.Work.{Work}
 
 front : (xs : List ℕ) (i : ℕ) → i < length xs → drop i xs ≡ get_or xs i 0 ∷ drop (i + 1) xs
@@ -21,20 +21,20 @@ denied_closed values [] f = refl
 denied_closed values (x ∷ xs) f = ap (exists x) (denied_closed values xs f)
 
 abbrev put_at : List ℕ → Work → ℕ → Substitution
-put_at symbols a x = with_term (terms_of a.terms.items) x (skolem_term (slice_index symbols (length a.entries.items)) a.scope.items)
+put_at symbols a x = with_term (substitution_kept a.terms.items) x (skolem_term (slice_index symbols (length a.entries.items)) a.scope.items)
 
 -- where the work stands behind a variable that it began
 moved : {R : Type 0} (P : ℕ → List ℕ → Substitution → R) (symbols : List ℕ) (a b : Work) (x : ℕ) (body : Fol) → BeginsWork symbols a b x body
-    → P (length a.entries.items + 1) a.scope.items (put_at symbols a x) ≡ P (length b.entries.items) b.scope.items (terms_of b.terms.items)
+    → P (length a.entries.items + 1) a.scope.items (put_at symbols a x) ≡ P (length b.entries.items) b.scope.items (substitution_kept b.terms.items)
 moved P symbols a b x body begun =
     ap (λ k. P k a.scope.items (put_at symbols a x)) (sym begun.1)
     ∙ ap (λ s. P (length b.entries.items) s (put_at symbols a x)) (sym begun.2)
     ∙ ap (λ ts. P (length b.entries.items) b.scope.items ts) (sym begun.5)
 
 -- to begin with a variable is to stand in front of its body
-leads_some : (symbols : List ℕ) (a b : Work) (x : ℕ) (g : Fol) → BeginsWork symbols a b x (substitute_in (terms_of a.terms.items) g) → LeadsWork symbols a b (exists x g) g
+leads_some : (symbols : List ℕ) (a b : Work) (x : ℕ) (g : Fol) → BeginsWork symbols a b x (substitute_in (substitution_kept a.terms.items) g) → LeadsWork symbols a b (exists x g) g
 leads_some symbols a b x g begun =
-    let body = substitute_in (terms_of a.terms.items) g in (
+    let body = substitute_in (substitution_kept a.terms.items) g in (
       moved (λ k s ts. clauses_in symbols k s ts g) symbols a b x body begun,
       sym (
           ap (λ ws. ws ++ axioms_at symbols b g) begun.0
@@ -51,7 +51,7 @@ leads_through symbols a b c f g h p q = (p.0 ∙ q.0, p.1 ∙ q.1, p.2 ∙ q.2)
 -- one more variable
 pub leads_next : (symbols : List ℕ) (start a b : Work) (xs : List ℕ) (f g : Fol) (i : ℕ) → i < length xs
     → LeadsWork symbols start a g (nnf_of false (closed_over (drop i xs) f))
-    → BeginsWork symbols a b (get_or xs i 0) (substitute_in (terms_of a.terms.items) (nnf_of false (closed_over (drop (i + 1) xs) f)))
+    → BeginsWork symbols a b (get_or xs i 0) (substitute_in (substitution_kept a.terms.items) (nnf_of false (closed_over (drop (i + 1) xs) f)))
     → LeadsWork symbols start b g (nnf_of false (closed_over (drop (i + 1) xs) f))
 leads_next symbols start a b xs f g i lt before begun =
     let rest = nnf_of false (closed_over (drop (i + 1) xs) f) in

@@ -17,7 +17,7 @@ use Rattle.fol_core.specs.SkolemAxioms.{SkolemAxiom, AreNotIn, IsApart, AreInOrd
 use Rattle.fol_core.proofs.Soundness.{uses_closed}
 use Rattle.fol_core.proofs.SymbolLemmas.{symbol_there, number_of_push}
 use Rattle.clausify.specs.Input.{form, is_taken, all_arities, axioms_from}
-use Rattle.clausify.specs.Names.{numbered, is_named, free_from, next_free, next_name, next_constant, next_function, skolem_symbols, all_entered, entered_numbers, IsNewName}
+use Rattle.clausify.specs.Names.{letter_numbered, is_named, free_from, next_free, next_name, next_constant, next_function, skolem_symbols, all_entered, entered_numbers, IsNewName}
 use Rattle.clausify.specs.Skolem.{somes, arities, skolem_axioms}
 use Rattle.clausify.proofs.FreeNames.{number_told, next_is_free, next_upto}
 use Rattle.clausify.proofs.Bodies.{form_uses, axioms_many, many_in_two, around_none, IsAllowed, IsOrdered, ordered_two, ordered}
@@ -82,7 +82,7 @@ all_stand table (s ∷ ss) =
 
 -- names behind the last numbers
 abbrev pub IsAfter : ℕ → ℕ → List ℕ → Type 0
-IsAfter c f name = ((n : ℕ) × ((name ≡ numbered 99 n) × ((c < n) × (n < 10 ^ 64)))) ⊎ ((n : ℕ) × ((name ≡ numbered 102 n) × ((f < n) × (n < 10 ^ 64))))
+IsAfter c f name = ((n : ℕ) × ((name ≡ letter_numbered 99 n) × ((c < n) × (n < 10 ^ 64)))) ⊎ ((n : ℕ) × ((name ≡ letter_numbered 102 n) × ((f < n) × (n < 10 ^ 64))))
 
 abbrev AllAfter : ℕ → ℕ → List Symbol → Type 0
 AllAfter c f [] = Unit {0}
@@ -94,7 +94,7 @@ sooner c d f g (s ∷ ss) a b h = (elim h.0 [ inl i ↦ inl (i.0, (i.1.0, (omega
 
 from_on : (table : List Symbol) (letter most n : ℕ) → n ≤ free_from table letter most n
 from_on table letter zero n = omega arith
-from_on table letter (suc most) n = by (is_named table (numbered letter n)) (from_on table letter most (n + 1))
+from_on table letter (suc most) n = by (is_named table (letter_numbered letter n)) (from_on table letter most (n + 1))
   where
     by : (b : Bool) → n + 1 ≤ free_from table letter most (n + 1) → n ≤ (if b then free_from table letter most (n + 1) else n)
     by true h = omega (arith, h)
@@ -122,7 +122,7 @@ pub name_after : (input : List Symbol) (c f a : ℕ) → next_constant input c a
 name_after input c f a = by (a == 0)
   where
     by : (b : Bool) → (if b then next_free input 99 c else c) < 10 ^ 64 → (if b then f else next_free input 102 f) < 10 ^ 64
-        → IsAfter c f (if b then numbered 99 (next_free input 99 c) else numbered 102 (next_free input 102 f))
+        → IsAfter c f (if b then letter_numbered 99 (next_free input 99 c) else letter_numbered 102 (next_free input 102 f))
     by true h k = inl (next_free input 99 c, (refl, (free_after input 99 c, h)))
     by false h k = inr (next_free input 102 f, (refl, (free_after input 102 f, k)))
 
@@ -135,7 +135,7 @@ AreNames input c f (a ∷ later) =
 name_new : (input : List Symbol) (c f a : ℕ) → c + (length input + 1) < 10 ^ 64 → f + (length input + 1) < 10 ^ 64 → IsNewName input (next_name input c f a)
 name_new input c f a h k = by (a == 0)
   where
-    by : (b : Bool) → IsNewName input (if b then numbered 99 (next_free input 99 c) else numbered 102 (next_free input 102 f))
+    by : (b : Bool) → IsNewName input (if b then letter_numbered 99 (next_free input 99 c) else letter_numbered 102 (next_free input 102 f))
     by true = record { letter = 99; number = next_free input 99 c; skolem = inl refl; is = refl; few = omega (arith, h, next_upto input 99 c); free = next_is_free input 99 c (omega (arith, h)) }
     by false = record { letter = 102; number = next_free input 102 f; skolem = inr refl; is = refl; few = omega (arith, k, next_upto input 102 f); free = next_is_free input 102 f (omega (arith, k)) }
 
@@ -181,7 +181,7 @@ pub other_name : (input : List Symbol) (c f a : ℕ) (name : List ℕ) → next_
 other_name input c f a name = by (a == 0)
   where
     by : (b : Bool) → (if b then next_free input 99 c else c) < 10 ^ 64 → (if b then f else next_free input 102 f) < 10 ^ 64
-        → IsAfter (if b then next_free input 99 c else c) (if b then f else next_free input 102 f) name → (if b then numbered 99 (next_free input 99 c) else numbered 102 (next_free input 102 f)) ≡ name → ⊥
+        → IsAfter (if b then next_free input 99 c else c) (if b then f else next_free input 102 f) name → (if b then letter_numbered 99 (next_free input 99 c) else letter_numbered 102 (next_free input 102 f)) ≡ name → ⊥
     by true h k (inl i) e = absurd (omega (arith, i.1.1.0, number_told 99 (next_free input 99 c) i.0 h i.1.1.1 (e ∙ i.1.0)))
     by true h k (inr i) e = absurd (omega (arith, first_of 99 102 (decimal (next_free input 99 c)) (decimal i.0) (e ∙ i.1.0)))
     by false h k (inl i) e = absurd (omega (arith, first_of 102 99 (decimal (next_free input 102 f)) (decimal i.0) (e ∙ i.1.0)))

@@ -8,30 +8,30 @@ use Rattle.fol_core.specs.Occurs.{AreMarked, above_numerals, size_needed}
 use Rattle.fol_core.specs.Stated.{Said, all_said}
 use Rattle.fol_core.specs.SymbolTable.{Symbol}
 use Rattle.fol_core.specs.declared.problem.Input.{Input}
-use Rattle.clausify.specs.Input.{formulas, is_used, passing, used_symbols}
+use Rattle.clausify.specs.Input.{formulas, is_used, numbers_passing, used_symbols}
 use Rattle.clausify.specs.Seen.{is_marked}
 
 -- one more number, and none
 pub passing_next : (test : ℕ → Bool) (found : List ℕ) (size i : ℕ) (b : Bool) → i < size → b ≡ test i
-    → (found ++ (if b then i ∷ [] else [])) ++ passing test (i + 1) (size - (i + 1)) ≡ found ++ passing test i (size - i)
+    → (found ++ (if b then i ∷ [] else [])) ++ numbers_passing test (i + 1) (size - (i + 1)) ≡ found ++ numbers_passing test i (size - i)
 passing_next test found size i b lt is =
     let more_left : size - i ≡ suc (size - (i + 1)) = omega arith in
-    append_assoc found (if b then i ∷ [] else []) (passing test (i + 1) (size - (i + 1)))
-    ∙ by b ∙ ap (λ c. found ++ (if c then i ∷ passing test (i + 1) (size - (i + 1)) else passing test (i + 1) (size - (i + 1)))) is
-    ∙ sym (ap (λ k. found ++ passing test i k) more_left)
+    append_assoc found (if b then i ∷ [] else []) (numbers_passing test (i + 1) (size - (i + 1)))
+    ∙ by b ∙ ap (λ c. found ++ (if c then i ∷ numbers_passing test (i + 1) (size - (i + 1)) else numbers_passing test (i + 1) (size - (i + 1)))) is
+    ∙ sym (ap (λ k. found ++ numbers_passing test i k) more_left)
   where
-    by : (b : Bool) → found ++ ((if b then i ∷ [] else []) ++ passing test (i + 1) (size - (i + 1))) ≡ found ++ (if b then i ∷ passing test (i + 1) (size - (i + 1)) else passing test (i + 1) (size - (i + 1)))
+    by : (b : Bool) → found ++ ((if b then i ∷ [] else []) ++ numbers_passing test (i + 1) (size - (i + 1))) ≡ found ++ (if b then i ∷ numbers_passing test (i + 1) (size - (i + 1)) else numbers_passing test (i + 1) (size - (i + 1)))
     by true = refl
     by false = refl
 
-pub passing_end : (test : ℕ → Bool) (found : List ℕ) (size i : ℕ) → size ≤ i → found ++ passing test i (size - i) ≡ found
-passing_end test found size i end = let nothing_left : size - i ≡ 0 = omega arith in ap (λ k. found ++ passing test i k) nothing_left ∙ append-nil found
+pub passing_end : (test : ℕ → Bool) (found : List ℕ) (size i : ℕ) → size ≤ i → found ++ numbers_passing test i (size - i) ≡ found
+passing_end test found size i end = let nothing_left : size - i ≡ 0 = omega arith in ap (λ k. found ++ numbers_passing test i k) nothing_left ∙ append-nil found
 
 -- tests that agree
-passing_same : (p q : ℕ → Bool) (n left : ℕ) → ((k : ℕ) → k < n + left → p k ≡ q k) → passing p n left ≡ passing q n left
+passing_same : (p q : ℕ → Bool) (n left : ℕ) → ((k : ℕ) → k < n + left → p k ≡ q k) → numbers_passing p n left ≡ numbers_passing q n left
 passing_same p q n zero h = refl
 passing_same p q n (suc left) h =
-    ap (λ b. if b then n ∷ passing p (n + 1) left else passing p (n + 1) left) (h n (omega arith))
+    ap (λ b. if b then n ∷ numbers_passing p (n + 1) left else numbers_passing p (n + 1) left) (h n (omega arith))
     ∙ ap (λ ns. if q n then n ∷ ns else ns) (passing_same p q (n + 1) left (λ k lt. h k (omega (arith, lt))))
 
 unmarked : (size n : ℕ) → is_marked (replicate size false) n ≡ false
@@ -41,10 +41,10 @@ unmarked (suc size) (suc n) = unmarked size n
 
 -- the marked symbols are those that are used
 pub marks_are_uses : (table : List Symbol) (start marks : List Bool) (ss : List Said) → start ≡ replicate (length table) false → length marks ≡ length start → AreMarked (is_used ss) start marks
-    → passing (is_marked marks) 0 (length marks) ≡ used_symbols table ss
+    → numbers_passing (is_marked marks) 0 (length marks) ≡ used_symbols table ss
 marks_are_uses table start marks ss none_yet many marked =
     let size : length start ≡ length table = ap (λ (bs : List Bool). length bs) none_yet ∙ length-replicate (length table) false in
-    ap (passing (is_marked marks) 0) (many ∙ size)
+    ap (numbers_passing (is_marked marks) 0) (many ∙ size)
     ∙ passing_same (is_marked marks) (is_used ss) 0 (length table) (λ k lt. marked k (omega (arith, lt, size))
     ∙ ap (λ ms. is_marked ms k || is_used ss k) none_yet ∙ ap (λ b. b || is_used ss k) (unmarked (length table) k))
 

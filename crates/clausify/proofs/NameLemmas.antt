@@ -11,7 +11,7 @@ use Rattle.std.proofs.lemmas.Slice.Eq.{bytes_eq-Decides}
 use Rattle.std.proofs.lemmas.List.{take_all}
 use Rattle.fol_core.specs.SymbolTable.{Symbol, name_at, kind_at, is_same_kind}
 use Rattle.fol_core.specs.declared.symbols.Kind.TheVariants.{Function, Relation}
-use Rattle.clausify.specs.Names.{numbered, is_named, free_from, HasNames}
+use Rattle.clausify.specs.Names.{letter_numbered, is_named, free_from, HasNames}
 
 -- the names up to a further symbol
 named_more : (table : List Symbol) (n : ℕ) (name : List ℕ) → n < length table → is_named (take (suc n) table) name ≡ (is_named (take n table) name || bytes_eq name (name_at table n))
@@ -41,14 +41,14 @@ pub names_whole : (table : List Symbol) (i : ℕ) (names : List (Vec ℕ)) → l
 names_whole table i names end has = subst (λ t. HasNames t names) (take_all i table end) has
 
 -- a taken number is passed
-pub passes : (table : List Symbol) (letter n i : ℕ) → i < length table → is_named table (numbered letter n) ≡ true
+pub passes : (table : List Symbol) (letter n i : ℕ) → i < length table → is_named table (letter_numbered letter n) ≡ true
     → free_from table letter (length table - i) n ≡ free_from table letter (length table - (i + 1)) (n + 1)
 passes table letter n i lt taken =
     let more : length table - i ≡ suc (length table - (i + 1)) = omega arith in
     ap (λ m. free_from table letter m n) more ∙ ap (λ b. if b then free_from table letter (length table - (i + 1)) (n + 1) else n) taken
 
 -- and a free one is taken
-pub stops : (table : List Symbol) (letter most n : ℕ) → is_named table (numbered letter n) ≡ false → free_from table letter most n ≡ n
+pub stops : (table : List Symbol) (letter most n : ℕ) → is_named table (letter_numbered letter n) ≡ false → free_from table letter most n ≡ n
 stops table letter zero n free = refl
 stops table letter (suc most) n free = ap (λ b. if b then free_from table letter most (n + 1) else n) free
 

@@ -5,17 +5,17 @@ use Rattle.fol_core.specs.Fol.{Fol, conjunction}
 use Rattle.fol_core.specs.SkolemAxioms.{SkolemAxiom}
 use Rattle.clausify.specs.Made.{Works}
 use Rattle.clausify.specs.Skolem.{somes, skolem_axioms}
-use Rattle.clausify.specs.View.{terms_of}
+use Rattle.clausify.specs.View.{substitution_kept}
 use Rattle.clausify.specs.declared.clausal.Work.{Work}
 
 pub works_both : (symbols : List ℕ) (a b c : Work) (f g : Fol) → Works symbols a b f → Works symbols b c g → Works symbols a c (conjunction f g)
 works_both symbols a b c f g h k = (
   k.0 ∙ ap₂ (λ (vs : List SkolemAxiom) ws. vs ++ ws) h.0 (
-      ap (λ n. skolem_axioms symbols n b.scope.items (terms_of b.terms.items) g) h.1
-      ∙ ap (λ s. skolem_axioms symbols (length a.entries.items + somes f) s (terms_of b.terms.items) g) h.2
-      ∙ ap (λ ts. skolem_axioms symbols (length a.entries.items + somes f) a.scope.items (terms_of ts) g) h.3
+      ap (λ n. skolem_axioms symbols n b.scope.items (substitution_kept b.terms.items) g) h.1
+      ∙ ap (λ s. skolem_axioms symbols (length a.entries.items + somes f) s (substitution_kept b.terms.items) g) h.2
+      ∙ ap (λ ts. skolem_axioms symbols (length a.entries.items + somes f) a.scope.items (substitution_kept ts) g) h.3
       )
-      ∙ append_assoc (map skolem_axiom_of a.entries.items) (skolem_axioms symbols (length a.entries.items) a.scope.items (terms_of a.terms.items) f) (skolem_axioms symbols (length a.entries.items + somes f) a.scope.items (terms_of a.terms.items) g),
+      ∙ append_assoc (map skolem_axiom_of a.entries.items) (skolem_axioms symbols (length a.entries.items) a.scope.items (substitution_kept a.terms.items) f) (skolem_axioms symbols (length a.entries.items + somes f) a.scope.items (substitution_kept a.terms.items) g),
   omega (arith, h.1, k.1),
   k.2 ∙ h.2,
   k.3 ∙ h.3,

@@ -6,12 +6,12 @@ use Rattle.clausify.specs.declared.counts.Counts.{Counts}
 use Rattle.clausify.specs.declared.limit.TheConstants.{MOST_CLAUSES}
 
 -- a count, or one more than the most where it is greater
-abbrev pub capped : ℕ → ℕ
-capped n = min n (MOST_CLAUSES + 1)
+abbrev pub count_capped : ℕ → ℕ
+count_capped n = min n (MOST_CLAUSES + 1)
 
 -- the count of a negation normal form
 abbrev pub IsCountOf : ℕ → Fol → Type 0
-IsCountOf a f = a ≡ capped (clause_count f)
+IsCountOf a f = a ≡ count_capped (clause_count f)
 
 -- two pairs of counts kept so are at most this each
 abbrev pub AreCapped : Counts → Counts → Type 0
@@ -29,4 +29,6 @@ IsProduct a b c = (x y : Fol) → IsCountOf a x → IsCountOf b y → IsCountOf 
 
 -- and of "or", "and", "or"
 abbrev pub IsSumOfProducts : ℕ → ℕ → ℕ → ℕ → ℕ → Type 0
-IsSumOfProducts a b c d e = (w x y z : Fol) → IsCountOf a w → IsCountOf b x → IsCountOf c y → IsCountOf d z → IsCountOf e (conjunction (disjunction w x) (disjunction y z))
+IsSumOfProducts a b c d e =
+    (w x y z : Fol) → IsCountOf a w → IsCountOf b x → IsCountOf c y → IsCountOf d z →
+    IsCountOf e (conjunction (disjunction w x) (disjunction y z))

@@ -12,7 +12,9 @@ nnf_of true (negation f) = nnf_of false f
 nnf_of true (conjunction f g) = conjunction (nnf_of true f) (nnf_of true g)
 nnf_of true (disjunction f g) = disjunction (nnf_of true f) (nnf_of true g)
 nnf_of true (implication f g) = disjunction (nnf_of false f) (nnf_of true g)
-nnf_of true (equivalence f g) = conjunction (disjunction (nnf_of false f) (nnf_of true g)) (disjunction (nnf_of false g) (nnf_of true f))
+nnf_of true (equivalence f g) =
+    conjunction (disjunction (nnf_of false f) (nnf_of true g))
+    (disjunction (nnf_of false g) (nnf_of true f))
 nnf_of true (forall x f) = forall x (nnf_of true f)
 nnf_of true (exists x f) = exists x (nnf_of true f)
 nnf_of false verum = negation verum
@@ -23,11 +25,14 @@ nnf_of false (negation f) = nnf_of true f
 nnf_of false (conjunction f g) = disjunction (nnf_of false f) (nnf_of false g)
 nnf_of false (disjunction f g) = conjunction (nnf_of false f) (nnf_of false g)
 nnf_of false (implication f g) = conjunction (nnf_of true f) (nnf_of false g)
-nnf_of false (equivalence f g) = conjunction (disjunction (nnf_of true f) (nnf_of true g)) (disjunction (nnf_of false f) (nnf_of false g))
+nnf_of false (equivalence f g) =
+    conjunction (disjunction (nnf_of true f) (nnf_of true g))
+    (disjunction (nnf_of false f) (nnf_of false g))
 nnf_of false (forall x f) = exists x (nnf_of false f)
 nnf_of false (exists x f) = forall x (nnf_of false f)
 
--- how many clauses a negation normal form gives, before any is dropped: the sum for "and", the product for "or"
+-- how many clauses a negation normal form gives, before any is dropped: the sum for "and", the
+-- product for "or"
 abbrev pub clause_count : Fol → ℕ
 clause_count (conjunction f g) = clause_count f + clause_count g
 clause_count (disjunction f g) = clause_count f * clause_count g

@@ -41,15 +41,19 @@ skolems input ss = skolem_symbols input 0 0 (all_arities ss)
 abbrev pub ClauseRow : Type 0
 ClauseRow = ℕ × ClauseTree
 
--- the clauses of the formulas, of which the first has number n and its first Skolem symbol stands at place k
+-- the clauses of the formulas, of which the first has number n and its first Skolem symbol stands
+-- at place k
 abbrev pub rows_from : List ℕ → ℕ → ℕ → List Said → List ClauseRow
 rows_from symbols n k [] = []
-rows_from symbols n k (s ∷ ss) = map (λ c. (n, renumbered c)) (clauses_in symbols k [] var (form s)) ++ rows_from symbols (n + 1) (k + somes (form s)) ss
+rows_from symbols n k (s ∷ ss) =
+    map (λ c. (n, renumbered c)) (clauses_in symbols k [] var (form s))
+    ++ rows_from symbols (n + 1) (k + somes (form s)) ss
 
 -- and their witnesses
 abbrev pub axioms_from : List ℕ → ℕ → List Said → List SkolemAxiom
 axioms_from symbols k [] = []
-axioms_from symbols k (s ∷ ss) = skolem_axioms symbols k [] var (form s) ++ axioms_from symbols (k + somes (form s)) ss
+axioms_from symbols k (s ∷ ss) =
+    skolem_axioms symbols k [] var (form s) ++ axioms_from symbols (k + somes (form s)) ss
 
 abbrev pub all_rows : List ℕ → List Said → List ClauseRow
 all_rows symbols ss = rows_from symbols 1 0 ss
@@ -72,13 +76,14 @@ abbrev pub is_used : List Said → ℕ → Bool
 is_used ss n = occurs_in n (formulas ss)
 
 -- the numbers from n on that pass a test, so many of them being tried
-abbrev pub passing : (ℕ → Bool) → ℕ → ℕ → List ℕ
-passing test n zero = []
-passing test n (suc left) = if test n then n ∷ passing test (n + 1) left else passing test (n + 1) left
+abbrev pub numbers_passing : (ℕ → Bool) → ℕ → ℕ → List ℕ
+numbers_passing test n zero = []
+numbers_passing test n (suc left) =
+    if test n then n ∷ numbers_passing test (n + 1) left else numbers_passing test (n + 1) left
 
 -- the numbers of the table's symbols that the formulas have
 abbrev pub used_symbols : List Symbol → List Said → List ℕ
-used_symbols table ss = passing (is_used ss) 0 (length table)
+used_symbols table ss = numbers_passing (is_used ss) 0 (length table)
 
 -- the number before, if there is one
 abbrev pub before : ℕ → Option ℕ

@@ -31,7 +31,8 @@ somes (forall x f) = somes f
 somes (exists x f) = somes f + 1
 somes f = 0
 
--- how many arguments the Skolem symbol of each has, in preorder: one for each universal variable in scope
+-- how many arguments the Skolem symbol of each has, in preorder: one for each universal variable in
+-- scope
 abbrev pub arities : ℕ → Fol → List ℕ
 arities n (conjunction f g) = arities n f ++ arities n g
 arities n (disjunction f g) = arities n f ++ arities n g
@@ -39,13 +40,22 @@ arities n (forall x f) = arities (n + 1) f
 arities n (exists x f) = n ∷ arities n f
 arities n f = []
 
--- What each is to pick: the symbols are numbers by the place of their existential variable, the first being at place k; the
--- scope has the universal variables around, outermost first; and terms stand for the existential variables around.
+-- What each is to pick: the symbols are numbers by the place of their existential variable, the
+-- first being at place k; the scope has the universal variables around, outermost first; and terms
+-- stand for the existential variables around.
 abbrev pub skolem_axioms : List ℕ → ℕ → List ℕ → Substitution → Fol → List SkolemAxiom
-skolem_axioms symbols k scope terms (conjunction f g) = skolem_axioms symbols k scope terms f ++ skolem_axioms symbols (k + somes f) scope terms g
-skolem_axioms symbols k scope terms (disjunction f g) = skolem_axioms symbols k scope terms f ++ skolem_axioms symbols (k + somes f) scope terms g
+skolem_axioms symbols k scope terms (conjunction f g) =
+    skolem_axioms symbols k scope terms f ++ skolem_axioms symbols (k + somes f) scope terms g
+skolem_axioms symbols k scope terms (disjunction f g) =
+    skolem_axioms symbols k scope terms f ++ skolem_axioms symbols (k + somes f) scope terms g
 skolem_axioms symbols k scope terms (forall x f) = skolem_axioms symbols k (scope ++ x ∷ []) terms f
 skolem_axioms symbols k scope terms (exists y f) =
-    record { symbol = slice_index symbols k; variables = scope; variable = y; body = substitute_in terms f }
-    ∷ skolem_axioms symbols (k + 1) scope (with_term terms y (skolem_term (slice_index symbols k) scope)) f
+    record {
+      symbol = slice_index symbols k;
+      variables = scope;
+      variable = y;
+      body = substitute_in terms f;
+    }
+    ∷ skolem_axioms symbols (k + 1) scope
+    (with_term terms y (skolem_term (slice_index symbols k) scope)) f
 skolem_axioms symbols k scope terms f = []

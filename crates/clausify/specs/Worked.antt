@@ -28,8 +28,12 @@ constant s = app s none
 -- "A if and only if B" gives two clauses, and so does its denial
 abbrev pub WorkedIff : Type 0
 WorkedIff =
-    (nnf_of true (equivalence (plain 0) (plain 1)) ≡ conjunction (disjunction (negation (plain 0)) (plain 1)) (disjunction (negation (plain 1)) (plain 0)))
-    × (nnf_of false (equivalence (plain 0) (plain 1)) ≡ conjunction (disjunction (plain 0) (plain 1)) (disjunction (negation (plain 0)) (negation (plain 1))))
+    (nnf_of true (equivalence (plain 0) (plain 1))
+    ≡ conjunction (disjunction (negation (plain 0)) (plain 1))
+    (disjunction (negation (plain 1)) (plain 0)))
+    × (nnf_of false (equivalence (plain 0) (plain 1))
+    ≡ conjunction (disjunction (plain 0) (plain 1))
+    (disjunction (negation (plain 0)) (negation (plain 1))))
 
 -- exists x all y x = y, where the Skolem symbol has number 7
 abbrev single : List Said
@@ -38,17 +42,22 @@ single = said Assumption (exists 0 (forall 1 (equal (var 0) (var 1)))) ∷ []
 abbrev pub WorkedSingle : Type 0
 WorkedSingle =
     (skolems [] single ≡ symbol (codes "c1") 0 Function ∷ [])
-    × (all_rows (7 ∷ []) single ≡ (1, literal true (app equality (more (constant 7) (more (var 0) none))) ∷ []) ∷ [])
-    × (all_skolem_axioms (7 ∷ []) single ≡ record { symbol = 7; variables = []; variable = 0; body = forall 1 (equal (var 0) (var 1)) } ∷ [])
+    × (all_rows (7 ∷ []) single
+    ≡ (1, literal true (app equality (more (constant 7) (more (var 0) none))) ∷ []) ∷ [])
+    × (all_skolem_axioms (7 ∷ []) single
+    ≡ record { symbol = 7; variables = []; variable = 0; body = forall 1 (equal (var 0) (var 1)) }
+    ∷ [])
 
--- the goal exists x (p(x) -> all y p(y)), with f1 under number 7: its denial is p(x) and not p(f1(x))
+-- the goal exists x (p(x) -> all y p(y)), with f1 under number 7: its denial is p(x) and not
+-- p(f1(x))
 abbrev drinker : List Said
 drinker = said Goal (exists 0 (implication (p (var 0)) (forall 1 (p (var 1))))) ∷ []
 
 abbrev pub WorkedGoal : Type 0
 WorkedGoal =
     (skolems [] drinker ≡ symbol (codes "f1") 1 Function ∷ [])
-    × (all_rows (7 ∷ []) drinker ≡ (1, has true (var 0)) ∷ (1, has false (app 7 (more (var 0) none))) ∷ [])
+    × (all_rows (7 ∷ []) drinker ≡ (1, has true (var 0))
+    ∷ (1, has false (app 7 (more (var 0) none))) ∷ [])
 
 -- a goal's free variable: not p(c1), not p(c3), where the input has a c2
 abbrev two_goals : List Said
@@ -56,15 +65,21 @@ two_goals = said Goal (p (var 0)) ∷ said Goal (p (var 0)) ∷ []
 
 abbrev pub WorkedNames : Type 0
 WorkedNames =
-    (skolems (symbol (codes "p") 1 Relation ∷ symbol (codes "c2") 3 Function ∷ []) two_goals ≡ symbol (codes "c1") 0 Function ∷ symbol (codes "c3") 0 Function ∷ [])
-    × (all_rows (7 ∷ 8 ∷ []) two_goals ≡ (1, has false (constant 7)) ∷ (2, has false (constant 8)) ∷ [])
+    (skolems (symbol (codes "p") 1 Relation ∷ symbol (codes "c2") 3 Function ∷ []) two_goals
+    ≡ symbol (codes "c1") 0 Function ∷ symbol (codes "c3") 0 Function ∷ [])
+    × (all_rows (7 ∷ 8 ∷ []) two_goals ≡ (1, has false (constant 7)) ∷ (2, has false (constant 8))
+    ∷ [])
 
--- all x exists y all z exists w r(x,y,z,w): the second Skolem term has x and z, and the first stands in its body
+-- all x exists y all z exists w r(x,y,z,w): the second Skolem term has x and z, and the first
+-- stands in its body
 abbrev relation : Tree → Tree → Tree → Tree → Trees
 relation s t u v = more s (more t (more u (more v none)))
 
 abbrev nested : List Said
-nested = said Assumption (forall 0 (exists 1 (forall 2 (exists 3 (atom 0 (relation (var 0) (var 1) (var 2) (var 3))))))) ∷ []
+nested =
+    said Assumption
+    (forall 0 (exists 1 (forall 2 (exists 3 (atom 0 (relation (var 0) (var 1) (var 2) (var 3)))))))
+    ∷ []
 
 abbrev first : Tree
 first = app 7 (more (var 0) none)
@@ -74,20 +89,35 @@ second z = app 8 (more (var 0) (more z none))
 
 abbrev pub WorkedNested : Type 0
 WorkedNested =
-    (all_rows (7 ∷ 8 ∷ []) nested ≡ (1, literal true (app 0 (relation (var 0) first (var 1) (second (var 1)))) ∷ []) ∷ [])
+    (all_rows (7 ∷ 8 ∷ []) nested
+    ≡ (1, literal true (app 0 (relation (var 0) first (var 1) (second (var 1)))) ∷ []) ∷ [])
     × (all_skolem_axioms (7 ∷ 8 ∷ []) nested
-    ≡ record { symbol = 7; variables = 0 ∷ []; variable = 1; body = forall 2 (exists 3 (atom 0 (relation (var 0) (var 1) (var 2) (var 3)))) }
-    ∷ record { symbol = 8; variables = 0 ∷ 2 ∷ []; variable = 3; body = atom 0 (relation (var 0) first (var 2) (var 3)) } ∷ [])
+    ≡ record {
+      symbol = 7;
+      variables = 0 ∷ [];
+      variable = 1;
+      body = forall 2 (exists 3 (atom 0 (relation (var 0) (var 1) (var 2) (var 3))));
+    }
+    ∷ record {
+      symbol = 8;
+      variables = 0 ∷ 2 ∷ [];
+      variable = 3;
+      body = atom 0 (relation (var 0) first (var 2) (var 3));
+    } ∷ [])
 
 -- "true" drops a clause, "false" is left out of one, and a doubled literal stays
 abbrev pub WorkedConstants : Type 0
 WorkedConstants =
     (clauses_in [] 0 [] var (disjunction verum (plain 0)) ≡ [])
-    × (clauses_in [] 0 [] var (disjunction falsum (disjunction (plain 0) (plain 0))) ≡ (literal true (constant 0) ∷ literal true (constant 0) ∷ []) ∷ [])
+    × (clauses_in [] 0 [] var (disjunction falsum (disjunction (plain 0) (plain 0)))
+    ≡ (literal true (constant 0) ∷ literal true (constant 0) ∷ []) ∷ [])
     × (clauses_in [] 0 [] var (negation verum) ≡ [] ∷ [])
-    × (clauses_in [] 0 [] var (disjunction (conjunction (plain 0) (plain 1)) (conjunction (plain 2) (plain 3)))
-    ≡ (literal true (constant 0) ∷ literal true (constant 2) ∷ []) ∷ (literal true (constant 0) ∷ literal true (constant 3) ∷ [])
-    ∷ (literal true (constant 1) ∷ literal true (constant 2) ∷ []) ∷ (literal true (constant 1) ∷ literal true (constant 3) ∷ []) ∷ [])
+    × (clauses_in [] 0 [] var
+    (disjunction (conjunction (plain 0) (plain 1)) (conjunction (plain 2) (plain 3)))
+    ≡ (literal true (constant 0) ∷ literal true (constant 2) ∷ [])
+    ∷ (literal true (constant 0) ∷ literal true (constant 3) ∷ [])
+    ∷ (literal true (constant 1) ∷ literal true (constant 2) ∷ [])
+    ∷ (literal true (constant 1) ∷ literal true (constant 3) ∷ []) ∷ [])
 
 -- "or" of so many parts "0 and 1", and one more
 abbrev alternatives : ℕ → Fol
@@ -103,7 +133,8 @@ WorkedLimit =
 -- the symbols by number, and the greatest numeral, of f(0) = 2 & p(0) in a table of five symbols
 abbrev pub WorkedSymbols : Type 0
 WorkedSymbols =
-    let ss = said Assumption (conjunction (equal (app 3 (more (elem 0) none)) (elem 2)) (p (elem 0))) ∷ [] in
+    let ss = said Assumption
+    (conjunction (equal (app 3 (more (elem 0) none)) (elem 2)) (p (elem 0))) ∷ [] in
     let s = symbol [] 0 Function in
     (used_symbols (s ∷ s ∷ s ∷ s ∷ s ∷ []) ss ≡ 0 ∷ 3 ∷ [])
     × (numeral_of ss ≡ Some 2)

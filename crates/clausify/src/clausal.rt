@@ -9,7 +9,7 @@ ghost use Rattle.clausify.specs.Clausal.{with_each, distributed, literal_clauses
 ghost use Rattle.clausify.specs.Forms.{nnf_of};
 ghost use Rattle.clausify.specs.Made.{clauses_at, Works, BeginsWork};
 ghost use Rattle.clausify.specs.Skolem.{skolem_term};
-ghost use Rattle.clausify.specs.View.{terms_of};
+ghost use Rattle.clausify.specs.View.{substitution_kept};
 
 use crate::form::form;
 use crate::substitution::{substitute, substitute_all};
@@ -94,7 +94,7 @@ fn literal(
     shape: &Shape,
     terms: &[(u64, Term)],
 ) -> Result<Vec<Clause>, AllocError>
-    ensures { IfOk result (λ all. all.items ≡ literal_clauses (terms_of terms.now) positive
+    ensures { IfOk result (λ all. all.items ≡ literal_clauses (substitution_kept terms.now) positive
         (fol_of shape.now)) }
 {
     match shape {

@@ -2,7 +2,7 @@
 ghost use Rattle.std.specs.Prelude.{◌≡◌, ◌≤◌, ◌+◌, true, false};
 ghost use Rattle.fol_core.specs.FormulaView.{fol_of};
 ghost use Rattle.clausify.specs.Forms.{nnf_of, clause_count};
-ghost use Rattle.clausify.specs.Capped.{capped, IsSum, IsProduct, IsSumOfProducts, AreCapped};
+ghost use Rattle.clausify.specs.Capped.{count_capped, IsSum, IsProduct, IsSumOfProducts, AreCapped};
 ghost use Rattle.clausify.specs.declared.limit.TheConstants.{MOST_CLAUSES};
 
 use crate::limit::MOST_CLAUSES;
@@ -20,7 +20,7 @@ pub struct Counts {
 }
 
 fn capped(n: u64) -> u64
-    ensures { result ≡ capped n }
+    ensures { result ≡ count_capped n }
 {
     n.min(CAP)
 }
@@ -86,8 +86,8 @@ const ONE: Counts = Counts {
 // The counts of a part.
 #[cycle(counting)]
 fn part(sub: &Sub) -> Counts
-    ensures plain { result.plain ≡ capped (clause_count (nnf_of true sub.now)) }
-    ensures denied { result.denied ≡ capped (clause_count (nnf_of false sub.now)) }
+    ensures plain { result.plain ≡ count_capped (clause_count (nnf_of true sub.now)) }
+    ensures denied { result.denied ≡ count_capped (clause_count (nnf_of false sub.now)) }
 {
     counts_of(&sub.shape)
 }
@@ -95,8 +95,8 @@ fn part(sub: &Sub) -> Counts
 /// The counts of a formula.
 #[cycle(counting)]
 pub fn counts_of(shape: &Shape) -> Counts
-    ensures plain { result.plain ≡ capped (clause_count (nnf_of true (fol_of shape.now))) }
-    ensures denied { result.denied ≡ capped (clause_count (nnf_of false (fol_of shape.now))) }
+    ensures plain { result.plain ≡ count_capped (clause_count (nnf_of true (fol_of shape.now))) }
+    ensures denied { result.denied ≡ count_capped (clause_count (nnf_of false (fol_of shape.now))) }
 {
     match shape {
         Shape::True | Shape::False | Shape::Eq(_, _) | Shape::Atom(_, _) => ONE,

@@ -4,7 +4,7 @@ ghost use Rattle.fol_core.specs.FormulaView.{fol_of};
 ghost use Rattle.fol_core.specs.Fol.{disjunction};
 ghost use Rattle.clausify.specs.Forms.{nnf_of};
 ghost use Rattle.clausify.specs.Skolem.{substitute_in};
-ghost use Rattle.clausify.specs.View.{terms_of};
+ghost use Rattle.clausify.specs.View.{substitution_kept};
 
 use crate::substitution::{substitute, substitute_all};
 use fol_core::{Shape, Sub, Term};
@@ -18,7 +18,7 @@ pub fn form(
     sign: bool,
     values: &[(u64, Term)],
 ) -> Result<Shape, AllocError>
-    ensures { IfOk result (λ f. fol_of f ≡ substitute_in (terms_of values.now)
+    ensures { IfOk result (λ f. fol_of f ≡ substitute_in (substitution_kept values.now)
         (nnf_of sign (fol_of shape.now))) }
 {
     if sign {
@@ -31,7 +31,7 @@ pub fn form(
 // The negation normal form of a part.
 #[cycle(form)]
 fn part(alloc: Global, sub: &Sub, sign: bool, values: &[(u64, Term)]) -> Result<Sub, AllocError>
-    ensures { IfOk result (λ f. f ≡ substitute_in (terms_of values.now) (nnf_of sign sub.now)) }
+    ensures { IfOk result (λ f. f ≡ substitute_in (substitution_kept values.now) (nnf_of sign sub.now)) }
 {
     let shape = form(alloc, &sub.shape, sign, values)?;
     Sub::new(alloc, shape)
@@ -47,7 +47,7 @@ fn or(alloc: Global, f: Sub, g: Sub) -> Result<Sub, AllocError>
 // The form of a formula as it stands.
 #[cycle(form)]
 fn plain(alloc: Global, shape: &Shape, values: &[(u64, Term)]) -> Result<Shape, AllocError>
-    ensures { IfOk result (λ f. fol_of f ≡ substitute_in (terms_of values.now)
+    ensures { IfOk result (λ f. fol_of f ≡ substitute_in (substitution_kept values.now)
         (nnf_of true (fol_of shape.now))) }
 {
     Ok(match shape {
@@ -85,7 +85,7 @@ fn plain(alloc: Global, shape: &Shape, values: &[(u64, Term)]) -> Result<Shape, 
 // The form of a formula's denial.
 #[cycle(form)]
 fn denied(alloc: Global, shape: &Shape, values: &[(u64, Term)]) -> Result<Shape, AllocError>
-    ensures { IfOk result (λ f. fol_of f ≡ substitute_in (terms_of values.now)
+    ensures { IfOk result (λ f. fol_of f ≡ substitute_in (substitution_kept values.now)
         (nnf_of false (fol_of shape.now))) }
 {
     Ok(match shape {

@@ -1,7 +1,7 @@
 // The limit on the clauses of a formula.
 ghost use Rattle.std.specs.Prelude.{◌≡◌};
 ghost use Rattle.fol_core.specs.Stated.{said_of, all_said};
-ghost use Rattle.clausify.specs.Capped.{capped};
+ghost use Rattle.clausify.specs.Capped.{count_capped};
 ghost use Rattle.clausify.specs.Forms.{clause_count};
 ghost use Rattle.clausify.specs.Input.{form, first_over};
 
@@ -14,7 +14,7 @@ pub const MOST_CLAUSES: u64 = 20_000;
 // The clauses of a formula, or of its denial where it is a goal, counted up to one more than the most.
 #[tactic(auto, using(crate::proofs::Closures::closed_count))]
 fn count(input: &Input) -> u64
-    ensures { result ≡ capped (clause_count (form (said_of input.now))) }
+    ensures { result ≡ count_capped (clause_count (form (said_of input.now))) }
 {
     let counts = counts_of(&input.formula.shape);
     match input.role {

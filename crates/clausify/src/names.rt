@@ -2,7 +2,7 @@
 ghost use Rattle.std.specs.Prelude.{◌≡◌, ◌+◌, IfOk, false, not};
 ghost use Rattle.std.specs.List.{list_any};
 ghost use Rattle.std.specs.Str.{bytes_eq};
-ghost use Rattle.clausify.specs.Names.{numbered, is_named, next_free, HasNames};
+ghost use Rattle.clausify.specs.Names.{letter_numbered, is_named, next_free, HasNames};
 
 use fol_core::{Sym, Symbols};
 use indexmap::IndexSet;
@@ -30,7 +30,7 @@ fn after(number: u64) -> Result<u64, AllocError>
 
 /// A letter with a number behind it.
 pub fn numbered(alloc: Global, letter: u8, number: u64) -> Result<Vec<u8>, AllocError>
-    ensures { IfOk result (λ name. name.items ≡ numbered letter number) }
+    ensures { IfOk result (λ name. name.items ≡ letter_numbered letter number) }
 {
     let digits = format!(in alloc; "{number}")?;
     let mut name = Vec::new(alloc);
@@ -50,7 +50,7 @@ pub fn next_free(
 ) -> Result<u64, AllocError>
     requires { HasNames symbols.now names.now.keys }
     ensures number { IfOk result (λ n. n ≡ next_free symbols.now letter last) }
-    ensures free { IfOk result (λ n. is_named symbols.now (numbered letter n) ≡ false) }
+    ensures free { IfOk result (λ n. is_named symbols.now (letter_numbered letter n) ≡ false) }
 {
     let mut number = after(last)?;
     for passed in 0..symbols.len() {
@@ -70,7 +70,7 @@ fn is_free(
     number: u64,
 ) -> Result<bool, AllocError>
     ensures { IfOk result (λ free. not free ≡ list_any
-        (λ v. bytes_eq (numbered letter number) v.items) names.now.keys) }
+        (λ v. bytes_eq (letter_numbered letter number) v.items) names.now.keys) }
 {
     let name = numbered(alloc, letter, number)?;
     Ok(!names.contains(name.as_slice()))

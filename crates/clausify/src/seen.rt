@@ -2,7 +2,7 @@
 ghost use Rattle.std.specs.Prelude.{◌≡◌, [], ◌∷◌, ◌++◌, if◌then◌else◌, IfOk, OnOk, length, map};
 ghost use Rattle.fol_core.specs.Occurs.{AreMarked, size_needed};
 ghost use Rattle.fol_core.specs.Stated.{all_said};
-ghost use Rattle.clausify.specs.Input.{formulas, is_used, before, numeral_of, passing, used_symbols};
+ghost use Rattle.clausify.specs.Input.{formulas, is_used, before, numeral_of, numbers_passing, used_symbols};
 ghost use Rattle.clausify.specs.Seen.{is_marked};
 
 use fol_core::{Input, Problem, Sym, above_numerals, mark_symbols};
@@ -57,7 +57,7 @@ fn add_marked(number: usize, mark: bool, found: &mut Vec<Sym>) -> Result<(), All
 #[tactic(auto, using(crate::proofs::Marks::passing_next, crate::proofs::Marks::passing_end))]
 fn marked_symbols(alloc: Global, marks: &[bool]) -> Result<Vec<Sym>, AllocError>
     ensures { IfOk result (λ symbols. map (λ s. s.0) symbols.items
-        ≡ passing (is_marked marks.now) 0 (length marks.now)) }
+        ≡ numbers_passing (is_marked marks.now) 0 (length marks.now)) }
 {
     let mut found = Vec::new(alloc);
     for (number, mark) in marks.iter().enumerate() {

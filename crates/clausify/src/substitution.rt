@@ -3,14 +3,14 @@ ghost use Rattle.std.specs.Prelude.{◌≡◌, IfOk};
 ghost use Rattle.fol_core.specs.TermView.{tree_of};
 ghost use Rattle.fol_core.specs.Tree.{list_of, trees_of};
 ghost use Rattle.fol_core.specs.Substitutions.{substitute, substitute_all};
-ghost use Rattle.clausify.specs.View.{terms_of};
+ghost use Rattle.clausify.specs.View.{substitution_kept};
 
 use fol_core::{Term, Terms};
 use std::alloc::{AllocError, Global};
 
 // The term that stands for a variable: the last that is given for it, or the variable itself.
 fn term_for(alloc: Global, x: u64, values: &[(u64, Term)]) -> Result<Term, AllocError>
-    ensures { IfOk result (λ t. tree_of t ≡ terms_of values.now x) }
+    ensures { IfOk result (λ t. tree_of t ≡ substitution_kept values.now x) }
 {
     let mut found = None;
     for (y, term) in values {
@@ -27,7 +27,7 @@ fn term_for(alloc: Global, x: u64, values: &[(u64, Term)]) -> Result<Term, Alloc
 /// The term with terms put in for its variables.
 
 pub fn substitute(alloc: Global, term: &Term, values: &[(u64, Term)]) -> Result<Term, AllocError>
-    ensures { IfOk result (λ t. tree_of t ≡ substitute (terms_of values.now) (tree_of term.now)) }
+    ensures { IfOk result (λ t. tree_of t ≡ substitute (substitution_kept values.now) (tree_of term.now)) }
 {
     match term {
         Term::Var(x) => term_for(alloc, *x, values),
@@ -50,7 +50,7 @@ pub fn substitute_all(
     values: &[(u64, Term)],
 ) -> Result<Terms, AllocError>
     ensures { IfOk result (λ ts. trees_of ts
-        ≡ substitute_all (terms_of values.now) (trees_of terms.now)) }
+        ≡ substitute_all (substitution_kept values.now) (trees_of terms.now)) }
 {
     let mut made = Terms::new(alloc);
     for term in &terms.items {

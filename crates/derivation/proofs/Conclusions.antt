@@ -17,7 +17,7 @@ use Rattle.derivation.specs.Later.{LaterWord, flipped, merged, reflexive, unit_d
 use Rattle.derivation.specs.Places.{has_literal, has_place, atom_at, others, with_atom, are_alike, are_opposite}
 use Rattle.substitutions.specs.Apart.{instances}
 use Rattle.derivation.specs.Rule.{InferenceRule, Concludes}
-use Rattle.derivation.specs.Words.{only_of, is_one, first_of_two, second_of_two, are_two, copy_rule, Clash, clashes_fit, clash_fits, clash_pairs, all_clash_pairs, clash_rest, satellite_rests, clash_rule, factor_rule, xx_rule, side_of, other_side_of, para_fits, para_rest, para_rule}
+use Rattle.derivation.specs.Words.{only_of, is_one_clause, first_of_two, second_of_two, are_two, copy_rule, Clash, clashes_fit, clash_fits, clash_pairs, all_clash_pairs, clash_rest, satellite_rests, clash_rule, factor_rule, xx_rule, side_of, other_side_of, para_fits, para_rest, para_rule}
 use Rattle.derivation.proofs.LaterSound.{left_put, right_put}
 use Rattle.derivation.proofs.Lawful.{IsLawfulRule, ParaFits, para_parts, only_kept, first_kept, second_kept}
 use Rattle.derivation.proofs.Naturality.{atom_of_put, atom_at_put, others_put, with_atom_put, append_put, below_put, there_below, alike_places, opposite_places}
@@ -52,7 +52,7 @@ pub factor_natural : (a b : ℕ) → IsNatural (factor_rule a b)
 factor_natural a b = record {
   rest = λ u cs fits. ap (others (λ k. k == b)) (only_put u cs) ∙ others_put u (λ k. k == b) (only_of cs);
   pairs = λ u cs fits.
-      let p = and_parts (is_one cs) (not (a == b) && are_alike (only_of cs) a (only_of cs) b) fits in
+      let p = and_parts (is_one_clause cs) (not (a == b) && are_alike (only_of cs) a (only_of cs) b) fits in
       let q = and_parts (not (a == b)) (are_alike (only_of cs) a (only_of cs) b) p.1 in
       let r = alike_places (only_of cs) a (only_of cs) b q.1 in
       ap (λ c. (atom_at c a, atom_at c b) ∷ []) (only_put u cs) ∙ ap₂ (λ s t. (s, t) ∷ []) (atom_at_put u (only_of cs) a r.0) (atom_at_put u (only_of cs) b r.1);
@@ -62,7 +62,7 @@ pub xx_natural : (a : ℕ) → IsNatural (xx_rule a)
 xx_natural a = record {
   rest = λ u cs fits. ap (others (λ k. k == a)) (only_put u cs) ∙ others_put u (λ k. k == a) (only_of cs);
   pairs = λ u cs fits.
-      let p = and_parts (is_one cs) (has_literal false (only_of cs) a && is_equation (atom_at (only_of cs) a)) fits in
+      let p = and_parts (is_one_clause cs) (has_literal false (only_of cs) a && is_equation (atom_at (only_of cs) a)) fits in
       let q = and_parts (has_literal false (only_of cs) a) (is_equation (atom_at (only_of cs) a)) p.1 in
       ap (λ c. (left_of (atom_at c a), right_of (atom_at c a)) ∷ []) (only_put u cs)
       ∙ ap (λ t. (left_of t, right_of t) ∷ []) (atom_of_put u false (only_of cs) a q.0)
@@ -172,7 +172,7 @@ one_lead (merged a) c ps d e fits l k = l.1 ∙ sym k.1
 one_lead (reflexive a) c ps d e fits l k = l.1 ∙ sym k.1
 one_lead (unit_deleted a n) c ps d e fits l k = l.1 ∙ sym k.1
 one_lead (rewritten n a path) c ps d e fits l k =
-    let p0 = and_parts (is_one ps) (is_unit (only_of ps) && (has_literal true (only_of ps) 0 && (is_rule_equation (atom_at (only_of ps) 0) && (has_place c a && is_there (below (atom_at c a) path))))) fits in
+    let p0 = and_parts (is_one_clause ps) (is_unit (only_of ps) && (has_literal true (only_of ps) 0 && (is_rule_equation (atom_at (only_of ps) 0) && (has_place c a && is_there (below (atom_at c a) path))))) fits in
     let p1 = and_parts (is_unit (only_of ps)) (has_literal true (only_of ps) 0 && (is_rule_equation (atom_at (only_of ps) 0) && (has_place c a && is_there (below (atom_at c a) path)))) p0.1 in
     let p2 = and_parts (has_literal true (only_of ps) 0) (is_rule_equation (atom_at (only_of ps) 0) && (has_place c a && is_there (below (atom_at c a) path))) p1.1 in
     let p3 = and_parts (is_rule_equation (atom_at (only_of ps) 0)) (has_place c a && is_there (below (atom_at c a) path)) p2.1 in

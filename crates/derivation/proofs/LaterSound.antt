@@ -15,7 +15,7 @@ use Rattle.substitutions.specs.Paths.{replaced}
 use Rattle.derivation.specs.Equations.{equation, is_equation, left_of, right_of, below, is_there}
 use Rattle.derivation.specs.Later.{LaterWord, flipped, merged, reflexive, unit_deleted, rewritten, later_fits, Leads, is_unit, is_rule_equation}
 use Rattle.derivation.specs.Places.{has_literal, has_place, atom_at, are_opposite}
-use Rattle.derivation.specs.Words.{only_of, is_one}
+use Rattle.derivation.specs.Words.{only_of, is_one_clause}
 use Rattle.derivation.proofs.PlaceLemmas.{true_at, among_others, stays, at_sign, with_atom_true, opposite_false, others_atoms, with_atom_atoms, atom_placed, at_place, holds_option}
 use Rattle.derivation.proofs.RuleSound.{equation_true, replaced_atom, one_parent}
 use Rattle.derivation.proofs.Values.{true_in, val, atom_true}
@@ -70,7 +70,7 @@ module _ (m : Meaning) (g : ℕ → ℕ) (e : Assignment) where
   InstancesTrue (c ∷ cs) = ((s : Substitution) → IsTrue (true_in (atom_true m g e) (substitute_clause s c))) × InstancesTrue cs
 
 module _ (m : Meaning) (g : ℕ → ℕ) (e : Assignment) where
-  only_true : (ps : List ClauseTree) → IsTrue (is_one ps) → InstancesTrue m g e ps → (s : Substitution) → IsTrue (true_in (atom_true m g e) (substitute_clause s (only_of ps)))
+  only_true : (ps : List ClauseTree) → IsTrue (is_one_clause ps) → InstancesTrue m g e ps → (s : Substitution) → IsTrue (true_in (atom_true m g e) (substitute_clause s (only_of ps)))
   only_true ps one all = one_parent (λ cs. InstancesTrue m g e cs → (s : Substitution) → IsTrue (true_in (atom_true m g e) (substitute_clause s (only_of cs)))) (λ c h. h.0) ps one all
 
   eqb_turned : (x y : ℕ) → (x == y) ≡ (y == x)
@@ -108,7 +108,7 @@ module _ (m : Meaning) (g : ℕ → ℕ) (e : Assignment) where
             ∙ sym (at_sign (atom_true m g e) false c a p.0) ∙ subst (λ k. IsTrue (true_at (atom_true m g e) c k)) (eqb-true q.0 a q.1) q.2))
       ])
   word_sound (unit_deleted a n) c d ps fits leads h all =
-      let p = and_parts (is_one ps) (is_unit (only_of ps) && are_opposite c a (only_of ps) 0) fits in
+      let p = and_parts (is_one_clause ps) (is_unit (only_of ps) && are_opposite c a (only_of ps) 0) fits in
       let q = and_parts (is_unit (only_of ps)) (are_opposite c a (only_of ps) 0) p.1 in
       let s = leads.0.0 in
       subst (λ d. IsTrue (true_in (atom_true m g e) d)) (sym leads.1)
@@ -120,7 +120,7 @@ module _ (m : Meaning) (g : ℕ → ℕ) (e : Assignment) where
             (unit_true (atom_true m g e) s (only_of ps) q.0 (only_true ps p.0 all s)))
       ])
   word_sound (rewritten n a path) c d ps fits leads h all =
-      let p0 = and_parts (is_one ps) (is_unit (only_of ps) && (has_literal true (only_of ps) 0 && (is_rule_equation (atom_at (only_of ps) 0) && (has_place c a && is_there (below (atom_at c a) path))))) fits in
+      let p0 = and_parts (is_one_clause ps) (is_unit (only_of ps) && (has_literal true (only_of ps) 0 && (is_rule_equation (atom_at (only_of ps) 0) && (has_place c a && is_there (below (atom_at c a) path))))) fits in
       let p1 = and_parts (is_unit (only_of ps)) (has_literal true (only_of ps) 0 && (is_rule_equation (atom_at (only_of ps) 0) && (has_place c a && is_there (below (atom_at c a) path)))) p0.1 in
       let p2 = and_parts (has_literal true (only_of ps) 0) (is_rule_equation (atom_at (only_of ps) 0) && (has_place c a && is_there (below (atom_at c a) path))) p1.1 in
       let p3 = and_parts (is_rule_equation (atom_at (only_of ps) 0)) (has_place c a && is_there (below (atom_at c a) path)) p2.1 in
@@ -158,7 +158,7 @@ word_atoms (merged a) c d ps fits leads atoms = subst AreAtoms (sym leads.1) (ot
 word_atoms (reflexive a) c d ps fits leads atoms = subst AreAtoms (sym leads.1) (others_atoms (λ k. k == a) c atoms)
 word_atoms (unit_deleted a n) c d ps fits leads atoms = subst AreAtoms (sym leads.1) (others_atoms (λ k. k == a) c atoms)
 word_atoms (rewritten n a path) c d ps fits leads atoms =
-    let p0 = and_parts (is_one ps) (is_unit (only_of ps) && (has_literal true (only_of ps) 0 && (is_rule_equation (atom_at (only_of ps) 0) && (has_place c a && is_there (below (atom_at c a) path))))) fits in
+    let p0 = and_parts (is_one_clause ps) (is_unit (only_of ps) && (has_literal true (only_of ps) 0 && (is_rule_equation (atom_at (only_of ps) 0) && (has_place c a && is_there (below (atom_at c a) path))))) fits in
     let p1 = and_parts (is_unit (only_of ps)) (has_literal true (only_of ps) 0 && (is_rule_equation (atom_at (only_of ps) 0) && (has_place c a && is_there (below (atom_at c a) path)))) p0.1 in
     let p2 = and_parts (has_literal true (only_of ps) 0) (is_rule_equation (atom_at (only_of ps) 0) && (has_place c a && is_there (below (atom_at c a) path))) p1.1 in
     let p3 = and_parts (is_rule_equation (atom_at (only_of ps) 0)) (has_place c a && is_there (below (atom_at c a) path)) p2.1 in

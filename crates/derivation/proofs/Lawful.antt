@@ -13,7 +13,7 @@ use Rattle.derivation.specs.Equations.{is_equation, below, is_no_variable, term_
 use Rattle.derivation.specs.Places.{has_literal, has_place, atom_at, others, with_atom, are_alike}
 use Rattle.substitutions.specs.Apart.{Own, instances}
 use Rattle.derivation.specs.Rule.{InferenceRule}
-use Rattle.derivation.specs.Words.{only_of, is_one, first_of_two, second_of_two, are_two, copy_rule, Clash, clashes_fit, clash_fits, clash_rest, satellite_rests, clash_rule, factor_rule, xx_rule, other_side_of, para_fits, para_rule}
+use Rattle.derivation.specs.Words.{only_of, is_one_clause, first_of_two, second_of_two, are_two, copy_rule, Clash, clashes_fit, clash_fits, clash_rest, satellite_rests, clash_rule, factor_rule, xx_rule, other_side_of, para_fits, para_rule}
 use Rattle.derivation.proofs.LaterSound.{equation_put, replaced_is_atom}
 use Rattle.derivation.proofs.Naturality.{has_put, place_put, atom_of_put, atom_at_put, no_variable_put, there_below, alike_put, opposites_put}
 use Rattle.derivation.proofs.PlaceLemmas.{others_atoms, with_atom_atoms, append_atoms, atom_placed}
@@ -24,7 +24,7 @@ pub record IsLawfulRule (r : InferenceRule) : Type 0 where
   pub atoms : (cs : List ClauseTree) → IsTrue (r.fits cs) → AllAtoms cs → AreAtoms (r.rest cs)
   pub sound : (m : Meaning) (g : ℕ → ℕ) (e : Assignment) → IsSound m g e r
 
-one_kept : (own : Own) (cs : List ClauseTree) → is_one (instances own cs) ≡ is_one cs
+one_kept : (own : Own) (cs : List ClauseTree) → is_one_clause (instances own cs) ≡ is_one_clause cs
 one_kept own [] = refl
 one_kept own (c ∷ []) = refl
 one_kept own (c ∷ d ∷ cs) = refl
@@ -80,7 +80,7 @@ pub factor_lawful : (a b : ℕ) → IsLawfulRule (factor_rule a b)
 factor_lawful a b = record {
   kept = λ own cs fits.
       ap₂ (λ p c. p && (not (a == b) && are_alike c a c b)) (one_kept own cs) (only_kept own cs)
-      ∙ ap (λ p. is_one cs && (not (a == b) && p)) (alike_put (own 0) (own 0) (only_of cs) a (only_of cs) b) ∙ fits;
+      ∙ ap (λ p. is_one_clause cs && (not (a == b) && p)) (alike_put (own 0) (own 0) (only_of cs) a (only_of cs) b) ∙ fits;
   atoms = λ cs fits atoms. others_atoms (λ k. k == b) (only_of cs) (only_atoms cs atoms);
   sound = λ m g e. factor_sound m g e a b;
 }
@@ -88,9 +88,9 @@ factor_lawful a b = record {
 pub xx_lawful : (a : ℕ) → IsLawfulRule (xx_rule a)
 xx_lawful a = record {
   kept = λ own cs fits.
-      let p = and_parts (is_one cs) (has_literal false (only_of cs) a && is_equation (atom_at (only_of cs) a)) fits in
+      let p = and_parts (is_one_clause cs) (has_literal false (only_of cs) a && is_equation (atom_at (only_of cs) a)) fits in
       let q = and_parts (has_literal false (only_of cs) a) (is_equation (atom_at (only_of cs) a)) p.1 in
-      and_from (is_one (instances own cs)) (has_literal false (only_of (instances own cs)) a && is_equation (atom_at (only_of (instances own cs)) a)) (one_kept own cs ∙ p.0)
+      and_from (is_one_clause (instances own cs)) (has_literal false (only_of (instances own cs)) a && is_equation (atom_at (only_of (instances own cs)) a)) (one_kept own cs ∙ p.0)
       (subst (λ c. IsTrue (has_literal false c a && is_equation (atom_at c a))) (sym (only_kept own cs))
       (and_from (has_literal false (substitute_clause (own 0) (only_of cs)) a) (is_equation (atom_at (substitute_clause (own 0) (only_of cs)) a)) (has_put (own 0) false (only_of cs) a ∙ q.0)
       (ap is_equation (atom_of_put (own 0) false (only_of cs) a q.0) ∙ equation_put (own 0) (atom_at (only_of cs) a) q.1)));

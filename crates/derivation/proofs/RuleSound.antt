@@ -12,7 +12,7 @@ use Rattle.substitutions.specs.Paths.{argument, subterm_at, with_argument, repla
 use Rattle.derivation.specs.Equations.{is_equation, left_of, right_of, below, is_no_variable, term_below}
 use Rattle.derivation.specs.Places.{has_literal, has_place, atom_at, others, with_atom, are_alike, are_opposite}
 use Rattle.derivation.specs.Rule.{InferenceRule, AreSame}
-use Rattle.derivation.specs.Words.{only_of, is_one, first_of_two, second_of_two, are_two, copy_rule, Clash, clashes_fit, clash_pairs, satellite_rests, clash_rule, factor_rule, xx_rule, side_of, other_side_of, para_fits, para_rest, para_rule}
+use Rattle.derivation.specs.Words.{only_of, is_one_clause, first_of_two, second_of_two, are_two, copy_rule, Clash, clashes_fit, clash_pairs, satellite_rests, clash_rule, factor_rule, xx_rule, side_of, other_side_of, para_fits, para_rest, para_rule}
 use Rattle.derivation.proofs.PlaceLemmas.{true_at, among_others, stays, at_sign, with_atom_true, append_left, append_right, alike_true, opposite_false}
 use Rattle.derivation.proofs.Values.{true_in, val, vals, atom_true}
 
@@ -71,7 +71,7 @@ abbrev pub IsSound : Meaning → (ℕ → ℕ) → Assignment → InferenceRule 
 IsSound m g e r = (cs : List ClauseTree) → IsTrue (r.fits cs) → AreSame (r.pairs cs) → AllTrue (atom_true m g e) cs → IsTrue (true_in (atom_true m g e) (r.rest cs))
 
 -- two parents, or one
-pub one_parent : (P : List ClauseTree → Type 0) → ((c : ClauseTree) → P (c ∷ [])) → (cs : List ClauseTree) → IsTrue (is_one cs) → P cs
+pub one_parent : (P : List ClauseTree → Type 0) → ((c : ClauseTree) → P (c ∷ [])) → (cs : List ClauseTree) → IsTrue (is_one_clause cs) → P cs
 one_parent P h [] i = absurd (false≢true i)
 one_parent P h (c ∷ []) i = h c
 one_parent P h (c ∷ d ∷ cs) i = absurd (false≢true i)
@@ -98,7 +98,7 @@ module _ (m : Meaning) (g : ℕ → ℕ) (e : Assignment) where
 
   pub factor_sound : (a b : ℕ) → IsSound m g e (factor_rule a b)
   factor_sound a b cs fits pairs all =
-      let parts = and_parts (is_one cs) (not (a == b) && are_alike (only_of cs) a (only_of cs) b) fits in
+      let parts = and_parts (is_one_clause cs) (not (a == b) && are_alike (only_of cs) a (only_of cs) b) fits in
       factor_one a b (only_of cs) parts.1 pairs.0 (copy_sound cs parts.0 tt all)
 
   xx_one : (a : ℕ) (c : ClauseTree) → IsTrue (has_literal false c a) → IsTrue (is_equation (atom_at c a)) → val m g e (left_of (atom_at c a)) ≡ val m g e (right_of (atom_at c a))
@@ -112,7 +112,7 @@ module _ (m : Meaning) (g : ℕ → ℕ) (e : Assignment) where
 
   pub xx_sound : (a : ℕ) → IsSound m g e (xx_rule a)
   xx_sound a cs fits pairs all =
-      let parts = and_parts (is_one cs) (has_literal false (only_of cs) a && is_equation (atom_at (only_of cs) a)) fits in
+      let parts = and_parts (is_one_clause cs) (has_literal false (only_of cs) a && is_equation (atom_at (only_of cs) a)) fits in
       let more = and_parts (has_literal false (only_of cs) a) (is_equation (atom_at (only_of cs) a)) parts.1 in
       xx_one a (only_of cs) more.0 more.1 (ap (val m g e) pairs.0) (copy_sound cs parts.0 tt all)
 

@@ -17,14 +17,22 @@ lefts ps = trees_of (map (λ p. p.0) ps)
 abbrev pub rights : List (Tree × Tree) → Trees
 rights ps = trees_of (map (λ p. p.1) ps)
 
--- what a most general unifier of parents renamed apart makes of them, numbered, is the rule's conclusion
+-- what a most general unifier of parents renamed apart makes of them, numbered, is the rule's
+-- conclusion
 abbrev pub UnifierConcludes : Type 0
-UnifierConcludes = (w : FirstWord) (i : Inference) (cs : List ClauseTree) (apart : Own) (s : Substitution) → inference_of w ≡ Some i → AreRenamedApart cs apart → IsTrue (i.rule.fits cs)
-    → IsMostGeneral s (lefts (i.rule.pairs (instances apart cs))) (rights (i.rule.pairs (instances apart cs)))
+UnifierConcludes =
+    (w : FirstWord) (i : Inference) (cs : List ClauseTree) (apart : Own) (s : Substitution) →
+    inference_of w ≡ Some i → AreRenamedApart cs apart → IsTrue (i.rule.fits cs)
+    → IsMostGeneral s (lefts (i.rule.pairs (instances apart cs)))
+    (rights (i.rule.pairs (instances apart cs)))
     → Concludes i.rule cs (renumbered (substitute_clause s (i.rule.rest (instances apart cs))))
 
 -- and where they have no unifier, the parents have none
 abbrev pub NoneConcludes : Type 0
-NoneConcludes = (w : FirstWord) (i : Inference) (cs : List ClauseTree) (apart : Own) → inference_of w ≡ Some i → AreRenamedApart cs apart → IsTrue (i.rule.fits cs)
-    → ((s : Substitution) → ¬ Unifies s (lefts (i.rule.pairs (instances apart cs))) (rights (i.rule.pairs (instances apart cs))))
+NoneConcludes =
+    (w : FirstWord) (i : Inference) (cs : List ClauseTree) (apart : Own) → inference_of w ≡ Some i →
+    AreRenamedApart cs apart → IsTrue (i.rule.fits cs)
+    → ((s : Substitution) →
+    ¬ Unifies s (lefts (i.rule.pairs (instances apart cs)))
+    (rights (i.rule.pairs (instances apart cs))))
     → (own : Own) → ¬ AreSame (i.rule.pairs (instances own cs))

@@ -48,35 +48,50 @@ abbrev pub RowsAreAtoms : List InputRow → Type 0
 RowsAreAtoms [] = Unit {0}
 RowsAreAtoms (r ∷ rows) = AreAtoms r.1 × RowsAreAtoms rows
 
--- where there is a refutation, not all input clauses, which are clauses of atoms, are true in an interpretation that has the elements
--- which the lines name
+-- where there is a refutation, not all input clauses, which are clauses of atoms, are true in an
+-- interpretation that has the elements which the lines name
 abbrev pub RefutationIsSound : Meaning → Type 0
-RefutationIsSound m = (ss : List Said) (rows : List InputRow) (ls : List LineTree) → RowsAreAtoms rows → LinesNameWithin m ls
+RefutationIsSound m =
+    (ss : List Said) (rows : List InputRow) (ls : List LineTree) → RowsAreAtoms rows →
+    LinesNameWithin m ls
     → IsRefutation ss rows ls → ¬ AreTrueClauses m (map (λ r. r.1) rows)
 
 -- a rule has one conclusion
 abbrev pub OneConclusion : Type 0
-OneConclusion = (w : FirstWord) (i : Inference) (ps : List ClauseTree) (c d : ClauseTree) → inference_of w ≡ Some i
+OneConclusion =
+    (w : FirstWord) (i : Inference) (ps : List ClauseTree) (c d : ClauseTree) →
+    inference_of w ≡ Some i
     → IsTrue (i.rule.fits ps) → Concludes i.rule ps c → Concludes i.rule ps d → c ≡ d
 
 -- and a line that is inferred has one content, but for the numbers of its variables
 abbrev pub OneContent : Type 0
-OneContent = (ls : List LineTree) (w : FirstWord) (i : Inference) (ws : List LaterWord) (c d : ClauseTree) → inference_of w ≡ Some i
+OneContent =
+    (ls : List LineTree) (w : FirstWord) (i : Inference) (ws : List LaterWord) (c d : ClauseTree) →
+    inference_of w ≡ Some i
     → IsInferred ls i ws (clause c) → IsInferred ls i ws (clause d) → renumbered c ≡ renumbered d
 
 -- a line that is refused behind earlier ones is none, and is refused by one row
 abbrev pub RefusedIsNone : Type 0
-RefusedIsNone = (ss : List Said) (rows : List InputRow) (ls : List LineTree) (last : Option ℕ) (l : LineTree) (row : ℕ)
+RefusedIsNone =
+    (ss : List Said) (rows : List InputRow) (ls : List LineTree) (last : Option ℕ) (l : LineTree)
+    (row : ℕ)
     → IsRefusedLine ss rows ls last l row → ¬ IsAccepted ss rows ls last l
 
 abbrev pub RefusedByOneRow : Type 0
-RefusedByOneRow = (ss : List Said) (rows : List InputRow) (ls : List LineTree) (last : Option ℕ) (l : LineTree) (row other : ℕ)
+RefusedByOneRow =
+    (ss : List Said) (rows : List InputRow) (ls : List LineTree) (last : Option ℕ) (l : LineTree)
+    (row other : ℕ)
     → IsRefusedLine ss rows ls last l row → IsRefusedLine ss rows ls last l other → row ≡ other
 
 -- lines that have a fault are no refutation, and the fault is one
 abbrev pub FaultIsNone : Type 0
-FaultIsNone = (ss : List Said) (rows : List InputRow) (ls : List LineTree) (number row : ℕ) → IsFault ss rows ls number row → ¬ IsRefutation ss rows ls
+FaultIsNone =
+    (ss : List Said) (rows : List InputRow) (ls : List LineTree) (number row : ℕ) →
+    IsFault ss rows ls number row → ¬ IsRefutation ss rows ls
 
 abbrev pub FaultIsOne : Type 0
-FaultIsOne = (ss : List Said) (rows : List InputRow) (ls : List LineTree) (number row other_number other_row : ℕ)
-    → IsFault ss rows ls number row → IsFault ss rows ls other_number other_row → (number ≡ other_number) × (row ≡ other_row)
+FaultIsOne =
+    (ss : List Said) (rows : List InputRow) (ls : List LineTree)
+    (number row other_number other_row : ℕ)
+    → IsFault ss rows ls number row → IsFault ss rows ls other_number other_row →
+    (number ≡ other_number) × (row ≡ other_row)

@@ -12,7 +12,8 @@ use Rattle.derivation.specs.Later.{LaterWord, later_parents, later_fits, Leads}
 use Rattle.derivation.specs.Rule.{InferenceRule, Concludes}
 use Rattle.derivation.specs.Words.{copy_rule, clash_rule, factor_rule, xx_rule, para_rule}
 
--- the first word of a line, with the numbers of the lines that it takes, and with literals, a side and a path
+-- the first word of a line, with the numbers of the lines that it takes, and with literals, a side
+-- and a path
 pub data FirstWord : Type 0 where
   assumed : FirstWord
   wanted : FirstWord
@@ -36,7 +37,8 @@ abbrev pub copy_inference : ℕ → Inference
 copy_inference n = inference (n ∷ []) copy_rule
 
 abbrev pub clash_inference : ℕ → List Satellite → Inference
-clash_inference n ss = inference (n ∷ map (λ s. s.clause) ss) (clash_rule (map (λ s. (s.place, s.literal)) ss))
+clash_inference n ss =
+    inference (n ∷ map (λ s. s.clause) ss) (clash_rule (map (λ s. (s.place, s.literal)) ss))
 
 abbrev pub factor_inference : ℕ → ℕ → ℕ → Inference
 factor_inference n a b = inference (n ∷ []) (factor_rule a b)
@@ -103,12 +105,14 @@ IsClause (clause c) d = renumbered c ≡ renumbered d
 abbrev pub After : List LineTree → List LaterWord → ClauseTree → ContentTree → Type 0
 After ls [] d content = IsClause content d
 After ls (w ∷ ws) d content =
-    (ps : List ClauseTree) × (b : ClauseTree) × AreClauses ls (later_parents w) ps × IsTrue (later_fits w d ps) × Leads w d ps b × After ls ws b content
+    (ps : List ClauseTree) × (b : ClauseTree) × AreClauses ls (later_parents w) ps
+    × IsTrue (later_fits w d ps) × Leads w d ps b × After ls ws b content
 
 -- so does a rule with the words behind it
 abbrev pub IsInferred : List LineTree → Inference → List LaterWord → ContentTree → Type 0
 IsInferred ls i ws content =
-    (ps : List ClauseTree) × (d : ClauseTree) × AreClauses ls i.parents ps × IsTrue (i.rule.fits ps) × Concludes i.rule ps d × After ls ws d content
+    (ps : List ClauseTree) × (d : ClauseTree) × AreClauses ls i.parents ps × IsTrue (i.rule.fits ps)
+    × Concludes i.rule ps d × After ls ws d content
 
 abbrev pub is_goal : Role → Bool
 is_goal Assumption = false
@@ -138,7 +142,8 @@ said_at (s ∷ ss) n = if n == 1 then Some s else said_at ss (n - 1)
 
 -- the row is one of such a formula, and has the clause
 abbrev pub IsRowOf : Bool → Fol → List Said → ContentTree → InputRow → Type 0
-IsRowOf goal f ss content r = (s : Said) × (said_at ss r.0 ≡ Some s) × IsSaid goal f s × IsClause content r.1
+IsRowOf goal f ss content r =
+    (s : Said) × (said_at ss r.0 ≡ Some s) × IsSaid goal f s × IsClause content r.1
 
 -- the content is a clause of such a formula
 abbrev pub IsInput : Bool → Fol → List Said → ContentTree → List InputRow → Type 0
@@ -147,10 +152,13 @@ IsInput goal f ss content (r ∷ rows) = IsRowOf goal f ss content r ⊎ IsInput
 
 -- the line of a number has the formula, as a goal or as another one
 abbrev pub IsFormulaAt : List LineTree → ℕ → Bool → Fol → Type 0
-IsFormulaAt ls n goal f = (l : LineTree) × (line_at ls n ≡ Some l) × (l.content ≡ formula f) × (l.first ≡ (if goal then wanted else assumed))
+IsFormulaAt ls n goal f =
+    (l : LineTree) × (line_at ls n ≡ Some l) × (l.content ≡ formula f)
+    × (l.first ≡ (if goal then wanted else assumed))
 
 abbrev pub IsInputOf : List Said → List InputRow → List LineTree → Bool → ℕ → ContentTree → Type 0
-IsInputOf ss rows ls goal n content = (f : Fol) × IsFormulaAt ls n goal f × IsInput goal f ss content rows
+IsInputOf ss rows ls goal n content =
+    (f : Fol) × IsFormulaAt ls n goal f × IsInput goal f ss content rows
 
 -- whether a content is a formula
 abbrev pub is_formula : ContentTree → Bool
@@ -160,9 +168,11 @@ is_formula (clause c) = false
 abbrev pub is_formula_at : List LineTree → ℕ → Bool
 is_formula_at ls n = option_map_or (λ l. is_formula l.content) (line_at ls n) false
 
--- A line behind earlier ones: a formula of the problem, a clause of one that is such a line, or what its words make of earlier
--- clauses. The words that name formulas and their clauses have no others behind them.
-abbrev pub IsLine : List Said → List InputRow → List LineTree → FirstWord → List LaterWord → ContentTree → Type 0
+-- A line behind earlier ones: a formula of the problem, a clause of one that is such a line, or
+-- what its words make of earlier clauses. The words that name formulas and their clauses have no
+-- others behind them.
+abbrev pub IsLine : List Said → List InputRow → List LineTree → FirstWord → List LaterWord →
+    ContentTree → Type 0
 IsLine ss rows ls assumed ws content = IsStated false content ss × (ws ≡ [])
 IsLine ss rows ls wanted ws content = IsStated true content ss × (ws ≡ [])
 IsLine ss rows ls (clausified n) ws content = IsInputOf ss rows ls false n content × (ws ≡ [])
@@ -170,7 +180,8 @@ IsLine ss rows ls (denied n) ws content = IsInputOf ss rows ls true n content ×
 IsLine ss rows ls (copied n) ws content = IsInferred ls (copy_inference n) ws content
 IsLine ss rows ls (resolved n k) ws content = IsInferred ls (clash_inference n k) ws content
 IsLine ss rows ls (factored n a b) ws content = IsInferred ls (factor_inference n a b) ws content
-IsLine ss rows ls (paramodulated n a side m b path) ws content = IsInferred ls (para_inference n a side m b path) ws content
+IsLine ss rows ls (paramodulated n a side m b path) ws content =
+    IsInferred ls (para_inference n a side m b path) ws content
 IsLine ss rows ls (xx_resolved n a) ws content = IsInferred ls (xx_inference n a) ws content
 
 -- the number is above the last one
@@ -181,7 +192,9 @@ IsAbove (Some m) n = m < n
 -- lines behind earlier ones, of which the last has this number
 abbrev pub AreLines : List Said → List InputRow → List LineTree → Option ℕ → List LineTree → Type 0
 AreLines ss rows earlier last [] = Unit {0}
-AreLines ss rows earlier last (l ∷ ls) = IsAbove last l.number × IsLine ss rows earlier l.first l.later l.content × AreLines ss rows (earlier ++ l ∷ []) (Some l.number) ls
+AreLines ss rows earlier last (l ∷ ls) =
+    IsAbove last l.number × IsLine ss rows earlier l.first l.later l.content
+    × AreLines ss rows (earlier ++ l ∷ []) (Some l.number) ls
 
 -- a derivation from what is said, with the clauses of its formulas
 abbrev pub IsDerivation : List Said → List InputRow → List LineTree → Type 0

@@ -28,7 +28,8 @@ atom_at (l ∷ c) (suc a) = atom_at c a
 -- the literals but for those at the places that pass a test
 abbrev pub others : (ℕ → Bool) → ClauseTree → ClauseTree
 others test [] = []
-others test (l ∷ c) = if test 0 then others (λ k. test (suc k)) c else l ∷ others (λ k. test (suc k)) c
+others test (l ∷ c) =
+    if test 0 then others (λ k. test (suc k)) c else l ∷ others (λ k. test (suc k)) c
 
 -- the clause with another atom at the place, under the sign there
 abbrev pub with_atom : ClauseTree → ℕ → Tree → ClauseTree
@@ -38,7 +39,11 @@ with_atom (l ∷ c) (suc a) t = l ∷ with_atom c a t
 
 -- whether the places have literals of one sign, or of opposite ones
 abbrev pub are_alike : ClauseTree → ℕ → ClauseTree → ℕ → Bool
-are_alike c a d b = (has_literal true c a && has_literal true d b) || (has_literal false c a && has_literal false d b)
+are_alike c a d b =
+    (has_literal true c a && has_literal true d b)
+    || (has_literal false c a && has_literal false d b)
 
 abbrev pub are_opposite : ClauseTree → ℕ → ClauseTree → ℕ → Bool
-are_opposite c a d b = (has_literal true c a && has_literal false d b) || (has_literal false c a && has_literal true d b)
+are_opposite c a d b =
+    (has_literal true c a && has_literal false d b)
+    || (has_literal false c a && has_literal true d b)

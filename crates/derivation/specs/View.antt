@@ -38,8 +38,14 @@ abbrev pub content_of : Content → ContentTree
 content_of (Formula f label) = formula (fol_of f.shape)
 content_of (Clause c) = clause c
 
-abbrev pub line_of : Line → LineTree
-line_of l = record { number = l.number; content = content_of l.content; first = first_word_of l.just.first; later = map later_of l.just.steps.items }
+abbrev pub line_tree : Line → LineTree
+line_tree l =
+    record {
+      number = l.number;
+      content = content_of l.content;
+      first = first_word_of l.just.first;
+      later = map later_of l.just.steps.items;
+    }
 
 abbrev pub lines_of : List Line → List LineTree
-lines_of ls = map line_of ls
+lines_of ls = map line_tree ls

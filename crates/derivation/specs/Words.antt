@@ -13,9 +13,9 @@ abbrev pub only_of : List ClauseTree → ClauseTree
 only_of (c ∷ []) = c
 only_of cs = []
 
-abbrev pub is_one : List ClauseTree → Bool
-is_one (c ∷ []) = true
-is_one cs = false
+abbrev pub is_one_clause : List ClauseTree → Bool
+is_one_clause (c ∷ []) = true
+is_one_clause cs = false
 
 -- of two
 abbrev pub first_of_two : List ClauseTree → ClauseTree
@@ -32,16 +32,18 @@ are_two cs = false
 
 -- C / C
 abbrev pub copy_rule : InferenceRule
-copy_rule = record { fits = is_one; pairs = λ cs. []; rest = only_of }
+copy_rule = record { fits = is_one_clause; pairs = λ cs. []; rest = only_of }
 
 -- a place of the nucleus, and one of its satellite
 abbrev pub Clash : Type 0
 Clash = ℕ × ℕ
 
--- the places of the nucleus, which are all different, are opposite to those of the satellites, in turn
+-- the places of the nucleus, which are all different, are opposite to those of the satellites, in
+-- turn
 abbrev pub clashes_fit : ClauseTree → List Clash → List ClauseTree → Bool
 clashes_fit c [] [] = true
-clashes_fit c (k ∷ ks) (d ∷ ds) = are_opposite c k.0 d k.1 && (not (is_in k.0 (map (λ n. n.0) ks)) && clashes_fit c ks ds)
+clashes_fit c (k ∷ ks) (d ∷ ds) =
+    are_opposite c k.0 d k.1 && (not (is_in k.0 (map (λ n. n.0) ks)) && clashes_fit c ks ds)
 clashes_fit c ks ds = false
 
 abbrev pub clash_pairs : ClauseTree → List Clash → List ClauseTree → List (Tree × Tree)
@@ -72,7 +74,7 @@ clash_rule ks = record { fits = clash_fits ks; pairs = all_clash_pairs ks; rest 
 -- A | A | C / A | C, where the second is left out
 abbrev pub factor_rule : ℕ → ℕ → InferenceRule
 factor_rule a b = record {
-  fits = λ cs. is_one cs && (not (a == b) && are_alike (only_of cs) a (only_of cs) b);
+  fits = λ cs. is_one_clause cs && (not (a == b) && are_alike (only_of cs) a (only_of cs) b);
   pairs = λ cs. (atom_at (only_of cs) a, atom_at (only_of cs) b) ∷ [];
   rest = λ cs. others (λ k. k == b) (only_of cs);
 }
@@ -80,7 +82,9 @@ factor_rule a b = record {
 -- t != t | C / C
 abbrev pub xx_rule : ℕ → InferenceRule
 xx_rule a = record {
-  fits = λ cs. is_one cs && (has_literal false (only_of cs) a && is_equation (atom_at (only_of cs) a));
+  fits =
+      λ cs. is_one_clause cs
+      && (has_literal false (only_of cs) a && is_equation (atom_at (only_of cs) a));
   pairs = λ cs. (left_of (atom_at (only_of cs) a), right_of (atom_at (only_of cs) a)) ∷ [];
   rest = λ cs. others (λ k. k == a) (only_of cs);
 }
@@ -94,15 +98,24 @@ other_side_of side t = if side == 1 then right_of t else left_of t
 
 abbrev pub para_fits : ℕ → ℕ → ℕ → List ℕ → ClauseTree → ClauseTree → Bool
 para_fits a side b path c d =
-    has_literal true c a && (is_equation (atom_at c a) && ((side == 1 || side == 2) && (has_place d b && is_no_variable (below (atom_at d b) path))))
+    has_literal true c a
+    && (is_equation (atom_at c a)
+    && ((side == 1 || side == 2) && (has_place d b && is_no_variable (below (atom_at d b) path))))
 
 abbrev pub para_rest : ℕ → ℕ → ℕ → List ℕ → ClauseTree → ClauseTree → ClauseTree
-para_rest a side b path c d = with_atom d b (replaced (atom_at d b) path (other_side_of side (atom_at c a))) ++ others (λ k. k == a) c
+para_rest a side b path c d =
+    with_atom d b (replaced (atom_at d b) path (other_side_of side (atom_at c a)))
+    ++ others (λ k. k == a) c
 
 -- s = t | C, L[s] | D / L[t] | D | C
 abbrev pub para_rule : ℕ → ℕ → ℕ → List ℕ → InferenceRule
 para_rule a side b path = record {
   fits = λ cs. are_two cs && para_fits a side b path (first_of_two cs) (second_of_two cs);
-  pairs = λ cs. (side_of side (atom_at (first_of_two cs) a), term_below (atom_at (second_of_two cs) b) path) ∷ [];
+  pairs =
+      λ cs. (
+        side_of side (atom_at (first_of_two cs) a),
+        term_below (atom_at (second_of_two cs) b)
+            path,
+      ) ∷ [];
   rest = λ cs. para_rest a side b path (first_of_two cs) (second_of_two cs);
 }

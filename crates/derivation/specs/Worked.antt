@@ -35,7 +35,9 @@ no t = literal false t
 
 -- C / C
 abbrev pub WorkedCopy : Type 0
-WorkedCopy = (copy_rule.fits ((yes (p a) ∷ []) ∷ []) ≡ true) × (copy_rule.rest ((yes (p a) ∷ []) ∷ []) ≡ yes (p a) ∷ [])
+WorkedCopy =
+    (copy_rule.fits ((yes (p a) ∷ []) ∷ []) ≡ true)
+    × (copy_rule.rest ((yes (p a) ∷ []) ∷ []) ≡ yes (p a) ∷ [])
 
 -- -p(x) | -q(y) | p(y), p(a), q(b): what has to be equal, and what is left of the instances
 abbrev pub three_literals : ClauseTree
@@ -45,14 +47,18 @@ abbrev pub WorkedClash : Type 0
 WorkedClash =
     let rule = clash_rule ((0, 0) ∷ (1, 0) ∷ []) in
     (rule.fits (three_literals ∷ (yes (p a) ∷ []) ∷ (yes (q b) ∷ []) ∷ []) ≡ true)
-    × (rule.pairs (three_literals ∷ (yes (p a) ∷ []) ∷ (yes (q b) ∷ []) ∷ []) ≡ (p (var 0), p a) ∷ (q (var 1), q b) ∷ [])
-    × (rule.rest ((no (p a) ∷ no (q b) ∷ yes (p b) ∷ []) ∷ (yes (p a) ∷ []) ∷ (yes (q b) ∷ []) ∷ []) ≡ yes (p b) ∷ [])
+    × (rule.pairs (three_literals ∷ (yes (p a) ∷ []) ∷ (yes (q b) ∷ []) ∷ []) ≡ (p (var 0), p a)
+    ∷ (q (var 1), q b) ∷ [])
+    × (rule.rest ((no (p a) ∷ no (q b) ∷ yes (p b) ∷ []) ∷ (yes (p a) ∷ []) ∷ (yes (q b) ∷ []) ∷ [])
+    ≡ yes (p b) ∷ [])
 
 -- one sign twice and one place twice don't fit, nor does no place
 abbrev pub WorkedNoClash : Type 0
 WorkedNoClash =
-    ((clash_rule ((0, 0) ∷ (1, 0) ∷ [])).fits (three_literals ∷ (no (p a) ∷ []) ∷ (yes (q b) ∷ []) ∷ []) ≡ false)
-    × ((clash_rule ((0, 0) ∷ (0, 0) ∷ [])).fits (three_literals ∷ (yes (p a) ∷ []) ∷ (yes (p b) ∷ []) ∷ []) ≡ false)
+    ((clash_rule ((0, 0) ∷ (1, 0) ∷ [])).fits
+    (three_literals ∷ (no (p a) ∷ []) ∷ (yes (q b) ∷ []) ∷ []) ≡ false)
+    × ((clash_rule ((0, 0) ∷ (0, 0) ∷ [])).fits
+    (three_literals ∷ (yes (p a) ∷ []) ∷ (yes (p b) ∷ []) ∷ []) ≡ false)
     × ((clash_rule []).fits (three_literals ∷ []) ≡ false)
 
 -- p(x) | q(x) | p(a): the third is left out; one literal twice and two signs don't fit
@@ -61,7 +67,8 @@ WorkedFactor =
     let c = yes (p (var 0)) ∷ yes (q (var 0)) ∷ yes (p a) ∷ [] in
     ((factor_rule 0 2).fits (c ∷ []) ≡ true)
     × ((factor_rule 0 2).pairs (c ∷ []) ≡ (p (var 0), p a) ∷ [])
-    × ((factor_rule 0 2).rest ((yes (p a) ∷ yes (q a) ∷ yes (p a) ∷ []) ∷ []) ≡ yes (p a) ∷ yes (q a) ∷ [])
+    × ((factor_rule 0 2).rest ((yes (p a) ∷ yes (q a) ∷ yes (p a) ∷ []) ∷ []) ≡ yes (p a)
+    ∷ yes (q a) ∷ [])
     × ((factor_rule 0 0).fits (c ∷ []) ≡ false)
     × ((factor_rule 0 1).fits ((yes (p a) ∷ no (p a) ∷ []) ∷ []) ≡ false)
 
@@ -103,10 +110,13 @@ WorkedLater =
     Leads (flipped 1) (yes (q a) ∷ no (equation a b) ∷ []) [] (yes (q a) ∷ no (equation b a) ∷ [])
     × Leads (merged 2) (yes (p a) ∷ yes (q a) ∷ yes (p a) ∷ []) [] (yes (p a) ∷ yes (q a) ∷ [])
     × Leads (reflexive 0) (no (equation a a) ∷ yes (p a) ∷ []) [] (yes (p a) ∷ [])
-    × Leads (unit_deleted 0 7) (yes (p a) ∷ yes (q b) ∷ []) ((no (p (var 0)) ∷ []) ∷ []) (yes (q b) ∷ [])
-    × Leads (rewritten 7 0 (1 ∷ 1 ∷ [])) (yes (p (f (f a))) ∷ []) ((yes (equation (f (var 0)) (var 0)) ∷ []) ∷ []) (yes (p (f a)) ∷ [])
+    × Leads (unit_deleted 0 7) (yes (p a) ∷ yes (q b) ∷ []) ((no (p (var 0)) ∷ []) ∷ [])
+    (yes (q b) ∷ [])
+    × Leads (rewritten 7 0 (1 ∷ 1 ∷ [])) (yes (p (f (f a))) ∷ [])
+    ((yes (equation (f (var 0)) (var 0)) ∷ []) ∷ []) (yes (p (f a)) ∷ [])
 
--- literals that aren't there, signs that a word doesn't take, and a rule with a variable on its right alone
+-- literals that aren't there, signs that a word doesn't take, and a rule with a variable on its
+-- right alone
 abbrev pub WorkedMisfits : Type 0
 WorkedMisfits =
     (later_fits (flipped 0) (yes (p a) ∷ []) [] ≡ false)
@@ -114,7 +124,8 @@ WorkedMisfits =
     × (later_fits (reflexive 0) (yes (equation a a) ∷ []) [] ≡ false)
     × (later_fits (unit_deleted 0 7) (yes (p a) ∷ []) ((yes (p (var 0)) ∷ []) ∷ []) ≡ false)
     × (later_fits (unit_deleted 0 7) (yes (p a) ∷ []) ((no (p a) ∷ no (q a) ∷ []) ∷ []) ≡ false)
-    × (later_fits (rewritten 7 0 (1 ∷ [])) (yes (p a) ∷ []) ((yes (equation a (var 0)) ∷ []) ∷ []) ≡ false)
+    × (later_fits (rewritten 7 0 (1 ∷ [])) (yes (p a) ∷ []) ((yes (equation a (var 0)) ∷ []) ∷ [])
+    ≡ false)
 
 -- p(a) is assumed and wanted: five lines refute it
 abbrev pub stated : List Said
@@ -128,33 +139,50 @@ numbered_line n content first = record { number = n; content = content; first = 
 
 -- a copy with words behind it
 abbrev pub copy_then : ℕ → ContentTree → ℕ → List LaterWord → LineTree
-copy_then n content m words = record { number = n; content = content; first = copied m; later = words }
+copy_then n content m words =
+    record { number = n; content = content; first = copied m; later = words }
 
 abbrev pub clash : ℕ → ℕ → FirstWord
 clash n m = resolved n (record { place = 0; clause = m; literal = 0 } ∷ [])
 
 abbrev pub given : List LineTree
 given =
-    numbered_line 1 (formula (atom 3 (more a none))) assumed ∷ numbered_line 2 (formula (atom 3 (more a none))) wanted
-    ∷ numbered_line 3 (clause (yes (p a) ∷ [])) (clausified 1) ∷ numbered_line 4 (clause (no (p a) ∷ [])) (denied 2) ∷ []
+    numbered_line 1 (formula (atom 3 (more a none))) assumed
+    ∷ numbered_line 2 (formula (atom 3 (more a none))) wanted
+    ∷ numbered_line 3 (clause (yes (p a) ∷ [])) (clausified 1)
+    ∷ numbered_line 4 (clause (no (p a) ∷ [])) (denied 2) ∷ []
 
 abbrev pub WorkedRefutation : Type 0
 WorkedRefutation =
     IsRefutation stated inputs
-    (numbered_line 1 (formula (atom 3 (more a none))) assumed ∷ numbered_line 2 (formula (atom 3 (more a none))) wanted
-    ∷ numbered_line 3 (clause (yes (p a) ∷ [])) (clausified 1) ∷ numbered_line 4 (clause (no (p a) ∷ [])) (denied 2) ∷ numbered_line 5 (clause []) (clash 3 4) ∷ [])
+    (numbered_line 1 (formula (atom 3 (more a none))) assumed
+    ∷ numbered_line 2 (formula (atom 3 (more a none))) wanted
+    ∷ numbered_line 3 (clause (yes (p a) ∷ [])) (clausified 1)
+    ∷ numbered_line 4 (clause (no (p a) ∷ [])) (denied 2) ∷ numbered_line 5 (clause []) (clash 3 4)
+    ∷ [])
 
--- a fault of each row, and of row 7 one of a rule, of a literal that stands once, and of a clause that isn't an instance
+-- a fault of each row, and of row 7 one of a rule, of a literal that stands once, and of a clause
+-- that isn't an instance
 abbrev pub WorkedFaults : Type 0
 WorkedFaults =
     IsFault stated inputs [] 0 1
     × IsRefusedLine stated inputs given (Some 4) (numbered_line 4 (clause []) (clash 3 4)) 2
-    × IsRefusedLine stated inputs given (Some 4) (numbered_line 5 (clause (yes (p a) ∷ [])) (copied 1)) 3
-    × IsRefusedLine stated inputs given (Some 4) (numbered_line 5 (formula (atom 4 (more a none))) assumed) 4
-    × IsRefusedLine stated inputs given (Some 4) (numbered_line 5 (clause (yes (p a) ∷ [])) (clausified 2)) 5
+    × IsRefusedLine stated inputs given (Some 4)
+    (numbered_line 5 (clause (yes (p a) ∷ [])) (copied 1)) 3
+    × IsRefusedLine stated inputs given (Some 4)
+    (numbered_line 5 (formula (atom 4 (more a none))) assumed) 4
+    × IsRefusedLine stated inputs given (Some 4)
+    (numbered_line 5 (clause (yes (p a) ∷ [])) (clausified 2)) 5
     × IsRefusedLine stated inputs given (Some 4) (numbered_line 5 (clause []) (clash 3 3)) 6
-    × IsRefusedLine stated inputs (numbered_line 1 (clause (yes (p a) ∷ [])) (clausified 1) ∷ numbered_line 2 (clause (no (p b) ∷ [])) (denied 2) ∷ []) (Some 2) (numbered_line 3 (clause []) (clash 1 2)) 7
+    × IsRefusedLine stated inputs
+    (numbered_line 1 (clause (yes (p a) ∷ [])) (clausified 1)
+    ∷ numbered_line 2 (clause (no (p b) ∷ [])) (denied 2) ∷ []) (Some 2)
+    (numbered_line 3 (clause []) (clash 1 2)) 7
     × IsRefusedLine stated inputs given (Some 4) (copy_then 5 (clause []) 3 (merged 0 ∷ [])) 7
-    × IsRefusedLine stated inputs (numbered_line 1 (clause (yes (p a) ∷ [])) (clausified 1) ∷ numbered_line 2 (clause (no (p b) ∷ [])) (denied 2) ∷ []) (Some 2) (copy_then 3 (clause []) 1 (unit_deleted 0 2 ∷ [])) 7
-    × IsRefusedLine stated inputs given (Some 4) (numbered_line 5 (clause (no (p a) ∷ [])) (copied 3)) 8
+    × IsRefusedLine stated inputs
+    (numbered_line 1 (clause (yes (p a) ∷ [])) (clausified 1)
+    ∷ numbered_line 2 (clause (no (p b) ∷ [])) (denied 2) ∷ []) (Some 2)
+    (copy_then 3 (clause []) 1 (unit_deleted 0 2 ∷ [])) 7
+    × IsRefusedLine stated inputs given (Some 4)
+    (numbered_line 5 (clause (no (p a) ∷ [])) (copied 3)) 8
     × IsFault stated inputs (numbered_line 1 (formula (atom 3 (more a none))) assumed ∷ []) 1 9

@@ -11,4 +11,10 @@ some_over [] f = f
 some_over (x ∷ xs) f = exists x (some_over xs f)
 
 abbrev pub skolem_axiom_of : Entry → SkolemAxiom
-skolem_axiom_of e = record { symbol = e.symbol.0; variables = e.variables.items; variable = e.variable; body = some_over e.bound.items (fol_of e.body) }
+skolem_axiom_of e =
+    record {
+      symbol = e.symbol.0;
+      variables = e.variables.items;
+      variable = e.variable;
+      body = some_over e.bound.items (fol_of e.body);
+    }

@@ -2,7 +2,8 @@
 use Rattle.std.specs.Prelude.{ℕ, ◌+◌}
 use Rattle.fol_core.specs.Tree.{Tree, Trees}
 
--- the two constants, equations, relations, connectives, and quantifiers with the number of their variable
+-- the two constants, equations, relations, connectives, and quantifiers with the number of their
+-- variable
 pub data Fol : Type 0 where
   verum : Fol
   falsum : Fol

@@ -5,7 +5,7 @@ use Rattle.std.specs.Coded.{Coded, code_by}
 use base.Stored.{Gv, gnil, gnum, gcons}
 use denote.Struct.Codes.{itself}
 use Rattle.fol_core.specs.Fol.{Fol, verum, falsum, equal, atom, negation, conjunction, disjunction, implication, equivalence, forall, exists}
-use Rattle.fol_core.specs.TreeCodes.{tree_code, trees_code, tree_from, trees_from, tree_back, trees_back, number}
+use Rattle.fol_core.specs.TreeCodes.{tree_code, trees_code, tree_from, trees_from, tree_back, trees_back, stored_number}
 
 abbrev pub fol_code : Fol → Gv
 fol_code verum = gcons (gnum 0) (gcons gnil gnil)
@@ -22,16 +22,22 @@ fol_code (exists x f) = gcons (gnum 10) (gcons (gnum x) (fol_code f))
 
 abbrev fol_tagged : ℕ → Gv → Gv → Fol → Fol → Fol
 fol_tagged k a b f g =
-    if k == 0 then verum else (if k == 1 then falsum else (if k == 2 then equal (tree_from a) (tree_from b) else (if k == 3 then atom (number a) (trees_from b)
-    else (if k == 4 then negation f else (if k == 5 then conjunction f g else (if k == 6 then disjunction f g else (if k == 7 then implication f g else (if k == 8 then equivalence f g
-    else (if k == 9 then forall (number a) g else exists (number a) g)))))))))
+    if k == 0 then verum
+    else (if k == 1 then falsum
+    else (if k == 2 then equal (tree_from a) (tree_from b)
+    else (if k == 3 then atom (stored_number a) (trees_from b)
+    else (if k == 4 then negation f
+    else (if k == 5 then conjunction f g
+    else (if k == 6 then disjunction f g
+    else (if k == 7 then implication f g else (if k == 8 then equivalence f g
+    else (if k == 9 then forall (stored_number a) g else exists (stored_number a) g)))))))))
 
 abbrev pub fol_from : Gv → Fol
 fol_from gnil = verum
 fol_from (gnum n) = verum
 fol_from (gcons k gnil) = verum
 fol_from (gcons k (gnum n)) = verum
-fol_from (gcons k (gcons a b)) = fol_tagged (number k) a b (fol_from a) (fol_from b)
+fol_from (gcons k (gcons a b)) = fol_tagged (stored_number k) a b (fol_from a) (fol_from b)
 
 pub fol_back : (f : Fol) → fol_from (fol_code f) ≡ f
 fol_back verum = refl

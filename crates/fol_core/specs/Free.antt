@@ -33,7 +33,8 @@ abbrev mutual
   variables_of_all none = []
   variables_of_all (more t ts) = joined (variables_of t) (variables_of_all ts)
 
--- the free variables of a formula, each once, by first free occurrence: a quantifier binds its variable
+-- the free variables of a formula, each once, by first free occurrence: a quantifier binds its
+-- variable
 abbrev pub free_vars_of : Fol → List ℕ
 free_vars_of verum = []
 free_vars_of falsum = []

@@ -12,11 +12,16 @@ TruthIsStable m = (e : Assignment) (f : Fol) → ¬ ¬ Holds m e f → Holds m e
 
 -- assignments that agree on the free variables of a formula agree on its truth
 abbrev pub FreeVariablesDecide : Meaning → Type 0
-FreeVariablesDecide m = (d e : Assignment) (f : Fol) → ((x : ℕ) → IsTrue (is_in x (free_vars_of f)) → d x ≡ e x) → Holds m d f ↔ Holds m e f
+FreeVariablesDecide m =
+    (d e : Assignment) (f : Fol) → ((x : ℕ) → IsTrue (is_in x (free_vars_of f)) → d x ≡ e x) →
+    Holds m d f ↔ Holds m e f
 
--- the closure of a formula is true, under any assignment, exactly where the formula is true whatever elements its variables have
+-- the closure of a formula is true, under any assignment, exactly where the formula is true
+-- whatever elements its variables have
 abbrev pub ClosureIsGeneral : Meaning → Type 0
-ClosureIsGeneral m = (e : Assignment) (f : Fol) → Holds m e (closure_of f) ↔ ((d : Assignment) → IsWithin m d → Holds m d f)
+ClosureIsGeneral m =
+    (e : Assignment) (f : Fol) → Holds m e (closure_of f)
+    ↔ ((d : Assignment) → IsWithin m d → Holds m d f)
 
 abbrev mutual
   -- each element that the term names is within
@@ -31,4 +36,6 @@ abbrev mutual
 
 -- the value of a term is within, where its variables' elements and those that it names are
 abbrev pub ValuesAreWithin : Meaning → Type 0
-ValuesAreWithin m = (e : Assignment) (t : Tree) → IsWithin m e → NamesElements m t → IsTrue (m.within (value_of m e t))
+ValuesAreWithin m =
+    (e : Assignment) (t : Tree) → IsWithin m e → NamesElements m t →
+    IsTrue (m.within (value_of m e t))

@@ -25,13 +25,16 @@ abbrev pub are_equal : List ℕ → Bool
 are_equal (a ∷ b ∷ []) = a == b
 are_equal xs = false
 
--- whether an atom is true: an equation where its sides have one value, a relation where it holds of the arguments' values
+-- whether an atom is true: an equation where its sides have one value, a relation where it holds of
+-- the arguments' values
 abbrev pub is_true_atom : Meaning → Assignment → Tree → Bool
-is_true_atom m e (app r ts) = if r == equality then are_equal (values_of m e ts) else m.relation r (values_of m e ts)
+is_true_atom m e (app r ts) =
+    if r == equality then are_equal (values_of m e ts) else m.relation r (values_of m e ts)
 is_true_atom m e t = false
 
 abbrev pub is_true_literal : Meaning → Assignment → Lit → Bool
-is_true_literal m e l = if l.positive then is_true_atom m e l.atom else not (is_true_atom m e l.atom)
+is_true_literal m e l =
+    if l.positive then is_true_atom m e l.atom else not (is_true_atom m e l.atom)
 
 -- whether some literal is true
 abbrev pub is_true_clause : Meaning → Assignment → ClauseTree → Bool

@@ -1,8 +1,8 @@
 -- Interpretations: which numbers are elements, and what the symbols mean on them.
 use Rattle.std.specs.Prelude.{ℕ, Bool, IsTrue, List, [], ◌∷◌}
 
--- which whole numbers are elements, and the value of a function and the truth of a relation on a list of elements;
--- there may be infinitely many elements
+-- which whole numbers are elements, and the value of a function and the truth of a relation on a
+-- list of elements; there may be infinitely many elements
 pub record Meaning : Type 0 where
   pub within : ℕ → Bool
   pub function : ℕ → List ℕ → ℕ

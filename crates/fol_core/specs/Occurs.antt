@@ -11,7 +11,8 @@ occurs_in s fs = list_any (λ f. uses_symbol s f) fs
 
 -- each symbol number that passes the test is marked, and those that were marked still are
 abbrev pub AreMarked : (ℕ → Bool) → List Bool → List Bool → Type 0
-AreMarked test old new = (s : ℕ) → s < length old → slice_index_or new s false ≡ (slice_index_or old s false || test s)
+AreMarked test old new =
+    (s : ℕ) → s < length old → slice_index_or new s false ≡ (slice_index_or old s false || test s)
 
 abbrev mutual
   -- the least number above each element that a term names, 0 where it names none

@@ -5,7 +5,7 @@ use Rattle.std.specs.Coded.{Coded, code_by, coded_list}
 use base.Stored.{Gv, gnil, gnum, gcons}
 use denote.Struct.Codes.{itself}
 use Rattle.fol_core.specs.RawTree.{RawTree, named, quantified, RawTrees, no_raws, more_raws}
-use Rattle.fol_core.specs.TreeCodes.{number}
+use Rattle.fol_core.specs.TreeCodes.{stored_number}
 use Rattle.fol_core.specs.declared.raw.Quantifier.{Quantifier}
 use Rattle.fol_core.specs.declared.raw.Quantifier.TheVariants.{All, Exists}
 
@@ -16,7 +16,7 @@ name_code (b ∷ bs) = gcons (gnum b) (name_code bs)
 abbrev name_from : Gv → List ℕ
 name_from gnil = []
 name_from (gnum n) = []
-name_from (gcons b bs) = number b ∷ name_from bs
+name_from (gcons b bs) = stored_number b ∷ name_from bs
 
 name_back : (bs : List ℕ) → name_from (name_code bs) ≡ bs
 name_back [] = refl
@@ -42,7 +42,9 @@ abbrev mutual
   raw_from (gcons k gnil) = named [] no_raws
   raw_from (gcons k (gnum n)) = named [] no_raws
   raw_from (gcons k (gcons a b)) =
-      if number k == 0 then named (name_from a) (raws_from b) else (if number k == 1 then quantified All (name_from a) (raw_from b) else quantified Exists (name_from a) (raw_from b))
+      if stored_number k == 0 then named (name_from a) (raws_from b)
+      else (if stored_number k == 1 then quantified All (name_from a) (raw_from b)
+      else quantified Exists (name_from a) (raw_from b))
 
   pub raws_from : Gv → RawTrees
   raws_from gnil = no_raws

@@ -42,7 +42,8 @@ stated_of p = stated p.symbols (all_said p.inputs.items)
 -- each formula binds a variable once, and its symbols have numbers below this one
 abbrev pub AreWellFormed : ℕ → List Said → Type 0
 AreWellFormed size [] = Unit {0}
-AreWellFormed size (s ∷ ss) = BindsOnce s.formula × HasSymbolsBelow size s.formula × AreWellFormed size ss
+AreWellFormed size (s ∷ ss) =
+    BindsOnce s.formula × HasSymbolsBelow size s.formula × AreWellFormed size ss
 
 -- the formulas bind variables once, and have symbols of the table alone
 abbrev pub IsWellFormed : Stated → Type 0

@@ -1,4 +1,5 @@
--- How the code keeps a table of symbols: the names, each once, and rows that name theirs by its place.
+-- How the code keeps a table of symbols: the names, each once, and rows that name theirs by its
+-- place.
 use Rattle.std.specs.Prelude.{ℕ, ◌≡◌, List, [], Option, Some, map, slice_get}
 use Rattle.std.specs.Global.{Vec}
 use Rattle.std.specs.List.{AllByRecursion}
@@ -21,7 +22,8 @@ place_of names name = first_place (λ v. bytes_eq name v.items) names
 
 -- each kept name stays at its place
 abbrev pub KeepsPlaces : List (Vec ℕ) → List (Vec ℕ) → Type 0
-KeepsPlaces old new = (name : List ℕ) (n : ℕ) → place_of old name ≡ Some n → place_of new name ≡ Some n
+KeepsPlaces old new =
+    (name : List ℕ) (n : ℕ) → place_of old name ≡ Some n → place_of new name ≡ Some n
 
 -- the symbol that a row stands for
 abbrev pub symbol_of : List (Vec ℕ) → Row → Symbol

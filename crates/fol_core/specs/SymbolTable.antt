@@ -51,7 +51,9 @@ is_same_kind Relation Relation = true
 
 -- whether the symbol's name and arity stand in the table with the other kind
 abbrev pub is_clash : List Symbol → Symbol → Bool
-is_clash table s = option_map_or (λ n. not (is_same_kind (kind_at table n) s.kind)) (number_of table s.name s.arity) false
+is_clash table s =
+    option_map_or (λ n. not (is_same_kind (kind_at table n) s.kind))
+    (number_of table s.name s.arity) false
 
 -- each number of the old table means the same in the new one
 abbrev pub KeepsNumbers : List Symbol → List Symbol → Type 0
@@ -59,4 +61,5 @@ KeepsNumbers old new = (n : ℕ) (s : Symbol) → slice_get old n ≡ Some s →
 
 -- no name and arity stands twice: each symbol is found under its own number
 abbrev pub FindsEach : List Symbol → Type 0
-FindsEach table = (n : ℕ) (s : Symbol) → slice_get table n ≡ Some s → number_of table s.name s.arity ≡ Some n
+FindsEach table =
+    (n : ℕ) (s : Symbol) → slice_get table n ≡ Some s → number_of table s.name s.arity ≡ Some n

@@ -16,18 +16,18 @@ abbrev mutual
   trees_code none = gnil
   trees_code (more t ts) = gcons (tree_code t) (trees_code ts)
 
-abbrev pub number : Gv → ℕ
-number (gnum n) = n
-number gnil = 0
-number (gcons a b) = 0
+abbrev pub stored_number : Gv → ℕ
+stored_number (gnum n) = n
+stored_number gnil = 0
+stored_number (gcons a b) = 0
 
 abbrev mutual
   pub tree_from : Gv → Tree
   tree_from gnil = var 0
   tree_from (gnum n) = var n
-  tree_from (gcons k (gcons s ts)) = app (number s) (trees_from ts)
+  tree_from (gcons k (gcons s ts)) = app (stored_number s) (trees_from ts)
   tree_from (gcons k gnil) = var 0
-  tree_from (gcons k (gnum n)) = if number k == 0 then var n else elem n
+  tree_from (gcons k (gnum n)) = if stored_number k == 0 then var n else elem n
 
   pub trees_from : Gv → Trees
   trees_from gnil = none

@@ -17,7 +17,8 @@ abbrev pub IsWithin : Meaning → Assignment → Type 0
 IsWithin m e = (x : ℕ) → IsTrue (m.within (e x))
 
 abbrev mutual
-  -- a variable has its assigned element, an element itself, an application the function's value on its arguments' values
+  -- a variable has its assigned element, an element itself, an application the function's value on
+  -- its arguments' values
   pub value_of : Meaning → Assignment → Tree → ℕ
   value_of m e (var x) = e x
   value_of m e (elem k) = k
@@ -27,8 +28,9 @@ abbrev mutual
   values_of m e none = []
   values_of m e (more t ts) = value_of m e t ∷ values_of m e ts
 
--- Truth under an assignment, the usual classical one. "Or" and "some" are spelled by denials, so that what isn't false is
--- true: the logic of these proofs has no excluded middle, and an interpretation may have infinitely many elements.
+-- Truth under an assignment, the usual classical one. "Or" and "some" are spelled by denials, so
+-- that what isn't false is true: the logic of these proofs has no excluded middle, and an
+-- interpretation may have infinitely many elements.
 abbrev pub Holds : Meaning → Assignment → Fol → Type 0
 Holds m e verum = Unit {0}
 Holds m e falsum = ⊥

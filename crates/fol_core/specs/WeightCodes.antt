@@ -14,14 +14,17 @@ weight_code (plus v w) = gcons (gnum 2) (gcons (weight_code v) (weight_code w))
 weight_code (times v w) = gcons (gnum 3) (gcons (weight_code v) (weight_code w))
 
 abbrev tagged : ℕ → ℕ → WeightTree → WeightTree → WeightTree
-tagged k n v w = if k == 0 then number n else (if k == 1 then of_variable n else (if k == 2 then plus v w else times v w))
+tagged k n v w =
+    if k == 0 then number n
+    else (if k == 1 then of_variable n else (if k == 2 then plus v w else times v w))
 
 abbrev pub weight_from : Gv → WeightTree
 weight_from gnil = number 0
 weight_from (gnum n) = number 0
 weight_from (gcons k gnil) = number 0
 weight_from (gcons k (gnum n)) = number 0
-weight_from (gcons k (gcons a b)) = tagged (trees.number k) (trees.number a) (weight_from a) (weight_from b)
+weight_from (gcons k (gcons a b)) =
+    tagged (trees.stored_number k) (trees.stored_number a) (weight_from a) (weight_from b)
 
 pub weight_back : (w : WeightTree) → weight_from (weight_code w) ≡ w
 weight_back (number n) = refl

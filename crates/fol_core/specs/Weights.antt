@@ -9,7 +9,8 @@ pub data WeightTree : Type 0 where
   plus : WeightTree → WeightTree → WeightTree
   times : WeightTree → WeightTree → WeightTree
 
--- the head of a pattern, its arguments, whose variables are numbered by first occurrence, and what it weighs
+-- the head of a pattern, its arguments, whose variables are numbered by first occurrence, and what
+-- it weighs
 pub record Rule : Type 0 where
   pub head : List ℕ
   pub arguments : Trees

@@ -33,7 +33,7 @@ use Rattle.model_tables.specs.Expansion.{IsExpansion}
 use Rattle.model_tables.specs.Isomorphism as renaming
 use Rattle.model_tables.specs.Isomorphism.{IsIsomorphism}
 use Rattle.model_tables.specs.Size.{bound_of, AllBelow, formulas_of, IsInterpretation}
-use Rattle.model_tables.specs.Tables.{Finite, row_of, has, listed, place_from, meaning_of}
+use Rattle.model_tables.specs.Tables.{Finite, row_of, has, listed_value, place_from, meaning_of}
 
 -- an element that a formula names is below the number above all of these
 mutual
@@ -105,19 +105,19 @@ module _ (p : Stated) (n : ℕ) (some : 0 < n) (stand : StandBehind p) (new : Ar
         ltb-true (r x) n (sym (solves.size (r x)) ∙ renames.within x ∙ inside)
 
     value_is : (kind : Kind) (s : ℕ) (xs : List ℕ) → value_of_kind m kind s (map r xs) ≡ value_of_kind (meaning_of u) kind s (map r xs) → row_of e s ≡ row_of t s
-        → AllBelow (bound_of n kind) (row_of t s) → AllBelow (bound_of n kind) (row_of u s) → listed u s (map r xs) ≡ renaming.carried kind r (listed t s xs)
+        → AllBelow (bound_of n kind) (row_of t s) → AllBelow (bound_of n kind) (row_of u s) → listed_value u s (map r xs) ≡ renaming.carried kind r (listed_value t s xs)
     value_is Function s xs same row below above =
-        let listed_same : listed e s xs ≡ listed t s xs = (λ i. slice_index (row i) (place_from (same_top witnesses t e expanded i + 1) 0 xs)) in
-        let here : (meaning_of u).function s (map r xs) ≡ listed u s (map r xs) = function_listed u s n (map r xs) whole.size (listed_below u s n (map r xs) some above) in
-        let there : (meaning_of e).function s xs ≡ listed e s xs = function_listed e s n xs top (subst (λ (k : ℕ). k < n) (sym listed_same) (listed_below t s n xs some below)) in
+        let listed_same : listed_value e s xs ≡ listed_value t s xs = (λ i. slice_index (row i) (place_from (same_top witnesses t e expanded i + 1) 0 xs)) in
+        let here : (meaning_of u).function s (map r xs) ≡ listed_value u s (map r xs) = function_listed u s n (map r xs) whole.size (listed_below u s n (map r xs) some above) in
+        let there : (meaning_of e).function s xs ≡ listed_value e s xs = function_listed e s n xs top (subst (λ (k : ℕ). k < n) (sym listed_same) (listed_below t s n xs some below)) in
         sym here ∙ sym same ∙ renames.functions s xs ∙ ap r (there ∙ listed_same)
     value_is Relation s xs same row below above =
-        let listed_same : listed e s xs ≡ listed t s xs = (λ i. slice_index (row i) (place_from (same_top witnesses t e expanded i + 1) 0 xs)) in
+        let listed_same : listed_value e s xs ≡ listed_value t s xs = (λ i. slice_index (row i) (place_from (same_top witnesses t e expanded i + 1) 0 xs)) in
         let two : 0 < 2 = omega arith in
-        relation_listed (listed u s (map r xs)) (listed t s xs) (listed_below u s 2 (map r xs) two above) (listed_below t s 2 xs two below)
+        relation_listed (listed_value u s (map r xs)) (listed_value t s xs) (listed_below u s 2 (map r xs) two above) (listed_below t s 2 xs two below)
         (sym same ∙ ap bit_of (renames.relations s xs) ∙ ap (λ (k : ℕ). bit_of (k == 1)) listed_same)
 
-    carries : (s : ℕ) (xs : List ℕ) → has t s ≡ true → length xs ≡ arity_at p.symbols s → AllBelow n xs → listed u s (map r xs) ≡ renaming.carried (kind_at p.symbols s) r (listed t s xs)
+    carries : (s : ℕ) (xs : List ℕ) → has t s ≡ true → length xs ≡ arity_at p.symbols s → AllBelow n xs → listed_value u s (map r xs) ≡ renaming.carried (kind_at p.symbols s) r (listed_value t s xs)
     carries s xs entry many below =
         let own = entry_of n p t s is entry in
         let b = own_block s own.0 own.1 in

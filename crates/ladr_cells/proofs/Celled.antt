@@ -9,7 +9,7 @@ use Rattle.std.proofs.lemmas.List.Folds.{list_any-append}
 use Rattle.std.proofs.lemmas.Option.{slice_get_within}
 use Rattle.cell_search.specs.Searchable.{count_of, HasCells, IsOfCells, AreOfCells, IsEquationOfCells, IsAtomOfCells, IsClauseOfCells, HasAllCells}
 use Rattle.clausify.specs.Behind.{AreFor, StandBehind, SkolemsStandBehind}
-use Rattle.clausify.specs.Input.{formulas, is_used, passing, used_symbols, skolems, skolem_numbers, with_skolems, axioms_in_table}
+use Rattle.clausify.specs.Input.{formulas, is_used, numbers_passing, used_symbols, skolems, skolem_numbers, with_skolems, axioms_in_table}
 use Rattle.fol_core.specs.Bound.{IsOnce, uses_symbol}
 use Rattle.fol_core.specs.Free.{is_in}
 use Rattle.fol_core.specs.Literals.{ClauseTree, equality}
@@ -111,26 +111,26 @@ rises_once : (a b : ℕ) (xs : List ℕ) → Rises a xs b → IsOnce xs
 rises_once a b [] h = tt
 rises_once a b (x ∷ xs) h = (false_from_ne_true (is_in x xs) (λ i. absurd (omega (arith, rises_above (suc x) b xs h.1 x i))), rises_once (suc x) b xs h.1)
 
-passing_rises : (test : ℕ → Bool) (n left : ℕ) → Rises n (passing test n left) (n + left)
+passing_rises : (test : ℕ → Bool) (n left : ℕ) → Rises n (numbers_passing test n left) (n + left)
 passing_rises test n zero = omega arith
 passing_rises test n (suc left) = by (test n) (rest (passing_rises test (n + 1) left))
   where
-    rest : Rises (n + 1) (passing test (n + 1) left) (n + 1 + left) → Rises (suc n) (passing test (n + 1) left) (n + suc left)
-    rest h = subst (λ (k : ℕ). Rises (suc n) (passing test (n + 1) left) k) (omega arith) (rises_from (suc n) (n + 1) (n + 1 + left) (passing test (n + 1) left) (omega arith) h)
+    rest : Rises (n + 1) (numbers_passing test (n + 1) left) (n + 1 + left) → Rises (suc n) (numbers_passing test (n + 1) left) (n + suc left)
+    rest h = subst (λ (k : ℕ). Rises (suc n) (numbers_passing test (n + 1) left) k) (omega arith) (rises_from (suc n) (n + 1) (n + 1 + left) (numbers_passing test (n + 1) left) (omega arith) h)
 
-    by : (b : Bool) → Rises (suc n) (passing test (n + 1) left) (n + suc left) → Rises n (if b then n ∷ passing test (n + 1) left else passing test (n + 1) left) (n + suc left)
+    by : (b : Bool) → Rises (suc n) (numbers_passing test (n + 1) left) (n + suc left) → Rises n (if b then n ∷ numbers_passing test (n + 1) left else numbers_passing test (n + 1) left) (n + suc left)
     by true h = (omega arith, h)
-    by false h = rises_from n (suc n) (n + suc left) (passing test (n + 1) left) (omega arith) h
+    by false h = rises_from n (suc n) (n + suc left) (numbers_passing test (n + 1) left) (omega arith) h
 
 differs : (n s : ℕ) → n ≤ s → (s == n) ≡ false → n + 1 ≤ s
 differs n s a e = grind (arith, nat_tests)
 
-pub passes : (test : ℕ → Bool) (n left s : ℕ) → test s ≡ true → n ≤ s → s < n + left → is_in s (passing test n left) ≡ true
+pub passes : (test : ℕ → Bool) (n left s : ℕ) → test s ≡ true → n ≤ s → s < n + left → is_in s (numbers_passing test n left) ≡ true
 passes test n zero s h a b = absurd (omega (arith, a, b))
 passes test n (suc left) s h a b = by (test n) refl (s == n) refl (λ more. passes test (n + 1) left s h more (omega (arith, b)))
   where
-    by : (t : Bool) → test n ≡ t → (e : Bool) → (s == n) ≡ e → (n + 1 ≤ s → is_in s (passing test (n + 1) left) ≡ true)
-        → is_in s (if t then n ∷ passing test (n + 1) left else passing test (n + 1) left) ≡ true
+    by : (t : Bool) → test n ≡ t → (e : Bool) → (s == n) ≡ e → (n + 1 ≤ s → is_in s (numbers_passing test (n + 1) left) ≡ true)
+        → is_in s (if t then n ∷ numbers_passing test (n + 1) left else numbers_passing test (n + 1) left) ≡ true
     by true d true e rest = or_left (s == n) _ e
     by true d false e rest = or_right (s == n) _ (rest (differs n s a e))
     by false d true e rest = absurd (false≢true (sym d ∙ ap test (sym (eqb-true s n e)) ∙ h))

@@ -23,7 +23,7 @@ use Rattle.ladr_lex.specs.Lexeme.{Lexeme}
 use Rattle.ladr_lex.specs.declared.limits.TheConstants.{MOST_LEVELS, MOST_SYMBOLS}
 use Rattle.ladr_problem.specs.Adding.{FileItem, command, within, after_item, after_term, after_formula, after_list, after_rule, after_kbo, added_kbo, unshaped, formula_made, style_in, with_settings, with_listed, with_formula, least_misuse, met, is_hints, is_demodulators}
 use Rattle.ladr_problem.specs.File as file
-use Rattle.ladr_problem.specs.File.{Outcome, Says, problem, unreadable, misused, too_large, File, ends, open_list, open_block, bad, breaks, goes_on, covered, finished, first_lacking, start_at, refused_at}
+use Rattle.ladr_problem.specs.File.{Outcome, Says, problem, unreadable, misused, too_large, File, ends, open_list, open_block, bad, breaks, goes_on, covered, at_file_end, first_lacking, start_at, refused_at}
 use Rattle.ladr_problem.specs.Sofar.{Sofar, Listed, said_in, stated_in, nothing_read}
 use Rattle.ladr_problem.specs.declared.refusal.Refusal.{Refusal}
 use Rattle.ladr_problem.specs.declared.refusal.Refusal.TheVariants.{Bad, Nesting, Symbols, Arity, Misused, Memory}
@@ -35,7 +35,7 @@ use Rattle.ladr_reader.specs.Nesting.{nesting}
 use Rattle.ladr_rules.specs.Attributes.{attributed, has_unfit_weight, hint_weight_of}
 use Rattle.ladr_rules.specs.Rules.{Sides, rule_made, shaped_sides, kbo_rule}
 use Rattle.ladr_rules.specs.Shapes.{is_hint, is_demodulator}
-use Rattle.ladr_settings.specs.Settings.{after, is_meant}
+use Rattle.ladr_settings.specs.Settings.{settings_after, is_meant}
 use Rattle.ladr_settings.specs.declared.lists.FormulaList.{FormulaList}
 use Rattle.ladr_settings.specs.declared.lists.FormulaList.TheVariants.{Assumptions, Demodulators, Goals, Hints}
 use Rattle.ladr_settings.specs.declared.lists.FormulaList.TheVariants as lists
@@ -126,7 +126,7 @@ module _ (m : Mode) (byte : ℕ) (s : Sofar) (good : Fits s) where
   settings_fit (Err k) = tt
 
   item_fits : (ts : List Lexeme) (i : FileItem) → IfOk (after_item m byte s ts i) Fits
-  item_fits ts (command c) = settings_fit (after m c s.settings)
+  item_fits ts (command c) = settings_fit (settings_after m c s.settings)
   item_fits ts (within closing) = good
   item_fits ts (within (term t)) =
       by_test (nat_lt MOST_LEVELS (nesting ts t)) _ _ tt (by_option (λ l. after_term m l byte s t) s.settings.list (Ok s) (λ l e. term_fits l t) (λ e. good))
@@ -155,7 +155,7 @@ file_fits m end s (ts ∷ items) o good (goes_on i t r e f) =
     file_fits m end t items o (subst (λ (x : Result Sofar Refusal). IfOk x Fits) e (item_fits m (start_at end ts 0) s good (lexemes ts) i)) f
 
 -- what is a problem in the end was one at the end of the items
-finished_fits : (m : Mode) (end : ℕ) (o : Outcome) → IfProblem o → IfProblem (finished m end o)
+finished_fits : (m : Mode) (end : ℕ) (o : Outcome) → IfProblem o → IfProblem (at_file_end m end o)
 finished_fits Prover end o h = h
 finished_fits Mace end o h = h
 finished_fits Tester end (unreadable byte) h = tt

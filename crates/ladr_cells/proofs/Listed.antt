@@ -11,7 +11,7 @@ use Rattle.fol_core.specs.SymbolTable.{Symbol, kind_at}
 use Rattle.mace_ground.proofs.Grounding.{list_below}
 use Rattle.model_tables.proofs.Expanding.{used_apart}
 use Rattle.model_tables.specs.Size.{bound_of, cells_for, AllBelow, AreListings, formulas_of, IsInterpretation}
-use Rattle.model_tables.specs.Tables.{Listing, Finite, row_of, has, listed, place_from, meaning_of}
+use Rattle.model_tables.specs.Tables.{Listing, Finite, row_of, has, listed_value, place_from, meaning_of}
 
 -- a symbol of some formula is apart from symbols that stand in none
 pub occurring_apart : (ws : List SkolemAxiom) (ss : List Said) → AreNewTo ss ws → (s : ℕ) → occurs_in s (map (λ x. x.formula) ss) ≡ true → IsApart s ws
@@ -53,14 +53,14 @@ entry_of n p t s is h =
     (e.0, ap (λ (j : ℕ). occurs_in j (formulas_of p)) (sym same) ∙ e.1, e.2)
 
 -- a listed value is below the bound of its row
-pub listed_below : (t : Finite) (s b : ℕ) (xs : List ℕ) → 0 < b → AllBelow b (row_of t s) → listed t s xs < b
+pub listed_below : (t : Finite) (s b : ℕ) (xs : List ℕ) → 0 < b → AllBelow b (row_of t s) → listed_value t s xs < b
 listed_below t s b xs some below = list_below b (row_of t s) (place_from (t.top + 1) 0 xs) some below
 
 -- so a function has it, and a relation holds where it is 1
-pub function_listed : (t : Finite) (s n : ℕ) (xs : List ℕ) → t.top + 1 ≡ n → listed t s xs < n → (meaning_of t).function s xs ≡ listed t s xs
-function_listed t s n xs size below = by (nat_le (listed t s xs) t.top) refl
+pub function_listed : (t : Finite) (s n : ℕ) (xs : List ℕ) → t.top + 1 ≡ n → listed_value t s xs < n → (meaning_of t).function s xs ≡ listed_value t s xs
+function_listed t s n xs size below = by (nat_le (listed_value t s xs) t.top) refl
   where
-    by : (b : Bool) → nat_le (listed t s xs) t.top ≡ b → (if b then listed t s xs else 0) ≡ listed t s xs
+    by : (b : Bool) → nat_le (listed_value t s xs) t.top ≡ b → (if b then listed_value t s xs else 0) ≡ listed_value t s xs
     by true e = refl
     by false e = absurd (grind (arith, nat_tests))
 

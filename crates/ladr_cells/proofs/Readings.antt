@@ -14,7 +14,7 @@ use Rattle.fol_core.specs.declared.symbols.Kind.{Kind}
 use Rattle.fol_core.specs.declared.symbols.Kind.TheVariants.{Function, Relation}
 use Rattle.fol_core.proofs.Places.{slice_get_last}
 use Rattle.fol_core.proofs.SymbolLemmas.{symbol_there, number_of_push}
-use Rattle.ladr_lex.specs.Numeral.{number}
+use Rattle.ladr_lex.specs.Numeral.{limited_number_of}
 use Rattle.ladr_lex.specs.declared.misuse.Misuse.{Misuse}
 use Rattle.ladr_lex.specs.declared.misuse.Misuse.TheVariants.{TwoKinds, QuantifierInTerm, UnfitAttribute, UnfitNumeral}
 use Rattle.ladr_formulas.specs.Formulas.{Reading, Made, Bound, meets, with_variable, named_variable, with_symbol, symbol_number, arity_of, is_too_great, is_element, constant_as, term_of, terms_of, relation_of, sentence_as, equation_read, under, bound_by, is_denial, connective_of, connective_read, joined_by, by_connective, comparison, formula_in, unread, formula_reading}
@@ -101,12 +101,12 @@ module _ (T : List Symbol) where
   constant_fits st name (Some n) s h k = tt
   constant_fits st name None s h k =
       let after = with_symbol name 0 Function s in
-      term_either (is_element st name) (record { tree = elem (number name); reading = meets (is_too_great st name) UnfitNumeral s }) (record { tree = app (symbol_number name 0 after) none; reading = after })
+      term_either (is_element st name) (record { tree = elem (limited_number_of name); reading = meets (is_too_great st name) UnfitNumeral s }) (record { tree = app (symbol_number name 0 after) none; reading = after })
       (λ h k. tt) (λ h k. (used name 0 Function s h k, tt)) h k
 
   mutual
     term_fits : (st : Style) (scope : List Bound) (s : Reading) (t : RawTree) → TermFits (term_of st scope s t)
-    term_fits st scope s (quantified q x t) h k = term_fits st (record { name = x; number = length s.variables } ∷ scope) (with_variable x false (meets true QuantifierInTerm s)) t h k
+    term_fits st scope s (quantified q x t) h k = term_fits st (record { name = x; limited_number_of = length s.variables } ∷ scope) (with_variable x false (meets true QuantifierInTerm s)) t h k
     term_fits st scope s (named name no_raws) h k = constant_fits st name (named_variable st scope name s).tree (named_variable st scope name s).reading h k
     term_fits st scope s (named name (more_raws t ts)) h k =
         let met = meets (is_too_great st name) UnfitNumeral s in
@@ -177,7 +177,7 @@ module _ (T : List Symbol) where
 
   pub formula_fits : (st : Style) (scope : List Bound) (t : RawTree) (s : Reading) → FormulaFits (formula_in st scope s t)
   formula_fits st scope (quantified q x t) s =
-      let inner : List Bound = record { name = x; number = length s.variables } ∷ scope in
+      let inner : List Bound = record { name = x; limited_number_of = length s.variables } ∷ scope in
       bound_fits q (length s.variables) (formula_in st inner (with_variable x false s) t) (formula_fits st inner t (with_variable x false s))
   formula_fits st scope (named name no_raws) s = sentence_fits st scope name (named_variable st scope name s).tree (named_variable st scope name s).reading
   formula_fits st scope (named name (more_raws t no_raws)) s =

@@ -8,7 +8,7 @@ use Rattle.fol_core.specs.Stated.{Stated}
 use Rattle.ladr_cells.specs.Fitting.{FitsTable}
 use Rattle.mace_cells.specs.World.{World}
 use Rattle.mace_ground.specs.Cells.{Block, blocks_of, cells_in}
-use Rattle.mace_ground.specs.Instances.{literals_in}
+use Rattle.mace_ground.specs.Instances.{ground_literals}
 
 -- the clauses, in the words of the problem's table with the Skolem symbols behind it
 abbrev pub clauses_for : Stated → List ClauseTree
@@ -32,7 +32,7 @@ world_for p n = record {
 
 -- how many cells and ground literals it has
 abbrev pub ground_size : ℕ → Stated → ℕ
-ground_size n p = cells_in n (blocks_for p) + literals_in n (clauses_for p)
+ground_size n p = cells_in n (blocks_for p) + ground_literals n (clauses_for p)
 
 -- Where the formulas use symbols as the table has them, each term of the clauses has cells in a
 -- size with each element that is named, unless there are more symbols than numbers.

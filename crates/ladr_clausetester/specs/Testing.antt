@@ -13,8 +13,12 @@ use Rattle.model_tables.specs.Tables.{meaning_of}
 
 -- the formulas are true in the tables as told, and the report on them is the whole output
 abbrev pub IsTested : Interpreted → Tested → List ℕ → Type 0
-IsTested x end text = (all : List Bool) × AreTrueAsTold (meaning_of x.tables) x.stated.formulas all × (text ≡ report all)
+IsTested x end text =
+    (all : List Bool) × AreTrueAsTold (meaning_of x.tables) x.stated.formulas all
+    × (text ≡ report all)
 
--- A run of `clausetester`, by what bytes say and which are refused: nothing is printed of the formulas before all of them are tested.
-abbrev pub Tests : (List ℕ → Interpreted → Type 0) → (List ℕ → Refused → Type 0) → Inflow → Inflow → Outflow → Outflow → Result Tested Stop → Type 0
+-- A run of `clausetester`, by what bytes say and which are refused: nothing is printed of the
+-- formulas before all of them are tested.
+abbrev pub Tests : (List ℕ → Interpreted → Type 0) → (List ℕ → Refused → Type 0) → Inflow → Inflow →
+    Outflow → Outflow → Result Tested Stop → Type 0
 Tests says refuses = Runs says refuses (Unit {0}) (λ x text. text ≡ []) IsTested

@@ -8,4 +8,5 @@ abbrev pub AreTrueAsTold : Meaning → List Said → List Bool → Type 0
 AreTrueAsTold m [] [] = Unit {0}
 AreTrueAsTold m [] (b ∷ bs) = ⊥
 AreTrueAsTold m (s ∷ ss) [] = ⊥
-AreTrueAsTold m (s ∷ ss) (b ∷ bs) = MatchBool b (IsTrueIn m s.formula) (¬ IsTrueIn m s.formula) × AreTrueAsTold m ss bs
+AreTrueAsTold m (s ∷ ss) (b ∷ bs) =
+    MatchBool b (IsTrueIn m s.formula) (¬ IsTrueIn m s.formula) × AreTrueAsTold m ss bs

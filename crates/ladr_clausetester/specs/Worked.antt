@@ -20,7 +20,10 @@ f t = app 0 (more t none)
 
 -- a function that is its own inverse, and whether it leaves an element where it is
 abbrev pub involution : Stated
-involution = stated (symbol (codes "f") 1 Function ∷ []) (said Assumption (equal (f (f (var 0))) (var 0)) ∷ said Assumption (exists 0 (equal (f (var 0)) (var 0))) ∷ [])
+involution =
+    stated (symbol (codes "f") 1 Function ∷ [])
+    (said Assumption (equal (f (f (var 0))) (var 0))
+    ∷ said Assumption (exists 0 (equal (f (var 0)) (var 0))) ∷ [])
 
 abbrev pub exchange : ByName
 exchange = by_name 2 (table Function (codes "f") 1 (1 ∷ 0 ∷ []) ∷ [])
@@ -28,10 +31,16 @@ exchange = by_name 2 (table Function (codes "f") 1 (1 ∷ 0 ∷ []) ∷ [])
 abbrev pub g : Tree → Tree
 g t = app 1 (more t none)
 
--- a relation that holds of the first element alone, and a function with no other value, where `y` is free
+-- a relation that holds of the first element alone, and a function with no other value, where `y`
+-- is free
 abbrev pub constant : Stated
 constant =
-    stated (symbol (codes "p") 2 Relation ∷ symbol (codes "f") 1 Function ∷ []) (said Assumption (forall 0 (atom 0 (more (var 0) (more (g (var 1)) none)))) ∷ said Goal (exists 0 (equal (g (var 0)) (var 1))) ∷ [])
+    stated (symbol (codes "p") 2 Relation ∷ symbol (codes "f") 1 Function ∷ [])
+    (said Assumption (forall 0 (atom 0 (more (var 0) (more (g (var 1)) none))))
+    ∷ said Goal (exists 0 (equal (g (var 0)) (var 1))) ∷ [])
 
 abbrev pub constant_tables : ByName
-constant_tables = by_name 2 (table Function (codes "f") 1 (0 ∷ 0 ∷ []) ∷ table Relation (codes "p") 2 (1 ∷ 0 ∷ 1 ∷ 0 ∷ []) ∷ [])
+constant_tables =
+    by_name 2
+    (table Function (codes "f") 1 (0 ∷ 0 ∷ []) ∷ table Relation (codes "p") 2 (1 ∷ 0 ∷ 1 ∷ 0 ∷ [])
+    ∷ [])

@@ -8,8 +8,8 @@ use Rattle.fol_core.specs.declared.symbols.Kind.TheVariants.{Function}
 use Rattle.ladr_commands.specs.ByName.{NamedTable, table, by_name}
 use Rattle.ladr_commands.specs.declared.command.Command.TheVariants.{Interpretation}
 use Rattle.ladr_commands.specs.Faults.{BeginsCommand, IsBadCommandToken}
-use Rattle.ladr_commands.specs.Form.{Form, ends, token, members, values, places, comments, comment, entries, entry, after, behind_member, behind_number, behind_place, number_in, outcome, FormOutcome, reads, stops, SaysCommand}
-use Rattle.ladr_commands.specs.Wanted.{fits, text_of, kind_in}
+use Rattle.ladr_commands.specs.Form.{Form, ends, token, members, values, places, comments, comment, entries, entry, form_after, behind_member, behind_number, behind_place, number_said, form_outcome, FormOutcome, reads, stops, SaysCommand}
+use Rattle.ladr_commands.specs.Wanted.{fits, symbol_text, kind_said}
 use Rattle.ladr_commands.specs.declared.command.Command.{Command}
 use Rattle.ladr_commands.specs.declared.wanted.Wanted.{Wanted}
 use Rattle.ladr_commands.specs.declared.wanted.Wanted.TheVariants.{Open, Close, OpenSquare, CloseSquare, Comma, Stop, Symbol, Numeral, CommandWord, CommaOrCloseSquare, SymbolOrOpenSquare, NumeralOrClose, TesterWord, InterpretationWord, Equality, Place, CommaOrOpen, CommaOrClose, SymbolOrCloseSquare, KindWord, KindWordOrCloseSquare}
@@ -73,7 +73,7 @@ filled (token w onward) =
     let more = filled (onward (example w)) in
     record { tokens = example w ∷ more.tokens; command = more.command; says = rw (example_fits w) more.says }
 filled (members w read onward) =
-    let more = filled (onward (read ++ text_of (example w) ∷ [])) in
+    let more = filled (onward (read ++ symbol_text (example w) ∷ [])) in
     record { tokens = example w ∷ close_square ∷ more.tokens; command = more.command; says = rw (example_fits w) more.says }
 filled (values read onward) =
     let more = filled (onward (read ++ 0 ∷ [])) in
@@ -101,10 +101,10 @@ pub record Stopped (f : Form) (ts us : List Lexeme) : Type 0 where
   pub front : List Lexeme
   pub split : ts ≡ front ++ us
   pub form : Form
-  pub leads : (more : List Lexeme) → outcome f (front ++ more) ≡ outcome form more
-  pub here : (u : Lexeme) (rest : List Lexeme) → us ≡ u ∷ rest → after form u ≡ None
+  pub leads : (more : List Lexeme) → form_outcome f (front ++ more) ≡ form_outcome form more
+  pub here : (u : Lexeme) (rest : List Lexeme) → us ≡ u ∷ rest → form_after form u ≡ None
 
-pub at_once : (f : Form) (us : List Lexeme) → ((u : Lexeme) (rest : List Lexeme) → us ≡ u ∷ rest → after f u ≡ None) → Stopped f us us
+pub at_once : (f : Form) (us : List Lexeme) → ((u : Lexeme) (rest : List Lexeme) → us ≡ u ∷ rest → form_after f u ≡ None) → Stopped f us us
 at_once f us h = record { front = []; split = refl; form = f; leads = λ more. refl; here = h }
 
 -- what reads doesn't stop
@@ -126,7 +126,7 @@ first_of u (t ∷ ts) = t
 nothing_is : (u : Lexeme) (rest : List Lexeme) → [] ≡ u ∷ rest → ⊥
 nothing_is u rest i = omega (arith, ap length i)
 
-at_end : (f : Form) (us : List Lexeme) → outcome f [] ≡ stops us → Stopped f [] us
+at_end : (f : Form) (us : List Lexeme) → form_outcome f [] ≡ stops us → Stopped f [] us
 at_end (ends c) us e = absurd (no_stop c us e)
 at_end (token w onward) us e = let h : [] ≡ us = ap left_of e in subst (λ vs. Stopped (token w onward) [] vs) h (at_once (token w onward) [] (λ u rest i. absurd (nothing_is u rest i)))
 at_end (members w read onward) us e = let h : [] ≡ us = ap left_of e in subst (λ vs. Stopped (members w read onward) [] vs) h (at_once (members w read onward) [] (λ u rest i. absurd (nothing_is u rest i)))
@@ -136,25 +136,25 @@ at_end (comments f) us e = let h : [] ≡ us = ap left_of e in subst (λ vs. Sto
 at_end (entries n es) us e = let h : [] ≡ us = ap left_of e in subst (λ vs. Stopped (entries n es) [] vs) h (at_once (entries n es) [] (λ u rest i. absurd (nothing_is u rest i)))
 
 -- a form that a token can't begin stops before it
-at_token : (f : Form) (t : Lexeme) (ts us : List Lexeme) → after f t ≡ None → outcome f (t ∷ ts) ≡ stops us → Stopped f (t ∷ ts) us
+at_token : (f : Form) (t : Lexeme) (ts us : List Lexeme) → form_after f t ≡ None → form_outcome f (t ∷ ts) ≡ stops us → Stopped f (t ∷ ts) us
 at_token f t ts us a e =
     let h : t ∷ ts ≡ us = ap left_of (rw a at e) in
     subst (λ vs. Stopped f (t ∷ ts) vs) h (at_once f (t ∷ ts) (λ u rest i. rw (← ap (first_of u) i) a))
 
 -- a token that can stand there goes before
-one_more : (f g : Form) (t : Lexeme) (ts us : List Lexeme) → after f t ≡ Some g → Stopped g ts us → Stopped f (t ∷ ts) us
+one_more : (f g : Form) (t : Lexeme) (ts us : List Lexeme) → form_after f t ≡ Some g → Stopped g ts us → Stopped f (t ∷ ts) us
 one_more f g t ts us a s =
     record { front = t ∷ s.front; split = ap (λ vs. t ∷ vs) s.split; form = s.form; leads = λ more. rw a (s.leads more); here = s.here }
 
 behind_token :
-    (f : Form) (t : Lexeme) (ts us : List Lexeme) (o : Option Form) → ((g : Form) → outcome g ts ≡ stops us → Stopped g ts us) → after f t ≡ o
-    → outcome f (t ∷ ts) ≡ stops us → Stopped f (t ∷ ts) us
+    (f : Form) (t : Lexeme) (ts us : List Lexeme) (o : Option Form) → ((g : Form) → form_outcome g ts ≡ stops us → Stopped g ts us) → form_after f t ≡ o
+    → form_outcome f (t ∷ ts) ≡ stops us → Stopped f (t ∷ ts) us
 behind_token f t ts us None h a e = at_token f t ts us a e
 behind_token f t ts us (Some g) h a e = one_more f g t ts us a (h g (rw a at e))
 
-pub stopped : (f : Form) (ts us : List Lexeme) → outcome f ts ≡ stops us → Stopped f ts us
+pub stopped : (f : Form) (ts us : List Lexeme) → form_outcome f ts ≡ stops us → Stopped f ts us
 stopped f [] us e = at_end f us e
-stopped f (t ∷ ts) us e = behind_token f t ts us (after f t) (λ g i. stopped g ts us i) refl e
+stopped f (t ∷ ts) us e = behind_token f t ts us (form_after f t) (λ g i. stopped g ts us i) refl e
 
 -- as many tokens stand for themselves
 pub length-lexemes_of : (ts : List Token) → length (lexemes_of ts) ≡ length ts
@@ -172,8 +172,8 @@ begun f ts us s = let more = filled s.form in record { more = more.tokens; comma
 -- and none with one more
 no_further : (f : Form) (ts : List Lexeme) (u : Lexeme) (rest : List Lexeme) (s : Stopped f ts (u ∷ rest)) → ¬ BeginsCommand f (s.front ++ u ∷ [])
 no_further f ts u rest s b =
-    let e : outcome f (s.front ++ (u ∷ b.more)) ≡ reads b.command = rw (append_assoc s.front (u ∷ []) b.more) at b.says in
-    let h : stops (u ∷ b.more) ≡ outcome s.form (u ∷ b.more) = rw (s.here u rest refl) refl in
+    let e : form_outcome f (s.front ++ (u ∷ b.more)) ≡ reads b.command = rw (append_assoc s.front (u ∷ []) b.more) at b.says in
+    let h : stops (u ∷ b.more) ≡ form_outcome s.form (u ∷ b.more) = rw (s.here u rest refl) refl in
     no_stop b.command (u ∷ b.more) (sym (h ∙ sym (s.leads (u ∷ b.more)) ∙ e))
 
 none_further : (f : Form) (ts us : List Lexeme) (s : Stopped f ts us) → length s.front < length ts → ¬ BeginsCommand f (take (length s.front + 1) ts)
@@ -190,7 +190,7 @@ bad_at f ts us s =
     record { within = omega arith; before = rw e (begun f ts us s); here = none_further f ts us s }
 
 -- where the form stops, there the first bad token is
-pub first_bad : (f : Form) (ts us : List Lexeme) → outcome f ts ≡ stops us → IsBadCommandToken f ts (length ts - length us) × ((c : Command) → ¬ SaysCommand f ts c)
+pub first_bad : (f : Form) (ts us : List Lexeme) → form_outcome f ts ≡ stops us → IsBadCommandToken f ts (length ts - length us) × ((c : Command) → ¬ SaysCommand f ts c)
 first_bad f ts us e =
     let s = stopped f ts us e in
     let n : length ts ≡ length s.front + length us = ap length s.split ∙ length-append s.front us in
@@ -198,7 +198,7 @@ first_bad f ts us e =
     (subst (λ k. IsBadCommandToken f ts k) m (bad_at f ts us s), λ c i. no_stop c us (sym i ∙ e))
 
 -- no more is left than there was
-pub left_within : (f : Form) (ts us : List Lexeme) → outcome f ts ≡ stops us → length us ≤ length ts
+pub left_within : (f : Form) (ts us : List Lexeme) → form_outcome f ts ≡ stops us → length us ≤ length ts
 left_within f ts us e =
     let s = stopped f ts us e in
     let n : length ts ≡ length s.front + length us = ap length s.split ∙ length-append s.front us in
@@ -206,29 +206,29 @@ left_within f ts us e =
 
 -- a member of a list begins with a token
 pub as_token : (w : Wanted) (read : List (List ℕ)) (onward : List (List ℕ) → Form) (ts : List Lexeme)
-    → outcome (members w read onward) ts ≡ outcome (token w (λ t. token CommaOrCloseSquare (behind_member w (read ++ text_of t ∷ []) onward))) ts
+    → form_outcome (members w read onward) ts ≡ form_outcome (token w (λ t. token CommaOrCloseSquare (behind_member w (read ++ symbol_text t ∷ []) onward))) ts
 as_token w read onward [] = refl
 as_token w read onward (t ∷ ts) = refl
 
 pub as_number : (read : List ℕ) (onward : List ℕ → Form) (ts : List Lexeme)
-    → outcome (values read onward) ts ≡ outcome (token Numeral (λ t. token CommaOrCloseSquare (behind_number (read ++ number_in t ∷ []) onward))) ts
+    → form_outcome (values read onward) ts ≡ form_outcome (token Numeral (λ t. token CommaOrCloseSquare (behind_number (read ++ number_said t ∷ []) onward))) ts
 as_number read onward [] = refl
 as_number read onward (t ∷ ts) = refl
 
-pub as_place : (n : ℕ) (onward : ℕ → Form) (ts : List Lexeme) → outcome (places n onward) ts ≡ outcome (token Place (λ _. token CommaOrClose (behind_place (n + 1) onward))) ts
+pub as_place : (n : ℕ) (onward : ℕ → Form) (ts : List Lexeme) → form_outcome (places n onward) ts ≡ form_outcome (token Place (λ _. token CommaOrClose (behind_place (n + 1) onward))) ts
 as_place n onward [] = refl
 as_place n onward (t ∷ ts) = refl
 
 -- nothing is left for a place
-pub no_place : (n : ℕ) (onward : ℕ → Form) (ts : List Lexeme) → length ts ≤ 0 → outcome (places n onward) ts ≡ stops ts
+pub no_place : (n : ℕ) (onward : ℕ → Form) (ts : List Lexeme) → length ts ≤ 0 → form_outcome (places n onward) ts ≡ stops ts
 no_place n onward [] h = refl
 no_place n onward (t ∷ ts) h = absurd (omega arith)
 
-pub as_comment : (f : Form) (ts : List Lexeme) → outcome (comments f) ts ≡ outcome (token Symbol (λ _. comment f)) ts
+pub as_comment : (f : Form) (ts : List Lexeme) → form_outcome (comments f) ts ≡ form_outcome (token Symbol (λ _. comment f)) ts
 as_comment f [] = refl
 as_comment f (t ∷ ts) = refl
 
-pub as_entry : (n : ℕ) (es : List NamedTable) (ts : List Lexeme) → outcome (entries n es) ts ≡ outcome (token KindWord (λ t. entry n es (kind_in t))) ts
+pub as_entry : (n : ℕ) (es : List NamedTable) (ts : List Lexeme) → form_outcome (entries n es) ts ≡ form_outcome (token KindWord (λ t. entry n es (kind_said t))) ts
 as_entry n es [] = refl
 as_entry n es (t ∷ ts) = refl
 

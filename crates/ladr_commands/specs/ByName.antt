@@ -23,7 +23,11 @@ abbrev pub by_name : ℕ → List NamedTable → ByName
 by_name n es = record { size = n; entries = es }
 
 abbrev pub coded_table : Coded NamedTable
-coded_table = code_by (Symbol × List ℕ) (coded× coded_symbol (coded_list coded_ℕ)) (λ t. (t.head, t.values)) (λ p. record { head = p.0; values = p.1 }) (λ _. refl)
+coded_table =
+    code_by (Symbol × List ℕ) (coded× coded_symbol (coded_list coded_ℕ)) (λ t. (t.head, t.values))
+    (λ p. record { head = p.0; values = p.1 }) (λ _. refl)
 
 abbrev pub coded_by_name : Coded ByName
-coded_by_name = code_by (ℕ × List NamedTable) (coded× coded_ℕ (coded_list coded_table)) (λ b. (b.size, b.entries)) (λ p. by_name p.0 p.1) (λ _. refl)
+coded_by_name =
+    code_by (ℕ × List NamedTable) (coded× coded_ℕ (coded_list coded_table))
+    (λ b. (b.size, b.entries)) (λ p. by_name p.0 p.1) (λ _. refl)

@@ -12,8 +12,8 @@ pub record BeginsCommand (f : Form) (ts : List Lexeme) : Type 0 where
   pub command : Command
   pub says : SaysCommand f (ts ++ more) command
 
--- Token k is the first that goes on with no item of this form, or the tokens end there too early: some item begins with the
--- k tokens before it, and none with it as well.
+-- Token k is the first that goes on with no item of this form, or the tokens end there too early:
+-- some item begins with the k tokens before it, and none with it as well.
 pub record IsBadCommandToken (f : Form) (ts : List Lexeme) (k : ℕ) : Type 0 where
   pub within : k ≤ length ts
   pub before : BeginsCommand f (take k ts)

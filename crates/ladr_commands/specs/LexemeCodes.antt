@@ -17,8 +17,12 @@ tag (symbol quoted text) = (9, text)
 
 abbrev pub untag : ℕ × List ℕ → Lexeme
 untag p =
-    if p.0 == 0 then open_paren else (if p.0 == 1 then close_paren else (if p.0 == 2 then open_square else (if p.0 == 3 then close_square
-    else (if p.0 == 4 then comma else (if p.0 == 5 then full_stop else (if p.0 == 6 then unreadable else (if p.0 == 7 then symbol ordinary p.1
+    if p.0 == 0 then open_paren
+    else (if p.0 == 1 then close_paren
+    else (if p.0 == 2 then open_square else (if p.0 == 3 then close_square
+    else (if p.0 == 4 then comma
+    else (if p.0 == 5 then full_stop
+    else (if p.0 == 6 then unreadable else (if p.0 == 7 then symbol ordinary p.1
     else (if p.0 == 8 then symbol special p.1 else symbol quoted p.1))))))))
 
 pub untag-tag : (t : Lexeme) → untag (tag t) ≡ t

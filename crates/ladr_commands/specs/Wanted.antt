@@ -44,9 +44,9 @@ is_number (symbol ordinary text) = is_numeral text
 is_number t = false
 
 -- the bytes of a symbol
-abbrev pub text_of : Lexeme → List ℕ
-text_of (symbol sort text) = text
-text_of t = []
+abbrev pub symbol_text : Lexeme → List ℕ
+symbol_text (symbol sort text) = text
+symbol_text t = []
 
 -- the words that begin commands
 abbrev pub word_of : List ℕ → Option Word
@@ -79,8 +79,8 @@ is_interpretation t = is_word (codes "interpretation") t
 abbrev pub is_kind_word : Lexeme → Bool
 is_kind_word t = is_word (codes "function") t || is_word (codes "relation") t
 
-abbrev pub kind_in : Lexeme → Kind
-kind_in t = if is_word (codes "function") t then Function else Relation
+abbrev pub kind_said : Lexeme → Kind
+kind_said t = if is_word (codes "function") t then Function else Relation
 
 -- the token is of the class that is wanted
 abbrev pub fits : Wanted → Lexeme → Bool
@@ -92,11 +92,11 @@ fits Comma t = is_comma t
 fits Stop t = is_stop t
 fits Symbol t = is_symbol t
 fits Numeral t = is_number t
-fits CommandWord t = is_some (word_of (text_of t))
+fits CommandWord t = is_some (word_of (symbol_text t))
 fits CommaOrCloseSquare t = is_comma t || is_close_square t
 fits SymbolOrOpenSquare t = is_symbol t || is_open_square t
 fits NumeralOrClose t = is_number t || is_close t
-fits TesterWord t = is_interpretation t || is_some (word_of (text_of t))
+fits TesterWord t = is_interpretation t || is_some (word_of (symbol_text t))
 fits InterpretationWord t = is_interpretation t
 fits Equality t = is_equality t
 fits Place t = is_word (codes "_") t

@@ -15,7 +15,9 @@ flag = word "set" ∷ open_paren ∷ word "auto" ∷ close_paren ∷ full_stop �
 
 -- `assign(max_weight, -1).`
 abbrev pub negative : List Lexeme
-negative = word "assign" ∷ open_paren ∷ word "max_weight" ∷ comma ∷ dash ∷ word "1" ∷ close_paren ∷ full_stop ∷ []
+negative =
+    word "assign" ∷ open_paren ∷ word "max_weight" ∷ comma ∷ dash ∷ word "1" ∷ close_paren
+    ∷ full_stop ∷ []
 
 -- `assign(order, -).`
 abbrev pub sign : List Lexeme
@@ -23,17 +25,21 @@ sign = word "assign" ∷ open_paren ∷ word "order" ∷ comma ∷ dash ∷ clos
 
 -- `assign(max_weight, - 07).`
 abbrev pub zeros : List Lexeme
-zeros = word "assign" ∷ open_paren ∷ word "max_weight" ∷ comma ∷ dash ∷ word "07" ∷ close_paren ∷ full_stop ∷ []
+zeros =
+    word "assign" ∷ open_paren ∷ word "max_weight" ∷ comma ∷ dash ∷ word "07" ∷ close_paren
+    ∷ full_stop ∷ []
 
 -- `op(700, infix_left, ["@@", f]).`
 abbrev pub operators : List Lexeme
 operators =
-    word "op" ∷ open_paren ∷ word "700" ∷ comma ∷ word "infix_left" ∷ comma ∷ open_square ∷ symbol quoted (codes "\"@@\"") ∷ comma ∷ word "f" ∷ close_square ∷ close_paren
+    word "op" ∷ open_paren ∷ word "700" ∷ comma ∷ word "infix_left" ∷ comma ∷ open_square
+    ∷ symbol quoted (codes "\"@@\"") ∷ comma ∷ word "f" ∷ close_square ∷ close_paren
     ∷ full_stop ∷ []
 
 -- `function_order([]).`
 abbrev pub empty_list : List Lexeme
-empty_list = word "function_order" ∷ open_paren ∷ open_square ∷ close_square ∷ close_paren ∷ full_stop ∷ []
+empty_list =
+    word "function_order" ∷ open_paren ∷ open_square ∷ close_square ∷ close_paren ∷ full_stop ∷ []
 
 -- `include(file).`
 abbrev pub unknown : List Lexeme
@@ -46,6 +52,8 @@ cut_off = word "end_if" ∷ []
 -- `interpretation(2, [number = 1], [function(f(_), [1,0])]).`
 abbrev pub exchange : List Lexeme
 exchange =
-    word "interpretation" ∷ open_paren ∷ word "2" ∷ comma ∷ open_square ∷ word "number" ∷ symbol special (codes "=") ∷ word "1" ∷ close_square ∷ comma ∷ open_square
-    ∷ word "function" ∷ open_paren ∷ word "f" ∷ open_paren ∷ word "_" ∷ close_paren ∷ comma ∷ open_square ∷ word "1" ∷ comma ∷ word "0" ∷ close_square ∷ close_paren
+    word "interpretation" ∷ open_paren ∷ word "2" ∷ comma ∷ open_square ∷ word "number"
+    ∷ symbol special (codes "=") ∷ word "1" ∷ close_square ∷ comma ∷ open_square
+    ∷ word "function" ∷ open_paren ∷ word "f" ∷ open_paren ∷ word "_" ∷ close_paren ∷ comma
+    ∷ open_square ∷ word "1" ∷ comma ∷ word "0" ∷ close_square ∷ close_paren
     ∷ close_square ∷ close_paren ∷ full_stop ∷ []

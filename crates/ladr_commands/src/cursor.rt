@@ -1,7 +1,7 @@
 // Going through tokens one by one.
 ghost use Rattle.std.specs.Prelude.{◌≡◌, ◌∷◌, List, Err, IfOk, OnOk, true, length};
 ghost use Rattle.ladr_lex.specs.Lexeme.{Lexeme, lexeme_of, lexemes_of};
-ghost use Rattle.ladr_commands.specs.Form.{Form, ends, token, outcome, reads, stops};
+ghost use Rattle.ladr_commands.specs.Form.{Form, ends, token, form_outcome, reads, stops};
 ghost use Rattle.ladr_commands.specs.Wanted.{fits};
 ghost use Rattle.ladr_commands.specs.declared.command.Command.{Command};
 ghost use Rattle.ladr_commands.specs.declared.fault.Fault.TheVariants as fault;
@@ -52,9 +52,9 @@ impl<'a> Cursor<'a> {
         ensures passed { IfOk result (λ t. self.old ≡ lexeme_of t ∷ self.new) }
         ensures fits { IfOk result (λ t. fits wanted (lexeme_of t) ≡ true) }
         ensures ok { IfOk result (λ t. (onward : Lexeme → Form)
-            → outcome (token wanted onward) self.old ≡ outcome (onward (lexeme_of t)) self.new) }
+            → form_outcome (token wanted onward) self.old ≡ form_outcome (onward (lexeme_of t)) self.new) }
         ensures bad { result ≡ Err fault.Bad → (onward : Lexeme → Form)
-            → outcome (token wanted onward) self.old ≡ stops self.new }
+            → form_outcome (token wanted onward) self.old ≡ stops self.new }
     {
         let Some(token) = self.tokens.get(self.at) else {
             return Err(Fault::Bad);
@@ -68,9 +68,9 @@ impl<'a> Cursor<'a> {
 
     /// There is no further token.
     pub fn end(&mut self) -> Result<(), Fault>
-        ensures ok { OnOk result ((c : Command) → outcome (ends c) self.old ≡ reads c) }
+        ensures ok { OnOk result ((c : Command) → form_outcome (ends c) self.old ≡ reads c) }
         ensures bad { result ≡ Err fault.Bad → (c : Command)
-            → outcome (ends c) self.old ≡ stops self.new }
+            → form_outcome (ends c) self.old ≡ stops self.new }
     {
         match self.tokens.get(self.at) {
             None => Ok(()),

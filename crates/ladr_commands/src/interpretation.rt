@@ -4,8 +4,8 @@ ghost use Rattle.fol_core.specs.declared.symbols.Kind.{Kind};
 ghost use Rattle.ladr_lex.specs.Lexeme.{Lexeme, lexeme_of};
 ghost use Rattle.ladr_commands.specs.ByName.{NamedTable, table, by_name};
 ghost use Rattle.ladr_commands.specs.Commands.{interpretation, comment_list, behind_comments, entry_list};
-ghost use Rattle.ladr_commands.specs.Form.{Form, token, values, places, comments, comment, entries, entry, listed, behind_name, behind_number, behind_place, number_in, closed, outcome, reads, stops, IsValue, IsPlaceholder, IsEntry};
-ghost use Rattle.ladr_commands.specs.Wanted.{kind_in};
+ghost use Rattle.ladr_commands.specs.Form.{Form, token, values, places, comments, comment, entries, entry, entry_values, behind_entry_name, behind_number, behind_place, number_said, closed, form_outcome, reads, stops, IsValue, IsPlaceholder, IsEntry};
+ghost use Rattle.ladr_commands.specs.Wanted.{kind_said};
 ghost use Rattle.ladr_commands.specs.declared.command.Command.TheVariants.{Interpretation};
 ghost use Rattle.ladr_commands.specs.declared.fault.Fault.TheVariants.{Bad};
 ghost use Rattle.ladr_commands.specs.declared.wanted.Wanted.TheVariants.{OpenSquare, CommaOrClose, CommaOrCloseSquare, CommaOrOpen, SymbolOrCloseSquare, KindWordOrCloseSquare};
@@ -21,8 +21,8 @@ use std::alloc::Global;
 
 /// `(n, [name = number, ..], [entry, ..]).`
 pub fn opened_interpretation(alloc: Global, cursor: &mut Cursor) -> Result<ByName, Fault>
-    ensures ok { IfOk result (λ it. outcome interpretation cursor.old ≡ reads (Interpretation it)) }
-    ensures bad { result ≡ Err Bad → outcome interpretation cursor.old ≡ stops cursor.new }
+    ensures ok { IfOk result (λ it. form_outcome interpretation cursor.old ≡ reads (Interpretation it)) }
+    ensures bad { result ≡ Err Bad → form_outcome interpretation cursor.old ≡ stops cursor.new }
 {
     cursor.take(Wanted::Open)?;
     let size = cursor.take(Wanted::Numeral)?;
@@ -35,10 +35,10 @@ pub fn opened_interpretation(alloc: Global, cursor: &mut Cursor) -> Result<ByNam
 
 // `[name = number, ..]`
 fn comment_list(cursor: &mut Cursor) -> Result<(), Fault>
-    ensures ok { OnOk result ((n : ℕ) → outcome (comment_list n) cursor.old
-        ≡ outcome (behind_comments n) cursor.new) }
+    ensures ok { OnOk result ((n : ℕ) → form_outcome (comment_list n) cursor.old
+        ≡ form_outcome (behind_comments n) cursor.new) }
     ensures bad { result ≡ Err Bad → (n : ℕ)
-        → outcome (comment_list n) cursor.old ≡ stops cursor.new }
+        → form_outcome (comment_list n) cursor.old ≡ stops cursor.new }
 {
     cursor.take(Wanted::OpenSquare)?;
     let first = cursor.take(Wanted::SymbolOrCloseSquare)?;
@@ -50,9 +50,9 @@ fn comment_list(cursor: &mut Cursor) -> Result<(), Fault>
 
 // `= number`, and then further comments up to `]`.
 fn comments(cursor: &mut Cursor) -> Result<(), Fault>
-    ensures ok { OnOk result ((f : Form) → outcome (comment f) cursor.old ≡ outcome f cursor.new) }
+    ensures ok { OnOk result ((f : Form) → form_outcome (comment f) cursor.old ≡ form_outcome f cursor.new) }
     ensures bad { result ≡ Err Bad → (f : Form)
-        → outcome (comment f) cursor.old ≡ stops cursor.new }
+        → form_outcome (comment f) cursor.old ≡ stops cursor.new }
 {
     while comment(cursor)? {
         name(cursor)?;
@@ -63,9 +63,9 @@ fn comments(cursor: &mut Cursor) -> Result<(), Fault>
 // `= number`, and whether a comma stands behind it, or else `]`.
 fn comment(cursor: &mut Cursor) -> Result<bool, Fault>
     ensures ok { IfOk result (λ more. (f : Form)
-        → outcome (comment f) cursor.old ≡ outcome (if more then comments f else f) cursor.new) }
+        → form_outcome (comment f) cursor.old ≡ form_outcome (if more then comments f else f) cursor.new) }
     ensures bad { result ≡ Err Bad → (f : Form)
-        → outcome (comment f) cursor.old ≡ stops cursor.new }
+        → form_outcome (comment f) cursor.old ≡ stops cursor.new }
     ensures shorter { OnOk result (length cursor.new < length cursor.old) }
 {
     cursor.take(Wanted::Equality)?;
@@ -76,10 +76,10 @@ fn comment(cursor: &mut Cursor) -> Result<bool, Fault>
 
 // The name of a further comment.
 fn name<'a>(cursor: &mut Cursor<'a>) -> Result<Token<'a>, Fault>
-    ensures ok { OnOk result ((f : Form) → outcome (comments f) cursor.old
-        ≡ outcome (comment f) cursor.new) }
+    ensures ok { OnOk result ((f : Form) → form_outcome (comments f) cursor.old
+        ≡ form_outcome (comment f) cursor.new) }
     ensures bad { result ≡ Err Bad → (f : Form)
-        → outcome (comments f) cursor.old ≡ stops cursor.new }
+        → form_outcome (comments f) cursor.old ≡ stops cursor.new }
     ensures shorter { OnOk result (length cursor.new < length cursor.old) }
 {
     cursor.take(Wanted::Symbol)
@@ -87,9 +87,9 @@ fn name<'a>(cursor: &mut Cursor<'a>) -> Result<Token<'a>, Fault>
 
 // `[entry, .., entry]).`
 fn entry_list(alloc: Global, cursor: &mut Cursor, size: u32) -> Result<Vec<TableEntry>, Fault>
-    ensures ok { IfOk result (λ es. outcome (entry_list size) cursor.old
+    ensures ok { IfOk result (λ es. form_outcome (entry_list size) cursor.old
         ≡ reads (Interpretation (by_name size es.items))) }
-    ensures bad { result ≡ Err Bad → outcome (entry_list size) cursor.old ≡ stops cursor.new }
+    ensures bad { result ≡ Err Bad → form_outcome (entry_list size) cursor.old ≡ stops cursor.new }
 {
     cursor.take(Wanted::OpenSquare)?;
     let first = cursor.take(Wanted::KindWordOrCloseSquare)?;
@@ -109,9 +109,9 @@ fn entries(
     size: u32,
     kind: Kind,
 ) -> Result<Vec<TableEntry>, Fault>
-    ensures ok { IfOk result (λ es. outcome (entry size [] kind) cursor.old
-        ≡ outcome (closed (Interpretation (by_name size es.items))) cursor.new) }
-    ensures bad { result ≡ Err Bad → outcome (entry size [] kind) cursor.old ≡ stops cursor.new }
+    ensures ok { IfOk result (λ es. form_outcome (entry size [] kind) cursor.old
+        ≡ form_outcome (closed (Interpretation (by_name size es.items))) cursor.new) }
+    ensures bad { result ≡ Err Bad → form_outcome (entry size [] kind) cursor.old ≡ stops cursor.new }
 {
     let mut entries = Vec::new(alloc);
     let mut kind = kind;
@@ -128,9 +128,9 @@ fn entries(
 // The kind of a further entry.
 fn kind_word(cursor: &mut Cursor) -> Result<Kind, Fault>
     ensures ok { IfOk result (λ kind. (n : ℕ) (es : List NamedTable)
-        → outcome (entries n es) cursor.old ≡ outcome (entry n es kind) cursor.new) }
+        → form_outcome (entries n es) cursor.old ≡ form_outcome (entry n es kind) cursor.new) }
     ensures bad { result ≡ Err Bad → (n : ℕ) (es : List NamedTable)
-        → outcome (entries n es) cursor.old ≡ stops cursor.new }
+        → form_outcome (entries n es) cursor.old ≡ stops cursor.new }
     ensures shorter { OnOk result (length cursor.new < length cursor.old) }
 {
     match cursor.take(Wanted::KindWord) {
@@ -143,7 +143,7 @@ fn kind_word(cursor: &mut Cursor) -> Result<Kind, Fault>
 fn entry(alloc: Global, cursor: &mut Cursor, kind: Kind) -> Result<(TableEntry, bool), Fault>
     ensures ok { IfOk result (λ r. IsEntry cursor.old kind r.0 r.1 cursor.new) }
     ensures bad { result ≡ Err Bad → (n : ℕ) (es : List NamedTable)
-        → outcome (entry n es kind) cursor.old ≡ stops cursor.new }
+        → form_outcome (entry n es kind) cursor.old ≡ stops cursor.new }
     ensures shorter { OnOk result (length cursor.new < length cursor.old) }
 {
     cursor.take(Wanted::Open)?;
@@ -160,10 +160,10 @@ fn entry(alloc: Global, cursor: &mut Cursor, kind: Kind) -> Result<(TableEntry, 
 // What stands between a name and its values: a comma, or places for arguments before it.
 fn arity(cursor: &mut Cursor) -> Result<u64, Fault>
     ensures ok { IfOk result (λ arity. (n : ℕ) (es : List NamedTable) (kind : Kind) (name : List ℕ)
-        → outcome (token CommaOrOpen (behind_name n es kind name)) cursor.old
-        ≡ outcome (listed n es kind name arity) cursor.new) }
+        → form_outcome (token CommaOrOpen (behind_entry_name n es kind name)) cursor.old
+        ≡ form_outcome (entry_values n es kind name arity) cursor.new) }
     ensures bad { result ≡ Err Bad → (n : ℕ) (es : List NamedTable) (kind : Kind) (name : List ℕ)
-        → outcome (token CommaOrOpen (behind_name n es kind name)) cursor.old ≡ stops cursor.new }
+        → form_outcome (token CommaOrOpen (behind_entry_name n es kind name)) cursor.old ≡ stops cursor.new }
     ensures shorter { OnOk result (length cursor.new ≤ length cursor.old) }
 {
     let mark = cursor.take(Wanted::CommaOrOpen)?;
@@ -178,9 +178,9 @@ fn arity(cursor: &mut Cursor) -> Result<u64, Fault>
 // `_, .., _)`: how many there are.
 fn places(cursor: &mut Cursor) -> Result<u64, Fault>
     ensures ok { IfOk result (λ n. (onward : ℕ → Form)
-        → outcome (places 0 onward) cursor.old ≡ outcome (onward n) cursor.new) }
+        → form_outcome (places 0 onward) cursor.old ≡ form_outcome (onward n) cursor.new) }
     ensures bad { result ≡ Err Bad → (onward : ℕ → Form)
-        → outcome (places 0 onward) cursor.old ≡ stops cursor.new }
+        → form_outcome (places 0 onward) cursor.old ≡ stops cursor.new }
     ensures shorter { OnOk result (length cursor.new ≤ length cursor.old) }
 {
     for before in 0..cursor.left() {
@@ -195,7 +195,7 @@ fn places(cursor: &mut Cursor) -> Result<u64, Fault>
 fn place(cursor: &mut Cursor) -> Result<bool, Fault>
     ensures ok { IfOk result (λ last. IsPlaceholder cursor.old last cursor.new) }
     ensures bad { result ≡ Err Bad → (n : ℕ) (onward : ℕ → Form)
-        → outcome (places n onward) cursor.old ≡ stops cursor.new }
+        → form_outcome (places n onward) cursor.old ≡ stops cursor.new }
     ensures shorter { OnOk result (length cursor.new < length cursor.old) }
 {
     blank(cursor)?;
@@ -206,10 +206,10 @@ fn place(cursor: &mut Cursor) -> Result<bool, Fault>
 // `_`
 fn blank<'a>(cursor: &mut Cursor<'a>) -> Result<Token<'a>, Fault>
     ensures ok { OnOk result ((n : ℕ) (onward : ℕ → Form)
-        → outcome (places n onward) cursor.old
-        ≡ outcome (token CommaOrClose (behind_place (n + 1) onward)) cursor.new) }
+        → form_outcome (places n onward) cursor.old
+        ≡ form_outcome (token CommaOrClose (behind_place (n + 1) onward)) cursor.new) }
     ensures bad { result ≡ Err Bad → (n : ℕ) (onward : ℕ → Form)
-        → outcome (places n onward) cursor.old ≡ stops cursor.new }
+        → form_outcome (places n onward) cursor.old ≡ stops cursor.new }
     ensures shorter { OnOk result (length cursor.new < length cursor.old) }
 {
     cursor.take(Wanted::Place)
@@ -218,9 +218,9 @@ fn blank<'a>(cursor: &mut Cursor<'a>) -> Result<Token<'a>, Fault>
 // `v, .., v]`
 fn values(alloc: Global, cursor: &mut Cursor) -> Result<Vec<u32>, Fault>
     ensures ok { IfOk result (λ vs. (onward : List ℕ → Form)
-        → outcome (values [] onward) cursor.old ≡ outcome (onward vs.items) cursor.new) }
+        → form_outcome (values [] onward) cursor.old ≡ form_outcome (onward vs.items) cursor.new) }
     ensures bad { result ≡ Err Bad → (onward : List ℕ → Form)
-        → outcome (values [] onward) cursor.old ≡ stops cursor.new }
+        → form_outcome (values [] onward) cursor.old ≡ stops cursor.new }
     ensures shorter { OnOk result (length cursor.new < length cursor.old) }
 {
     let mut values = Vec::new(alloc);
@@ -237,7 +237,7 @@ fn values(alloc: Global, cursor: &mut Cursor) -> Result<Vec<u32>, Fault>
 fn value(cursor: &mut Cursor) -> Result<(u32, bool), Fault>
     ensures ok { IfOk result (λ r. IsValue cursor.old r.0 r.1 cursor.new) }
     ensures bad { result ≡ Err Bad → (read : List ℕ) (onward : List ℕ → Form)
-        → outcome (values read onward) cursor.old ≡ stops cursor.new }
+        → form_outcome (values read onward) cursor.old ≡ stops cursor.new }
     ensures shorter { OnOk result (length cursor.new < length cursor.old) }
 {
     let token = numeral(cursor)?;
@@ -248,11 +248,11 @@ fn value(cursor: &mut Cursor) -> Result<(u32, bool), Fault>
 // The numeral of a value.
 fn numeral<'a>(cursor: &mut Cursor<'a>) -> Result<Token<'a>, Fault>
     ensures ok { IfOk result (λ t. (read : List ℕ) (onward : List ℕ → Form)
-        → outcome (values read onward) cursor.old
-        ≡ outcome (token CommaOrCloseSquare
-        (behind_number (read ++ number_in (lexeme_of t) ∷ []) onward)) cursor.new) }
+        → form_outcome (values read onward) cursor.old
+        ≡ form_outcome (token CommaOrCloseSquare
+        (behind_number (read ++ number_said (lexeme_of t) ∷ []) onward)) cursor.new) }
     ensures bad { result ≡ Err Bad → (read : List ℕ) (onward : List ℕ → Form)
-        → outcome (values read onward) cursor.old ≡ stops cursor.new }
+        → form_outcome (values read onward) cursor.old ≡ stops cursor.new }
     ensures shorter { OnOk result (length cursor.new < length cursor.old) }
 {
     cursor.take(Wanted::Numeral)

@@ -1,9 +1,9 @@
 // Reading a command.
 ghost use Rattle.std.specs.Prelude.{◌≡◌, ◌<◌, length, ℕ, true, List, [], Err, IfOk, OnOk, IfErr};
 ghost use Rattle.ladr_lex.specs.Lexeme.{Lexeme, lexeme_of, lexemes_of};
-ghost use Rattle.ladr_commands.specs.Commands.{commands_of, interpretation_item, behind_first, behind_word, with_name, with_names, assignment, behind_value, behind_dash, declaration, behind_type, whole_in};
+ghost use Rattle.ladr_commands.specs.Commands.{commands_of, interpretation_item, behind_first_token, behind_word, name_form, names_form, assign_form, behind_value, behind_dash, declaration, behind_type, whole_in};
 ghost use Rattle.ladr_commands.specs.Faults.{IsCommandFault};
-ghost use Rattle.ladr_commands.specs.Form.{Form, token, members, opened, closed, stopped, behind_text, IsMember, list, outcome, reads, stops, SaysCommand};
+ghost use Rattle.ladr_commands.specs.Form.{Form, token, members, opened, closed, stopped, behind_text, IsMember, list, form_outcome, reads, stops, SaysCommand};
 ghost use Rattle.ladr_commands.specs.declared.command.Command.{Command};
 ghost use Rattle.ladr_commands.specs.declared.command.Command.TheVariants as command;
 ghost use Rattle.ladr_commands.specs.declared.command.Command.TheVariants.{Interpretation};
@@ -51,9 +51,9 @@ pub fn read_interpretation(alloc: Global, tokens: &[Token]) -> Result<ByName, Co
 }
 
 fn worded_interpretation(alloc: Global, cursor: &mut Cursor) -> Result<ByName, Fault>
-    ensures ok { IfOk result (λ it. outcome interpretation_item cursor.old
+    ensures ok { IfOk result (λ it. form_outcome interpretation_item cursor.old
         ≡ reads (Interpretation it)) }
-    ensures bad { result ≡ Err Bad → outcome interpretation_item cursor.old ≡ stops cursor.new }
+    ensures bad { result ≡ Err Bad → form_outcome interpretation_item cursor.old ≡ stops cursor.new }
 {
     cursor.take(Wanted::InterpretationWord)?;
     opened_interpretation(alloc, cursor)
@@ -61,8 +61,8 @@ fn worded_interpretation(alloc: Global, cursor: &mut Cursor) -> Result<ByName, F
 
 // All that is left is a command.
 fn command(alloc: Global, tester: bool, cursor: &mut Cursor) -> Result<Command, Fault>
-    ensures ok { IfOk result (λ c. outcome (commands_of tester) cursor.old ≡ reads c) }
-    ensures bad { result ≡ Err Bad → outcome (commands_of tester) cursor.old ≡ stops cursor.new }
+    ensures ok { IfOk result (λ c. form_outcome (commands_of tester) cursor.old ≡ reads c) }
+    ensures bad { result ≡ Err Bad → form_outcome (commands_of tester) cursor.old ≡ stops cursor.new }
 {
     let token = first_word(tester, cursor)?;
     behind_first(alloc, cursor, &token)
@@ -70,9 +70,9 @@ fn command(alloc: Global, tester: bool, cursor: &mut Cursor) -> Result<Command, 
 
 // The word that a command begins with.
 fn first_word<'a>(tester: bool, cursor: &mut Cursor<'a>) -> Result<Token<'a>, Fault>
-    ensures ok { IfOk result (λ t. outcome (commands_of tester) cursor.old
-        ≡ outcome (behind_first (lexeme_of t)) cursor.new) }
-    ensures bad { result ≡ Err Bad → outcome (commands_of tester) cursor.old ≡ stops cursor.new }
+    ensures ok { IfOk result (λ t. form_outcome (commands_of tester) cursor.old
+        ≡ form_outcome (behind_first_token (lexeme_of t)) cursor.new) }
+    ensures bad { result ≡ Err Bad → form_outcome (commands_of tester) cursor.old ≡ stops cursor.new }
 {
     if tester {
         cursor.take(Wanted::TesterWord)
@@ -83,9 +83,9 @@ fn first_word<'a>(tester: bool, cursor: &mut Cursor<'a>) -> Result<Token<'a>, Fa
 
 // What stands behind the first token.
 fn behind_first(alloc: Global, cursor: &mut Cursor, first: &Token) -> Result<Command, Fault>
-    ensures ok { IfOk result (λ c. outcome (behind_first (lexeme_of first.now)) cursor.old
+    ensures ok { IfOk result (λ c. form_outcome (behind_first_token (lexeme_of first.now)) cursor.old
         ≡ reads c) }
-    ensures bad { result ≡ Err Bad → outcome (behind_first (lexeme_of first.now)) cursor.old
+    ensures bad { result ≡ Err Bad → form_outcome (behind_first_token (lexeme_of first.now)) cursor.old
         ≡ stops cursor.new }
 {
     if is_interpretation(first) {
@@ -97,8 +97,8 @@ fn behind_first(alloc: Global, cursor: &mut Cursor, first: &Token) -> Result<Com
 
 // What stands behind a word.
 fn behind_word(alloc: Global, cursor: &mut Cursor, word: Word) -> Result<Command, Fault>
-    ensures ok { IfOk result (λ c. outcome (behind_word word) cursor.old ≡ reads c) }
-    ensures bad { result ≡ Err Bad → outcome (behind_word word) cursor.old ≡ stops cursor.new }
+    ensures ok { IfOk result (λ c. form_outcome (behind_word word) cursor.old ≡ reads c) }
+    ensures bad { result ≡ Err Bad → form_outcome (behind_word word) cursor.old ≡ stops cursor.new }
 {
     match word {
         Word::Set => Ok(Command::Flag(true, opened_name(alloc, cursor)?)),
@@ -119,9 +119,9 @@ fn behind_word(alloc: Global, cursor: &mut Cursor, word: Word) -> Result<Command
 
 // `.`, and nothing more.
 pub fn stopped(cursor: &mut Cursor) -> Result<(), Fault>
-    ensures ok { OnOk result ((c : Command) → outcome (stopped c) cursor.old ≡ reads c) }
+    ensures ok { OnOk result ((c : Command) → form_outcome (stopped c) cursor.old ≡ reads c) }
     ensures bad { result ≡ Err Bad → (c : Command)
-        → outcome (stopped c) cursor.old ≡ stops cursor.new }
+        → form_outcome (stopped c) cursor.old ≡ stops cursor.new }
 {
     cursor.take(Wanted::Stop)?;
     cursor.end()
@@ -129,9 +129,9 @@ pub fn stopped(cursor: &mut Cursor) -> Result<(), Fault>
 
 // `).`, and nothing more.
 pub fn closed(cursor: &mut Cursor) -> Result<(), Fault>
-    ensures ok { OnOk result ((c : Command) → outcome (closed c) cursor.old ≡ reads c) }
+    ensures ok { OnOk result ((c : Command) → form_outcome (closed c) cursor.old ≡ reads c) }
     ensures bad { result ≡ Err Bad → (c : Command)
-        → outcome (closed c) cursor.old ≡ stops cursor.new }
+        → form_outcome (closed c) cursor.old ≡ stops cursor.new }
 {
     cursor.take(Wanted::Close)?;
     stopped(cursor)
@@ -140,9 +140,9 @@ pub fn closed(cursor: &mut Cursor) -> Result<(), Fault>
 // `(name).`
 fn opened_name(alloc: Global, cursor: &mut Cursor) -> Result<Name, Fault>
     ensures ok { IfOk result (λ name. (command : List ℕ → Command)
-        → outcome (opened (with_name command)) cursor.old ≡ reads (command name)) }
+        → form_outcome (opened (name_form command)) cursor.old ≡ reads (command name)) }
     ensures bad { result ≡ Err Bad → (command : List ℕ → Command)
-        → outcome (opened (with_name command)) cursor.old ≡ stops cursor.new }
+        → form_outcome (opened (name_form command)) cursor.old ≡ stops cursor.new }
 {
     cursor.take(Wanted::Open)?;
     let token = cursor.take(Wanted::Symbol)?;
@@ -153,10 +153,10 @@ fn opened_name(alloc: Global, cursor: &mut Cursor) -> Result<Name, Fault>
 // The symbol of a member of a list.
 fn member_symbol<'a>(cursor: &mut Cursor<'a>) -> Result<Token<'a>, Fault>
     ensures ok { IfOk result (λ t. (read : List (List ℕ)) (onward : List (List ℕ) → Form)
-        → outcome (members Symbol read onward) cursor.old
-        ≡ outcome (behind_text read (lexeme_of t) onward) cursor.new) }
+        → form_outcome (members Symbol read onward) cursor.old
+        ≡ form_outcome (behind_text read (lexeme_of t) onward) cursor.new) }
     ensures bad { result ≡ Err Bad → (read : List (List ℕ)) (onward : List (List ℕ) → Form)
-        → outcome (members Symbol read onward) cursor.old ≡ stops cursor.new }
+        → form_outcome (members Symbol read onward) cursor.old ≡ stops cursor.new }
     ensures shorter { OnOk result (length cursor.new < length cursor.old) }
 {
     cursor.take(Wanted::Symbol)
@@ -166,7 +166,7 @@ fn member_symbol<'a>(cursor: &mut Cursor<'a>) -> Result<Token<'a>, Fault>
 fn member(alloc: Global, cursor: &mut Cursor) -> Result<(Name, bool), Fault>
     ensures ok { IfOk result (λ r. IsMember cursor.old r.0 r.1 cursor.new) }
     ensures bad { result ≡ Err Bad → (read : List (List ℕ)) (onward : List (List ℕ) → Form)
-        → outcome (members Symbol read onward) cursor.old ≡ stops cursor.new }
+        → form_outcome (members Symbol read onward) cursor.old ≡ stops cursor.new }
     ensures shorter { OnOk result (length cursor.new < length cursor.old) }
 {
     let token = member_symbol(cursor)?;
@@ -178,9 +178,9 @@ fn member(alloc: Global, cursor: &mut Cursor) -> Result<(Name, bool), Fault>
 // `name, .., name]`
 fn names(alloc: Global, cursor: &mut Cursor) -> Result<Names, Fault>
     ensures ok { IfOk result (λ names. (onward : List (List ℕ) → Form)
-        → outcome (members Symbol [] onward) cursor.old ≡ outcome (onward names) cursor.new) }
+        → form_outcome (members Symbol [] onward) cursor.old ≡ form_outcome (onward names) cursor.new) }
     ensures bad { result ≡ Err Bad → (onward : List (List ℕ) → Form)
-        → outcome (members Symbol [] onward) cursor.old ≡ stops cursor.new }
+        → form_outcome (members Symbol [] onward) cursor.old ≡ stops cursor.new }
 {
     let mut names = Names::new(alloc);
     loop {
@@ -195,9 +195,9 @@ fn names(alloc: Global, cursor: &mut Cursor) -> Result<Names, Fault>
 // `([name, .., name]).`
 fn opened_names(alloc: Global, cursor: &mut Cursor) -> Result<Names, Fault>
     ensures ok { IfOk result (λ names. (command : List (List ℕ) → Command)
-        → outcome (opened (with_names command)) cursor.old ≡ reads (command names)) }
+        → form_outcome (opened (names_form command)) cursor.old ≡ reads (command names)) }
     ensures bad { result ≡ Err Bad → (command : List (List ℕ) → Command)
-        → outcome (opened (with_names command)) cursor.old ≡ stops cursor.new }
+        → form_outcome (opened (names_form command)) cursor.old ≡ stops cursor.new }
 {
     cursor.take(Wanted::Open)?;
     cursor.take(Wanted::OpenSquare)?;
@@ -208,8 +208,8 @@ fn opened_names(alloc: Global, cursor: &mut Cursor) -> Result<Names, Fault>
 
 // `(name, value).`
 fn opened_assignment(alloc: Global, cursor: &mut Cursor) -> Result<Command, Fault>
-    ensures ok { IfOk result (λ c. outcome (opened assignment) cursor.old ≡ reads c) }
-    ensures bad { result ≡ Err Bad → outcome (opened assignment) cursor.old ≡ stops cursor.new }
+    ensures ok { IfOk result (λ c. form_outcome (opened assign_form) cursor.old ≡ reads c) }
+    ensures bad { result ≡ Err Bad → form_outcome (opened assign_form) cursor.old ≡ stops cursor.new }
 {
     cursor.take(Wanted::Open)?;
     let name = cursor.take(Wanted::Symbol)?;
@@ -223,10 +223,10 @@ fn opened_assignment(alloc: Global, cursor: &mut Cursor) -> Result<Command, Faul
 // What stands behind the first token of a value.
 fn closed_value(alloc: Global, cursor: &mut Cursor, first: &Token) -> Result<Value, Fault>
     ensures ok { IfOk result (λ v. (name : List ℕ)
-        → outcome (behind_value name (lexeme_of first.now)) cursor.old
+        → form_outcome (behind_value name (lexeme_of first.now)) cursor.old
         ≡ reads (command.Assign name v)) }
     ensures bad { result ≡ Err Bad → (name : List ℕ)
-        → outcome (behind_value name (lexeme_of first.now)) cursor.old ≡ stops cursor.new }
+        → form_outcome (behind_value name (lexeme_of first.now)) cursor.old ≡ stops cursor.new }
 {
     if text_of(first) == b"-".as_slice() {
         return dashed_value(alloc, cursor);
@@ -241,10 +241,10 @@ fn closed_value(alloc: Global, cursor: &mut Cursor, first: &Token) -> Result<Val
 // What stands behind `-`: a number, or the end of the value.
 fn dashed_value(alloc: Global, cursor: &mut Cursor) -> Result<Value, Fault>
     ensures ok { IfOk result (λ v. (name : List ℕ)
-        → outcome (token NumeralOrClose (behind_dash name)) cursor.old
+        → form_outcome (token NumeralOrClose (behind_dash name)) cursor.old
         ≡ reads (command.Assign name v)) }
     ensures bad { result ≡ Err Bad → (name : List ℕ)
-        → outcome (token NumeralOrClose (behind_dash name)) cursor.old ≡ stops cursor.new }
+        → form_outcome (token NumeralOrClose (behind_dash name)) cursor.old ≡ stops cursor.new }
 {
     let token = cursor.take(Wanted::NumeralOrClose)?;
     if is_close(&token) {
@@ -264,8 +264,8 @@ fn whole_in(token: &Token) -> u64
 
 // `(number, type, symbols).`
 fn opened_declaration(alloc: Global, cursor: &mut Cursor) -> Result<Command, Fault>
-    ensures ok { IfOk result (λ c. outcome (opened declaration) cursor.old ≡ reads c) }
-    ensures bad { result ≡ Err Bad → outcome (opened declaration) cursor.old ≡ stops cursor.new }
+    ensures ok { IfOk result (λ c. form_outcome (opened declaration) cursor.old ≡ reads c) }
+    ensures bad { result ≡ Err Bad → form_outcome (opened declaration) cursor.old ≡ stops cursor.new }
 {
     cursor.take(Wanted::Open)?;
     let precedence = cursor.take(Wanted::Numeral)?;
@@ -280,10 +280,10 @@ fn opened_declaration(alloc: Global, cursor: &mut Cursor) -> Result<Command, Fau
 // `symbol).` or `[symbol, .., symbol]).`
 fn closed_symbols(alloc: Global, cursor: &mut Cursor) -> Result<Names, Fault>
     ensures ok { IfOk result (λ names. (p : ℕ) (type : List ℕ)
-        → outcome (token SymbolOrOpenSquare (behind_type p type)) cursor.old
+        → form_outcome (token SymbolOrOpenSquare (behind_type p type)) cursor.old
         ≡ reads (command.Op p type names)) }
     ensures bad { result ≡ Err Bad → (p : ℕ) (type : List ℕ)
-        → outcome (token SymbolOrOpenSquare (behind_type p type)) cursor.old ≡ stops cursor.new }
+        → form_outcome (token SymbolOrOpenSquare (behind_type p type)) cursor.old ≡ stops cursor.new }
 {
     let token = cursor.take(Wanted::SymbolOrOpenSquare)?;
     if is_open_square(&token) {

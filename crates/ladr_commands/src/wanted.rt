@@ -1,7 +1,7 @@
 // Which tokens may stand at a place.
 ghost use Rattle.std.specs.Prelude.{◌≡◌, codes};
 ghost use Rattle.ladr_lex.specs.Lexeme.{lexeme_of};
-ghost use Rattle.ladr_commands.specs.Wanted.{fits, text_of, is_symbol, is_number, is_open, is_close, is_comma, is_open_square, is_close_square, is_word, is_equality, is_interpretation, is_kind_word, kind_in};
+ghost use Rattle.ladr_commands.specs.Wanted.{fits, symbol_text, is_symbol, is_number, is_open, is_close, is_comma, is_open_square, is_close_square, is_word, is_equality, is_interpretation, is_kind_word, kind_said};
 ghost use Rattle.ladr_commands.specs.declared.wanted.Wanted.TheVariants.{CommandWord};
 
 use crate::word::word_of;
@@ -73,7 +73,7 @@ fn is_command_word(token: &Token) -> bool
 
 /// The bytes of a symbol, and none of another token.
 pub fn text_of<'a>(token: &Token<'a>) -> &'a [u8]
-    ensures { result.now ≡ text_of (lexeme_of token.now) }
+    ensures { result.now ≡ symbol_text (lexeme_of token.now) }
 {
     match token.kind {
         TokenKind::Ordinary | TokenKind::Quoted | TokenKind::Special => token.text,
@@ -156,7 +156,7 @@ fn is_kind_word(token: &Token) -> bool
 
 /// The kind that a word tells.
 pub fn kind_in(token: &Token) -> Kind
-    ensures { result ≡ kind_in (lexeme_of token.now) }
+    ensures { result ≡ kind_said (lexeme_of token.now) }
 {
     if is_word(token, b"function") {
         Kind::Function

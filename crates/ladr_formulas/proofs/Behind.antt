@@ -12,10 +12,10 @@ use Rattle.fol_core.specs.declared.symbols.Kind.{Kind}
 use Rattle.fol_core.specs.declared.symbols.Kind.TheVariants.{Function, Relation}
 use Rattle.fol_core.proofs.Places.{first_place-append, slice_get_last}
 use Rattle.fol_core.proofs.SymbolLemmas.{symbol_there, number_of_push}
-use Rattle.ladr_lex.specs.Numeral.{number}
+use Rattle.ladr_lex.specs.Numeral.{limited_number_of}
 use Rattle.ladr_lex.specs.declared.misuse.Misuse.{Misuse}
 use Rattle.ladr_lex.specs.declared.misuse.Misuse.TheVariants.{TwoKinds, QuantifierInTerm, UnfitAttribute, UnfitNumeral}
-use Rattle.ladr_formulas.specs.Formulas.{Reading, Made, Bound, meets, bound_number, free_number, is_variable, with_variable, variable_number, with_name, named_variable, with_symbol, symbol_number, arity_of, is_too_great, is_element, constant_as, constant, term_of, terms_of, relation_of, sentence_as, sentence, equation_read, under, bound_by, is_denial, connective_of, connective_read, joined_by, by_connective, comparison, formula_in, unread, formula_reading}
+use Rattle.ladr_formulas.specs.Formulas.{Reading, Made, Bound, meets, bound_number, free_number, is_variable, with_variable, variable_number, reading_with_name, named_variable, with_symbol, symbol_number, arity_of, is_too_great, is_element, constant_as, constant, term_of, terms_of, relation_of, sentence_as, sentence, equation_read, under, bound_by, is_denial, connective_of, connective_read, joined_by, by_connective, comparison, formula_in, unread, formula_reading}
 use Rattle.ladr_formulas.specs.declared.connectives.Connective.{Connective}
 use Rattle.ladr_formulas.specs.declared.connectives.Connective.TheVariants.{And, Or, IfThen, ThenIf, IfAndOnlyIf}
 use Rattle.ladr_formulas.specs.declared.styles.Style.{Style}
@@ -47,7 +47,7 @@ same_kind Relation = refl
 record Stands (a T : List Symbol) (x : Symbol) : Type 0 where
   clash : is_clash T x ≡ is_clash a x
   table : entered T x ≡ T
-  number : number_of T x.name x.arity ≡ number_of (entered a x) x.name x.arity
+  limited_number_of : number_of T x.name x.arity ≡ number_of (entered a x) x.name x.arity
 
 stands_at : (T : List Symbol) (x : Symbol) (n : ℕ) → number_of T x.name x.arity ≡ Some n → entered T x ≡ T
 stands_at T x n h = ap (λ (o : Option ℕ). if is_some o then T else T ++ x ∷ []) h
@@ -63,7 +63,7 @@ stands a T x k = by (number_of a x.name x.arity) refl
         record {
           clash = clash_of T x n there ∙ ap (λ (kind : Kind). not (is_same_kind kind x.kind)) (kind_found a T x.name x.arity n keeps h) ∙ sym (clash_of a x n h);
           table = stands_at T x n there;
-          number = there ∙ sym (ap (λ (t : List Symbol). number_of t x.name x.arity) old ∙ h);
+          limited_number_of = there ∙ sym (ap (λ (t : List Symbol). number_of t x.name x.arity) old ∙ h);
         }
     by None h =
         let new : entered a x ≡ a ++ x ∷ [] = ap (λ (o : Option ℕ). if is_some o then a else a ++ x ∷ []) h in
@@ -75,7 +75,7 @@ stands a T x k = by (number_of a x.name x.arity) refl
           clash = clash_of T x (length a) there ∙ ap (λ (k : Kind). not (is_same_kind k x.kind)) kind ∙ ap not (same_kind x.kind)
               ∙ sym (ap (λ (o : Option ℕ). option_map_or (λ n. not (is_same_kind (kind_at a n) x.kind)) o false) h);
           table = stands_at T x (length a) there;
-          number = there ∙ sym (ap (λ (t : List Symbol). number_of t x.name x.arity) new ∙ last);
+          limited_number_of = there ∙ sym (ap (λ (t : List Symbol). number_of t x.name x.arity) new ∙ last);
         }
 
 module _ (T : List Symbol) where
@@ -116,7 +116,7 @@ module _ (T : List Symbol) where
   number_into : (name : List ℕ) (arity : ℕ) (kind : Kind) (s : Reading) → Keeps (with_symbol name arity kind s) → symbol_number name arity (into (with_symbol name arity kind s)) ≡ symbol_number name arity (with_symbol name arity kind s)
   number_into name arity kind s k = ap (λ (o : Option ℕ). unwrap_or o 0) (stands s.symbols T (symbol name arity kind) k).number
 
-  name_into : (scope : List Bound) (name : List ℕ) (s : Reading) → with_name scope name (into s) ≡ into (with_name scope name s)
+  name_into : (scope : List Bound) (name : List ℕ) (s : Reading) → reading_with_name scope name (into s) ≡ into (reading_with_name scope name s)
   name_into scope name s =
       elim (cases_Bool (is_some (bound_number scope name) || is_some (free_number 0 s.variables name))) [
         | inl y ↦ rw y refl
@@ -138,9 +138,9 @@ module _ (T : List Symbol) where
   constant_as_into : (st : Style) (name : List ℕ) (o : Option ℕ) → Alike (constant_as st name o)
   constant_as_into st name (Some n) s k = refl
   constant_as_into st name None s k =
-      either_into (is_element st name) (λ (r : Reading). record { tree = elem (number name); reading = meets (is_too_great st name) UnfitNumeral r })
+      either_into (is_element st name) (λ (r : Reading). record { tree = elem (limited_number_of name); reading = meets (is_too_great st name) UnfitNumeral r })
       (λ (r : Reading). record { tree = app (symbol_number name 0 (with_symbol name 0 Function r)) none; reading = with_symbol name 0 Function r })
-      (λ r h i. record { tree = elem (number name); reading = meets_into (is_too_great st name) UnfitNumeral r i })
+      (λ r h i. record { tree = elem (limited_number_of name); reading = meets_into (is_too_great st name) UnfitNumeral r i })
       (λ r h. let w = symbol_into name 0 Function r h in
       let n = ap (symbol_number name 0) w ∙ number_into name 0 Function r h in
       λ i. record { tree = app (n i) none; reading = w i })
@@ -153,7 +153,7 @@ module _ (T : List Symbol) where
 
   mutual
     pub term_into : (st : Style) (scope : List Bound) (t : RawTree) → Alike (λ s. term_of st scope s t)
-    term_into st scope (quantified q x t) s k = term_into st (record { name = x; number = length s.variables } ∷ scope) t (with_variable x false (meets true QuantifierInTerm s)) k
+    term_into st scope (quantified q x t) s k = term_into st (record { name = x; limited_number_of = length s.variables } ∷ scope) t (with_variable x false (meets true QuantifierInTerm s)) k
     term_into st scope (named name no_raws) s k = constant_into st scope name s k
     term_into st scope (named name (more_raws t ts)) s k =
         let arity = suc (arity_of ts) in
@@ -230,7 +230,7 @@ module _ (T : List Symbol) where
 
   formula_into : (st : Style) (scope : List Bound) (t : RawTree) → Alike (λ s. formula_in st scope s t)
   formula_into st scope (quantified q x t) s k =
-      ap (under (bound_by q (length s.variables))) (formula_into st (record { name = x; number = length s.variables } ∷ scope) t (with_variable x false s) k)
+      ap (under (bound_by q (length s.variables))) (formula_into st (record { name = x; limited_number_of = length s.variables } ∷ scope) t (with_variable x false s) k)
   formula_into st scope (named name no_raws) s k = sentence_into st scope name s k
   formula_into st scope (named name (more_raws t no_raws)) s k =
       either_into (is_denial name) (λ (r : Reading). under negation (formula_in st scope r t)) (relation_of st scope name (more_raws t no_raws))

@@ -12,7 +12,7 @@ use Rattle.fol_core.specs.declared.symbols.Kind.TheVariants.{Function, Relation}
 use Rattle.fol_core.proofs.Places.{slice_get_more}
 use Rattle.ladr_lex.specs.declared.misuse.Misuse.{Misuse}
 use Rattle.ladr_lex.specs.declared.misuse.Misuse.TheVariants.{TwoKinds, VariableAsFormula, QuantifierInTerm, UnfitAttribute, UnfitNumeral}
-use Rattle.ladr_formulas.specs.Formulas.{Variable, Reading, Made, Bound, meets, bound_number, free_number, is_variable, with_variable, with_name, named_variable, with_symbol, arity_of, is_too_great, is_element, constant_as, constant, term_of, terms_of, relation_of, sentence_as, equation_read, is_denial, connective_of, connective_read, by_connective, comparison, formula_in}
+use Rattle.ladr_formulas.specs.Formulas.{Variable, Reading, Made, Bound, meets, bound_number, free_number, is_variable, with_variable, reading_with_name, named_variable, with_symbol, arity_of, is_too_great, is_element, constant_as, constant, term_of, terms_of, relation_of, sentence_as, equation_read, is_denial, connective_of, connective_read, by_connective, comparison, formula_in}
 use Rattle.ladr_formulas.specs.declared.connectives.Connective.{Connective}
 use Rattle.ladr_formulas.specs.declared.connectives.Connective.TheVariants.{And, Or, IfThen, ThenIf, IfAndOnlyIf}
 use Rattle.ladr_formulas.specs.declared.styles.Style.{Style}
@@ -54,7 +54,7 @@ grows_symbol name arity kind s =
 pub grows_variable : (name : List ℕ) (free : Bool) (s : Reading) → Grows s (with_variable name free s)
 grows_variable name free s = record { sound = λ e. e; symbols = λ n x e. e; variables = λ n x e. slice_get_more s.variables _ n x e }
 
-pub grows_name : (scope : List Bound) (name : List ℕ) (s : Reading) → Grows s (with_name scope name s)
+pub grows_name : (scope : List Bound) (name : List ℕ) (s : Reading) → Grows s (reading_with_name scope name s)
 grows_name scope name s =
     elim (cases_Bool (is_some (bound_number scope name) || is_some (free_number 0 s.variables name))) [
       | inl y ↦ rw y (same s)

@@ -8,7 +8,7 @@ use Rattle.std.proofs.lemmas.Bool.Decides.{same_from_decides, Decides-like}
 use Rattle.std.proofs.lemmas.List.{take_more}
 use Rattle.std.proofs.lemmas.Slice.Eq.{bytes_eq-Decides}
 use Rattle.indexmap.specs.IndexMap.{insert_entry}
-use Rattle.ladr_formulas.specs.Formulas.{free_number, names_of}
+use Rattle.ladr_formulas.specs.Formulas.{free_number, names_of_variables}
 use Rattle.ladr_formulas.specs.Formulas as formulas
 use Rattle.ladr_formulas.specs.Numbering.{variable_list, number_in, HasFree}
 use Rattle.ladr_formulas.specs.declared.numbering.Variable.{Variable}
@@ -21,15 +21,15 @@ pub length_variable_list : (vs : List Variable) → length (variable_list vs) �
 length_variable_list [] = refl
 length_variable_list (v ∷ vs) = ap suc (length_variable_list vs)
 
-pub names_of_last : (vs : List formulas.Variable) (v : formulas.Variable) → names_of (vs ++ v ∷ []) ≡ names_of vs ++ v.name ∷ []
+pub names_of_last : (vs : List formulas.Variable) (v : formulas.Variable) → names_of_variables (vs ++ v ∷ []) ≡ names_of_variables vs ++ v.name ∷ []
 names_of_last [] v = refl
 names_of_last (u ∷ vs) v = ap (λ (l : List (List ℕ)). u.name ∷ l) (names_of_last vs v)
 
 -- the names of one variable more
-pub names_more : (vs : List Variable) (i : ℕ) (v : Variable) → i < length vs → v ≡ get_or vs i v → names_of (variable_list (take (i + 1) vs)) ≡ names_of (variable_list (take i vs)) ++ v.name ∷ []
+pub names_more : (vs : List Variable) (i : ℕ) (v : Variable) → i < length vs → v ≡ get_or vs i v → names_of_variables (variable_list (take (i + 1) vs)) ≡ names_of_variables (variable_list (take i vs)) ++ v.name ∷ []
 names_more vs i v h e =
     let last : take (i + 1) vs ≡ take i vs ++ v ∷ [] = take_more vs i v h ∙ ap (λ (u : Variable). take i vs ++ u ∷ []) (sym e) in
-    ap (λ (us : List Variable). names_of (variable_list us)) last ∙ ap names_of (variable_list_last (take i vs) v) ∙ names_of_last (variable_list (take i vs)) _
+    ap (λ (us : List Variable). names_of_variables (variable_list us)) last ∙ ap names_of_variables (variable_list_last (take i vs) v) ∙ names_of_last (variable_list (take i vs)) _
 
 -- a variable that a quantifier brings is no free one
 pub free_number_bound : (n : ℕ) (vs : List formulas.Variable) (x q : List ℕ) → free_number n (vs ++ record { name = x; free = false } ∷ []) q ≡ free_number n vs q

@@ -8,7 +8,7 @@ use Rattle.fol_core.specs.Tree.{Tree, elem, app, Trees, none, more}
 use Rattle.fol_core.specs.declared.symbols.Kind.{Kind}
 use Rattle.fol_core.specs.declared.symbols.Kind.TheVariants.{Function}
 use Rattle.fol_core.proofs.Variables.{is_in_joined}
-use Rattle.ladr_lex.specs.Numeral.{number}
+use Rattle.ladr_lex.specs.Numeral.{limited_number_of}
 use Rattle.ladr_lex.specs.declared.misuse.Misuse.TheVariants.{QuantifierInTerm, UnfitNumeral}
 use Rattle.ladr_formulas.specs.Formulas.{Reading, Bound, Style, Made, meets, with_variable, with_symbol, symbol_number, is_too_great, is_element, named_variable, constant_as, constant, arity_of, term_of, terms_of}
 use Rattle.ladr_formulas.proofs.OwnVariables.{Grows, grows_not, grows_on, grows_met, met, grows_variable, grows_symbol, number_below, IsKnown, known_still, variable_good}
@@ -44,7 +44,7 @@ constant_of st scope name s None r g known = by (is_element st name)
     after : Reading
     after = with_symbol name 0 Function r
 
-    by : (b : Bool) → TermGood scope s (if b then record { tree = elem (number name); reading = meets (is_too_great st name) UnfitNumeral r } else record { tree = app (symbol_number name 0 after) none; reading = after })
+    by : (b : Bool) → TermGood scope s (if b then record { tree = elem (limited_number_of name); reading = meets (is_too_great st name) UnfitNumeral r } else record { tree = app (symbol_number name 0 after) none; reading = after })
     by true = record {
       grows = grows_on s r (meets (is_too_great st name) UnfitNumeral r) g (grows_met (is_too_great st name) UnfitNumeral r);
       known = λ least x i. absurd (false≢true i);
@@ -78,10 +78,10 @@ mutual
   term_good st scope s (quantified q x t) =
       let bad = meets true QuantifierInTerm s in
       let after = with_variable x false bad in
-      let body = term_good st (record { name = x; number = length s.variables } ∷ scope) after t in
+      let body = term_good st (record { name = x; limited_number_of = length s.variables } ∷ scope) after t in
       let grown = grows_on s bad after (grows_met true QuantifierInTerm s) (grows_variable x false bad) in
       record {
-        grows = grows_on s after (term_of st (record { name = x; number = length s.variables } ∷ scope) after t).reading grown body.grows;
+        grows = grows_on s after (term_of st (record { name = x; limited_number_of = length s.variables } ∷ scope) after t).reading grown body.grows;
         known = λ least y i. absurd (met QuantifierInTerm s (body.grows.least least));
         below = body.below;
       }

@@ -9,7 +9,7 @@ use Rattle.fol_core.specs.declared.symbols.Kind.{Kind}
 use Rattle.fol_core.proofs.SymbolLemmas.{symbol_there, number_of_push}
 use Rattle.ladr_lex.specs.declared.misuse.Misuse.{Misuse}
 use Rattle.ladr_lex.specs.declared.misuse.Misuse.TheVariants.{TwoKinds, UnfitAttribute}
-use Rattle.ladr_formulas.specs.Formulas.{Variable, Reading, Bound, Style, Made, meets, bound_number, free_number, with_variable, with_name, variable_number, is_variable, named_variable, with_symbol, symbol_number}
+use Rattle.ladr_formulas.specs.Formulas.{Variable, Reading, Bound, Style, Made, meets, bound_number, free_number, with_variable, reading_with_name, variable_number, is_variable, named_variable, with_symbol, symbol_number}
 
 -- whether a variable is free
 abbrev pub is_free : List Variable → ℕ → Bool
@@ -166,7 +166,7 @@ pub record VariableGood (scope : List Bound) (s : Reading) (m : Made (Option ℕ
 some_same : (m n : ℕ) → Some m ≡ Some n → m ≡ n
 some_same m n e = ap (λ (o : Option ℕ). unwrap_or o 0) e
 
-number_known : (scope : List Bound) (name : List ℕ) (s : Reading) → Grows s (with_name scope name s) × IsKnown (with_name scope name s) scope (variable_number scope name s)
+number_known : (scope : List Bound) (name : List ℕ) (s : Reading) → Grows s (reading_with_name scope name s) × IsKnown (reading_with_name scope name s) scope (variable_number scope name s)
 number_known scope name s = by (bound_number scope name) (free_number 0 s.variables name) refl refl
   where
     after : Option ℕ → Option ℕ → Reading
@@ -187,9 +187,9 @@ pub variable_good : (st : Style) (scope : List Bound) (name : List ℕ) (s : Rea
 unfolding named_variable
 variable_good st scope name s = by (is_variable st scope name)
   where
-    known : Grows s (with_name scope name s) × IsKnown (with_name scope name s) scope (variable_number scope name s)
+    known : Grows s (reading_with_name scope name s) × IsKnown (reading_with_name scope name s) scope (variable_number scope name s)
     known = number_known scope name s
 
-    by : (b : Bool) → VariableGood scope s (if b then record { tree = Some (variable_number scope name s); reading = with_name scope name s } else record { tree = None; reading = s })
-    by true = record { grows = known.0; known = λ n e. subst (λ (k : ℕ). IsKnown (with_name scope name s) scope k) (some_same _ n e) known.1 }
+    by : (b : Bool) → VariableGood scope s (if b then record { tree = Some (variable_number scope name s); reading = reading_with_name scope name s } else record { tree = None; reading = s })
+    by true = record { grows = known.0; known = λ n e. subst (λ (k : ℕ). IsKnown (reading_with_name scope name s) scope k) (some_same _ n e) known.1 }
     by false = record { grows = grows_not s; known = λ n e. absurd (some_not_none n (sym e)) }

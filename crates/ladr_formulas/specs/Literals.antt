@@ -5,7 +5,7 @@ use Rattle.fol_core.specs.Literals.{Lit, ClauseTree}
 use Rattle.fol_core.specs.RawTree.{RawTree}
 use Rattle.fol_core.specs.SymbolTable.{Symbol}
 use Rattle.ladr_formulas.specs.ClauseIn.{literal_in, prepended, clause_in}
-use Rattle.ladr_formulas.specs.Formulas.{Reading, Made, Bound, Style, formula_in, names_of}
+use Rattle.ladr_formulas.specs.Formulas.{Reading, Made, Bound, Style, formula_in, names_of_variables}
 use Rattle.ladr_formulas.specs.declared.clauses.ClauseRead.{ClauseRead}
 
 -- the formulas of terms that are read one behind the other
@@ -40,10 +40,11 @@ abbrev pub continued : Option ClauseTree → Option ClauseTree → Option Clause
 continued (Some c) (Some d) = Some (c ++ d)
 continued c d = None
 
--- the code has the clause of a reading, if it is one, the names of its variables, the rows met, and behind it this table
+-- the code has the clause of a reading, if it is one, the names of its variables, the rows met, and
+-- behind it this table
 pub record IsClauseRead (m : Made Fol) (r : ClauseRead) (table : List Symbol) : Type 0 where
   pub clause : r.clause ≡ clause_in m.tree
-  pub named : r.names ≡ names_of m.reading.variables
+  pub named : r.names ≡ names_of_variables m.reading.variables
   pub least : r.least ≡ m.reading.least
   pub large : r.large ≡ m.reading.large
   pub symbols : table ≡ m.reading.symbols

@@ -10,4 +10,9 @@ pub record Progress : Type 0 where
   pub scope : List Bound
 
 abbrev pub progress : List Symbol → List Variable → List Bound → Option Misuse → Bool → Progress
-progress symbols variables scope least large = record { reading = record { symbols = symbols; variables = variables; least = least; large = large }; scope = scope }
+progress symbols variables scope least large =
+    record {
+      reading = record
+          { symbols = symbols; variables = variables; least = least; large = large };
+      scope = scope;
+    }

@@ -36,19 +36,28 @@ bound name t = quantified All name t
 
 -- all x p(x,f(y))
 abbrev pub bound_and_free : RawTree
-bound_and_free = bound (codes "x") (two_parts (codes "p") (leaf (codes "x")) (one_part (codes "f") (leaf (codes "y"))))
+bound_and_free =
+    bound (codes "x")
+    (two_parts (codes "p") (leaf (codes "x")) (one_part (codes "f") (leaf (codes "y"))))
 
 -- f(f(x)) = x
 abbrev pub involution : RawTree
-involution = two_parts (codes "=") (one_part (codes "f") (one_part (codes "f") (leaf (codes "x")))) (leaf (codes "x"))
+involution =
+    two_parts (codes "=") (one_part (codes "f") (one_part (codes "f") (leaf (codes "x"))))
+    (leaf (codes "x"))
 
 -- p(x) <- (all x q(x))
 abbrev pub one_name_twice : RawTree
-one_name_twice = two_parts (codes "<-") (one_part (codes "p") (leaf (codes "x"))) (bound (codes "x") (one_part (codes "q") (leaf (codes "x"))))
+one_name_twice =
+    two_parts (codes "<-") (one_part (codes "p") (leaf (codes "x")))
+    (bound (codes "x") (one_part (codes "q") (leaf (codes "x"))))
 
 -- f(a) & x, where f stands for a relation and x, and then g(f(a), 1000000000)
 abbrev pub misuses : RawTree
-misuses = two_parts (codes "&") (two_parts (codes "&") (one_part (codes "f") (leaf (codes "a"))) (leaf (codes "x"))) (two_parts (codes "g") (one_part (codes "f") (leaf (codes "a"))) (leaf (codes "1000000000")))
+misuses =
+    two_parts (codes "&")
+    (two_parts (codes "&") (one_part (codes "f") (leaf (codes "a"))) (leaf (codes "x")))
+    (two_parts (codes "g") (one_part (codes "f") (leaf (codes "a"))) (leaf (codes "1000000000")))
 
 -- a != 2
 abbrev pub numeral : RawTree
@@ -58,7 +67,9 @@ numeral = two_parts (codes "!=") (leaf (codes "a")) (leaf (codes "2"))
 abbrev pub three_arities : RawTree
 three_arities =
     let x = leaf (codes "x") in
-    named (codes "p") (more_raws (leaf (codes "f")) (more_raws (one_part (codes "f") x) (more_raws (two_parts (codes "f") x x) no_raws)))
+    named (codes "p")
+    (more_raws (leaf (codes "f"))
+    (more_raws (one_part (codes "f") x) (more_raws (two_parts (codes "f") x x) no_raws)))
 
 -- all $T p($T)
 abbrev pub constant_bound : RawTree
@@ -70,7 +81,10 @@ denial_of_two = two_parts (codes "-") (leaf (codes "p")) (leaf (codes "q"))
 
 -- $T <-> ($F & (t | u(x)))
 abbrev pub connectives : RawTree
-connectives = two_parts (codes "<->") (leaf (codes "$T")) (two_parts (codes "&") (leaf (codes "$F")) (two_parts (codes "|") (leaf (codes "t")) (one_part (codes "u") (leaf (codes "x")))))
+connectives =
+    two_parts (codes "<->") (leaf (codes "$T"))
+    (two_parts (codes "&") (leaf (codes "$F"))
+    (two_parts (codes "|") (leaf (codes "t")) (one_part (codes "u") (leaf (codes "x")))))
 
 -- p(1000000000) and 1000000000(a)
 abbrev pub great_numeral : RawTree

@@ -5,7 +5,7 @@ ghost use Rattle.fol_core.specs.SymbolTable.{symbol};
 ghost use Rattle.fol_core.specs.Tree.{var, elem, app, none, more};
 ghost use Rattle.fol_core.specs.declared.symbols.Kind.TheVariants.{Function, Relation};
 ghost use Rattle.ladr_lex.specs.declared.misuse.Misuse.TheVariants.{TwoKinds, VariableAsFormula, QuantifierInTerm, UnfitAttribute, UnfitNumeral};
-ghost use Rattle.ladr_formulas.specs.Formulas.{formula_reading, names_of};
+ghost use Rattle.ladr_formulas.specs.Formulas.{formula_reading, names_of_variables};
 ghost use Rattle.ladr_formulas.specs.WorkedFormulas.{for_tester, for_prover, in_prolog, misuse_of, leaf, one_part, function, bound_and_free, involution, one_name_twice, misuses, numeral, three_arities, constant_bound, denial_of_two, connectives, great_numeral, great_function};
 
 /// Terms and their formulas.
@@ -13,7 +13,7 @@ pub fn worked_formulas()
     // all x p(x,f(y)): the bound variable is number 0, the free one number 1; p comes before f.
     ensures bound_and_free { (formula_reading for_tester [] bound_and_free).tree
         ≡ forall 0 (atom 0 (more (var 0) (more (function 1 (var 1)) none))) }
-    ensures names { names_of (formula_reading for_tester [] bound_and_free).reading.variables
+    ensures names { names_of_variables (formula_reading for_tester [] bound_and_free).reading.variables
         ≡ codes "x" ∷ codes "y" ∷ [] }
     ensures symbols { (formula_reading for_tester [] bound_and_free).reading.symbols
         ≡ symbol (codes "p") 2 Relation ∷ symbol (codes "f") 1 Function ∷ [] }

@@ -1,6 +1,6 @@
 // The variables of a formula that is read, by number.
 ghost use Rattle.std.specs.Prelude.{◌≡◌, [], ◌∷◌, ◌++◌, OnOk, IfOk, length, None, true, false};
-ghost use Rattle.ladr_formulas.specs.Formulas.{free_number, names_of};
+ghost use Rattle.ladr_formulas.specs.Formulas.{free_number, names_of_variables};
 
 use fol_core::{Name, Names};
 use indexmap::IndexMap;
@@ -89,7 +89,7 @@ impl Variables {
     #[tactic(auto, using(crate::proofs::NumberingLemmas::names_more))]
     /// The names by number.
     pub fn names(&self, alloc: Global) -> Result<Names, AllocError>
-        ensures { IfOk result (λ names. names ≡ names_of self.now) }
+        ensures { IfOk result (λ names. names ≡ names_of_variables self.now) }
     {
         let mut names = Names::new(alloc);
         for variable in &self.items {

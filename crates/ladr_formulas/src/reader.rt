@@ -1,7 +1,7 @@
 // What the reader of formulas has read so far.
 ghost use Rattle.std.specs.Prelude.{◌≡◌, ℕ, [], ◌∷◌, IfOk, OnOk, length, unwrap_or, false};
 ghost use Rattle.fol_core.specs.SymbolTable.{symbol, number_of, entered, is_clash, KeepsNumbers};
-ghost use Rattle.ladr_formulas.specs.Formulas.{unread, meets, with_symbol, symbol_number, is_free_name, named_variable, with_variable, names_of};
+ghost use Rattle.ladr_formulas.specs.Formulas.{unread, meets, with_symbol, symbol_number, is_free_name, named_variable, with_variable, names_of_variables};
 ghost use Rattle.ladr_formulas.specs.ScopeView.{outer};
 
 use crate::numbering::Variables;
@@ -173,7 +173,7 @@ impl Reader {
 
     /// The names of the variables.
     pub fn names(&self, alloc: Global) -> Result<Names, AllocError>
-        ensures { IfOk result (λ names. names ≡ names_of self.now.reading.variables) }
+        ensures { IfOk result (λ names. names ≡ names_of_variables self.now.reading.variables) }
     {
         self.variables.names(alloc)
     }

@@ -23,15 +23,20 @@ pub record Interpreted : Type 0 where
 
 -- the bytes of a file say this problem with these options to a program
 abbrev pub poses : Mode → List ℕ → Posed → Type 0
-poses m bytes x = (s : Sofar) × Says m bytes (problem s) × (stated_in s ≡ x.stated) × (s.settings.options ≡ x.options)
+poses m bytes x =
+    (s : Sofar) × Says m bytes (problem s) × (stated_in s ≡ x.stated)
+    × (s.settings.options ≡ x.options)
 
 -- and this one with these tables, to a program that tests interpretations
 abbrev pub interprets : List ℕ → Interpreted → Type 0
-interprets bytes x = (s : Sofar) × Says Tester bytes (problem s) × (stated_in s ≡ x.stated) × ((it : ByName) × (s.settings.interpretation ≡ Some it) × (tables_for it s.symbols ≡ x.tables))
+interprets bytes x =
+    (s : Sofar) × Says Tester bytes (problem s) × (stated_in s ≡ x.stated)
+    × ((it : ByName) × (s.settings.interpretation ≡ Some it) × (tables_for it s.symbols ≡ x.tables))
 
 -- what the code has of a problem, and with an interpretation by names
 abbrev pub posed_by : FileRead → Posed
 posed_by r = record { stated = stated_of r.problem; options = r.problem.options }
 
 abbrev pub interpreted_by : FileRead → ByName → Interpreted
-interpreted_by r it = record { stated = stated_of r.problem; tables = tables_for it r.problem.symbols }
+interpreted_by r it =
+    record { stated = stated_of r.problem; tables = tables_for it r.problem.symbols }

@@ -9,7 +9,7 @@ use Rattle.ladr_intake.specs.declared.stops.Refused.TheVariants.{Unreadable, Mis
 use Rattle.ladr_intake.specs.declared.stops.Stop.{Stop}
 use Rattle.ladr_intake.specs.declared.stops.Stop.TheVariants as stops
 use Rattle.ladr_io.specs.Streams.{Inflow, Outflow, Takes}
-use Rattle.ladr_lex.specs.Misuses.{row_of}
+use Rattle.ladr_lex.specs.Misuses.{misuse_row}
 use Rattle.ladr_output.specs.Telling.{as_line, PieceTells}
 use Rattle.ladr_output.specs.declared.cut.Cut.{Cut}
 use Rattle.ladr_output.specs.declared.cut.Cut.TheVariants.{WriteFault, Memory}
@@ -31,15 +31,19 @@ limit_text limits.Arity = codes "arity"
 -- what couldn't be read: the place of a byte, its line and column, and what stands there
 abbrev pub unreadable_line : ℕ → ℕ → ℕ → List ℕ → List ℕ
 unreadable_line byte row column token =
-    as_line (codes "ladr: unreadable at byte " ++ decimal byte ++ codes ", line " ++ decimal row ++ codes ", column " ++ decimal column ++ codes ": " ++ token)
+    as_line (codes "ladr: unreadable at byte " ++ decimal byte ++ codes ", line " ++ decimal row
+    ++ codes ", column " ++ decimal column ++ codes ": " ++ token)
 
 -- the row of misuse that is broken, and where
 abbrev pub misuse_line : ℕ → ℕ → ℕ → ℕ → List ℕ
-misuse_line broken byte row column = as_line (codes "ladr: misuse " ++ decimal broken ++ codes " at byte " ++ decimal byte ++ codes ", line " ++ decimal row ++ codes ", column " ++ decimal column)
+misuse_line broken byte row column =
+    as_line (codes "ladr: misuse " ++ decimal broken ++ codes " at byte " ++ decimal byte
+    ++ codes ", line " ++ decimal row ++ codes ", column " ++ decimal column)
 
 -- what was too large, and where
 abbrev pub too_large_line : ℕ → List ℕ → List ℕ
-too_large_line byte what = as_line (codes "ladr: too large at byte " ++ decimal byte ++ codes ": " ++ what)
+too_large_line byte what =
+    as_line (codes "ladr: too large at byte " ++ decimal byte ++ codes ": " ++ what)
 
 abbrev pub read_fault_line : List ℕ
 read_fault_line = as_line (codes "ladr: read fault")
@@ -51,7 +55,7 @@ clause_limit_line formula = as_line (codes "ladr: clause limit at formula " ++ d
 -- the line of a refusal
 abbrev pub refusal_text : Refused → List ℕ
 refusal_text (Unreadable place) = unreadable_line place.byte place.line place.column place.token
-refusal_text (Misuse place why) = misuse_line (row_of why) place.byte place.line place.column
+refusal_text (Misuse place why) = misuse_line (misuse_row why) place.byte place.line place.column
 refusal_text (TooLarge byte what) = too_large_line byte (limit_text what)
 
 -- Bytes are refused to a program for what they say, at a place or at the first byte of an item.
@@ -66,7 +70,9 @@ refuses_none bytes why = ⊥
 
 -- An input is refused: it was read, and is refused by a language; or one byte too many was read.
 abbrev pub IsRefused : (List ℕ → Refused → Type 0) → Inflow → Inflow → List ℕ → Refused → Type 0
-IsRefused refuses old new bytes why = (IsAllRead old new bytes × refuses bytes why) ⊎ (IsTooLong old new bytes × (why ≡ TooLarge MOST_BYTES limits.Input))
+IsRefused refuses old new bytes why =
+    (IsAllRead old new bytes × refuses bytes why)
+    ⊎ (IsTooLong old new bytes × (why ≡ TooLarge MOST_BYTES limits.Input))
 
 -- there is no problem to go on with; nothing is said of memory
 abbrev pub IsNoInput : (List ℕ → Refused → Type 0) → Inflow → Inflow → List ℕ → NoInput → Type 0
@@ -85,7 +91,8 @@ abbrev pub stop_of_cut : Cut → Stop
 stop_of_cut WriteFault = stops.WriteFault
 stop_of_cut Memory = stops.Memory
 
--- It is told so: the line is printed, or what cut it off stands for it. Where memory was lacking before, nothing is printed.
+-- It is told so: the line is printed, or what cut it off stands for it. Where memory was lacking
+-- before, nothing is printed.
 abbrev pub IsToldBy : NoInput → Outflow → Outflow → Stop → Type 0
 IsToldBy (none.Refused why) = PieceTells (stops.Refused why) stop_of_cut (refusal_text why)
 IsToldBy none.ReadFault = PieceTells stops.ReadFault stop_of_cut read_fault_line

@@ -8,7 +8,9 @@ use Rattle.model_tables.specs.Tables.{Finite, has}
 
 -- Each symbol of the formula has an entry, and each number in it names an element.
 abbrev pub Covers : Finite → Fol → Type 0
-Covers t f = ((s : ℕ) → IsTrue (uses_symbol s f) → IsTrue (has t s)) × ((k : ℕ) → IsTrue (names k f) → k < t.top + 1)
+Covers t f =
+    ((s : ℕ) → IsTrue (uses_symbol s f) → IsTrue (has t s))
+    × ((k : ℕ) → IsTrue (names k f) → k < t.top + 1)
 
 abbrev mutual
   -- the same as a test, of a term

@@ -1,5 +1,5 @@
--- What the calls of a source and of a sink do to the bytes that are left and the bytes that are held.
--- A stream tells its bytes before and after a call, or at neither time.
+-- What the calls of a source and of a sink do to the bytes that are left and the bytes that are
+-- held. A stream tells its bytes before and after a call, or at neither time.
 use Rattle.std.specs.Prelude.{◌≡◌, ℕ, ◌+◌, ◌-◌, ◌^◌, ◌<◌, ◌≤◌, min, Bool, true, false, List, [], ◌++◌, length, Option, None, Some, ⊤}
 
 -- the greatest count that a u64 can hold
@@ -10,15 +10,15 @@ greatest = 2 ^ 64 - 1
 abbrev pub counted : ℕ → ℕ
 counted n = min (n + 1) greatest
 
--- what is known of a source: the bytes still to come, where it tells them; how many calls failed; and whether it is over, since it
--- told its end or a call failed
+-- what is known of a source: the bytes still to come, where it tells them; how many calls failed;
+-- and whether it is over, since it told its end or a call failed
 pub record Inflow : Type 0 where
   pub left : Option (List ℕ)
   pub faults : ℕ
   pub over : Bool
 
--- what is known of a sink: the bytes that it took, where it tells them; how many calls failed; and whether it is over, since a call
--- failed
+-- what is known of a sink: the bytes that it took, where it tells them; how many calls failed; and
+-- whether it is over, since a call failed
 pub record Outflow : Type 0 where
   pub held : Option (List ℕ)
   pub faults : ℕ

@@ -8,7 +8,7 @@ use Rattle.std.proofs.lemmas.Bool.Decides.{nat_tests}
 use Rattle.std.proofs.lemmas.List.{take-append-drop, length-append, length-take-le}
 use Rattle.std.proofs.lemmas.List.Sums.{prefix_len-le-length}
 use Rattle.ladr_lex.specs.Comments.{begins_with, up_to, is_just, is_open_block, is_in_line, is_comment}
-use Rattle.ladr_lex.specs.Lexed.{is_block, kind_in, comment_behind}
+use Rattle.ladr_lex.specs.Lexed.{is_block, kind_begun_by, comment_behind}
 use Rattle.ladr_lex.specs.declared.bytes.TokenStart.TheVariants.{Percent}
 use Rattle.ladr_lex.specs.declared.token.TokenKind.TheVariants.{Unreadable}
 use Rattle.ladr_lex.proofs.Comments.{begins_more, begins_long, begins_split, up_to_length, up_to_more, up_to_behind, up_to_front}
@@ -27,7 +27,7 @@ end_behind m h = rw (no_end m h) refl
 
 -- all the bytes behind a `%`, as a comment or a block without its end
 pub record Told (closed : Bool) (m : List ℕ) : Type 0 where
-  pub kind : kind_in Percent m ≡ (if closed then None else Some Unreadable)
+  pub kind : kind_begun_by Percent m ≡ (if closed then None else Some Unreadable)
   pub all : comment_behind m ≡ length m
 
 just : (o : Option ℕ) (n : ℕ) → is_just (option_map suc o) (suc n) ≡ true → o ≡ Some n
@@ -80,8 +80,8 @@ comment_grows m r =
 
 -- what is computed is a comment, or a block without its end
 pub data Behind (bs : List ℕ) : Type 0 where
-  closed : kind_in Percent bs ≡ None → comment_behind bs ≤ length bs → is_comment (37 ∷ take (comment_behind bs) bs) ≡ true → Behind bs
-  unclosed : kind_in Percent bs ≡ Some Unreadable → comment_behind bs ≡ length bs → is_open_block (37 ∷ bs) ≡ true → Behind bs
+  closed : kind_begun_by Percent bs ≡ None → comment_behind bs ≤ length bs → is_comment (37 ∷ take (comment_behind bs) bs) ≡ true → Behind bs
+  unclosed : kind_begun_by Percent bs ≡ Some Unreadable → comment_behind bs ≡ length bs → is_open_block (37 ∷ bs) ≡ true → Behind bs
 
 -- the first bytes of bytes that begin otherwise
 other_front : (word bs : List ℕ) (n : ℕ) → begins_with word bs ≡ false → begins_with word (take n bs) ≡ false

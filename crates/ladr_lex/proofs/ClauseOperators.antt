@@ -12,7 +12,7 @@ use Rattle.std.proofs.lemmas.Slice.Eq.{bytes_eq-Decides}
 use Rattle.ladr_lex.specs.ClauseNames.{lettered, clause_variable, is_numbered, is_further, is_letter, is_clause_variable, is_clause_name, clause_operator, FreesVariables}
 use Rattle.ladr_lex.specs.Numeral.{is_numeral, value}
 use Rattle.ladr_lex.specs.OperatorView.{row_list}
-use Rattle.ladr_lex.specs.Operators.{OperatorRow, operator_of, if_prefix, is_prefix, has_precedence, are_lawful, is_lawful_row, is_fixed, fixed, with_row}
+use Rattle.ladr_lex.specs.Operators.{OperatorRow, operator_of, if_prefix, is_prefix, has_precedence, are_lawful, is_lawful_row, is_fixed, fixed, with_operator_row}
 use Rattle.ladr_lex.specs.declared.operators.Operator.{Operator}
 use Rattle.ladr_lex.proofs.Numerals.{numeral_decimal, value_decimal}
 use Rattle.ladr_lex.proofs.OperatorLemmas.{operator_put}
@@ -62,7 +62,7 @@ kept_precedence prolog name (Some o) h =
 
 -- one more row is put
 pub next_put : (prolog : Bool) (rows old new : List OperatorRow) (i : ℕ) (r : OperatorRow) → are_lawful rows ≡ true → slice_get rows i ≡ Some r
-    → new ≡ with_row r.name (clause_operator prolog r.name r.operator) old → ((x : List ℕ) → operator_of old x ≡ clause_operator prolog x (operator_of (take i rows) x))
+    → new ≡ with_operator_row r.name (clause_operator prolog r.name r.operator) old → ((x : List ℕ) → operator_of old x ≡ clause_operator prolog x (operator_of (take i rows) x))
     → (x : List ℕ) → operator_of new x ≡ clause_operator prolog x (operator_of (take (i + 1) rows) x)
 next_put prolog rows old new i r l h made before x =
     let more : operator_of (take (i + 1) rows) x ≡ (if bytes_eq x r.name then r.operator else operator_of (take i rows) x) =

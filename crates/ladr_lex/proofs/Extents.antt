@@ -10,7 +10,7 @@ use Rattle.std.proofs.lemmas.Slice.Eq.{bytes_eq-Decides}
 use Rattle.ladr_lex.specs.Bytes.{is_blank, is_punctuation, is_ordinary, is_special, is_dash, is_quote}
 use Rattle.ladr_lex.specs.Comments.{is_comment, is_open_block}
 use Rattle.ladr_lex.specs.Cuts.{can_be, is_run, is_quoted, is_single, is_stray, is_special_run}
-use Rattle.ladr_lex.specs.Lexed.{start_of, is_closed, kind_in, kind_at, kept, begins_with_dash, special_behind, quoted_behind, behind_in, behind}
+use Rattle.ladr_lex.specs.Lexed.{start_of, quote_ends, kind_begun_by, kind_beginning, kept, begins_with_dash, special_behind, quoted_behind, behind_in, length_behind}
 use Rattle.ladr_lex.specs.declared.bytes.TokenStart.{TokenStart}
 use Rattle.ladr_lex.specs.declared.bytes.TokenStart.TheVariants.{Blank, Word, Sign, Quote, Percent, Single}
 use Rattle.ladr_lex.specs.declared.token.TokenKind.{TokenKind}
@@ -22,11 +22,11 @@ use Rattle.ladr_lex.proofs.Quotes.{whole, quoted_front, quoted_within, quoted_st
 
 -- all of a text is what begins with its first byte, and is of this kind
 pub record Told (o : Option TokenKind) (b : ℕ) (m : List ℕ) : Type 0 where
-  pub kind : kind_at b m ≡ o
-  pub all : behind b m ≡ length m
+  pub kind : kind_beginning b m ≡ o
+  pub all : length_behind b m ≡ length m
 
-told_at : (s : TokenStart) (kind : Option TokenKind) (b : ℕ) (m : List ℕ) → start_of b ≡ s → kind_in s m ≡ kind → behind_in s b m ≡ length m → Told kind b m
-told_at s kind b m e k n = record { kind = ap (λ (t : TokenStart). kind_in t m) e ∙ k; all = ap (λ (t : TokenStart). behind_in t b m) e ∙ n }
+told_at : (s : TokenStart) (kind : Option TokenKind) (b : ℕ) (m : List ℕ) → start_of b ≡ s → kind_begun_by s m ≡ kind → behind_in s b m ≡ length m → Told kind b m
+told_at s kind b m e k n = record { kind = ap (λ (t : TokenStart). kind_begun_by t m) e ∙ k; all = ap (λ (t : TokenStart). behind_in t b m) e ∙ n }
 
 abbrev pub ToldAll : Option TokenKind → List ℕ → Type 0
 ToldAll kind [] = ⊥
@@ -122,7 +122,7 @@ special_grows b (c ∷ cs) r = let k = kept_grows (c ∷ cs) r in grind (arith, 
 
 quoted_grows : (m r : List ℕ) → quoted_behind m ≤ quoted_behind (m ++ r)
 quoted_grows m r =
-    elim (cases_Bool (is_closed m)) [
+    elim (cases_Bool (quote_ends m)) [
       | inl y ↦ (let s = quoted_stays m r y in rw (y, s.closed, s.same) (omega arith))
       | inr y ↦ rw y (omega arith)
     ]
@@ -138,7 +138,7 @@ behind_grows (Single kind) b m r = omega arith
 -- what is computed is of its kind
 pub record Extent (s : TokenStart) (b : ℕ) (bs : List ℕ) : Type 0 where
   pub within : behind_in s b bs ≤ length bs
-  pub fits : can_be (kind_in s bs) (b ∷ take (behind_in s b bs) bs) ≡ true
+  pub fits : can_be (kind_begun_by s bs) (b ∷ take (behind_in s b bs) bs) ≡ true
 
 single_special : (b : ℕ) → is_special b ≡ true → can_be (Some Special) (b ∷ []) ≡ true
 single_special b s =
@@ -173,7 +173,7 @@ special_extent b bs s = record {
 quoted_extent : (bs : List ℕ) → Extent Quote 34 bs
 unfolding is_stray is_punctuation is_special is_ordinary is_blank
 quoted_extent bs =
-    elim (cases_Bool (is_closed bs)) [
+    elim (cases_Bool (quote_ends bs)) [
       | inl y ↦ record { within = rw y (quoted_within bs y); fits = rw y (quoted_front bs y) }
       | inr y ↦ record { within = rw y (omega arith); fits = rw y refl }
     ]

@@ -11,7 +11,7 @@ use Rattle.std.proofs.lemmas.Fmt.{decimal_is_IsNumeral, decimal_digit, first_dec
 use Rattle.std.proofs.lemmas.Str.Parse.{IsNumeralModel, numerals_by_fold}
 use Rattle.ladr_lex.specs.Bytes.{is_ordinary}
 use Rattle.ladr_lex.specs.Cuts.{is_run}
-use Rattle.ladr_lex.specs.Numeral.{is_numeral, value, value_from, fitting, whole_number, number}
+use Rattle.ladr_lex.specs.Numeral.{is_numeral, value, value_from, fitting, whole_number, limited_number_of}
 
 pub own : IsNumeralModel (λ ds. list_all is_ascii_digit ds ≡ true) value
 own = numerals_by_fold _ (search rules) value_from (search rules)
@@ -93,19 +93,19 @@ decimal_whole text n h =
     ]
 
 -- where it is below 4,294,967,295, nothing is cut off
-pub decimal_number : (text : List ℕ) → number text < 4294967295 → decimal (number text) ≡ text
+pub decimal_number : (text : List ℕ) → limited_number_of text < 4294967295 → decimal (limited_number_of text) ≡ text
 decimal_number text m = by (whole_number text) refl
   where
-    by : (o : Option ℕ) → o ≡ whole_number text → decimal (number text) ≡ text
-    by None is = absurd (let e : number text ≡ 4294967295 = ap (λ o. min 4294967295 (unwrap_or o 4294967295)) (sym is) in omega (arith, e, m))
+    by : (o : Option ℕ) → o ≡ whole_number text → decimal (limited_number_of text) ≡ text
+    by None is = absurd (let e : limited_number_of text ≡ 4294967295 = ap (λ o. min 4294967295 (unwrap_or o 4294967295)) (sym is) in omega (arith, e, m))
     by (Some n) is =
-        let e : number text ≡ min 4294967295 n = ap (λ o. min 4294967295 (unwrap_or o 4294967295)) (sym is) in
-        let same : number text ≡ n = omega (arith, e, m) in
+        let e : limited_number_of text ≡ min 4294967295 n = ap (λ o. min 4294967295 (unwrap_or o 4294967295)) (sym is) in
+        let same : limited_number_of text ≡ n = omega (arith, e, m) in
         ap decimal same ∙ sym (decimal_whole text n (sym is))
 
-pub number_decimal : (n : ℕ) → n < 4294967295 → number (decimal n) ≡ n
+pub number_decimal : (n : ℕ) → n < 4294967295 → limited_number_of (decimal n) ≡ n
 number_decimal n h =
-    let e : number (decimal n) ≡ min 4294967295 n = ap (λ o. min 4294967295 (unwrap_or o 4294967295)) (whole_decimal n (omega arith)) in
+    let e : limited_number_of (decimal n) ≡ min 4294967295 n = ap (λ o. min 4294967295 (unwrap_or o 4294967295)) (whole_decimal n (omega arith)) in
     omega (arith, e, h)
 
 digits_ordinary : (ds : List ℕ) → list_all is_ascii_digit ds ≡ true → list_all is_ordinary ds ≡ true

@@ -9,9 +9,9 @@ use Rattle.std.proofs.lemmas.Bool.{cases_Bool, and_from, and_parts, or_parts, bo
 use Rattle.std.proofs.lemmas.List.{drop_more}
 use Rattle.std.proofs.lemmas.Slice.Eq.{bytes_eq-Decides}
 use Rattle.indexmap.specs.IndexMap.{insert_entry}
-use Rattle.ladr_lex.specs.Cuts.{is_symbol, is_quoted}
+use Rattle.ladr_lex.specs.Cuts.{is_plain_symbol, is_quoted}
 use Rattle.ladr_lex.specs.OperatorView.{row_list, with_rows, may_be_put}
-use Rattle.ladr_lex.specs.Operators.{OperatorRow, operator_of, is_word, is_precedence, has_precedence, are_lawful, is_fixed, unquoted, is_unfit_symbol, declared, with_row}
+use Rattle.ladr_lex.specs.Operators.{OperatorRow, operator_of, is_quantifier_word, is_precedence, has_precedence, are_lawful, is_fixed, unquoted, is_unfit_symbol, declared, with_operator_row}
 use Rattle.ladr_lex.specs.declared.operators.Operator.{Operator}
 use Rattle.ladr_lex.specs.declared.operators.OperatorKind.{OperatorKind}
 use Rattle.ladr_lex.specs.declared.token.TokenKind.{TokenKind}
@@ -19,7 +19,7 @@ use Rattle.ladr_lex.specs.declared.token.TokenKind.TheVariants.{Open, Close, Lef
 use Rattle.ladr_lex.proofs.Wholes.{symbol_by_kind, quoted_by_kind, is_symbol_kind, is_quoted_kind}
 
 -- the rows once a name has an operator
-pub rows_put : (es : List (Vec ℕ × Option Operator)) (k : Vec ℕ) (o : Option Operator) → row_list (insert_entry (λ u v. bytes_eq u.items v.items) es k o) ≡ with_row k.items o (row_list es)
+pub rows_put : (es : List (Vec ℕ × Option Operator)) (k : Vec ℕ) (o : Option Operator) → row_list (insert_entry (λ u v. bytes_eq u.items v.items) es k o) ≡ with_operator_row k.items o (row_list es)
 rows_put [] k o = refl
 rows_put (e ∷ es) k o =
     elim (cases_Bool (bytes_eq k.items e.0.items)) [
@@ -41,7 +41,7 @@ found_row (e ∷ es) name =
     ]
 
 -- names that pass a test go on passing it
-all_put : (p : List ℕ → Bool) (name : List ℕ) (o : Option Operator) (rs : List OperatorRow) → p name ≡ true → list_all (λ (r : OperatorRow). p r.name) rs ≡ true → list_all (λ (r : OperatorRow). p r.name) (with_row name o rs) ≡ true
+all_put : (p : List ℕ → Bool) (name : List ℕ) (o : Option Operator) (rs : List OperatorRow) → p name ≡ true → list_all (λ (r : OperatorRow). p r.name) rs ≡ true → list_all (λ (r : OperatorRow). p r.name) (with_operator_row name o rs) ≡ true
 all_put p name o [] h a = and_from (p name) true h refl
 all_put p name o (r ∷ rs) h a =
     let parts = and_parts (p r.name) _ a in
@@ -58,7 +58,7 @@ other_name name x h =
     ]
 
 -- a table stays lawful
-pub lawful_put : (name : List ℕ) (o : Option Operator) (rs : List OperatorRow) → is_symbol name ≡ true → is_word name ≡ false → has_precedence o ≡ true → are_lawful rs ≡ true → are_lawful (with_row name o rs) ≡ true
+pub lawful_put : (name : List ℕ) (o : Option Operator) (rs : List OperatorRow) → is_plain_symbol name ≡ true → is_quantifier_word name ≡ false → has_precedence o ≡ true → are_lawful rs ≡ true → are_lawful (with_operator_row name o rs) ≡ true
 lawful_put name o [] s w p h = and_from _ true (and_from _ true (and_from _ _ (and_from _ _ s (ap not w)) p) refl) refl
 lawful_put name o (r ∷ rs) s w p h =
     let outer = and_parts _ _ h in
@@ -70,7 +70,7 @@ lawful_put name o (r ∷ rs) s w p h =
     ]
 
 -- a name has what it was given, and each other what it had
-pub operator_put : (rs : List OperatorRow) (name : List ℕ) (o : Option Operator) (x : List ℕ) → operator_of (with_row name o rs) x ≡ (if bytes_eq x name then o else operator_of rs x)
+pub operator_put : (rs : List OperatorRow) (name : List ℕ) (o : Option Operator) (x : List ℕ) → operator_of (with_operator_row name o rs) x ≡ (if bytes_eq x name then o else operator_of rs x)
 operator_put [] name o x = refl
 operator_put (r ∷ rs) name o x =
     elim (cases_Bool (bytes_eq name r.name)) [
@@ -93,10 +93,10 @@ operator_put (r ∷ rs) name o x =
         ]
 
 -- a quoted symbol is no name of the table
-no_symbol : (text name : List ℕ) → is_quoted text ≡ true → is_symbol name ≡ true → bytes_eq text name ≡ false
+no_symbol : (text name : List ℕ) → is_quoted text ≡ true → is_plain_symbol name ≡ true → bytes_eq text name ≡ false
 no_symbol text name q s =
     elim (cases_Bool (bytes_eq text name)) [
-      | inl y ↦ absurd (let e = (bytes_eq-Decides text name).0 y in apart _ (sym (quoted_by_kind text) ∙ q) (sym (symbol_by_kind text) ∙ ap (λ t. is_symbol t) e ∙ s))
+      | inl y ↦ absurd (let e = (bytes_eq-Decides text name).0 y in apart _ (sym (quoted_by_kind text) ∙ q) (sym (symbol_by_kind text) ∙ ap (λ t. is_plain_symbol t) e ∙ s))
       | inr y ↦ y
     ]
   where
@@ -125,10 +125,10 @@ abbrev Put : Type 0
 Put = Bor (List ℕ) × ℕ × OperatorKind
 
 pub record Next (rows : List Put) (i : ℕ) (e : Put) (rs : List OperatorRow) : Type 0 where
-  pub symbol : is_symbol e.0.now ≡ true
-  pub word : is_word e.0.now ≡ false
+  pub symbol : is_plain_symbol e.0.now ≡ true
+  pub word : is_quantifier_word e.0.now ≡ false
   pub precedence : is_precedence e.1 ≡ true
-  pub rest : with_rows (drop i rows) rs ≡ with_rows (drop (i + 1) rows) (with_row e.0.now (Some (record { precedence = e.1; kind = e.2 })) rs)
+  pub rest : with_rows (drop i rows) rs ≡ with_rows (drop (i + 1) rows) (with_operator_row e.0.now (Some (record { precedence = e.1; kind = e.2 })) rs)
   pub good : may_be_put (drop (i + 1) rows) ≡ true
 
 pub next_row : (rows : List Put) (i : ℕ) (d : Put) (rs : List OperatorRow) → i < length rows → may_be_put (drop i rows) ≡ true → Next rows i (get_or rows i d) rs
@@ -140,11 +140,11 @@ next_row rows i d rs h good =
     record { symbol = n.0; word = not-true _ n.1; precedence = e.1; rest = ap (λ (l : List Put). with_rows l rs) here; good = parts.1 }
 
 pub put_next : (rows : List Put) (i : ℕ) (d : Put) (o : Option Operator) (rs new whole : List OperatorRow) → i < length rows → may_be_put (drop i rows) ≡ true →
-    o ≡ Some (record { precedence = (get_or rows i d).1; kind = (get_or rows i d).2 }) → new ≡ with_row (get_or rows i d).0.now o rs → with_rows (drop i rows) rs ≡ whole →
+    o ≡ Some (record { precedence = (get_or rows i d).1; kind = (get_or rows i d).2 }) → new ≡ with_operator_row (get_or rows i d).0.now o rs → with_rows (drop i rows) rs ≡ whole →
     (with_rows (drop (i + 1) rows) new ≡ whole) × (may_be_put (drop (i + 1) rows) ≡ true)
 put_next rows i d o rs new whole h good e made all =
     let next = next_row rows i d rs h good in
-    (ap (with_rows (drop (i + 1) rows)) (made ∙ ap (λ (p : Option Operator). with_row (get_or rows i d).0.now p rs) e) ∙ sym next.rest ∙ all, next.good)
+    (ap (with_rows (drop (i + 1) rows)) (made ∙ ap (λ (p : Option Operator). with_operator_row (get_or rows i d).0.now p rs) e) ∙ sym next.rest ∙ all, next.good)
 
 -- a fixed symbol can't be declared
 pub fixed_kept : (rs : List OperatorRow) (p : ℕ) (type symbol name : List ℕ) → is_unfit_symbol symbol ≡ false → is_fixed name ≡ true → operator_of (declared p type symbol rs) name ≡ operator_of rs name

@@ -3,7 +3,7 @@ use Rattle.std.proofs.Common.{◌≡◌, ℕ, zero, suc, ◌+◌, ◌≤◌, Lis
 use Rattle.std.specs.Prelude.{IsTrue}
 use Rattle.std.proofs.lemmas.List.{append-nil, take-append-drop, length-take-le}
 use Rattle.ladr_lex.specs.Cuts.{Piece, can_be, IsLongest, Cuts, nothing, gap, token}
-use Rattle.ladr_lex.specs.Lexed.{kind_at, behind, piece, lexed_behind}
+use Rattle.ladr_lex.specs.Lexed.{kind_beginning, length_behind, piece, lexed_behind}
 use Rattle.ladr_lex.specs.declared.token.TokenKind.{TokenKind}
 use Rattle.ladr_lex.proofs.Extents.{told}
 use Rattle.ladr_lex.proofs.Lexing.{behind_within, longest_at}
@@ -34,19 +34,19 @@ longest_unique k l t r u s one two e =
 
 -- what the first byte of the longest text tells
 record Leads (o : Option TokenKind) (b : ℕ) (m rest : List ℕ) : Type 0 where
-  kind : kind_at b (m ++ rest) ≡ o
-  text : take (behind b (m ++ rest)) (m ++ rest) ≡ m
-  rest_of : drop (behind b (m ++ rest)) (m ++ rest) ≡ rest
+  kind : kind_beginning b (m ++ rest) ≡ o
+  text : take (length_behind b (m ++ rest)) (m ++ rest) ≡ m
+  rest_of : drop (length_behind b (m ++ rest)) (m ++ rest) ≡ rest
 
 leads : (o : Option TokenKind) (b : ℕ) (m rest : List ℕ) → IsLongest o (b ∷ m) rest → Leads o b m rest
 leads o b m rest l =
     let bs = m ++ rest in
-    let n = behind b bs in
+    let n = length_behind b bs in
     let found = longest_at b bs in
-    let same = longest_unique (kind_at b bs) o (b ∷ take n bs) (drop n bs) (b ∷ m) rest found l (ap (λ (w : List ℕ). b ∷ w) (take-append-drop n bs)) in
+    let same = longest_unique (kind_beginning b bs) o (b ∷ take n bs) (drop n bs) (b ∷ m) rest found l (ap (λ (w : List ℕ). b ∷ w) (take-append-drop n bs)) in
     let tail : take n bs ≡ m = cc in
     record {
-      kind = sym (told (kind_at b bs) (b ∷ take n bs) found.fits).kind ∙ ap (kind_at b) tail ∙ (told o (b ∷ m) l.fits).kind;
+      kind = sym (told (kind_beginning b bs) (b ∷ take n bs) found.fits).kind ∙ ap (kind_beginning b) tail ∙ (told o (b ∷ m) l.fits).kind;
       text = tail;
       rest_of = same.1;
     }
@@ -57,14 +57,14 @@ lexed_skip i zero bs h = ap (λ (k : ℕ). lexed_behind k 0 bs) (sym (add-zero i
 lexed_skip i (suc n) [] h = absurd (omega arith)
 lexed_skip i (suc n) (b ∷ bs) h = lexed_skip (suc i) n bs (omega arith) ∙ ap (λ (k : ℕ). lexed_behind k 0 (drop n bs)) (omega arith)
 
-pub lexed_front : (i b : ℕ) (bs : List ℕ) → lexed_behind i 0 (b ∷ bs) ≡ piece (kind_at b bs) (b ∷ take (behind b bs) bs) i ++ lexed_behind (suc i + behind b bs) 0 (drop (behind b bs) bs)
-lexed_front i b bs = ap (λ (l : List Piece). piece (kind_at b bs) (b ∷ take (behind b bs) bs) i ++ l) (lexed_skip (suc i) (behind b bs) bs (behind_within b bs))
+pub lexed_front : (i b : ℕ) (bs : List ℕ) → lexed_behind i 0 (b ∷ bs) ≡ piece (kind_beginning b bs) (b ∷ take (length_behind b bs) bs) i ++ lexed_behind (suc i + length_behind b bs) 0 (drop (length_behind b bs) bs)
+lexed_front i b bs = ap (λ (l : List Piece). piece (kind_beginning b bs) (b ∷ take (length_behind b bs) bs) i ++ l) (lexed_skip (suc i) (length_behind b bs) bs (behind_within b bs))
 
 lexed_longest : (i : ℕ) (o : Option TokenKind) (text rest : List ℕ) → IsLongest o text rest → lexed_behind i 0 (text ++ rest) ≡ piece o text i ++ lexed_behind (i + length text) 0 rest
 lexed_longest i o [] rest l = absurd (told o [] l.fits)
 lexed_longest i o (b ∷ m) rest l =
     let t = leads o b m rest l in
-    let place : suc i + behind b (m ++ rest) ≡ i + length (b ∷ m) = omega (arith, ap length t.text, length-take-le (behind b (m ++ rest)) (m ++ rest) (behind_within b (m ++ rest))) in
+    let place : suc i + length_behind b (m ++ rest) ≡ i + length (b ∷ m) = omega (arith, ap length t.text, length-take-le (length_behind b (m ++ rest)) (m ++ rest) (behind_within b (m ++ rest))) in
     lexed_front i b (m ++ rest) ∙ (λ j. piece (t.kind j) (b ∷ t.text j) i ++ lexed_behind (place j) 0 (t.rest_of j))
 
 -- the tokens are those computed

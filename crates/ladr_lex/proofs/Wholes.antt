@@ -2,8 +2,8 @@
 use Rattle.std.proofs.Common.{◌≡◌, ℕ, Bool, true, false, List, [], ◌∷◌, length, Option, Some, None, inl, inr, ⊎_elim, refl, sym, ap, ◌∙◌, arith}
 use Rattle.std.proofs.lemmas.Bool.{cases_Bool, cases_eq, eq-eqb, ne_eqb, or_left, or_right, or_cases}
 use Rattle.std.proofs.lemmas.List.{take_all}
-use Rattle.ladr_lex.specs.Cuts.{can_be, is_symbol, is_quoted}
-use Rattle.ladr_lex.specs.Lexed.{start_of, kind_at, behind, whole_kind}
+use Rattle.ladr_lex.specs.Cuts.{can_be, is_plain_symbol, is_quoted}
+use Rattle.ladr_lex.specs.Lexed.{start_of, kind_beginning, length_behind, whole_kind}
 use Rattle.ladr_lex.specs.declared.token.TokenKind.{TokenKind}
 use Rattle.ladr_lex.specs.declared.token.TokenKind.TheVariants.{Open, Close, LeftSquare, RightSquare, Comma, Stop, Ordinary, Quoted, Special, Unreadable}
 use Rattle.ladr_lex.proofs.Extents.{told, extent}
@@ -11,18 +11,18 @@ use Rattle.ladr_lex.proofs.Extents.{told, extent}
 -- bytes of a kind have it
 whole_is : (k : TokenKind) (text : List ℕ) → can_be (Some k) text ≡ true → whole_kind text ≡ Some k
 whole_is k [] h = absurd (told (Some k) [] h)
-whole_is k (b ∷ m) h = let t = told (Some k) (b ∷ m) h in rw (eq-eqb (behind b m) (length m) t.all) t.kind
+whole_is k (b ∷ m) h = let t = told (Some k) (b ∷ m) h in rw (eq-eqb (length_behind b m) (length m) t.all) t.kind
 
 -- bytes that have a kind are of it
 is_whole : (k : TokenKind) (text : List ℕ) → whole_kind text ≡ Some k → can_be (Some k) text ≡ true
 is_whole k [] h = cc
 is_whole k (b ∷ m) h =
-    elim (cases_eq (behind b m) (length m)) [
-      | inl e ↦ (let same : kind_at b m ≡ Some k = rw (eq-eqb (behind b m) (length m) e) at h in
+    elim (cases_eq (length_behind b m) (length m)) [
+      | inl e ↦ (let same : kind_beginning b m ≡ Some k = rw (eq-eqb (length_behind b m) (length m) e) at h in
           ap (λ (o : Option TokenKind). can_be o (b ∷ m)) (sym same)
-          ∙ ap (λ (l : List ℕ). can_be (kind_at b m) (b ∷ l)) (sym (take_all (behind b m) m (omega arith)))
+          ∙ ap (λ (l : List ℕ). can_be (kind_beginning b m) (b ∷ l)) (sym (take_all (length_behind b m) m (omega arith)))
           ∙ (extent (start_of b) b m refl).fits)
-      | inr e ↦ absurd (let other : None ≡ Some k = rw (ne_eqb (behind b m) (length m) e) at h in cc)
+      | inr e ↦ absurd (let other : None ≡ Some k = rw (ne_eqb (length_behind b m) (length m) e) at h in cc)
     ]
 
 abbrev pub is_symbol_kind : Option TokenKind → Bool
@@ -34,17 +34,17 @@ abbrev pub is_quoted_kind : Option TokenKind → Bool
 is_quoted_kind (Some Quoted) = true
 is_quoted_kind _ = false
 
-pub symbol_by_kind : (text : List ℕ) → is_symbol text ≡ is_symbol_kind (whole_kind text)
+pub symbol_by_kind : (text : List ℕ) → is_plain_symbol text ≡ is_symbol_kind (whole_kind text)
 symbol_by_kind text = at (whole_kind text) refl
   where
-    none : (o : Option TokenKind) → whole_kind text ≡ o → is_symbol_kind o ≡ false → is_symbol text ≡ false
+    none : (o : Option TokenKind) → whole_kind text ≡ o → is_symbol_kind o ≡ false → is_plain_symbol text ≡ false
     none o e f =
-        elim (cases_Bool (is_symbol text)) [
+        elim (cases_Bool (is_plain_symbol text)) [
           | inl y ↦ ⊎_elim (λ g. let k = sym e ∙ whole_is Ordinary text g in cc) (λ g. let k = sym e ∙ whole_is Special text g in cc) (or_cases _ _ y)
           | inr y ↦ y
         ]
 
-    at : (o : Option TokenKind) → whole_kind text ≡ o → is_symbol text ≡ is_symbol_kind o
+    at : (o : Option TokenKind) → whole_kind text ≡ o → is_plain_symbol text ≡ is_symbol_kind o
     at (Some Ordinary) e = or_left _ _ (is_whole Ordinary text e)
     at (Some Special) e = or_right _ _ (is_whole Special text e)
     at None e = none None e refl

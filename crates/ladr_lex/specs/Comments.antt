@@ -14,7 +14,8 @@ begins_with (c ∷ cs) (b ∷ bs) = b == c && begins_with cs bs
 -- how many bytes there are up to the end of the first such word, if the word is in them
 abbrev pub up_to : List ℕ → List ℕ → Option ℕ
 up_to word [] = None
-up_to word (b ∷ bs) = if begins_with word (b ∷ bs) then Some (length word) else option_map suc (up_to word bs)
+up_to word (b ∷ bs) =
+    if begins_with word (b ∷ bs) then Some (length word) else option_map suc (up_to word bs)
 
 abbrev pub contains : List ℕ → List ℕ → Bool
 contains word bytes = is_some (up_to word bytes)

@@ -50,14 +50,16 @@ is_single class (b ∷ c ∷ cs) = false
 
 -- a byte that begins neither a comment nor any token but a quoted symbol
 unfoldable pub is_stray : ℕ → Bool
-is_stray b = not (is_blank b || is_punctuation b || is_ordinary b || is_special b || is_apostrophe b || is_percent b)
+is_stray b =
+    not (is_blank b || is_punctuation b || is_ordinary b || is_special b || is_apostrophe b
+    || is_percent b)
 
 -- what stands between tokens: a byte of white space, or a comment
 abbrev pub is_gap : List ℕ → Bool
 is_gap text = is_single is_blank text || is_comment text
 
--- The texts of a kind, and of what stands between tokens, which has none. A special symbol ends with `-` only as `-` itself
--- and as `<-`; unreadable are a stray byte and a block without its end.
+-- The texts of a kind, and of what stands between tokens, which has none. A special symbol ends
+-- with `-` only as `-` itself and as `<-`; unreadable are a stray byte and a block without its end.
 abbrev pub can_be : Option TokenKind → List ℕ → Bool
 can_be None text = is_gap text
 can_be (Some Open) text = bytes_eq text (codes "(")
@@ -68,25 +70,31 @@ can_be (Some Comma) text = bytes_eq text (codes ",")
 can_be (Some Stop) text = bytes_eq text (codes ".")
 can_be (Some Ordinary) text = is_run is_ordinary text
 can_be (Some Quoted) text = is_quoted text
-can_be (Some Special) text = bytes_eq text (codes "'") || bytes_eq text (codes "-") || bytes_eq text (codes "<-") || is_special_run text
+can_be (Some Special) text =
+    bytes_eq text (codes "'") || bytes_eq text (codes "-") || bytes_eq text (codes "<-")
+    || is_special_run text
 can_be (Some Unreadable) text = is_single is_stray text || is_open_block text
 
 -- an ordinary or special symbol
-abbrev pub is_symbol : List ℕ → Bool
-is_symbol text = can_be (Some Ordinary) text || can_be (Some Special) text
+abbrev pub is_plain_symbol : List ℕ → Bool
+is_plain_symbol text = can_be (Some Ordinary) text || can_be (Some Special) text
 
 -- The text in front of the rest is of this kind, and no longer front of both is of any.
 pub record IsLongest (kind : Option TokenKind) (text rest : List ℕ) : Type 0 where
   pub fits : IsTrue (can_be kind text)
-  pub longest : (other : Option TokenKind) (more behind : List ℕ) → rest ≡ more ++ behind → IsTrue (can_be other (text ++ more)) → more ≡ []
+  pub longest : (other : Option TokenKind) (more behind : List ℕ) → rest ≡ more ++ behind →
+      IsTrue (can_be other (text ++ more)) → more ≡ []
 
--- The tokens cut the bytes, which stand at place i: these are, from the first to the last, white space, comments and the tokens,
--- each as long as it can be.
+-- The tokens cut the bytes, which stand at place i: these are, from the first to the last, white
+-- space, comments and the tokens, each as long as it can be.
 pub data Cuts : ℕ → List ℕ → List Piece → Type 0 where
   nothing : {i : ℕ} → Cuts i [] []
   gap :
-      {i : ℕ} {text rest : List ℕ} {ts : List Piece} → IsLongest None text rest → Cuts (i + length text) rest ts →
+      {i : ℕ} {text rest : List ℕ} {ts : List Piece} → IsLongest None text rest →
+      Cuts (i + length text) rest ts →
       Cuts i (text ++ rest) ts
   token :
-      {i : ℕ} {text rest : List ℕ} {ts : List Piece} (kind : TokenKind) → IsLongest (Some kind) text rest →
-      Cuts (i + length text) rest ts → Cuts i (text ++ rest) (record { kind = kind; text = text; start = i } ∷ ts)
+      {i : ℕ} {text rest : List ℕ} {ts : List Piece} (kind : TokenKind) →
+      IsLongest (Some kind) text rest →
+      Cuts (i + length text) rest ts →
+      Cuts i (text ++ rest) (record { kind = kind; text = text; start = i } ∷ ts)

@@ -36,8 +36,8 @@ in_class class.Quotable b = is_quotable b
 in_class class.InLine b = is_in_line b
 
 -- whether a quoted symbol ends in the bytes behind its first quote
-abbrev pub is_closed : List ℕ → Bool
-is_closed bs = begins_with (codes "\"") (drop (prefix_len is_quotable bs) bs)
+abbrev pub quote_ends : List ℕ → Bool
+quote_ends bs = begins_with (codes "\"") (drop (prefix_len is_quotable bs) bs)
 
 -- whether a block begins with `%` and these bytes, and whether it ends in them
 abbrev pub is_block : List ℕ → Bool
@@ -46,17 +46,19 @@ is_block bs = begins_with (codes "BEGIN") bs
 abbrev pub is_ended : List ℕ → Bool
 is_ended bs = contains (codes "%END") bs
 
--- the kind of what begins with a byte and those behind it: of a token, or none, of white space and comments
-abbrev pub kind_in : TokenStart → List ℕ → Option TokenKind
-kind_in Blank bs = None
-kind_in Word bs = Some Ordinary
-kind_in Sign bs = Some Special
-kind_in Quote bs = if is_closed bs then Some Quoted else Some Unreadable
-kind_in Percent bs = if is_block bs then (if is_ended bs then None else Some Unreadable) else None
-kind_in (Single kind) bs = Some kind
+-- the kind of what begins with a byte and those behind it: of a token, or none, of white space and
+-- comments
+abbrev pub kind_begun_by : TokenStart → List ℕ → Option TokenKind
+kind_begun_by Blank bs = None
+kind_begun_by Word bs = Some Ordinary
+kind_begun_by Sign bs = Some Special
+kind_begun_by Quote bs = if quote_ends bs then Some Quoted else Some Unreadable
+kind_begun_by Percent bs =
+    if is_block bs then (if is_ended bs then None else Some Unreadable) else None
+kind_begun_by (Single kind) bs = Some kind
 
-abbrev pub kind_at : ℕ → List ℕ → Option TokenKind
-kind_at b bs = kind_in (start_of b) bs
+abbrev pub kind_beginning : ℕ → List ℕ → Option TokenKind
+kind_beginning b bs = kind_begun_by (start_of b) bs
 
 -- how many bytes the longest run of special bytes has that doesn't end with `-`
 abbrev pub kept : List ℕ → ℕ
@@ -72,10 +74,12 @@ abbrev pub special_behind : ℕ → List ℕ → ℕ
 special_behind b bs = if b == 60 && kept bs == 0 && begins_with_dash bs then 1 else kept bs
 
 abbrev pub quoted_behind : List ℕ → ℕ
-quoted_behind bs = if is_closed bs then suc (prefix_len is_quotable bs) else 0
+quoted_behind bs = if quote_ends bs then suc (prefix_len is_quotable bs) else 0
 
 abbrev pub comment_behind : List ℕ → ℕ
-comment_behind bs = if is_block bs then unwrap_or (up_to (codes "%END") bs) (length bs) else prefix_len is_in_line bs
+comment_behind bs =
+    if is_block bs then unwrap_or (up_to (codes "%END") bs) (length bs)
+    else prefix_len is_in_line bs
 
 -- how many of the bytes behind the first belong to it
 abbrev pub behind_in : TokenStart → ℕ → List ℕ → ℕ
@@ -86,24 +90,27 @@ behind_in Quote b bs = quoted_behind bs
 behind_in Percent b bs = comment_behind bs
 behind_in (Single kind) b bs = 0
 
-abbrev pub behind : ℕ → List ℕ → ℕ
-behind b bs = behind_in (start_of b) b bs
+abbrev pub length_behind : ℕ → List ℕ → ℕ
+length_behind b bs = behind_in (start_of b) b bs
 
 -- the kind of what bytes are, if all of them are what begins with the first, and it is a token
 abbrev pub whole_kind : List ℕ → Option TokenKind
 whole_kind [] = None
-whole_kind (b ∷ bs) = if behind b bs == length bs then kind_at b bs else None
+whole_kind (b ∷ bs) = if length_behind b bs == length bs then kind_beginning b bs else None
 
 -- the token of this kind, if it is one
 abbrev pub piece : Option TokenKind → List ℕ → ℕ → List Piece
 piece None text i = []
 piece (Some kind) text i = record { kind = kind; text = text; start = i } ∷ []
 
--- the tokens of the bytes, which stand at place i, when the first n of them belong to what is before
+-- the tokens of the bytes, which stand at place i, when the first n of them belong to what is
+-- before
 abbrev pub lexed_behind : ℕ → ℕ → List ℕ → List Piece
 lexed_behind i n [] = []
 lexed_behind i (suc n) (b ∷ bs) = lexed_behind (suc i) n bs
-lexed_behind i zero (b ∷ bs) = piece (kind_at b bs) (b ∷ take (behind b bs) bs) i ++ lexed_behind (suc i) (behind b bs) bs
+lexed_behind i zero (b ∷ bs) =
+    piece (kind_beginning b bs) (b ∷ take (length_behind b bs) bs) i
+    ++ lexed_behind (suc i) (length_behind b bs) bs
 
 -- the tokens of a text
 abbrev pub lexed : List ℕ → List Piece
@@ -113,9 +120,10 @@ lexed bytes = lexed_behind 0 0 bytes
 abbrev pub lexed_from : ℕ → ℕ → List ℕ → List Piece
 lexed_from start i bytes = lexed_behind (start + i) 0 (drop i bytes)
 
--- Tokens of a text, which stands at place start, were added that begin from one byte on and before another: with those to come
--- from there they are the same as before.
+-- Tokens of a text, which stands at place start, were added that begin from one byte on and before
+-- another: with those to come from there they are the same as before.
 pub record Advances (start : ℕ) (bytes : List ℕ) (old new : List Token) (at next : ℕ) : Type 0 where
   pub onward : at ≤ next
   pub within : next ≤ length bytes
-  pub found : pieces_of new ++ lexed_from start next bytes ≡ pieces_of old ++ lexed_from start at bytes
+  pub found : pieces_of new ++ lexed_from start next bytes ≡ pieces_of old
+      ++ lexed_from start at bytes

@@ -26,5 +26,5 @@ abbrev pub whole_number : List ℕ → Option ℕ
 whole_number text = if is_numeral text then fitting (value text) else None
 
 -- the number of a numeral, where one above 4,294,967,295 counts as this
-abbrev pub number : List ℕ → ℕ
-number text = min 4294967295 (unwrap_or (whole_number text) 4294967295)
+abbrev pub limited_number_of : List ℕ → ℕ
+limited_number_of text = min 4294967295 (unwrap_or (whole_number text) 4294967295)

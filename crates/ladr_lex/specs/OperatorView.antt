@@ -2,8 +2,8 @@
 use Rattle.std.specs.Prelude.{ℕ, Bool, true, not, ◌&&◌, List, [], ◌∷◌, Option, Some}
 use Rattle.std.specs.Global.{Vec}
 use Rattle.std.specs.Borrow.{Bor}
-use Rattle.ladr_lex.specs.Cuts.{is_symbol}
-use Rattle.ladr_lex.specs.Operators.{OperatorRow, is_word, is_precedence, with_row}
+use Rattle.ladr_lex.specs.Cuts.{is_plain_symbol}
+use Rattle.ladr_lex.specs.Operators.{OperatorRow, is_quantifier_word, is_precedence, with_operator_row}
 use Rattle.ladr_lex.specs.declared.operators.Operator.{Operator}
 use Rattle.ladr_lex.specs.declared.operators.OperatorKind.{OperatorKind}
 
@@ -14,9 +14,12 @@ row_list (e ∷ es) = record { name = e.0.items; operator = e.1 } ∷ row_list e
 -- the rows once operators are put into them one after the other
 abbrev pub with_rows : List (Bor (List ℕ) × ℕ × OperatorKind) → List OperatorRow → List OperatorRow
 with_rows [] rs = rs
-with_rows (e ∷ es) rs = with_rows es (with_row e.0.now (Some (record { precedence = e.1; kind = e.2 })) rs)
+with_rows (e ∷ es) rs =
+    with_rows es (with_operator_row e.0.now (Some (record { precedence = e.1; kind = e.2 })) rs)
 
 -- whether a table may have them
 abbrev pub may_be_put : List (Bor (List ℕ) × ℕ × OperatorKind) → Bool
 may_be_put [] = true
-may_be_put (e ∷ es) = is_symbol e.0.now && not (is_word e.0.now) && is_precedence e.1 && may_be_put es
+may_be_put (e ∷ es) =
+    is_plain_symbol e.0.now && not (is_quantifier_word e.0.now) && is_precedence e.1
+    && may_be_put es

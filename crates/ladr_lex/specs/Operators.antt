@@ -3,7 +3,7 @@ use Rattle.std.specs.Prelude.{ℕ, ◌-◌, length, take, drop, Bool, true, fals
 use Rattle.std.specs.List.{list_all, list_any}
 use Rattle.std.specs.Str.{bytes_eq}
 use Prim.Native.String.{String}
-use Rattle.ladr_lex.specs.Cuts.{is_quoted, is_symbol}
+use Rattle.ladr_lex.specs.Cuts.{is_quoted, is_plain_symbol}
 use Rattle.ladr_lex.specs.declared.operators.Operator.{Operator}
 use Rattle.ladr_lex.specs.declared.operators.OperatorKind.{OperatorKind}
 use Rattle.ladr_lex.specs.declared.operators.OperatorKind.TheVariants.{Infix, InfixLeft, InfixRight, Prefix, PrefixParen, Postfix, PostfixParen}
@@ -41,8 +41,8 @@ if_after None = None
 if_after (Some o) = if is_prefix o.kind then None else Some o
 
 -- the words of the quantifiers
-abbrev pub is_word : List ℕ → Bool
-is_word name = bytes_eq (codes "all") name || bytes_eq (codes "exists") name
+abbrev pub is_quantifier_word : List ℕ → Bool
+is_quantifier_word name = bytes_eq (codes "all") name || bytes_eq (codes "exists") name
 
 -- precedences are from 1 to 998
 abbrev pub is_precedence : ℕ → Bool
@@ -54,20 +54,25 @@ has_precedence (Some o) = is_precedence o.precedence
 
 -- names are symbols without quotes, and no operator is named like a quantifier
 abbrev pub is_lawful_row : OperatorRow → Bool
-is_lawful_row r = is_symbol r.name && not (is_word r.name) && has_precedence r.operator
+is_lawful_row r =
+    is_plain_symbol r.name && not (is_quantifier_word r.name) && has_precedence r.operator
 
 -- each row is lawful, and no two have the same name
 abbrev pub are_lawful : List OperatorRow → Bool
 are_lawful [] = true
-are_lawful (r ∷ rs) = is_lawful_row r && list_all (λ s. not (bytes_eq r.name s.name)) rs && are_lawful rs
+are_lawful (r ∷ rs) =
+    is_lawful_row r && list_all (λ s. not (bytes_eq r.name s.name)) rs && are_lawful rs
 
 -- the rows with this operator of a name, in place of the one that it had
-abbrev pub with_row : List ℕ → Option Operator → List OperatorRow → List OperatorRow
-with_row name o [] = record { name = name; operator = o } ∷ []
-with_row name o (r ∷ rs) = if bytes_eq name r.name then record { name = r.name; operator = o } ∷ rs else r ∷ with_row name o rs
+abbrev pub with_operator_row : List ℕ → Option Operator → List OperatorRow → List OperatorRow
+with_operator_row name o [] = record { name = name; operator = o } ∷ []
+with_operator_row name o (r ∷ rs) =
+    if bytes_eq name r.name then record { name = r.name; operator = o } ∷ rs
+    else r ∷ with_operator_row name o rs
 
 abbrev pub row : String → ℕ → OperatorKind → OperatorRow
-row name p kind = record { name = codes name; operator = Some (record { precedence = p; kind = kind }) }
+row name p kind =
+    record { name = codes name; operator = Some (record { precedence = p; kind = kind }) }
 
 -- the operators at the start
 abbrev pub standard_rows : List OperatorRow
@@ -76,15 +81,18 @@ standard_rows =
     row "<->" 800 Infix ∷ row "->" 800 Infix ∷ row "<-" 800 Infix ∷
     row "|" 790 InfixRight ∷
     row "&" 780 InfixRight ∷
-    row "=" 700 Infix ∷ row "!=" 700 Infix ∷ row "==" 700 Infix ∷ row "<" 700 Infix ∷ row "<=" 700 Infix ∷ row ">" 700 Infix ∷ row ">=" 700 Infix ∷
-    row "+" 500 Infix ∷ row "*" 500 Infix ∷ row "@" 500 Infix ∷ row "/" 500 Infix ∷ row "\\" 500 Infix ∷ row "^" 500 Infix ∷ row "v" 500 Infix ∷
+    row "=" 700 Infix ∷ row "!=" 700 Infix ∷ row "==" 700 Infix ∷ row "<" 700 Infix
+    ∷ row "<=" 700 Infix ∷ row ">" 700 Infix ∷ row ">=" 700 Infix ∷
+    row "+" 500 Infix ∷ row "*" 500 Infix ∷ row "@" 500 Infix ∷ row "/" 500 Infix
+    ∷ row "\\" 500 Infix ∷ row "^" 500 Infix ∷ row "v" 500 Infix ∷
     row "-" 350 Prefix ∷
     row "'" 300 Postfix ∷ []
 
 -- the symbols whose operators, or lack of one, can't be changed
 abbrev pub fixed : List (List ℕ)
 fixed =
-    codes "#" ∷ codes "<->" ∷ codes "->" ∷ codes "<-" ∷ codes "|" ∷ codes "&" ∷ codes "=" ∷ codes "!=" ∷ codes "-" ∷ codes "$T" ∷ codes "$F" ∷ codes "all" ∷
+    codes "#" ∷ codes "<->" ∷ codes "->" ∷ codes "<-" ∷ codes "|" ∷ codes "&" ∷ codes "="
+    ∷ codes "!=" ∷ codes "-" ∷ codes "$T" ∷ codes "$F" ∷ codes "all" ∷
     codes "exists" ∷ []
 
 abbrev pub is_fixed : List ℕ → Bool
@@ -112,14 +120,16 @@ operator_with p (Operates kind) = Some (record { precedence = p; kind = kind })
 abbrev pub unquoted : List ℕ → List ℕ
 unquoted symbol = if is_quoted symbol then take (length symbol - 1 - 1) (drop 1 symbol) else symbol
 
--- what may not be declared: a precedence below 1 or above 998 or an unknown type (row 5); a fixed symbol, or quotes round
--- what is no ordinary or special symbol (row 6)
+-- what may not be declared: a precedence below 1 or above 998 or an unknown type (row 5); a fixed
+-- symbol, or quotes round what is no ordinary or special symbol (row 6)
 abbrev pub is_unfit_operator : ℕ → List ℕ → Bool
 is_unfit_operator p type = not (is_precedence p) || is_none (type_named type)
 
 abbrev pub is_unfit_symbol : List ℕ → Bool
-is_unfit_symbol symbol = is_fixed (unquoted symbol) || not (is_symbol (unquoted symbol))
+is_unfit_symbol symbol = is_fixed (unquoted symbol) || not (is_plain_symbol (unquoted symbol))
 
 -- the table once a symbol is declared
 abbrev pub declared : ℕ → List ℕ → List ℕ → List OperatorRow → List OperatorRow
-declared p type symbol rows = with_row (unquoted symbol) (operator_with p (unwrap_or (type_named type) Ordinary)) rows
+declared p type symbol rows =
+    with_operator_row (unquoted symbol) (operator_with p (unwrap_or (type_named type) Ordinary))
+    rows

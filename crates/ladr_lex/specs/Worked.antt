@@ -12,9 +12,12 @@ worked_formula = codes "all x p(x,f(y)) = a != b."
 
 abbrev pub formula_tokens : List Piece
 formula_tokens =
-    at 0 Ordinary (codes "all") ∷ at 4 Ordinary (codes "x") ∷ at 6 Ordinary (codes "p") ∷ at 7 Open (codes "(") ∷ at 8 Ordinary (codes "x") ∷ at 9 Comma (codes ",") ∷
-    at 10 Ordinary (codes "f") ∷ at 11 Open (codes "(") ∷ at 12 Ordinary (codes "y") ∷ at 13 Close (codes ")") ∷ at 14 Close (codes ")") ∷ at 16 Special (codes "=") ∷
-    at 18 Ordinary (codes "a") ∷ at 20 Special (codes "!=") ∷ at 23 Ordinary (codes "b") ∷ at 24 Stop (codes ".") ∷ []
+    at 0 Ordinary (codes "all") ∷ at 4 Ordinary (codes "x") ∷ at 6 Ordinary (codes "p")
+    ∷ at 7 Open (codes "(") ∷ at 8 Ordinary (codes "x") ∷ at 9 Comma (codes ",") ∷
+    at 10 Ordinary (codes "f") ∷ at 11 Open (codes "(") ∷ at 12 Ordinary (codes "y")
+    ∷ at 13 Close (codes ")") ∷ at 14 Close (codes ")") ∷ at 16 Special (codes "=") ∷
+    at 18 Ordinary (codes "a") ∷ at 20 Special (codes "!=") ∷ at 23 Ordinary (codes "b")
+    ∷ at 24 Stop (codes ".") ∷ []
 
 -- special bytes: `-` goes off the end of a run unless it is `<-`, and `'` stands alone
 abbrev pub special_line : List ℕ
@@ -22,8 +25,10 @@ special_line = codes "|- -- <-> <-- +'-"
 
 abbrev pub special_tokens : List Piece
 special_tokens =
-    at 0 Special (codes "|") ∷ at 1 Special (codes "-") ∷ at 3 Special (codes "-") ∷ at 4 Special (codes "-") ∷ at 6 Special (codes "<->") ∷
-    at 10 Special (codes "<-") ∷ at 12 Special (codes "-") ∷ at 14 Special (codes "+") ∷ at 15 Special (codes "'") ∷ at 16 Special (codes "-") ∷ []
+    at 0 Special (codes "|") ∷ at 1 Special (codes "-") ∷ at 3 Special (codes "-")
+    ∷ at 4 Special (codes "-") ∷ at 6 Special (codes "<->") ∷
+    at 10 Special (codes "<-") ∷ at 12 Special (codes "-") ∷ at 14 Special (codes "+")
+    ∷ at 15 Special (codes "'") ∷ at 16 Special (codes "-") ∷ []
 
 -- comments: to the end of the line, or from `%BEGIN` to the next `%END`
 abbrev pub comment_lines : List ℕ
@@ -37,7 +42,8 @@ abbrev pub quoted_line : List ℕ
 quoted_line = codes "\"a %b\"c\"\""
 
 abbrev pub quoted_tokens : List Piece
-quoted_tokens = at 0 Quoted (codes "\"a %b\"") ∷ at 6 Ordinary (codes "c") ∷ at 7 Quoted (codes "\"\"") ∷ []
+quoted_tokens =
+    at 0 Quoted (codes "\"a %b\"") ∷ at 6 Ordinary (codes "c") ∷ at 7 Quoted (codes "\"\"") ∷ []
 
 -- a quote that isn't closed on its line, and a block that isn't closed
 abbrev pub open_lines : List ℕ
@@ -45,4 +51,5 @@ open_lines = codes "\"a\n{%BEGIN b. %EN"
 
 abbrev pub open_tokens : List Piece
 open_tokens =
-    at 0 Unreadable (codes "\"") ∷ at 1 Ordinary (codes "a") ∷ at 3 Unreadable (codes "{") ∷ at 4 Unreadable (codes "%BEGIN b. %EN") ∷ []
+    at 0 Unreadable (codes "\"") ∷ at 1 Ordinary (codes "a") ∷ at 3 Unreadable (codes "{")
+    ∷ at 4 Unreadable (codes "%BEGIN b. %EN") ∷ []

@@ -6,7 +6,7 @@ ghost use Rattle.ladr_lex.specs.ClauseNames.{clause_variable, is_clause_name, cl
 ghost use Rattle.ladr_lex.specs.Numeral.{whole_number};
 ghost use Rattle.ladr_lex.specs.Cuts.{Piece, is_quoted, Cuts};
 ghost use Rattle.ladr_lex.specs.Lexed.{lexed};
-ghost use Rattle.ladr_lex.specs.Operators.{OperatorRow, operator_of, are_lawful, is_fixed, standard_rows, unquoted, is_unfit_operator, is_unfit_symbol, declared, with_row};
+ghost use Rattle.ladr_lex.specs.Operators.{OperatorRow, operator_of, are_lawful, is_fixed, standard_rows, unquoted, is_unfit_operator, is_unfit_symbol, declared, with_operator_row};
 ghost use Rattle.ladr_lex.specs.Places.{line_of, column_of};
 ghost use Rattle.ladr_lex.specs.declared.operators.Operator.{Operator};
 ghost use Rattle.ladr_lex.specs.declared.operators.OperatorKind.TheVariants.{InfixLeft, Prefix};
@@ -54,7 +54,7 @@ pub fn worked()
 pub fn one_operator()
     // The name has it, and each other name what it had.
     ensures put { (rows : List OperatorRow) (name : List ℕ) (o : Option Operator) (other : List ℕ) →
-        operator_of (with_row name o rows) other
+        operator_of (with_operator_row name o rows) other
         ≡ (if bytes_eq other name then o else operator_of rows other) }
     // A fixed symbol has what it had, whatever is declared.
     ensures kept { (rows : List OperatorRow) (p : ℕ) (type symbol name : List ℕ)

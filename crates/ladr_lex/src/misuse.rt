@@ -1,6 +1,6 @@
 // How a readable item may be misused.
 ghost use Rattle.std.specs.Prelude.{◌≡◌};
-ghost use Rattle.ladr_lex.specs.Misuses.{row_of, earlier};
+ghost use Rattle.ladr_lex.specs.Misuses.{misuse_row, earlier};
 
 /// How a readable item is misused: a variant for each row of misuse, in the order of the rows.
 #[derive(Clone, Copy, Debug, PartialEq, Eq)]
@@ -46,7 +46,7 @@ pub enum Misuse {
 impl Misuse {
     /// The number of the row.
     pub fn row(self) -> u8
-        ensures { result ≡ row_of self }
+        ensures { result ≡ misuse_row self }
     {
         match self {
             Misuse::UnknownFlag => 1,

@@ -1,6 +1,6 @@
 // Numerals: `0`, or digits without a leading `0`.
 ghost use Rattle.std.specs.Prelude.{◌≡◌, ◌+◌, ◌-◌, ◌*◌};
-ghost use Rattle.ladr_lex.specs.Numeral.{is_numeral, value, fitting, whole_number, number};
+ghost use Rattle.ladr_lex.specs.Numeral.{is_numeral, value, fitting, whole_number, limited_number_of};
 ghost use Rattle.std.specs.List.{list_all};
 ghost use Rattle.std.specs.Char.{is_ascii_digit};
 
@@ -49,7 +49,7 @@ pub fn whole_number(text: &[u8]) -> Option<u64>
 /// The number of a numeral; one above 4,294,967,295, or a text that is no numeral, reads as 4,294,967,295, which is above all
 /// that the language allows.
 pub fn number(text: &[u8]) -> u32
-    ensures { result ≡ number text.now }
+    ensures { result ≡ limited_number_of text.now }
 {
     let most = u64::from(u32::MAX);
     whole_number(text).unwrap_or(most).min(most) as u32

@@ -1,9 +1,9 @@
 // Operators: how each stands to its arguments, and the table of those in force.
 ghost use Rattle.std.specs.Prelude.{◌≡◌, ◌↔◌, ◌&&◌, not, ℕ, IfOk, OnOk, OnErr, Err, IsTrue, List, [], Some, true, false};
 ghost use Rattle.ladr_lex.specs.ClauseNames.{clause_operator, FreesVariables};
-ghost use Rattle.ladr_lex.specs.Cuts.{is_symbol};
+ghost use Rattle.ladr_lex.specs.Cuts.{is_plain_symbol};
 ghost use Rattle.ladr_lex.specs.OperatorView.{row_list, with_rows, may_be_put};
-ghost use Rattle.ladr_lex.specs.Operators.{OperatorRow, operator_of, if_prefix, if_after, is_prefix, is_word, has_precedence, are_lawful, standard_rows, with_row, is_precedence, is_fixed, type_named, operator_with, unquoted, is_unfit_operator, is_unfit_symbol, declared};
+ghost use Rattle.ladr_lex.specs.Operators.{OperatorRow, operator_of, if_prefix, if_after, is_prefix, is_quantifier_word, has_precedence, are_lawful, standard_rows, with_operator_row, is_precedence, is_fixed, type_named, operator_with, unquoted, is_unfit_operator, is_unfit_symbol, declared};
 
 use crate::clause_names::clause_operator;
 use crate::scan::{is_quoted, is_symbol};
@@ -200,10 +200,10 @@ impl Ops {
 
     // Gives a name this operator, or none, in place of the one that it has.
     fn put(&mut self, name: &[u8], operator: Option<Operator>) -> Result<(), AllocError>
-        requires symbol { IsTrue (is_symbol name.now) }
-        requires word { is_word name.now ≡ false }
+        requires symbol { IsTrue (is_plain_symbol name.now) }
+        requires word { is_quantifier_word name.now ≡ false }
         requires precedence { IsTrue (has_precedence operator) }
-        ensures ok { OnOk result (self.new ≡ with_row name.now operator self.old) }
+        ensures ok { OnOk result (self.new ≡ with_operator_row name.now operator self.old) }
         ensures err { OnErr result (self.new ≡ self.old) }
     {
         let key = Vec::from_slice(*self.rows.allocator(), name)?;

@@ -2,8 +2,8 @@
 ghost use Rattle.std.specs.Prelude.{◌≡◌, ◌+◌, ◌^◌, ◌<◌, ◌≤◌, ◌↔◌, length, drop, slice_index, codes, IsTrue, Some, IfSome, IfOk, OnOk, Err};
 ghost use Rattle.std.specs.List.{prefix_len};
 ghost use Rattle.ladr_lex.specs.Comments.{begins_with, up_to};
-ghost use Rattle.ladr_lex.specs.Cuts.{pieces_of, is_symbol, is_quoted, Cuts};
-ghost use Rattle.ladr_lex.specs.Lexed.{kind_in, kind_at, kept, behind, special_behind, quoted_behind, comment_behind, in_class, whole_kind, Advances};
+ghost use Rattle.ladr_lex.specs.Cuts.{pieces_of, is_plain_symbol, is_quoted, Cuts};
+ghost use Rattle.ladr_lex.specs.Lexed.{kind_begun_by, kind_beginning, kept, length_behind, special_behind, quoted_behind, comment_behind, in_class, whole_kind, Advances};
 ghost use Rattle.ladr_lex.specs.declared.bytes.TokenStart.TheVariants.{Quote, Percent};
 
 use crate::bytes::{Class, TokenStart, is_special, start_of};
@@ -61,7 +61,7 @@ pub fn tokens_from<'a>(
 /// Whether bytes are one ordinary or special symbol.
 #[tactic(auto, using(crate::proofs::Wholes::symbol_by_kind))]
 pub fn is_symbol(text: &[u8]) -> bool
-    ensures { result ≡ is_symbol text.now }
+    ensures { result ≡ is_plain_symbol text.now }
 {
     matches!(
         whole_kind(text),
@@ -146,8 +146,8 @@ fn add<'a>(
 ) -> Result<(), AllocError>
     requires place { at < length bytes.now }
     requires text { start + length bytes.now < 2 ^ 64 }
-    requires kind { kind_at (slice_index bytes.now at) (drop (at + 1) bytes.now) ≡ Some kind }
-    requires end { end ≡ at + 1 + behind (slice_index bytes.now at) (drop (at + 1) bytes.now) }
+    requires kind { kind_beginning (slice_index bytes.now at) (drop (at + 1) bytes.now) ≡ Some kind }
+    requires end { end ≡ at + 1 + length_behind (slice_index bytes.now at) (drop (at + 1) bytes.now) }
     requires within { end ≤ length bytes.now }
     ensures { OnOk result (Advances start bytes.now found.old.items found.new.items at end) }
 {
@@ -162,8 +162,8 @@ fn add<'a>(
 // What begins at a place: its kind, if it is a token, and its end.
 fn piece_at(bytes: &[u8], at: usize) -> (Option<TokenKind>, usize)
     requires { at < length bytes.now }
-    ensures kind { result.0 ≡ kind_at (slice_index bytes.now at) (drop (at + 1) bytes.now) }
-    ensures end { result.1 ≡ at + 1 + behind (slice_index bytes.now at) (drop (at + 1) bytes.now) }
+    ensures kind { result.0 ≡ kind_beginning (slice_index bytes.now at) (drop (at + 1) bytes.now) }
+    ensures end { result.1 ≡ at + 1 + length_behind (slice_index bytes.now at) (drop (at + 1) bytes.now) }
     ensures within { result.1 ≤ length bytes.now }
 {
     match start_of(bytes[at]) {
@@ -182,7 +182,7 @@ fn piece_at(bytes: &[u8], at: usize) -> (Option<TokenKind>, usize)
 // What begins with the quote at a place: a quoted symbol, or the quote alone where that isn't closed.
 fn quoted_at(bytes: &[u8], at: usize) -> (Option<TokenKind>, usize)
     requires { at < length bytes.now }
-    ensures kind { result.0 ≡ kind_in Quote (drop (at + 1) bytes.now) }
+    ensures kind { result.0 ≡ kind_begun_by Quote (drop (at + 1) bytes.now) }
     ensures end { result.1 ≡ at + 1 + quoted_behind (drop (at + 1) bytes.now) }
     ensures within { result.1 ≤ length bytes.now }
 {
@@ -197,7 +197,7 @@ fn quoted_at(bytes: &[u8], at: usize) -> (Option<TokenKind>, usize)
 // What begins with the `%` at a place: a comment, or a block that isn't closed, which all that is left belongs to.
 fn comment_at(bytes: &[u8], at: usize) -> (Option<TokenKind>, usize)
     requires { at < length bytes.now }
-    ensures kind { result.0 ≡ kind_in Percent (drop (at + 1) bytes.now) }
+    ensures kind { result.0 ≡ kind_begun_by Percent (drop (at + 1) bytes.now) }
     ensures end { result.1 ≡ at + 1 + comment_behind (drop (at + 1) bytes.now) }
     ensures within { result.1 ≤ length bytes.now }
 {

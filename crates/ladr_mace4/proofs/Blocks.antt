@@ -25,7 +25,7 @@ use Rattle.ladr_options.specs.declared.options.Options.{Options}
 use Rattle.ladr_problem.specs.Names.{are_named}
 use Rattle.ladr_problem.specs.Proper.{IsProper}
 use Rattle.mace_search.proofs.Completing.{by_number}
-use Rattle.mace_search.specs.Models.{IsModel, AreFirst, behind}
+use Rattle.mace_search.specs.Models.{IsModel, AreFirst, number_behind}
 use Rattle.model_tables.proofs.Expanding.{kept_countermodel}
 use Rattle.model_tables.proofs.Kept.{expansion_isomorphic}
 use Rattle.model_tables.specs.Expansion.{skolem_cells, IsExpansion}
@@ -116,7 +116,7 @@ Has p n u bs = (t : Finite) × IsShownAmong n t bs × IsExpansion u (all_axioms 
 has_more : (p : Stated) (n : ℕ) (u : Finite) (cs bs : List SearchBlock) → Has p n u bs → Has p n u (cs ++ bs)
 has_more p n u cs bs h = (h.0, among_behind n h.0 cs bs h.1, h.2)
 
-among : (p : Stated) (n j k : ℕ) (found ts : List Finite) (u : Finite) → AreFirst p n j found → AreExpansions (all_axioms p) found ts → IsModel p n u → j ≤ table_number u → table_number u < behind j found → Has p n u (models_blocks n k ts)
+among : (p : Stated) (n j k : ℕ) (found ts : List Finite) (u : Finite) → AreFirst p n j found → AreExpansions (all_axioms p) found ts → IsModel p n u → j ≤ table_number u → table_number u < number_behind j found → Has p n u (models_blocks n k ts)
 among p n j k [] ts u h x is from before = absurd (omega (arith, from, before))
 among p n j k (v ∷ found) [] u h x is from before = absurd x
 among p n j k (v ∷ found) (t ∷ ts) u h x is from before =
@@ -130,7 +130,7 @@ among p n j k (v ∷ found) (t ∷ ts) u h x is from before =
 
 all_among : (p : Stated) (n k : ℕ) (ts : List Finite) (u : Finite) → AreAllExpanded p n ts → IsModel p n u → Has p n u (models_blocks n k ts)
 all_among p n k ts u (found, all, x) is =
-    elim (cases_lt (table_number u) (behind 0 found)) [
+    elim (cases_lt (table_number u) (number_behind 0 found)) [
       | inl lt ↦ among p n 0 k found ts u all.0 x is (omega arith) lt
       | inr le ↦ absurd (all.1 u is le)
     ]
@@ -145,7 +145,7 @@ ReadBack = (n k : ℕ) (symbols : List Symbol) (t : Finite) → IsPrintable n k 
 
 pub record Laws : Type 0 where
   pub new : AreNew
-  pub behind : SkolemsStandBehind
+  pub number_behind : SkolemsStandBehind
   pub back : ReadBack
 
 -- the sizes and the numbers of models that a search prints
@@ -177,10 +177,10 @@ module _ (laws : Laws) (p : Stated) (o : Options) (proper : IsProper p o) where
   shown : (n k : ℕ) (u t : Finite) → n ≤ 200 → k < 2 ^ 64 → all_cells n p < refused_cells → IsModel p n u → IsExpansion u (all_axioms p) t → IsShown p n k t
   shown n k u t most number room is x =
       let ws = all_axioms p in
-      let behind = laws.behind p few (few_skolems n u room is) in (
-        subst (IsInterpretation n p) (sym (without_same n p u t behind is.0 x)) is.0,
+      let number_behind = laws.behind p few (few_skolems n u room is) in (
+        subst (IsInterpretation n p) (sym (without_same n p u t number_behind is.0 x)) is.0,
         subst (λ (T : Type 0). T) (sym (kept_countermodel ws u t x p.formulas (apart n u room is))) is.1,
-        laws.back n k (all_symbols p) t (model_printable n k p u t behind proper.tellable most number is.0 x),
+        laws.back n k (all_symbols p) t (model_printable n k p u t number_behind proper.tellable most number is.0 x),
       )
 
   -- no name of a symbol breaks a line

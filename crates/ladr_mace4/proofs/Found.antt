@@ -19,7 +19,7 @@ use Rattle.ladr_output.proofs.Tellings.{told_behind, cut_by, first_cut}
 use Rattle.ladr_output.specs.Telling.{IsPiece, Tells}
 use Rattle.ladr_output.specs.declared.cut.Cut.{Cut}
 use Rattle.ladr_output.specs.declared.cut.Cut.TheVariants.{WriteFault, Memory}
-use Rattle.mace_search.specs.Models.{IsNextModel, AreFirst, NoneFrom, NoneBetween, behind}
+use Rattle.mace_search.specs.Models.{IsNextModel, AreFirst, NoneFrom, NoneBetween, number_behind}
 use Rattle.mace_search.specs.Plain.{Search, tables_in}
 use Rattle.mace_search.specs.Watch.{IsLate}
 use Rattle.model_tables.specs.Expansion.{IsExpansion}
@@ -28,11 +28,11 @@ use Rattle.model_tables.specs.Order.{table_number}
 use Rattle.model_tables.specs.Tables.{Finite}
 
 -- one more model
-pub first_more : (p : Stated) (n k : ℕ) (ts : List Finite) (t : Finite) → AreFirst p n k ts → IsNextModel p n (behind k ts) t → AreFirst p n k (ts ++ t ∷ [])
+pub first_more : (p : Stated) (n k : ℕ) (ts : List Finite) (t : Finite) → AreFirst p n k ts → IsNextModel p n (number_behind k ts) t → AreFirst p n k (ts ++ t ∷ [])
 first_more p n k [] t h x = (x, tt)
 first_more p n k (u ∷ ts) t h x = (h.0, first_more p n (suc (table_number u)) ts t h.1 x)
 
-pub behind_more : (k : ℕ) (ts : List Finite) (t : Finite) → behind k (ts ++ t ∷ []) ≡ suc (table_number t)
+pub behind_more : (k : ℕ) (ts : List Finite) (t : Finite) → number_behind k (ts ++ t ∷ []) ≡ suc (table_number t)
 behind_more k [] t = refl
 behind_more k (u ∷ ts) t = behind_more (suc (table_number u)) ts t
 
@@ -62,7 +62,7 @@ pub record SoFar (p : Stated) (n k : ℕ) (us : List Finite) (search : Search) (
   pub took : Takes a b (models_text p k us)
   pub problem : search.problem ≡ p
   pub size : search.size ≡ n
-  pub ahead : search.ahead ≡ behind 0 found
+  pub ahead : search.ahead ≡ number_behind 0 found
   pub late : search.late ≡ None
 
 -- nothing is found yet
@@ -144,7 +144,7 @@ module _ (p : Stated) (s : Plan) (t : Times) (n k r : ℕ) where
       tried_all : tried ≡ tables_in n p
       tried_all = subst (λ (q : Stated). tried ≡ tables_in n q) so_far.problem (subst (λ (m : ℕ). tried ≡ tables_in m search.problem) so_far.size tried_is)
 
-      none_left : NoneFrom p n (behind 0 so_far.found)
+      none_left : NoneFrom p n (number_behind 0 so_far.found)
       none_left = subst (λ (j : ℕ). NoneFrom p n j) so_far.ahead (subst (λ (m : ℕ). NoneFrom p m search.ahead) so_far.size (subst (λ (q : Stated). NoneFrom q search.size search.ahead) so_far.problem none))
 
       over : ends_behind (models_text p k ts) (Over printed) (exhausted_line n)
@@ -164,7 +164,7 @@ module _ (p : Stated) (s : Plan) (t : Times) (n k r : ℕ) where
   at_model ts search y printed a b c why begun room fewer so_far next in_time reads piece =
       told_behind (λ u. SizeGoes p s t n k r (size_line n ++ u)) (λ e u. SizeEnds p s t n k r e (size_line n ++ u)) a b c (models_text p k ts) (Err why) so_far.took (by why piece)
     where
-      next_in : IsNextModel p n (behind 0 so_far.found) y
+      next_in : IsNextModel p n (number_behind 0 so_far.found) y
       next_in = subst (λ (j : ℕ). IsNextModel p n j y) so_far.ahead (subst (λ (m : ℕ). IsNextModel p m search.ahead y) so_far.size (subst (λ (q : Stated). IsNextModel q search.size search.ahead y) so_far.problem next))
 
       alone : goes_behind (models_text p k ts) []
@@ -196,7 +196,7 @@ module _ (p : Stated) (s : Plan) (t : Times) (n k r : ℕ) where
       left_in : tried < tables_in n p
       left_in = subst (λ (q : Stated). tried < tables_in n q) so_far.problem (subst (λ (m : ℕ). tried < tables_in m search.problem) so_far.size left)
 
-      none_in : NoneBetween p n (behind 0 so_far.found) tried
+      none_in : NoneBetween p n (number_behind 0 so_far.found) tried
       none_in = subst (λ (j : ℕ). NoneBetween p n j tried) so_far.ahead (subst (λ (m : ℕ). NoneBetween p m search.ahead tried) so_far.size (subst (λ (q : Stated). NoneBetween q search.size search.ahead tried) so_far.problem none))
 
 -- what is printed of tables is printed of the same tables

@@ -19,7 +19,7 @@ use Rattle.ladr_mace4.specs.declared.ends.SearchEnd.{SearchEnd}
 use Rattle.ladr_mace4.specs.declared.ends.SearchEnd.TheVariants.{MaxModels, Exhausted, AllModels, MaxMegs, MaxSeconds, GroundLimit, ClauseLimit}
 use Rattle.ladr_mace4.specs.declared.plan.Plan.{Plan}
 use Rattle.mace_search.proofs.Next.{in_count, some_tables, next_or_none}
-use Rattle.mace_search.specs.Models.{AreFirst, NoneFrom, behind}
+use Rattle.mace_search.specs.Models.{AreFirst, NoneFrom, number_behind}
 use Rattle.mace_search.specs.Plain.{tables_in}
 use Rattle.mace_search.specs.Watch.{IsLate}
 use Rattle.model_tables.proofs.Decided.{some_expansion}
@@ -56,11 +56,11 @@ any_read None n m t e reads = reads
 any_read (Some x) n m t e reads = absurd cc
 
 -- the tables behind the last model are no more than there are
-behind_within : (p : Stated) (n k : ℕ) (ts : List Finite) → AreFirst p n k ts → k ≤ tables_in n p → behind k ts ≤ tables_in n p
+behind_within : (p : Stated) (n k : ℕ) (ts : List Finite) → AreFirst p n k ts → k ≤ tables_in n p → number_behind k ts ≤ tables_in n p
 behind_within p n k [] h le = le
 behind_within p n k (t ∷ ts) h le = behind_within p n (suc (table_number t)) ts h.1 (omega (arith, in_count p n t h.0.0))
 
-tried_least : (p : Stated) (n : ℕ) (ts : List Finite) (tried : ℕ) → AreFirst p n 0 ts → AreTriedFurther p n ts tried → behind 0 ts ≤ tried
+tried_least : (p : Stated) (n : ℕ) (ts : List Finite) (tried : ℕ) → AreFirst p n 0 ts → AreTriedFurther p n ts tried → number_behind 0 ts ≤ tried
 tried_least p n ts tried h (inl e) = omega (arith, e)
 tried_least p n ts tried h (inr (inl x)) = omega (arith, x.1.1, x.2)
 tried_least p n ts tried h (inr (inr x)) = omega (arith, x.1, behind_within p n 0 ts h (omega arith))
@@ -184,9 +184,9 @@ module _ (p : Stated) (s : Plan) (start : 1 ≤ s.start) (step : 1 ≤ s.step) w
   room_fewer n (t ∷ ts) tried m room le = room
 
   -- as many models as are wanted are printed
-  enough : (t : Times) (sizes : List Size) (found ts : List Finite) → AreGone sizes → IsBegun p s (next sizes) → HasRoomForModels p s (next sizes) ts (behind 0 found) → models_in_all sizes + length ts ≡ s.wanted → AreFirst p (next sizes) 0 found → AreExpansions (all_axioms p) found ts → IsInTime s.seconds t → HasRead s.seconds (readings_in_all sizes + suc (behind 0 found)) t
+  enough : (t : Times) (sizes : List Size) (found ts : List Finite) → AreGone sizes → IsBegun p s (next sizes) → HasRoomForModels p s (next sizes) ts (number_behind 0 found) → models_in_all sizes + length ts ≡ s.wanted → AreFirst p (next sizes) 0 found → AreExpansions (all_axioms p) found ts → IsInTime s.seconds t → HasRead s.seconds (readings_in_all sizes + suc (number_behind 0 found)) t
       → Comes (front sizes ++ (size_line (next sizes) ++ models_text p (models_in_all sizes) ts))
-  enough t sizes found ts gone begun room all first expansions in_time reads = ends_at t sizes (inside ts (behind 0 found)) MaxModels gone (begun, room, (found, first, expansions, refl)) (in_time, tt, all) reads
+  enough t sizes found ts gone begun room all first expansions in_time reads = ends_at t sizes (inside ts (number_behind 0 found)) MaxModels gone (begun, room, (found, first, expansions, refl)) (in_time, tt, all) reads
 
   -- what a search behind one size more comes to
   abbrev GoesOnBehind : List Size → Type 0
@@ -196,13 +196,13 @@ module _ (p : Stated) (s : Plan) (start : 1 ≤ s.start) (step : 1 ≤ s.step) w
     -- a size with models, where no time is set: the next models are printed, and that it is exhausted
     enumerated : (more : ℕ) (sizes : List Size) (found ts : List Finite) → AreGone sizes → IsBegun p s (next sizes) → HasRoomForCells s (all_cells (next sizes) p) → models_in_all sizes + length ts + more ≡ s.wanted → AreFirst p (next sizes) 0 found → AreExpansions (all_axioms p) found ts → GoesOnBehind sizes
         → Comes (front sizes ++ (size_line (next sizes) ++ models_text p (models_in_all sizes) ts))
-    enumerated zero sizes found ts gone begun room all first expansions rest = enough t sizes found ts gone begun (finds.room_for p s (next sizes) ts (behind 0 found) room) (omega (arith, all)) first expansions in_time (read _)
+    enumerated zero sizes found ts gone begun room all first expansions rest = enough t sizes found ts gone begun (finds.room_for p s (next sizes) ts (number_behind 0 found) room) (omega (arith, all)) first expansions in_time (read _)
     enumerated (suc more) sizes found ts gone begun room all first expansions rest =
         let n = next sizes in
         let k = models_in_all sizes in
         let some : 1 ≤ n = omega (arith, start) in
         let texts = models_text p k ts in
-        elim (next_or_none p n (behind 0 found) some) [
+        elim (next_or_none p n (number_behind 0 found) some) [
           | inr never ↦ (
               let size = searched ts (tables_in n p) in
               let is : HasEnded p s n size = ((begun.1, room), (found, (first, never), expansions), refl) in
@@ -256,19 +256,19 @@ module _ (p : Stated) (s : Plan) (start : 1 ≤ s.start) (step : 1 ≤ s.step) w
   all_behind t sizes n in_time reads e sizes' gone' more = on_behind (suc s.end) t sizes' gone' (omega arith) in_time (any_read s.seconds n (readings_in_all sizes') t e reads)
 
   -- in a size of which all tables were tried
-  all_tried : (t : Times) (sizes : List Size) (found ts : List Finite) (tried : ℕ) → AreGone sizes → IsBegun p s (next sizes) → HasRoomForCells s (all_cells (next sizes) p) → models_in_all sizes + length ts < s.wanted → AreFirst p (next sizes) 0 found → AreExpansions (all_axioms p) found ts → tables_in (next sizes) p ≤ behind 0 found → behind 0 found ≤ tried
+  all_tried : (t : Times) (sizes : List Size) (found ts : List Finite) (tried : ℕ) → AreGone sizes → IsBegun p s (next sizes) → HasRoomForCells s (all_cells (next sizes) p) → models_in_all sizes + length ts < s.wanted → AreFirst p (next sizes) 0 found → AreExpansions (all_axioms p) found ts → tables_in (next sizes) p ≤ number_behind 0 found → number_behind 0 found ≤ tried
       → IsInTime s.seconds t → HasRead s.seconds (readings_in_all sizes + suc tried) t → Comes (front sizes ++ (size_line (next sizes) ++ models_text p (models_in_all sizes) ts))
   all_tried t sizes found ts tried gone begun room fewer first expansions all least in_time reads =
       let n = next sizes in
       let size = searched ts (tables_in n p) in
-      let never : NoneFrom p n (behind 0 found) = λ u is from. (let less = in_count p n u is in omega (arith, less, from, all)) in
+      let never : NoneFrom p n (number_behind 0 found) = λ u is from. (let less = in_count p n u is in omega (arith, less, from, all)) in
       let is : HasEnded p s n size = ((begun.1, room), (found, (first, never), expansions), refl) in
       let before = earlier_times s.seconds (readings_in_all sizes + suc tried) (readings_in_all (sizes ++ size ∷ [])) t in_time reads (omega (arith, reads_more sizes size, all, least)) in
       let rest = on_behind (suc s.end) before.0 (sizes ++ size ∷ []) (gone_more sizes size gone begun.0 is fewer) (omega arith) before.1.0 before.1.1 in
       shorter (front sizes ++ (size_line n ++ models_text p (models_in_all sizes) ts)) (exhausted_line n) (subst Comes (exhausted_is sizes ts (tables_in n p)) rest)
 
   -- in a size with models, fewer than are wanted, whether a time is set or not
-  inside_by : (o : Option ℕ) → s.seconds ≡ o → (t : Times) (sizes : List Size) (found ts : List Finite) (tried : ℕ) → AreGone sizes → IsBegun p s (next sizes) → HasRoomForModels p s (next sizes) ts tried → models_in_all sizes + length ts < s.wanted → AreFirst p (next sizes) 0 found → AreExpansions (all_axioms p) found ts → behind 0 found ≤ tried → IsInTime s.seconds t
+  inside_by : (o : Option ℕ) → s.seconds ≡ o → (t : Times) (sizes : List Size) (found ts : List Finite) (tried : ℕ) → AreGone sizes → IsBegun p s (next sizes) → HasRoomForModels p s (next sizes) ts tried → models_in_all sizes + length ts < s.wanted → AreFirst p (next sizes) 0 found → AreExpansions (all_axioms p) found ts → number_behind 0 found ≤ tried → IsInTime s.seconds t
       → HasRead s.seconds (readings_in_all sizes + suc tried) t → Comes (front sizes ++ (size_line (next sizes) ++ models_text p (models_in_all sizes) ts))
   inside_by None e t sizes found [] tried gone begun room fewer first expansions least in_time reads =
       let n = next sizes in
@@ -283,7 +283,7 @@ module _ (p : Stated) (s : Plan) (start : 1 ≤ s.start) (step : 1 ≤ s.step) w
       subst Comes text (late_begun before.0 sizes sec e gone begun before.1.0 before.1.1)
   inside_by (Some sec) e t sizes found (u ∷ ts) tried gone begun room fewer first expansions least in_time reads =
       let r = readings_in_all sizes in
-      let tables = behind 0 found in
+      let tables = number_behind 0 found in
       elim (cases_lt tables (tables_in (next sizes) p)) [
         | inl left ↦ (
             let late = late_times s.seconds sec (r + suc tried) (r + suc (suc tables)) t e in_time reads (omega arith) (λ more. omega (arith, least)) in
@@ -300,8 +300,8 @@ module _ (p : Stated) (s : Plan) (start : 1 ≤ s.start) (step : 1 ≤ s.step) w
       elim (cases_lt (models_in_all sizes + length ts) s.wanted) [
         | inl fewer ↦ inside_by s.seconds refl t sizes found ts tried gone begun room fewer first expansions least in_time reads
         | inr all ↦ (
-            let before = earlier_times s.seconds (readings_in_all sizes + suc tried) (readings_in_all sizes + suc (behind 0 found)) t in_time reads (omega (arith, least)) in
-            enough before.0 sizes found ts gone begun (room_fewer (next sizes) ts tried (behind 0 found) room least) (omega (arith, all, most)) first expansions before.1.0 before.1.1)
+            let before = earlier_times s.seconds (readings_in_all sizes + suc tried) (readings_in_all sizes + suc (number_behind 0 found)) t in_time reads (omega (arith, least)) in
+            enough before.0 sizes found ts gone begun (room_fewer (next sizes) ts tried (number_behind 0 found) room least) (omega (arith, all, most)) first expansions before.1.0 before.1.1)
       ]
 
   -- a search that goes on can come to an end

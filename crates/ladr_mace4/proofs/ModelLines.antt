@@ -10,7 +10,7 @@ use Rattle.ladr_output.proofs.Standing.{is_unbroken, unbroken_append, decimal_un
 use Rattle.ladr_output.specs.Standing.{AreWholeLines}
 use Rattle.ladr_output.specs.Telling.{as_line}
 use Rattle.ladr_problem.specs.Names.{is_name, are_named}
-use Rattle.model_tables.specs.ModelText.{numbers_behind, numbers_text, further_places, places_text, word_of, entry_text, entries_of, lines_behind, entry_lines, model_text}
+use Rattle.model_tables.specs.ModelText.{numbers_behind, numbers_text, further_places, places_text, kind_text, entry_text, entries_of, lines_behind, entry_lines, model_text}
 use Rattle.model_tables.specs.Tables.{Listing, Finite}
 
 -- a line of a model begins here behind its first one
@@ -33,16 +33,16 @@ places_unbroken : (n : ℕ) → is_unbroken (places_text n) ≡ true
 places_unbroken zero = refl
 places_unbroken (suc n) = unbroken_append (codes "(_" ++ further_places n) (codes ")") (unbroken_append (codes "(_") (further_places n) refl (further_unbroken n)) refl
 
-word_unbroken : (kind : Kind) → is_unbroken (word_of kind) ≡ true
+word_unbroken : (kind : Kind) → is_unbroken (kind_text kind) ≡ true
 word_unbroken Function = refl
 word_unbroken Relation = refl
 
 entry_unbroken : (name : List ℕ) (arity : ℕ) (kind : Kind) (values : List ℕ) → is_unbroken name ≡ true → is_unbroken (entry_text name arity kind values) ≡ true
 entry_unbroken name arity kind values h =
-    let word = word_of kind ++ codes "(" in
+    let word = kind_text kind ++ codes "(" in
     let head = word ++ name ++ places_text arity in
     unbroken_append (head ++ codes ", [" ++ numbers_text values) (codes "])") (unbroken_append (head ++ codes ", [") (numbers_text values)
-    (unbroken_append head (codes ", [") (unbroken_append (word ++ name) (places_text arity) (unbroken_append word name (unbroken_append (word_of kind) (codes "(") (word_unbroken kind) refl) h) (places_unbroken arity)) refl) (numbers_unbroken values)) refl
+    (unbroken_append head (codes ", [") (unbroken_append (word ++ name) (places_text arity) (unbroken_append word name (unbroken_append (kind_text kind) (codes "(") (word_unbroken kind) refl) h) (places_unbroken arity)) refl) (numbers_unbroken values)) refl
 
 abbrev AreUnbroken : List (List ℕ) → Type 0
 AreUnbroken [] = Unit {0}

@@ -6,7 +6,7 @@ use Rattle.std.proofs.lemmas.Slice.Eq.{bytes_eq-Decides}
 use Rattle.std.specs.List.{list_all}
 use Rattle.std.specs.Str.{bytes_eq}
 use Rattle.ladr_lex.specs.Bytes.{is_ordinary, is_special, is_quote, is_quotable, is_dash}
-use Rattle.ladr_lex.specs.Cuts.{is_run, is_special_run, is_symbol, ends_quoted, is_quoted}
+use Rattle.ladr_lex.specs.Cuts.{is_run, is_special_run, is_plain_symbol, ends_quoted, is_quoted}
 use Rattle.ladr_output.proofs.Standing.{is_unbroken}
 use Rattle.ladr_problem.specs.Names.{is_name}
 
@@ -62,7 +62,7 @@ quoted_unbroken (b ∷ bs) h =
 given_unbroken : (bs text : List ℕ) → is_unbroken text ≡ true → bytes_eq bs text ≡ true → is_unbroken bs ≡ true
 given_unbroken bs text u h = ap is_unbroken ((bytes_eq-Decides bs text).0 h) ∙ u
 
-symbol_unbroken : (bs : List ℕ) → is_symbol bs ≡ true → is_unbroken bs ≡ true
+symbol_unbroken : (bs : List ℕ) → is_plain_symbol bs ≡ true → is_unbroken bs ≡ true
 symbol_unbroken bs h = elim (or_cases (is_run is_ordinary bs) _ h) [
   | inl run ↦ run_unbroken is_ordinary no_ordinary bs run
   | inr special ↦ elim (or_cases (bytes_eq bs (codes "'") || bytes_eq bs (codes "-") || bytes_eq bs (codes "<-")) (is_special_run bs) special) [
@@ -78,7 +78,7 @@ symbol_unbroken bs h = elim (or_cases (is_run is_ordinary bs) _ h) [
 ]
 
 pub name_unbroken : (name : List ℕ) → is_name name ≡ true → is_unbroken name ≡ true
-name_unbroken name h = elim (or_cases (is_symbol name) (is_quoted name) h) [
+name_unbroken name h = elim (or_cases (is_plain_symbol name) (is_quoted name) h) [
   | inl symbol ↦ symbol_unbroken name symbol
   | inr quoted ↦ quoted_unbroken name quoted
 ]

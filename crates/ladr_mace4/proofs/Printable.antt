@@ -11,7 +11,7 @@ use Rattle.std.proofs.lemmas.List.{length-map, take_all}
 use Rattle.std.proofs.lemmas.List.Folds.{list_all-append}
 use Rattle.clausify.specs.Behind.{AreFor, HasOwnName, StandBehind}
 use Rattle.clausify.specs.Input.{skolems}
-use Rattle.clausify.specs.Names.{numbered}
+use Rattle.clausify.specs.Names.{letter_numbered}
 use Rattle.fol_core.specs.Fol.{Fol}
 use Rattle.fol_core.specs.Occurs.{occurs_in}
 use Rattle.fol_core.specs.SkolemAxioms.{SkolemAxiom}
@@ -22,7 +22,7 @@ use Rattle.fol_core.specs.declared.symbols.Kind.{Kind}
 use Rattle.fol_core.specs.declared.symbols.Kind.TheVariants.{Function}
 use Rattle.ladr_lex.proofs.Numerals.{own}
 use Rattle.ladr_lex.specs.Bytes.{is_ordinary}
-use Rattle.ladr_lex.specs.Cuts.{is_run, is_symbol, is_quoted}
+use Rattle.ladr_lex.specs.Cuts.{is_run, is_plain_symbol, is_quoted}
 use Rattle.ladr_mace4.specs.Skolems.{all_symbols, all_axioms, without_skolems}
 use Rattle.ladr_models.specs.ReadsBack.{IsRow, AreRows, IsPrintable}
 use Rattle.ladr_problem.specs.Names.{is_name, are_named, AreTellable}
@@ -169,11 +169,11 @@ unfolding is_ordinary
 letter_ordinary letter (inl e) = rw e refl
 letter_ordinary letter (inr e) = rw e refl
 
-numbered_name : (letter n : ℕ) → (letter ≡ 99) ⊎ (letter ≡ 102) → n < 10 ^ 64 → is_name (numbered letter n) ≡ true
+numbered_name : (letter n : ℕ) → (letter ≡ 99) ⊎ (letter ≡ 102) → n < 10 ^ 64 → is_name (letter_numbered letter n) ≡ true
 numbered_name letter n h l =
     let digits = own.from (decimal n) (decimal_is_IsNumeral_wide n l).0.1 in
-    let ordinary : is_run is_ordinary (numbered letter n) ≡ true = and_from (is_ordinary letter) (list_all is_ordinary (decimal n)) (letter_ordinary letter h) (digits_ordinary (decimal n) digits) in
-    or_left (is_symbol (numbered letter n)) (is_quoted (numbered letter n)) (or_left (is_run is_ordinary (numbered letter n)) _ ordinary)
+    let ordinary : is_run is_ordinary (letter_numbered letter n) ≡ true = and_from (is_ordinary letter) (list_all is_ordinary (decimal n)) (letter_ordinary letter h) (digits_ordinary (decimal n) digits) in
+    or_left (is_plain_symbol (letter_numbered letter n)) (is_quoted (letter_numbered letter n)) (or_left (is_run is_ordinary (letter_numbered letter n)) _ ordinary)
 
 own_named : (table ss : List Symbol) → AllByRecursion (HasOwnName table) ss → are_named ss ≡ true
 own_named table [] h = refl

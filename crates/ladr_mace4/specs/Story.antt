@@ -13,7 +13,7 @@ use Rattle.ladr_mace4.specs.declared.ends.SearchEnd.TheVariants.{MaxModels, Exha
 use Rattle.ladr_mace4.specs.declared.ends.Step.{Step}
 use Rattle.ladr_mace4.specs.declared.ends.Step.TheVariants.{Over, Ends}
 use Rattle.ladr_mace4.specs.declared.plan.Plan.{Plan}
-use Rattle.mace_search.specs.Models.{AreFirst, IsNextModel, NoneFrom, NoneBetween, behind}
+use Rattle.mace_search.specs.Models.{AreFirst, IsNextModel, NoneFrom, NoneBetween, number_behind}
 use Rattle.mace_search.specs.Plain.{tables_in}
 use Rattle.mace_search.specs.Watch.{IsLate}
 use Rattle.model_tables.specs.ModelText.{model_text}
@@ -111,23 +111,23 @@ IsAtSize How p s n (inside ts tried) =
 
 -- the tables up to the last of these models were tried
 abbrev pub AreTried : List Finite → ℕ → Type 0
-AreTried found tried = tried ≡ behind 0 found
+AreTried found tried = tried ≡ number_behind 0 found
 
 -- the tables up to the last of these models; or to the next one, or all of them, where that is
 -- still to be printed
 abbrev pub AreTriedFurther : Stated → ℕ → List Finite → ℕ → Type 0
 AreTriedFurther p n found tried =
     AreTried found tried
-    ⊎ (((y : Finite) × IsNextModel p n (behind 0 found) y × (tried ≡ suc (table_number y)))
-    ⊎ (NoneFrom p n (behind 0 found) × (tried ≡ tables_in n p)))
+    ⊎ (((y : Finite) × IsNextModel p n (number_behind 0 found) y × (tried ≡ suc (table_number y)))
+    ⊎ (NoneFrom p n (number_behind 0 found) × (tried ≡ tables_in n p)))
 
 -- The reading that was late is counted among the tables: none was tried; or some behind the last of
 -- these models, none of which is a model, and one was still to be tried.
 abbrev pub AreTriedInVain : Stated → ℕ → List Finite → ℕ → Type 0
 AreTriedInVain p n found tried =
     ((found ≡ []) × (tried ≡ 0))
-    ⊎ ((m : ℕ) × (tried ≡ suc m) × (behind 0 found ≤ m) × (m < tables_in n p)
-    × NoneBetween p n (behind 0 found) m)
+    ⊎ ((m : ℕ) × (tried ≡ suc m) × (number_behind 0 found ≤ m) × (m < tables_in n p)
+    × NoneBetween p n (number_behind 0 found) m)
 
 -- how many tables are tried of the size in which a search ends
 abbrev pub how_far : Stated → ℕ → SearchEnd → List Finite → ℕ → Type 0

@@ -22,7 +22,8 @@ abbrev pub lonely_sizes : List Size
 lonely_sizes = searched (alone ∷ []) 1 ∷ searched [] 1 ∷ []
 
 abbrev pub lonely_text : List ℕ
-lonely_text = codes "% Domain size 1.\ninterpretation(1, [number = 1,seconds = 0], [\n    function(c1, [0])\n]).\n% Domain size 1 exhausted.\n% Domain size 2.\n% Domain size 2 exhausted.\n"
+lonely_text =
+    codes "% Domain size 1.\ninterpretation(1, [number = 1,seconds = 0], [\n    function(c1, [0])\n]).\n% Domain size 1 exhausted.\n% Domain size 2.\n% Domain size 2 exhausted.\n"
 
 -- no word beside `mace4`
 abbrev pub bare : ModelOptions

@@ -4,7 +4,7 @@ use Rattle.std.proofs.lemmas.Bool.{and_from, le-leb}
 use Rattle.fol_core.specs.SymbolTable.{Symbol}
 use Rattle.ladr_commands.specs.ByName.{by_name}
 use Rattle.ladr_commands.specs.Commands.{tester_commands, interpretation_item}
-use Rattle.ladr_commands.specs.Form.{outcome}
+use Rattle.ladr_commands.specs.Form.{form_outcome}
 use Rattle.ladr_commands.proofs.Forms.{read_of}
 use Rattle.ladr_lex.specs.Cuts.{pieces_of, Cuts}
 use Rattle.ladr_lex.specs.Lexeme.{Lexeme, lexeme_of, lexemes_of}
@@ -31,12 +31,12 @@ tokens_say n k ss t ts h e =
     let listings = h.rows in
     let differ = found_differ ss h.tellable.different in
     let said = all_said n k es (omega (arith, h.most)) h.number (all_plain n ss t.rows h.most listings h.tellable.named) in
-    let says = ap (outcome interpretation_item) e ∙ said in
+    let says = ap (form_outcome interpretation_item) e ∙ said in
     record {
       read = by_name n es;
       says = says;
       only = λ c d. ap (read_of c) (sym d ∙ says);
-      command = ap (outcome tester_commands) e ∙ tester_said n k es ∙ said;
+      command = ap (form_outcome tester_commands) e ∙ tester_said n k es ∙ said;
       good =
           and_from _ _ (and_from _ _ (and_from _ _ (le-leb 1 n (omega (arith, h.size))) (le-leb n 200 h.most)) (all_filled n ss t.rows listings))
           (all_new ss t.rows differ);

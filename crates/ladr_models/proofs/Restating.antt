@@ -14,7 +14,7 @@ use Rattle.fol_core.specs.declared.problem.Role.{Role}
 use Rattle.fol_core.specs.declared.problem.Role.TheVariants.{Assumption, Usable, Demodulator, Goal}
 use Rattle.ladr_formulas.proofs.Growing.{grows_formula, grows_terms}
 use Rattle.ladr_formulas.proofs.TermLemmas.{kept_both}
-use Rattle.ladr_formulas.specs.Formulas.{Made, unread, names_of, is_faultless, formula_reading, style_of, IsReadAs}
+use Rattle.ladr_formulas.specs.Formulas.{Made, unread, names_of_variables, is_faultless, formula_reading, style_of, IsReadAs}
 use Rattle.ladr_formulas.specs.declared.styles.Mode.{Mode}
 use Rattle.ladr_formulas.specs.declared.styles.Style.{Style}
 use Rattle.fol_core.specs.Fol.{Fol}
@@ -33,14 +33,14 @@ use Rattle.ladr_print.specs.FormulaText.{formula_raw}
 use Rattle.ladr_print.specs.FormulaText as printing
 use Rattle.ladr_print.specs.Precedences.{precedence}
 use Rattle.ladr_print.specs.RawText.{text_of}
-use Rattle.ladr_print.specs.ReadsAgain.{IsAmong, behind, ReadsFormula}
+use Rattle.ladr_print.specs.ReadsAgain.{IsAmong, made_behind, ReadsFormula}
 use Rattle.ladr_print.specs.StatesAs.{KeepsFixed, StatesAs}
 use Rattle.ladr_print.specs.TermText.{name_in}
 use Rattle.ladr_problem.proofs.Good.{problem_before, says_proper}
 use Rattle.ladr_problem.specs.Adding.{FileItem, command, within, IsItemRead, after_item, after_term, after_formula, after_list, after_rule, after_kbo, added_kbo, unshaped, formula_made, style_in, with_settings, with_listed, with_formula, least_misuse, met, is_hints, is_demodulators}
-use Rattle.ladr_problem.specs.File.{Outcome, Says, problem, unreadable, misused, too_large, File, ends, open_list, open_block, bad, breaks, goes_on, finished, start_at, refused_at}
+use Rattle.ladr_problem.specs.File.{Outcome, Says, problem, unreadable, misused, too_large, File, ends, open_list, open_block, bad, breaks, goes_on, at_file_end, start_at, refused_at}
 use Rattle.ladr_problem.specs.File as file
-use Rattle.ladr_problem.specs.Items.{is_stop, in_front, items_of, lexemes}
+use Rattle.ladr_problem.specs.Items.{is_stop_kind, in_first_item, items_of, lexemes}
 use Rattle.ladr_problem.specs.ListItem.{closing, term}
 use Rattle.ladr_problem.specs.Sofar.{Sofar, Listed, nothing_read}
 use Rattle.ladr_problem.specs.declared.refusal.Refusal.{Refusal}
@@ -51,7 +51,7 @@ use Rattle.ladr_reader.specs.Worked.{lexemes_in}
 use Rattle.ladr_rules.specs.Attributes.{Attributed, attributed, attributes_in, has_unfit_weight, is_label, label_of, hint_weight_of}
 use Rattle.ladr_rules.specs.Rules.{Sides, rule_made, shaped_sides, kbo_rule}
 use Rattle.ladr_rules.specs.Shapes.{is_hint, is_demodulator}
-use Rattle.ladr_settings.specs.Settings.{after, is_meant}
+use Rattle.ladr_settings.specs.Settings.{settings_after, is_meant}
 use Rattle.ladr_settings.specs.declared.lists.FormulaList.{FormulaList}
 use Rattle.ladr_settings.specs.declared.lists.FormulaList.TheVariants.{Assumptions, Demodulators, Goals, Hints}
 use Rattle.ladr_settings.specs.declared.lists.FormulaList.TheVariants as lists
@@ -73,18 +73,18 @@ abbrev AllWritten : List (List Piece) → Type 0
 AllWritten [] = Unit {0}
 AllWritten (item ∷ items) = AreWritten (lexemes item) × AllWritten items
 
-front_written : (p : Piece) (items : List (List Piece)) → AreWritten (lexemes (p ∷ [])) → AllWritten items → AllWritten (in_front p items)
+front_written : (p : Piece) (items : List (List Piece)) → AreWritten (lexemes (p ∷ [])) → AllWritten items → AllWritten (in_first_item p items)
 front_written p [] h k = (h, tt)
 front_written p (item ∷ items) h k = (and_from _ _ (and_parts _ _ h).0 k.0, k.1)
 
 items_written : (ps : List Piece) → AreWritten (lexemes ps) → AllWritten (items_of ps)
 items_written [] h = tt
-items_written (p ∷ ps) h = by (is_stop p.kind) (items_written ps (and_parts _ _ h).1)
+items_written (p ∷ ps) h = by (is_stop_kind p.kind) (items_written ps (and_parts _ _ h).1)
   where
     one : AreWritten (lexemes (p ∷ []))
     one = and_from _ _ (and_parts _ _ h).0 refl
 
-    by : (b : Bool) → AllWritten (items_of ps) → AllWritten (if b then (p ∷ []) ∷ items_of ps else in_front p (items_of ps))
+    by : (b : Bool) → AllWritten (items_of ps) → AllWritten (if b then (p ∷ []) ∷ items_of ps else in_first_item p (items_of ps))
     by true k = (one, k)
     by false k = front_written p (items_of ps) one k
 
@@ -124,11 +124,11 @@ module _ (rows : List OperatorRow) (fixed : KeepsFixed rows) where
   unfolding is_special is_ordinary
   hash = named_between rows fixed (codes "#") (record { precedence = 810; kind = InfixRight }) refl refl refl refl
 
-  with_label : (label : Option RawTree) (t : RawTree) → IfSome label P → P t → P (printing.attributed label t)
+  with_label : (label : Option RawTree) (t : RawTree) → IfSome label P → P t → P (printing.with_attribute label t)
   with_label None t h p = p
   with_label (Some l) t h p = (hash, (p, (h, tt)))
 
-  labelled_printable : (t : RawTree) → P t → P (printing.attributed (label_of (attributed t).attributes) (attributed t).formula)
+  labelled_printable : (t : RawTree) → P t → P (printing.with_attribute (label_of (attributed t).attributes) (attributed t).formula)
   labelled_printable (quantified q x t) p = p
   labelled_printable (named s no_raws) p = p
   labelled_printable (named s (more_raws t no_raws)) p = p
@@ -140,7 +140,7 @@ module _ (rows : List OperatorRow) (fixed : KeepsFixed rows) where
       bare : Attributed
       bare = record { formula = named s (more_raws t (more_raws u no_raws)); attributes = [] }
 
-      by : (b : Bool) → P (printing.attributed (label_of (if b then marked else bare).attributes) (if b then marked else bare).formula)
+      by : (b : Bool) → P (printing.with_attribute (label_of (if b then marked else bare).attributes) (if b then marked else bare).formula)
       by true = with_label (label_of (attributes_in u)) t (label_printable (attributes_in u) (attributes_printable u p.1.1.0)) p.1.0
       by false = p
   labelled_printable (named s (more_raws t (more_raws u (more_raws v ts)))) p = p
@@ -149,9 +149,9 @@ module _ (rows : List OperatorRow) (fixed : KeepsFixed rows) where
 record IsFrom (rows : List OperatorRow) (st : Style) (table : List Symbol) (l : Listed) : Type 0 where
   before : List Symbol
   tree : RawTree
-  may : HasText (table_of rows) (printing.attributed l.label tree)
+  may : HasText (table_of rows) (printing.with_attribute l.label tree)
   formula : (formula_reading st before tree).tree ≡ l.formula
-  names : names_of (formula_reading st before tree).reading.variables ≡ l.names
+  names : names_of_variables (formula_reading st before tree).reading.variables ≡ l.names
   clean : (formula_reading st before tree).reading.least ≡ None
   fits : (formula_reading st before tree).reading.large ≡ false
   kept : KeepsNumbers (formula_reading st before tree).reading.symbols table
@@ -163,17 +163,17 @@ restated rows st table l lawful fixed few x =
     let m = formula_reading st x.before x.tree in
     let within : length table ≤ 65535 = few in
     let among : IsAmong m.reading table = record { clean = x.clean; kept = x.kept; few = omega (arith, within) } in
-    let own : ReadsFormula g st x.before (text_of g (printing.attributed l.label x.tree)) l.label m =
-    record { tree = x.tree; precedence = precedence g (printing.attributed l.label x.tree); reads = printed_reads rows (printing.attributed l.label x.tree) lawful x.may; made = refl }
+    let own : ReadsFormula g st x.before (text_of g (printing.with_attribute l.label x.tree)) l.label m =
+    record { tree = x.tree; precedence = precedence g (printing.with_attribute l.label x.tree); reads = printed_reads rows (printing.with_attribute l.label x.tree) lawful x.may; made = refl }
     in
-    let again = (formula_again rows st x.before (text_of g (printing.attributed l.label x.tree)) l.label m table lawful fixed own among).1 in
+    let again = (formula_again rows st x.before (text_of g (printing.with_attribute l.label x.tree)) l.label m table lawful fixed own among).1 in
     let fewer : nat_le (length table) 65535 ≡ true = grind (arith, nat_tests) in
-    let sound : is_faultless (behind table m).reading ≡ true =
+    let sound : is_faultless (made_behind table m).reading ≡ true =
     and_from _ _ (and_from _ _ (ap (λ (o : Option Misuse). is_none o) x.clean) (ap not x.fits)) fewer
     in
-    let states : IsReadAs (behind table m) l.formula l.names table = record { faultless = sound; formula = sym x.formula; named = sym x.names; symbols = refl } in
-    let text : text_of g (printing.attributed l.label (formula_raw table (name_in (names_of m.reading.variables)) m.tree)) ≡ listed_text rows table l =
-    λ i. text_of g (printing.attributed l.label (formula_raw table (name_in (x.names i)) (x.formula i)))
+    let states : IsReadAs (made_behind table m) l.formula l.names table = record { faultless = sound; formula = sym x.formula; named = sym x.names; symbols = refl } in
+    let text : text_of g (printing.with_attribute l.label (formula_raw table (name_in (names_of_variables m.reading.variables)) m.tree)) ≡ listed_text rows table l =
+    λ i. text_of g (printing.with_attribute l.label (formula_raw table (name_in (x.names i)) (x.formula i)))
     in
     subst (λ (b : List ℕ). StatesAs g st table b l.label l.formula l.names table) text
     (record { tree = again.tree; precedence = again.precedence; reads = again.reads; states = subst (λ (r : Made Fol). IsReadAs r l.formula l.names table) (sym again.made) states })
@@ -285,7 +285,7 @@ module _ (m : Mode) (byte : ℕ) (s : Sofar) (good : IsKept m s) where
       by_test K (not (is_meant m s.settings)) _ _ (λ other. good) (λ meant.
       by_option K (λ l. after_list l byte s t made) list (Ok s)
       (λ l e. by_option K (λ k. Err (Misused k)) (least_misuse l (has_unfit_weight a.attributes) made.tree made.reading.least) (Ok (with_formula l byte t made s)) (λ k d. tt)
-      (λ none. listed_kept l made.reading.symbols (record { formula = made.tree; names = names_of made.reading.variables; label = label_of a.attributes; byte = byte }) (hint_weight_of a.attributes) grows
+      (λ none. listed_kept l made.reading.symbols (record { formula = made.tree; names = names_of_variables made.reading.variables; label = label_of a.attributes; byte = byte }) (hint_weight_of a.attributes) grows
       (good.opened (is_false (is_meant m s.settings) meant) some)
       (record {
         before = s.symbols;
@@ -378,7 +378,7 @@ module _ (m : Mode) (byte : ℕ) (s : Sofar) (good : IsKept m s) where
   }
 
   item_kept : (ts : List Lexeme) (i : FileItem) → AreWritten ts → IsItemRead m s ts i → IfOk (after_item m byte s ts i) K
-  item_kept ts (command c) written read = settings_kept (after m c s.settings) (command_follows m s.settings read.0 c)
+  item_kept ts (command c) written read = settings_kept (settings_after m c s.settings) (command_follows m s.settings read.0 c)
   item_kept ts (within closing) written read = closed_kept
   item_kept ts (within (term t)) written read =
       let item = read.1.1 in

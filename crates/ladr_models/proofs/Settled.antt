@@ -14,8 +14,8 @@ use Rattle.ladr_commands.specs.declared.command.Value.{Value}
 use Rattle.ladr_commands.specs.declared.command.Value.TheVariants as value
 use Rattle.ladr_formulas.specs.declared.styles.Mode.{Mode}
 use Rattle.ladr_interpretations.specs.Good.{is_good}
-use Rattle.ladr_lex.specs.Cuts.{is_symbol}
-use Rattle.ladr_lex.specs.Operators.{OperatorRow, is_word, is_precedence, has_precedence, are_lawful, is_fixed, operator_with, type_named, unquoted, is_unfit_operator, is_unfit_symbol, declared}
+use Rattle.ladr_lex.specs.Cuts.{is_plain_symbol}
+use Rattle.ladr_lex.specs.Operators.{OperatorRow, is_quantifier_word, is_precedence, has_precedence, are_lawful, is_fixed, operator_with, type_named, unquoted, is_unfit_operator, is_unfit_symbol, declared}
 use Rattle.ladr_lex.specs.declared.misuse.Misuse.{Misuse}
 use Rattle.ladr_lex.specs.declared.misuse.Misuse.TheVariants.{UnknownList, UnfitOperator, UnfitSymbol, TooLate, UnmatchedIf, UnfitRule, UnfitInterpretation}
 use Rattle.ladr_lex.specs.declared.operators.SymbolType.{SymbolType}
@@ -30,7 +30,7 @@ use Rattle.ladr_options.specs.declared.options.OptionError.{OptionError}
 use Rattle.ladr_options.specs.declared.options.OptionError.TheVariants.{Unknown, NotAValue}
 use Rattle.ladr_options.specs.declared.options.Options.{Options}
 use Rattle.ladr_print.specs.StatesAs.{KeepsFixed}
-use Rattle.ladr_settings.specs.Settings.{after, after_meant, after_other, after_value, after_operators, after_opening, all_declared, is_other, flag_misuse, parameter_misuse, with_options, is_late_style, is_meant, formulas_opened, rules_opened}
+use Rattle.ladr_settings.specs.Settings.{settings_after, after_meant, after_other, after_value, after_operators, after_opening, all_declared, is_other, flag_misuse, parameter_misuse, with_options, is_late_style, is_meant, formulas_opened, rules_opened}
 use Rattle.ladr_settings.specs.declared.lists.OpenList.{OpenList}
 use Rattle.ladr_settings.specs.declared.settings.Settings.{Settings}
 
@@ -135,7 +135,7 @@ module _ (s : Options) where
       (if_there (λ p. Err NotAValue) (parameter_named name) Unknown (λ p. tt))))
 
 -- a symbol that may be declared leaves the table lawful, and the fixed symbols as they were
-word_fixed : (name : List ℕ) → is_fixed name ≡ false → is_word name ≡ false
+word_fixed : (name : List ℕ) → is_fixed name ≡ false → is_quantifier_word name ≡ false
 word_fixed name free =
     elim (cases_Bool (bytes_eq (codes "all") name)) [
       | inl y ↦ absurd (false≢true (sym free ∙ subst (λ (n : List ℕ). is_fixed n ≡ true) ((bytes_eq-Decides (codes "all") name).0 y) refl))
@@ -153,8 +153,8 @@ module _ (p : ℕ) (type : List ℕ) where
   one_lawful : (rows : List OperatorRow) (symbol : List ℕ) → is_unfit_operator p type ≡ false → is_unfit_symbol symbol ≡ false → are_lawful rows ≡ true → are_lawful (declared p type symbol rows) ≡ true
   one_lawful rows symbol fit free h =
       let name = unquoted symbol in
-      let plain = left_false (is_fixed name) (not (is_symbol name)) free in
-      let written = not_false (is_symbol name) (right_false (is_fixed name) (not (is_symbol name)) free) in
+      let plain = left_false (is_fixed name) (not (is_plain_symbol name)) free in
+      let written = not_false (is_plain_symbol name) (right_false (is_fixed name) (not (is_plain_symbol name)) free) in
       let within = not_false (is_precedence p) (left_false (not (is_precedence p)) (is_none (type_named type)) fit) in
       let t = unwrap_or (type_named type) Ordinary in
       lawful_put name (operator_with p t) rows written (word_fixed name plain) (precedence_of t within) h
@@ -287,7 +287,7 @@ module _ (m : Mode) (a : Settings) (closed : a.list ≡ None) where
   other_follows command.EndIf other = same (record a { block = None }) refl refl refl closed
   other_follows (command.Interpretation it) other = same a refl refl refl closed
 
-  pub command_follows : (c : Command) → IfOk (after m c a) F
+  pub command_follows : (c : Command) → IfOk (settings_after m c a) F
   command_follows c = by (is_meant m a) refl
     where
       by : (b : Bool) → is_meant m a ≡ b → IfOk (if b then after_meant c a else Ok (after_other c a)) F

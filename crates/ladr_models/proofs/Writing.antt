@@ -18,7 +18,7 @@ use Rattle.ladr_print.specs.Spacing.{runs_into}
 use Rattle.ladr_print.proofs.Longest.{longest_front}
 use Rattle.ladr_print.proofs.Writes.{Has, has_none, Alone, before_alone, behind_alone, open_alone, close_alone, comma_alone, stop_alone, space_alone, open_written, close_written, comma_written, stop_written, symbol_written}
 use Rattle.ladr_print.specs.HasText.{kind_of}
-use Rattle.model_tables.specs.ModelText.{numbers_behind, numbers_text, further_places, places_text, word_of, entry_text, lines_behind, entry_lines}
+use Rattle.model_tables.specs.ModelText.{numbers_behind, numbers_text, further_places, places_text, kind_text, entry_text, lines_behind, entry_lines}
 use Rattle.model_tables.specs.Size.{AllBelow}
 
 -- the tokens, in front of others: a number, values up to `]`, places up to `)`, an entry, and entries
@@ -49,7 +49,7 @@ sort_of name = if can_be (Some Ordinary) name then ordinary else (if can_be (Som
 
 abbrev pub entry_tokens : NamedTable → List Lexeme → List Lexeme
 entry_tokens e us =
-    symbol ordinary (word_of e.head.kind) ∷ open_paren ∷ symbol (sort_of e.head.name) e.head.name
+    symbol ordinary (kind_text e.head.kind) ∷ open_paren ∷ symbol (sort_of e.head.name) e.head.name
     ∷ place_tokens e.head.arity (comma ∷ open_square ∷ value_tokens e.values (close_paren ∷ us))
 
 abbrev pub behind_entry : List NamedTable → List Lexeme → List Lexeme
@@ -196,7 +196,7 @@ places (suc n) r us h =
     (named_by ordinary (codes "_") (further_places n ++ 41 ∷ r) _ place_written (places_apart (codes "_") n r) (more_places n r us h)))
 
 -- an entry
-kind_written : (k : Kind) (r : List ℕ) (us : List Lexeme) → Has (40 ∷ r) us → Has (word_of k ++ 40 ∷ r) (symbol ordinary (word_of k) ∷ us)
+kind_written : (k : Kind) (r : List ℕ) (us : List Lexeme) → Has (40 ∷ r) us → Has (kind_text k ++ 40 ∷ r) (symbol ordinary (kind_text k) ∷ us)
 unfolding is_ordinary
 kind_written Function r us h = named_by ordinary (codes "function") (40 ∷ r) us refl (before_alone (codes "function") 40 r open_alone) h
 kind_written Relation r us h = named_by ordinary (codes "relation") (40 ∷ r) us refl (before_alone (codes "relation") 40 r open_alone) h
@@ -206,14 +206,14 @@ name_apart a zero r = before_alone a 44 r comma_alone
 name_apart a (suc n) r = before_alone a 40 (95 ∷ ((further_places n ++ codes ")") ++ 44 ∷ r)) open_alone
 
 entry_split : (name : List ℕ) (arity : ℕ) (kind : Kind) (xs r : List ℕ)
-    → entry_text name arity kind xs ++ r ≡ word_of kind ++ (40 ∷ (name ++ (places_text arity ++ (44 ∷ 32 ∷ 91 ∷ (numbers_text xs ++ 93 ∷ 41 ∷ r)))))
+    → entry_text name arity kind xs ++ r ≡ kind_text kind ++ (40 ∷ (name ++ (places_text arity ++ (44 ∷ 32 ∷ 91 ∷ (numbers_text xs ++ 93 ∷ 41 ∷ r)))))
 entry_split name arity kind xs r =
-    append_assoc (word_of kind ++ codes "(" ++ name ++ places_text arity ++ codes ", [" ++ numbers_text xs) (codes "])") r
-    ∙ append_assoc (word_of kind ++ codes "(" ++ name ++ places_text arity ++ codes ", [") (numbers_text xs) (93 ∷ 41 ∷ r)
-    ∙ append_assoc (word_of kind ++ codes "(" ++ name ++ places_text arity) (codes ", [") (numbers_text xs ++ 93 ∷ 41 ∷ r)
-    ∙ append_assoc (word_of kind ++ codes "(" ++ name) (places_text arity) (44 ∷ 32 ∷ 91 ∷ (numbers_text xs ++ 93 ∷ 41 ∷ r))
-    ∙ append_assoc (word_of kind ++ codes "(") name (places_text arity ++ (44 ∷ 32 ∷ 91 ∷ (numbers_text xs ++ 93 ∷ 41 ∷ r)))
-    ∙ append_assoc (word_of kind) (codes "(") (name ++ (places_text arity ++ (44 ∷ 32 ∷ 91 ∷ (numbers_text xs ++ 93 ∷ 41 ∷ r))))
+    append_assoc (kind_text kind ++ codes "(" ++ name ++ places_text arity ++ codes ", [" ++ numbers_text xs) (codes "])") r
+    ∙ append_assoc (kind_text kind ++ codes "(" ++ name ++ places_text arity ++ codes ", [") (numbers_text xs) (93 ∷ 41 ∷ r)
+    ∙ append_assoc (kind_text kind ++ codes "(" ++ name ++ places_text arity) (codes ", [") (numbers_text xs ++ 93 ∷ 41 ∷ r)
+    ∙ append_assoc (kind_text kind ++ codes "(" ++ name) (places_text arity) (44 ∷ 32 ∷ 91 ∷ (numbers_text xs ++ 93 ∷ 41 ∷ r))
+    ∙ append_assoc (kind_text kind ++ codes "(") name (places_text arity ++ (44 ∷ 32 ∷ 91 ∷ (numbers_text xs ++ 93 ∷ 41 ∷ r)))
+    ∙ append_assoc (kind_text kind) (codes "(") (name ++ (places_text arity ++ (44 ∷ 32 ∷ 91 ∷ (numbers_text xs ++ 93 ∷ 41 ∷ r))))
 
 entry_written : (e : NamedTable) (r : List ℕ) (us : List Lexeme) → IsPlain e → Has r us → Has (table_text e ++ r) (entry_tokens e us)
 entry_written e r us p h =

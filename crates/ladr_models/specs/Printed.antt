@@ -5,7 +5,7 @@ use Rattle.fol_core.specs.SymbolTable.{Symbol}
 use Rattle.ladr_formulas.specs.declared.styles.Mode.{Mode}
 use Rattle.ladr_formulas.specs.declared.styles.Style.{Style}
 use Rattle.ladr_lex.specs.Operators.{OperatorRow}
-use Rattle.ladr_print.specs.FormulaText.{attributed, formula_raw}
+use Rattle.ladr_print.specs.FormulaText.{with_attribute, formula_raw}
 use Rattle.ladr_print.specs.RawText.{text_of}
 use Rattle.ladr_print.specs.StatesAs.{StatesAs}
 use Rattle.ladr_print.specs.TermText.{name_in}
@@ -16,7 +16,7 @@ use Rattle.ladr_reader.specs.Table.{table_of}
 -- the text of a formula with its label, as it is printed with these operators and symbols
 abbrev pub listed_text : List OperatorRow → List Symbol → Listed → List ℕ
 listed_text rows table l =
-    text_of (table_of rows) (attributed l.label (formula_raw table (name_in l.names) l.formula))
+    text_of (table_of rows) (with_attribute l.label (formula_raw table (name_in l.names) l.formula))
 
 -- Behind these symbols the printed text states the formula as it stands in the file, with the names
 -- of its variables and its label; it brings no new symbol.

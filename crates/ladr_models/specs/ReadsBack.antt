@@ -14,7 +14,8 @@ use Rattle.ladr_reader.specs.Worked.{lexemes_in}
 use Rattle.model_tables.specs.Size.{IsListing}
 use Rattle.model_tables.specs.Tables.{Listing, Finite}
 
--- a symbol's row, which has its kind: a value for each list of arguments, none too great; or no value, where it has no entry
+-- a symbol's row, which has its kind: a value for each list of arguments, none too great; or no
+-- value, where it has no entry
 abbrev pub IsRow : ℕ → Symbol → Listing → Type 0
 IsRow n s l = (entry : Bool) × IsListing n s entry l
 
@@ -25,8 +26,9 @@ AreRows n [] (l ∷ ls) = ⊥
 AreRows n (s ∷ ss) [] = ⊥
 AreRows n (s ∷ ss) (l ∷ ls) = IsRow n s l × AreRows n ss ls
 
--- Tables of at most 200 elements that are printed as model number k, for symbols that can be told apart: whatever values they have.
--- The text's number is no part of what is read, and may be any that the code can print.
+-- Tables of at most 200 elements that are printed as model number k, for symbols that can be told
+-- apart: whatever values they have. The text's number is no part of what is read, and may be any
+-- that the code can print.
 pub record IsPrintable (n k : ℕ) (symbols : List Symbol) (t : Finite) : Type 0 where
   pub most : n ≤ 200
   pub number : k < 2 ^ 64
@@ -34,8 +36,8 @@ pub record IsPrintable (n k : ℕ) (symbols : List Symbol) (t : Finite) : Type 0
   pub size : t.top + 1 ≡ n
   pub rows : AreRows n symbols t.rows
 
--- The tokens are an interpretation by names and nothing else, also among the commands of the program that tests interpretations;
--- it is one, and its tables for the symbols are t.
+-- The tokens are an interpretation by names and nothing else, also among the commands of the
+-- program that tests interpretations; it is one, and its tables for the symbols are t.
 pub record SayTables (tokens : List Lexeme) (symbols : List Symbol) (t : Finite) : Type 0 where
   pub read : ByName
   pub says : SaysCommand interpretation_item tokens (Interpretation read)

@@ -78,37 +78,88 @@ selection_named name =
 
 -- the parameters by name
 abbrev pub parameter_named : List ℕ → Option Parameter
-parameter_named name = option_or (option_or (option_or (option_or (limit_named name) (count_named name)) (part_named name)) (size_named name)) (selection_named name)
+parameter_named name =
+    option_or
+    (option_or (option_or (option_or (limit_named name) (count_named name)) (part_named name))
+    (size_named name)) (selection_named name)
 
 -- what is read without effect, whatever its value
 abbrev pub is_among : List (List ℕ) → List ℕ → Bool
 is_among names name = list_any (λ n. bytes_eq name n) names
 
 abbrev pub printing_flags : List (List ℕ)
-printing_flags = codes "print_given" ∷ codes "print_kept" ∷ codes "print_gen" ∷ codes "print_proofs" ∷ codes "print_initial_clauses" ∷ codes "print_models" ∷ codes "print_models_tabular" ∷ codes "echo_input" ∷ []
+printing_flags =
+    codes "print_given" ∷ codes "print_kept" ∷ codes "print_gen" ∷ codes "print_proofs"
+    ∷ codes "print_initial_clauses" ∷ codes "print_models" ∷ codes "print_models_tabular"
+    ∷ codes "echo_input" ∷ []
 
 abbrev pub plain_flags : List (List ℕ)
-plain_flags = codes "ignore_option_dependencies" ∷ codes "quiet" ∷ codes "bell" ∷ codes "verbose" ∷ codes "trace" ∷ codes "negprop" ∷ []
+plain_flags =
+    codes "ignore_option_dependencies" ∷ codes "quiet" ∷ codes "bell" ∷ codes "verbose"
+    ∷ codes "trace" ∷ codes "negprop" ∷ []
 
 abbrev pub automatic_flags : List (List ℕ)
-automatic_flags = codes "auto2" ∷ codes "auto_inference" ∷ codes "auto_setup" ∷ codes "auto_limits" ∷ codes "auto_denials" ∷ codes "auto_process" ∷ codes "process_initial_sos" ∷ []
+automatic_flags =
+    codes "auto2" ∷ codes "auto_inference" ∷ codes "auto_setup" ∷ codes "auto_limits"
+    ∷ codes "auto_denials" ∷ codes "auto_process" ∷ codes "process_initial_sos" ∷ []
 
 abbrev pub rule_flags : List (List ℕ)
-rule_flags = codes "neg_binary_resolution" ∷ codes "pos_hyper_resolution" ∷ codes "neg_hyper_resolution" ∷ codes "pos_ur_resolution" ∷ codes "neg_ur_resolution" ∷ []
+rule_flags =
+    codes "neg_binary_resolution" ∷ codes "pos_hyper_resolution" ∷ codes "neg_hyper_resolution"
+    ∷ codes "pos_ur_resolution" ∷ codes "neg_ur_resolution" ∷ []
 
 abbrev pub is_idle_flag : List ℕ → Bool
-is_idle_flag name = is_among printing_flags name || is_among plain_flags name || is_among automatic_flags name || is_among rule_flags name
+is_idle_flag name =
+    is_among printing_flags name || is_among plain_flags name || is_among automatic_flags name
+    || is_among rule_flags name
 
 abbrev pub idle_parameters : List (List ℕ)
-idle_parameters = codes "report" ∷ codes "report_stderr" ∷ codes "stats" ∷ codes "lrs_ticks" ∷ codes "min_sos_limit" ∷ codes "hints_part" ∷ []
+idle_parameters =
+    codes "report" ∷ codes "report_stderr" ∷ codes "stats" ∷ codes "lrs_ticks"
+    ∷ codes "min_sos_limit" ∷ codes "hints_part" ∷ []
 
 -- at the start, where 4,294,967,295 stands for -1
 abbrev pub start : Options
-start = record { auto = true; unit_deletion = true; back_subsume = true; back_demod = true; lnh = true; binary_resolution = false; hyper_resolution = false; ur_resolution = false; factor = false; paramodulation = false; prolog_style_variables = false; order = Lpo; max_weight = 100; sos_limit = 20000; max_given = 4294967295; max_kept = 4294967295; max_seconds = 4294967295; max_megs = 500; max_proofs = 1; max_models = 1; demod_step_limit = 1000; age_part = 1; weight_part = 0; false_part = 4; true_part = 4; domain_size = 0; start_size = 2; end_size = 10; increment = 1; selection_order = 2; selection_measure = 4 }
+start =
+    record {
+      auto = true;
+      unit_deletion = true;
+      back_subsume = true;
+      back_demod = true;
+      lnh = true;
+      binary_resolution = false;
+      hyper_resolution = false;
+      ur_resolution = false;
+      factor = false;
+      paramodulation = false;
+      prolog_style_variables = false;
+      order = Lpo;
+      max_weight = 100;
+      sos_limit = 20000;
+      max_given = 4294967295;
+      max_kept = 4294967295;
+      max_seconds = 4294967295;
+      max_megs = 500;
+      max_proofs = 1;
+      max_models = 1;
+      demod_step_limit = 1000;
+      age_part = 1;
+      weight_part = 0;
+      false_part = 4;
+      true_part = 4;
+      domain_size = 0;
+      start_size = 2;
+      end_size = 10;
+      increment = 1;
+      selection_order = 2;
+      selection_measure = 4;
+    }
 
 -- -1 stands as 4,294,967,295, and no other number below 0 is a value
 abbrev pub stored : Bool → ℕ → Option ℕ
-stored negative n = if negative then (if n == 0 then Some 0 else (if n == 1 then Some 4294967295 else None)) else (if nat_le n 2147483647 then Some n else None)
+stored negative n =
+    if negative then (if n == 0 then Some 0 else (if n == 1 then Some 4294967295 else None))
+    else (if nat_le n 2147483647 then Some n else None)
 
 -- the values of a parameter, among those that are stored
 abbrev pub allows : Parameter → ℕ → Bool
@@ -162,7 +213,8 @@ with_value AgePart n s = record s { age_part = n }
 with_value WeightPart n s = record s { weight_part = n }
 with_value FalsePart n s = record s { false_part = n }
 with_value TruePart n s = record s { true_part = n }
-with_value PickGivenRatio n s = record s { age_part = 1; weight_part = n; false_part = 0; true_part = 0 }
+with_value PickGivenRatio n s =
+    record s { age_part = 1; weight_part = n; false_part = 0; true_part = 0 }
 with_value DomainSize n s = record s { domain_size = n }
 with_value StartSize n s = record s { start_size = n }
 with_value EndSize n s = record s { end_size = n }
@@ -172,7 +224,9 @@ with_value SelectionMeasure n s = record s { selection_measure = n }
 
 -- what a flag that is set or cleared makes of the options
 abbrev pub flagged : List ℕ → Bool → Options → Result Options OptionError
-flagged name on s = if is_idle_flag name then Ok s else option_map_or (λ flag. Ok (with_flag flag on s)) (flag_named name) (Err Unknown)
+flagged name on s =
+    if is_idle_flag name then Ok s
+    else option_map_or (λ flag. Ok (with_flag flag on s)) (flag_named name) (Err Unknown)
 
 -- what a parameter's value makes of the options, where it is a number, and where it is a symbol
 abbrev pub with_stored : Parameter → Options → ℕ → Result Options OptionError
@@ -192,7 +246,9 @@ numbered name negative n s =
     else option_map_or (with_number negative n s) (parameter_named name) (Err Unknown))
 
 abbrev pub order_named : List ℕ → Option Order
-order_named text = if bytes_eq text (codes "lpo") then Some Lpo else (if bytes_eq text (codes "kbo") then Some Kbo else None)
+order_named text =
+    if bytes_eq text (codes "lpo") then Some Lpo
+    else (if bytes_eq text (codes "kbo") then Some Kbo else None)
 
 abbrev pub ordered : Options → Order → Result Options OptionError
 ordered s o = Ok (record s { order = o })
@@ -200,6 +256,8 @@ ordered s o = Ok (record s { order = o })
 abbrev pub symbolized : List ℕ → List ℕ → Options → Result Options OptionError
 symbolized name text s =
     if is_among idle_parameters name then Ok s
-    else (if bytes_eq name (codes "order") then option_map_or (ordered s) (order_named text) (Err NotAValue)
-    else (if bytes_eq name (codes "eq_defs") then (if bytes_eq text (codes "pass") then Ok s else Err NotAValue)
+    else (if bytes_eq name (codes "order")
+    then option_map_or (ordered s) (order_named text) (Err NotAValue)
+    else (if bytes_eq name (codes "eq_defs")
+    then (if bytes_eq text (codes "pass") then Ok s else Err NotAValue)
     else option_map_or (λ p. Err NotAValue) (parameter_named name) (Err Unknown)))

@@ -9,7 +9,8 @@ AreWholeLines (b ∷ c ∷ bs) = AreWholeLines (c ∷ bs)
 
 -- the text stands in the output right after these bytes, where a line begins
 abbrev pub StandsAfter : List ℕ → List ℕ → List ℕ → Type 0
-StandsAfter before text output = AreWholeLines before × ((after : List ℕ) × (output ≡ before ++ (text ++ after)))
+StandsAfter before text output =
+    AreWholeLines before × ((after : List ℕ) × (output ≡ before ++ (text ++ after)))
 
 abbrev pub Stands : List ℕ → List ℕ → Type 0
 Stands text output = (before : List ℕ) × StandsAfter before text output

@@ -23,17 +23,17 @@ use Rattle.ladr_lex.specs.Lexeme.{ordinary}
 use Rattle.ladr_lex.specs.Operators.{OperatorRow, operator_of, are_lawful, if_prefix}
 use Rattle.ladr_lex.specs.declared.operators.OperatorKind.TheVariants.{Infix}
 use Rattle.fol_core.specs.declared.raw.Quantifier.TheVariants.{All, Exists}
-use Rattle.ladr_formulas.specs.Formulas.{Variable, Reading, Made, term_of, named_variable, sentence_as, is_denial, connective_of, by_connective, comparison, formula_in, formula_reading, unread, names_of, IsReadAs}
+use Rattle.ladr_formulas.specs.Formulas.{Variable, Reading, Made, term_of, named_variable, sentence_as, is_denial, connective_of, by_connective, comparison, formula_in, formula_reading, unread, names_of_variables, IsReadAs}
 use Rattle.ladr_formulas.specs.declared.connectives.Connective.{Connective}
 use Rattle.ladr_formulas.specs.declared.connectives.Connective.TheVariants.{And, Or, IfThen, ThenIf, IfAndOnlyIf}
 use Rattle.ladr_reader.specs.Table.{OperatorTable, table_of}
 use Rattle.ladr_formulas.specs.declared.styles.Style.{Style}
 use Rattle.ladr_print.specs.ClauseText.{literal_raw, clause_raw, clause_bytes}
 use Rattle.ladr_print.specs.FormulaText.{two, denial, formula_raw}
-use Rattle.ladr_print.specs.Precedences.{count}
+use Rattle.ladr_print.specs.Precedences.{raws_count}
 use Rattle.ladr_print.specs.StatesAs.{KeepsFixed}
 use Rattle.ladr_formulas.proofs.Behind.{read_behind, term_into}
-use Rattle.ladr_print.specs.ReadsAgain.{IsAmong, behind, IsClean, ReadsClause, ReadsTerm}
+use Rattle.ladr_print.specs.ReadsAgain.{IsAmong, made_behind, IsClean, ReadsClause, ReadsTerm}
 use Rattle.ladr_print.specs.ReadsAs.{ReadsAs}
 use Rattle.ladr_print.specs.StatesClause.{literals_in, clause_in, StatesClause, FreesVariables}
 use Rattle.ladr_print.specs.TermText.{name_in, Naming, clause_variable, symbol_name, term_raw, terms_raw}
@@ -126,7 +126,7 @@ module _ (rows : List OperatorRow) (k : KeepsFixed rows) (prolog : Bool) (frees 
     Few : List ℕ → Type 0
     Few xs = (x : ℕ) → is_in x xs ≡ true → x < 2 ^ 64
 
-    count_same : (ts : Trees) → count (terms_raw T v ts) ≡ count (terms_raw T canon ts)
+    count_same : (ts : Trees) → raws_count (terms_raw T v ts) ≡ raws_count (terms_raw T canon ts)
     count_same none = refl
     count_same (more t ts) = ap suc (count_same ts)
 
@@ -260,7 +260,7 @@ clause_cases (equivalence f g) c h = others h
 clause_cases (forall x f) c h = others h
 clause_cases (exists x f) c h = others h
 
-names_length : (vs : List Variable) → length (names_of vs) ≡ length vs
+names_length : (vs : List Variable) → length (names_of_variables vs) ≡ length vs
 names_length [] = refl
 names_length (x ∷ vs) = ap suc (names_length vs)
 
@@ -270,7 +270,7 @@ record Again (rows : List OperatorRow) (st : Style) (table T : List Symbol) (c :
   precedence : ℕ
   reads : ReadsAs (table_of rows) (clause_bytes (table_of rows) T (clause_variable st.prolog) (renumbered c)) tree precedence
   variables : List Variable
-  count : length variables ≡ length m.reading.variables
+  raws_count : length variables ≡ length m.reading.variables
   made : formula_reading st table tree ≡ record { tree = m.tree; reading = record m.reading { variables = variables } }
 
 module _ (rows : List OperatorRow) (st : Style) (table T : List Symbol) (other : List ℕ) (x : RawTree) (p : ℕ) (c : ClauseTree) (l : are_lawful rows ≡ true) (k : KeepsFixed rows)
@@ -292,14 +292,14 @@ module _ (rows : List OperatorRow) (st : Style) (table T : List Symbol) (other :
         precedence = precedence g (named (codes "$F") no_raws);
         reads = subst (λ (b : List ℕ). ReadsAs g b (named (codes "$F") no_raws) (precedence g (named (codes "$F") no_raws))) (sym text) (printed_reads rows (named (codes "$F") no_raws) l may);
         variables = M.reading.variables;
-        count = refl;
+        raws_count = refl;
         made = ap (formula_reading st table) (sym is);
       }
 
   literals_again : FreesVariables st.prolog rows → length M.reading.variables ≤ 2 ^ 64 → literals_in M.tree ≡ Some c → Again rows st table T c M
   literals_again frees size h =
       let g = table_of rows in
-      let v = name_in (names_of M.reading.variables) in
+      let v = name_in (names_of_variables M.reading.variables) in
       let reaches : Reaches T v M.reading = record { sound = among.clean; symbols = among.kept; names = λ n y e. names_found M.reading.variables n y e } in
       let n = length M.reading.variables in
       let both = formula_ren st T v among.few x (unread table) c h (reaches, size) in
@@ -318,7 +318,7 @@ module _ (rows : List OperatorRow) (st : Style) (table T : List Symbol) (other :
         precedence = precedence g (clause_raw T canonical c);
         reads = subst (λ (b : List ℕ). ReadsAs g b (clause_raw T canonical c) (precedence g (clause_raw T canonical c))) (sym text) (printed_reads rows (clause_raw T canonical c) l may);
         variables = first_variables st.prolog n;
-        count = first_length st.prolog n;
+        raws_count = first_length st.prolog n;
         made = both.0;
       }
 
@@ -340,11 +340,11 @@ clause_both rows st table other c after n T l k frees s kept few size =
     let among : IsAmong m.reading T = record { clean = s.reading.clean; kept = subst (λ (t : List Symbol). KeepsNumbers t T) (sym s.reading.table) kept; few = few } in
     let a = clause_again rows st table T other s.tree s.precedence c l k s.reads among frees (omega (arith, size, s.reading.count)) s.clause in
     let read : Made Fol = record { tree = m.tree; reading = record m.reading { variables = a.variables } } in
-    let clean : IsClean read.reading after n = record { clean = s.reading.clean; table = s.reading.table; count = a.count ∙ s.reading.count } in
-    let behind_all : formula_reading st T a.tree ≡ behind T read =
-    read_behind T st table a.tree (subst (λ (r : Made Fol). KeepsNumbers r.reading.symbols T) (sym a.made) among.kept) ∙ ap (behind T) a.made
+    let clean : IsClean read.reading after n = record { clean = s.reading.clean; table = s.reading.table; raws_count = a.count ∙ s.reading.count } in
+    let behind_all : formula_reading st T a.tree ≡ made_behind T read =
+    read_behind T st table a.tree (subst (λ (r : Made Fol). KeepsNumbers r.reading.symbols T) (sym a.made) among.kept) ∙ ap (made_behind T) a.made
     in
-    let larger : IsClean (behind T read).reading T n = record { clean = s.reading.clean; table = refl; count = a.count ∙ s.reading.count } in (
+    let larger : IsClean (made_behind T read).reading T n = record { clean = s.reading.clean; table = refl; raws_count = a.count ∙ s.reading.count } in (
       record {
         tree = a.tree;
         precedence = a.precedence;
@@ -376,17 +376,17 @@ clause_back rows st table other c after l k frees s few =
     } in
     let size : length m.reading.variables ≤ 2 ^ 64 = omega (arith, few, ap length x.states.named, names_length m.reading.variables) in
     let a = clause_again rows st table after other x.tree x.precedence c l k x.reads among frees size (ap clause_in (sym x.states.formula) ∙ s.clause) in
-    let read : IsReadAs (record { tree = m.tree; reading = record m.reading { variables = a.variables } }) s.formula (names_of a.variables) after =
+    let read : IsReadAs (record { tree = m.tree; reading = record m.reading { variables = a.variables } }) s.formula (names_of_variables a.variables) after =
     record { faultless = x.states.faultless; formula = x.states.formula; named = refl; symbols = x.states.symbols }
     in
     record {
       formula = s.formula;
-      names = names_of a.variables;
+      names = names_of_variables a.variables;
       states = record {
         tree = a.tree;
         precedence = a.precedence;
         reads = a.reads;
-        states = subst (λ (r : Made Fol). IsReadAs r s.formula (names_of a.variables) after) (sym a.made) read;
+        states = subst (λ (r : Made Fol). IsReadAs r s.formula (names_of_variables a.variables) after) (sym a.made) read;
       };
       clause = s.clause;
     }
@@ -401,7 +401,7 @@ term_both rows st table other t after n T l k frees s kept few size =
     let g = table_of rows in
     let canon = clause_variable st.prolog in
     let m = term_of st [] (unread table) s.tree in
-    let v = name_in (names_of m.reading.variables) in
+    let v = name_in (names_of_variables m.reading.variables) in
     let keeps : KeepsNumbers m.reading.symbols T = subst (λ (z : List Symbol). KeepsNumbers z T) (sym s.reading.table) kept in
     let reaches : Reaches T v m.reading = record { sound = s.reading.clean; symbols = keeps; names = λ i y e. names_found m.reading.variables i y e } in
     let small : length m.reading.variables ≤ 2 ^ 64 = omega (arith, size, s.reading.count) in
@@ -417,12 +417,12 @@ term_both rows st table other t after n T l k frees s kept few size =
     in
     let may : HasText g raw = term_has rows k st.prolog frees T v t (λ y e. omega (arith, small, below (length m.reading.variables) y (ap (is_in y) (sym listed) ∙ e))) first in
     let read : Made Tree = record { tree = m.tree; reading = record m.reading { variables = first_variables st.prolog (length m.reading.variables) } } in
-    let count : length (first_variables st.prolog (length m.reading.variables)) ≡ n = first_length st.prolog (length m.reading.variables) ∙ s.reading.count in
-    let larger : term_of st [] (unread T) raw ≡ behind T read =
-    term_into T st [] raw (unread table) (subst (λ (r : Made Tree). KeepsNumbers r.reading.symbols T) (sym again) keeps) ∙ ap (behind T) again
+    let raws_count : length (first_variables st.prolog (length m.reading.variables)) ≡ n = first_length st.prolog (length m.reading.variables) ∙ s.reading.count in
+    let larger : term_of st [] (unread T) raw ≡ made_behind T read =
+    term_into T st [] raw (unread table) (subst (λ (r : Made Tree). KeepsNumbers r.reading.symbols T) (sym again) keeps) ∙ ap (made_behind T) again
     in
-    let own : IsClean read.reading after n = record { clean = s.reading.clean; table = s.reading.table; count = count } in
-    let all : IsClean (behind T read).reading T n = record { clean = s.reading.clean; table = refl; count = count } in (
+    let own : IsClean read.reading after n = record { clean = s.reading.clean; table = s.reading.table; raws_count = raws_count } in
+    let all : IsClean (made_behind T read).reading T n = record { clean = s.reading.clean; table = refl; raws_count = raws_count } in (
       record {
         tree = raw;
         precedence = precedence g raw;

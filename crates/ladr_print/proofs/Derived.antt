@@ -12,14 +12,14 @@ use Rattle.ladr_lex.specs.Operators.{OperatorRow, if_prefix}
 use Rattle.ladr_reader.specs.Table.{OperatorTable, table_of}
 use Rattle.ladr_print.specs.ClauseText.{clause_raw}
 use Rattle.ladr_print.specs.FormulaText.{denial}
-use Rattle.ladr_print.specs.HasText.{plain, CanName, HasText, HaveTexts, HasNames, many, IsSymbolOf, IsOver, AreOver, IsAtomOver, IsClauseOver}
-use Rattle.ladr_print.specs.Precedences.{count}
+use Rattle.ladr_print.specs.HasText.{plain, CanName, HasText, HaveTexts, CanNameSymbols, many, IsSymbolOf, IsTermOver, AreOver, IsAtomOver, IsClauseOver}
+use Rattle.ladr_print.specs.Precedences.{raws_count}
 use Rattle.ladr_print.specs.StatesAs.{KeepsFixed}
 use Rattle.ladr_print.specs.TermText.{Naming, symbol_name, term_raw, terms_raw}
 use Rattle.ladr_print.proofs.Clausal.{variable_named, equals_named}
 use Rattle.ladr_print.proofs.Stating.{brings, denial_has}
 
-many_raws : (table : List Symbol) (v : Naming) (ts : Trees) → count (terms_raw table v ts) ≡ many ts
+many_raws : (table : List Symbol) (v : Naming) (ts : Trees) → raws_count (terms_raw table v ts) ≡ many ts
 many_raws table v none = refl
 many_raws table v (more t ts) = ap suc (many_raws table v ts)
 
@@ -28,7 +28,7 @@ falsum_named : (rows : List OperatorRow) → KeepsFixed rows → CanName (table_
 unfolding is_ordinary
 falsum_named rows fixed = record { sort = ordinary; written = refl; allowed = plain refl (ap if_prefix (fixed (codes "$F") refl)) }
 
-module _ (rows : List OperatorRow) (fixed : KeepsFixed rows) (prolog : Bool) (frees : FreesVariables prolog rows) (table : List Symbol) (few : length table ≤ equality) (names : HasNames (table_of rows) table) where
+module _ (rows : List OperatorRow) (fixed : KeepsFixed rows) (prolog : Bool) (frees : FreesVariables prolog rows) (table : List Symbol) (few : length table ≤ equality) (names : CanNameSymbols (table_of rows) table) where
   abbrev g : OperatorTable
   g = table_of rows
 
@@ -44,7 +44,7 @@ module _ (rows : List OperatorRow) (fixed : KeepsFixed rows) (prolog : Bool) (fr
       rw other (subst (CanName g (name_at table s)) h.1 (names s h.0))
 
   mutual
-    term_has : (t : Tree) → IsOver table t → HasText g (term_raw table v t)
+    term_has : (t : Tree) → IsTermOver table t → HasText g (term_raw table v t)
     term_has (var x) h = (variable_named rows fixed prolog frees x h, tt)
     term_has (elem k) h = absurd h
     term_has (app s ts) h = (subst (NamedFor s) (sym (many_raws table v ts)) (symbol_named s (many ts) h.0), terms_have ts h.1)
@@ -75,5 +75,5 @@ module _ (rows : List OperatorRow) (fixed : KeepsFixed rows) (prolog : Bool) (fr
 
 pub clauses_have_texts :
     (rows : List OperatorRow) (prolog : Bool) (table : List Symbol) (c : ClauseTree) → KeepsFixed rows → FreesVariables prolog rows → length table ≤ equality →
-    HasNames (table_of rows) table → IsClauseOver table c → HasText (table_of rows) (clause_raw table (clause_variable prolog) c)
+    CanNameSymbols (table_of rows) table → IsClauseOver table c → HasText (table_of rows) (clause_raw table (clause_variable prolog) c)
 clauses_have_texts rows prolog table c fixed frees few names over = clause_has rows fixed prolog frees table few names c over

@@ -4,7 +4,7 @@ use Rattle.std.specs.Prelude.{codes}
 use Rattle.fol_core.specs.Literals.{Lit, ClauseTree}
 use Rattle.fol_core.specs.SymbolTable.{Symbol}
 use Rattle.ladr_lex.specs.Operators.{OperatorRow, operator_of}
-use Rattle.ladr_print.specs.ClauseText.{literal_raw, clause_raw, bar, disjunction, clause_bytes}
+use Rattle.ladr_print.specs.ClauseText.{literal_raw, clause_raw, bar, clause_disjunction, clause_bytes}
 use Rattle.ladr_print.specs.FormulaText.{two}
 use Rattle.ladr_print.specs.RawText.{left_argument, right_argument, text_of, printed}
 use Rattle.ladr_print.specs.StatesAs.{KeepsFixed}
@@ -25,7 +25,7 @@ module _ (rows : List OperatorRow) (k : KeepsFixed rows) (table : List Symbol) (
   chain_fits : (t u : _) → right_argument bar (printed g (two (codes "|") t u)) ≡ text_of g (two (codes "|") t u)
   chain_fits t u = rw is_bar refl
 
-  disjunction_text : (l m : Lit) (ls : List Lit) → disjunction g table v l (m ∷ ls) ≡ text_of g (clause_raw table v (l ∷ m ∷ ls))
+  disjunction_text : (l m : Lit) (ls : List Lit) → clause_disjunction g table v l (m ∷ ls) ≡ text_of g (clause_raw table v (l ∷ m ∷ ls))
   disjunction_text l m [] = spaces (left_argument bar (printed g (literal_raw table v l))) (right_argument bar (printed g (literal_raw table v m))) ∙ sym (bar_text (literal_raw table v l) (literal_raw table v m))
     where
       spaces : (a b : List ℕ) → a ++ codes " | " ++ b ≡ a ++ codes " " ++ codes "|" ++ codes " " ++ b

@@ -7,7 +7,7 @@ use Rattle.ladr_print.specs.FormulaText.{denial}
 use Rattle.fol_core.specs.RawTree.{named, no_raws, more_raws, RawTree, raws_of, raw_nodes, raw_nodes_of}
 use Rattle.fol_core.specs.RawView.{raw_of, raw_list}
 use Rattle.fol_core.specs.declared.raw.Raw.{Raw}
-use Rattle.ladr_print.specs.Precedences.{count}
+use Rattle.ladr_print.specs.Precedences.{raws_count}
 use Rattle.fol_core.specs.SymbolTable.{Symbol}
 use Rattle.fol_core.specs.Tree.{trees_of}
 use Rattle.fol_core.specs.TermView.{tree_of, tree_list}
@@ -30,7 +30,7 @@ last_get (x ∷ y ∷ ys) =
 pub runs_get : (left right : List ℕ) → runs_into left right ≡ both_join (slice_get left (length left - 1)) (slice_get right 0)
 runs_get left right = λ i. both_join (last_get left i) (first_get right i)
 
-pub count_raws : (ts : List RawTree) → count (raws_of ts) ≡ length ts
+pub count_raws : (ts : List RawTree) → raws_count (raws_of ts) ≡ length ts
 count_raws [] = refl
 count_raws (t ∷ ts) = ap suc (count_raws ts)
 

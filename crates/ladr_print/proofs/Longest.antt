@@ -10,7 +10,7 @@ use Rattle.std.proofs.lemmas.Bool.Decides.{nat_tests}
 use Rattle.std.proofs.lemmas.Slice.Eq.{bytes_eq-Decides}
 use Rattle.ladr_lex.specs.Bytes.{is_blank, is_ordinary, is_special, is_dash}
 use Rattle.ladr_lex.specs.Cuts.{can_be, is_run, is_quoted, is_special_run, IsLongest}
-use Rattle.ladr_lex.specs.Lexed.{start_of, kind_at, kind_in, behind, behind_in, kept, special_behind}
+use Rattle.ladr_lex.specs.Lexed.{start_of, kind_beginning, kind_begun_by, length_behind, behind_in, kept, special_behind}
 use Rattle.ladr_lex.specs.declared.bytes.TokenStart.{TokenStart}
 use Rattle.ladr_lex.specs.declared.bytes.TokenStart.TheVariants.{Word, Sign, Quote}
 use Rattle.ladr_lex.specs.declared.token.TokenKind.{TokenKind}
@@ -19,7 +19,7 @@ use Rattle.ladr_lex.proofs.Classes.{ordinary_start, special_start, quote_begins}
 use Rattle.ladr_lex.proofs.Extents.{told}
 use Rattle.ladr_lex.proofs.Lexing.{longest_at}
 use Rattle.ladr_lex.proofs.Quotes.{whole, quoted_stays}
-use Rattle.ladr_print.specs.Spacing.{joins, runs_into}
+use Rattle.ladr_print.specs.Spacing.{run_together, runs_into}
 
 -- no byte of a class begins the text
 abbrev pub stops : (ℕ → Bool) → List ℕ → Bool
@@ -28,20 +28,20 @@ stops p (b ∷ bs) = not (p b)
 
 -- what is all of a class, and doesn't run into what is behind it
 pub stops_behind :
-    (p : ℕ → Bool) → ((a c : ℕ) → p a ≡ true → p c ≡ true → joins a c ≡ true) → (b : ℕ) (m r : List ℕ) → list_all p (b ∷ m) ≡ true →
+    (p : ℕ → Bool) → ((a c : ℕ) → p a ≡ true → p c ≡ true → run_together a c ≡ true) → (b : ℕ) (m r : List ℕ) → list_all p (b ∷ m) ≡ true →
     runs_into (b ∷ m) r ≡ false → stops p r ≡ true
 stops_behind p join b [] [] a h = refl
 stops_behind p join b [] (c ∷ cs) a h =
     elim (cases_Bool (p c)) [
-      | inl y ↦ absurd (both_ways (joins b c) h (join b c (and_parts (p b) true a).0 y))
+      | inl y ↦ absurd (both_ways (run_together b c) h (join b c (and_parts (p b) true a).0 y))
       | inr y ↦ not_from_false (p c) y
     ]
 stops_behind p join b (d ∷ m) r a h = stops_behind p join d m r (and_parts (p b) (list_all p (d ∷ m)) a).1 h
 
-specials_join : (a c : ℕ) → is_special a ≡ true → is_special c ≡ true → joins a c ≡ true
+specials_join : (a c : ℕ) → is_special a ≡ true → is_special c ≡ true → run_together a c ≡ true
 specials_join a c h k = or_left _ _ (and_from _ _ h k)
 
-ordinaries_join : (a c : ℕ) → is_ordinary a ≡ true → is_ordinary c ≡ true → joins a c ≡ true
+ordinaries_join : (a c : ℕ) → is_ordinary a ≡ true → is_ordinary c ≡ true → run_together a c ≡ true
 ordinaries_join a c h k = or_right _ _ (and_from _ _ (or_left _ _ h) (or_left _ _ k))
 
 -- runs end there
@@ -72,19 +72,19 @@ special_stops b (c ∷ m) r s = let e : kept (c ∷ m ++ r) ≡ kept (c ∷ m) =
 
 -- where what begins with the first byte ends with the text
 pub longest_front :
-    (o : Option TokenKind) (b : ℕ) (m r : List ℕ) → kind_at b (m ++ r) ≡ o → behind b (m ++ r) ≡ length m → IsLongest o (b ∷ m) r
+    (o : Option TokenKind) (b : ℕ) (m r : List ℕ) → kind_beginning b (m ++ r) ≡ o → length_behind b (m ++ r) ≡ length m → IsLongest o (b ∷ m) r
 longest_front o b m r k e =
-    let front : take (behind b (m ++ r)) (m ++ r) ≡ m = ap (λ (n : ℕ). take n (m ++ r)) e ∙ take-append_seam m r in
-    let back : drop (behind b (m ++ r)) (m ++ r) ≡ r = ap (λ (n : ℕ). drop n (m ++ r)) e ∙ drop-append_seam m r in
+    let front : take (length_behind b (m ++ r)) (m ++ r) ≡ m = ap (λ (n : ℕ). take n (m ++ r)) e ∙ take-append_seam m r in
+    let back : drop (length_behind b (m ++ r)) (m ++ r) ≡ r = ap (λ (n : ℕ). drop n (m ++ r)) e ∙ drop-append_seam m r in
     subst (λ (l : List ℕ). IsLongest o (b ∷ m) l) back
-    (subst (λ (l : List ℕ). IsLongest o (b ∷ l) (drop (behind b (m ++ r)) (m ++ r))) front
-    (subst (λ (x : Option TokenKind). IsLongest x (b ∷ take (behind b (m ++ r)) (m ++ r)) (drop (behind b (m ++ r)) (m ++ r))) k (longest_at b (m ++ r))))
+    (subst (λ (l : List ℕ). IsLongest o (b ∷ l) (drop (length_behind b (m ++ r)) (m ++ r))) front
+    (subst (λ (x : Option TokenKind). IsLongest x (b ∷ take (length_behind b (m ++ r)) (m ++ r)) (drop (length_behind b (m ++ r)) (m ++ r))) k (longest_at b (m ++ r))))
 
 longest_by :
-    (t : TokenStart) (o : Option TokenKind) (b : ℕ) (m r : List ℕ) → start_of b ≡ t → kind_in t (m ++ r) ≡ o → behind_in t b (m ++ r) ≡ length m →
+    (t : TokenStart) (o : Option TokenKind) (b : ℕ) (m r : List ℕ) → start_of b ≡ t → kind_begun_by t (m ++ r) ≡ o → behind_in t b (m ++ r) ≡ length m →
     IsLongest o (b ∷ m) r
 longest_by t o b m r s k e =
-    longest_front o b m r (ap (λ (x : TokenStart). kind_in x (m ++ r)) s ∙ k) (ap (λ (x : TokenStart). behind_in x b (m ++ r)) s ∙ e)
+    longest_front o b m r (ap (λ (x : TokenStart). kind_begun_by x (m ++ r)) s ∙ k) (ap (λ (x : TokenStart). behind_in x b (m ++ r)) s ∙ e)
 
 pub ordinary_longest : (s r : List ℕ) → is_run is_ordinary s ≡ true → runs_into s r ≡ false → IsLongest (Some Ordinary) s r
 ordinary_longest [] r h n = absurd (cc)

@@ -19,10 +19,10 @@ use Rattle.fol_core.specs.declared.symbols.Kind.{Kind}
 use Rattle.fol_core.specs.declared.symbols.Kind.TheVariants.{Function, Relation}
 use Rattle.fol_core.proofs.Places.{slice_get_last}
 use Rattle.fol_core.proofs.SymbolLemmas.{symbol_there, number_of_push}
-use Rattle.ladr_lex.specs.Numeral.{is_numeral, number}
+use Rattle.ladr_lex.specs.Numeral.{is_numeral, limited_number_of}
 use Rattle.ladr_lex.specs.declared.misuse.Misuse.{Misuse}
 use Rattle.ladr_lex.specs.declared.misuse.Misuse.TheVariants.{VariableAsFormula, QuantifierInTerm, UnfitNumeral}
-use Rattle.ladr_formulas.specs.Formulas.{Variable, Reading, Made, Bound, meets, bound_number, free_number, is_variable, with_variable, variable_number, with_name, named_variable, with_symbol, symbol_number, arity_of, is_too_great, is_element, constant_as, constant, term_of, terms_of, relation_of, sentence_as, sentence, equation_read, bound_by, is_denial, connective_of, connective_read, by_connective, comparison, formula_in}
+use Rattle.ladr_formulas.specs.Formulas.{Variable, Reading, Made, Bound, meets, bound_number, free_number, is_variable, with_variable, variable_number, reading_with_name, named_variable, with_symbol, symbol_number, arity_of, is_too_great, is_element, constant_as, constant, term_of, terms_of, relation_of, sentence_as, sentence, equation_read, bound_by, is_denial, connective_of, connective_read, by_connective, comparison, formula_in}
 use Rattle.ladr_formulas.specs.declared.connectives.Connective.{Connective}
 use Rattle.ladr_formulas.specs.declared.connectives.Connective.TheVariants.{And, Or, IfThen, ThenIf, IfAndOnlyIf}
 use Rattle.ladr_formulas.specs.declared.styles.Style.{Style}
@@ -55,7 +55,7 @@ module _ (T : List Symbol) (v : Naming) where
   abbrev Scoped : List Bound → Type 0
   Scoped scope = (name : List ℕ) (n : ℕ) → bound_number scope name ≡ Some n → v n ≡ name
 
-  scoped_more : (scope : List Bound) (x : List ℕ) (n : ℕ) → v n ≡ x → Scoped scope → Scoped (record { name = x; number = n } ∷ scope)
+  scoped_more : (scope : List Bound) (x : List ℕ) (n : ℕ) → v n ≡ x → Scoped scope → Scoped (record { name = x; limited_number_of = n } ∷ scope)
   scoped_more scope x n h k name m e = by (bytes_eq x name) refl
     where
       by : (b : Bool) → bytes_eq x name ≡ b → v m ≡ name
@@ -87,14 +87,14 @@ module _ (T : List Symbol) (v : Naming) where
   free_found n [] name m e = absurd (cc)
   free_found n (x ∷ vs) name m e = found_step n x vs name m (free_found (suc n) vs name m) (x.free && bytes_eq x.name name) refl e
 
-  variable_back : (scope : List Bound) (name : List ℕ) (s : Reading) → Scoped scope → Reaches (with_name scope name s) → v (variable_number scope name s) ≡ name
+  variable_back : (scope : List Bound) (name : List ℕ) (s : Reading) → Scoped scope → Reaches (reading_with_name scope name s) → v (variable_number scope name s) ≡ name
   variable_back scope name s c r = at (bound_number scope name) refl (free_number 0 s.variables name) refl
     where
       at : (o : Option ℕ) → bound_number scope name ≡ o → (f : Option ℕ) → free_number 0 s.variables name ≡ f → v (variable_number scope name s) ≡ name
       at (Some n) e f g = rw e (c name n e)
       at None e (Some n) g =
           let found = free_found 0 s.variables name n g in
-          let kept : Reaches s = before s (with_name scope name s) (grows_name scope name s) r in
+          let kept : Reaches s = before s (reading_with_name scope name s) (grows_name scope name s) r in
           let here : n ≡ found.0 = omega (arith, found.2) in
           rw (e, g) (ap v here ∙ kept.names found.0 found.1 found.3 ∙ found.4)
       at None e None g =
@@ -113,17 +113,17 @@ module _ (T : List Symbol) (v : Naming) where
     symbol_back name arity kind s r =
         let x : Symbol = record { name = name; arity = arity; kind = kind } in
         let f = entered_found s.symbols x in
-        let number : symbol_number name arity (with_symbol name arity kind s) ≡ f.0 = ap (λ (o : Option ℕ). unwrap_or o 0) f.1 in
+        let limited_number_of : symbol_number name arity (with_symbol name arity kind s) ≡ f.0 = ap (λ (o : Option ℕ). unwrap_or o 0) f.1 in
         let there = r.symbols f.0 _ (symbol_there (entered s.symbols x) name arity f.0 f.1) in
         let called : name_at T f.0 ≡ name = ap (λ (o : Option Symbol). option_map_or (λ y. y.name) o []) there in
         let within : f.0 < length T = slice_get_within T f.0 _ there in
         let other : (f.0 == equality) ≡ false = ne_eqb f.0 equality (λ e. omega (arith, within, fewer, e)) in
-        ap (symbol_name T) number ∙ rw other called
+        ap (symbol_name T) limited_number_of ∙ rw other called
 
-    bound_element : (st : Style) (name : List ℕ) → st.elements ≡ true → is_numeral name ≡ true → is_too_great st name ≡ false → number name < 4294967295
-    bound_element st name a b k = below_both (number name) (last_false st.elements (is_numeral name) (nat_lt 999999999 (number name)) k a b)
+    bound_element : (st : Style) (name : List ℕ) → st.elements ≡ true → is_numeral name ≡ true → is_too_great st name ≡ false → limited_number_of name < 4294967295
+    bound_element st name a b k = below_both (limited_number_of name) (last_false st.elements (is_numeral name) (nat_lt 999999999 (limited_number_of name)) k a b)
 
-    pub element_back : (st : Style) (name : List ℕ) → is_element st name ≡ true → is_too_great st name ≡ false → decimal (number name) ≡ name
+    pub element_back : (st : Style) (name : List ℕ) → is_element st name ≡ true → is_too_great st name ≡ false → decimal (limited_number_of name) ≡ name
     element_back st name y k =
         let parts = and_parts st.elements (is_numeral name) y in
         decimal_number name (bound_element st name parts.0 parts.1 k)
@@ -132,7 +132,7 @@ module _ (T : List Symbol) (v : Naming) where
     none_back : (st : Style) (name : List ℕ) (s : Reading) → Reaches (constant_as st name None s).reading → term_raw T v (constant_as st name None s).tree ≡ named name no_raws
     none_back st name s r =
         elim (cases_Bool (is_element st name)) [
-          | inl y ↦ (let e : constant_as st name None s ≡ record { tree = elem (number name); reading = meets (is_too_great st name) UnfitNumeral s } = cond-true (is_element st name) _ _ y in
+          | inl y ↦ (let e : constant_as st name None s ≡ record { tree = elem (limited_number_of name); reading = meets (is_too_great st name) UnfitNumeral s } = cond-true (is_element st name) _ _ y in
               let met : Reaches (meets (is_too_great st name) UnfitNumeral s) = subst (λ (m : Made Tree). Reaches m.reading) e r in
               ap (λ (m : Made Tree). term_raw T v m.tree) e ∙ ap (λ (l : List ℕ). named l no_raws) (element_back st name y (clear (is_too_great st name) UnfitNumeral s met)))
           | inr k ↦ (let after = with_symbol name 0 Function s in
@@ -146,8 +146,8 @@ module _ (T : List Symbol) (v : Naming) where
     unfolding named_variable
     constant_back st scope name s c r =
         elim (cases_Bool (is_variable st scope name)) [
-          | inl y ↦ (let e : named_variable st scope name s ≡ record { tree = Some (variable_number scope name s); reading = with_name scope name s } = cond-true (is_variable st scope name) _ _ y in
-              let met : Reaches (with_name scope name s) = subst (λ (m : Made (Option ℕ)). Reaches (constant_as st name m.tree m.reading).reading) e r in
+          | inl y ↦ (let e : named_variable st scope name s ≡ record { tree = Some (variable_number scope name s); reading = reading_with_name scope name s } = cond-true (is_variable st scope name) _ _ y in
+              let met : Reaches (reading_with_name scope name s) = subst (λ (m : Made (Option ℕ)). Reaches (constant_as st name m.tree m.reading).reading) e r in
               ap (λ (m : Made (Option ℕ)). term_raw T v (constant_as st name m.tree m.reading).tree) e ∙ ap (λ (l : List ℕ). named l no_raws) (variable_back scope name s c met))
           | inr k ↦ (let e : named_variable st scope name s ≡ record { tree = None; reading = s } = cond-false (is_variable st scope name) _ _ k in
               let met : Reaches (constant_as st name None s).reading = subst (λ (m : Made (Option ℕ)). Reaches (constant_as st name m.tree m.reading).reading) e r in
@@ -159,7 +159,7 @@ module _ (T : List Symbol) (v : Naming) where
       term_back st scope s (quantified q x t) c r =
           let met = meets true QuantifierInTerm s in
           let inner = with_variable x false met in
-          absurd (unmet QuantifierInTerm s (before met _ (beyond met inner _ (grows_variable x false met) (grows_term st (record { name = x; number = length s.variables } ∷ scope) inner t)) r))
+          absurd (unmet QuantifierInTerm s (before met _ (beyond met inner _ (grows_variable x false met) (grows_term st (record { name = x; limited_number_of = length s.variables } ∷ scope) inner t)) r))
       term_back st scope s (named name no_raws) c r = constant_back st scope name s c r
       term_back st scope s (named name (more_raws t ts)) c r =
           let met = meets (is_too_great st name) UnfitNumeral s in
@@ -239,7 +239,7 @@ module _ (T : List Symbol) (v : Naming) where
     pub formula_back : (st : Style) (t : RawTree) (scope : List Bound) (s : Reading) → Scoped scope → Backs (formula_in st scope s t) (turned t)
     formula_back st (quantified q x t) scope s c = λ r.
         let inner = with_variable x false s in
-        let bounds = record { name = x; number = length s.variables } ∷ scope in
+        let bounds = record { name = x; limited_number_of = length s.variables } ∷ scope in
         let kept : Reaches inner = before inner _ (grows_formula st bounds t inner) r in
         let called : v (length s.variables) ≡ x = kept.names (length s.variables) (record { name = x; free = false }) (slice_get_last s.variables (record { name = x; free = false })) in
         bound_back q (length s.variables) x _ (turned t) called (formula_back st t bounds inner (scoped_more scope x (length s.variables) called c) r)

@@ -22,11 +22,11 @@ use Rattle.ladr_reader.specs.Worked.{lexemes_in}
 use Rattle.ladr_reader.specs.declared.sides.Side.TheVariants.{Nothing, UpTo}
 use Rattle.ladr_reader.proofs.Lawful.{Lawful, table_lawful, prefix_is, after_is, prefix_room, up_to_room, reads_at_most}
 use Rattle.ladr_print.specs.HasText.{kind_of, CanStand, plain, before, behind, between, HasText, HaveTexts}
-use Rattle.ladr_print.specs.Precedences.{is_infix, count, own_precedence, precedence}
-use Rattle.ladr_print.specs.RawText.{Printed, wrapped, left_argument, right_argument, body, word, commas, application, with_one, with_two, arranged, text_of, printed, printed_all}
+use Rattle.ladr_print.specs.Precedences.{is_infix, raws_count, own_precedence, precedence}
+use Rattle.ladr_print.specs.RawText.{Printed, wrapped, left_argument, right_argument, body, word, commas, application_text, with_one, with_two, arranged, text_of, printed, printed_all}
 use Rattle.ladr_print.specs.RawText as text
 use Rattle.ladr_print.specs.ReadsAs.{ReadsAs, ItemAs}
-use Rattle.ladr_print.specs.Spacing.{beside}
+use Rattle.ladr_print.specs.Spacing.{kept_apart}
 use Rattle.ladr_print.proofs.Operands.{prefix_one, infix_after, postfix_one, no_right, infix_two, left_room, right_room, after_kind, no_prefix, prefix_kind}
 use Rattle.ladr_print.proofs.Writes.{Writes, follow, spaced_follow, beside_written, symbol_written, open_written, close_written, comma_written, before_alone, behind_alone, behind_last, open_alone, close_alone, comma_alone, stop_alone, stop_written, whole_has}
 
@@ -80,7 +80,7 @@ good_before g l k s o t none e pre w x =
     let one = prefix_one o.kind pre in
     let is : if_prefix (g.op s) ≡ Some o = rw (e, pre) refl in
     let a = fitted g t (λ q. ends (right o.kind) o.precedence q (tree_grows g t)) (prefix_room g l s o (tree_grows g t) is) x in
-    as_is g (beside s (right_argument o (printed g t))) _ (named s (more_raws t no_raws)) o.precedence _ (rw (e, one, pre) refl) (rw (e, one) refl)
+    as_is g (kept_apart s (right_argument o (printed g t))) _ (named s (more_raws t no_raws)) o.precedence _ (rw (e, one, pre) refl) (rw (e, one) refl)
     (record {
       tokens = symbol k s ∷ a.shows.tokens;
       writes = beside_written s (right_argument o (printed g t)) (symbol k s ∷ []) a.shows.tokens (symbol_written k s w) a.shows.writes;
@@ -94,7 +94,7 @@ good_behind g l k s o t e pre n w x =
     let one = postfix_one o.kind n in
     let a = fitted g t (takes (left o.kind) o.precedence) (left_room o.kind o.precedence pre (l.own s o e).0) x in
     let is : if_after (g.op s) ≡ Some o = rw (e, pre) refl in
-    as_is g (beside (left_argument o (printed g t)) s) _ (named s (more_raws t no_raws)) o.precedence _ (rw (e, one, pre) refl) (rw (e, one) refl)
+    as_is g (kept_apart (left_argument o (printed g t)) s) _ (named s (more_raws t no_raws)) o.precedence _ (rw (e, one, pre) refl) (rw (e, one) refl)
     (record {
       tokens = a.shows.tokens ++ symbol k s ∷ [];
       writes = beside_written (left_argument o (printed g t)) s a.shows.tokens (symbol k s ∷ []) a.shows.writes (symbol_written k s w);
@@ -157,7 +157,7 @@ all_listed g l bytes ks (t ∷ ts) x a =
 -- a name in front of its arguments
 good_plain :
     (g : OperatorTable) → Lawful g → (k : Sort) (s : List ℕ) (us : List RawTree) → g.word s ≡ None → if_prefix (g.op s) ≡ None →
-    text_of g (named s (raws_of us)) ≡ application s (printed_all g (raws_of us)) → precedence g (named s (raws_of us)) ≡ 0 →
+    text_of g (named s (raws_of us)) ≡ application_text s (printed_all g (raws_of us)) → precedence g (named s (raws_of us)) ≡ 0 →
     can_be (Some (kind_of k)) s ≡ true → AllGood g us → Good g (named s (raws_of us))
 good_plain g l k s [] none pre e f w a =
     as_is g s _ (named s no_raws) 0 _ e f (record { tokens = symbol k s ∷ []; writes = symbol_written k s w; reads = atom k s none pre })
@@ -199,7 +199,7 @@ by_operator g l k s (Some o) (t ∷ u ∷ []) none e pre w a =
       | inr n ↦ good_plain g l k s (t ∷ u ∷ []) none (ap if_prefix e ∙ pre) (rw (e, n) refl) (rw (e, n) refl) w a
     ]
 by_operator g l k s (Some o) (t ∷ u ∷ v ∷ us) none e pre w a =
-    good_plain g l k s (t ∷ u ∷ v ∷ us) none (ap if_prefix e ∙ pre) (rw e refl) (rw e (many_plain o (count (raws_of us)))) w a
+    good_plain g l k s (t ∷ u ∷ v ∷ us) none (ap if_prefix e ∙ pre) (rw e refl) (rw e (many_plain o (raws_count (raws_of us)))) w a
   where
     many_plain : (o : Operator) (n : ℕ) → own_precedence (Some o) (suc (suc (suc n))) ≡ 0
     many_plain o n = elim (cases_Bool (is_infix o.kind)) [
@@ -287,11 +287,11 @@ raws_back : (ts : RawTrees) → raws_of (raws_list ts) ≡ ts
 raws_back no_raws = refl
 raws_back (more_raws t ts) = ap (more_raws t) (raws_back ts)
 
-count_list : (us : List RawTree) → count (raws_of us) ≡ length us
+count_list : (us : List RawTree) → raws_count (raws_of us) ≡ length us
 count_list [] = refl
 count_list (u ∷ us) = ap suc (count_list us)
 
-good_named : (g : OperatorTable) → Lawful g → (k : Sort) (s : List ℕ) (us : List RawTree) → can_be (Some (kind_of k)) s ≡ true → CanStand g s (count (raws_of us)) → AllGood g us → Good g (named s (raws_of us))
+good_named : (g : OperatorTable) → Lawful g → (k : Sort) (s : List ℕ) (us : List RawTree) → can_be (Some (kind_of k)) s ≡ true → CanStand g s (raws_count (raws_of us)) → AllGood g us → Good g (named s (raws_of us))
 good_named g l k s us w (plain none pre) a = by_operator g l k s (g.op s) us none refl pre w a
 good_named g l k s [] w (before o none e pre n) a = absurd (cc)
 good_named g l k s (t ∷ []) w (before o none e pre n) a = good_before g l k s o t none e pre w a.0
@@ -309,7 +309,7 @@ mutual
   good g l h (quantified q x t) p = good_quantified g h p.0.sort q x t p.0.allowed p.0.written (good g l h t p.1)
   good g l h (named s ts) p =
       subst (λ (us : RawTrees). Good g (named s us)) (raws_back ts)
-      (good_named g l p.0.sort s (raws_list ts) p.0.written (subst (λ (us : RawTrees). CanStand g s (count us)) (sym (raws_back ts)) p.0.allowed) (all_good g l h ts p.1))
+      (good_named g l p.0.sort s (raws_list ts) p.0.written (subst (λ (us : RawTrees). CanStand g s (raws_count us)) (sym (raws_back ts)) p.0.allowed) (all_good g l h ts p.1))
 
   all_good : (g : OperatorTable) → Lawful g → HasWords g → (ts : RawTrees) → HaveTexts g ts → AllGood g (raws_list ts)
   all_good g l h no_raws p = tt

@@ -15,10 +15,10 @@ use Rattle.fol_core.specs.Tree.{Tree, var, elem, app, Trees, none, more}
 use Rattle.fol_core.specs.declared.raw.Quantifier.TheVariants.{All, Exists}
 use Rattle.fol_core.specs.declared.symbols.Kind.{Kind}
 use Rattle.fol_core.specs.declared.symbols.Kind.TheVariants.{Function, Relation}
-use Rattle.ladr_lex.specs.Numeral.{number}
+use Rattle.ladr_lex.specs.Numeral.{limited_number_of}
 use Rattle.ladr_lex.specs.declared.misuse.Misuse.{Misuse}
 use Rattle.ladr_lex.specs.declared.misuse.Misuse.TheVariants.{TwoKinds, QuantifierInTerm, UnfitAttribute, UnfitNumeral}
-use Rattle.ladr_formulas.specs.Formulas.{Variable, Reading, Made, meets, free_number, is_variable, with_variable, variable_number, with_name, named_variable, with_symbol, symbol_number, arity_of, is_too_great, is_element, constant_as, constant, term_of, terms_of, relation_of, sentence_as, sentence, equation_read, under, is_denial, connective_of, connective_read, by_connective, comparison, formula_in}
+use Rattle.ladr_formulas.specs.Formulas.{Variable, Reading, Made, meets, free_number, is_variable, with_variable, variable_number, reading_with_name, named_variable, with_symbol, symbol_number, arity_of, is_too_great, is_element, constant_as, constant, term_of, terms_of, relation_of, sentence_as, sentence, equation_read, under, is_denial, connective_of, connective_read, by_connective, comparison, formula_in}
 use Rattle.ladr_formulas.specs.declared.connectives.Connective.{Connective}
 use Rattle.ladr_formulas.specs.declared.connectives.Connective.TheVariants.{And, Or, IfThen, ThenIf, IfAndOnlyIf}
 use Rattle.ladr_formulas.specs.declared.styles.Style.{Style}
@@ -72,22 +72,22 @@ module _ (st : Style) where
       ren_met (is_clash s.symbols x) (bytes_eq name (codes "#")) (entered s.symbols x) (s.large || nat_lt 255 arity) s
 
   -- a variable
-  ren_number : (name : List ℕ) (s : Reading) → length (with_name [] name s).variables ≤ 2 ^ 64 →
-      (variable_number [] (canon (variable_number [] name s)) (ren s) ≡ variable_number [] name s) × (with_name [] (canon (variable_number [] name s)) (ren s) ≡ ren (with_name [] name s))
+  ren_number : (name : List ℕ) (s : Reading) → length (reading_with_name [] name s).variables ≤ 2 ^ 64 →
+      (variable_number [] (canon (variable_number [] name s)) (ren s) ≡ variable_number [] name s) × (reading_with_name [] (canon (variable_number [] name s)) (ren s) ≡ ren (reading_with_name [] name s))
   ren_number name s h = by (free_number 0 s.variables name) refl
     where
       by : (o : Option ℕ) → free_number 0 s.variables name ≡ o →
-          (variable_number [] (canon (variable_number [] name s)) (ren s) ≡ variable_number [] name s) × (with_name [] (canon (variable_number [] name s)) (ren s) ≡ ren (with_name [] name s))
+          (variable_number [] (canon (variable_number [] name s)) (ren s) ≡ variable_number [] name s) × (reading_with_name [] (canon (variable_number [] name s)) (ren s) ≡ ren (reading_with_name [] name s))
       by (Some k) e =
           let f = free_found [] canon 0 s.variables name k e in
-          let known : with_name [] name s ≡ s = rw e refl in
+          let known : reading_with_name [] name s ≡ s = rw e refl in
           let few : length s.variables ≤ 2 ^ 64 = subst (λ (z : Reading). length z.variables ≤ 2 ^ 64) known h in
           let within : k < length s.variables = omega (arith, f.2, slice_get_within s.variables f.0 f.1 f.3) in
           let there = found_there st.prolog (length s.variables) k within few in
           (rw (e, there) refl, rw (e, there) refl)
       by None e =
           let n = length s.variables in
-          let new : with_name [] name s ≡ with_variable name true s = rw e refl in
+          let new : reading_with_name [] name s ≡ with_variable name true s = rw e refl in
           let few : length (s.variables ++ record { name = name; free = true } ∷ []) ≤ 2 ^ 64 = subst (λ (z : Reading). length z.variables ≤ 2 ^ 64) new h in
           let fewer : n < 2 ^ 64 = omega (arith, few, length-append s.variables (record { name = name; free = true } ∷ [])) in
           let there = not_yet st.prolog n n (omega arith) fewer in
@@ -98,7 +98,7 @@ module _ (st : Style) where
   abbrev Free : List ℕ → Type 0
   Free name = is_variable st [] name ≡ true
 
-  named_yes : (name : List ℕ) (s : Reading) → is_variable st [] name ≡ true → named_variable st [] name s ≡ record { tree = Some (variable_number [] name s); reading = with_name [] name s }
+  named_yes : (name : List ℕ) (s : Reading) → is_variable st [] name ≡ true → named_variable st [] name s ≡ record { tree = Some (variable_number [] name s); reading = reading_with_name [] name s }
   unfolding named_variable
   named_yes name s y = cond-true (is_variable st [] name) _ _ y
 
@@ -126,8 +126,8 @@ module _ (st : Style) where
         variable_case : is_variable st [] name ≡ true → term_of st [] (ren s) (term_raw T canon (constant st [] name s).tree) ≡ again (constant st [] name s)
         variable_case y =
             let e = named_yes name s y in
-            let made : constant st [] name s ≡ record { tree = var (variable_number [] name s); reading = with_name [] name s } = ap (λ (m : Made (Option ℕ)). constant_as st name m.tree m.reading) e in
-            let few : length (with_name [] name s).variables ≤ 2 ^ 64 = subst (λ (m : Made Tree). length m.reading.variables ≤ 2 ^ 64) made k.1 in
+            let made : constant st [] name s ≡ record { tree = var (variable_number [] name s); reading = reading_with_name [] name s } = ap (λ (m : Made (Option ℕ)). constant_as st name m.tree m.reading) e in
+            let few : length (reading_with_name [] name s).variables ≤ 2 ^ 64 = subst (λ (m : Made Tree). length m.reading.variables ≤ 2 ^ 64) made k.1 in
             let n = variable_number [] name s in
             let num = ren_number name s few in
             let yes = named_yes (canon n) (ren s) (name_free st n) in
@@ -143,13 +143,13 @@ module _ (st : Style) where
             let gone = named_none name (ren s) n in
             let whole : constant st [] name (ren s) ≡ constant_as st name None (ren s) = ap (λ (m : Made (Option ℕ)). constant_as st name m.tree m.reading) gone in
             elim (cases_Bool (is_element st name)) [
-              | inl y ↦ (let f : (z : Reading) → constant_as st name None z ≡ record { tree = elem (number name); reading = meets (is_too_great st name) UnfitNumeral z } = λ z. cond-true (is_element st name) _ _ y in
+              | inl y ↦ (let f : (z : Reading) → constant_as st name None z ≡ record { tree = elem (limited_number_of name); reading = meets (is_too_great st name) UnfitNumeral z } = λ z. cond-true (is_element st name) _ _ y in
                   let all = made ∙ f s in
                   let met : Reaches T v (meets (is_too_great st name) UnfitNumeral s) = subst (λ (m : Made Tree). Reaches T v m.reading) all k.0 in
-                  let name_is : decimal (number name) ≡ name = element_back T v fewer st name y (clear T v (is_too_great st name) UnfitNumeral s met) in
+                  let name_is : decimal (limited_number_of name) ≡ name = element_back T v fewer st name y (clear T v (is_too_great st name) UnfitNumeral s met) in
                   ap (λ (m : Made Tree). term_of st [] (ren s) (term_raw T canon m.tree)) all
                   ∙ ap (λ (l : List ℕ). constant st [] l (ren s)) name_is ∙ whole ∙ f (ren s)
-                  ∙ ap (λ (z : Reading). record { tree = elem (number name); reading = z }) (ren_meets (is_too_great st name) UnfitNumeral s)
+                  ∙ ap (λ (z : Reading). record { tree = elem (limited_number_of name); reading = z }) (ren_meets (is_too_great st name) UnfitNumeral s)
                   ∙ sym (ap again all))
               | inr j ↦ (let f : (z : Reading) → constant_as st name None z ≡ record { tree = app (symbol_number name 0 (with_symbol name 0 Function z)) none; reading = with_symbol name 0 Function z } = λ z. cond-false (is_element st name) _ _ j in
                   let all = made ∙ f s in
@@ -173,7 +173,7 @@ module _ (st : Style) where
       term_ren (quantified q x t) s k =
           let met = meets true QuantifierInTerm s in
           let inner = with_variable x false met in
-          absurd (unmet T v QuantifierInTerm s (before T v met _ (beyond met inner _ (grows_variable x false met) (grows_term st (record { name = x; number = length s.variables } ∷ []) inner t)) k.0))
+          absurd (unmet T v QuantifierInTerm s (before T v met _ (beyond met inner _ (grows_variable x false met) (grows_term st (record { name = x; limited_number_of = length s.variables } ∷ []) inner t)) k.0))
       term_ren (named name no_raws) s k = constant_ren name s k
       term_ren (named name (more_raws t ts)) s k =
           let met = meets (is_too_great st name) UnfitNumeral s in
@@ -254,10 +254,10 @@ module _ (st : Style) where
     abbrev so_far : Reading → List ℕ
     so_far s = upto (length s.variables)
 
-    number_noted : (name : List ℕ) (s : Reading) → noted (so_far s) (variable_number [] name s) ≡ so_far (with_name [] name s)
+    number_noted : (name : List ℕ) (s : Reading) → noted (so_far s) (variable_number [] name s) ≡ so_far (reading_with_name [] name s)
     number_noted name s = by (free_number 0 s.variables name) refl
       where
-        by : (o : Option ℕ) → free_number 0 s.variables name ≡ o → noted (so_far s) (variable_number [] name s) ≡ so_far (with_name [] name s)
+        by : (o : Option ℕ) → free_number 0 s.variables name ≡ o → noted (so_far s) (variable_number [] name s) ≡ so_far (reading_with_name [] name s)
         by (Some k) e =
             let f = free_found T v 0 s.variables name k e in
             rw e (noted_old (length s.variables) k (omega (arith, f.2, slice_get_within s.variables f.0 f.1 f.3)))
@@ -285,7 +285,7 @@ module _ (st : Style) where
       term_noted (quantified q x t) s k =
           let met = meets true QuantifierInTerm s in
           let inner = with_variable x false met in
-          absurd (unmet T v QuantifierInTerm s (before T v met _ (beyond met inner _ (grows_variable x false met) (grows_term st (record { name = x; number = length s.variables } ∷ []) inner t)) k.0))
+          absurd (unmet T v QuantifierInTerm s (before T v met _ (beyond met inner _ (grows_variable x false met) (grows_term st (record { name = x; limited_number_of = length s.variables } ∷ []) inner t)) k.0))
       term_noted (named name no_raws) s k = constant_noted name s
       term_noted (named name (more_raws t ts)) s k =
           let met = meets (is_too_great st name) UnfitNumeral s in

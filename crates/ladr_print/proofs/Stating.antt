@@ -14,17 +14,17 @@ use Rattle.ladr_lex.specs.Operators.{OperatorRow, operator_of, are_lawful, is_fi
 use Rattle.ladr_lex.specs.declared.operators.Operator.{Operator}
 use Rattle.ladr_lex.specs.declared.operators.OperatorKind.TheVariants.{Infix, InfixRight, Prefix}
 use Rattle.ladr_lex.specs.declared.misuse.Misuse.{Misuse}
-use Rattle.ladr_formulas.specs.Formulas.{Variable, Reading, Made, unread, names_of, is_faultless, is_denial, connective_of, formula_reading, IsReadAs}
+use Rattle.ladr_formulas.specs.Formulas.{Variable, Reading, Made, unread, names_of_variables, is_faultless, is_denial, connective_of, formula_reading, IsReadAs}
 use Rattle.ladr_reader.specs.Table.{table_of}
 use Rattle.ladr_formulas.specs.declared.connectives.Connective.{Connective}
 use Rattle.ladr_formulas.specs.declared.connectives.Connective.TheVariants.{And, Or, IfThen, ThenIf, IfAndOnlyIf}
 use Rattle.ladr_formulas.specs.declared.styles.Style.{Style}
-use Rattle.ladr_print.specs.FormulaText.{two, denial, formula_raw, attributed}
+use Rattle.ladr_print.specs.FormulaText.{two, denial, formula_raw, with_attribute}
 use Rattle.ladr_print.specs.Precedences.{is_infix, precedence}
 use Rattle.ladr_lex.specs.Cuts.{can_be}
 use Rattle.ladr_lex.specs.declared.token.TokenKind.TheVariants.{Special}
 use Rattle.ladr_print.specs.RawText.{text_of}
-use Rattle.ladr_print.specs.ReadsAgain.{IsAmong, behind, ReadsFormula}
+use Rattle.ladr_print.specs.ReadsAgain.{IsAmong, made_behind, ReadsFormula}
 use Rattle.ladr_print.specs.StatesAs.{KeepsFixed, StatesAs}
 use Rattle.ladr_print.specs.TermText.{name_in}
 use Rattle.ladr_formulas.proofs.Behind.{read_behind}
@@ -96,7 +96,7 @@ module _ (rows : List OperatorRow) (b : Brings rows) where
       by_two_has (connective_of n) (turned t) (turned u) (two n t u) (turned_has t p.1.0) (turned_has u p.1.1.0) p
   turned_has (named n (more_raws t (more_raws u (more_raws w ts)))) p = p
 
-  attributed_has : (label : Option RawTree) (t u : RawTree) → (P t → P u) → P (attributed label t) → P (attributed label u)
+  attributed_has : (label : Option RawTree) (t u : RawTree) → (P t → P u) → P (with_attribute label t) → P (with_attribute label u)
   attributed_has None t u f p = f p
   attributed_has (Some l) t u f p = (p.0, (f p.1.0, p.1.1))
 
@@ -115,7 +115,7 @@ sound_parts s h =
     let fewer = first.1 in
     record { least = no_row s.least (and_parts (is_none s.least) (not s.large) first.0).0; fewer = grind (arith, nat_tests) }
 
-pub names_found : (vs : List Variable) (n : ℕ) (x : Variable) → slice_get vs n ≡ Some x → name_in (names_of vs) n ≡ x.name
+pub names_found : (vs : List Variable) (n : ℕ) (x : Variable) → slice_get vs n ≡ Some x → name_in (names_of_variables vs) n ≡ x.name
 names_found [] n x e = absurd (cc)
 names_found (y ∷ vs) zero x e = ap (λ (o : Option Variable). unwrap_or (option_map (λ (z : Variable). z.name) o) []) e
 names_found (y ∷ vs) (suc n) x e = names_found vs n x e
@@ -124,11 +124,11 @@ names_found (y ∷ vs) (suc n) x e = names_found vs n x e
 pub formula_again :
     (rows : List OperatorRow) (st : Style) (first : List Symbol) (other : List ℕ) (label : Option RawTree) (m : Made Fol) (T : List Symbol) →
     are_lawful rows ≡ true → KeepsFixed rows → ReadsFormula (table_of rows) st first other label m → IsAmong m.reading T →
-    ReadsFormula (table_of rows) st first (text_of (table_of rows) (attributed label (formula_raw T (name_in (names_of m.reading.variables)) m.tree))) label m
-    × ReadsFormula (table_of rows) st T (text_of (table_of rows) (attributed label (formula_raw T (name_in (names_of m.reading.variables)) m.tree))) label (behind T m)
+    ReadsFormula (table_of rows) st first (text_of (table_of rows) (with_attribute label (formula_raw T (name_in (names_of_variables m.reading.variables)) m.tree))) label m
+    × ReadsFormula (table_of rows) st T (text_of (table_of rows) (with_attribute label (formula_raw T (name_in (names_of_variables m.reading.variables)) m.tree))) label (made_behind T m)
 formula_again rows st first other label m T l k s among =
     let g = table_of rows in
-    let v = name_in (names_of m.reading.variables) in
+    let v = name_in (names_of_variables m.reading.variables) in
     let own = formula_reading st first s.tree in
     let reaches : Reaches T v own.reading = subst (λ (r : Made Fol). Reaches T v r.reading) (sym s.made)
     (record { sound = among.clean; symbols = among.kept; names = λ n x e. names_found m.reading.variables n x e }) in
@@ -136,23 +136,23 @@ formula_again rows st first other label m T l k s among =
     ap (λ (r : Made Fol). formula_raw T v r.tree) (sym s.made) ∙ formula_back T v among.few st s.tree [] (unread first) (λ name n e. absurd (cc)) reaches
     in
     let again : formula_reading st first (turned s.tree) ≡ m = reread st s.tree [] (unread first) ∙ s.made in
-    let may : HasText g (attributed label (turned s.tree)) =
+    let may : HasText g (with_attribute label (turned s.tree)) =
     attributed_has rows (brings rows k) label s.tree (turned s.tree) (turned_has rows (brings rows k) s.tree) (text_has rows s.reads)
     in
-    let larger : formula_reading st T (turned s.tree) ≡ behind T m =
-    read_behind T st first (turned s.tree) (subst (λ (r : Made Fol). KeepsNumbers r.reading.symbols T) (sym again) among.kept) ∙ ap (behind T) again
+    let larger : formula_reading st T (turned s.tree) ≡ made_behind T m =
+    read_behind T st first (turned s.tree) (subst (λ (r : Made Fol). KeepsNumbers r.reading.symbols T) (sym again) among.kept) ∙ ap (made_behind T) again
     in
-    let text = λ (t : RawTree). text_of g (attributed label t) in (
+    let text = λ (t : RawTree). text_of g (with_attribute label t) in (
       subst (λ (t : RawTree). ReadsFormula g st first (text t) label m) (sym printed)
-          (record { tree = turned s.tree; precedence = precedence g (attributed label (turned s.tree)); reads = printed_reads rows (attributed label (turned s.tree)) l may; made = again }),
-      subst (λ (t : RawTree). ReadsFormula g st T (text t) label (behind T m)) (sym printed)
-          (record { tree = turned s.tree; precedence = precedence g (attributed label (turned s.tree)); reads = printed_reads rows (attributed label (turned s.tree)) l may; made = larger }),
+          (record { tree = turned s.tree; precedence = precedence g (with_attribute label (turned s.tree)); reads = printed_reads rows (with_attribute label (turned s.tree)) l may; made = again }),
+      subst (λ (t : RawTree). ReadsFormula g st T (text t) label (made_behind T m)) (sym printed)
+          (record { tree = turned s.tree; precedence = precedence g (with_attribute label (turned s.tree)); reads = printed_reads rows (with_attribute label (turned s.tree)) l may; made = larger }),
     )
 
 pub states_back :
     (rows : List OperatorRow) (st : Style) (table : List Symbol) (other : List ℕ) (label : Option RawTree) (f : Fol) (names : List (List ℕ)) (after : List Symbol) →
     are_lawful rows ≡ true → KeepsFixed rows → StatesAs (table_of rows) st table other label f names after →
-    StatesAs (table_of rows) st table (text_of (table_of rows) (attributed label (formula_raw after (name_in names) f))) label f names after
+    StatesAs (table_of rows) st table (text_of (table_of rows) (with_attribute label (formula_raw after (name_in names) f))) label f names after
 states_back rows st table other label f names after l k s =
     let g = table_of rows in
     let m = formula_reading st table s.tree in
@@ -163,8 +163,8 @@ states_back rows st table other label f names after l k s =
       few = omega (arith, parts.fewer, ap length s.states.symbols);
     } in
     let again = (formula_again rows st table other label m after l k (record { tree = s.tree; precedence = s.precedence; reads = s.reads; made = refl }) among).0 in
-    let text : text_of g (attributed label (formula_raw after (name_in (names_of m.reading.variables)) m.tree)) ≡ text_of g (attributed label (formula_raw after (name_in names) f)) =
-    λ i. text_of g (attributed label (formula_raw after (name_in (sym s.states.named i)) (sym s.states.formula i)))
+    let text : text_of g (with_attribute label (formula_raw after (name_in (names_of_variables m.reading.variables)) m.tree)) ≡ text_of g (with_attribute label (formula_raw after (name_in names) f)) =
+    λ i. text_of g (with_attribute label (formula_raw after (name_in (sym s.states.named i)) (sym s.states.formula i)))
     in
     subst (λ (b : List ℕ). StatesAs g st table b label f names after) text
     (record { tree = again.tree; precedence = again.precedence; reads = again.reads; states = subst (λ (r : Made Fol). IsReadAs r f names after) (sym again.made) s.states })

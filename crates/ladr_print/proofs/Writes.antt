@@ -11,7 +11,7 @@ use Rattle.ladr_lex.specs.declared.token.TokenKind.{TokenKind}
 use Rattle.ladr_lex.specs.declared.token.TokenKind.TheVariants.{Open, Close, Comma, Stop, Ordinary, Quoted, Special}
 use Rattle.ladr_reader.specs.Worked.{lexemes_in}
 use Rattle.ladr_print.specs.HasText.{kind_of}
-use Rattle.ladr_print.specs.Spacing.{is_wordly, first_byte, last_of, both_join, runs_into, beside}
+use Rattle.ladr_print.specs.Spacing.{is_wordly, first_byte, last_of, both_join, runs_into, kept_apart}
 use Rattle.ladr_print.proofs.Longest.{longest_front, ordinary_longest, quoted_longest, special_longest}
 
 -- from any place on the bytes are cut into these tokens
@@ -157,7 +157,7 @@ spaced_apart a b = behind_last a 32 b space_alone
 pub spaced_follow : (a b : List ℕ) (us vs : List Lexeme) → Writes a us → Writes b vs → Writes (a ++ codes " " ++ b) (us ++ vs)
 spaced_follow a b us vs v w = follow (a ++ codes " ") b us vs (spaced a us v) w (spaced_apart a b)
 
-pub beside_written : (a b : List ℕ) (us vs : List Lexeme) → Writes a us → Writes b vs → Writes (beside a b) (us ++ vs)
+pub beside_written : (a b : List ℕ) (us vs : List Lexeme) → Writes a us → Writes b vs → Writes (kept_apart a b) (us ++ vs)
 beside_written a b us vs v w =
     elim (cases_Bool (runs_into a b)) [
       | inl y ↦ rw y (spaced_follow a b us vs v w)

@@ -12,25 +12,29 @@ use Rattle.ladr_reader.specs.Table.{OperatorTable}
 
 -- a literal as a term as read: its atom, or the denial of it
 abbrev pub literal_raw : List Symbol → Naming → Lit → RawTree
-literal_raw table v l = if l.positive then term_raw table v l.atom else denial (term_raw table v l.atom)
+literal_raw table v l =
+    if l.positive then term_raw table v l.atom else denial (term_raw table v l.atom)
 
 -- a clause as a term as read: its literals nest to the right; the empty clause is `$F`
 abbrev pub clause_raw : List Symbol → Naming → ClauseTree → RawTree
 clause_raw table v [] = named (codes "$F") no_raws
 clause_raw table v (l ∷ []) = literal_raw table v l
-clause_raw table v (l ∷ m ∷ ls) = two (codes "|") (literal_raw table v l) (clause_raw table v (m ∷ ls))
+clause_raw table v (l ∷ m ∷ ls) =
+    two (codes "|") (literal_raw table v l) (clause_raw table v (m ∷ ls))
 
 -- the operator `|`, which can't be changed
 abbrev pub bar : Operator
 bar = record { precedence = 790; kind = InfixRight }
 
 -- two literals or more, each an argument of `|`
-abbrev pub disjunction : OperatorTable → List Symbol → Naming → Lit → List Lit → List ℕ
-disjunction g table v l [] = right_argument bar (printed g (literal_raw table v l))
-disjunction g table v l (m ∷ ls) = left_argument bar (printed g (literal_raw table v l)) ++ codes " | " ++ disjunction g table v m ls
+abbrev pub clause_disjunction : OperatorTable → List Symbol → Naming → Lit → List Lit → List ℕ
+clause_disjunction g table v l [] = right_argument bar (printed g (literal_raw table v l))
+clause_disjunction g table v l (m ∷ ls) =
+    left_argument bar (printed g (literal_raw table v l)) ++ codes " | "
+    ++ clause_disjunction g table v m ls
 
 -- the literals between ` | `
 abbrev pub clause_bytes : OperatorTable → List Symbol → Naming → ClauseTree → List ℕ
 clause_bytes g table v [] = codes "$F"
 clause_bytes g table v (l ∷ []) = text_of g (literal_raw table v l)
-clause_bytes g table v (l ∷ m ∷ ls) = disjunction g table v l (m ∷ ls)
+clause_bytes g table v (l ∷ m ∷ ls) = clause_disjunction g table v l (m ∷ ls)

@@ -10,7 +10,7 @@ use Rattle.ladr_lex.specs.Operators.{is_prefix, if_prefix}
 use Rattle.ladr_lex.specs.declared.operators.Operator.{Operator}
 use Rattle.ladr_lex.specs.declared.token.TokenKind.{TokenKind}
 use Rattle.ladr_lex.specs.declared.token.TokenKind.TheVariants.{Ordinary, Quoted, Special}
-use Rattle.ladr_print.specs.Precedences.{is_infix, count}
+use Rattle.ladr_print.specs.Precedences.{is_infix, raws_count}
 use Rattle.ladr_reader.specs.Table.{OperatorTable, right}
 use Rattle.ladr_reader.specs.declared.sides.Side.TheVariants.{Nothing}
 
@@ -44,7 +44,7 @@ pub record CanBind (g : OperatorTable) (x : List ℕ) : Type 0 where
 -- each name in a term as read is such a one
 abbrev mutual
   pub HasText : OperatorTable → RawTree → Type 0
-  HasText g (named s ts) = CanName g s (count ts) × HaveTexts g ts
+  HasText g (named s ts) = CanName g s (raws_count ts) × HaveTexts g ts
   HasText g (quantified q x t) = CanBind g x × HasText g t
 
   pub HaveTexts : OperatorTable → RawTrees → Type 0
@@ -52,8 +52,8 @@ abbrev mutual
   HaveTexts g (more_raws t ts) = HasText g t × HaveTexts g ts
 
 -- each symbol of a table can have its name and its number of arguments
-abbrev pub HasNames : OperatorTable → List Symbol → Type 0
-HasNames g table = (s : ℕ) → s < length table → CanName g (name_at table s) (arity_at table s)
+abbrev pub CanNameSymbols : OperatorTable → List Symbol → Type 0
+CanNameSymbols g table = (s : ℕ) → s < length table → CanName g (name_at table s) (arity_at table s)
 
 abbrev pub many : Trees → ℕ
 many none = 0
@@ -63,16 +63,17 @@ many (more t ts) = suc (many ts)
 abbrev pub IsSymbolOf : List Symbol → ℕ → ℕ → Type 0
 IsSymbolOf table s n = (s < length table) × (arity_at table s ≡ n)
 
--- a term's symbols are a table's, the variables have numbers of the machine, and no element is named
+-- a term's symbols are a table's, the variables have numbers of the machine, and no element is
+-- named
 abbrev mutual
-  pub IsOver : List Symbol → Tree → Type 0
-  IsOver table (var x) = x < 2 ^ 64
-  IsOver table (elem k) = ⊥
-  IsOver table (app s ts) = IsSymbolOf table s (many ts) × AreOver table ts
+  pub IsTermOver : List Symbol → Tree → Type 0
+  IsTermOver table (var x) = x < 2 ^ 64
+  IsTermOver table (elem k) = ⊥
+  IsTermOver table (app s ts) = IsSymbolOf table s (many ts) × AreOver table ts
 
   pub AreOver : List Symbol → Trees → Type 0
   AreOver table none = Unit {0}
-  AreOver table (more t ts) = IsOver table t × AreOver table ts
+  AreOver table (more t ts) = IsTermOver table t × AreOver table ts
 
 -- an atom is an equation, or its relation is a symbol of the table
 abbrev pub IsAtomOver : List Symbol → Tree → Type 0

@@ -20,9 +20,9 @@ is_infix PostfixParen = false
 abbrev pub arity : OperatorKind → ℕ
 arity k = if is_infix k then 2 else 1
 
-abbrev pub count : RawTrees → ℕ
-count no_raws = 0
-count (more_raws t ts) = suc (count ts)
+abbrev pub raws_count : RawTrees → ℕ
+raws_count no_raws = 0
+raws_count (more_raws t ts) = suc (raws_count ts)
 
 -- an operator with its arguments has its own precedence, any other name 0
 abbrev pub own_precedence : Option Operator → ℕ → ℕ
@@ -30,5 +30,5 @@ own_precedence None n = 0
 own_precedence (Some o) n = if n == arity o.kind then o.precedence else 0
 
 abbrev pub precedence : OperatorTable → RawTree → ℕ
-precedence g (named s ts) = own_precedence (g.op s) (count ts)
+precedence g (named s ts) = own_precedence (g.op s) (raws_count ts)
 precedence g (quantified q x t) = 750

@@ -7,10 +7,11 @@ use Rattle.ladr_reader.specs.Table.{OperatorTable}
 use Rattle.ladr_reader.specs.Worked.{lexemes_in}
 
 -- the tokens that cut the text are this term, and this is its precedence
-pub record ReadsAs (g : OperatorTable) (text : List ℕ) (tree : RawTree) (precedence : ℕ) : Type 0 where
-  pub pieces : List Piece
-  pub cuts : Cuts 0 text pieces
-  pub reads : Reads g (lexemes_in pieces) tree precedence
+pub record ReadsAs (g : OperatorTable) (text : List ℕ) (tree : RawTree) (precedence : ℕ) : Type 0
+  where
+    pub pieces : List Piece
+    pub cuts : Cuts 0 text pieces
+    pub reads : Reads g (lexemes_in pieces) tree precedence
 
 -- the tokens that cut the text are this term and a full stop
 pub record ItemAs (g : OperatorTable) (text : List ℕ) (tree : RawTree) : Type 0 where

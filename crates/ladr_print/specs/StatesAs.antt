@@ -7,17 +7,19 @@ use Rattle.ladr_lex.specs.Operators.{OperatorRow, operator_of, is_fixed, standar
 use Rattle.ladr_formulas.specs.Formulas.{formula_reading, IsReadAs}
 use Rattle.ladr_formulas.specs.declared.styles.Style.{Style}
 use Rattle.ladr_reader.specs.Table.{OperatorTable}
-use Rattle.ladr_print.specs.FormulaText.{attributed}
+use Rattle.ladr_print.specs.FormulaText.{with_attribute}
 use Rattle.ladr_print.specs.ReadsAs.{ReadsAs}
 
 -- the fixed symbols are the operators that they are at the start
 abbrev pub KeepsFixed : List OperatorRow → Type 0
-KeepsFixed rows = (name : List ℕ) → is_fixed name ≡ true → operator_of rows name ≡ operator_of standard_rows name
+KeepsFixed rows =
+    (name : List ℕ) → is_fixed name ≡ true → operator_of rows name ≡ operator_of standard_rows name
 
--- Behind a table of symbols the text reads as this formula, whose variables have these names, with this attribute behind it if
--- there is one; the table is then this one.
-pub record StatesAs (g : OperatorTable) (st : Style) (before : List Symbol) (text : List ℕ) (label : Option RawTree) (f : Fol) (names : List (List ℕ)) (after : List Symbol) : Type 0 where
+-- Behind a table of symbols the text reads as this formula, whose variables have these names, with
+-- this attribute behind it if there is one; the table is then this one.
+pub record StatesAs (g : OperatorTable) (st : Style) (before : List Symbol) (text : List ℕ)
+    (label : Option RawTree) (f : Fol) (names : List (List ℕ)) (after : List Symbol) : Type 0 where
   pub tree : RawTree
   pub precedence : ℕ
-  pub reads : ReadsAs g text (attributed label tree) precedence
+  pub reads : ReadsAs g text (with_attribute label tree) precedence
   pub states : IsReadAs (formula_reading st before tree) f names after

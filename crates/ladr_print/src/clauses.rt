@@ -3,7 +3,7 @@ ghost use Rattle.std.specs.Prelude.{◌≡◌, ◌<◌, ◌≤◌, ◌^◌, ◌+
 ghost use Rattle.fol_core.specs.ClauseView.{literal_of};
 ghost use Rattle.fol_core.specs.RawView.{raw_of};
 ghost use Rattle.fol_core.specs.Renumbered.{renumbered};
-ghost use Rattle.ladr_print.specs.ClauseText.{literal_raw, clause_raw, bar, disjunction, clause_bytes};
+ghost use Rattle.ladr_print.specs.ClauseText.{literal_raw, clause_raw, bar, clause_disjunction, clause_bytes};
 ghost use Rattle.ladr_print.specs.Precedences.{precedence};
 ghost use Rattle.ladr_print.specs.RawText.{left_argument, right_argument, text_of, printed};
 ghost use Rattle.ladr_print.specs.ReadsAs.{ReadsAs};
@@ -166,7 +166,7 @@ fn disjunction(
     out: &mut Vec<u8>,
 ) -> Result<(), AllocError>
     ensures { OnOk result (out.new.items ≡ out.old.items
-        ++ disjunction (table_of ops.now) symbols.now (clause_variable prolog)
+        ++ clause_disjunction (table_of ops.now) symbols.now (clause_variable prolog)
         (literal_of first.now) (map literal_of rest.now)) }
 {
     let mut literal = first;

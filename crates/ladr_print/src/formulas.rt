@@ -5,12 +5,12 @@ ghost use Rattle.fol_core.specs.Fol.{Fol};
 ghost use Rattle.fol_core.specs.FormulaView.{fol_of};
 ghost use Rattle.fol_core.specs.RawTree.{named, quantified, no_raws, more_raws};
 ghost use Rattle.fol_core.specs.RawView.{raw_of};
-ghost use Rattle.ladr_print.specs.FormulaText.{two, denial, formula_raw, attributed};
+ghost use Rattle.ladr_print.specs.FormulaText.{two, denial, formula_raw, with_attribute};
 ghost use Rattle.ladr_print.specs.RawText.{text_of};
 ghost use Rattle.fol_core.specs.SymbolTable.{Symbol};
 ghost use Rattle.ladr_formulas.specs.declared.styles.Style.{Style};
-ghost use Rattle.ladr_print.specs.ReadsAgain.{IsAmong, behind, ReadsFormula};
-ghost use Rattle.ladr_formulas.specs.Formulas.{Made, names_of};
+ghost use Rattle.ladr_print.specs.ReadsAgain.{IsAmong, made_behind, ReadsFormula};
+ghost use Rattle.ladr_formulas.specs.Formulas.{Made, names_of_variables};
 ghost use Rattle.ladr_print.specs.StatesAs.{KeepsFixed, StatesAs};
 ghost use Rattle.ladr_print.specs.TermText.{name_in, naming_of};
 ghost use Rattle.ladr_reader.specs.Table.{table_of};
@@ -31,7 +31,7 @@ pub fn formula_text(
     label: Option<&Raw>,
 ) -> Result<Vec<u8>, AllocError>
     ensures text { IfOk result (λ text. text.items ≡ text_of (table_of ops.now)
-        (attributed (option_map (λ l. raw_of l.now) label.entry)
+        (with_attribute (option_map (λ l. raw_of l.now) label.entry)
         (formula_raw symbols.now (name_in formula.now.names) (fol_of formula.now.shape)))) }
     ensures back { IfOk result (λ text. (st : Style) (before : List Symbol) (other : List ℕ)
         → KeepsFixed ops.now →
@@ -45,13 +45,13 @@ pub fn formula_text(
     ensures again { IfOk result (λ text. (st : Style) (before : List Symbol) (other : List ℕ)
         (m : Made Fol) →
         KeepsFixed ops.now → m.tree ≡ fol_of formula.now.shape →
-        names_of m.reading.variables ≡ formula.now.names → IsAmong m.reading symbols.now →
+        names_of_variables m.reading.variables ≡ formula.now.names → IsAmong m.reading symbols.now →
         ReadsFormula (table_of ops.now) st before other
         (option_map (λ l. raw_of l.now) label.entry) m →
         ReadsFormula (table_of ops.now) st before text.items
         (option_map (λ l. raw_of l.now) label.entry) m
         × ReadsFormula (table_of ops.now) st symbols.now text.items
-        (option_map (λ l. raw_of l.now) label.entry) (behind symbols.now m)) }
+        (option_map (λ l. raw_of l.now) label.entry) (made_behind symbols.now m)) }
 {
     ops.rows_are_lawful();
     let text = labelled(alloc, ops, symbols, formula, label)?;
@@ -67,7 +67,7 @@ fn labelled(
     label: Option<&Raw>,
 ) -> Result<Vec<u8>, AllocError>
     ensures { IfOk result (λ text. text.items ≡ text_of (table_of ops.now)
-        (attributed (option_map (λ l. raw_of l.now) label.entry)
+        (with_attribute (option_map (λ l. raw_of l.now) label.entry)
         (formula_raw symbols.now (name_in formula.now.names) (fol_of formula.now.shape)))) }
 {
     let raw = formula_raw(

@@ -4,14 +4,14 @@ ghost use Rattle.fol_core.specs.RawTree.{RawTree};
 ghost use Rattle.fol_core.specs.Fol.{Fol};
 ghost use Rattle.fol_core.specs.SymbolTable.{Symbol, KeepsNumbers};
 ghost use Rattle.fol_core.specs.Tree.{Tree};
-ghost use Rattle.ladr_print.specs.ReadsAgain.{IsAmong, behind, ReadsFormula, ReadsClause, ReadsTerm};
-ghost use Rattle.ladr_formulas.specs.Formulas.{Made, names_of};
+ghost use Rattle.ladr_print.specs.ReadsAgain.{IsAmong, made_behind, ReadsFormula, ReadsClause, ReadsTerm};
+ghost use Rattle.ladr_formulas.specs.Formulas.{Made, names_of_variables};
 ghost use Rattle.ladr_lex.specs.Operators.{OperatorRow, are_lawful, standard_rows, is_unfit_symbol, declared};
-ghost use Rattle.ladr_print.specs.FormulaText.{attributed, formula_raw};
+ghost use Rattle.ladr_print.specs.FormulaText.{with_attribute, formula_raw};
 ghost use Rattle.fol_core.specs.Literals.{ClauseTree, equality};
 ghost use Rattle.fol_core.specs.Renumbered.{renumbered};
 ghost use Rattle.ladr_print.specs.ClauseText.{clause_bytes, clause_raw};
-ghost use Rattle.ladr_print.specs.HasText.{HasText, HasNames, IsClauseOver};
+ghost use Rattle.ladr_print.specs.HasText.{HasText, CanNameSymbols, IsClauseOver};
 ghost use Rattle.ladr_print.specs.StatesAs.{KeepsFixed, StatesAs};
 ghost use Rattle.ladr_print.specs.StatesClause.{StatesClause, FreesVariables};
 ghost use Rattle.ladr_print.specs.TermText.{name_in, clause_variable, term_raw};
@@ -47,7 +47,7 @@ pub fn terms_have_texts()
 pub fn clauses_have_texts()
     ensures { (rows : List OperatorRow) (prolog : Bool) (table : List Symbol) (c : ClauseTree)
         → KeepsFixed rows → FreesVariables prolog rows → length table ≤ equality
-        → HasNames (table_of rows) table → IsClauseOver table c
+        → CanNameSymbols (table_of rows) table → IsClauseOver table c
         → HasText (table_of rows) (clause_raw table (clause_variable prolog) c) }
 {}
 
@@ -101,7 +101,7 @@ pub fn printed_states_again()
         IsTrue (are_lawful rows) → KeepsFixed rows
         → StatesAs (table_of rows) st before other label f names after →
         StatesAs (table_of rows) st before (text_of (table_of rows)
-        (attributed label (formula_raw after (name_in names) f))) label f names after }
+        (with_attribute label (formula_raw after (name_in names) f))) label f names after }
     ensures start { KeepsFixed standard_rows }
     ensures declared { (rows : List OperatorRow) (p : ℕ) (type symbol : List ℕ)
         → is_unfit_symbol symbol ≡ false → KeepsFixed rows
@@ -127,10 +127,10 @@ pub fn printed_reads_again()
         IsTrue (are_lawful rows) → KeepsFixed rows
         → ReadsFormula (table_of rows) st before other label m →
         IsAmong m.reading T →
-        let text = text_of (table_of rows) (attributed label
-        (formula_raw T (name_in (names_of m.reading.variables)) m.tree)) in
+        let text = text_of (table_of rows) (with_attribute label
+        (formula_raw T (name_in (names_of_variables m.reading.variables)) m.tree)) in
         ReadsFormula (table_of rows) st before text label m
-        × ReadsFormula (table_of rows) st T text label (behind T m) }
+        × ReadsFormula (table_of rows) st T text label (made_behind T m) }
     ensures clause { (rows : List OperatorRow) (st : Style) (before : List Symbol) (other : List ℕ)
         (c : ClauseTree)
         (after : List Symbol) (n : ℕ) (T : List Symbol) →

@@ -4,10 +4,10 @@ ghost use Rattle.fol_core.specs.RawTree.{raws_of};
 ghost use Rattle.fol_core.specs.RawView.{raw_of, raw_list};
 ghost use Rattle.ladr_lex.specs.Operators.{operator_of, is_prefix};
 ghost use Rattle.ladr_print.specs.Precedences.{is_infix, arity, precedence};
-ghost use Rattle.ladr_print.specs.RawText.{word, wrapped, left_argument, right_argument, further, application, with_one, with_two, arranged, text_of, printed, printed_all};
+ghost use Rattle.ladr_print.specs.RawText.{word, wrapped, left_argument, right_argument, further, application_text, with_one, with_two, arranged, text_of, printed, printed_all};
 ghost use Rattle.ladr_print.specs.FormulaText.{two};
 ghost use Rattle.ladr_print.specs.ReadsAs.{ReadsAs};
-ghost use Rattle.ladr_print.specs.Spacing.{beside};
+ghost use Rattle.ladr_print.specs.Spacing.{kept_apart};
 ghost use Rattle.ladr_reader.specs.Table.{table_of};
 
 use crate::precedences::{arity, fits_body, fits_left, fits_right, is_infix, operator_of};
@@ -166,7 +166,7 @@ fn application(
     out: &mut Vec<u8>,
 ) -> Result<(), AllocError>
     ensures { OnOk result (out.new.items ≡ out.old.items
-        ++ application name.now (printed_all (table_of ops.now) (raws_of (raw_list args.now)))) }
+        ++ application_text name.now (printed_all (table_of ops.now) (raws_of (raw_list args.now)))) }
 {
     out.extend_from_slice(name)?;
     let [first, rest @ ..] = args else {
@@ -225,7 +225,7 @@ fn pair(
     out: &mut Vec<u8>,
 ) -> Result<(), AllocError>
     ensures { OnOk result (out.new.items ≡ out.old.items
-        ++ application name.now
+        ++ application_text name.now
         (printed (table_of ops.now) (raw_of left.now) ∷ printed (table_of ops.now)
         (raw_of right.now) ∷ [])) }
 {

@@ -24,7 +24,7 @@ use Rattle.ladr_options.specs.declared.options.OptionError.{OptionError}
 use Rattle.ladr_options.specs.declared.options.OptionError.TheVariants.{Unknown, NotAValue}
 use Rattle.ladr_options.specs.declared.options.Options.{Options}
 use Rattle.ladr_formulas.specs.declared.styles.Mode.{Mode}
-use Rattle.ladr_settings.specs.Settings.{after, after_meant, after_other, after_value, after_opening, all_declared, is_other, flag_misuse, parameter_misuse, with_options, is_late_style, is_meant, formulas_opened, rules_opened}
+use Rattle.ladr_settings.specs.Settings.{settings_after, after_meant, after_other, after_value, after_opening, all_declared, is_other, flag_misuse, parameter_misuse, with_options, is_late_style, is_meant, formulas_opened, rules_opened}
 use Rattle.ladr_settings.specs.declared.lists.OpenList.{OpenList}
 use Rattle.ladr_settings.specs.declared.settings.Settings.{Settings}
 
@@ -142,5 +142,5 @@ other_counts (command.If name) s h = h
 other_counts command.EndIf s h = h
 other_counts (command.Interpretation it) s h = h
 
-pub after_counts : (p : Mode) (c : Command) (s : Settings) → IsCounted s.options → IfOk (after p c s) (λ t. IsCounted t.options)
+pub after_counts : (p : Mode) (c : Command) (s : Settings) → IsCounted s.options → IfOk (settings_after p c s) (λ t. IsCounted t.options)
 after_counts p c s h = either_way Counts (is_meant p s) (after_meant c s) (Ok (after_other c s)) (meant_counts c s h) (other_counts c s h)

@@ -11,12 +11,12 @@ use Rattle.fol_core.specs.SymbolTable.{Symbol, symbol, number_of, entered}
 use Rattle.fol_core.specs.Tree.{Tree, elem, app, none}
 use Rattle.fol_core.specs.declared.symbols.Kind.{Kind}
 use Rattle.fol_core.specs.declared.symbols.Kind.TheVariants.{Function, Relation}
-use Rattle.ladr_lex.specs.Numeral.{number}
+use Rattle.ladr_lex.specs.Numeral.{limited_number_of}
 use Rattle.ladr_lex.specs.declared.misuse.Misuse.{Misuse}
 use Rattle.ladr_lex.specs.declared.misuse.Misuse.TheVariants.{QuantifierInTerm, UnfitNumeral}
 use Rattle.ladr_problem.proofs.Named.{IsNamed, AreNamed}
 use Rattle.ladr_problem.specs.Names.{is_name, AreTellable}
-use Rattle.ladr_formulas.specs.Formulas.{Reading, Bound, Made, meets, with_variable, with_name, with_symbol, symbol_number, is_variable, variable_number, is_too_great, is_element, named_variable, constant_as, arity_of, term_of, terms_of, relation_of, sentence_as, equation_read, under, is_denial, connective_of, by_connective, comparison, formula_in}
+use Rattle.ladr_formulas.specs.Formulas.{Reading, Bound, Made, meets, with_variable, reading_with_name, with_symbol, symbol_number, is_variable, variable_number, is_too_great, is_element, named_variable, constant_as, arity_of, term_of, terms_of, relation_of, sentence_as, equation_read, under, is_denial, connective_of, by_connective, comparison, formula_in}
 use Rattle.ladr_formulas.specs.declared.styles.Style.{Style}
 use Rattle.ladr_formulas.specs.declared.connectives.Connective.{Connective}
 use Rattle.ladr_formulas.specs.declared.connectives.Connective.TheVariants.{And, Or, IfThen, ThenIf, IfAndOnlyIf}
@@ -46,7 +46,7 @@ met false m s t = t
 with_symbol_tells : (name : List ℕ) (arity : ℕ) (kind : Kind) (s : Reading) → Tells s → is_name name ≡ true → Tells (with_symbol name arity kind s)
 with_symbol_tells name arity kind s t h = tellable_entered s.symbols name arity kind t h
 
-with_name_tells : (scope : List Bound) (name : List ℕ) (s : Reading) → Tells s → Tells (with_name scope name s)
+with_name_tells : (scope : List Bound) (name : List ℕ) (s : Reading) → Tells s → Tells (reading_with_name scope name s)
 with_name_tells scope name s t = by _
   where
     by : (b : Bool) → Tells (if b then s else with_variable name true s)
@@ -57,7 +57,7 @@ variable_tells : (st : Style) (scope : List Bound) (name : List ℕ) (s : Readin
 unfolding named_variable
 variable_tells st scope name s t = by (is_variable st scope name)
   where
-    by : (b : Bool) → TellsWith (Option ℕ) (if b then record { tree = Some (variable_number scope name s); reading = with_name scope name s } else record { tree = None; reading = s })
+    by : (b : Bool) → TellsWith (Option ℕ) (if b then record { tree = Some (variable_number scope name s); reading = reading_with_name scope name s } else record { tree = None; reading = s })
     by true = with_name_tells scope name s t
     by false = t
 
@@ -69,13 +69,13 @@ constant_tells st name None s t h = by (is_element st name)
     after : Reading
     after = with_symbol name 0 Function s
 
-    by : (b : Bool) → TellsWith Tree (if b then record { tree = elem (number name); reading = meets (is_too_great st name) UnfitNumeral s } else record { tree = app (symbol_number name 0 after) none; reading = after })
+    by : (b : Bool) → TellsWith Tree (if b then record { tree = elem (limited_number_of name); reading = meets (is_too_great st name) UnfitNumeral s } else record { tree = app (symbol_number name 0 after) none; reading = after })
     by true = met (is_too_great st name) UnfitNumeral s t
     by false = with_symbol_tells name 0 Function s t h
 
 mutual
   term_tells : (st : Style) (scope : List Bound) (s : Reading) (t : RawTree) → IsNamed t → Tells s → Tells (term_of st scope s t).reading
-  term_tells st scope s (quantified q x t) h told = term_tells st (record { name = x; number = length s.variables } ∷ scope) (with_variable x false (meets true QuantifierInTerm s)) t h told
+  term_tells st scope s (quantified q x t) h told = term_tells st (record { name = x; limited_number_of = length s.variables } ∷ scope) (with_variable x false (meets true QuantifierInTerm s)) t h told
   term_tells st scope s (named name no_raws) h told =
       constant_tells st name (named_variable st scope name s).tree (named_variable st scope name s).reading (variable_tells st scope name s told) h.0
   term_tells st scope s (named name (more_raws t ts)) h told =
@@ -134,7 +134,7 @@ denial_tells st scope name t s m n h told inner = by (is_denial name)
     by false = relation_tells st scope name (more_raws t no_raws) s n (h, tt) told
 
 pub formula_tells : (st : Style) (scope : List Bound) (s : Reading) (t : RawTree) → IsNamed t → Tells s → Tells (formula_in st scope s t).reading
-formula_tells st scope s (quantified q x t) h told = formula_tells st (record { name = x; number = length s.variables } ∷ scope) (with_variable x false s) t h told
+formula_tells st scope s (quantified q x t) h told = formula_tells st (record { name = x; limited_number_of = length s.variables } ∷ scope) (with_variable x false s) t h told
 formula_tells st scope s (named name no_raws) h told =
     sentence_tells st scope name (named_variable st scope name s).tree (named_variable st scope name s).reading h.0 (variable_tells st scope name s told)
 formula_tells st scope s (named name (more_raws t no_raws)) h told = denial_tells st scope name t s (formula_in st scope s t) h.0 h.1.0 told (formula_tells st scope s t h.1.0 told)

@@ -8,7 +8,7 @@ use Rattle.ladr_lex.specs.Cuts.{Piece, pieces_of}
 use Rattle.ladr_lex.specs.Lexeme.{Lexeme, lexemes_of}
 use Rattle.ladr_lex.specs.declared.token.Token.{Token}
 use Rattle.ladr_problem.specs.Adding.{IsItemRefused}
-use Rattle.ladr_problem.specs.File.{Outcome, unreadable, misused, too_large, problem, File, bad, breaks, goes_on, start_at, tested, finished}
+use Rattle.ladr_problem.specs.File.{Outcome, unreadable, misused, too_large, problem, File, bad, breaks, goes_on, start_at, tested, at_file_end}
 use Rattle.ladr_problem.specs.Reading.{IsTaken}
 use Rattle.ladr_problem.specs.Sofar.{Sofar}
 use Rattle.ladr_problem.specs.Stops.{IsStop, by_refusal}
@@ -49,17 +49,17 @@ module _ (m : Mode) (end : ℕ) (s : Sofar) (ts : List Token) (items : List (Lis
   pub refused_stops : (why : Refusal) → IsItemRefused m (start_at end (pieces_of ts) 0) s (lexemes_of ts) why → IsStop (File m end s (pieces_of ts ∷ items)) (by_refusal end (pieces_of ts) why)
   refused_stops why h = stops why (subst (λ (xs : List Lexeme). IsItemRefused m (start_at end (pieces_of ts) 0) s xs why) (sym (lexemes_pieces ts)) h)
 
-unreadable_stays : (m : Mode) (end byte : ℕ) → finished m end (unreadable byte) ≡ unreadable byte
+unreadable_stays : (m : Mode) (end byte : ℕ) → at_file_end m end (unreadable byte) ≡ unreadable byte
 unreadable_stays Prover end byte = refl
 unreadable_stays Mace end byte = refl
 unreadable_stays Tester end byte = refl
 
-misused_stays : (m : Mode) (end byte : ℕ) (row : misuses.Misuse) → finished m end (misused byte row) ≡ misused byte row
+misused_stays : (m : Mode) (end byte : ℕ) (row : misuses.Misuse) → at_file_end m end (misused byte row) ≡ misused byte row
 misused_stays Prover end byte row = refl
 misused_stays Mace end byte row = refl
 misused_stays Tester end byte row = refl
 
-too_large_stays : (m : Mode) (end byte : ℕ) (what : Limit) → finished m end (too_large byte what) ≡ too_large byte what
+too_large_stays : (m : Mode) (end byte : ℕ) (what : Limit) → at_file_end m end (too_large byte what) ≡ too_large byte what
 too_large_stays Prover end byte what = refl
 too_large_stays Mace end byte what = refl
 too_large_stays Tester end byte what = refl
@@ -74,7 +74,7 @@ stop_finished m end s items Memory h = tt
 -- and so does row 18, for a program that tests interpretations
 module _ (m : Mode) (tests : m ≡ Tester) (end : ℕ) (s t : Sofar) (items : List (List Piece)) (f : File m end s items (problem t)) where
   is_finished : (o : Outcome) → tested end (problem t) ≡ o → IsFinished m end s items o
-  is_finished o e = (problem t, f, subst (λ (n : Mode). finished n end (problem t) ≡ o) (sym tests) e)
+  is_finished o e = (problem t, f, subst (λ (n : Mode). at_file_end n end (problem t) ≡ o) (sym tests) e)
 
   pub tested_problem : tested end (problem t) ≡ problem t → IsFinished m end s items (problem t)
   tested_problem e = is_finished (problem t) e

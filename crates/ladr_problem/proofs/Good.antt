@@ -32,7 +32,7 @@ use Rattle.ladr_problem.proofs.Entering.{terms_tell, formula_tells}
 use Rattle.ladr_problem.proofs.Named.{HaveNames, names_parts, cut_named, AllHaveNames, items_named, IsNamed, reads_named, attributed_named, HasNamedParts, shaped_named}
 use Rattle.ladr_problem.specs.Adding.{FileItem, command, within, IsItemRead, after_item, after_term, after_formula, after_list, after_rule, after_kbo, added_kbo, unshaped, formula_made, style_in, with_settings, with_listed, with_formula, least_misuse, met, is_hints, is_demodulators}
 use Rattle.ladr_problem.specs.File as file
-use Rattle.ladr_problem.specs.File.{Outcome, Says, problem, unreadable, misused, too_large, File, ends, open_list, open_block, bad, breaks, goes_on, covered, finished, first_lacking, start_at, refused_at}
+use Rattle.ladr_problem.specs.File.{Outcome, Says, problem, unreadable, misused, too_large, File, ends, open_list, open_block, bad, breaks, goes_on, covered, at_file_end, first_lacking, start_at, refused_at}
 use Rattle.ladr_problem.specs.Names.{AreTellable}
 use Rattle.ladr_problem.specs.Proper.{IsProper}
 use Rattle.ladr_problem.specs.Sofar.{Sofar, Listed, said_in, stated_in, input_of, nothing_read}
@@ -49,7 +49,7 @@ use Rattle.fol_core.specs.KboRows.{is_weighed}
 use Rattle.ladr_rules.specs.Rules.{Sides, rule_made, shaped_sides, kbo_rule}
 use Rattle.ladr_rules.specs.Shapes.{is_hint, is_demodulator}
 use Rattle.ladr_settings.proofs.Ranges.{after_in_range}
-use Rattle.ladr_settings.specs.Settings.{after, is_meant}
+use Rattle.ladr_settings.specs.Settings.{settings_after, is_meant}
 use Rattle.ladr_settings.specs.declared.lists.FormulaList.{FormulaList}
 use Rattle.ladr_settings.specs.declared.lists.FormulaList.TheVariants.{Assumptions, Demodulators, Goals, Hints}
 use Rattle.ladr_settings.specs.declared.lists.FormulaList.TheVariants as lists
@@ -160,14 +160,14 @@ module _ (m : Mode) (byte : ℕ) (s : Sofar) (good : IsGood s) where
   term_is_good OtherFormulas t named = formula_good None t named
   term_is_good (Formulas list) t named = formula_good (Some list) t named
 
-  settings_good : (c : Command) (r : Result Settings Misuse) → after m c s.settings ≡ r → IfOk (with_settings s r) IsGood
+  settings_good : (c : Command) (r : Result Settings Misuse) → settings_after m c s.settings ≡ r → IfOk (with_settings s r) IsGood
   settings_good c (Ok t) e =
       let counted = IfOk-at_ok (λ (u : Settings). IsCounted u.options) e (after_counts m c s.settings good.counted) in
       still_good (record s { settings = t }) refl refl (after_in_range m c s.settings t e good.ranged) counted
   settings_good c (Err k) e = tt
 
   item_good : (ts : List Lexeme) (i : FileItem) → HaveNames ts → IsItemRead m s ts i → IfOk (after_item m byte s ts i) IsGood
-  item_good ts (command c) names read = settings_good c (after m c s.settings) refl
+  item_good ts (command c) names read = settings_good c (settings_after m c s.settings) refl
   item_good ts (within closing) names read = still_good (record s { settings = record s.settings { list = None } }) refl refl good.ranged good.counted
   item_good ts (within (term t)) names read =
       let item = read.1.1 in
@@ -217,7 +217,7 @@ is_problem (misused byte row) = false
 is_problem (too_large byte what) = false
 
 -- what is a problem in the end was one at the end of the items
-pub problem_before : (m : Mode) (end : ℕ) (o : Outcome) (s : Sofar) → finished m end o ≡ problem s → o ≡ problem s
+pub problem_before : (m : Mode) (end : ℕ) (o : Outcome) (s : Sofar) → at_file_end m end o ≡ problem s → o ≡ problem s
 problem_before Prover end o s h = h
 problem_before Mace end o s h = h
 problem_before Tester end (unreadable byte) s h = h
@@ -253,7 +253,7 @@ said_same [] = refl
 said_same (i ∷ is) = ap (λ ss. said i.role (fol_of i.formula.shape) ∷ ss) (said_same is)
 
 -- what is a problem in the end has an interpretation, where it is tested
-pub has_interpretation : (end : ℕ) (o : Outcome) (s : Sofar) → finished Tester end o ≡ problem s → IsTrue (is_some s.settings.interpretation)
+pub has_interpretation : (end : ℕ) (o : Outcome) (s : Sofar) → at_file_end Tester end o ≡ problem s → IsTrue (is_some s.settings.interpretation)
 has_interpretation end (unreadable byte) s h = cc
 has_interpretation end (misused byte row) s h = cc
 has_interpretation end (too_large byte what) s h = cc

@@ -5,11 +5,11 @@ use Rattle.std.specs.Option.{option_map_or}
 use Rattle.std.specs.Str.{bytes_eq}
 use Rattle.std.proofs.lemmas.Bool.{or_left, or_right}
 use Rattle.fol_core.specs.RawTree.{RawTree, named, quantified, RawTrees, no_raws, more_raws, raws_of}
-use Rattle.ladr_lex.specs.Cuts.{Piece, Cuts, nothing, gap, token, can_be, is_symbol, is_quoted}
+use Rattle.ladr_lex.specs.Cuts.{Piece, Cuts, nothing, gap, token, can_be, is_plain_symbol, is_quoted}
 use Rattle.ladr_lex.specs.Lexeme.{Lexeme, lexeme, open_paren, close_paren, open_square, close_square, comma, full_stop, symbol, unreadable}
 use Rattle.ladr_lex.specs.declared.token.TokenKind.{TokenKind}
 use Rattle.ladr_lex.specs.declared.token.TokenKind.TheVariants.{Open, Close, LeftSquare, RightSquare, Comma, Stop, Ordinary, Quoted, Special, Unreadable}
-use Rattle.ladr_problem.specs.Items.{is_stop, in_front, items_of, lexemes}
+use Rattle.ladr_problem.specs.Items.{is_stop_kind, in_first_item, items_of, lexemes}
 use Rattle.ladr_problem.specs.Names.{is_name}
 use Rattle.ladr_reader.specs.Reads.{Reads, atom, applied, group, bound, prefixed, postfixed, infixed, ReadsAll, single, further}
 use Rattle.ladr_reader.specs.Table.{OperatorTable}
@@ -43,9 +43,9 @@ token_named LeftSquare text h = tt
 token_named RightSquare text h = tt
 token_named Comma text h = tt
 token_named Stop text h = tt
-token_named Ordinary text h = or_left (is_symbol text) (is_quoted text) (or_left (can_be (Some Ordinary) text) (can_be (Some Special) text) h)
-token_named Quoted text h = or_right (is_symbol text) (is_quoted text) h
-token_named Special text h = or_left (is_symbol text) (is_quoted text) (or_right (can_be (Some Ordinary) text) (can_be (Some Special) text) h)
+token_named Ordinary text h = or_left (is_plain_symbol text) (is_quoted text) (or_left (can_be (Some Ordinary) text) (can_be (Some Special) text) h)
+token_named Quoted text h = or_right (is_plain_symbol text) (is_quoted text) h
+token_named Special text h = or_left (is_plain_symbol text) (is_quoted text) (or_right (can_be (Some Ordinary) text) (can_be (Some Special) text) h)
 token_named Unreadable text h = tt
 
 -- those that a text is cut into
@@ -59,15 +59,15 @@ abbrev pub AllHaveNames : List (List Piece) → Type 0
 AllHaveNames [] = Unit {0}
 AllHaveNames (item ∷ items) = HaveNames (lexemes item) × AllHaveNames items
 
-front_named : (p : Piece) (items : List (List Piece)) → HasName (lexeme p.kind p.text) → AllHaveNames items → AllHaveNames (in_front p items)
+front_named : (p : Piece) (items : List (List Piece)) → HasName (lexeme p.kind p.text) → AllHaveNames items → AllHaveNames (in_first_item p items)
 front_named p [] h k = ((h, tt), tt)
 front_named p (item ∷ items) h k = ((h, k.0), k.1)
 
 pub items_named : (ps : List Piece) → HaveNames (lexemes ps) → AllHaveNames (items_of ps)
 items_named [] h = tt
-items_named (p ∷ ps) h = by (is_stop p.kind) (items_named ps h.1)
+items_named (p ∷ ps) h = by (is_stop_kind p.kind) (items_named ps h.1)
   where
-    by : (b : Bool) → AllHaveNames (items_of ps) → AllHaveNames (if b then (p ∷ []) ∷ items_of ps else in_front p (items_of ps))
+    by : (b : Bool) → AllHaveNames (items_of ps) → AllHaveNames (if b then (p ∷ []) ∷ items_of ps else in_first_item p (items_of ps))
     by true k = ((h.0, tt), k)
     by false k = front_named p (items_of ps) h.0 k
 

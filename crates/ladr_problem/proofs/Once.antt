@@ -21,7 +21,7 @@ use Rattle.ladr_lex.specs.Lexeme.{Lexeme}
 use Rattle.ladr_problem.specs.Adding.{FileItem, command, within, IsItemRead, IsUnreadable, after_item, is_tester}
 use Rattle.ladr_problem.specs.File as file
 use Rattle.ladr_lex.specs.declared.limits.TheConstants.{MOST_BYTES}
-use Rattle.ladr_problem.specs.File.{Outcome, unreadable, File, ends, open_list, open_block, bad, breaks, goes_on, start_at, refused_at, finished}
+use Rattle.ladr_problem.specs.File.{Outcome, unreadable, File, ends, open_list, open_block, bad, breaks, goes_on, start_at, refused_at, at_file_end}
 use Rattle.ladr_problem.specs.Sofar.{Sofar, nothing_read}
 use Rattle.ladr_problem.specs.declared.refusal.Refusal.{Refusal}
 use Rattle.ladr_problem.specs.declared.refusal.Refusal.TheVariants.{Memory}
@@ -142,4 +142,4 @@ says_once m bytes _ _ (file.too_long h) (file.items us inside cut f) = absurd (o
 says_once m bytes _ _ (file.items ts inside cut f) (file.too_long h) = absurd (omega (arith, h, inside))
 says_once m bytes _ _ (file.items {o} ts inside cut f) (file.items {o = p} us i c g) =
     let same : ts ≡ us = cut_once 0 bytes ts us cut c in
-    ap (finished m (length bytes)) (file_once m (length bytes) nothing_read (items_of ts) o p f (subst (λ (xs : List Piece). File m (length bytes) nothing_read (items_of xs) p) (sym same) g))
+    ap (at_file_end m (length bytes)) (file_once m (length bytes) nothing_read (items_of ts) o p f (subst (λ (xs : List Piece). File m (length bytes) nothing_read (items_of xs) p) (sym same) g))

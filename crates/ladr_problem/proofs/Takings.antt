@@ -13,7 +13,7 @@ use Rattle.ladr_commands.specs.declared.command.Command.{Command}
 use Rattle.ladr_problem.specs.ListItem.{term, IsListItem, IsItemFault}
 use Rattle.ladr_lex.specs.Lexeme.{Lexeme}
 use Rattle.ladr_problem.specs.Adding.{command, within, IsItemRead, IsItemRefused, after_item, after_term, after_formula, after_rule, after_weight, unshaped, formula_made, style_in, with_settings, with_listed, least_misuse}
-use Rattle.ladr_problem.specs.Reading.{IsNo, IsTaken, after_read, after_rule_read}
+use Rattle.ladr_problem.specs.Reading.{IsNo, IsTaken, after_formula_read, after_rule_read}
 use Rattle.ladr_problem.specs.Refusals.{by_misuse, by_term}
 use Rattle.ladr_problem.specs.Sofar.{Sofar}
 use Rattle.ladr_problem.specs.declared.refusal.Refusal.{Refusal}
@@ -31,7 +31,7 @@ use Rattle.ladr_rules.specs.RuleSeen.{IsRuleIn}
 use Rattle.ladr_rules.specs.Rules.{rule_in}
 use Rattle.ladr_rules.specs.declared.attributes.LabelledFormula.{LabelledFormula}
 use Rattle.ladr_rules.specs.declared.rules.RuleRead.{RuleRead}
-use Rattle.ladr_settings.specs.Settings.{after, is_meant}
+use Rattle.ladr_settings.specs.Settings.{settings_after, is_meant}
 use Rattle.ladr_settings.specs.declared.lists.FormulaList.{FormulaList}
 use Rattle.ladr_settings.specs.declared.lists.OpenList.{OpenList}
 use Rattle.ladr_settings.specs.declared.settings.SettingsError.{SettingsError}
@@ -48,7 +48,7 @@ take_kept (x ∷ xs) (y ∷ ys) h = ap₂ (λ z zs. z ∷ zs) (ap (λ o. unwrap_
 
 module _ (m : Mode) (byte : ℕ) (s : Sofar) where
   -- a command that is misused
-  pub misused : (ts : List Lexeme) (c : Command) → IsItemRead m s ts (command c) → (why : SettingsError) → ((k : Misuse) → why ≡ misuse.Misused k → after m c s.settings ≡ Err k) → IsItemRefused m byte s ts (by_misuse why)
+  pub misused : (ts : List Lexeme) (c : Command) → IsItemRead m s ts (command c) → (why : SettingsError) → ((k : Misuse) → why ≡ misuse.Misused k → settings_after m c s.settings ≡ Err k) → IsItemRefused m byte s ts (by_misuse why)
   misused ts c read (misuse.Misused k) h = (command c, read, ap (with_settings s) (h k refl))
   misused ts c read misuse.Memory h = tt
 
@@ -82,7 +82,7 @@ module _ (m : Mode) (byte : ℕ) (s : Sofar) where
       → raw_of a.formula ≡ (attributed t).formula → option_map raw_of a.label ≡ label_of (attributed t).attributes
       → a.misused ≡ has_unfit_weight (attributed t).attributes → a.hint_weight ≡ hint_weight_of (attributed t).attributes
       → IsWhole (formula_reading (style_in m s) s.symbols (raw_of a.formula)) r table → KeepsNumbers s.symbols table
-      → after_read m list byte (length s.symbols) (record s { symbols = table }) a r ≡ after_formula m list byte s t
+      → after_formula_read m list byte (length s.symbols) (record s { symbols = table }) a r ≡ after_formula m list byte s t
   same_formula list t a r table formula label misused weight whole kept =
       let w : IsWhole (formula_made m s t) r table = subst (λ (u : RawTree). IsWhole (formula_reading (style_in m s) s.symbols u) r table) formula whole in
       let old = take_kept s.symbols table kept in

@@ -8,7 +8,7 @@ use Rattle.ladr_lex.proofs.Lexing.{cuts_text}
 use Rattle.ladr_lex.specs.Lexed.{lexed}
 use Rattle.ladr_lex.specs.Lexeme.{Lexeme}
 use Rattle.ladr_lex.specs.declared.limits.TheConstants.{MOST_BYTES}
-use Rattle.ladr_problem.specs.File.{Outcome, File, Says, items, finished}
+use Rattle.ladr_problem.specs.File.{Outcome, File, Says, items, at_file_end}
 use Rattle.ladr_problem.specs.Sofar.{nothing_read}
 use Rattle.ladr_reader.proofs.Lawful.{standard_lawful}
 use Rattle.ladr_reader.proofs.Moves.{operand}
@@ -20,7 +20,7 @@ use Rattle.ladr_reader.specs.declared.place.Standing.TheVariants.{Done}
 use Rattle.ladr_formulas.specs.declared.styles.Mode.{Mode}
 
 -- what the items say is what the bytes say
-pub says : (m : Mode) (bytes : List ℕ) (o : Outcome) → leb (length bytes) MOST_BYTES ≡ true → File m (length bytes) nothing_read (items_of (lexed bytes)) o → Says m bytes (finished m (length bytes) o)
+pub says : (m : Mode) (bytes : List ℕ) (o : Outcome) → leb (length bytes) MOST_BYTES ≡ true → File m (length bytes) nothing_read (items_of (lexed bytes)) o → Says m bytes (at_file_end m (length bytes) o)
 says m bytes o few file = items (lexed bytes) (leb-true _ _ few) (cuts_text bytes) file
 
 -- a run of the machine of terms reads a term of a list

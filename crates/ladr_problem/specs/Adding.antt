@@ -25,14 +25,14 @@ use Rattle.ladr_rules.specs.Shapes.{is_hint, is_demodulator}
 use Rattle.ladr_problem.specs.Sofar.{Sofar, Listed}
 use Rattle.ladr_problem.specs.declared.refusal.Refusal.{Refusal}
 use Rattle.ladr_problem.specs.declared.refusal.Refusal.TheVariants.{Bad, Nesting, Symbols, Arity, Misused, Memory}
-use Rattle.ladr_formulas.specs.Formulas.{Made, formula_reading, style_of, names_of}
+use Rattle.ladr_formulas.specs.Formulas.{Made, formula_reading, style_of, names_of_variables}
 use Rattle.ladr_reader.specs.Nesting.{nesting}
 use Rattle.ladr_reader.specs.Table.{table_of}
 use Rattle.ladr_reader.specs.declared.fault.TermFault.TheVariants as term_fault
 use Rattle.ladr_formulas.specs.declared.styles.Mode.{Mode}
 use Rattle.ladr_formulas.specs.declared.styles.Mode.TheVariants.{Prover, Mace, Tester}
 use Rattle.ladr_formulas.specs.declared.styles.Style.{Style}
-use Rattle.ladr_settings.specs.Settings.{after, is_meant}
+use Rattle.ladr_settings.specs.Settings.{settings_after, is_meant}
 use Rattle.ladr_settings.specs.declared.lists.FormulaList.{FormulaList}
 use Rattle.ladr_settings.specs.declared.lists.FormulaList.TheVariants.{Assumptions, Demodulators, Goals, Hints}
 use Rattle.ladr_settings.specs.declared.lists.FormulaList.TheVariants as lists
@@ -52,13 +52,17 @@ is_tester Tester = true
 
 -- the item can be read as this, where it stands
 abbrev pub IsItemRead : Mode → Sofar → List Lexeme → FileItem → Type 0
-IsItemRead m s ts (command c) = (s.settings.list ≡ None) × SaysCommand (commands_of (is_tester m)) ts c
-IsItemRead m s ts (within i) = IsTrue (is_some s.settings.list) × IsListItem (table_of s.settings.operators) ts i
+IsItemRead m s ts (command c) =
+    (s.settings.list ≡ None) × SaysCommand (commands_of (is_tester m)) ts c
+IsItemRead m s ts (within i) =
+    IsTrue (is_some s.settings.list) × IsListItem (table_of s.settings.operators) ts i
 
 -- the item can't be read, and token k of it is the first bad one
 abbrev pub IsUnreadable : Mode → Sofar → List Lexeme → ℕ → Type 0
 IsUnreadable m s ts k =
-    MatchOption s.settings.list (IsCommandFault (commands_of (is_tester m)) ts (command_fault.Bad k)) (λ _. IsItemFault (table_of s.settings.operators) ts (term_fault.Bad k))
+    MatchOption s.settings.list
+    (IsCommandFault (commands_of (is_tester m)) ts (command_fault.Bad k))
+    (λ _. IsItemFault (table_of s.settings.operators) ts (term_fault.Bad k))
 
 abbrev pub style_in : Mode → Sofar → Style
 style_in m s = style_of m s.settings.options.prolog_style_variables
@@ -89,7 +93,8 @@ met test misuse least = if test then Some (earlier misuse least) else least
 abbrev pub least_misuse : FormulaList → Bool → Fol → Option Misuse → Option Misuse
 least_misuse list unfit f least =
     met (is_hints list && not (is_hint f)) UnfitHint
-    (met (is_demodulators list && not (is_demodulator f)) UnfitDemodulator (met unfit UnfitAttribute least))
+    (met (is_demodulators list && not (is_demodulator f)) UnfitDemodulator
+    (met unfit UnfitAttribute least))
 
 -- the formula is added to those of its list
 abbrev pub with_listed : FormulaList → Listed → Option ℕ → Sofar → Sofar
@@ -102,14 +107,24 @@ with_listed Hints l w s = record s { hints = s.hints ++ (l, w) ∷ [] }
 -- with its symbols
 abbrev pub with_formula : FormulaList → ℕ → RawTree → Made Fol → Sofar → Sofar
 with_formula list byte t made s =
-    let l : Listed = record { formula = made.tree; names = names_of made.reading.variables; label = label_of (attributed t).attributes; byte = byte } in
-    with_listed list l (hint_weight_of (attributed t).attributes) (record s { symbols = made.reading.symbols })
+    let l : Listed = record {
+      formula = made.tree;
+      names = names_of_variables made.reading.variables;
+      label = label_of (attributed t).attributes;
+      byte = byte;
+    } in
+    with_listed list l (hint_weight_of (attributed t).attributes)
+    (record s { symbols = made.reading.symbols })
 
 -- the formula is misused, or added
 abbrev pub after_list : FormulaList → ℕ → Sofar → RawTree → Made Fol → Result Sofar Refusal
-after_list list byte s t made = option_map_or (λ k. Err (Misused k)) (least_misuse list (has_unfit_weight (attributed t).attributes) made.tree made.reading.least) (Ok (with_formula list byte t made s))
+after_list list byte s t made =
+    option_map_or (λ k. Err (Misused k))
+    (least_misuse list (has_unfit_weight (attributed t).attributes) made.tree made.reading.least)
+    (Ok (with_formula list byte t made s))
 
--- Too many symbols, then too large an arity; misuses are looked for in items that are meant alone, and these alone add anything.
+-- Too many symbols, then too large an arity; misuses are looked for in items that are meant alone,
+-- and these alone add anything.
 abbrev pub after_formula : Mode → Option FormulaList → ℕ → Sofar → RawTree → Result Sofar Refusal
 after_formula m list byte s t =
     let made = formula_made m s t in
@@ -132,17 +147,23 @@ after_rule m s made =
     if nat_lt MOST_SYMBOLS (length made.reading.symbols) then Err Symbols
     else (if made.reading.large then Err Arity
     else (if not (is_meant m s.settings) then Ok s
-    else option_map_or (λ k. Err (Misused k)) made.reading.least (Ok (record s { symbols = made.reading.symbols; weights = s.weights ++ made.tree ∷ [] }))))
+    else option_map_or (λ k. Err (Misused k)) made.reading.least
+    (Ok (record s { symbols = made.reading.symbols; weights = s.weights ++ made.tree ∷ [] }))))
 
 abbrev pub after_weight : Mode → Sofar → RawTree → Result Sofar Refusal
-after_weight m s t = option_map_or (after_rule m s) (rule_in (style_in m s) s.symbols t) (unshaped m s)
+after_weight m s t =
+    option_map_or (after_rule m s) (rule_in (style_in m s) s.symbols t) (unshaped m s)
 
 abbrev pub added_kbo : Sofar → List ℕ × ℕ → Result Sofar Refusal
-added_kbo s r = if is_weighed r.0 s.kbo_weights then Err (Misused UnfitRule) else Ok (record s { kbo_weights = s.kbo_weights ++ r ∷ [] })
+added_kbo s r =
+    if is_weighed r.0 s.kbo_weights then Err (Misused UnfitRule)
+    else Ok (record s { kbo_weights = s.kbo_weights ++ r ∷ [] })
 
 -- a KBO weight enters no symbol, and each name has one
 abbrev pub after_kbo : Mode → Sofar → RawTree → Result Sofar Refusal
-after_kbo m s t = if is_meant m s.settings then option_map_or (added_kbo s) (kbo_rule t) (Err (Misused UnfitRule)) else Ok s
+after_kbo m s t =
+    if is_meant m s.settings then option_map_or (added_kbo s) (kbo_rule t) (Err (Misused UnfitRule))
+    else Ok s
 
 -- a term in the list that is open
 abbrev pub after_term : Mode → OpenList → ℕ → Sofar → RawTree → Result Sofar Refusal
@@ -154,16 +175,23 @@ after_term m (Formulas list) byte s t = after_formula m (Some list) byte s t
 
 -- an item whose first byte stands here
 abbrev pub after_item : Mode → ℕ → Sofar → List Lexeme → FileItem → Result Sofar Refusal
-after_item m byte s ts (command c) = with_settings s (after m c s.settings)
-after_item m byte s ts (within closing) = Ok (record s { settings = record s.settings { list = None } })
+after_item m byte s ts (command c) = with_settings s (settings_after m c s.settings)
+after_item m byte s ts (within closing) =
+    Ok (record s { settings = record s.settings { list = None } })
 after_item m byte s ts (within (term t)) =
-    if nat_lt MOST_LEVELS (nesting ts t) then Err Nesting else option_map_or (λ l. after_term m l byte s t) s.settings.list (Ok s)
+    if nat_lt MOST_LEVELS (nesting ts t) then Err Nesting
+    else option_map_or (λ l. after_term m l byte s t) s.settings.list (Ok s)
 
--- The item is refused so: it can't be read, or is read and passes a limit or is misused. Nothing is said of memory.
+-- The item is refused so: it can't be read, or is read and passes a limit or is misused. Nothing is
+-- said of memory.
 abbrev pub IsItemRefused : Mode → ℕ → Sofar → List Lexeme → Refusal → Type 0
 IsItemRefused m byte s ts (Bad k) = IsUnreadable m s ts k
-IsItemRefused m byte s ts Nesting = (i : FileItem) × IsItemRead m s ts i × (after_item m byte s ts i ≡ Err Nesting)
-IsItemRefused m byte s ts Symbols = (i : FileItem) × IsItemRead m s ts i × (after_item m byte s ts i ≡ Err Symbols)
-IsItemRefused m byte s ts Arity = (i : FileItem) × IsItemRead m s ts i × (after_item m byte s ts i ≡ Err Arity)
-IsItemRefused m byte s ts (Misused k) = (i : FileItem) × IsItemRead m s ts i × (after_item m byte s ts i ≡ Err (Misused k))
+IsItemRefused m byte s ts Nesting =
+    (i : FileItem) × IsItemRead m s ts i × (after_item m byte s ts i ≡ Err Nesting)
+IsItemRefused m byte s ts Symbols =
+    (i : FileItem) × IsItemRead m s ts i × (after_item m byte s ts i ≡ Err Symbols)
+IsItemRefused m byte s ts Arity =
+    (i : FileItem) × IsItemRead m s ts i × (after_item m byte s ts i ≡ Err Arity)
+IsItemRefused m byte s ts (Misused k) =
+    (i : FileItem) × IsItemRead m s ts i × (after_item m byte s ts i ≡ Err (Misused k))
 IsItemRefused m byte s ts Memory = Unit {0}

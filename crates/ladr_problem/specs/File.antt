@@ -22,8 +22,8 @@ use Rattle.ladr_formulas.specs.declared.styles.Mode.{Mode}
 use Rattle.model_tables.specs.Tables.{Finite}
 use Rattle.ladr_formulas.specs.declared.styles.Mode.TheVariants.{Prover, Mace, Tester}
 
--- A file says this: a problem with its settings; or it is refused at a byte, where something can't be read, a row of misuse is
--- broken, or a limit is passed.
+-- A file says this: a problem with its settings; or it is refused at a byte, where something can't
+-- be read, a row of misuse is broken, or a limit is passed.
 pub data Outcome : Type 0 where
   problem : Sofar → Outcome
   unreadable : ℕ → Outcome
@@ -43,10 +43,11 @@ refused_at byte Arity = too_large byte limit.Arity
 refused_at byte (Misused k) = misused byte k
 refused_at byte Memory = unreadable byte
 
--- The fold of the items of an input that ends at a byte: they are taken up to the first that is refused. A list or a block that is
--- open at the end is unreadable there.
+-- The fold of the items of an input that ends at a byte: they are taken up to the first that is
+-- refused. A list or a block that is open at the end is unreadable there.
 pub data File (m : Mode) (end : ℕ) : Sofar → List (List Piece) → Outcome → Type 0 where
-  ends : {s : Sofar} → s.settings.list ≡ None → s.settings.block ≡ None → File m end s [] (problem s)
+  ends : {s : Sofar} → s.settings.list ≡ None → s.settings.block ≡ None →
+      File m end s [] (problem s)
   open_list : {s : Sofar} → IsTrue (is_some s.settings.list) → File m end s [] (unreadable end)
   open_block : {s : Sofar} → IsTrue (is_some s.settings.block) → File m end s [] (unreadable end)
   bad :
@@ -57,7 +58,8 @@ pub data File (m : Mode) (end : ℕ) : Sofar → List (List Piece) → Outcome �
       IsItemRead m s (lexemes ts) i → after_item m (start_at end ts 0) s (lexemes ts) i ≡ Err why →
       File m end s (ts ∷ items) (refused_at (start_at end ts 0) why)
   goes_on :
-      {s : Sofar} {ts : List Piece} {items : List (List Piece)} {o : Outcome} (i : FileItem) (t : Sofar) →
+      {s : Sofar} {ts : List Piece} {items : List (List Piece)} {o : Outcome} (i : FileItem)
+      (t : Sofar) →
       IsItemRead m s (lexemes ts) i → after_item m (start_at end ts 0) s (lexemes ts) i ≡ Ok t →
       File m end t items o → File m end s (ts ∷ items) o
 
@@ -68,7 +70,9 @@ first_lacking t (f ∷ fs) = if covers t f.1.formula then first_lacking t fs els
 
 -- a formula that isn't covered is row 18
 abbrev pub covered : Sofar → ByName → Outcome
-covered s it = option_map_or (λ byte. misused byte Uncovered) (first_lacking (tables_for it s.symbols) s.formulas) (problem s)
+covered s it =
+    option_map_or (λ byte. misused byte Uncovered)
+    (first_lacking (tables_for it s.symbols) s.formulas) (problem s)
 
 -- for a program that tests interpretations: no interpretation is row 18 at the end
 abbrev pub tested : ℕ → Outcome → Outcome
@@ -77,14 +81,15 @@ tested end (unreadable byte) = unreadable byte
 tested end (misused byte row) = misused byte row
 tested end (too_large byte what) = too_large byte what
 
-abbrev pub finished : Mode → ℕ → Outcome → Outcome
-finished Prover end o = o
-finished Mace end o = o
-finished Tester end o = tested end o
+abbrev pub at_file_end : Mode → ℕ → Outcome → Outcome
+at_file_end Prover end o = o
+at_file_end Mace end o = o
+at_file_end Tester end o = tested end o
 
 -- the bytes say this to the program
 pub data Says (m : Mode) (bytes : List ℕ) : Outcome → Type 0 where
   too_long : MOST_BYTES < length bytes → Says m bytes (too_large MOST_BYTES limit.Input)
   items :
       {o : Outcome} (tokens : List Piece) → length bytes ≤ MOST_BYTES → Cuts 0 bytes tokens →
-      File m (length bytes) nothing_read (items_of tokens) o → Says m bytes (finished m (length bytes) o)
+      File m (length bytes) nothing_read (items_of tokens) o →
+      Says m bytes (at_file_end m (length bytes) o)

@@ -17,7 +17,8 @@ pub data ListItem : Type 0 where
 abbrev pub closing_tokens : List Lexeme
 closing_tokens = symbol ordinary (codes "end_of_list") ∷ full_stop ∷ []
 
--- The tokens are this item of a list. `end_of_list.` ends the list also where `end_of_list` is an operator, and is no term there.
+-- The tokens are this item of a list. `end_of_list.` ends the list also where `end_of_list` is an
+-- operator, and is no term there.
 abbrev pub IsListItem : OperatorTable → List Lexeme → ListItem → Type 0
 IsListItem g ts closing = ts ≡ closing_tokens
 IsListItem g ts (term t) = (¬ ts ≡ closing_tokens) × Item g ts t
@@ -33,15 +34,15 @@ pub record BeginsListItem (g : OperatorTable) (ts : List Lexeme) : Type 0 where
   pub item : ListItem
   pub read : IsListItem g (ts ++ more) item
 
--- Token k is the first that goes on with no item of a list, or the tokens end there too early: some item begins with the
--- k tokens before it, and none with it as well.
+-- Token k is the first that goes on with no item of a list, or the tokens end there too early: some
+-- item begins with the k tokens before it, and none with it as well.
 pub record IsBadListToken (g : OperatorTable) (ts : List Lexeme) (k : ℕ) : Type 0 where
   pub within : k ≤ length ts
   pub before : BeginsListItem g (take k ts)
   pub here : k < length ts → ¬ BeginsListItem g (take (k + 1) ts)
 
--- The tokens are no item of a list, and this one is the first bad one; they are a term that is nested deeper; nothing is
--- said of memory.
+-- The tokens are no item of a list, and this one is the first bad one; they are a term that is
+-- nested deeper; nothing is said of memory.
 abbrev pub IsItemFault : OperatorTable → List Lexeme → TermFault → Type 0
 IsItemFault g ts (Bad k) = IsBadListToken g ts k × ((i : ListItem) → ¬ IsListItem g ts i)
 IsItemFault g ts Deep = (t : RawTree) × IsListItem g ts (term t) × (MOST_LEVELS < nesting ts t)

@@ -39,15 +39,19 @@ pub record IsPlace (bytes : List ℕ) (p : Place) : Type 0 where
 
 -- the bytes are refused so; nothing is said of memory
 abbrev pub IsReadError : Mode → List ℕ → ReadError → Type 0
-IsReadError m bytes (refusal.Unreadable place) = Says m bytes (unreadable place.byte) × IsPlace bytes place
-IsReadError m bytes (refusal.Misuse place row) = Says m bytes (misused place.byte row) × IsPlace bytes place
+IsReadError m bytes (refusal.Unreadable place) =
+    Says m bytes (unreadable place.byte) × IsPlace bytes place
+IsReadError m bytes (refusal.Misuse place row) =
+    Says m bytes (misused place.byte row) × IsPlace bytes place
 IsReadError m bytes (refusal.TooLarge byte what) = Says m bytes (too_large byte what)
 IsReadError m bytes refusal.Memory = Unit {0}
 
 -- the refusal with its place
 abbrev pub IsPlaced : List ℕ → RefusalAt → ReadError → Type 0
-IsPlaced bytes (stops.Unreadable byte) (refusal.Unreadable place) = (place.byte ≡ byte) × IsPlace bytes place
-IsPlaced bytes (stops.Misuse byte row) (refusal.Misuse place r) = (place.byte ≡ byte) × (r ≡ row) × IsPlace bytes place
+IsPlaced bytes (stops.Unreadable byte) (refusal.Unreadable place) =
+    (place.byte ≡ byte) × IsPlace bytes place
+IsPlaced bytes (stops.Misuse byte row) (refusal.Misuse place r) =
+    (place.byte ≡ byte) × (r ≡ row) × IsPlace bytes place
 IsPlaced bytes (stops.TooLarge byte what) (refusal.TooLarge b w) = (b ≡ byte) × (w ≡ what)
 IsPlaced bytes stop refusal.Memory = Unit {0}
 IsPlaced bytes stop error = ⊥

@@ -6,7 +6,8 @@ use Rattle.ladr_options.specs.Ranges.{AreInRange}
 use Rattle.ladr_options.specs.declared.options.Options.{Options}
 use Rattle.ladr_problem.specs.Names.{AreTellable}
 
--- Its formulas have its symbols alone, which are few enough and can be told apart; its options have values of theirs.
+-- Its formulas have its symbols alone, which are few enough and can be told apart; its options have
+-- values of theirs.
 pub record IsProper (p : Stated) (o : Options) : Type 0 where
   pub well_formed : IsWellFormed p
   pub few : length p.symbols ≤ MOST_SYMBOLS

@@ -28,26 +28,33 @@ IsNo r (Misused k) = r ≡ Err (Misused k)
 IsNo r Memory = Unit {0}
 
 -- what was read with the formula's symbols, and then the formula
-abbrev pub with_read : FormulaList → ℕ → Sofar → LabelledFormula → FormulaRead → Result Sofar Refusal
+abbrev pub with_read : FormulaList → ℕ → Sofar → LabelledFormula → FormulaRead →
+    Result Sofar Refusal
 with_read list byte s a r =
-    option_map_or (λ k. Err (Misused k)) (least_misuse list a.misused (fol_of r.formula.shape) r.least) (Ok (with_listed list (listed_of r.formula a.label byte) a.hint_weight s))
+    option_map_or (λ k. Err (Misused k))
+    (least_misuse list a.misused (fol_of r.formula.shape) r.least)
+    (Ok (with_listed list (listed_of r.formula a.label byte) a.hint_weight s))
 
 -- the table has the formula's symbols behind so many
-abbrev pub after_read : Mode → Option FormulaList → ℕ → ℕ → Sofar → LabelledFormula → FormulaRead → Result Sofar Refusal
-after_read m list byte before s a r =
+abbrev pub after_formula_read : Mode → Option FormulaList → ℕ → ℕ → Sofar → LabelledFormula →
+    FormulaRead → Result Sofar Refusal
+after_formula_read m list byte before s a r =
     if nat_lt MOST_SYMBOLS (length s.symbols) then Err Symbols
     else (if r.large then Err Arity
     else (if not (is_meant m s.settings) then Ok (record s { symbols = take before s.symbols })
-    else option_map_or (λ l. with_read l byte s a r) list (Ok (record s { symbols = take before s.symbols }))))
+    else option_map_or (λ l. with_read l byte s a r) list
+    (Ok (record s { symbols = take before s.symbols }))))
 
 -- an item is read, and makes this of what was read so far
 abbrev pub IsTaken : Mode → ℕ → Sofar → List Lexeme → Sofar → Type 0
 IsTaken m byte s ts t = (i : FileItem) × IsItemRead m s ts i × (after_item m byte s ts i ≡ Ok t)
 
--- what was read with the symbols of a rule of weights, and then the rule; the table has its symbols behind so many
+-- what was read with the symbols of a rule of weights, and then the rule; the table has its symbols
+-- behind so many
 abbrev pub after_rule_read : Mode → ℕ → Sofar → RuleRead → Result Sofar Refusal
 after_rule_read m before s r =
     if nat_lt MOST_SYMBOLS (length s.symbols) then Err Symbols
     else (if r.large then Err Arity
     else (if not (is_meant m s.settings) then Ok (record s { symbols = take before s.symbols })
-    else option_map_or (λ k. Err (Misused k)) r.least (Ok (record s { weights = s.weights ++ rule_of r.rule ∷ [] }))))
+    else option_map_or (λ k. Err (Misused k)) r.least
+    (Ok (record s { weights = s.weights ++ rule_of r.rule ∷ [] }))))

@@ -16,15 +16,16 @@ use Rattle.fol_core.specs.Weights.{Rule}
 use Rattle.ladr_settings.specs.Settings.{at_start}
 use Rattle.ladr_settings.specs.declared.settings.Settings.{Settings}
 
--- a formula of a list: the printed names of its variables by number, its label, and the place of its item's first byte
+-- a formula of a list: the printed names of its variables by number, its label, and the place of
+-- its item's first byte
 pub record Listed : Type 0 where
   pub formula : Fol
   pub names : List (List ℕ)
   pub label : Option RawTree
   pub byte : ℕ
 
--- The settings, the symbols by number, the formulas with their roles, the hints with the weights that they give, and the rules of
--- the lists of weights.
+-- The settings, the symbols by number, the formulas with their roles, the hints with the weights
+-- that they give, and the rules of the lists of weights.
 pub record Sofar : Type 0 where
   pub settings : Settings
   pub symbols : List Symbol
@@ -34,7 +35,15 @@ pub record Sofar : Type 0 where
   pub kbo_weights : List (List ℕ × ℕ)
 
 abbrev pub nothing_read : Sofar
-nothing_read = record { settings = at_start; symbols = []; formulas = []; hints = []; weights = []; kbo_weights = [] }
+nothing_read =
+    record {
+      settings = at_start;
+      symbols = [];
+      formulas = [];
+      hints = [];
+      weights = [];
+      kbo_weights = [];
+    }
 
 -- the formulas with their roles alone, and what they state
 abbrev pub said_in : Sofar → List Said
@@ -45,7 +54,13 @@ stated_in s = stated s.symbols (said_in s)
 
 -- formulas and hints of the code
 abbrev pub listed_of : Formula → Option Raw → ℕ → Listed
-listed_of f label byte = record { formula = fol_of f.shape; names = f.names; label = option_map raw_of label; byte = byte }
+listed_of f label byte =
+    record {
+      formula = fol_of f.shape;
+      names = f.names;
+      label = option_map raw_of label;
+      byte = byte;
+    }
 
 abbrev pub input_of : Input → Role × Listed
 input_of i = (i.role, listed_of i.formula i.label i.byte)

@@ -2,7 +2,7 @@
 use Rattle.std.specs.Prelude.{◌≡◌, ℕ, List, map}
 use Rattle.fol_core.specs.RuleView.{rule_of}
 use Rattle.ladr_lex.specs.Cuts.{Piece}
-use Rattle.ladr_problem.specs.File.{Outcome, File, finished}
+use Rattle.ladr_problem.specs.File.{Outcome, File, at_file_end}
 use Rattle.ladr_problem.specs.Sofar.{Sofar, input_of, hint_of}
 use Rattle.ladr_problem.specs.declared.read.FileRead.{FileRead}
 use Rattle.ladr_formulas.specs.declared.styles.Mode.{Mode}
@@ -21,4 +21,4 @@ pub record IsOf (s : Sofar) (r : FileRead) : Type 0 where
 
 -- the items say this to the program, row 18 included
 abbrev pub IsFinished : Mode → ℕ → Sofar → List (List Piece) → Outcome → Type 0
-IsFinished m end s items o = (p : Outcome) × File m end s items p × (finished m end p ≡ o)
+IsFinished m end s items o = (p : Outcome) × File m end s items p × (at_file_end m end p ≡ o)

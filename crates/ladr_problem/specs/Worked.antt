@@ -25,9 +25,14 @@ lists_read = record nothing_read { settings = record at_start { listed = true } 
 -- p(a) with label(b), and the goal q(x)
 abbrev pub labelled_and_goal : Sofar
 labelled_and_goal = record lists_read {
-  symbols = symbol (codes "p") 1 Relation ∷ symbol (codes "a") 0 Function ∷ symbol (codes "q") 1 Relation ∷ [];
-  formulas =
-      (Assumption, record (plain 15 (relation 0 (app 1 none))) { label = Some (unary "label" (constant "b")) })
+  symbols =
+      symbol (codes "p") 1 Relation ∷ symbol (codes "a") 0 Function ∷ symbol (codes "q") 1 Relation
+      ∷ [];
+  formulas = (
+    Assumption,
+    record (plain 15 (relation 0 (app 1 none)))
+        { label = Some (unary "label" (constant "b")) },
+  )
       ∷ (Goal, record (plain 62 (relation 2 (var 0))) { names = codes "x" ∷ [] })
       ∷ [];
 }
@@ -35,7 +40,9 @@ labelled_and_goal = record lists_read {
 -- f(a) = b
 abbrev pub one_equation : Sofar
 one_equation = record lists_read {
-  symbols = symbol (codes "f") 1 Function ∷ symbol (codes "a") 0 Function ∷ symbol (codes "b") 0 Function ∷ [];
+  symbols =
+      symbol (codes "f") 1 Function ∷ symbol (codes "a") 0 Function ∷ symbol (codes "b") 0 Function
+      ∷ [];
   formulas = (Assumption, plain 68 (equal (function 0 (app 1 none)) (app 2 none))) ∷ [];
 }
 

@@ -15,4 +15,5 @@ with_prefix = table_of prefix_rows
 
 -- the items of `p. q`
 abbrev pub two_items : List (List Piece)
-two_items = (at 0 Ordinary (codes "p") ∷ at 1 Stop (codes ".") ∷ []) ∷ (at 3 Ordinary (codes "q") ∷ []) ∷ []
+two_items =
+    (at 0 Ordinary (codes "p") ∷ at 1 Stop (codes ".") ∷ []) ∷ (at 3 Ordinary (codes "q") ∷ []) ∷ []

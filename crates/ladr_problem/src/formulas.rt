@@ -4,7 +4,7 @@ ghost use Rattle.fol_core.specs.FormulaView.{fol_of};
 ghost use Rattle.fol_core.specs.RawView.{raw_of};
 ghost use Rattle.ladr_problem.specs.Adding.{after_formula, is_hints, is_demodulators, met, least_misuse};
 ghost use Rattle.ladr_problem.specs.Draft.{sofar_of};
-ghost use Rattle.ladr_problem.specs.Reading.{after_read, with_read, IsNo};
+ghost use Rattle.ladr_problem.specs.Reading.{after_formula_read, with_read, IsNo};
 
 use crate::draft::Draft;
 use crate::refusal::Refusal;
@@ -101,9 +101,9 @@ impl Draft {
         stated: LabelledFormula,
         read: FormulaRead,
     ) -> Result<(), Refusal>
-        ensures ok { OnOk result (after_read program list byte before
+        ensures ok { OnOk result (after_formula_read program list byte before
             (sofar_of self.old) stated read ≡ Ok (sofar_of self.new)) }
-        ensures refused { IfErr result (IsNo (after_read program list byte before
+        ensures refused { IfErr result (IsNo (after_formula_read program list byte before
             (sofar_of self.old) stated read)) }
     {
         if self.symbols.len() > MOST_SYMBOLS {

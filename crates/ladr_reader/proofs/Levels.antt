@@ -6,7 +6,7 @@ use Rattle.std.proofs.lemmas.Slice.Eq.{bytes_eq-Decides}
 use Rattle.std.proofs.lemmas.Bool.Decides.{nat_tests}
 use Rattle.fol_core.specs.RawTree.{RawTree, named, quantified, no_raws, more_raws, depth, depth_of, raws_of}
 use Rattle.fol_core.specs.declared.raw.Quantifier.{Quantifier}
-use Rattle.ladr_reader.specs.Capped.{capped, with_argument, application, quantification, is_bar, disjuncts, beside, disjunction, all_within, built, single, capped_if, whole_of, is_one, in_front, finished}
+use Rattle.ladr_reader.specs.Capped.{unless_too_deep, with_last_argument, application_within, quantification, is_bar, disjuncts, with_disjunct, disjunction_tree, all_within, disjuncts_within, single, capped_if, whole_of, is_one_argument, argument_in_front, finished}
 
 -- one more argument
 pub depth_of_append : (ts : List RawTree) (t : RawTree) → depth_of (raws_of (ts ++ t ∷ [])) ≡ max (depth_of (raws_of ts)) (depth t)
@@ -20,21 +20,21 @@ all_capped n ts = if leb (depth_of (raws_of ts)) n then Some ts else None
 pub none_capped : (n : ℕ) → all_capped n [] ≡ Some []
 none_capped n = grind (arith, nat_tests)
 
-pub with_capped : (n : ℕ) (ts : List RawTree) (t : RawTree) → with_argument (all_capped n ts) (capped n t) ≡ all_capped n (ts ++ t ∷ [])
+pub with_capped : (n : ℕ) (ts : List RawTree) (t : RawTree) → with_last_argument (all_capped n ts) (unless_too_deep n t) ≡ all_capped n (ts ++ t ∷ [])
 with_capped n ts t = grind (arith, nat_tests, depth_of_append)
 
-pub application_capped : (n : ℕ) (s : List ℕ) (ts : List RawTree) → application n s (all_capped n ts) ≡ capped n (named s (raws_of ts))
+pub application_capped : (n : ℕ) (s : List ℕ) (ts : List RawTree) → application_within n s (all_capped n ts) ≡ unless_too_deep n (named s (raws_of ts))
 application_capped n s ts = grind (arith, nat_tests)
 
-pub quantification_capped : (n : ℕ) (q : Quantifier) (x : List ℕ) (t : RawTree) → quantification n q x (capped n t) ≡ capped n (quantified q x t)
+pub quantification_capped : (n : ℕ) (q : Quantifier) (x : List ℕ) (t : RawTree) → quantification n q x (unless_too_deep n t) ≡ unless_too_deep n (quantified q x t)
 quantification_capped n q x t = grind (arith, nat_tests)
 
 -- a tree that is built is the tree
-pub uncapped : (n : ℕ) (t u : RawTree) → capped n t ≡ Some u → t ≡ u
+pub uncapped : (n : ℕ) (t u : RawTree) → unless_too_deep n t ≡ Some u → t ≡ u
 uncapped n t u e = grind (arith, nat_tests)
 
 -- a term is its disjuncts
-pub disjunction_of : (t : RawTree) → disjunction (disjuncts t) ≡ Some t
+pub disjunction_of : (t : RawTree) → disjunction_tree (disjuncts t) ≡ Some t
 disjunction_of (quantified q x t) = refl
 disjunction_of (named s no_raws) = refl
 disjunction_of (named s (more_raws t no_raws)) = refl
@@ -42,7 +42,7 @@ disjunction_of (named s (more_raws t (more_raws u (more_raws v ts)))) = refl
 disjunction_of (named s (more_raws t (more_raws u no_raws))) =
     elim (cases_Bool (is_bar s)) [
       | inl y ↦ (let e : s ≡ codes "|" = (bytes_eq-Decides s (codes "|")).0 y in
-          rw y (ap (λ (o : Option RawTree). Some (beside t o)) (disjunction_of u) ∙ ap (λ (n : List ℕ). Some (named n (more_raws t (more_raws u no_raws)))) (sym e)))
+          rw y (ap (λ (o : Option RawTree). Some (with_disjunct t o)) (disjunction_of u) ∙ ap (λ (n : List ℕ). Some (named n (more_raws t (more_raws u no_raws)))) (sym e)))
       | inr n ↦ rw n refl
     ]
 
@@ -59,7 +59,7 @@ within_whole n (named s (more_raws t (more_raws u no_raws))) h =
     ]
 
 -- the tree of what is built
-pub whole_built : (n : ℕ) (t : RawTree) → whole_of n (built n t) ≡ capped n t
+pub whole_built : (n : ℕ) (t : RawTree) → whole_of n (disjuncts_within n t) ≡ unless_too_deep n t
 whole_built n t =
     elim (cases_Bool (all_within n (disjuncts t))) [
       | inl y ↦ rw y (ap (capped_if n) (disjunction_of t))
@@ -69,38 +69,38 @@ whole_built n t =
       ])
     ]
   where
-    too_deep : n < depth t → capped n t ≡ None
+    too_deep : n < depth t → unless_too_deep n t ≡ None
     too_deep h = grind (arith, nat_tests)
 
 -- a term of one disjunct
-single_built : (n : ℕ) (t : RawTree) → disjuncts t ≡ t ∷ [] → single (capped n t) ≡ built n t
+single_built : (n : ℕ) (t : RawTree) → disjuncts t ≡ t ∷ [] → single (unless_too_deep n t) ≡ disjuncts_within n t
 single_built n t e = sym (ap (λ (ts : List RawTree). if all_within n ts then Some ts else None) e ∙ one)
   where
-    one : (if all_within n (t ∷ []) then Some (t ∷ []) else None) ≡ single (capped n t)
+    one : (if all_within n (t ∷ []) then Some (t ∷ []) else None) ≡ single (unless_too_deep n t)
     one = grind (arith, nat_tests)
 
-pub atom_built : (n : ℕ) (s : List ℕ) → single (application n s (Some [])) ≡ built n (named s no_raws)
+pub atom_built : (n : ℕ) (s : List ℕ) → single (application_within n s (Some [])) ≡ disjuncts_within n (named s no_raws)
 atom_built n s = single_built n (named s no_raws) refl
 
-pub quantification_built : (n : ℕ) (q : Quantifier) (x : List ℕ) (t : RawTree) → single (quantification n q x (whole_of n (built n t))) ≡ built n (quantified q x t)
+pub quantification_built : (n : ℕ) (q : Quantifier) (x : List ℕ) (t : RawTree) → single (quantification n q x (whole_of n (disjuncts_within n t))) ≡ disjuncts_within n (quantified q x t)
 quantification_built n q x t =
     ap (λ (o : Option RawTree). single (quantification n q x o)) (whole_built n t) ∙ ap single (quantification_capped n q x t) ∙ single_built n (quantified q x t) refl
 
 -- an application that is no disjunction
-plain : (n : ℕ) (s : List ℕ) (ts : List RawTree) (t : RawTree) → (is_bar s && is_one (all_capped n ts)) ≡ false → disjuncts (named s (raws_of (ts ++ t ∷ []))) ≡ named s (raws_of (ts ++ t ∷ [])) ∷ []
-    → finished n s (all_capped n ts) (built n t) ≡ built n (named s (raws_of (ts ++ t ∷ [])))
+plain : (n : ℕ) (s : List ℕ) (ts : List RawTree) (t : RawTree) → (is_bar s && is_one_argument (all_capped n ts)) ≡ false → disjuncts (named s (raws_of (ts ++ t ∷ []))) ≡ named s (raws_of (ts ++ t ∷ [])) ∷ []
+    → finished n s (all_capped n ts) (disjuncts_within n t) ≡ disjuncts_within n (named s (raws_of (ts ++ t ∷ [])))
 plain n s ts t f e =
-    let all : application n s (with_argument (all_capped n ts) (whole_of n (built n t))) ≡ capped n (named s (raws_of (ts ++ t ∷ []))) =
-    ap (λ (o : Option RawTree). application n s (with_argument (all_capped n ts) o)) (whole_built n t) ∙ ap (application n s) (with_capped n ts t) ∙ application_capped n s (ts ++ t ∷ []) in
-    ap (λ (b : Bool). if b then in_front (all_capped n ts) (built n t) else single (application n s (with_argument (all_capped n ts) (whole_of n (built n t))))) f
+    let all : application_within n s (with_last_argument (all_capped n ts) (whole_of n (disjuncts_within n t))) ≡ unless_too_deep n (named s (raws_of (ts ++ t ∷ []))) =
+    ap (λ (o : Option RawTree). application_within n s (with_last_argument (all_capped n ts) o)) (whole_built n t) ∙ ap (application_within n s) (with_capped n ts t) ∙ application_capped n s (ts ++ t ∷ []) in
+    ap (λ (b : Bool). if b then argument_in_front (all_capped n ts) (disjuncts_within n t) else single (application_within n s (with_last_argument (all_capped n ts) (whole_of n (disjuncts_within n t))))) f
     ∙ ap single all ∙ single_built n (named s (raws_of (ts ++ t ∷ []))) e
 
 -- a disjunction
-alongside : (n : ℕ) (s : List ℕ) (t u : RawTree) → is_bar s ≡ true → finished n s (all_capped n (t ∷ [])) (built n u) ≡ built n (named s (raws_of (t ∷ u ∷ [])))
+alongside : (n : ℕ) (s : List ℕ) (t u : RawTree) → is_bar s ≡ true → finished n s (all_capped n (t ∷ [])) (disjuncts_within n u) ≡ disjuncts_within n (named s (raws_of (t ∷ u ∷ [])))
 alongside n s t u y = rw y (by (cases_Bool (nat_le (depth t) n)) (cases_Bool (all_within n (disjuncts u))))
   where
     by : (nat_le (depth t) n ≡ true) ⊎ (nat_le (depth t) n ≡ false) → (all_within n (disjuncts u) ≡ true) ⊎ (all_within n (disjuncts u) ≡ false)
-        → (if is_one (all_capped n (t ∷ [])) then in_front (all_capped n (t ∷ [])) (built n u) else single (application n s (with_argument (all_capped n (t ∷ [])) (whole_of n (built n u)))))
+        → (if is_one_argument (all_capped n (t ∷ [])) then argument_in_front (all_capped n (t ∷ [])) (disjuncts_within n u) else single (application_within n s (with_last_argument (all_capped n (t ∷ [])) (whole_of n (disjuncts_within n u)))))
         ≡ (if nat_le (depth t) n && all_within n (disjuncts u) then Some (t ∷ disjuncts u) else None)
     by (inl a) (inl b) = let c : all_capped n (t ∷ []) ≡ Some (t ∷ []) = grind (arith, nat_tests) in rw (c, a, b) refl
     by (inl a) (inr b) = let c : all_capped n (t ∷ []) ≡ Some (t ∷ []) = grind (arith, nat_tests) in rw (c, a, b) refl
@@ -110,11 +110,11 @@ both_false : (a b : Bool) → b ≡ false → (a && b) ≡ false
 both_false true b h = h
 both_false false b h = refl
 
-not_one : (n : ℕ) (t u : RawTree) (ts : List RawTree) → is_one (all_capped n (t ∷ u ∷ ts)) ≡ false
+not_one : (n : ℕ) (t u : RawTree) (ts : List RawTree) → is_one_argument (all_capped n (t ∷ u ∷ ts)) ≡ false
 not_one n t u ts = grind (arith, nat_tests)
 
-pub finished_built : (n : ℕ) (s : List ℕ) (ts : List RawTree) (t : RawTree) → finished n s (all_capped n ts) (built n t) ≡ built n (named s (raws_of (ts ++ t ∷ [])))
-finished_built n s [] t = plain n s [] t (both_false (is_bar s) _ (ap is_one (none_capped n))) refl
+pub finished_built : (n : ℕ) (s : List ℕ) (ts : List RawTree) (t : RawTree) → finished n s (all_capped n ts) (disjuncts_within n t) ≡ disjuncts_within n (named s (raws_of (ts ++ t ∷ [])))
+finished_built n s [] t = plain n s [] t (both_false (is_bar s) _ (ap is_one_argument (none_capped n))) refl
 finished_built n s (u ∷ []) t =
     elim (cases_Bool (is_bar s)) [
       | inl y ↦ alongside n s u t y
@@ -124,30 +124,30 @@ finished_built n s (u ∷ v ∷ []) t = plain n s (u ∷ v ∷ []) t (both_false
 finished_built n s (u ∷ v ∷ w ∷ ts) t = plain n s (u ∷ v ∷ w ∷ ts) t (both_false (is_bar s) _ (not_one n u v (w ∷ ts))) refl
 
 -- disjuncts that are built tell the tree
-pub unbuilt : (n : ℕ) (t u : RawTree) → built n t ≡ Some (disjuncts u) → t ≡ u
+pub unbuilt : (n : ℕ) (t u : RawTree) → disjuncts_within n t ≡ Some (disjuncts u) → t ≡ u
 unbuilt n t u e =
     elim (cases_Bool (all_within n (disjuncts t))) [
       | inl y ↦ (let f : Some (disjuncts t) ≡ Some (disjuncts u) = sym (ap (λ (b : Bool). if b then Some (disjuncts t) else None) y) ∙ e in
           let g : disjuncts t ≡ disjuncts u = cc in
-          let h : Some t ≡ Some u = sym (disjunction_of t) ∙ ap disjunction g ∙ disjunction_of u in cc)
+          let h : Some t ≡ Some u = sym (disjunction_of t) ∙ ap disjunction_tree g ∙ disjunction_of u in cc)
       | inr m ↦ absurd (let f : None ≡ Some (disjuncts u) = sym (ap (λ (b : Bool). if b then Some (disjuncts t) else None) m) ∙ e in cc)
     ]
 
 -- what is told by a tree, by its lack, and by disjuncts and theirs
-pub capped_some : (n : ℕ) (t u : RawTree) → Some u ≡ capped n t → (t ≡ u) × (depth u ≤ n)
+pub capped_some : (n : ℕ) (t u : RawTree) → Some u ≡ unless_too_deep n t → (t ≡ u) × (depth u ≤ n)
 capped_some n t u e =
     let same = uncapped n t u (sym e) in
     let low : depth t ≤ n = grind (arith, nat_tests) in
     (same, omega (arith, ap depth same))
 
-pub capped_none : (n : ℕ) (t : RawTree) → None ≡ capped n t → n < depth t
+pub capped_none : (n : ℕ) (t : RawTree) → None ≡ unless_too_deep n t → n < depth t
 capped_none n t e =
     elim (cases_lt n (depth t)) [
       | inl h ↦ h
-      | inr h ↦ absurd (let some : capped n t ≡ Some t = grind (arith, nat_tests) in cc)
+      | inr h ↦ absurd (let some : unless_too_deep n t ≡ Some t = grind (arith, nat_tests) in cc)
     ]
 
-pub built_some : (n : ℕ) (t : RawTree) (us : List RawTree) → Some us ≡ built n t → (us ≡ disjuncts t) × (all_within n us ≡ true)
+pub built_some : (n : ℕ) (t : RawTree) (us : List RawTree) → Some us ≡ disjuncts_within n t → (us ≡ disjuncts t) × (all_within n us ≡ true)
 built_some n t us e =
     elim (cases_Bool (all_within n (disjuncts t))) [
       | inl y ↦ (let f : Some us ≡ Some (disjuncts t) = e ∙ ap (λ (b : Bool). if b then Some (disjuncts t) else None) y in
@@ -155,7 +155,7 @@ built_some n t us e =
       | inr m ↦ absurd (let f : Some us ≡ None = e ∙ ap (λ (b : Bool). if b then Some (disjuncts t) else None) m in cc)
     ]
 
-pub built_none : (n : ℕ) (t : RawTree) → None ≡ built n t → all_within n (disjuncts t) ≡ false
+pub built_none : (n : ℕ) (t : RawTree) → None ≡ disjuncts_within n t → all_within n (disjuncts t) ≡ false
 built_none n t e =
     elim (cases_Bool (all_within n (disjuncts t))) [
       | inl y ↦ absurd (let f : None ≡ Some (disjuncts t) = e ∙ ap (λ (b : Bool). if b then Some (disjuncts t) else None) y in cc)

@@ -6,7 +6,7 @@ use Rattle.std.specs.Str.{bytes_eq}
 use Rattle.fol_core.specs.RawTree.{RawTree, named, no_raws}
 use Rattle.ladr_lex.specs.Lexeme.{ordinary, Lexeme, close_paren, full_stop, symbol}
 use Rattle.ladr_lex.specs.Operators.{OperatorRow, operator_of, if_prefix}
-use Rattle.ladr_reader.specs.Capped.{built, finished}
+use Rattle.ladr_reader.specs.Capped.{disjuncts_within, finished}
 use Rattle.ladr_reader.specs.Machine.{whole}
 use Rattle.ladr_reader.specs.Reads.{BeginsItem}
 use Rattle.ladr_reader.specs.Table.{OperatorTable, table_of, quantifier_of}
@@ -49,7 +49,7 @@ module _ (n : ℕ) (g : OperatorTable) (lawful : Lawful g) where
       term_begins fs vs (whole n part t) p (ended n g lawful part side p fs vs t q h)
 
   name_begins : (s : List ℕ) (fs : List Frame) (vs : List Lexeme) → Split (Spells n g fs) (IsName g s) vs → BeginsItem g vs
-  name_begins s fs vs h = term_begins fs vs (built n (named s no_raws)) 0 (as_atom n g lawful s fs vs h)
+  name_begins s fs vs h = term_begins fs vs (disjuncts_within n (named s no_raws)) 0 (as_atom n g lawful s fs vs h)
 
   operand_begins : HasNames g → (fs : List Frame) (vs : List Lexeme) → Spells n g fs vs → BeginsItem g vs
   operand_begins names fs vs h =

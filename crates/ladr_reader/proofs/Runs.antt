@@ -7,7 +7,7 @@ use Rattle.fol_core.specs.RawView.{raw_of}
 use Rattle.fol_core.specs.declared.raw.Raw.{Raw}
 use Rattle.ladr_lex.specs.Lexeme.{Lexeme, unreadable, lexeme_of, lexemes_of}
 use Rattle.ladr_lex.specs.declared.token.Token.{Token}
-use Rattle.ladr_reader.specs.Capped.{built, disjuncts}
+use Rattle.ladr_reader.specs.Capped.{disjuncts_within, disjuncts}
 use Rattle.ladr_reader.specs.Faults.{IsTermFault, IsFaultWhere}
 use Rattle.ladr_reader.specs.Machine.{State, standing, step, next, go}
 use Rattle.ladr_reader.specs.Nesting.{most_open, nesting}
@@ -106,7 +106,7 @@ bad_end n g lawful names ts k place fs l e other =
         before = begins n g lawful names place fs (take k ts) (runs n g lawful (take k ts) place fs e);
         here = λ h. absurd (omega arith);
       },
-      λ t item. other (built n t) item.precedence
+      λ t item. other (disjuncts_within n t) item.precedence
           (ap place_of (sym e ∙ ap (λ (xs : List Lexeme). go n g (operand []) xs) whole ∙ item_read n g item)),
     )
 
@@ -114,7 +114,7 @@ bad_end n g lawful names ts k place fs l e other =
 pub done_item :
     (n : ℕ) (g : OperatorTable) → Lawful g → (ts : List Lexeme) (i : ℕ) (place : Standing) (fs : List Frame) (t : Option (List RawTree))
     (q : ℕ) → length ts ≤ i → go n g (operand []) (take i ts) ≡ standing (Some place) fs → place ≡ Done t q →
-    (u : RawTree) × (t ≡ built n u) × Item g ts u
+    (u : RawTree) × (t ≡ disjuncts_within n u) × Item g ts u
 done_item n g lawful ts i place fs t q h e d =
     sound n g lawful ts t q fs
     (ap (λ (xs : List Lexeme). go n g (operand []) xs) (sym (take_all i ts h))

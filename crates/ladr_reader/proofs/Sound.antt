@@ -5,8 +5,8 @@ use Rattle.fol_core.specs.declared.raw.Quantifier.{Quantifier}
 use Rattle.ladr_lex.specs.Lexeme.{Sort, Lexeme, open_paren, close_paren, comma, full_stop, symbol}
 use Rattle.ladr_lex.specs.Operators.{if_prefix, if_after}
 use Rattle.ladr_lex.specs.declared.operators.Operator.{Operator}
-use Rattle.ladr_reader.specs.Capped.{with_argument, whole_of, built, finished}
-use Rattle.ladr_reader.specs.Machine.{State, standing, start_of, start_of_symbol, follow_of, follow_of_symbol, variable_of, allows, closes, whole, begin, bind, behind_operator, behind_close, behind_comma, behind_stop, behind_name, act, after, step, next, go}
+use Rattle.ladr_reader.specs.Capped.{with_last_argument, whole_of, disjuncts_within, finished}
+use Rattle.ladr_reader.specs.Machine.{State, standing, start_of, start_of_symbol, follow_of, follow_of_symbol, variable_of, may_stand_on, closes, whole, begin, bind, behind_operator, behind_close, behind_comma, behind_stop, behind_symbol_name, act, behind_term, step, next, go}
 use Rattle.ladr_reader.specs.Reads.{Reads, atom, applied, group, bound, prefixed, postfixed, infixed, ReadsAll, single, further, Item}
 use Rattle.ladr_reader.specs.Table.{OperatorTable, left, right, takes, grows, ends, tree_grows}
 use Rattle.ladr_reader.specs.declared.place.Standing.{Standing}
@@ -25,15 +25,15 @@ use Rattle.ladr_reader.proofs.Splits.{Split, longer, joined, pushed, changed}
 -- what is built is the tree of the tokens, a term that may stand on top of what waits
 pub record Becomes (n : ℕ) (g : OperatorTable) (fs : List Frame) (made : Option (List RawTree)) (p : ℕ) (ts : List Lexeme) : Type 0 where
   pub tree : RawTree
-  pub is : made ≡ built n tree
+  pub is : made ≡ disjuncts_within n tree
   pub reads : Reads g ts tree p
-  pub fits : allows fs p (tree_grows g tree) ≡ true
+  pub fits : may_stand_on fs p (tree_grows g tree) ≡ true
 
 -- with its last argument the part is such a term, and an atom may be its last argument
 pub record Waits (n : ℕ) (g : OperatorTable) (fs : List Frame) (part : Part) (side : Side) (p : ℕ) (ts : List Lexeme) : Type 0 where
   pub becomes :
       (xs : List Lexeme) (t : RawTree) (q : ℕ) → Reads g xs t q → ends side p q (tree_grows g t) ≡ true →
-      Becomes n g fs (whole n part (built n t)) p (ts ++ xs)
+      Becomes n g fs (whole n part (disjuncts_within n t)) p (ts ++ xs)
   pub room : (b : Bool) → ends side p 0 b ≡ true
 
 -- arguments, each with its comma
@@ -64,13 +64,13 @@ pub record IsWord (g : OperatorTable) (fs : List Frame) (w : Quantifier) (ts : L
   pub sort : Sort
   pub name : List ℕ
   pub is_word : g.word name ≡ Some w
-  pub fits : allows fs 750 false ≡ true
+  pub fits : may_stand_on fs 750 false ≡ true
   pub is : ts ≡ symbol sort name ∷ []
 
 -- a readable item
 pub record IsItem (n : ℕ) (g : OperatorTable) (made : Option (List RawTree)) (ts : List Lexeme) : Type 0 where
   pub tree : RawTree
-  pub is : made ≡ built n tree
+  pub is : made ≡ disjuncts_within n tree
   pub item : Item g ts tree
 
 -- the tokens of all that waits
@@ -104,7 +104,7 @@ either n g true s t vs h k = h
 either n g false s t vs h k = k
 
 -- a term of precedence 0 may stand on top of what waits
-fits_zero : (n : ℕ) (g : OperatorTable) (fs : List Frame) (vs : List Lexeme) (b : Bool) → Spells n g fs vs → allows fs 0 b ≡ true
+fits_zero : (n : ℕ) (g : OperatorTable) (fs : List Frame) (vs : List Lexeme) (b : Bool) → Spells n g fs vs → may_stand_on fs 0 b ≡ true
 fits_zero n g [] vs b h = refl
 fits_zero n g (Group ∷ fs) vs b h = refl
 fits_zero n g (Applied s us ∷ fs) vs b h = refl
@@ -120,7 +120,7 @@ given_more g {xs = xs} (some {ts} rs) r h = rw (append_assoc ts (comma ∷ []) x
 -- behind a name the machine goes on as behind an atom
 behind_symbol :
     (n : ℕ) (o : Option Operator) (r s : List ℕ) (fs : List Frame) →
-    behind_name n (follow_of_symbol o r) s fs ≡ after n (follow_of_symbol o r) (built n (named s no_raws)) 0 fs
+    behind_symbol_name n (follow_of_symbol o r) s fs ≡ behind_term n (follow_of_symbol o r) (disjuncts_within n (named s no_raws)) 0 fs
 behind_symbol n None r s fs = refl
 behind_symbol n (Some o) r s fs = refl
 
@@ -138,21 +138,21 @@ module _ (n : ℕ) (g : OperatorTable) (lawful : Lawful g) where
       (w : Option Quantifier) → g.word s ≡ w → (o : Option Operator) → if_prefix (g.op s) ≡ o →
       MayBe n g (begin (start_of_symbol w o s) fs) (vs ++ symbol k s ∷ [])
   symbol_starts k s fs vs h (Some w) e o d =
-      when n g (allows fs 750 false) (standing (Some (Word w)) fs) (vs ++ symbol k s ∷ [])
+      when n g (may_stand_on fs 750 false) (standing (Some (Word w)) fs) (vs ++ symbol k s ∷ [])
       (λ fits. pushed (Spells n g fs) (IsWord g fs w) vs (symbol k s ∷ []) h
       (record { sort = k; name = s; is_word = e; fits = fits; is = refl }))
   symbol_starts k s fs vs h None e None d =
       pushed (Spells n g fs) (IsName g s) vs (symbol k s ∷ []) h
       (record { sort = k; no_word = e; no_prefix = d; is = refl })
   symbol_starts k s fs vs h None e (Some o) d =
-      when n g (allows fs o.precedence false) (operand (Waiting (Prefix s) (right o.kind) o.precedence ∷ fs)) (vs ++ symbol k s ∷ [])
+      when n g (may_stand_on fs o.precedence false) (operand (Waiting (Prefix s) (right o.kind) o.precedence ∷ fs)) (vs ++ symbol k s ∷ [])
       (λ fits. pushed (Spells n g fs) (Waits n g fs (Prefix s) (right o.kind) o.precedence) vs (symbol k s ∷ []) h
       (record {
         becomes = λ xs t q r l. record {
           tree = named s (raws_of (t ∷ []));
           is = prefix_whole n s t;
           reads = prefixed k s o e d r l;
-          fits = ap (λ (b : Bool). allows fs o.precedence b) (prefix_grows (g.op s) o d) ∙ fits;
+          fits = ap (λ (b : Bool). may_stand_on fs o.precedence b) (prefix_grows (g.op s) o d) ∙ fits;
         };
         room = λ b. prefix_room g lawful s o b d;
       }))
@@ -223,8 +223,8 @@ module _ (n : ℕ) (g : OperatorTable) (lawful : Lawful g) where
   separated (Waiting part side p ∷ fs) vs t q h = tt
   separated (Group ∷ fs) vs t q h = tt
   separated (Applied s us ∷ fs) vs t q h =
-      let C : List Lexeme → Type 0 = λ xs. HasArguments n g s (with_argument us (whole_of n t)) (xs ++ comma ∷ []) in
-      longer (Spells n g fs) C (HasArguments n g s (with_argument us (whole_of n t))) vs (comma ∷ [])
+      let C : List Lexeme → Type 0 = λ xs. HasArguments n g s (with_last_argument us (whole_of n t)) (xs ++ comma ∷ []) in
+      longer (Spells n g fs) C (HasArguments n g s (with_last_argument us (whole_of n t))) vs (comma ∷ [])
       (joined (Spells n g fs) (HasArguments n g s us) (Becomes n g (Applied s us ∷ fs) t q) C vs h
       (λ ws bs w b. record {
         sort = w.sort;
@@ -233,8 +233,8 @@ module _ (n : ℕ) (g : OperatorTable) (lawful : Lawful g) where
         tokens = (w.tokens ++ bs) ++ comma ∷ [];
         trees = w.trees ++ b.tree ∷ [];
         given = some (given_more g w.given b.reads (reads_at_most g lawful b.reads));
-        is_built = (λ i. with_argument (w.is_built i) (whole_of n (b.is i)))
-            ∙ ap (with_argument (all_capped n w.trees)) (whole_built n b.tree)
+        is_built = (λ i. with_last_argument (w.is_built i) (whole_of n (b.is i)))
+            ∙ ap (with_last_argument (all_capped n w.trees)) (whole_built n b.tree)
             ∙ with_capped n w.trees b.tree;
         is = ap (λ (ts : List Lexeme). (ts ++ bs) ++ comma ∷ []) w.is;
       }))
@@ -263,13 +263,13 @@ module _ (n : ℕ) (g : OperatorTable) (lawful : Lawful g) where
   infix_waits :
       (k : Sort) (s : List ℕ) (o : Operator) (fs : List Frame) (t : Option (List RawTree)) (q : ℕ) (side : Side) →
       right o.kind ≡ side → ((b : Bool) → ends side o.precedence 0 b ≡ true) → if_after (g.op s) ≡ Some o →
-      takes (left o.kind) o.precedence q ≡ true → allows fs o.precedence (grows o.kind) ≡ true →
+      takes (left o.kind) o.precedence q ≡ true → may_stand_on fs o.precedence (grows o.kind) ≡ true →
       (bs : List Lexeme) → Becomes n g fs t q bs → Waits n g fs (Infix s (whole_of n t)) side o.precedence (bs ++ symbol k s ∷ [])
   infix_waits k s o fs t q side d room e takes_it fits bs b =
       record {
         becomes = λ xs u p r l. record {
           tree = named s (raws_of (b.tree ∷ u ∷ []));
-          is = ap (λ (z : Option RawTree). whole n (Infix s z) (built n u)) (ap (whole_of n) b.is ∙ whole_built n b.tree)
+          is = ap (λ (z : Option RawTree). whole n (Infix s z) (disjuncts_within n u)) (ap (whole_of n) b.is ∙ whole_built n b.tree)
               ∙ infix_whole n s b.tree u;
           reads = rw (append_assoc bs (symbol k s ∷ []) xs) (infixed k s o e b.reads takes_it r (rw d l));
           fits = rw e fits;
@@ -280,7 +280,7 @@ module _ (n : ℕ) (g : OperatorTable) (lawful : Lawful g) where
   operated :
       (k : Sort) (s : List ℕ) (o : Operator) (fs : List Frame) (vs : List Lexeme) (t : Option (List RawTree)) (q : ℕ) →
       Split (Spells n g fs) (Becomes n g fs t q) vs → if_after (g.op s) ≡ Some o →
-      takes (left o.kind) o.precedence q ≡ true → allows fs o.precedence (grows o.kind) ≡ true →
+      takes (left o.kind) o.precedence q ≡ true → may_stand_on fs o.precedence (grows o.kind) ≡ true →
       (side : Side) → right o.kind ≡ side → MayBe n g (behind_operator n side s o t fs) (vs ++ symbol k s ∷ [])
   operated k s o fs vs t q h e takes_it fits Nothing d =
       longer (Spells n g fs) (Becomes n g fs t q) (Becomes n g fs (finished n s (Some []) t) o.precedence) vs (symbol k s ∷ []) h
@@ -305,7 +305,7 @@ module _ (n : ℕ) (g : OperatorTable) (lawful : Lawful g) where
   symbol_acts k s fs vs t q h None e = tt
   symbol_acts k s fs vs t q h (Some o) e =
       let a : Bool = takes (left o.kind) o.precedence q in
-      let c : Bool = allows fs o.precedence (grows o.kind) in
+      let c : Bool = may_stand_on fs o.precedence (grows o.kind) in
       when n g (a && c) (behind_operator n (right o.kind) s o t fs) (vs ++ symbol k s ∷ [])
       (λ both. operated k s o fs vs t q h e (both_left a c both) (both_right a c both) (right o.kind) refl)
 
@@ -330,20 +330,20 @@ module _ (n : ℕ) (g : OperatorTable) (lawful : Lawful g) where
   -- behind a term
   follows :
       (x : Lexeme) (fs : List Frame) (vs : List Lexeme) (t : Option (List RawTree)) (q : ℕ) →
-      Split (Spells n g fs) (Becomes n g fs t q) vs → MayBe n g (after n (follow_of g x) t q fs) (vs ++ x ∷ [])
+      Split (Spells n g fs) (Becomes n g fs t q) vs → MayBe n g (behind_term n (follow_of g x) t q fs) (vs ++ x ∷ [])
   follows x [] vs t q h = acts x [] vs t q h
   follows x (Group ∷ fs) vs t q h = acts x (Group ∷ fs) vs t q h
   follows x (Applied s us ∷ fs) vs t q h = acts x (Applied s us ∷ fs) vs t q h
   follows x (Waiting part side p ∷ fs) vs t q h =
-      either n g (closes (follow_of g x) p) (after n (follow_of g x) (whole n part t) p fs) (act n (follow_of g x) t q (Waiting part side p ∷ fs)) (vs ++ x ∷ [])
+      either n g (closes (follow_of g x) p) (behind_term n (follow_of g x) (whole n part t) p fs) (act n (follow_of g x) t q (Waiting part side p ∷ fs)) (vs ++ x ∷ [])
       (follows x fs vs (whole n part t) p (ended part side p fs vs t q h))
       (acts x (Waiting part side p ∷ fs) vs t q h)
 
   pub as_atom :
       (s : List ℕ) (fs : List Frame) (vs : List Lexeme) → Split (Spells n g fs) (IsName g s) vs →
-      Split (Spells n g fs) (Becomes n g fs (built n (named s no_raws)) 0) vs
+      Split (Spells n g fs) (Becomes n g fs (disjuncts_within n (named s no_raws)) 0) vs
   as_atom s fs vs h =
-      changed (Spells n g fs) (IsName g s) (Becomes n g fs (built n (named s no_raws)) 0) vs h
+      changed (Spells n g fs) (IsName g s) (Becomes n g fs (disjuncts_within n (named s no_raws)) 0) vs h
       (λ bs b. record {
         tree = named s no_raws;
         is = refl;
@@ -354,7 +354,7 @@ module _ (n : ℕ) (g : OperatorTable) (lawful : Lawful g) where
   -- behind a symbol
   names :
       (x : Lexeme) (s : List ℕ) (fs : List Frame) (vs : List Lexeme) → Split (Spells n g fs) (IsName g s) vs →
-      MayBe n g (behind_name n (follow_of g x) s fs) (vs ++ x ∷ [])
+      MayBe n g (behind_symbol_name n (follow_of g x) s fs) (vs ++ x ∷ [])
   names open_paren s fs vs h =
       longer (Spells n g fs) (IsName g s) (HasArguments n g s (Some [])) vs (open_paren ∷ []) h
       (λ bs b. record {
@@ -368,8 +368,8 @@ module _ (n : ℕ) (g : OperatorTable) (lawful : Lawful g) where
         is = ap (λ (ts : List Lexeme). ts ++ open_paren ∷ []) b.is;
       })
   names (symbol k r) s fs vs h =
-      rw (behind_symbol n (if_after (g.op r)) r s fs) (follows (symbol k r) fs vs (built n (named s no_raws)) 0 (as_atom s fs vs h))
-  names x s fs vs h = follows x fs vs (built n (named s no_raws)) 0 (as_atom s fs vs h)
+      rw (behind_symbol n (if_after (g.op r)) r s fs) (follows (symbol k r) fs vs (disjuncts_within n (named s no_raws)) 0 (as_atom s fs vs h))
+  names x s fs vs h = follows x fs vs (disjuncts_within n (named s no_raws)) 0 (as_atom s fs vs h)
 
   steps : (x : Lexeme) (place : Standing) (fs : List Frame) (vs : List Lexeme) → IsAt n g place fs vs → MayBe n g (step n g place fs x) (vs ++ x ∷ [])
   steps x Operand fs vs h = starts x fs vs h
@@ -395,6 +395,6 @@ module _ (n : ℕ) (g : OperatorTable) (lawful : Lawful g) where
   -- what a run from the start makes of tokens that end an item
   pub sound :
       (xs : List Lexeme) (t : Option (List RawTree)) (q : ℕ) (fs : List Frame) →
-      go n g (operand []) xs ≡ standing (Some (Done t q)) fs → (u : RawTree) × (t ≡ built n u) × Item g xs u
+      go n g (operand []) xs ≡ standing (Some (Done t q)) fs → (u : RawTree) × (t ≡ disjuncts_within n u) × Item g xs u
   sound xs t q fs e =
       let i = runs xs (Done t q) fs e in (i.tree, i.is, i.item)

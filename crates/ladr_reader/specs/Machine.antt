@@ -5,7 +5,7 @@ use Rattle.fol_core.specs.declared.raw.Quantifier.{Quantifier}
 use Rattle.ladr_lex.specs.Lexeme.{Sort, Lexeme, open_paren, close_paren, comma, full_stop, symbol}
 use Rattle.ladr_lex.specs.Operators.{if_prefix, if_after}
 use Rattle.ladr_lex.specs.declared.operators.Operator.{Operator}
-use Rattle.ladr_reader.specs.Capped.{with_argument, quantification, whole_of, single, built, finished}
+use Rattle.ladr_reader.specs.Capped.{with_last_argument, quantification, whole_of, single, disjuncts_within, finished}
 use Rattle.ladr_reader.specs.Table.{OperatorTable, left, right, takes, grows, ends}
 use Rattle.ladr_reader.specs.declared.place.Standing.{Standing}
 use Rattle.ladr_reader.specs.declared.place.Standing.TheVariants.{Operand, Named, Word, Term, Done}
@@ -59,11 +59,11 @@ variable_of may_be (symbol k s) = if may_be k s then Some s else None
 variable_of may_be _ = None
 
 -- whether a term of precedence q may stand on top of what waits
-abbrev pub allows : List Frame → ℕ → Bool → Bool
-allows [] q growing = true
-allows (Group ∷ fs) q growing = true
-allows (Applied s us ∷ fs) q growing = true
-allows (Waiting part side p ∷ fs) q growing = ends side p q growing
+abbrev pub may_stand_on : List Frame → ℕ → Bool → Bool
+may_stand_on [] q growing = true
+may_stand_on (Group ∷ fs) q growing = true
+may_stand_on (Applied s us ∷ fs) q growing = true
+may_stand_on (Waiting part side p ∷ fs) q growing = ends side p q growing
 
 -- whether a token ends the last argument of what waits to be a term of precedence p
 abbrev pub closes : Follow → ℕ → Bool
@@ -75,31 +75,32 @@ closes (Operates s o) p = takes (left o.kind) o.precedence p
 closes FollowsNot p = false
 
 -- whether it ends the last argument of what is innermost
-abbrev pub is_closed : Follow → List Frame → Bool
-is_closed f [] = false
-is_closed f (Group ∷ fs) = false
-is_closed f (Applied s us ∷ fs) = false
-is_closed f (Waiting part side p ∷ fs) = closes f p
+abbrev pub last_is_closed : Follow → List Frame → Bool
+last_is_closed f [] = false
+last_is_closed f (Group ∷ fs) = false
+last_is_closed f (Applied s us ∷ fs) = false
+last_is_closed f (Waiting part side p ∷ fs) = closes f p
 
 -- what is innermost
 abbrev pub first : List Frame → Option Frame
 first [] = None
 first (f ∷ fs) = Some f
 
--- Terms stand here as the machine builds them: by their disjuncts, or nothing where one has more than n levels.
+-- Terms stand here as the machine builds them: by their disjuncts, or nothing where one has more
+-- than n levels.
 
 -- the term that a part becomes with its last argument
 abbrev pub whole : ℕ → Part → Option (List RawTree) → Option (List RawTree)
 whole n (Prefix s) t = finished n s (Some []) t
-whole n (Infix s u) t = finished n s (with_argument (Some []) u) t
+whole n (Infix s u) t = finished n s (with_last_argument (Some []) u) t
 whole n (Quantified q x) t = single (quantification n q x (whole_of n t))
 
 -- before an operand
 abbrev pub begin : TermStart → List Frame → Option State
 begin Opens fs = standing (Some Operand) (Group ∷ fs)
-begin (Quantifies w) fs = if allows fs 750 false then standing (Some (Word w)) fs else None
+begin (Quantifies w) fs = if may_stand_on fs 750 false then standing (Some (Word w)) fs else None
 begin (Precedes s o) fs =
-    if allows fs o.precedence false
+    if may_stand_on fs o.precedence false
     then standing (Some Operand) (Waiting (Prefix s) (right o.kind) o.precedence ∷ fs)
     else None
 begin (Names s) fs = standing (Some (Named s)) fs
@@ -111,10 +112,14 @@ bind w None fs = None
 bind w (Some x) fs = standing (Some Operand) (Waiting (Quantified w x) UpTo 750 ∷ fs)
 
 -- behind a term and an operator with this right side
-abbrev pub behind_operator : ℕ → Side → List ℕ → Operator → Option (List RawTree) → List Frame → Option State
-behind_operator n Nothing s o t fs = standing (Some (Term (finished n s (Some []) t) o.precedence)) fs
-behind_operator n Below s o t fs = standing (Some Operand) (Waiting (Infix s (whole_of n t)) Below o.precedence ∷ fs)
-behind_operator n UpTo s o t fs = standing (Some Operand) (Waiting (Infix s (whole_of n t)) UpTo o.precedence ∷ fs)
+abbrev pub behind_operator : ℕ → Side → List ℕ → Operator → Option (List RawTree) → List Frame →
+    Option State
+behind_operator n Nothing s o t fs =
+    standing (Some (Term (finished n s (Some []) t) o.precedence)) fs
+behind_operator n Below s o t fs =
+    standing (Some Operand) (Waiting (Infix s (whole_of n t)) Below o.precedence ∷ fs)
+behind_operator n UpTo s o t fs =
+    standing (Some Operand) (Waiting (Infix s (whole_of n t)) UpTo o.precedence ∷ fs)
 
 -- behind a term and a closing parenthesis
 abbrev pub behind_close : ℕ → Option (List RawTree) → List Frame → Option State
@@ -127,7 +132,8 @@ behind_close n t (Waiting part side p ∷ fs) = None
 abbrev pub behind_comma : ℕ → Option (List RawTree) → List Frame → Option State
 behind_comma n t [] = None
 behind_comma n t (Group ∷ fs) = None
-behind_comma n t (Applied s us ∷ fs) = standing (Some Operand) (Applied s (with_argument us (whole_of n t)) ∷ fs)
+behind_comma n t (Applied s us ∷ fs) =
+    standing (Some Operand) (Applied s (with_last_argument us (whole_of n t)) ∷ fs)
 behind_comma n t (Waiting part side p ∷ fs) = None
 
 -- behind a term and a full stop
@@ -142,30 +148,31 @@ act n Closes t q fs = behind_close n t fs
 act n Separates t q fs = behind_comma n t fs
 act n Stops t q fs = behind_stop t q fs
 act n (Operates s o) t q fs =
-    if takes (left o.kind) o.precedence q && allows fs o.precedence (grows o.kind)
+    if takes (left o.kind) o.precedence q && may_stand_on fs o.precedence (grows o.kind)
     then behind_operator n (right o.kind) s o t fs
     else None
 act n FollowsNot t q fs = None
 
 -- behind a term of precedence q: the token ends what waits as far as it may, and acts then
-abbrev pub after : ℕ → Follow → Option (List RawTree) → ℕ → List Frame → Option State
-after n f t q [] = act n f t q []
-after n f t q (Group ∷ fs) = act n f t q (Group ∷ fs)
-after n f t q (Applied s us ∷ fs) = act n f t q (Applied s us ∷ fs)
-after n f t q (Waiting part side p ∷ fs) =
-    if closes f p then after n f (whole n part t) p fs else act n f t q (Waiting part side p ∷ fs)
+abbrev pub behind_term : ℕ → Follow → Option (List RawTree) → ℕ → List Frame → Option State
+behind_term n f t q [] = act n f t q []
+behind_term n f t q (Group ∷ fs) = act n f t q (Group ∷ fs)
+behind_term n f t q (Applied s us ∷ fs) = act n f t q (Applied s us ∷ fs)
+behind_term n f t q (Waiting part side p ∷ fs) =
+    if closes f p then behind_term n f (whole n part t) p fs
+    else act n f t q (Waiting part side p ∷ fs)
 
 -- behind a symbol: its arguments begin, or it is an atom
-abbrev pub behind_name : ℕ → Follow → List ℕ → List Frame → Option State
-behind_name n Applies s fs = standing (Some Operand) (Applied s (Some []) ∷ fs)
-behind_name n f s fs = after n f (built n (named s no_raws)) 0 fs
+abbrev pub behind_symbol_name : ℕ → Follow → List ℕ → List Frame → Option State
+behind_symbol_name n Applies s fs = standing (Some Operand) (Applied s (Some []) ∷ fs)
+behind_symbol_name n f s fs = behind_term n f (disjuncts_within n (named s no_raws)) 0 fs
 
 -- one token more
 abbrev pub step : ℕ → OperatorTable → Standing → List Frame → Lexeme → Option State
 step n g Operand fs x = begin (start_of g x) fs
-step n g (Named s) fs x = behind_name n (follow_of g x) s fs
+step n g (Named s) fs x = behind_symbol_name n (follow_of g x) s fs
 step n g (Word w) fs x = bind w (variable_of g.variable x) fs
-step n g (Term t q) fs x = after n (follow_of g x) t q fs
+step n g (Term t q) fs x = behind_term n (follow_of g x) t q fs
 step n g (Done t q) fs x = None
 
 abbrev pub next : ℕ → OperatorTable → Option State → Lexeme → Option State

@@ -6,14 +6,15 @@ use Rattle.fol_core.specs.declared.raw.Quantifier.{Quantifier}
 use Rattle.fol_core.specs.declared.raw.Quantifier.TheVariants.{All, Exists}
 use Rattle.ladr_lex.specs.Lexeme.{Sort, ordinary, quoted, special}
 use Rattle.ladr_lex.specs.Numeral.{is_numeral}
-use Rattle.ladr_lex.specs.Operators.{OperatorRow, operator_of, is_word, if_after}
+use Rattle.ladr_lex.specs.Operators.{OperatorRow, operator_of, is_quantifier_word, if_after}
 use Rattle.ladr_lex.specs.declared.operators.Operator.{Operator}
 use Rattle.ladr_lex.specs.declared.operators.OperatorKind.{OperatorKind}
 use Rattle.ladr_lex.specs.declared.operators.OperatorKind.TheVariants.{Infix, InfixLeft, InfixRight, Prefix, PrefixParen, Postfix, PostfixParen}
 use Rattle.ladr_reader.specs.declared.sides.Side.{Side}
 use Rattle.ladr_reader.specs.declared.sides.Side.TheVariants.{Nothing, Below, UpTo}
 
--- the operator of a name, the quantifier that it is the word of, and whether a symbol may be a quantifier's variable
+-- the operator of a name, the quantifier that it is the word of, and whether a symbol may be a
+-- quantifier's variable
 pub record OperatorTable : Type 0 where
   pub op : List ℕ → Option Operator
   pub word : List ℕ → Option Quantifier
@@ -22,11 +23,12 @@ pub record OperatorTable : Type 0 where
 -- the quantifier of a word
 abbrev pub quantifier_of : List ℕ → Option Quantifier
 quantifier_of name =
-    if bytes_eq (codes "all") name then Some All else (if bytes_eq (codes "exists") name then Some Exists else None)
+    if bytes_eq (codes "all") name then Some All
+    else (if bytes_eq (codes "exists") name then Some Exists else None)
 
 -- a quantifier's variable is an ordinary symbol, but no numeral and neither of the words
 abbrev pub may_be_bound : Sort → List ℕ → Bool
-may_be_bound ordinary name = not (is_numeral name) && not (is_word name)
+may_be_bound ordinary name = not (is_numeral name) && not (is_quantifier_word name)
 may_be_bound quoted name = false
 may_be_bound special name = false
 

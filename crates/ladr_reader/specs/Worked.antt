@@ -47,7 +47,9 @@ standard = table_of standard_rows
 -- the same, with operators declared
 abbrev pub declared_rows : List OperatorRow
 declared_rows =
-    declared 350 (codes "postfix") (codes "!") (declared 400 (codes "prefix_paren") (codes "~") (declared 750 (codes "infix_left") (codes "\"@@\"") standard_rows))
+    declared 350 (codes "postfix") (codes "!")
+    (declared 400 (codes "prefix_paren") (codes "~")
+    (declared 750 (codes "infix_left") (codes "\"@@\"") standard_rows))
 
 abbrev pub with_declared : OperatorTable
 with_declared = table_of declared_rows

@@ -2,7 +2,7 @@
 ghost use Rattle.std.specs.Prelude.{◌≡◌, [], Some, IfOk};
 ghost use Rattle.std.specs.Option.{option_map};
 ghost use Rattle.fol_core.specs.RawView.{raw_of};
-ghost use Rattle.ladr_reader.specs.Capped.{with_argument, application, quantification, is_one};
+ghost use Rattle.ladr_reader.specs.Capped.{with_last_argument, application_within, quantification, is_one_argument};
 
 use fol_core::{Name, Quantifier, Raw, RawSub, Raws};
 use std::alloc::{AllocError, Global};
@@ -81,7 +81,7 @@ impl Arguments {
 
     /// Whether there is one.
     pub fn is_one(&self) -> bool
-        ensures { result ≡ is_one self.now }
+        ensures { result ≡ is_one_argument self.now }
     {
         match &self.trees {
             Some(trees) => trees.len() == 1,
@@ -92,7 +92,7 @@ impl Arguments {
     /// One more argument, at the end.
     #[tactic(auto, using(crate::proofs::Levels::depth_of_append))]
     pub fn with(self, argument: Capped) -> Result<Arguments, AllocError>
-        ensures { IfOk result (λ arguments. arguments ≡ with_argument self argument) }
+        ensures { IfOk result (λ arguments. arguments ≡ with_last_argument self argument) }
     {
         let Arguments { trees, levels } = self;
         let Capped { tree, levels: more } = argument;
@@ -121,7 +121,7 @@ impl Arguments {
 impl Capped {
     /// A name with arguments.
     pub fn application(build: Build, name: Name, arguments: Arguments) -> Capped
-        ensures { result ≡ application build.most name arguments }
+        ensures { result ≡ application_within build.most name arguments }
     {
         let Arguments { trees, levels } = arguments;
         match trees {

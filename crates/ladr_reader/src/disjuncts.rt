@@ -3,7 +3,7 @@ ghost use Rattle.std.specs.Prelude.{◌≡◌, [], true, Some, None, IfOk};
 ghost use Rattle.std.specs.Option.{option_map};
 ghost use Rattle.fol_core.specs.RawTree.{named, no_raws};
 ghost use Rattle.fol_core.specs.RawView.{raw_of, raw_list};
-ghost use Rattle.ladr_reader.specs.Capped.{disjunction, is_bar, is_one, single, whole_of, in_front, finished, built, quantification};
+ghost use Rattle.ladr_reader.specs.Capped.{disjunction_tree, is_bar, is_one_argument, single, whole_of, argument_in_front, finished, disjuncts_within, quantification};
 ghost use Rattle.ladr_reader.specs.DisjunctView.{in_order};
 
 use crate::capped::{Arguments, Build, Capped};
@@ -57,7 +57,7 @@ impl Disjuncts {
 
     /// A name without arguments.
     pub fn atom(build: Build, name: Name) -> Disjuncts
-        ensures { result ≡ built build.most (named name no_raws) }
+        ensures { result ≡ disjuncts_within build.most (named name no_raws) }
     {
         let none = Arguments::new(build.alloc);
         Disjuncts::of(build, Capped::application(build, name, none))
@@ -98,8 +98,8 @@ impl Disjuncts {
 
     // The disjuncts behind another one, which is the argument.
     fn behind(self, build: Build, first: Arguments) -> Result<Disjuncts, AllocError>
-        requires { is_one first ≡ true }
-        ensures { IfOk result (λ term. term ≡ in_front first self) }
+        requires { is_one_argument first ≡ true }
+        ensures { IfOk result (λ term. term ≡ argument_in_front first self) }
     {
         let Arguments {
             trees,
@@ -181,7 +181,7 @@ impl Disjuncts {
 
 // The tree of disjuncts: the last, and those before it, the last of them first.
 fn nested(build: Build, before: Vec<Raw>, last: Raw) -> Result<Raw, AllocError>
-    ensures { IfOk result (λ tree. disjunction (in_order (raw_list before.items) (raw_of last))
+    ensures { IfOk result (λ tree. disjunction_tree (in_order (raw_list before.items) (raw_of last))
         ≡ Some (raw_of tree)) }
 {
     let mut tree = last;

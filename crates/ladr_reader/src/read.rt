@@ -3,7 +3,7 @@ ghost use Rattle.std.specs.Prelude.{◌≡◌, ◌≤◌, ◌<◌, max, true, fa
 ghost use Rattle.fol_core.specs.RawTree.{RawTree, depth};
 ghost use Rattle.fol_core.specs.RawView.{raw_of, raw_list};
 ghost use Rattle.ladr_lex.specs.Lexeme.{lexemes_of};
-ghost use Rattle.ladr_reader.specs.Capped.{capped, built, disjuncts, all_within};
+ghost use Rattle.ladr_reader.specs.Capped.{unless_too_deep, disjuncts_within, disjuncts, all_within};
 ghost use Rattle.ladr_reader.specs.Faults.{IsTermFault, IsFaultWhere, IsTermRead};
 ghost use Rattle.ladr_reader.specs.Nesting.{nesting, most_open};
 ghost use Rattle.ladr_reader.specs.Reads.{Item};
@@ -110,9 +110,9 @@ fn read_disjuncts(
 
 // The tree, unless the item is nested too deep.
 fn shallow(term: Capped, most_open: usize) -> Result<Raw, TermFault>
-    ensures ok { (t : RawTree) → term ≡ capped MOST_LEVELS t →
+    ensures ok { (t : RawTree) → term ≡ unless_too_deep MOST_LEVELS t →
         IfOk result (λ raw. (raw_of raw ≡ t) × (max (depth t) most_open ≤ MOST_LEVELS)) }
-    ensures err { (t : RawTree) → term ≡ capped MOST_LEVELS t →
+    ensures err { (t : RawTree) → term ≡ unless_too_deep MOST_LEVELS t →
         IfErr result (λ fault. (fault ≡ TermFault.Deep) × (MOST_LEVELS < max (depth t) most_open)) }
 {
     match term.into_tree() {

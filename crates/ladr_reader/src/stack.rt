@@ -1,7 +1,7 @@
 // What waits for more tokens.
 ghost use Rattle.std.specs.Prelude.{◌≡◌, [], ◌∷◌, IfOk, MatchOption};
 ghost use Rattle.std.specs.Option.{option_copied};
-ghost use Rattle.ladr_reader.specs.Machine.{allows, is_closed, first};
+ghost use Rattle.ladr_reader.specs.Machine.{may_stand_on, last_is_closed, first};
 
 use crate::capped::{Arguments, Capped};
 use crate::roles::Follow;
@@ -68,7 +68,7 @@ impl Stack {
 
     /// Whether a term of precedence `own` may stand on top of what waits.
     pub fn allows(&self, own: u16, growing: bool) -> bool
-        ensures { result ≡ allows self.now own growing }
+        ensures { result ≡ may_stand_on self.now own growing }
     {
         match self.top() {
             Some(Frame::Waiting(_, side, limit)) => side.ends(*limit, own, growing),
@@ -78,7 +78,7 @@ impl Stack {
 
     /// Whether the token ends the last argument of what is innermost.
     pub fn is_closed_by(&self, follow: &Follow) -> bool
-        ensures { result ≡ is_closed follow.now self.now }
+        ensures { result ≡ last_is_closed follow.now self.now }
     {
         match self.top() {
             Some(Frame::Waiting(_, _, own)) => follow.closes(*own),

@@ -2,7 +2,7 @@
 ghost use Rattle.std.specs.Prelude.{◌≡◌, ℕ, ◌<◌, length, List, Option, IfOk, IfSome, MatchOption};
 ghost use Rattle.fol_core.specs.RawTree.{RawTree};
 ghost use Rattle.ladr_lex.specs.Lexeme.{lexeme_of};
-ghost use Rattle.ladr_reader.specs.Machine.{standing, step, begin, bind, behind_name, after, act, whole, behind_operator, behind_close, behind_comma, behind_stop};
+ghost use Rattle.ladr_reader.specs.Machine.{standing, step, begin, bind, behind_symbol_name, behind_term, act, whole, behind_operator, behind_close, behind_comma, behind_stop};
 ghost use Rattle.ladr_reader.specs.Table.{table_of, right};
 
 use crate::capped::{Arguments, Build};
@@ -110,7 +110,7 @@ fn behind_name(
     name: Name,
 ) -> Result<Option<Standing>, AllocError>
     ensures { IfOk result (λ place. standing place stack.new
-        ≡ behind_name build.most follow name stack.old) }
+        ≡ behind_symbol_name build.most follow name stack.old) }
 {
     match follow {
         Follow::Applies => {
@@ -133,7 +133,7 @@ fn after(
     mut precedence: u16,
 ) -> Result<Option<Standing>, AllocError>
     ensures { IfOk result (λ place. standing place stack.new
-        ≡ after build.most follow term precedence stack.old) }
+        ≡ behind_term build.most follow term precedence stack.old) }
 {
     while let Some((part, own)) = take_closed(build, stack, &follow) {
         term = whole(build, part, term)?;
@@ -146,11 +146,11 @@ fn after(
 fn take_closed(build: Build, stack: &mut Stack, follow: &Follow) -> Option<(Part, u16)>
     ensures shorter { IfSome result (λ _. length stack.new < length stack.old) }
     ensures same { MatchOption result
-        ((t : Option (List RawTree)) (q : ℕ) → after build.most follow.now t q stack.old
+        ((t : Option (List RawTree)) (q : ℕ) → behind_term build.most follow.now t q stack.old
         ≡ act build.most follow.now t q stack.new)
         (λ r. (t : Option (List RawTree)) (q : ℕ) →
-        after build.most follow.now t q stack.old
-        ≡ after build.most follow.now (whole build.most r.0 t) r.1 stack.new) }
+        behind_term build.most follow.now t q stack.old
+        ≡ behind_term build.most follow.now (whole build.most r.0 t) r.1 stack.new) }
 {
     if !stack.is_closed_by(follow) {
         return None;

@@ -9,7 +9,7 @@ use Rattle.fol_core.specs.RawTree.{RawTree, named, raws_of}
 use Rattle.ladr_formulas.specs.Formulas.{Variable}
 use Rattle.ladr_formulas.proofs.TermLemmas.{arity_is_length}
 use Rattle.fol_core.specs.Weights.{number}
-use Rattle.ladr_rules.specs.Rules.{equation_sides, sides_of, kbo_sides, kbo_rule, single_value, is_value, value_of}
+use Rattle.ladr_rules.specs.Rules.{equation_sides, sides_of, kbo_sides, kbo_rule, single_value, is_value, weight_of_value}
 use Rattle.ladr_rules.specs.Attributes.{is_label, limited_number, hint_weight}
 use Rattle.ladr_rules.specs.Seen.{is_joined}
 
@@ -67,7 +67,7 @@ no_value names s (t ∷ []) h = absurd (omega arith)
 no_value names s (t ∷ u ∷ []) h = absurd (omega arith)
 no_value names s (t ∷ u ∷ v ∷ ts) h = refl
 
-pub no_worth : (vs : List Variable) (s : List ℕ) (ts : List RawTree) → 3 ≤ length ts → value_of vs (named s (raws_of ts)) ≡ number 0
+pub no_worth : (vs : List Variable) (s : List ℕ) (ts : List RawTree) → 3 ≤ length ts → weight_of_value vs (named s (raws_of ts)) ≡ number 0
 no_worth vs s [] h = absurd (omega arith)
 no_worth vs s (t ∷ []) h = absurd (omega arith)
 no_worth vs s (t ∷ u ∷ []) h = absurd (omega arith)

@@ -17,8 +17,10 @@ attributes_in (quantified q x t) = quantified q x t ∷ []
 attributes_in (named s no_raws) = named s no_raws ∷ []
 attributes_in (named s (more_raws t no_raws)) = named s (more_raws t no_raws) ∷ []
 attributes_in (named s (more_raws t (more_raws u no_raws))) =
-    if bytes_eq s (codes "#") then t ∷ attributes_in u else named s (more_raws t (more_raws u no_raws)) ∷ []
-attributes_in (named s (more_raws t (more_raws u (more_raws v ts)))) = named s (more_raws t (more_raws u (more_raws v ts))) ∷ []
+    if bytes_eq s (codes "#") then t ∷ attributes_in u
+    else named s (more_raws t (more_raws u no_raws)) ∷ []
+attributes_in (named s (more_raws t (more_raws u (more_raws v ts)))) =
+    named s (more_raws t (more_raws u (more_raws v ts))) ∷ []
 
 abbrev plain : RawTree → Attributed
 plain t = record { formula = t; attributes = [] }
@@ -28,8 +30,10 @@ attributed (quantified q x t) = plain (quantified q x t)
 attributed (named s no_raws) = plain (named s no_raws)
 attributed (named s (more_raws t no_raws)) = plain (named s (more_raws t no_raws))
 attributed (named s (more_raws t (more_raws u no_raws))) =
-    if bytes_eq s (codes "#") then record { formula = t; attributes = attributes_in u } else plain (named s (more_raws t (more_raws u no_raws)))
-attributed (named s (more_raws t (more_raws u (more_raws v ts)))) = plain (named s (more_raws t (more_raws u (more_raws v ts))))
+    if bytes_eq s (codes "#") then record { formula = t; attributes = attributes_in u }
+    else plain (named s (more_raws t (more_raws u no_raws)))
+attributed (named s (more_raws t (more_raws u (more_raws v ts)))) =
+    plain (named s (more_raws t (more_raws u (more_raws v ts))))
 
 -- the term is `label(t)`
 abbrev pub is_label : RawTree → Bool

@@ -6,7 +6,7 @@ use Rattle.fol_core.specs.NamesOnce.{is_in}
 use Rattle.fol_core.specs.RawTree.{RawTree, RawTrees, named, quantified, no_raws, more_raws}
 use Rattle.fol_core.specs.Weights.{WeightTree, Rule, number, of_variable, plus, times}
 use Rattle.fol_core.specs.SymbolTable.{Symbol}
-use Rattle.ladr_lex.specs.Misuses.{row_of}
+use Rattle.ladr_lex.specs.Misuses.{misuse_row}
 use Rattle.ladr_lex.specs.declared.misuse.Misuse.{Misuse}
 use Rattle.ladr_lex.specs.declared.misuse.Misuse.TheVariants.{TwoKinds, UnfitNumeral}
 use Rattle.ladr_formulas.specs.Formulas.{Made, Variable, is_free_name, is_too_great, terms_of, unread, free_number}
@@ -40,12 +40,14 @@ abbrev pub single_value : List (List ℕ) → List ℕ → RawTree → Bool
 single_value names s (named x no_raws) = bytes_eq s (codes "weight") && is_in x names
 single_value names s t = false
 
--- whether a term is a value: whole numbers up to the greatest weight, `+`, `*`, and `weight(x)` for one of these variables
+-- whether a term is a value: whole numbers up to the greatest weight, `+`, `*`, and `weight(x)` for
+-- one of these variables
 abbrev pub is_value : List (List ℕ) → RawTree → Bool
 is_value names (quantified q x t) = false
 is_value names (named s no_raws) = is_some (limited_number MOST_WEIGHT (named s no_raws))
 is_value names (named s (more_raws t no_raws)) = single_value names s t
-is_value names (named s (more_raws t (more_raws u no_raws))) = (bytes_eq s (codes "+") || bytes_eq s (codes "*")) && is_value names t && is_value names u
+is_value names (named s (more_raws t (more_raws u no_raws))) =
+    (bytes_eq s (codes "+") || bytes_eq s (codes "*")) && is_value names t && is_value names u
 is_value names (named s (more_raws t (more_raws u (more_raws v ts)))) = false
 
 -- the weight of a variable
@@ -58,12 +60,14 @@ abbrev pub combined : List ℕ → WeightTree → WeightTree → WeightTree
 combined s v w = if bytes_eq s (codes "+") then plus v w else times v w
 
 -- the weight that a value is, with the numbers of the variables
-abbrev pub value_of : List Variable → RawTree → WeightTree
-value_of vs (quantified q x t) = number 0
-value_of vs (named s no_raws) = number (unwrap_or (limited_number MOST_WEIGHT (named s no_raws)) 0)
-value_of vs (named s (more_raws t no_raws)) = single_weight vs t
-value_of vs (named s (more_raws t (more_raws u no_raws))) = combined s (value_of vs t) (value_of vs u)
-value_of vs (named s (more_raws t (more_raws u (more_raws v ts)))) = number 0
+abbrev pub weight_of_value : List Variable → RawTree → WeightTree
+weight_of_value vs (quantified q x t) = number 0
+weight_of_value vs (named s no_raws) =
+    number (unwrap_or (limited_number MOST_WEIGHT (named s no_raws)) 0)
+weight_of_value vs (named s (more_raws t no_raws)) = single_weight vs t
+weight_of_value vs (named s (more_raws t (more_raws u no_raws))) =
+    combined s (weight_of_value vs t) (weight_of_value vs u)
+weight_of_value vs (named s (more_raws t (more_raws u (more_raws v ts)))) = number 0
 
 -- a pattern and the term behind `=`
 pub record Sides : Type 0 where
@@ -73,11 +77,14 @@ pub record Sides : Type 0 where
 
 -- the sides of `weight(pattern) = value`, the pattern being no variable
 abbrev pub pattern_sides : List ℕ → RawTree → RawTree → Option Sides
-pattern_sides s (named h ts) value = if bytes_eq s (codes "weight") then Some (record { head = h; parts = ts; value = value }) else None
+pattern_sides s (named h ts) value =
+    if bytes_eq s (codes "weight") then Some (record { head = h; parts = ts; value = value })
+    else None
 pattern_sides s (quantified q x t) value = None
 
 abbrev pub equation_sides : List ℕ → RawTree → RawTree → Option Sides
-equation_sides s (named w (more_raws pattern no_raws)) value = if bytes_eq s (codes "=") then pattern_sides w pattern value else None
+equation_sides s (named w (more_raws pattern no_raws)) value =
+    if bytes_eq s (codes "=") then pattern_sides w pattern value else None
 equation_sides s t value = None
 
 abbrev pub sides_of : RawTree → Option Sides
@@ -91,7 +98,8 @@ is_bare (more_raws t ts) = false
 -- the shape of a rule: of another one no symbol is entered
 abbrev pub is_shaped : Style → Sides → Bool
 is_shaped st r =
-    not (some_quantifies r.parts || quantifies r.value || (is_bare r.parts && is_free_name st r.head)) && is_value (all_names st r.parts) r.value
+    not (some_quantifies r.parts || quantifies r.value
+    || (is_bare r.parts && is_free_name st r.head)) && is_value (all_names st r.parts) r.value
 
 abbrev mutual
   -- whether a numeral of a term is too great for an element
@@ -105,20 +113,25 @@ abbrev mutual
 
 abbrev pub is_clash_met : Option Misuse → Bool
 is_clash_met None = false
-is_clash_met (Some m) = row_of m == row_of TwoKinds
+is_clash_met (Some m) = misuse_row m == misuse_row TwoKinds
 
--- how a pattern is misused, where this was met in it: a clash of kinds counts, then too great a numeral; `#` is a symbol of
--- patterns like others
+-- how a pattern is misused, where this was met in it: a clash of kinds counts, then too great a
+-- numeral; `#` is a symbol of patterns like others
 abbrev pub pattern_misuse : Style → Sides → Option Misuse → Option Misuse
 pattern_misuse st r met =
-    if is_clash_met met then met else (if is_too_great st r.head || some_too_great st r.parts then Some UnfitNumeral else None)
+    if is_clash_met met then met
+    else (if is_too_great st r.head || some_too_great st r.parts then Some UnfitNumeral else None)
 
 -- a rule behind these symbols; the head of its pattern is a name alone
 abbrev pub rule_made : Style → List Symbol → Sides → Made Rule
 rule_made st table r =
     let arguments = terms_of st [] (unread table) r.parts in
     record {
-      tree = record { head = r.head; arguments = arguments.tree; weight = value_of arguments.reading.variables r.value };
+      tree = record {
+        head = r.head;
+        arguments = arguments.tree;
+        weight = weight_of_value arguments.reading.variables r.value;
+      };
       reading = record arguments.reading { least = pattern_misuse st r arguments.reading.least };
     }
 

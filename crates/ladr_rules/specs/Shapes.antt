@@ -10,18 +10,21 @@ is_atom (equal s t) = true
 is_atom (atom r ts) = true
 is_atom f = false
 
--- literals, each an atom or one denial of one, joined by `|`; another formula in a list of hints is row 13
+-- literals, each an atom or one denial of one, joined by `|`; another formula in a list of hints is
+-- row 13
 abbrev pub is_hint : Fol → Bool
 is_hint (disjunction f g) = is_hint f && is_hint g
 is_hint (negation f) = is_atom f
 is_hint f = is_atom f
 
-abbrev pub is_variable : Tree → Bool
-is_variable (var x) = true
-is_variable (elem k) = false
-is_variable (app f ts) = false
+abbrev pub is_variable_tree : Tree → Bool
+is_variable_tree (var x) = true
+is_variable_tree (elem k) = false
+is_variable_tree (app f ts) = false
 
--- an equation whose left side is no variable and has each variable of the right; another formula in a list of demodulators is row 14
+-- an equation whose left side is no variable and has each variable of the right; another formula in
+-- a list of demodulators is row 14
 abbrev pub is_demodulator : Fol → Bool
-is_demodulator (equal s t) = not (is_variable s) && list_all (λ x. is_in x (variables_of s)) (variables_of t)
+is_demodulator (equal s t) =
+    not (is_variable_tree s) && list_all (λ x. is_in x (variables_of s)) (variables_of t)
 is_demodulator f = false

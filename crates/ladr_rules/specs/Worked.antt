@@ -49,7 +49,8 @@ weight_is pattern value = binary "=" (weight pattern) value
 
 -- weight(g(y,x)) = 1 + (2 * weight(x))
 abbrev pub one_and_twice : RawTree
-one_and_twice = weight_is (binary "g" y x) (binary "+" (constant "1") (binary "*" (constant "2") (weight x)))
+one_and_twice =
+    weight_is (binary "g" y x) (binary "+" (constant "1") (binary "*" (constant "2") (weight x)))
 
 -- the formula that a term is
 abbrev pub formula : RawTree → Fol

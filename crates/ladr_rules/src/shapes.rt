@@ -5,7 +5,7 @@ ghost use Rattle.fol_core.specs.FormulaView.{fol_of};
 ghost use Rattle.fol_core.specs.Free.{is_in, joined, variables_of, variables_of_all};
 ghost use Rattle.fol_core.specs.TermView.{tree_of};
 ghost use Rattle.fol_core.specs.Tree.{trees_of};
-ghost use Rattle.ladr_rules.specs.Shapes.{is_atom, is_hint, is_demodulator, is_variable};
+ghost use Rattle.ladr_rules.specs.Shapes.{is_atom, is_hint, is_demodulator, is_variable_tree};
 
 use fol_core::{Formula, Shape, Term, Terms};
 use indexmap::IndexSet;
@@ -48,7 +48,7 @@ pub fn is_demodulator(alloc: Global, formula: &Formula) -> Result<bool, AllocErr
 }
 
 fn is_variable(term: &Term) -> bool
-    ensures { result ≡ is_variable (tree_of term.now) }
+    ensures { result ≡ is_variable_tree (tree_of term.now) }
 {
     match term {
         Term::Var(_) => true,

@@ -4,7 +4,7 @@ ghost use Rattle.std.specs.Str.{bytes_eq};
 ghost use Rattle.fol_core.specs.RawView.{raw_of};
 ghost use Rattle.fol_core.specs.WeightView.{weight_of};
 ghost use Rattle.fol_core.specs.NamesOnce.{is_in, names_of};
-ghost use Rattle.ladr_rules.specs.Rules.{single_value, is_value, single_weight, combined, value_of};
+ghost use Rattle.ladr_rules.specs.Rules.{single_value, is_value, single_weight, combined, weight_of_value};
 
 use crate::attributes::limited_number;
 use crate::bounds::MOST_WEIGHT;
@@ -66,7 +66,7 @@ fn has_name(names: &IndexSet<Vec<u8>>, name: &[u8]) -> bool
 #[tactic(auto, using(crate::proofs::Arities::no_worth))]
 /// The weight that a value is, with these variables.
 pub fn value_of(alloc: Global, variables: &Variables, raw: &Raw) -> Result<Weight, AllocError>
-    ensures { IfOk result (λ w. weight_of w ≡ value_of variables.now (raw_of raw.now)) }
+    ensures { IfOk result (λ w. weight_of w ≡ weight_of_value variables.now (raw_of raw.now)) }
 {
     match raw {
         Raw::App(name, args) => match args.as_slice() {

@@ -17,7 +17,7 @@ use Rattle.ladr_options.specs.declared.options.Options.{Options}
 use Rattle.ladr_options.specs.declared.options.OptionError.{OptionError}
 use Rattle.ladr_formulas.specs.declared.styles.Mode.{Mode}
 use Rattle.fol_core.specs.NamesOnce.{are_apart}
-use Rattle.ladr_settings.specs.Settings.{after, after_meant, after_other, after_value, after_opening, all_declared, is_other, flag_misuse, parameter_misuse, with_options, is_late_style, is_meant, formulas_opened, rules_opened}
+use Rattle.ladr_settings.specs.Settings.{settings_after, after_meant, after_other, after_value, after_opening, all_declared, is_other, flag_misuse, parameter_misuse, with_options, is_late_style, is_meant, formulas_opened, rules_opened}
 use Rattle.ladr_settings.specs.declared.lists.OpenList.{OpenList}
 use Rattle.ladr_settings.specs.declared.settings.Settings.{Settings}
 
@@ -67,5 +67,5 @@ other_in_range (command.If name) s h = h
 other_in_range command.EndIf s h = h
 other_in_range (command.Interpretation it) s h = h
 
-pub after_in_range : (p : Mode) (c : Command) (s t : Settings) → after p c s ≡ Ok t → AreInRange s.options → AreInRange t.options
+pub after_in_range : (p : Mode) (c : Command) (s t : Settings) → settings_after p c s ≡ Ok t → AreInRange s.options → AreInRange t.options
 after_in_range p c s t e h = IfOk-at_ok InRange e (either_way (is_meant p s) (after_meant c s) (Ok (after_other c s)) (meant_in_range c s h) (other_in_range c s h))

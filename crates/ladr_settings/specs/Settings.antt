@@ -44,7 +44,8 @@ formulas_opened name = option_map_or Formulas (formulas_named name) OtherFormula
 
 abbrev pub rules_opened : List ℕ → OpenList
 rules_opened name =
-    if bytes_eq name (codes "weights") then Weights else (if bytes_eq name (codes "kbo_weights") then KboWeights else OtherRules)
+    if bytes_eq name (codes "weights") then Weights
+    else (if bytes_eq name (codes "kbo_weights") then KboWeights else OtherRules)
 
 -- whether a list has a name that is unknown
 abbrev pub is_other : OpenList → Bool
@@ -73,7 +74,8 @@ parameter_misuse Unknown = UnknownParameter
 parameter_misuse NotAValue = UnfitValue
 
 -- the settings with other options, or the misuse
-abbrev pub with_options : Settings → (OptionError → Misuse) → Result Options OptionError → Result Settings Misuse
+abbrev pub with_options : Settings → (OptionError → Misuse) → Result Options OptionError →
+    Result Settings Misuse
 with_options s misuse (Ok o) = Ok (record s { options = o })
 with_options s misuse (Err e) = Err (misuse e)
 
@@ -82,11 +84,15 @@ abbrev pub is_late_style : List ℕ → Settings → Bool
 is_late_style name s = bytes_eq name (codes "prolog_style_variables") && s.listed
 
 abbrev pub after_flag : Bool → List ℕ → Settings → Result Settings Misuse
-after_flag on name s = if is_late_style name s then Err TooLate else with_options s flag_misuse (flagged name on s.options)
+after_flag on name s =
+    if is_late_style name s then Err TooLate
+    else with_options s flag_misuse (flagged name on s.options)
 
 abbrev pub after_value : List ℕ → Value → Settings → Result Settings Misuse
-after_value name (value.Symbol text) s = with_options s parameter_misuse (symbolized name text s.options)
-after_value name (value.Number negative n) s = with_options s parameter_misuse (numbered name negative n s.options)
+after_value name (value.Symbol text) s =
+    with_options s parameter_misuse (symbolized name text s.options)
+after_value name (value.Number negative n) s =
+    with_options s parameter_misuse (numbered name negative n s.options)
 
 -- the table of operators once all these symbols are declared
 abbrev pub all_declared : ℕ → List ℕ → List (List ℕ) → List OperatorRow → List OperatorRow
@@ -103,11 +109,13 @@ after_operators p type names s =
 
 -- no name stands twice in an order
 abbrev pub after_order : List (List ℕ) → Settings → Result Settings Misuse
-after_order names s = if are_apart names then Ok (record s { function_order = names }) else Err UnfitRule
+after_order names s =
+    if are_apart names then Ok (record s { function_order = names }) else Err UnfitRule
 
 -- a list of an unknown name is misuse
 abbrev pub after_opening : OpenList → Settings → Result Settings Misuse
-after_opening list s = if is_other list then Err UnknownList else Ok (record s { list = Some list; listed = true })
+after_opening list s =
+    if is_other list then Err UnknownList else Ok (record s { list = Some list; listed = true })
 
 -- `if` inside `if` is misuse, and so is `end_if` without `if`
 abbrev pub after_if : List ℕ → Settings → Result Settings Misuse
@@ -118,9 +126,12 @@ after_end_if s = if is_some s.block then Ok (record s { block = None }) else Err
 
 -- a second interpretation is misuse, and so is a bad one
 abbrev pub after_interpretation : ByName → Settings → Result Settings Misuse
-after_interpretation it s = if is_some s.interpretation || not (is_good it) then Err UnfitInterpretation else Ok (record s { interpretation = Some it })
+after_interpretation it s =
+    if is_some s.interpretation || not (is_good it) then Err UnfitInterpretation
+    else Ok (record s { interpretation = Some it })
 
--- what a command that is meant for the program makes of the settings, or its misuse of the least row
+-- what a command that is meant for the program makes of the settings, or its misuse of the least
+-- row
 abbrev pub after_meant : Command → Settings → Result Settings Misuse
 after_meant (command.Flag on name) s = after_flag on name s
 after_meant (command.Assign name v) s = after_value name v s
@@ -133,7 +144,8 @@ after_meant (command.If name) s = after_if name s
 after_meant command.EndIf s = after_end_if s
 after_meant (command.Interpretation it) s = after_interpretation it s
 
--- A command that isn't meant for the program adds nothing: only the list that it opens is gone through, and `end_if` ends the block.
+-- A command that isn't meant for the program adds nothing: only the list that it opens is gone
+-- through, and `end_if` ends the block.
 abbrev pub after_other : Command → Settings → Settings
 after_other (command.Flag on name) s = s
 after_other (command.Assign name v) s = s
@@ -147,8 +159,8 @@ after_other command.EndIf s = record s { block = None }
 after_other (command.Interpretation it) s = s
 
 -- what a command makes of the settings of a program, or its misuse of the least row
-abbrev pub after : Mode → Command → Settings → Result Settings Misuse
-after p c s = if is_meant p s then after_meant c s else Ok (after_other c s)
+abbrev pub settings_after : Mode → Command → Settings → Result Settings Misuse
+settings_after p c s = if is_meant p s then after_meant c s else Ok (after_other c s)
 
 -- before the first command
 abbrev pub at_start : Settings

@@ -8,49 +8,49 @@ ghost use Rattle.ladr_commands.specs.declared.command.Value.TheVariants as value
 ghost use Rattle.ladr_options.specs.Ranges.{AreInRange};
 ghost use Rattle.ladr_formulas.specs.declared.styles.Mode.{Mode};
 ghost use Rattle.ladr_formulas.specs.declared.styles.Mode.TheVariants.{Prover, Mace, Tester};
-ghost use Rattle.ladr_settings.specs.Settings.{after, at_start};
+ghost use Rattle.ladr_settings.specs.Settings.{settings_after, at_start};
 ghost use Rattle.ladr_settings.specs.declared.lists.FormulaList.TheVariants.{Assumptions};
 ghost use Rattle.ladr_settings.specs.declared.lists.OpenList.TheVariants as list;
 ghost use Rattle.ladr_settings.specs.declared.settings.Settings.{Settings};
 
 /// Each misuse of a command, and what is none.
 pub fn worked()
-    ensures unknown_flag { after Prover (command.Flag true (codes "nosuchflag")) at_start
+    ensures unknown_flag { settings_after Prover (command.Flag true (codes "nosuchflag")) at_start
         ≡ Err UnknownFlag }
-    ensures unknown_parameter { after Prover
+    ensures unknown_parameter { settings_after Prover
         (command.Assign (codes "max_depth") (value.Number true 1)) at_start ≡ Err UnknownParameter }
-    ensures unfit_value { after Prover (command.Assign (codes "order")
+    ensures unfit_value { settings_after Prover (command.Assign (codes "order")
         (value.Symbol (codes "rpo"))) at_start ≡ Err UnfitValue }
-    ensures unknown_list { after Prover (command.Formulas (codes "theorems")) at_start
+    ensures unknown_list { settings_after Prover (command.Formulas (codes "theorems")) at_start
         ≡ Err UnknownList }
-    ensures operator { after Prover (command.Op 999 (codes "infix") (codes "&" ∷ [])) at_start
+    ensures operator { settings_after Prover (command.Op 999 (codes "infix") (codes "&" ∷ [])) at_start
         ≡ Err UnfitOperator }
-    ensures symbol { after Prover (command.Op 998 (codes "infix")
+    ensures symbol { settings_after Prover (command.Op 998 (codes "infix")
         (codes "@@" ∷ codes "&" ∷ [])) at_start ≡ Err UnfitSymbol }
-    ensures too_late { after Prover (command.Op 998 (codes "infix") (codes "@@" ∷ []))
+    ensures too_late { settings_after Prover (command.Op 998 (codes "infix") (codes "@@" ∷ []))
         (record at_start { listed = true }) ≡ Err TooLate }
-    ensures late_style { after Mace (command.Flag true (codes "prolog_style_variables"))
+    ensures late_style { settings_after Mace (command.Flag true (codes "prolog_style_variables"))
         (record at_start { listed = true }) ≡ Err TooLate }
-    ensures nested_if { after Prover (command.If (codes "Mace4"))
+    ensures nested_if { settings_after Prover (command.If (codes "Mace4"))
         (record at_start { block = Some (codes "Prover9") }) ≡ Err UnmatchedIf }
-    ensures unmatched_end { after Tester command.EndIf at_start ≡ Err UnmatchedIf }
-    ensures unfit_order { after Prover (command.FunctionOrder
+    ensures unmatched_end { settings_after Tester command.EndIf at_start ≡ Err UnmatchedIf }
+    ensures unfit_order { settings_after Prover (command.FunctionOrder
         (codes "f" ∷ codes "e" ∷ codes "f" ∷ [])) at_start ≡ Err UnfitRule }
-    ensures unfit_interpretation { after Tester (command.Interpretation (by_name 0 [])) at_start
+    ensures unfit_interpretation { settings_after Tester (command.Interpretation (by_name 0 [])) at_start
         ≡ Err UnfitInterpretation }
-    ensures second_interpretation { after Tester (command.Interpretation (by_name 1 []))
+    ensures second_interpretation { settings_after Tester (command.Interpretation (by_name 1 []))
         (record at_start { interpretation = Some (by_name 2 []) }) ≡ Err UnfitInterpretation }
-    ensures assumptions { after Prover (command.Formulas (codes "sos")) at_start
+    ensures assumptions { settings_after Prover (command.Formulas (codes "sos")) at_start
         ≡ Ok (record at_start { list = Some (list.Formulas Assumptions); listed = true }) }
-    ensures predicates { after Prover (command.PredicateOrder (codes "p" ∷ codes "p" ∷ [])) at_start
+    ensures predicates { settings_after Prover (command.PredicateOrder (codes "p" ∷ codes "p" ∷ [])) at_start
         ≡ Ok at_start }
-    ensures other_if { after Prover (command.If (codes "Prover9"))
+    ensures other_if { settings_after Prover (command.If (codes "Prover9"))
         (record at_start { block = Some (codes "Mace4") })
         ≡ Ok (record at_start { block = Some (codes "Mace4") }) }
-    ensures other_list { after Prover (command.Formulas (codes "theorems"))
+    ensures other_list { settings_after Prover (command.Formulas (codes "theorems"))
         (record at_start { block = Some (codes "Mace4") })
         ≡ Ok (record at_start { block = Some (codes "Mace4"); list = Some list.OtherFormulas }) }
-    ensures other_flag { after Tester (command.Flag true (codes "nosuchflag"))
+    ensures other_flag { settings_after Tester (command.Flag true (codes "nosuchflag"))
         (record at_start { block = Some (codes "Prover9") })
         ≡ Ok (record at_start { block = Some (codes "Prover9") }) }
 {}
@@ -58,6 +58,6 @@ pub fn worked()
 /// The options are in range at the start, and a command keeps them so.
 pub fn options_stay_in_range()
     ensures start { AreInRange at_start.options }
-    ensures after { (p : Mode) (c : Command) (s t : Settings) → after p c s ≡ Ok t
+    ensures after { (p : Mode) (c : Command) (s t : Settings) → settings_after p c s ≡ Ok t
         → AreInRange s.options → AreInRange t.options }
 {}

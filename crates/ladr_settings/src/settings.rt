@@ -2,7 +2,7 @@
 ghost use Rattle.std.specs.Prelude.{◌≡◌, ℕ, OnOk, IfOk, Ok, Err};
 ghost use Rattle.std.specs.Option.{option_map_or};
 ghost use Rattle.ladr_lex.specs.declared.misuse.Misuse.{Misuse};
-ghost use Rattle.ladr_settings.specs.Settings.{is_for, is_meant, after, after_meant, after_other, after_flag, after_value, after_operators, after_order, after_opening, after_if, after_end_if, after_interpretation, parameter_misuse, at_start};
+ghost use Rattle.ladr_settings.specs.Settings.{is_for, is_meant, settings_after, after_meant, after_other, after_flag, after_value, after_operators, after_order, after_opening, after_if, after_end_if, after_interpretation, parameter_misuse, at_start};
 ghost use Rattle.ladr_settings.specs.declared.settings.SettingsError.TheVariants.{Misused, Memory};
 
 use crate::lists::OpenList;
@@ -78,9 +78,9 @@ impl Settings {
         program: Mode,
         command: Command,
     ) -> Result<(), SettingsError>
-        ensures ok { OnOk result (after program command self.old ≡ Ok self.new) }
+        ensures ok { OnOk result (settings_after program command self.old ≡ Ok self.new) }
         ensures row { (m : Misuse) → result ≡ Err (Misused m)
-            → after program command self.old ≡ Err m }
+            → settings_after program command self.old ≡ Err m }
     {
         if self.is_meant(program) {
             self.take_meant(alloc, command)

@@ -23,12 +23,17 @@ use Rattle.ladr_words.specs.declared.task.ModelOptions.{ModelOptions}
 abbrev pub RefusesWords : Outflow → Outflow → Cause → Type 0
 RefusesWords = PieceTells Words (λ cut. cause_of (stop_of_cut cut)) no_command_line
 
--- The input is a file in the language of this program: of `clausetester`, or of `mace4` with these words.
+-- The input is a file in the language of this program: of `clausetester`, or of `mace4` with these
+-- words.
 abbrev pub RunsClausetester : Inflow → Inflow → Outflow → Outflow → Cause → Type 0
-RunsClausetester from from' to to' cause = (r : Result Tested Stop) × Tests interprets (refuses Tester) from from' to to' r × (cause ≡ cause_by Clausetester r)
+RunsClausetester from from' to to' cause =
+    (r : Result Tested Stop) × Tests interprets (refuses Tester) from from' to to' r
+    × (cause ≡ cause_by Clausetester r)
 
 abbrev pub RunsMace4 : ModelOptions → Inflow → Inflow → Outflow → Outflow → Times → Cause → Type 0
-RunsMace4 words from from' to to' t cause = (r : Result SearchEnd Stop) × Searches (poses Mace) (refuses Mace) words from from' to to' t r × (cause ≡ cause_by Mace4 r)
+RunsMace4 words from from' to to' t cause =
+    (r : Result SearchEnd Stop) × Searches (poses Mace) (refuses Mace) words from from' to to' t r
+    × (cause ≡ cause_by Mace4 r)
 
 -- what stands in the output of `mace4` with these words
 abbrev pub ShowsMace4 : ModelOptions → Inflow → Inflow → Outflow → Outflow → Type 0

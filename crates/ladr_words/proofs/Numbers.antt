@@ -5,11 +5,11 @@ use Rattle.clap.specs.Matches.{ReadsOne}
 use Rattle.clap.specs.ValueTests.{is_unsigned_in}
 use Rattle.clap.specs.declared.builder.value_parser.ValueParser.TheVariants.{Unsigned}
 use Rattle.clap.proofs.ValueTestLemmas.{accepts-Accepts, Accepts-accepts}
-use Rattle.ladr_words.specs.Tasks.{number_of}
+use Rattle.ladr_words.specs.Tasks.{number_written}
 
 -- a text that is read as a number of 64 bits, or isn't
 pub read_number : (E : Type 0) (gives : List ℕ → Result ℕ E → Type 0) → ((text : List ℕ) (r : Result ℕ E) → gives text r → ParsesUnsigned 64 10 text r)
-    → (text : List ℕ) (result : Option ℕ) → ReadsOne gives text result → result ≡ number_of text
+    → (text : List ℕ) (result : Option ℕ) → ReadsOne gives text result → result ≡ number_written text
 read_number E gives parses text result h = by (is_unsigned_in 0 (2 ^ 64 - 1) text) refl result h
   where
     by : (b : Bool) → is_unsigned_in 0 (2 ^ 64 - 1) text ≡ b → (result : Option ℕ) → ReadsOne gives text result

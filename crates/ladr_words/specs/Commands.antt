@@ -34,8 +34,8 @@ mace4_app =
     (number_option (codes "max_models") 109 1 2147483647))
     (number_option (codes "max_seconds") 116 0 2147483647)
 
--- the program without its commands: the words come without its name, help and version are no words of it, and one of its
--- commands has to be named
+-- the program without its commands: the words come without its name, help and version are no words
+-- of it, and one of its commands has to be named
 unfoldable pub bare_app : App
 bare_app = record {
   top = record (new_app (codes "ladr")).top {

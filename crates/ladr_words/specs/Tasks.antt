@@ -11,9 +11,12 @@ use Rattle.ladr_words.specs.declared.task.Task.{Task}
 use Rattle.ladr_words.specs.declared.task.Task.TheVariants.{Clausetester, Mace4}
 use Rattle.ladr_words.specs.declared.task.ModelOptions.{ModelOptions}
 
--- the number that a text writes in decimal digits, with a plus before them or not; it has at most 64 bits
-abbrev pub number_of : List ℕ → Option ℕ
-number_of text = if is_unsigned_in 0 (2 ^ 64 - 1) text then Some (digits_value 10 (without_leading_plus text)) else None
+-- the number that a text writes in decimal digits, with a plus before them or not; it has at most
+-- 64 bits
+abbrev pub number_written : List ℕ → Option ℕ
+number_written text =
+    if is_unsigned_in 0 (2 ^ 64 - 1) text then Some (digits_value 10 (without_leading_plus text))
+    else None
 
 -- the number, if it is from least to most
 abbrev pub within : ℕ → ℕ → ℕ → Option ℕ
@@ -21,7 +24,7 @@ within least most n = if nat_le least n && nat_le n most then Some n else None
 
 -- the number of an option, where it is given
 abbrev pub number_given : List ℕ → List Row → Option ℕ
-number_given name rows = option_and_then number_of (one_of name rows)
+number_given name rows = option_and_then number_written (one_of name rows)
 
 abbrev pub number_within : List ℕ → ℕ → ℕ → List Row → Option ℕ
 number_within name least most rows = option_and_then (within least most) (number_given name rows)
@@ -44,7 +47,9 @@ task_named name rows =
 -- the task of the words: none where clap has an error for them
 unfoldable pub task_of : List (List ℕ) → Option Task
 task_of words =
-    if length (fault_of ladr_app words) == 0 then option_and_then (λ found. task_named found.0 found.1) (subcommand_of ladr_app words) else None
+    if length (fault_of ladr_app words) == 0
+    then option_and_then (λ found. task_named found.0 found.1) (subcommand_of ladr_app words)
+    else None
 
 -- a number that is given is from least to most
 abbrev pub IsFrom : ℕ → ℕ → Option ℕ → Type 0
@@ -54,4 +59,5 @@ IsFrom least most given = IfSome given (λ n. (least ≤ n) × (n ≤ most))
 abbrev pub HasRanges : Task → Type 0
 HasRanges Clausetester = Unit {0}
 HasRanges (Mace4 options) =
-    IsFrom 1 200 options.start_size × IsFrom 1 200 options.end_size × IsFrom 1 2147483647 options.max_models × IsFrom 0 2147483647 options.max_seconds
+    IsFrom 1 200 options.start_size × IsFrom 1 200 options.end_size
+    × IsFrom 1 2147483647 options.max_models × IsFrom 0 2147483647 options.max_seconds

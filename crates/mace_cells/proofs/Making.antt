@@ -7,7 +7,7 @@ use Rattle.std.proofs.lemmas.List.Folds.{sum_by-replicate}
 use Rattle.std.proofs.lemmas.List.Sums.{sum_by-set, get_or-le-sum_by}
 use Rattle.std.proofs.lemmas.Nat.{mul-add-lt}
 use Rattle.mace_cells.specs.Made.{IsMade}
-use Rattle.mace_cells.specs.Trails.{value_in, is_struck_off, written, struck}
+use Rattle.mace_cells.specs.Trails.{value_in, is_struck_off, cells_written, struck}
 use Rattle.mace_cells.specs.declared.trail.TrailEntry.{TrailEntry}
 
 length_replicate : {X : Type 0} → (n : ℕ) (x : X) → length (replicate n x) ≡ n
@@ -58,7 +58,7 @@ room_left blank f many ps xs i one none made within empty =
     omega (arith, all, here, some, one)
 
 -- what the array of values has for a cell
-pub value_read : (many : ℕ) (es : List TrailEntry) (xs : List (Option ℕ)) (k : ℕ) → IsMade None many (written es) xs → get_or xs k None ≡ value_in es k
+pub value_read : (many : ℕ) (es : List TrailEntry) (xs : List (Option ℕ)) (k : ℕ) → IsMade None many (cells_written es) xs → get_or xs k None ≡ value_in es k
 value_read many [] xs k made = ap (λ (ys : List (Option ℕ)). get_or ys k None) made ∙ blank_read many k
   where
     blank_read : (n i : ℕ) → ◌≡◌ {A = Option ℕ} (get_or (replicate n None) i None) None
@@ -93,7 +93,7 @@ abbrev pub blank_flag : Bool → ℕ
 blank_flag false = 1
 blank_flag true = 0
 
-pub no_blank_values : (es : List TrailEntry) → AreNoBlanks blank_value (written es)
+pub no_blank_values : (es : List TrailEntry) → AreNoBlanks blank_value (cells_written es)
 no_blank_values [] = tt
 no_blank_values (e ∷ es) = (refl, no_blank_values es)
 
@@ -108,7 +108,7 @@ in_table stride many end cell value e h k =
     let same : many * stride ≡ stride * many = grind arith in
     omega (arith, below, same, e)
 
-pub many_written : (es : List TrailEntry) → length (written es) ≡ length es
+pub many_written : (es : List TrailEntry) → length (cells_written es) ≡ length es
 many_written [] = refl
 many_written (e ∷ es) = ap suc (many_written es)
 
@@ -117,24 +117,24 @@ many_struck [] = refl
 many_struck (k ∷ ks) = ap suc (many_struck ks)
 
 -- each step wrote within the array
-made_at : (many : ℕ) (later earlier : List TrailEntry) (e : TrailEntry) (xs : List (Option ℕ)) → IsMade None many (written (later ++ e ∷ earlier)) xs → e.cell < length xs
+made_at : (many : ℕ) (later earlier : List TrailEntry) (e : TrailEntry) (xs : List (Option ℕ)) → IsMade None many (cells_written (later ++ e ∷ earlier)) xs → e.cell < length xs
 made_at many [] earlier e xs made = made.0
 made_at many (f ∷ later) earlier e xs made =
     let rest = made_at many later earlier e (set xs f.cell None) made.2 in
     let same : length (set xs f.cell None) ≡ length xs = length-set xs f.cell None in
     omega (arith, rest, same)
 
-pub made_within : (many : ℕ) (es later earlier : List TrailEntry) (e : TrailEntry) (xs : List (Option ℕ)) → IsMade None many (written es) xs → es ≡ later ++ e ∷ earlier → e.cell < length xs
-made_within many es later earlier e xs made is = made_at many later earlier e xs (subst (λ (fs : List TrailEntry). IsMade None many (written fs) xs) is made)
+pub made_within : (many : ℕ) (es later earlier : List TrailEntry) (e : TrailEntry) (xs : List (Option ℕ)) → IsMade None many (cells_written es) xs → es ≡ later ++ e ∷ earlier → e.cell < length xs
+made_within many es later earlier e xs made is = made_at many later earlier e xs (subst (λ (fs : List TrailEntry). IsMade None many (cells_written fs) xs) is made)
 
 -- a cell without a value is not among those that have one
-pub room_at : (es : List TrailEntry) (xs : List (Option ℕ)) (k : ℕ) → IsMade None (length xs) (written es) xs → k < length xs → IfNone (get_or xs k None) (length es < length xs)
+pub room_at : (es : List TrailEntry) (xs : List (Option ℕ)) (k : ℕ) → IsMade None (length xs) (cells_written es) xs → k < length xs → IfNone (get_or xs k None) (length es < length xs)
 room_at es xs k made within = by (get_or xs k None) refl
   where
     by : (o : Option ℕ) → get_or xs k None ≡ o → IfNone o (length es < length xs)
-    by None e = let left = room_left None blank_value (length xs) (written es) xs k refl (no_blank_values es) made within e in omega (arith, left, many_written es)
+    by None e = let left = room_left None blank_value (length xs) (cells_written es) xs k refl (no_blank_values es) made within e in omega (arith, left, many_written es)
     by (Some v) e = tt
 
 -- no more cells have values than there are
-pub few_made : (es : List TrailEntry) (xs : List (Option ℕ)) → IsMade None (length xs) (written es) xs → length es ≤ length xs
-few_made es xs made = let all = blanks None blank_value (length xs) (written es) xs refl (no_blank_values es) made in omega (arith, all, many_written es)
+pub few_made : (es : List TrailEntry) (xs : List (Option ℕ)) → IsMade None (length xs) (cells_written es) xs → length es ≤ length xs
+few_made es xs made = let all = blanks None blank_value (length xs) (cells_written es) xs refl (no_blank_values es) made in omega (arith, all, many_written es)

@@ -28,11 +28,13 @@ abbrev pub decisions : List Choice → List Decision
 decisions [] = []
 decisions (c ∷ cs) = record { cell = c.cell; value = c.value } ∷ decisions cs
 
--- At some choice that stands it agrees with the decisions before that choice, and has in the chosen cell a value that is yet
--- to be tried.
+-- At some choice that stands it agrees with the decisions before that choice, and has in the chosen
+-- cell a value that is yet to be tried.
 abbrev pub IsAhead : Meaning → List Choice → Type 0
 IsAhead m [] = ⊥
-IsAhead m (c ∷ cs) = (AgreesWith m (decisions cs) × (c.value < value_at m c.cell) × (value_at m c.cell ≤ c.most)) ⊎ IsAhead m cs
+IsAhead m (c ∷ cs) =
+    (AgreesWith m (decisions cs) × (c.value < value_at m c.cell) × (value_at m c.cell ≤ c.most))
+    ⊎ IsAhead m cs
 
 -- it is ahead, or the decisions are still being followed and it agrees with all of them
 abbrev pub IsOpen : Bool → List Choice → Meaning → Type 0

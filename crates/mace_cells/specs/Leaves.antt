@@ -16,18 +16,22 @@ choices_of w fs = map (choice_of w) fs
 abbrev pub decisions_of : World → List Frame → List Decision
 decisions_of w fs = decisions (choices_of w fs)
 
--- each solution that was open is isomorphic to one that still is, and what is open now was open before
-pub record LeavesOpen (w : World) (live : Bool) (cs : List Choice) (live' : Bool) (cs' : List Choice) : Type 0 where
+-- each solution that was open is isomorphic to one that still is, and what is open now was open
+-- before
+pub record LeavesOpen (w : World) (live : Bool) (cs : List Choice) (live' : Bool)
+    (cs' : List Choice) : Type 0 where
   pub covers : CoversIsomorphic w.size w.clauses w.fixed (IsOpen live cs) (IsOpen live' cs')
   pub behind : (m : Meaning) → IsOpen live' cs' m → IsOpen live cs m
 
--- A solution was open, and is ahead no more; each that was open is isomorphic to one that is like it or is ahead now; what is ahead
--- now was open before.
-pub record FindsModel (w : World) (live : Bool) (cs : List Choice) (t : Meaning) (cs' : List Choice) : Type 0 where
+-- A solution was open, and is ahead no more; each that was open is isomorphic to one that is like
+-- it or is ahead now; what is ahead now was open before.
+pub record FindsModel (w : World) (live : Bool) (cs : List Choice) (t : Meaning) (cs' : List Choice)
+    : Type 0 where
   pub solves : Solves w t
   pub open_before : IsOpen live cs t
   pub no_more : IsAhead t cs' → ⊥
-  pub covers : CoversIsomorphic w.size w.clauses w.fixed (IsOpen live cs) (λ u. AreAlike w u t ⊎ IsAhead u cs')
+  pub covers : CoversIsomorphic w.size w.clauses w.fixed (IsOpen live cs)
+      (λ u. AreAlike w u t ⊎ IsAhead u cs')
   pub behind : (m : Meaning) → IsAhead m cs' → IsOpen live cs m
 
 -- no solution was open

@@ -9,8 +9,8 @@ use Rattle.mace_search.specs.Watch.{IsEarly, IsLate}
 use Rattle.mace_search.specs.declared.answer.Answer.{Answer}
 use Rattle.mace_search.specs.declared.answer.Answer.TheVariants.{Model, Exhausted, MaxSeconds}
 
--- From where it stood it came to decisions that settle all values, as this interpretation has them, or to an end, or the time
--- was over while it followed its decisions.
+-- From where it stood it came to decisions that settle all values, as this interpretation has them,
+-- or to an end, or the time was over while it followed its decisions.
 abbrev pub HasFound : World → Bool → List Choice → Meaning → Answer → List Choice → Type 0
 HasFound w live cs m Model cs' = LeavesOpen w live cs true cs' × IsSettled w (decisions cs') m
 HasFound w live cs m Exhausted cs' = LeavesOpen w live cs false [] × (cs' ≡ [])

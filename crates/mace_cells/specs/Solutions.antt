@@ -9,8 +9,8 @@ pub record IsSolution (n : ℕ) (clauses : List ClauseTree) (m : Meaning) : Type
   pub lawful : IsLawful m
   pub holds : AreTrueClauses m clauses
 
--- The second interpretation is the first with each element x called r x, which `back` takes back; elements below k keep their
--- names.
+-- The second interpretation is the first with each element x called r x, which `back` takes back;
+-- elements below k keep their names.
 pub record IsCarried (k : ℕ) (r back : ℕ → ℕ) (m m' : Meaning) : Type 0 where
   pub fixes : (x : ℕ) → x < k → r x ≡ x
   pub there : (x : ℕ) → r (back x) ≡ x
@@ -24,5 +24,8 @@ abbrev pub AreIsomorphic : ℕ → Meaning → Meaning → Type 0
 AreIsomorphic k m m' = (r : ℕ → ℕ) × ((back : ℕ → ℕ) × IsCarried k r back m m')
 
 -- each solution that is P is isomorphic to a solution that is Q
-abbrev pub CoversIsomorphic : ℕ → List ClauseTree → ℕ → (Meaning → Type 0) → (Meaning → Type 0) → Type 0
-CoversIsomorphic n clauses k P Q = (m : Meaning) → IsSolution n clauses m → P m → (m' : Meaning) × (IsSolution n clauses m' × Q m' × AreIsomorphic k m m')
+abbrev pub CoversIsomorphic : ℕ → List ClauseTree → ℕ → (Meaning → Type 0) → (Meaning → Type 0) →
+    Type 0
+CoversIsomorphic n clauses k P Q =
+    (m : Meaning) → IsSolution n clauses m → P m → (m' : Meaning)
+    × (IsSolution n clauses m' × Q m' × AreIsomorphic k m m')

@@ -11,7 +11,9 @@ abbrev pub stacked : {X : Type 0} → ℕ → List X → Stacked X
 stacked room list = record { room = room; list = list }
 
 abbrev pub coded_stacked : {X : Type 0} → Coded X → Coded (Stacked X)
-coded_stacked {X = X} code = code_by (ℕ × List X) (coded× coded_ℕ (coded_list code)) (λ s. (s.room, s.list)) (λ p. record { room = p.0; list = p.1 }) (λ _. refl)
+coded_stacked {X = X} code =
+    code_by (ℕ × List X) (coded× coded_ℕ (coded_list code)) (λ s. (s.room, s.list))
+    (λ p. record { room = p.0; list = p.1 }) (λ _. refl)
 
 -- all but the latest
 abbrev pub rest_of : {X : Type 0} → List X → List X

@@ -18,8 +18,8 @@ pub record IsStanding (w : World) (ds : List Decision) (frames : Stacked Frame) 
   pub room : many_cells w ≤ frames.room
   pub within : AreFrames w frames.list
 
--- How far a search among so many cells has come: it tries the values of the first cell in rising order, for each of them those
--- of the second, and so on.
+-- How far a search among so many cells has come: it tries the values of the first cell in rising
+-- order, for each of them those of the second, and so on.
 abbrev pub place : ℕ → List Frame → ℕ
 place many [] = 0
 place many (f ∷ fs) = place many fs + (f.value + 1) * 257 ^ (many - suc (length fs))

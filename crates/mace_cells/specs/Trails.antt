@@ -3,8 +3,8 @@ use Rattle.std.specs.Prelude.{ℕ, ◌-◌, ◌==◌, Bool, true, if◌then◌el
 use Rattle.std.specs.List.{list_any}
 use Rattle.mace_cells.specs.declared.trail.TrailEntry.{TrailEntry}
 
--- how many cells there are, one more than the greatest value, the values that cells have, and the values that were crossed off,
--- each as the number cell * stride + value; the latest first
+-- how many cells there are, one more than the greatest value, the values that cells have, and the
+-- values that were crossed off, each as the number cell * stride + value; the latest first
 pub record Partial : Type 0 where
   pub many : ℕ
   pub stride : ℕ
@@ -12,7 +12,8 @@ pub record Partial : Type 0 where
   pub crossings : List ℕ
 
 abbrev pub partial : ℕ → ℕ → List TrailEntry → List ℕ → Partial
-partial many stride entries crossings = record { many = many; stride = stride; entries = entries; crossings = crossings }
+partial many stride entries crossings =
+    record { many = many; stride = stride; entries = entries; crossings = crossings }
 
 -- the value that a cell has
 abbrev pub value_in : List TrailEntry → ℕ → Option ℕ
@@ -43,11 +44,12 @@ cut_to (Some mark) ks = earliest mark ks
 
 -- the table before the latest decision
 abbrev pub undone : Partial → Partial
-undone p = partial p.many p.stride (before_decision p.entries) (cut_to (latest_mark p.entries) p.crossings)
+undone p =
+    partial p.many p.stride (before_decision p.entries) (cut_to (latest_mark p.entries) p.crossings)
 
 -- what the steps wrote into an array by cell, and into one by cell and value
-abbrev pub written : List TrailEntry → List (ℕ × Option ℕ)
-written es = map (λ e. (e.cell, Some e.value)) es
+abbrev pub cells_written : List TrailEntry → List (ℕ × Option ℕ)
+cells_written es = map (λ e. (e.cell, Some e.value)) es
 
 abbrev pub struck : List ℕ → List (ℕ × Bool)
 struck ks = map (λ k. (k, true)) ks

@@ -6,7 +6,8 @@ use Rattle.mace_cells.specs.Choices.{Decision, AgreesWith}
 use Rattle.mace_cells.specs.Solutions.{IsSolution, CoversIsomorphic}
 use Rattle.mace_ground.specs.Cells.{Block, Cell, cell_at, cells_in, value_at}
 
--- how many elements there are, below which of them an isomorphism moves none, the clauses, and the cells
+-- how many elements there are, below which of them an isomorphism moves none, the clauses, and the
+-- cells
 pub record World : Type 0 where
   pub size : ℕ
   pub fixed : ℕ
@@ -26,10 +27,11 @@ many_cells w = cells_in w.size w.blocks
 abbrev pub AreAlike : World → Meaning → Meaning → Type 0
 AreAlike w m u = (k : ℕ) → k < many_cells w → value_at m (cell_of w k) ≡ value_at u (cell_of w k)
 
--- Where a search stands, its choices followed as far as they lead: this solution agrees with the decisions, and each that does
--- has the same values.
+-- Where a search stands, its choices followed as far as they lead: this solution agrees with the
+-- decisions, and each that does has the same values.
 abbrev pub IsSettled : World → List Decision → Meaning → Type 0
-IsSettled w ds m = Solves w m × AgreesWith m ds × ((u : Meaning) → Solves w u → AgreesWith u ds → AreAlike w u m)
+IsSettled w ds m =
+    Solves w m × AgreesWith m ds × ((u : Meaning) → Solves w u → AgreesWith u ds → AreAlike w u m)
 
 -- or none agrees with them
 abbrev pub IsRefuted : World → List Decision → Type 0
@@ -37,11 +39,15 @@ IsRefuted w ds = (m : Meaning) → Solves w m → AgreesWith m ds → ⊥
 
 -- none that agrees with them has in a cell a value from v on and below u
 abbrev pub AreRefuted : World → List Decision → Cell → ℕ → ℕ → Type 0
-AreRefuted w ds c v u = (m : Meaning) → Solves w m → AgreesWith m ds → v ≤ value_at m c → value_at m c < u → ⊥
+AreRefuted w ds c v u =
+    (m : Meaning) → Solves w m → AgreesWith m ds → v ≤ value_at m c → value_at m c < u → ⊥
 
--- each that agrees with them is isomorphic to one that does so too and has at most this value in the cell
+-- each that agrees with them is isomorphic to one that does so too and has at most this value in
+-- the cell
 abbrev pub IsBound : World → List Decision → Cell → ℕ → Type 0
-IsBound w ds c most = CoversIsomorphic w.size w.clauses w.fixed (λ m. AgreesWith m ds) (λ m. AgreesWith m ds × (value_at m c ≤ most))
+IsBound w ds c most =
+    CoversIsomorphic w.size w.clauses w.fixed (λ m. AgreesWith m ds)
+    (λ m. AgreesWith m ds × (value_at m c ≤ most))
 
 -- the least value from v on, up to the greatest, that isn't known to be refuted
 abbrev pub IsNextValue : World → List Decision → Cell → ℕ → ℕ → Option ℕ → Type 0

@@ -2,7 +2,7 @@
 ghost use Rattle.std.specs.Prelude.{◌≡◌, ◌+◌, ◌*◌, ◌<◌, ◌≤◌, false, [], ◌∷◌, None, IfOk, IfNone, length};
 ghost use Rattle.mace_cells.specs.Made.{IsMade};
 ghost use Rattle.mace_cells.specs.Stacked.{stacked};
-ghost use Rattle.mace_cells.specs.Trails.{partial, value_in, is_struck_off, undone, written, struck, before_decision, latest_mark, earliest};
+ghost use Rattle.mace_cells.specs.Trails.{partial, value_in, is_struck_off, undone, cells_written, struck, before_decision, latest_mark, earliest};
 
 use crate::stack::Stack;
 use std::alloc::{AllocError, Global};
@@ -32,7 +32,7 @@ pub struct Trail {
 impl Model for Trail {
     ghost use Rattle.std.specs.Prelude.{◌≡◌, ◌*◌, length, None, false};
     ghost use Rattle.mace_cells.specs.Made.{IsMade};
-    ghost use Rattle.mace_cells.specs.Trails.{Partial, partial, written, struck};
+    ghost use Rattle.mace_cells.specs.Trails.{Partial, partial, cells_written, struck};
 
     ghost Value = { Partial };
 
@@ -42,7 +42,7 @@ impl Model for Trail {
       flags : length a.crossed.items ≡ length a.values.items * a.stride;
       room : a.entries.room ≡ length a.values.items;
       more : a.crossings.room ≡ length a.values.items * a.stride;
-      values : IsMade None (length a.values.items) (written a.entries.list) a.values.items;
+      values : IsMade None (length a.values.items) (cells_written a.entries.list) a.values.items;
       crossed : IsMade false (length a.values.items * a.stride) (struck a.crossings.list) a.crossed.items;
     } };
 }
@@ -182,9 +182,9 @@ fn place(cell: u32, value: u8, stride: usize, length: usize) -> usize
 
 // Takes values back as far as the latest decision, and tells how many had been crossed off before it.
 fn take_back(values: &mut Vec<Option<u8>>, entries: &mut Stack<TrailEntry>) -> Option<usize>
-    requires { IsMade None (length values.old.items) (written entries.old.list) values.old.items }
+    requires { IsMade None (length values.old.items) (cells_written entries.old.list) values.old.items }
     ensures made { IsMade None (length values.new.items)
-        (written entries.new.list) values.new.items }
+        (cells_written entries.new.list) values.new.items }
     ensures length { length values.new.items ≡ length values.old.items }
     ensures entries { entries.new ≡ stacked entries.old.room (before_decision entries.old.list) }
     ensures mark { result ≡ latest_mark entries.old.list }

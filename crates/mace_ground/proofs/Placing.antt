@@ -5,7 +5,7 @@ use Rattle.std.specs.Option.{option_map}
 use Rattle.fol_core.specs.SymbolTable.{Symbol, arity_at, kind_at}
 use Rattle.mace_ground.specs.Cells.{blocks_of, cells_in, found, found_from}
 use Rattle.mace_ground.specs.Cells as cells
-use Rattle.mace_ground.specs.Spans.{Placed, placed, block_of, span_of, noted, ArePlaced}
+use Rattle.mace_ground.specs.Spans.{Placed, placed, block_of, span_of, span_noted, ArePlaced}
 use Rattle.mace_ground.specs.declared.blocks.Block.{Block}
 use Rattle.mace_ground.specs.declared.blocks.Span.{Span}
 
@@ -28,7 +28,7 @@ found_last n k (a ∷ bs) b s =
     both true h = refl
     both false h = h
 
-noted_found : (span : Span) (s : ℕ) (o : Option Span) → option_map span_of (noted span s o) ≡ found_or span.first (block_of span.block) s (option_map span_of o)
+noted_found : (span : Span) (s : ℕ) (o : Option Span) → option_map span_of (span_noted span s o) ≡ found_or span.first (block_of span.block) s (option_map span_of o)
 noted_found span s (Some o) = refl
 noted_found span s None = cases (s == span.block.symbol.0)
   where
@@ -37,7 +37,7 @@ noted_found span s None = cases (s == span.block.symbol.0)
     cases false = refl
 
 pub placed_more : (n : ℕ) (bs : List cells.Block) (span : Span) (spans spans' : List (Option Span)) → span.first ≡ cells_in n bs → ArePlaced n bs spans
-    → ((s : ℕ) → get_or spans' s None ≡ noted span s (get_or spans s None)) → ArePlaced n (bs ++ block_of span.block ∷ []) spans'
+    → ((s : ℕ) → get_or spans' s None ≡ span_noted span s (get_or spans s None)) → ArePlaced n (bs ++ block_of span.block ∷ []) spans'
 placed_more n bs span spans spans' first old new = λ s.
     ap (λ (o : Option Span). option_map span_of o) (new s) ∙ noted_found span s (get_or spans s None)
     ∙ ap (λ (q : Option (ℕ × cells.Block)). found_or span.first (block_of span.block) s q) (old s)

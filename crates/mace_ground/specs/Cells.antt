@@ -30,7 +30,8 @@ pub record Block : Type 0 where
 
 -- those of some symbols of a table
 abbrev pub blocks_of : List Symbol → List ℕ → List Block
-blocks_of table symbols = map (λ s. record { kind = kind_at table s; symbol = s; arity = arity_at table s }) symbols
+blocks_of table symbols =
+    map (λ s. record { kind = kind_at table s; symbol = s; arity = arity_at table s }) symbols
 
 -- how many cells there are, where there are n elements
 abbrev pub cells_in : ℕ → List Block → ℕ
@@ -45,12 +46,15 @@ digits n (suc a) k = k / n ^ a ∷ digits n a (k % n ^ a)
 -- the k-th cell: by symbol, and then by arguments
 abbrev pub cell_at : ℕ → List Block → ℕ → Cell
 cell_at n [] k = cell Function 0 []
-cell_at n (b ∷ bs) k = if nat_lt k (n ^ b.arity) then cell b.kind b.symbol (digits n b.arity k) else cell_at n bs (k - n ^ b.arity)
+cell_at n (b ∷ bs) k =
+    if nat_lt k (n ^ b.arity) then cell b.kind b.symbol (digits n b.arity k)
+    else cell_at n bs (k - n ^ b.arity)
 
 -- where the cells of a symbol begin, the first block of all beginning at k, and its block
 abbrev pub found_from : ℕ → ℕ → List Block → ℕ → Option (ℕ × Block)
 found_from n k [] s = None
-found_from n k (b ∷ bs) s = if s == b.symbol then Some (k, b) else found_from n (k + n ^ b.arity) bs s
+found_from n k (b ∷ bs) s =
+    if s == b.symbol then Some (k, b) else found_from n (k + n ^ b.arity) bs s
 
 abbrev pub found : ℕ → List Block → ℕ → Option (ℕ × Block)
 found n bs s = found_from n 0 bs s

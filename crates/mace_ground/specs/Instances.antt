@@ -28,9 +28,9 @@ abbrev pub assigned_by : List ℕ → Assignment
 assigned_by xs = λ x. slice_index xs x
 
 -- how many ground literals the clauses have where there are n elements: those of each instance
-abbrev pub literals_in : ℕ → List ClauseTree → ℕ
-literals_in n [] = 0
-literals_in n (c ∷ cs) = length c * n ^ variables_in c + literals_in n cs
+abbrev pub ground_literals : ℕ → List ClauseTree → ℕ
+ground_literals n [] = 0
+ground_literals n (c ∷ cs) = length c * n ^ variables_in c + ground_literals n cs
 
 -- the clauses where there are n elements, with the cells of their symbols
 pub record Instances : Type 0 where
@@ -44,5 +44,7 @@ IsInstance n c xs = (length xs ≡ variables_in c) × AllBelow n xs
 
 -- where the elements are those below n, a clause is true exactly where its ground instances are
 abbrev pub InstancesSuffice : Type 0
-InstancesSuffice = (n : ℕ) (m : Meaning) (c : ClauseTree) → 0 < n → ((x : ℕ) → m.within x ≡ nat_lt x n)
-    → IsTrueClause m c ↔ ((xs : List ℕ) → IsInstance n c xs → IsTrue (is_true_clause m (assigned_by xs) c))
+InstancesSuffice =
+    (n : ℕ) (m : Meaning) (c : ClauseTree) → 0 < n → ((x : ℕ) → m.within x ≡ nat_lt x n)
+    → IsTrueClause m c
+    ↔ ((xs : List ℕ) → IsInstance n c xs → IsTrue (is_true_clause m (assigned_by xs) c))

@@ -23,9 +23,10 @@ span_of s = (s.first, block_of s.block)
 
 -- each symbol's span says where its block is found
 abbrev pub ArePlaced : ℕ → List cells.Block → List (Option Span) → Type 0
-ArePlaced n blocks spans = (s : ℕ) → option_map span_of (slice_index_or spans s None) ≡ found n blocks s
+ArePlaced n blocks spans =
+    (s : ℕ) → option_map span_of (slice_index_or spans s None) ≡ found n blocks s
 
 -- what a symbol's slot holds once a span is noted: a span that was there stays
-abbrev pub noted : Span → ℕ → Option Span → Option Span
-noted span s None = if s == span.block.symbol.0 then Some span else None
-noted span s (Some old) = Some old
+abbrev pub span_noted : Span → ℕ → Option Span → Option Span
+span_noted span s None = if s == span.block.symbol.0 then Some span else None
+span_noted span s (Some old) = Some old

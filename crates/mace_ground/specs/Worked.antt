@@ -19,4 +19,6 @@ blocks = constant ∷ less ∷ next ∷ []
 
 -- less(x, y) or not less(y, x)
 abbrev pub clause : ClauseTree
-clause = literal true (app 2 (more (var 0) (more (var 1) none))) ∷ literal false (app 2 (more (var 1) (more (var 0) none))) ∷ []
+clause =
+    literal true (app 2 (more (var 0) (more (var 1) none)))
+    ∷ literal false (app 2 (more (var 1) (more (var 0) none))) ∷ []

@@ -3,7 +3,7 @@ ghost use Rattle.std.specs.Prelude.{◌≡◌, ℕ, ◌+◌, ◌^◌, ◌<◌, [
 ghost use Rattle.std.specs.List.{slice_index_or};
 ghost use Rattle.std.specs.Option.{option_map};
 ghost use Rattle.mace_ground.specs.Cells.{cells_in, found};
-ghost use Rattle.mace_ground.specs.Spans.{placed, block_of, span_of, noted};
+ghost use Rattle.mace_ground.specs.Spans.{placed, block_of, span_of, span_noted};
 
 use crate::counting::power;
 use fol_core::{Kind, Sym};
@@ -122,7 +122,7 @@ fn make_room(spans: &mut Vec<Option<Span>>, symbol: Sym) -> Result<(), AllocErro
 fn place(spans: &mut Vec<Option<Span>>, span: Span)
     requires { span.block.symbol.0 < length spans.old.items }
     ensures { (s : ℕ) → slice_index_or spans.new.items s None
-        ≡ noted span s (slice_index_or spans.old.items s None) }
+        ≡ span_noted span s (slice_index_or spans.old.items s None) }
 {
     let at = span.block.symbol.0 as usize;
     if spans[at].is_none() {

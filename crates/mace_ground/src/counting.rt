@@ -3,8 +3,8 @@ ghost use Rattle.std.specs.Prelude.{◌≡◌, ◌^◌, ◌-◌, ◌<◌, min, l
 ghost use Rattle.std.specs.List.{AllByRecursion};
 ghost use Rattle.fol_core.specs.SymbolTable.{arity_at};
 ghost use Rattle.mace_ground.specs.Cells.{blocks_of, cells_in};
-ghost use Rattle.mace_ground.specs.Count.{blocks_in, symbols_of, clauses_in, ground_count};
-ghost use Rattle.mace_ground.specs.Instances.{literals_in};
+ghost use Rattle.mace_ground.specs.Count.{blocks_in, cell_symbols, clause_trees, ground_count};
+ghost use Rattle.mace_ground.specs.Instances.{ground_literals};
 
 use crate::variables::variables_in;
 use fol_core::{Clause, Clauses, Entry, Sym, Symbols};
@@ -47,7 +47,7 @@ fn skolem_cells(skolem: &[Entry], symbols: &Symbols, size: u32) -> u128
 
 // The ground literals.
 fn literals(clauses: &[(u64, Clause)], size: u32) -> u128
-    ensures { result ≡ min (literals_in size (map (λ row. row.1) clauses.now)) (2 ^ 128 - 1) }
+    ensures { result ≡ min (ground_literals size (map (λ row. row.1) clauses.now)) (2 ^ 128 - 1) }
 {
     let mut all: u128 = 0;
     for (_, clause) in clauses {

@@ -2,7 +2,7 @@
 ghost use Rattle.std.specs.Prelude.{◌≡◌, ◌+◌, ◌^◌, ◌<◌, ◌≤◌, ◌++◌, IfOk, OnOk, map};
 ghost use Rattle.fol_core.specs.SymbolTable.{arity_at, kind_at};
 ghost use Rattle.mace_ground.specs.Cells.{blocks_of, cells_in};
-ghost use Rattle.mace_ground.specs.Count.{blocks_in, clauses_in, ground_count};
+ghost use Rattle.mace_ground.specs.Count.{blocks_in, clause_trees, ground_count};
 ghost use Rattle.mace_ground.specs.Spans.{placed, block_of};
 ghost use Rattle.model_tables.specs.declared.limits.TheConstants.{MOST_CELLS};
 
@@ -45,7 +45,7 @@ impl<'a> Ground<'a> {
           size = size;
           blocks = blocks_in symbols.now
               clauses.now;
-          clauses = clauses_in clauses.now;
+          clauses = clause_trees clauses.now;
         }) }
     {
         let mut blocks = Blocks::new(alloc, size);

@@ -3,7 +3,7 @@ ghost use Rattle.std.specs.Prelude.{◌≡◌, [], ◌∷◌, None, Some};
 ghost use Rattle.fol_core.specs.declared.symbols.Kind.TheVariants.{Function, Relation};
 ghost use Rattle.mace_ground.specs.Cells.{cell, cell_at, cells_in, found};
 ghost use Rattle.mace_ground.specs.GroundLaws.{CellsByNumber};
-ghost use Rattle.mace_ground.specs.Instances.{InstancesSuffice, IsInstance, literals_in};
+ghost use Rattle.mace_ground.specs.Instances.{InstancesSuffice, IsInstance, ground_literals};
 ghost use Rattle.mace_ground.specs.Worked.{blocks, clause, less, next};
 
 /// A clause is true exactly where its ground instances are.
@@ -26,7 +26,7 @@ pub fn worked()
     ensures last { cell_at 3 blocks 12 ≡ cell Function 7 (2 ∷ []) }
     ensures found { (found 3 blocks 2 ≡ Some (1, less)) × (found 3 blocks 7 ≡ Some (10, next))
         × (found 3 blocks 6 ≡ None) }
-    ensures literals { literals_in 3 (clause ∷ clause ∷ []) ≡ 36 }
+    ensures literals { ground_literals 3 (clause ∷ clause ∷ []) ≡ 36 }
     ensures instance { IsInstance 3 clause (2 ∷ 0 ∷ []) × ¬ IsInstance 3 clause (2 ∷ 3 ∷ [])
         × ¬ IsInstance 3 clause (2 ∷ []) }
 {}

@@ -10,7 +10,7 @@ use Rattle.mace_search.specs.Models.{IsModel, AreFirst, AreAll}
 use Rattle.mace_search.specs.Worked.{spared, tables}
 use Rattle.model_tables.specs.Order.{table_number, table_count}
 use Rattle.model_tables.specs.Size.{AllBelow, IsInterpretation}
-use Rattle.model_tables.specs.Tables.{Finite, has, listed, listing, meaning_of}
+use Rattle.model_tables.specs.Tables.{Finite, has, listed_value, listing, meaning_of}
 use Rattle.model_tables.proofs.Orders.{number_in_count, shape_count}
 use Rattle.mace_search.proofs.Completing.{by_number}
 use Rattle.mace_search.proofs.Passing.{model_shape}
@@ -19,7 +19,7 @@ interpretation : (x y z : ℕ) → AllBelow 2 (x ∷ y ∷ z ∷ []) → IsInter
 interpretation x y z h = (refl, ((refl, refl, (h.0, tt)), ((refl, refl, h.1), tt)))
 
 -- where `p` holds of no element
-empty : (x n : ℕ) → IsTrue (nat_le n 1) → ¬ IsTrue (listed (tables x 0 0) 1 (n ∷ []) == 1)
+empty : (x n : ℕ) → IsTrue (nat_le n 1) → ¬ IsTrue (listed_value (tables x 0 0) 1 (n ∷ []) == 1)
 empty x zero w = false≢true
 empty x (suc zero) w = false≢true
 empty x (suc (suc n)) w = absurd (grind (arith, nat_tests, w))
@@ -84,7 +84,7 @@ single_interpretation : (y : ℕ) → y < 2 → IsInterpretation 1 spared (singl
 unfolding single
 single_interpretation y h = (refl, ((refl, refl, (omega arith, tt)), ((refl, refl, (h, tt)), tt)))
 
-nowhere : (n : ℕ) → IsTrue (nat_le n 0) → ¬ IsTrue (listed (single 0) 1 (n ∷ []) == 1)
+nowhere : (n : ℕ) → IsTrue (nat_le n 0) → ¬ IsTrue (listed_value (single 0) 1 (n ∷ []) == 1)
 unfolding single
 nowhere zero w = false≢true
 nowhere (suc n) w = absurd (grind (arith, nat_tests, w))

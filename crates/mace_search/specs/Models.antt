@@ -21,16 +21,17 @@ NoneBetween p n k j = (u : Finite) → IsModel p n u → k ≤ table_number u �
 abbrev pub IsNextModel : Stated → ℕ → ℕ → Finite → Type 0
 IsNextModel p n k t = IsModel p n t × (k ≤ table_number t) × NoneBetween p n k (table_number t)
 
--- these are models of size n in order, from number k on, and none is left out before the last of them
+-- these are models of size n in order, from number k on, and none is left out before the last of
+-- them
 abbrev pub AreFirst : Stated → ℕ → ℕ → List Finite → Type 0
 AreFirst p n k [] = Unit {0}
 AreFirst p n k (t ∷ ts) = IsNextModel p n k t × AreFirst p n (suc (table_number t)) ts
 
 -- the number behind the last of them
-abbrev pub behind : ℕ → List Finite → ℕ
-behind k [] = k
-behind k (t ∷ ts) = behind (suc (table_number t)) ts
+abbrev pub number_behind : ℕ → List Finite → ℕ
+number_behind k [] = k
+number_behind k (t ∷ ts) = number_behind (suc (table_number t)) ts
 
 -- these are all models of size n, in order
 abbrev pub AreAll : Stated → ℕ → List Finite → Type 0
-AreAll p n ts = AreFirst p n 0 ts × NoneFrom p n (behind 0 ts)
+AreAll p n ts = AreFirst p n 0 ts × NoneFrom p n (number_behind 0 ts)

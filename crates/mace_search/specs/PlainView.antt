@@ -32,9 +32,27 @@ state_after answers.Exhausted = Exhausted
 state_after (MaxSeconds last) = Late last
 
 abbrev pub search_of : Stated → Finite → State → Option ℕ → Search
-search_of p t state stop = record { problem = p; size = t.top + 1; tables = t; ahead = ahead_of state t; stop = stop; late = late_of state }
+search_of p t state stop =
+    record {
+      problem = p;
+      size = t.top + 1;
+      tables = t;
+      ahead = ahead_of state t;
+      stop = stop;
+      late = late_of state;
+    }
 
 abbrev pub coded_search : Coded Search
 coded_search =
-    code_by ((Stated × ℕ) × ((Finite × ℕ) × (Option ℕ × Option ℕ))) (coded× (coded× coded_stated coded_ℕ) (coded× (coded× coded_finite coded_ℕ) (coded× (coded_option coded_ℕ) (coded_option coded_ℕ))))
-    (λ s. ((s.problem, s.size), ((s.tables, s.ahead), (s.stop, s.late)))) (λ q. record { problem = q.0.0; size = q.0.1; tables = q.1.0.0; ahead = q.1.0.1; stop = q.1.1.0; late = q.1.1.1 }) (λ _. refl)
+    code_by ((Stated × ℕ) × ((Finite × ℕ) × (Option ℕ × Option ℕ)))
+    (coded× (coded× coded_stated coded_ℕ)
+    (coded× (coded× coded_finite coded_ℕ) (coded× (coded_option coded_ℕ) (coded_option coded_ℕ))))
+    (λ s. ((s.problem, s.size), ((s.tables, s.ahead), (s.stop, s.late))))
+    (λ q. record {
+      problem = q.0.0;
+      size = q.0.1;
+      tables = q.1.0.0;
+      ahead = q.1.0.1;
+      stop = q.1.1.0;
+      late = q.1.1.1;
+    }) (λ _. refl)

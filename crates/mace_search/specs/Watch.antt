@@ -11,7 +11,8 @@ IsEarly (Some stop) t = (0 < t.count) × (1 < t.count → (t.last < stop) × (t.
 -- There is a stop, and of the readings behind the first the last one alone reached it.
 abbrev pub IsLate : Option ℕ → Times → ℕ → Type 0
 IsLate None t last = ⊥
-IsLate (Some stop) t last = (1 < t.count) × (2 < t.count → t.between < stop) × (stop ≤ t.last) × (last ≡ t.last)
+IsLate (Some stop) t last =
+    (1 < t.count) × (2 < t.count → t.between < stop) × (stop ≤ t.last) × (last ≡ t.last)
 
 -- the clock gave no reading where there is no stop, and its first reading stands
 abbrev pub KeepsFirst : Option ℕ → Times → Times → Type 0

@@ -14,13 +14,16 @@ use Rattle.model_tables.specs.Tables.{Finite, listing}
 abbrev pub spared : Stated
 spared =
     stated (symbol (codes "a") 0 Function ∷ symbol (codes "p") 1 Relation ∷ [])
-    (said Assumption (exists 0 (atom 1 (more (var 0) none))) ∷ said Goal (atom 1 (more (app 0 none) none)) ∷ [])
+    (said Assumption (exists 0 (atom 1 (more (var 0) none)))
+    ∷ said Goal (atom 1 (more (app 0 none) none)) ∷ [])
 
 -- two elements: `a` is x, and `p` has these values at 0 and at 1
 abbrev pub tables : ℕ → ℕ → ℕ → Finite
-tables x y z = record { top = 1; rows = listing Function (x ∷ []) ∷ listing Relation (y ∷ z ∷ []) ∷ [] }
+tables x y z =
+    record { top = 1; rows = listing Function (x ∷ []) ∷ listing Relation (y ∷ z ∷ []) ∷ [] }
 
--- the search among two elements, with no stop, when the tables with number k are the first still to come
+-- the search among two elements, with no stop, when the tables with number k are the first still to
+-- come
 abbrev pub seeking : ℕ → Finite → Search
 seeking k t = record { problem = spared; size = 2; tables = t; ahead = k; stop = None; late = None }
 

@@ -14,7 +14,7 @@ use Rattle.model_tables.proofs.Expanding.{within_below}
 use Rattle.model_tables.proofs.Filling.{AreFilledTo, filled_none, filled_more, filled_all}
 use Rattle.model_tables.proofs.Numbers.{digits_at}
 use Rattle.model_tables.proofs.Setting.{bounds}
-use Rattle.model_tables.specs.Digits.{count}
+use Rattle.model_tables.specs.Digits.{digits_count}
 use Rattle.model_tables.specs.Expansion.{assigned, IsWitness, IsLeastWitness, AreLeastWitnesses, with_values, IsExpansion}
 use Rattle.model_tables.specs.Tables.{Finite, meaning_of}
 
@@ -107,7 +107,7 @@ least_witness t e w = elim (least_below (IsWitness t e w) (λ n. decided_truth t
   | inr h ↦ (h.0, inl (omega (arith, h.1.0), h.1.1, h.1.2))
 ]
 
-first_witnesses : (t : Finite) (w : SkolemAxiom) (k : ℕ) → k ≤ count (bounds t w.variables) → (values : List ℕ) × AreFilledTo t w k values
+first_witnesses : (t : Finite) (w : SkolemAxiom) (k : ℕ) → k ≤ digits_count (bounds t w.variables) → (values : List ℕ) × AreFilledTo t w k values
 first_witnesses t w zero h = ([], filled_none t w)
 first_witnesses t w (suc k) h =
     let before = first_witnesses t w k (omega arith) in
@@ -118,8 +118,8 @@ first_witnesses t w (suc k) h =
 
 least_witnesses : (t : Finite) (w : SkolemAxiom) → (values : List ℕ) × AreLeastWitnesses t w values
 least_witnesses t w =
-    let all = first_witnesses t w (count (bounds t w.variables)) (omega arith) in
-    (all.0, filled_all t w (count (bounds t w.variables)) all.0 all.1 refl)
+    let all = first_witnesses t w (digits_count (bounds t w.variables)) (omega arith) in
+    (all.0, filled_all t w (digits_count (bounds t w.variables)) all.0 all.1 refl)
 
 -- tables have an expansion
 pub some_expansion : (t : Finite) (ws : List SkolemAxiom) → (u : Finite) × IsExpansion t ws u

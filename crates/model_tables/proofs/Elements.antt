@@ -6,7 +6,7 @@ use Rattle.std.proofs.lemmas.Grind.{common_steps}
 use Rattle.std.proofs.lemmas.List.{length-set, length-map}
 use Rattle.fol_core.specs.Bound.{IsOnce}
 use Rattle.fol_core.specs.Free.{is_in}
-use Rattle.model_tables.specs.Digits.{AreDigits, count, number}
+use Rattle.model_tables.specs.Digits.{AreDigits, digits_count, digits_number}
 use Rattle.model_tables.specs.Variables.{assignment, HasRoom}
 use Rattle.model_tables.proofs.Slots.{at_each}
 use Rattle.model_tables.proofs.Numbers.{Carries, carries_none, digit, set_digit, carries_up, carries_over, carries_all}
@@ -87,8 +87,8 @@ module _ (size : ℕ) (xs : List ℕ) (before now : List (Option ℕ)) (at : ℕ
     pub set_there : (v : ℕ) → v < size → AreDigits (map (λ x. size) xs) (map (assignment (set now (get_or xs (at - 1) 0) (Some v))) xs)
     set_there v l = rw (after v) (set_digit (map (λ x. size) xs) (map (assignment now) xs) (at - 1) v s.carries.digits (rw bound_there l))
 
-    pub steps_up : number (map (λ x. size) xs) (map (assignment (set now (get_or xs (at - 1) 0) (Some (assignment now (get_or xs (at - 1) 0) + 1)))) xs)
-        ≡ number (map (λ x. size) xs) (map (assignment before) xs) + 1
+    pub steps_up : digits_number (map (λ x. size) xs) (map (assignment (set now (get_or xs (at - 1) 0) (Some (assignment now (get_or xs (at - 1) 0) + 1)))) xs)
+        ≡ digits_number (map (λ x. size) xs) (map (assignment before) xs) + 1
     steps_up = rw (after (assignment now (get_or xs (at - 1) 0) + 1), ← digit_there) (carries_up (map (λ x. size) xs) (map (assignment before) xs) (map (assignment now) xs) at s.carries more)
 
     pub steps_over : size ≤ assignment now (get_or xs (at - 1) 0) + 1 → Steps size xs before (set now (get_or xs (at - 1) 0) (Some 0)) (at - 1)
@@ -101,7 +101,7 @@ pub steps_none : (size : ℕ) (xs : List ℕ) (slots : List (Option ℕ)) → Ar
 steps_none size xs slots h = record { room = refl; carries = rw (← length-map xs (assignment slots)) (carries_none (map (λ x. size) xs) (map (assignment slots) xs) h) }
 
 pub steps_all : (size : ℕ) (xs : List ℕ) (before now : List (Option ℕ)) (at : ℕ) → Steps size xs before now at → at ≤ 0 → AreDigits (map (λ x. size) xs) (map (assignment before) xs)
-    → count (map (λ x. size) xs) ≡ number (map (λ x. size) xs) (map (assignment before) xs) + 1
+    → digits_count (map (λ x. size) xs) ≡ digits_number (map (λ x. size) xs) (map (assignment before) xs) + 1
 steps_all size xs before now at s l d = (carries_all (map (λ x. size) xs) (map (assignment before) xs) (map (assignment now) xs) at s.carries l d).0
 
 -- elements that are 0 one by one

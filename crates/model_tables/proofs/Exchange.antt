@@ -7,7 +7,7 @@ use Rattle.fol_core.specs.declared.symbols.Kind.{Kind}
 use Rattle.fol_core.specs.declared.symbols.Kind.TheVariants.{Function, Relation}
 use Rattle.model_tables.specs.Isomorphism.{IsIsomorphism, carried}
 use Rattle.model_tables.specs.Size.{AllBelow}
-use Rattle.model_tables.specs.Tables.{Finite, has, listed}
+use Rattle.model_tables.specs.Tables.{Finite, has, listed_value}
 use Rattle.model_tables.specs.Worked.{apart, tables, exchange}
 
 within : (x : ℕ) → x < 3 → exchange x < 3
@@ -23,14 +23,14 @@ twice (suc zero) h = refl
 twice (suc (suc zero)) h = refl
 twice (suc (suc (suc x))) h = absurd (omega arith)
 
-of_one : (x : ℕ) → x < 3 → listed (tables 1 0) 3 (exchange x ∷ []) ≡ listed (tables 0 1) 3 (x ∷ [])
+of_one : (x : ℕ) → x < 3 → listed_value (tables 1 0) 3 (exchange x ∷ []) ≡ listed_value (tables 0 1) 3 (x ∷ [])
 of_one zero h = refl
 of_one (suc zero) h = refl
 of_one (suc (suc zero)) h = refl
 of_one (suc (suc (suc x))) h = absurd (omega arith)
 
 carries : (s : ℕ) (xs : List ℕ) → IsTrue (has (tables 0 1) s) → length xs ≡ arity_at apart.symbols s → AllBelow 3 xs
-    → listed (tables 1 0) s (map exchange xs) ≡ carried (kind_at apart.symbols s) exchange (listed (tables 0 1) s xs)
+    → listed_value (tables 1 0) s (map exchange xs) ≡ carried (kind_at apart.symbols s) exchange (listed_value (tables 0 1) s xs)
 carries zero [] l e b = refl
 carries zero (x ∷ xs) l e b = absurd (omega arith)
 carries (suc zero) [] l e b = refl
@@ -61,5 +61,5 @@ pub in_place : (n : ℕ) (p : Stated) (t : Finite) → IsIsomorphism n p (λ x. 
 in_place n p t = record {
   permutes = (λ x l. l, λ x y lx ly e. e);
   fixes = λ k h. refl;
-  carries = λ s xs h e b. ap (listed t s) (list_itself xs) ∙ sym (carried_itself (kind_at p.symbols s) (listed t s xs));
+  carries = λ s xs h e b. ap (listed_value t s) (list_itself xs) ∙ sym (carried_itself (kind_at p.symbols s) (listed_value t s xs));
 }

@@ -12,7 +12,7 @@ use Rattle.fol_core.specs.Truth.{Assignment}
 use Rattle.fol_core.specs.SkolemAxioms.{SkolemAxiom, IsClosedBody, AreInOrder}
 use Rattle.fol_core.specs.declared.clause.Entry.{Entry}
 use Rattle.fol_core.specs.declared.symbols.Kind.TheVariants.{Function}
-use Rattle.model_tables.specs.Digits.{AreDigits, count, number}
+use Rattle.model_tables.specs.Digits.{AreDigits, digits_count, digits_number}
 use Rattle.model_tables.specs.Expansion.{assigned, IsLeastWitness, AreLeastWitnesses, with_row, with_values, IsExpansion}
 use Rattle.model_tables.specs.Size.{AllBelow}
 use Rattle.model_tables.specs.Tables.{Listing, Finite, listing, place_from}
@@ -68,29 +68,29 @@ length_more (y ∷ ys) x = omega (arith, length_more ys x)
 -- the first k values are least witnesses
 abbrev pub AreFilledTo : Finite → SkolemAxiom → ℕ → List ℕ → Type 0
 AreFilledTo t w k values = (length values ≡ k)
-    × ((ns : List ℕ) → AreDigits (bounds t w.variables) ns → number (bounds t w.variables) ns < k → IsLeastWitness t (assigned w.variables ns) w (get_or values (number (bounds t w.variables) ns) 0))
+    × ((ns : List ℕ) → AreDigits (bounds t w.variables) ns → digits_number (bounds t w.variables) ns < k → IsLeastWitness t (assigned w.variables ns) w (get_or values (digits_number (bounds t w.variables) ns) 0))
 
 pub filled_none : (t : Finite) (w : SkolemAxiom) → AreFilledTo t w 0 []
 filled_none t w = (refl, λ ns d l. absurd (omega arith))
 
 pub filled_more : (t : Finite) (w : SkolemAxiom) (k : ℕ) (values ms : List ℕ) (v : ℕ) → AreFilledTo t w k values → AreDigits (bounds t w.variables) ms
-    → number (bounds t w.variables) ms ≡ k → IsLeastWitness t (assigned w.variables ms) w v → AreFilledTo t w (k + 1) (values ++ v ∷ [])
+    → digits_number (bounds t w.variables) ms ≡ k → IsLeastWitness t (assigned w.variables ms) w v → AreFilledTo t w (k + 1) (values ++ v ∷ [])
 filled_more t w k values ms v h digits here least = (length_more values v ∙ ap (λ (n : ℕ). n + 1) h.0, each)
   where
     bs : List ℕ
     bs = bounds t w.variables
 
-    each : (ns : List ℕ) → AreDigits bs ns → number bs ns < k + 1 → IsLeastWitness t (assigned w.variables ns) w (get_or (values ++ v ∷ []) (number bs ns) 0)
-    each ns d l = elim (cases_lt (number bs ns) k) [
-      | inl before ↦ subst (IsLeastWitness t (assigned w.variables ns) w) (sym (get_or_before values v (number bs ns) (omega (arith, h.0)))) (h.1 ns d before)
+    each : (ns : List ℕ) → AreDigits bs ns → digits_number bs ns < k + 1 → IsLeastWitness t (assigned w.variables ns) w (get_or (values ++ v ∷ []) (digits_number bs ns) 0)
+    each ns d l = elim (cases_lt (digits_number bs ns) k) [
+      | inl before ↦ subst (IsLeastWitness t (assigned w.variables ns) w) (sym (get_or_before values v (digits_number bs ns) (omega (arith, h.0)))) (h.1 ns d before)
       | inr now ↦ (
           let same : ms ≡ ns = number_same bs ms ns digits d (omega (arith, here)) in
-          let last : number bs ns ≡ length values = omega (arith, h.0) in
-          subst (λ (ds : List ℕ). IsLeastWitness t (assigned w.variables ds) w (get_or (values ++ v ∷ []) (number bs ns) 0)) same
+          let last : digits_number bs ns ≡ length values = omega (arith, h.0) in
+          subst (λ (ds : List ℕ). IsLeastWitness t (assigned w.variables ds) w (get_or (values ++ v ∷ []) (digits_number bs ns) 0)) same
           (subst (IsLeastWitness t (assigned w.variables ms) w) (sym (ap (λ (n : ℕ). get_or (values ++ v ∷ []) n 0) last ∙ get_or_last values v)) least))
     ]
 
-count_power : (n : ℕ) (xs : List ℕ) → count (replicate (length xs) n) ≡ n ^ length xs
+count_power : (n : ℕ) (xs : List ℕ) → digits_count (replicate (length xs) n) ≡ n ^ length xs
 count_power n [] = sym (pow-zero n)
 count_power n (x ∷ xs) = ap (λ (k : ℕ). n * k) (count_power n xs) ∙ omega (arith, pow-suc n (length xs))
 
@@ -100,19 +100,19 @@ digits_of n [] (m ∷ ns) h below = absurd (omega arith)
 digits_of n (x ∷ xs) [] h below = absurd (omega arith)
 digits_of n (x ∷ xs) (m ∷ ns) h below = (below.0, digits_of n xs ns (omega arith) below.1)
 
-place_number : (n : ℕ) (xs ns : List ℕ) (p : ℕ) → length ns ≡ length xs → place_from n p ns ≡ p * count (replicate (length xs) n) + number (replicate (length xs) n) ns
+place_number : (n : ℕ) (xs ns : List ℕ) (p : ℕ) → length ns ≡ length xs → place_from n p ns ≡ p * digits_count (replicate (length xs) n) + digits_number (replicate (length xs) n) ns
 place_number n [] [] p h = omega arith
 place_number n [] (m ∷ ns) p h = absurd (omega arith)
 place_number n (x ∷ xs) [] p h = absurd (omega arith)
 place_number n (x ∷ xs) (m ∷ ns) p h = omega (arith, place_number n xs ns (p * n + m) (omega arith))
 
-pub filled_all : (t : Finite) (w : SkolemAxiom) (k : ℕ) (values : List ℕ) → AreFilledTo t w k values → count (bounds t w.variables) ≡ k → AreLeastWitnesses t w values
+pub filled_all : (t : Finite) (w : SkolemAxiom) (k : ℕ) (values : List ℕ) → AreFilledTo t w k values → digits_count (bounds t w.variables) ≡ k → AreLeastWitnesses t w values
 filled_all t w k values h all = (h.0 ∙ sym all ∙ count_power (t.top + 1) w.variables, each)
   where
     each : (ns : List ℕ) → length ns ≡ length w.variables → AllBelow (t.top + 1) ns → IsLeastWitness t (assigned w.variables ns) w (slice_index values (place_from (t.top + 1) 0 ns))
     each ns many below =
         let d = digits_of (t.top + 1) w.variables ns many below in
-        let place : place_from (t.top + 1) 0 ns ≡ number (bounds t w.variables) ns = omega (arith, place_number (t.top + 1) w.variables ns 0 many) in
+        let place : place_from (t.top + 1) 0 ns ≡ digits_number (bounds t w.variables) ns = omega (arith, place_number (t.top + 1) w.variables ns 0 many) in
         subst (λ (p : ℕ). IsLeastWitness t (assigned w.variables ns) w (get_or values p 0)) (sym place) (h.1 ns d (omega (arith, number_below (bounds t w.variables) ns d, all)))
 
 -- there is one list of least witnesses

@@ -12,7 +12,7 @@ use Rattle.model_tables.proofs.Expanding.{used_apart, same_top, kept_row}
 use Rattle.model_tables.specs.Expansion.{IsExpansion}
 use Rattle.model_tables.specs.Isomorphism.{IsIsomorphism}
 use Rattle.model_tables.specs.Size.{cells_for, AreListings, formulas_of, IsInterpretation}
-use Rattle.model_tables.specs.Tables.{Listing, Finite, has, listed, place_from}
+use Rattle.model_tables.specs.Tables.{Listing, Finite, has, listed_value, place_from}
 
 -- a symbol of some formula is apart from symbols that stand in none
 occurring_apart : (ws : List SkolemAxiom) (ss : List Said) → AreNewTo ss ws → (s : ℕ) → IsTrue (occurs_in s (map (λ x. x.formula) ss)) → IsApart s ws
@@ -50,9 +50,9 @@ expansion_isomorphic n p ws u t is new x = record {
   fixes = λ k h. refl;
   carries = λ s xs h e b.
       let apart = occurring_apart ws p.formulas new s (subst (λ (j : ℕ). IsTrue (occurs_in j (formulas_of p))) (none_plus s) (has_occurs n (formulas_of p) 0 p.symbols u.top u.rows s is.1 h)) in
-      kept_values s xs apart ∙ sym (carried_itself (kind_at p.symbols s) (listed u s xs));
+      kept_values s xs apart ∙ sym (carried_itself (kind_at p.symbols s) (listed_value u s xs));
 } where
-  kept_values : (s : ℕ) (xs : List ℕ) → IsApart s ws → listed t s (map (λ y. y) xs) ≡ listed u s xs
+  kept_values : (s : ℕ) (xs : List ℕ) → IsApart s ws → listed_value t s (map (λ y. y) xs) ≡ listed_value u s xs
   kept_values s xs apart =
       ap₂ (λ (row : List ℕ) (place : ℕ). slice_index row place) (kept_row ws u t x s apart)
       (ap₂ (λ (size : ℕ) (ys : List ℕ). place_from size 0 ys) (ap (λ (top : ℕ). top + 1) (same_top ws u t x)) (list_itself xs))

@@ -7,7 +7,6 @@ pub mod Kept
 pub mod Numbers
 pub mod Orders
 pub mod Places
-pub mod ReadsBack
 pub mod Refill
 pub mod Rows
 pub mod Setting

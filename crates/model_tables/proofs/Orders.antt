@@ -7,7 +7,7 @@ use Rattle.fol_core.specs.Stated.{Stated}
 use Rattle.fol_core.specs.SymbolTable.{Symbol}
 use Rattle.fol_core.specs.declared.symbols.Kind.{Kind}
 use Rattle.fol_core.specs.declared.symbols.Kind.TheVariants.{Function, Relation}
-use Rattle.model_tables.specs.Digits.{AreDigits, count, number}
+use Rattle.model_tables.specs.Digits.{AreDigits, digits_count, digits_number}
 use Rattle.model_tables.specs.Order.{bounds_of, cells_of, IsFilled, table_count, table_number, HaveSameCells, IsSameShape, zeros_for, first_tables, GoesOn, EachComesOnce}
 use Rattle.model_tables.specs.Size.{bound_of, cells_for, AllBelow, AreListings, formulas_of, IsInterpretation}
 use Rattle.model_tables.specs.Tables.{Listing, listing, Finite}
@@ -86,11 +86,11 @@ unfolding AreZeros
 zeros_cells n fs k [] = tt
 zeros_cells n fs k (s ∷ ss) = zeros_both (replicate (cells_for n s.arity (occurs_in k fs)) 0) (cells_of (zeros_for n fs (suc k) ss)) (zeros_alone (cells_for n s.arity (occurs_in k fs))) (zeros_cells n fs (suc k) ss)
 
-zeros_number : (bs xs : List ℕ) → AreZeros xs → number bs xs ≡ 0
+zeros_number : (bs xs : List ℕ) → AreZeros xs → digits_number bs xs ≡ 0
 unfolding AreZeros
 zeros_number [] xs h = refl
 zeros_number (b ∷ bs) [] h = refl
-zeros_number (b ∷ bs) (x ∷ xs) h = omega (arith, ap (λ (y : ℕ). y * count bs) h.0, zeros_number bs xs h.1)
+zeros_number (b ∷ bs) (x ∷ xs) h = omega (arith, ap (λ (y : ℕ). y * digits_count bs) h.0, zeros_number bs xs h.1)
 
 pub first_number : (n : ℕ) (p : Stated) → table_number (first_tables n p) ≡ 0
 first_number n p = zeros_number (bounds_of (n - 1 + 1) (zeros_for n (formulas_of p) 0 p.symbols)) (cells_of (zeros_for n (formulas_of p) 0 p.symbols)) (zeros_cells n (formulas_of p) 0 p.symbols)
@@ -122,7 +122,7 @@ pub shape_bounds : (t u : Finite) → IsSameShape t u → bounds_of (t.top + 1) 
 shape_bounds t u h = same_bounds (t.top + 1) t.rows u.rows h.1 ∙ ap (λ (m : ℕ). bounds_of (m + 1) u.rows) h.0
 
 pub shape_count : (t u : Finite) → IsSameShape t u → table_count t ≡ table_count u
-shape_count t u h = ap (λ (bs : List ℕ). count bs) (shape_bounds t u h)
+shape_count t u h = ap (λ (bs : List ℕ). digits_count bs) (shape_bounds t u h)
 
 pub number_in_count : (t : Finite) → IsFilled t → table_number t < table_count t
 number_in_count t h = number_below (bounds_of (t.top + 1) t.rows) (cells_of t.rows) h
@@ -150,7 +150,7 @@ pub number_decides : (t u : Finite) → IsSameShape t u → IsFilled t → IsFil
 number_decides t u same ft fu e =
     let bounds = shape_bounds t u same in
     let there : AreDigits (bounds_of (t.top + 1) t.rows) (cells_of u.rows) = rw bounds fu in
-    let numbers : number (bounds_of (t.top + 1) t.rows) (cells_of t.rows) ≡ number (bounds_of (t.top + 1) t.rows) (cells_of u.rows) = e ∙ ap (λ (bs : List ℕ). number bs (cells_of u.rows)) (sym bounds) in
+    let numbers : digits_number (bounds_of (t.top + 1) t.rows) (cells_of t.rows) ≡ digits_number (bounds_of (t.top + 1) t.rows) (cells_of u.rows) = e ∙ ap (λ (bs : List ℕ). digits_number bs (cells_of u.rows)) (sym bounds) in
     let cells = number_same (bounds_of (t.top + 1) t.rows) (cells_of t.rows) (cells_of u.rows) ft there numbers in
     let tables : ℕ → List Listing → Finite = λ top rows. record { top = top; rows = rows } in
     ap₂ tables same.0 (cells_same t.rows u.rows same.1 cells)

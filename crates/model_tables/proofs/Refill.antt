@@ -3,7 +3,7 @@ use Rattle.std.proofs.Common.{◌≡◌, ℕ, ◌+◌, ◌<◌, List, [], ◌∷
 use Rattle.std.proofs.lemmas.List.{take-append-drop, length-take, length-drop, length-append}
 use Rattle.model_tables.proofs.Numbers.{digits_at, digits_many}
 use Rattle.model_tables.proofs.Orders.{shape_bounds}
-use Rattle.model_tables.specs.Digits.{AreDigits, number}
+use Rattle.model_tables.specs.Digits.{AreDigits, digits_number}
 use Rattle.model_tables.specs.Order.{cells_of, bounds_of, table_count, table_number, HaveSameCells, IsSameShape, IsFilled}
 use Rattle.model_tables.specs.Tables.{Listing, Finite, listing}
 
@@ -41,6 +41,6 @@ tables_at t k filled less =
       (
         shape,
         subst (λ (bs : List ℕ). AreDigits bs (cells_of u.rows)) bounds (subst (λ (xs : List ℕ). AreDigits (bounds_of (t.top + 1) t.rows) xs) cells ds.1.0),
-        ap₂ (λ (bs xs : List ℕ). number bs xs) (sym bounds) (sym cells) ∙ ds.1.1,
+        ap₂ (λ (bs xs : List ℕ). digits_number bs xs) (sym bounds) (sym cells) ∙ ds.1.1,
       ),
     )

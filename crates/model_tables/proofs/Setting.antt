@@ -8,7 +8,7 @@ use Rattle.fol_core.specs.EntryView.{some_over}
 use Rattle.fol_core.specs.Fol.{Fol}
 use Rattle.fol_core.specs.Free.{is_in}
 use Rattle.fol_core.specs.Truth.{Assignment, with_var, Holds}
-use Rattle.model_tables.specs.Digits.{AreDigits, number}
+use Rattle.model_tables.specs.Digits.{AreDigits, digits_number}
 use Rattle.model_tables.specs.Expansion.{assigned}
 use Rattle.model_tables.specs.Tables.{Finite, meaning_of}
 use Rattle.model_tables.specs.Variables.{assignment, with_vars}
@@ -23,7 +23,7 @@ pub zeros : (n b : ℕ) → 0 < b → AreDigits (replicate n b) (replicate n 0)
 zeros zero b h = tt
 zeros (suc n) b h = (h, zeros n b h)
 
-pub number_zeros : (n b : ℕ) → number (replicate n b) (replicate n 0) ≡ 0
+pub number_zeros : (n b : ℕ) → digits_number (replicate n b) (replicate n 0) ≡ 0
 number_zeros zero b = refl
 number_zeros (suc n) b = omega (arith, number_zeros n b)
 

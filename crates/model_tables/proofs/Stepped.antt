@@ -7,7 +7,7 @@ use Rattle.fol_core.specs.Fol.{Fol}
 use Rattle.fol_core.specs.Free.{is_in, free_vars_of, closed_over, closure_of}
 use Rattle.fol_core.specs.Truth.{Assignment, IsWithin, Holds}
 use Rattle.fol_core.proofs.TruthLemmas.{free_decide, closure_general}
-use Rattle.model_tables.specs.Digits.{AreDigits, count, number}
+use Rattle.model_tables.specs.Digits.{AreDigits, digits_count, digits_number}
 use Rattle.model_tables.specs.Tables.{Finite, meaning_of, element}
 use Rattle.model_tables.specs.TablesLaws.{tables_lawful, element_within}
 use Rattle.model_tables.specs.Variables.{room_of, HasRoom}
@@ -34,7 +34,7 @@ pub zero_digits : (top : ℕ) (xs : List ℕ) → AreDigits (map (λ x. top + 1)
 zero_digits top [] = tt
 zero_digits top (x ∷ xs) = (omega arith, zero_digits top xs)
 
-pub zero_number : (top : ℕ) (xs : List ℕ) → number (map (λ x. top + 1) xs) (map (λ x. 0) xs) ≡ 0
+pub zero_number : (top : ℕ) (xs : List ℕ) → digits_number (map (λ x. top + 1) xs) (map (λ x. 0) xs) ≡ 0
 zero_number top [] = refl
 zero_number top (x ∷ xs) = omega (arith, zero_number top xs)
 
@@ -65,28 +65,28 @@ itself t x h = grind (arith, nat_tests)
 module _ (t : Finite) (f : Fol) (xs : List ℕ) where
   -- the formula is true at all elements that come before those of an assignment
   abbrev pub IsPassed : Assignment → Type 0
-  IsPassed a = (d : Assignment) → IsWithin (meaning_of t) d → number (map (λ x. t.top + 1) xs) (map d xs) < number (map (λ x. t.top + 1) xs) (map a xs) → Holds (meaning_of t) d f
+  IsPassed a = (d : Assignment) → IsWithin (meaning_of t) d → digits_number (map (λ x. t.top + 1) xs) (map d xs) < digits_number (map (λ x. t.top + 1) xs) (map a xs) → Holds (meaning_of t) d f
 
   module _ (is : xs ≡ free_vars_of f) (a : Assignment) (digits : AreDigits (map (λ x. t.top + 1) xs) (map a xs)) where
     alike : (d e : Assignment) → ((x : ℕ) → IsTrue (is_in x xs) → d x ≡ e x) → Holds (meaning_of t) d f → Holds (meaning_of t) e f
     alike d e h = (free_decide (meaning_of t) d e f (rw is at h)).0
 
-    up_to : IsPassed a → Holds (meaning_of t) a f → (d : Assignment) → IsWithin (meaning_of t) d → number (map (λ x. t.top + 1) xs) (map d xs) < number (map (λ x. t.top + 1) xs) (map a xs) + 1
+    up_to : IsPassed a → Holds (meaning_of t) a f → (d : Assignment) → IsWithin (meaning_of t) d → digits_number (map (λ x. t.top + 1) xs) (map d xs) < digits_number (map (λ x. t.top + 1) xs) (map a xs) + 1
         → Holds (meaning_of t) d f
     up_to passed now d within less =
         let bs = map (λ x. t.top + 1) xs in
-        elim (cases_lt (number bs (map d xs)) (number bs (map a xs))) [
+        elim (cases_lt (digits_number bs (map d xs)) (digits_number bs (map a xs))) [
           | inl before ↦ passed d within before
           | inr not ↦
               let same = number_same bs (map d xs) (map a xs) (digits_of t.top d xs within) digits (omega arith) in
               alike a d (λ x i. sym (agree d a xs same x i)) now
         ]
 
-    pub passed_more : (b : Assignment) → IsPassed a → Holds (meaning_of t) a f → number (map (λ x. t.top + 1) xs) (map b xs) ≡ number (map (λ x. t.top + 1) xs) (map a xs) + 1 → IsPassed b
+    pub passed_more : (b : Assignment) → IsPassed a → Holds (meaning_of t) a f → digits_number (map (λ x. t.top + 1) xs) (map b xs) ≡ digits_number (map (λ x. t.top + 1) xs) (map a xs) + 1 → IsPassed b
     passed_more b passed now next d within less = up_to passed now d within (omega arith)
 
     -- after the last elements it is true of all
-    pub passed_all : IsPassed a → Holds (meaning_of t) a f → count (map (λ x. t.top + 1) xs) ≡ number (map (λ x. t.top + 1) xs) (map a xs) + 1 → (e : Assignment) → Holds (meaning_of t) e (closure_of f)
+    pub passed_all : IsPassed a → Holds (meaning_of t) a f → digits_count (map (λ x. t.top + 1) xs) ≡ digits_number (map (λ x. t.top + 1) xs) (map a xs) + 1 → (e : Assignment) → Holds (meaning_of t) e (closure_of f)
     passed_all passed now last e = (closure_general (meaning_of t) (tables_lawful t) e f).1 (λ d within.
         up_to passed now d within (omega (arith, number_below (map (λ x. t.top + 1) xs) (map d xs) (digits_of t.top d xs within))))
 

@@ -21,13 +21,16 @@ IsWitness t e w n = Holds (meaning_of t) (with_var e w.variable n) w.body
 -- v is the least element that makes the body true, or 0 where none does
 abbrev pub IsLeastWitness : Finite → Assignment → SkolemAxiom → ℕ → Type 0
 IsLeastWitness t e w v =
-    ((v ≤ t.top) × IsWitness t e w v × ((n : ℕ) → n < v → ¬ IsWitness t e w n)) ⊎ ((v ≡ 0) × ((n : ℕ) → n ≤ t.top → ¬ IsWitness t e w n))
+    ((v ≤ t.top) × IsWitness t e w v × ((n : ℕ) → n < v → ¬ IsWitness t e w n))
+    ⊎ ((v ≡ 0) × ((n : ℕ) → n ≤ t.top → ¬ IsWitness t e w n))
 
 -- a value for each list of arguments, the last argument running fastest: the least witness for them
 abbrev pub AreLeastWitnesses : Finite → SkolemAxiom → List ℕ → Type 0
 AreLeastWitnesses t w values =
     (length values ≡ (t.top + 1) ^ length w.variables)
-    × ((ns : List ℕ) → length ns ≡ length w.variables → AllBelow (t.top + 1) ns → IsLeastWitness t (assigned w.variables ns) w (slice_index values (place_from (t.top + 1) 0 ns)))
+    × ((ns : List ℕ) → length ns ≡ length w.variables → AllBelow (t.top + 1) ns →
+    IsLeastWitness t (assigned w.variables ns) w
+    (slice_index values (place_from (t.top + 1) 0 ns)))
 
 -- the rows with this one for a symbol; a symbol before it that had none has no entry
 abbrev pub with_row : List Listing → ℕ → Listing → List Listing
@@ -45,25 +48,36 @@ abbrev pub skolem_cells : ℕ → List SkolemAxiom → ℕ
 skolem_cells n [] = 0
 skolem_cells n (w ∷ ws) = n ^ length w.variables + skolem_cells n ws
 
--- the second tables are the first ones with the least witnesses for each symbol, one symbol after the other
+-- the second tables are the first ones with the least witnesses for each symbol, one symbol after
+-- the other
 abbrev pub IsExpansion : Finite → List SkolemAxiom → Finite → Type 0
 IsExpansion t [] u = u ≡ t
-IsExpansion t (w ∷ ws) u = (values : List ℕ) × (AreLeastWitnesses t w values × IsExpansion (with_values t w.symbol values) ws u)
+IsExpansion t (w ∷ ws) u =
+    (values : List ℕ)
+    × (AreLeastWitnesses t w values × IsExpansion (with_values t w.symbol values) ws u)
 
 -- there is one expansion at most
 abbrev pub OneExpansion : Type 0
-OneExpansion = (t u v : Finite) (ws : List SkolemAxiom) → IsExpansion t ws u → IsExpansion t ws v → u ≡ v
+OneExpansion =
+    (t u v : Finite) (ws : List SkolemAxiom) → IsExpansion t ws u → IsExpansion t ws v → u ≡ v
 
 -- where each body has symbols of those before alone, the expansion picks witnesses
 abbrev pub ExpansionPicks : Type 0
-ExpansionPicks = (t u : Finite) (ws : List SkolemAxiom) → AreInOrder ws → IsExpansion t ws u → PicksWitnesses (meaning_of u) ws
+ExpansionPicks =
+    (t u : Finite) (ws : List SkolemAxiom) → AreInOrder ws → IsExpansion t ws u →
+    PicksWitnesses (meaning_of u) ws
 
 -- it has the tables of all other symbols
 abbrev pub ExpansionKeeps : Type 0
-ExpansionKeeps = (t u : Finite) (ws : List SkolemAxiom) → IsExpansion t ws u → (u.top ≡ t.top) × ((s : ℕ) → IsApart s ws → row_of u s ≡ row_of t s)
+ExpansionKeeps =
+    (t u : Finite) (ws : List SkolemAxiom) → IsExpansion t ws u → (u.top ≡ t.top)
+    × ((s : ℕ) → IsApart s ws → row_of u s ≡ row_of t s)
 
 -- so what has no Skolem symbol is as true as before
 abbrev pub ExpansionSays : Type 0
 ExpansionSays =
-    (t u : Finite) (ws : List SkolemAxiom) → IsExpansion t ws u → (((e : Assignment) (f : Fol) → AreNotIn ws f → Holds (meaning_of u) e f ↔ Holds (meaning_of t) e f)
-    × ((ss : List Said) → AreNewTo ss ws → IsCountermodel (meaning_of u) ss ↔ IsCountermodel (meaning_of t) ss))
+    (t u : Finite) (ws : List SkolemAxiom) → IsExpansion t ws u →
+    (((e : Assignment) (f : Fol) → AreNotIn ws f → Holds (meaning_of u) e f
+    ↔ Holds (meaning_of t) e f)
+    × ((ss : List Said) → AreNewTo ss ws → IsCountermodel (meaning_of u) ss
+    ↔ IsCountermodel (meaning_of t) ss))

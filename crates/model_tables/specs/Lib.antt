@@ -2,7 +2,6 @@ pub mod Digits
 pub mod Expansion
 pub mod ModelText
 pub mod Order
-pub mod Reads
 pub mod Isomorphism
 pub mod Size
 pub mod Tables

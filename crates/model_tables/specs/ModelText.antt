@@ -24,19 +24,23 @@ abbrev pub places_text : ℕ → List ℕ
 places_text zero = []
 places_text (suc n) = codes "(_" ++ further_places n ++ codes ")"
 
-abbrev pub word_of : Kind → List ℕ
-word_of Function = codes "function"
-word_of Relation = codes "relation"
+abbrev pub kind_text : Kind → List ℕ
+kind_text Function = codes "function"
+kind_text Relation = codes "relation"
 
 -- `function(f(_), [1,0])`
 abbrev pub entry_text : List ℕ → ℕ → Kind → List ℕ → List ℕ
-entry_text name arity kind values = word_of kind ++ codes "(" ++ name ++ places_text arity ++ codes ", [" ++ numbers_text values ++ codes "])"
+entry_text name arity kind values =
+    kind_text kind ++ codes "(" ++ name ++ places_text arity ++ codes ", [" ++ numbers_text values
+    ++ codes "])"
 
 -- the entries of the symbols that have values
 abbrev pub entries_of : List Symbol → List Listing → List (List ℕ)
 entries_of [] ls = []
 entries_of (s ∷ ss) [] = []
-entries_of (s ∷ ss) (l ∷ ls) = if length l.values == 0 then entries_of ss ls else entry_text s.name s.arity l.kind l.values ∷ entries_of ss ls
+entries_of (s ∷ ss) (l ∷ ls) =
+    if length l.values == 0 then entries_of ss ls
+    else entry_text s.name s.arity l.kind l.values ∷ entries_of ss ls
 
 -- each entry in a line of its own, after four spaces, with a comma at its end if one more follows
 abbrev pub lines_behind : List (List ℕ) → List ℕ
@@ -49,9 +53,13 @@ entry_lines (e ∷ es) = codes "\n    " ++ e ++ lines_behind es
 
 -- the line of a symbol with values, where an entry stands before, or none
 abbrev pub entry_line : Bool → List ℕ → ℕ → Listing → List ℕ
-entry_line before name arity l = if length l.values == 0 then [] else (if before then codes ",\n    " else codes "\n    ") ++ entry_text name arity l.kind l.values
+entry_line before name arity l =
+    if length l.values == 0 then []
+    else (if before then codes ",\n    " else codes "\n    ")
+    ++ entry_text name arity l.kind l.values
 
 -- the text of tables for these symbols, as model number k
 unfoldable pub model_text : List Symbol → ℕ → Finite → List ℕ
 model_text ss k t =
-    codes "interpretation(" ++ decimal (t.top + 1) ++ codes ", [number = " ++ decimal k ++ codes ",seconds = 0], [" ++ entry_lines (entries_of ss t.rows) ++ codes "]).\n"
+    codes "interpretation(" ++ decimal (t.top + 1) ++ codes ", [number = " ++ decimal k
+    ++ codes ",seconds = 0], [" ++ entry_lines (entries_of ss t.rows) ++ codes "]).\n"

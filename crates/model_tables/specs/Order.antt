@@ -5,7 +5,7 @@ use Rattle.fol_core.specs.Fol.{Fol}
 use Rattle.fol_core.specs.Occurs.{occurs_in}
 use Rattle.fol_core.specs.Stated.{Stated}
 use Rattle.fol_core.specs.SymbolTable.{Symbol}
-use Rattle.model_tables.specs.Digits.{AreDigits, count, number}
+use Rattle.model_tables.specs.Digits.{AreDigits, digits_count, digits_number}
 use Rattle.model_tables.specs.Size.{bound_of, cells_for, formulas_of, IsInterpretation}
 use Rattle.model_tables.specs.Tables.{Listing, Finite, listing}
 
@@ -15,10 +15,10 @@ bounds_in n l = replicate (length l.values) (bound_of n l.kind)
 
 -- how many lists of values a symbol with so many cells can have, and how many come before its own
 abbrev pub count_in : ℕ → Listing → ℕ
-count_in n l = count (bounds_in n l)
+count_in n l = digits_count (bounds_in n l)
 
-abbrev pub number_in : ℕ → Listing → ℕ
-number_in n l = number (bounds_in n l) l.values
+abbrev pub listing_number : ℕ → Listing → ℕ
+listing_number n l = digits_number (bounds_in n l) l.values
 
 -- the values of all cells, by symbol and then by arguments
 abbrev pub cells_of : List Listing → List ℕ
@@ -34,20 +34,21 @@ bounds_of n (l ∷ ls) = bounds_in n l ++ bounds_of n ls
 abbrev pub IsFilled : Finite → Type 0
 IsFilled t = AreDigits (bounds_of (t.top + 1) t.rows) (cells_of t.rows)
 
--- how many tables have these symbols, elements and cells, and how many of them come before these: the cells are read as
--- digits, the first cell as the most significant
+-- how many tables have these symbols, elements and cells, and how many of them come before these:
+-- the cells are read as digits, the first cell as the most significant
 abbrev pub table_count : Finite → ℕ
-table_count t = count (bounds_of (t.top + 1) t.rows)
+table_count t = digits_count (bounds_of (t.top + 1) t.rows)
 
 abbrev pub table_number : Finite → ℕ
-table_number t = number (bounds_of (t.top + 1) t.rows) (cells_of t.rows)
+table_number t = digits_number (bounds_of (t.top + 1) t.rows) (cells_of t.rows)
 
 -- the same elements, symbols and cells, with whatever values
 abbrev pub HaveSameCells : List Listing → List Listing → Type 0
 HaveSameCells [] [] = Unit {0}
 HaveSameCells [] (l ∷ ls) = ⊥
 HaveSameCells (l ∷ ls) [] = ⊥
-HaveSameCells (l ∷ ls) (m ∷ ms) = (l.kind ≡ m.kind) × (length l.values ≡ length m.values) × HaveSameCells ls ms
+HaveSameCells (l ∷ ls) (m ∷ ms) =
+    (l.kind ≡ m.kind) × (length l.values ≡ length m.values) × HaveSameCells ls ms
 
 abbrev pub IsSameShape : Finite → Finite → Type 0
 IsSameShape t u = (t.top ≡ u.top) × HaveSameCells t.rows u.rows
@@ -59,7 +60,8 @@ IsNext t u = IsSameShape t u × IsFilled u × (table_number u ≡ table_number t
 -- each value 0
 abbrev pub zeros_for : ℕ → List Fol → ℕ → List Symbol → List Listing
 zeros_for n fs k [] = []
-zeros_for n fs k (s ∷ ss) = listing s.kind (replicate (cells_for n s.arity (occurs_in k fs)) 0) ∷ zeros_for n fs (suc k) ss
+zeros_for n fs k (s ∷ ss) =
+    listing s.kind (replicate (cells_for n s.arity (occurs_in k fs)) 0) ∷ zeros_for n fs (suc k) ss
 
 -- the first tables of a size
 abbrev pub first_tables : ℕ → Stated → Finite
@@ -73,5 +75,7 @@ GoesOn t (u ∷ us) = IsNext t u × GoesOn u us
 -- every interpretation of a size comes in such a run, and no two tables of it are the same
 abbrev pub EachComesOnce : ℕ → Stated → List Finite → Type 0
 EachComesOnce n p ts =
-    ((t : Finite) → IsInterpretation n p t → (k : ℕ) × (k < length ts) × (slice_index_or ts k (first_tables n p) ≡ t))
-    × ((j k : ℕ) → j < length ts → k < length ts → slice_index_or ts j (first_tables n p) ≡ slice_index_or ts k (first_tables n p) → j ≡ k)
+    ((t : Finite) → IsInterpretation n p t → (k : ℕ) × (k < length ts)
+    × (slice_index_or ts k (first_tables n p) ≡ t))
+    × ((j k : ℕ) → j < length ts → k < length ts →
+    slice_index_or ts j (first_tables n p) ≡ slice_index_or ts k (first_tables n p) → j ≡ k)

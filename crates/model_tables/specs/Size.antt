@@ -13,7 +13,8 @@ abbrev pub bound_of : ℕ → Kind → ℕ
 bound_of n Function = n
 bound_of n Relation = 2
 
--- how many cells a symbol has: one for each list of arguments, and none where it stands in no formula
+-- how many cells a symbol has: one for each list of arguments, and none where it stands in no
+-- formula
 abbrev pub cells_for : ℕ → ℕ → Bool → ℕ
 cells_for n arity used = if used then n ^ arity else 0
 
@@ -23,14 +24,17 @@ AllBelow b (x ∷ xs) = (x < b) × AllBelow b xs
 
 -- a value for each cell of the symbol, none too great
 abbrev pub IsListing : ℕ → Symbol → Bool → Listing → Type 0
-IsListing n s used l = (l.kind ≡ s.kind) × (length l.values ≡ cells_for n s.arity used) × AllBelow (bound_of n s.kind) l.values
+IsListing n s used l =
+    (l.kind ≡ s.kind) × (length l.values ≡ cells_for n s.arity used)
+    × AllBelow (bound_of n s.kind) l.values
 
 -- a listing for each of the symbols, whose numbers are k and those behind it
 abbrev pub AreListings : ℕ → List Fol → ℕ → List Symbol → List Listing → Type 0
 AreListings n fs k [] [] = Unit {0}
 AreListings n fs k [] (l ∷ ls) = ⊥
 AreListings n fs k (s ∷ ss) [] = ⊥
-AreListings n fs k (s ∷ ss) (l ∷ ls) = IsListing n s (occurs_in k fs) l × AreListings n fs (suc k) ss ls
+AreListings n fs k (s ∷ ss) (l ∷ ls) =
+    IsListing n s (occurs_in k fs) l × AreListings n fs (suc k) ss ls
 
 -- the formulas, whatever their roles
 abbrev pub formulas_of : Stated → List Fol

@@ -4,8 +4,8 @@ use Rattle.std.specs.Option.{option_map_or}
 use Rattle.fol_core.specs.Meaning.{Meaning}
 use Rattle.fol_core.specs.declared.symbols.Kind.{Kind}
 
--- what a symbol is, and the list of its values, the last argument running fastest; an empty list is that of a symbol
--- without an entry
+-- what a symbol is, and the list of its values, the last argument running fastest; an empty list is
+-- that of a symbol without an entry
 pub record Listing : Type 0 where
   pub kind : Kind
   pub values : List ℕ
@@ -32,8 +32,8 @@ place_from size p [] = p
 place_from size p (x ∷ xs) = place_from size (p * size + x) xs
 
 -- what a symbol's list has for these arguments, 0 where it has nothing
-abbrev pub listed : Finite → ℕ → List ℕ → ℕ
-listed t s xs = slice_index (row_of t s) (place_from (t.top + 1) 0 xs)
+abbrev pub listed_value : Finite → ℕ → List ℕ → ℕ
+listed_value t s xs = slice_index (row_of t s) (place_from (t.top + 1) 0 xs)
 
 -- an element, 0 in place of a number that is none
 abbrev pub element : Finite → ℕ → ℕ
@@ -43,6 +43,6 @@ element t x = if nat_le x t.top then x else 0
 abbrev pub meaning_of : Finite → Meaning
 meaning_of t = record {
   within = λ x. nat_le x t.top;
-  function = λ f xs. element t (listed t f xs);
-  relation = λ r xs. listed t r xs == 1;
+  function = λ f xs. element t (listed_value t f xs);
+  relation = λ r xs. listed_value t r xs == 1;
 }

@@ -43,6 +43,9 @@ abbrev pub HasRoom : List ℕ → List (Option ℕ) → Type 0
 HasRoom [] slots = Unit {0}
 HasRoom (x ∷ xs) slots = (x < length slots) × HasRoom xs slots
 
--- there is room for what a Skolem symbol is to pick: its variables, the replaced one, and those that are bound in its body
+-- there is room for what a Skolem symbol is to pick: its variables, the replaced one, and those
+-- that are bound in its body
 abbrev pub HasRoomFor : Entry → List (Option ℕ) → Type 0
-HasRoomFor e slots = HasRoom e.variables.items slots × (e.variable < length slots) × HasRoom e.bound.items slots × (room_of (fol_of e.body) ≤ length slots)
+HasRoomFor e slots =
+    HasRoom e.variables.items slots × (e.variable < length slots) × HasRoom e.bound.items slots
+    × (room_of (fol_of e.body) ≤ length slots)

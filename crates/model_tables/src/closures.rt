@@ -4,7 +4,7 @@ ghost use Rattle.fol_core.specs.FormulaView.{fol_of};
 ghost use Rattle.fol_core.specs.Bound.{IsOnce};
 ghost use Rattle.fol_core.specs.Free.{closure_of, free_vars_of};
 ghost use Rattle.fol_core.specs.Truth.{Assignment, Holds};
-ghost use Rattle.model_tables.specs.Digits.{AreDigits, count, number};
+ghost use Rattle.model_tables.specs.Digits.{AreDigits, digits_count, digits_number};
 ghost use Rattle.model_tables.specs.Tables.{meaning_of};
 ghost use Rattle.model_tables.specs.Variables.{assignment, room_of, HasRoom};
 
@@ -53,12 +53,12 @@ fn advance(tables: &Tables, variables: &[u64], env: &mut Env) -> bool
     ensures digits { AreDigits (map (λ x. tables.now.top + 1) variables.now)
         (map (assignment env.new) variables.now) }
     ensures next { MatchBool result
-        (number (map (λ x. tables.now.top + 1) variables.now)
+        (digits_number (map (λ x. tables.now.top + 1) variables.now)
         (map (assignment env.new) variables.now)
-        ≡ number (map (λ x. tables.now.top + 1) variables.now)
+        ≡ digits_number (map (λ x. tables.now.top + 1) variables.now)
         (map (assignment env.old) variables.now) + 1)
-        (count (map (λ x. tables.now.top + 1) variables.now)
-        ≡ number (map (λ x. tables.now.top + 1) variables.now)
+        (digits_count (map (λ x. tables.now.top + 1) variables.now)
+        ≡ digits_number (map (λ x. tables.now.top + 1) variables.now)
         (map (assignment env.old) variables.now) + 1) }
 {
     let size = tables.size();

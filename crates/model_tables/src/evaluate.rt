@@ -5,7 +5,7 @@ ghost use Rattle.fol_core.specs.Tree.{trees_of};
 ghost use Rattle.fol_core.specs.TermView.{tree_of};
 ghost use Rattle.fol_core.specs.FormulaView.{fol_of};
 ghost use Rattle.fol_core.specs.Truth.{value_of, values_of, Holds, with_var};
-ghost use Rattle.model_tables.specs.Tables.{place_from, listed, meaning_of};
+ghost use Rattle.model_tables.specs.Tables.{place_from, listed_value, meaning_of};
 ghost use Rattle.model_tables.specs.Variables.{assignment, room_of};
 
 use crate::env::Env;
@@ -56,7 +56,7 @@ fn at(row: &[u32], place: usize) -> u32
 
 // What a relation's row has for the values of these terms.
 fn atom(tables: &Tables, relation: Sym, terms: &Terms, env: &Env) -> u32
-    ensures { result ≡ listed tables.now relation.0
+    ensures { result ≡ listed_value tables.now relation.0
         (values_of (meaning_of tables.now) (assignment env.now) (trees_of terms.now)) }
 {
     let row = tables.row(relation);

@@ -1,11 +1,10 @@
-// Laws of the order of tables and of their text: the functions do nothing, and their contracts are the laws.
+// Laws of the order of tables: the functions do nothing, and their contracts are the laws.
 ghost use Rattle.std.specs.Prelude.{ℕ, ◌≡◌, [], ◌∷◌, ◌≤◌, List};
 ghost use Rattle.fol_core.specs.Stated.{Stated, IsCountermodel};
 ghost use Rattle.fol_core.specs.declared.symbols.Kind.TheVariants.{Function};
 ghost use Rattle.model_tables.specs.Expansion.{IsExpansion, OneExpansion, ExpansionPicks, ExpansionKeeps, ExpansionSays};
 ghost use Rattle.model_tables.specs.ModelText.{model_text};
 ghost use Rattle.model_tables.specs.Order.{first_tables, GoesOn, EachComesOnce, table_count, table_number};
-ghost use Rattle.model_tables.specs.Reads.{TextTells};
 ghost use Rattle.model_tables.specs.Isomorphism.{IsIsomorphism};
 ghost use Rattle.model_tables.specs.Size.{IsInterpretation, cell_count};
 ghost use Rattle.model_tables.specs.Tables.{Finite, listing, meaning_of};
@@ -15,11 +14,6 @@ ghost use Rattle.model_tables.specs.Worked.{apart, tables, exchange, tables_text
 pub fn each_comes_once()
     ensures { (n : ℕ) (p : Stated) (ts : List Finite) → 1 ≤ n → GoesOn (first_tables n p) ts
         → EachComesOnce n p (first_tables n p ∷ ts) }
-{}
-
-/// The text of an interpretation tells its tables and its number.
-pub fn text_tells()
-    ensures { TextTells }
 {}
 
 /// Tables are isomorphic to themselves.

@@ -16,9 +16,7 @@ mod tables;
 pub use closures::closure_truth;
 pub use env::Env;
 pub use evaluate::{truth, value};
-pub use laws::{
-    each_comes_once, expansions, is_isomorphic_to_itself, text_tells, worked, worked_expansions,
-};
+pub use laws::{each_comes_once, expansions, is_isomorphic_to_itself, worked, worked_expansions};
 pub use limits::MOST_CELLS;
 pub use order::bound;
 pub use room::reserve_closure;

@@ -1,7 +1,7 @@
 // The order of the tables of one size: one after the other.
 ghost use Rattle.std.specs.Prelude.{◌≡◌, ◌+◌, replicate, MatchBool, length};
-ghost use Rattle.model_tables.specs.Digits.{AreDigits, count, number};
-ghost use Rattle.model_tables.specs.Order.{bounds_in, count_in, number_in, bounds_of, cells_of, HaveSameCells, IsFilled, IsSameShape, table_count, table_number};
+ghost use Rattle.model_tables.specs.Digits.{AreDigits, digits_count, digits_number};
+ghost use Rattle.model_tables.specs.Order.{bounds_in, count_in, listing_number, bounds_of, cells_of, HaveSameCells, IsFilled, IsSameShape, table_count, table_number};
 ghost use Rattle.model_tables.specs.Size.{bound_of};
 
 use crate::tables::{Row, Tables};
@@ -29,10 +29,10 @@ fn advance_rows(size: u32, rows: &mut [Row]) -> bool
     ensures cells { HaveSameCells rows.old rows.new }
     ensures digits { AreDigits (bounds_of size rows.new) (cells_of rows.new) }
     ensures next { MatchBool result
-        (number (bounds_of size rows.new) (cells_of rows.new)
-        ≡ number (bounds_of size rows.old) (cells_of rows.old) + 1)
-        ((count (bounds_of size rows.old) ≡ number (bounds_of size rows.old)
-        (cells_of rows.old) + 1) × (number (bounds_of size rows.new) (cells_of rows.new) ≡ 0)) }
+        (digits_number (bounds_of size rows.new) (cells_of rows.new)
+        ≡ digits_number (bounds_of size rows.old) (cells_of rows.old) + 1)
+        ((digits_count (bounds_of size rows.old) ≡ digits_number (bounds_of size rows.old)
+        (cells_of rows.old) + 1) × (digits_number (bounds_of size rows.new) (cells_of rows.new) ≡ 0)) }
 {
     let mut at = rows.len();
     while at > 0 {
@@ -51,8 +51,8 @@ fn advance_row(size: u32, row: &mut Row) -> bool
     ensures many { length row.new.values ≡ length row.old.values }
     ensures digits { AreDigits (bounds_in size row.new) row.new.values }
     ensures next { MatchBool result
-        (number_in size row.new ≡ number_in size row.old + 1)
-        ((count_in size row.old ≡ number_in size row.old + 1) × (number_in size row.new ≡ 0)) }
+        (listing_number size row.new ≡ listing_number size row.old + 1)
+        ((count_in size row.old ≡ listing_number size row.old + 1) × (listing_number size row.new ≡ 0)) }
 {
     let bound = bound(size, row.kind);
     advance_values(bound, &mut row.values)
@@ -73,11 +73,11 @@ pub(crate) fn advance_values(bound: u32, values: &mut [u32]) -> bool
     requires { AreDigits (replicate (length values.old) bound) values.old }
     ensures digits { AreDigits (replicate (length values.old) bound) values.new }
     ensures next { MatchBool result
-        (number (replicate (length values.old) bound) values.new
-        ≡ number (replicate (length values.old) bound) values.old + 1)
-        ((count (replicate (length values.old) bound)
-        ≡ number (replicate (length values.old) bound) values.old + 1)
-        × (number (replicate (length values.old) bound) values.new ≡ 0)) }
+        (digits_number (replicate (length values.old) bound) values.new
+        ≡ digits_number (replicate (length values.old) bound) values.old + 1)
+        ((digits_count (replicate (length values.old) bound)
+        ≡ digits_number (replicate (length values.old) bound) values.old + 1)
+        × (digits_number (replicate (length values.old) bound) values.new ≡ 0)) }
 {
     let mut at = values.len();
     while at > 0 {

@@ -2,7 +2,7 @@
 ghost use Rattle.std.specs.Prelude.{◌≡◌, ◌≤◌, ◌<◌, ◌==◌, ◌||◌, ◌++◌, not, [], length, codes, if◌then◌else◌, OnOk, IfOk};
 ghost use Rattle.std.specs.Fmt.{decimal};
 ghost use Rattle.fol_core.specs.SymbolTable.{name_at, arity_at};
-ghost use Rattle.model_tables.specs.ModelText.{numbers_text, further_places, places_text, word_of, entry_text, entry_line, entries_of, entry_lines, model_text};
+ghost use Rattle.model_tables.specs.ModelText.{numbers_text, further_places, places_text, kind_text, entry_text, entry_line, entries_of, entry_lines, model_text};
 
 use crate::tables::{Row, Tables};
 use fol_core::{Kind, Sym, Symbols};
@@ -94,7 +94,7 @@ fn entry(out: &mut Vec<u8>, symbols: &Symbols, symbol: Sym, row: &Row) -> Result
 }
 
 fn word(kind: Kind) -> &'static [u8]
-    ensures { result.now ≡ word_of kind }
+    ensures { result.now ≡ kind_text kind }
 {
     match kind {
         Kind::Function => b"function",

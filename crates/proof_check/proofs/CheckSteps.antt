@@ -4,7 +4,7 @@ use Rattle.std.proofs.lemmas.List.{drop_all, take_more}
 use Rattle.fol_core.specs.Stated.{Said}
 use Rattle.derivation.specs.Lines.{LineTree, InputRow, AreLines, ends_empty, is_empty_clause, IsRefutation}
 use Rattle.derivation.specs.Refused.{IsRefusedLine, IsAccepted, HasFault, IsFault}
-use Rattle.derivation.specs.View.{line_of, lines_of}
+use Rattle.derivation.specs.View.{line_tree, lines_of}
 use Rattle.derivation.specs.declared.line.Line.{Line}
 use Rattle.proof_check.specs.Reached.{AreAbove, AreAtMost, AreRising, ends_behind, FaultBehind, Reaches, Going}
 
@@ -69,58 +69,58 @@ get_same (x ∷ xs) (suc n) d e h = get_same xs n d e (omega arith)
 drop_next : (ls : List Line) (i : ℕ) (l : Line) → i < length ls → l ≡ get_or ls i l → drop i ls ≡ l ∷ drop (i + 1) ls
 drop_next ls i l h is = rw (add-one, drop-cons ls i l) (ap (λ t. t ∷ drop (suc i) ls) (sym is))
 
-lines_push : (ls : List Line) (l : Line) → lines_of (ls ++ l ∷ []) ≡ lines_of ls ++ line_of l ∷ []
+lines_push : (ls : List Line) (l : Line) → lines_of (ls ++ l ∷ []) ≡ lines_of ls ++ line_tree l ∷ []
 lines_push [] l = refl
-lines_push (k ∷ ls) l = ap (λ ks. line_of k ∷ ks) (lines_push ls l)
+lines_push (k ∷ ls) l = ap (λ ks. line_tree k ∷ ks) (lines_push ls l)
 
-take_next : (ls : List Line) (i : ℕ) (l : Line) → i < length ls → l ≡ get_or ls i l → lines_of (take (i + 1) ls) ≡ lines_of (take i ls) ++ line_of l ∷ []
+take_next : (ls : List Line) (i : ℕ) (l : Line) → i < length ls → l ≡ get_or ls i l → lines_of (take (i + 1) ls) ≡ lines_of (take i ls) ++ line_tree l ∷ []
 take_next ls i l h is = ap lines_of (take_more ls i l h ∙ ap (λ k. take i ls ++ k ∷ []) (sym is)) ∙ lines_push (take i ls) l
 
 pub none_given : (ss : List Said) (rows : List InputRow) (ls : List Line) → length ls ≡ 0 → IsFault ss rows (lines_of ls) 0 1
 none_given ss rows [] h = (refl, refl)
 none_given ss rows (l ∷ ls) h = absurd (omega arith)
 
-pub first_fault : (ss : List Said) (rows : List InputRow) (ls : List Line) (l : Line) (row : ℕ) → 0 < length ls → l ≡ get_or ls 0 l → IsRefusedLine ss rows [] None (line_of l) row → IsFault ss rows (lines_of ls) l.number row
+pub first_fault : (ss : List Said) (rows : List InputRow) (ls : List Line) (l : Line) (row : ℕ) → 0 < length ls → l ≡ get_or ls 0 l → IsRefusedLine ss rows [] None (line_tree l) row → IsFault ss rows (lines_of ls) l.number row
 first_fault ss rows [] l row h is refused = absurd (omega arith)
 first_fault ss rows (k ∷ ls) l row h is refused =
-    subst (λ (k : Line). IsFault ss rows (line_of k ∷ lines_of ls) l.number row) is (refused_here ss rows [] None (line_of l) (lines_of ls) row refused)
+    subst (λ (k : Line). IsFault ss rows (line_tree k ∷ lines_of ls) l.number row) is (refused_here ss rows [] None (line_tree l) (lines_of ls) row refused)
 
 pub going_rising : (ss : List Said) (rows : List InputRow) (ls : List Line) (i : ℕ) → Going ss rows ls i → AreRising (lines_of (take i ls))
 going_rising ss rows ls i going = going.reaches.rising
 
-pub going_start : (ss : List Said) (rows : List InputRow) (ls : List Line) (l : Line) → 0 < length ls → l ≡ get_or ls 0 l → IsAccepted ss rows [] None (line_of l) → Going ss rows ls 1
+pub going_start : (ss : List Said) (rows : List InputRow) (ls : List Line) (l : Line) → 0 < length ls → l ≡ get_or ls 0 l → IsAccepted ss rows [] None (line_tree l) → Going ss rows ls 1
 going_start ss rows [] l h is accepted = absurd (omega arith)
 going_start ss rows (k ∷ ls) l h is accepted = record {
   last = k;
   is = refl;
-  reaches = reaches_first ss rows (line_of k) (lines_of ls) (subst (λ (k : Line). IsAccepted ss rows [] None (line_of k)) is accepted);
+  reaches = reaches_first ss rows (line_tree k) (lines_of ls) (subst (λ (k : Line). IsAccepted ss rows [] None (line_tree k)) is accepted);
 }
 
 module _ (ss : List Said) (rows : List InputRow) (ls : List Line) (i : ℕ) (l x : Line) where
   last_is : (going : Going ss rows ls i) → 0 < i → i < length ls → x ≡ get_or ls (i - 1) x → going.last ≡ x
   last_is going h k is = going.is ∙ get_same ls (i - 1) going.last x (omega arith) ∙ sym is
 
-  rest_is : i < length ls → l ≡ get_or ls i l → lines_of (drop i ls) ≡ line_of l ∷ lines_of (drop (i + 1) ls)
+  rest_is : i < length ls → l ≡ get_or ls i l → lines_of (drop i ls) ≡ line_tree l ∷ lines_of (drop (i + 1) ls)
   rest_is k is = ap lines_of (drop_next ls i l k is)
 
-  pub going_next : Going ss rows ls i → 0 < i → i < length ls → l ≡ get_or ls i l → x ≡ get_or ls (i - 1) x → IsAccepted ss rows (lines_of (take i ls)) (Some x.number) (line_of l) → Going ss rows ls (i + 1)
+  pub going_next : Going ss rows ls i → 0 < i → i < length ls → l ≡ get_or ls i l → x ≡ get_or ls (i - 1) x → IsAccepted ss rows (lines_of (take i ls)) (Some x.number) (line_tree l) → Going ss rows ls (i + 1)
   going_next going h k is was accepted =
       let before : i + 1 - 1 ≡ i = omega arith in
       record {
         last = l;
         is = is ∙ ap (λ n. get_or ls n l) (sym before);
-        reaches = subst (λ es. Reaches ss rows (lines_of ls) es (line_of l) (lines_of (drop (i + 1) ls))) (sym (take_next ls i l k is))
-            (reaches_next ss rows (lines_of ls) (lines_of (take i ls)) (line_of going.last) (line_of l) (lines_of (drop (i + 1) ls))
-            (subst (λ rs. Reaches ss rows (lines_of ls) (lines_of (take i ls)) (line_of going.last) rs) (rest_is k is) going.reaches)
-            (subst (λ (y : Line). IsAccepted ss rows (lines_of (take i ls)) (Some y.number) (line_of l)) (sym (last_is going h k was)) accepted));
+        reaches = subst (λ es. Reaches ss rows (lines_of ls) es (line_tree l) (lines_of (drop (i + 1) ls))) (sym (take_next ls i l k is))
+            (reaches_next ss rows (lines_of ls) (lines_of (take i ls)) (line_tree going.last) (line_tree l) (lines_of (drop (i + 1) ls))
+            (subst (λ rs. Reaches ss rows (lines_of ls) (lines_of (take i ls)) (line_tree going.last) rs) (rest_is k is) going.reaches)
+            (subst (λ (y : Line). IsAccepted ss rows (lines_of (take i ls)) (Some y.number) (line_tree l)) (sym (last_is going h k was)) accepted));
       }
 
-  pub going_fault : (row : ℕ) → Going ss rows ls i → 0 < i → i < length ls → l ≡ get_or ls i l → x ≡ get_or ls (i - 1) x → IsRefusedLine ss rows (lines_of (take i ls)) (Some x.number) (line_of l) row
+  pub going_fault : (row : ℕ) → Going ss rows ls i → 0 < i → i < length ls → l ≡ get_or ls i l → x ≡ get_or ls (i - 1) x → IsRefusedLine ss rows (lines_of (take i ls)) (Some x.number) (line_tree l) row
       → IsFault ss rows (lines_of ls) l.number row
   going_fault row going h k is was refused = going.reaches.fault l.number row
-      (subst (λ rs. FaultBehind ss rows (lines_of (take i ls)) (line_of going.last) rs l.number row) (sym (rest_is k is))
-      (refused_here ss rows (lines_of (take i ls)) (Some going.last.number) (line_of l) (lines_of (drop (i + 1) ls)) row
-      (subst (λ (y : Line). IsRefusedLine ss rows (lines_of (take i ls)) (Some y.number) (line_of l) row) (sym (last_is going h k was)) refused)))
+      (subst (λ rs. FaultBehind ss rows (lines_of (take i ls)) (line_tree going.last) rs l.number row) (sym (rest_is k is))
+      (refused_here ss rows (lines_of (take i ls)) (Some going.last.number) (line_tree l) (lines_of (drop (i + 1) ls)) row
+      (subst (λ (y : Line). IsRefusedLine ss rows (lines_of (take i ls)) (Some y.number) (line_tree l) row) (sym (last_is going h k was)) refused)))
 
 module _ (ss : List Said) (rows : List InputRow) (ls : List Line) (i : ℕ) (e : Line) where
   end_is : (going : Going ss rows ls i) → 0 < length ls → i ≡ length ls → e ≡ get_or ls (length ls - 1) e → going.last ≡ e
@@ -130,13 +130,13 @@ module _ (ss : List Said) (rows : List InputRow) (ls : List Line) (i : ℕ) (e :
   none_left : i ≡ length ls → lines_of (drop i ls) ≡ []
   none_left k = ap lines_of (drop_all i ls (omega arith))
 
-  pub going_empty : Going ss rows ls i → 0 < length ls → i ≡ length ls → e ≡ get_or ls (length ls - 1) e → is_empty_clause (line_of e).content ≡ true → IsRefutation ss rows (lines_of ls)
+  pub going_empty : Going ss rows ls i → 0 < length ls → i ≡ length ls → e ≡ get_or ls (length ls - 1) e → is_empty_clause (line_tree e).content ≡ true → IsRefutation ss rows (lines_of ls)
   going_empty going h k is empty = (
     going.reaches.are (subst (AreLines ss rows (lines_of (take i ls)) (Some going.last.number)) (sym (none_left k)) tt),
-    going.reaches.ends ∙ ap (ends_behind (line_of going.last)) (none_left k) ∙ ap (λ (y : Line). is_empty_clause (line_of y).content) (end_is going h k is) ∙ empty,
+    going.reaches.ends ∙ ap (ends_behind (line_tree going.last)) (none_left k) ∙ ap (λ (y : Line). is_empty_clause (line_tree y).content) (end_is going h k is) ∙ empty,
   )
 
-  pub going_other : Going ss rows ls i → 0 < length ls → i ≡ length ls → e ≡ get_or ls (length ls - 1) e → is_empty_clause (line_of e).content ≡ false → IsFault ss rows (lines_of ls) e.number 9
+  pub going_other : Going ss rows ls i → 0 < length ls → i ≡ length ls → e ≡ get_or ls (length ls - 1) e → is_empty_clause (line_tree e).content ≡ false → IsFault ss rows (lines_of ls) e.number 9
   going_other going h k is other = going.reaches.fault e.number 9
-      (subst (λ rs. FaultBehind ss rows (lines_of (take i ls)) (line_of going.last) rs e.number 9) (sym (none_left k))
-      (ap (λ (y : Line). y.number) (sym (end_is going h k is)), refl, ap (λ (y : Line). is_empty_clause (line_of y).content) (end_is going h k is) ∙ other))
+      (subst (λ rs. FaultBehind ss rows (lines_of (take i ls)) (line_tree going.last) rs e.number 9) (sym (none_left k))
+      (ap (λ (y : Line). y.number) (sym (end_is going h k is)), refl, ap (λ (y : Line). is_empty_clause (line_tree y).content) (end_is going h k is) ∙ other))

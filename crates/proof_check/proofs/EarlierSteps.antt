@@ -9,7 +9,7 @@ use Rattle.std.specs.Ordering.{nat_cmp, ordering_index}
 use Rattle.fol_core.specs.Literals.{ClauseTree}
 use Rattle.derivation.specs.Lines.{LineTree, line_at, clause_at, AreClauses}
 use Rattle.derivation.specs.Refused.{are_there}
-use Rattle.derivation.specs.View.{line_of, lines_of}
+use Rattle.derivation.specs.View.{line_tree, lines_of}
 use Rattle.derivation.specs.declared.line.Line.{Line}
 use Rattle.proof_check.specs.Reached.{AreAbove, AreRising}
 
@@ -30,24 +30,24 @@ rises (l ∷ ls) (suc i) zero d rising le h = absurd (omega arith)
 rises (l ∷ ls) (suc i) (suc j) d rising le h = rises ls i j d rising.1 (omega arith) (omega arith)
 
 -- the line of a number is at its place
-line_there : (ls : List Line) (n i : ℕ) (l : Line) → AreRising (lines_of ls) → i < length ls → l ≡ get_or ls i l → l.number ≡ n → line_at (lines_of ls) n ≡ Some (line_of l)
+line_there : (ls : List Line) (n i : ℕ) (l : Line) → AreRising (lines_of ls) → i < length ls → l ≡ get_or ls i l → l.number ≡ n → line_at (lines_of ls) n ≡ Some (line_tree l)
 line_there [] n i l rising h is same = absurd (omega arith)
 line_there (k ∷ ls) n zero l rising h is same =
-    ap (λ b. if b then Some (line_of k) else line_at (lines_of ls) n) (eq-eqb k.number n (ap (λ (m : Line). m.number) (sym is) ∙ same)) ∙ ap (λ (m : Line). Some (line_of m)) (sym is)
+    ap (λ b. if b then Some (line_tree k) else line_at (lines_of ls) n) (eq-eqb k.number n (ap (λ (m : Line). m.number) (sym is) ∙ same)) ∙ ap (λ (m : Line). Some (line_tree m)) (sym is)
 line_there (k ∷ ls) n (suc i) l rising h is same =
     let lt : k.number < (get_or ls i l).number = above_at k.number ls i l rising.0 (omega arith) in
     let at : (get_or ls i l).number ≡ n = ap (λ (m : Line). m.number) (sym is) ∙ same in
-    ap (λ b. if b then Some (line_of k) else line_at (lines_of ls) n) (ne_eqb k.number n (λ e. absurd (omega arith))) ∙ line_there ls n i l rising.1 (omega arith) is same
+    ap (λ b. if b then Some (line_tree k) else line_at (lines_of ls) n) (ne_eqb k.number n (λ e. absurd (omega arith))) ∙ line_there ls n i l rising.1 (omega arith) is same
 
 -- or it is nowhere
 line_nowhere : (ls : List Line) (n : ℕ) → ((i : ℕ) (d : Line) → i < length ls → (get_or ls i d).number ≡ n → ⊥) → line_at (lines_of ls) n ≡ None
 line_nowhere [] n apart = refl
 line_nowhere (l ∷ ls) n apart =
-    ap (λ b. if b then Some (line_of l) else line_at (lines_of ls) n) (ne_eqb l.number n (apart 0 l (omega arith))) ∙ line_nowhere ls n (λ i d h. apart (suc i) d (omega arith))
+    ap (λ b. if b then Some (line_tree l) else line_at (lines_of ls) n) (ne_eqb l.number n (apart 0 l (omega arith))) ∙ line_nowhere ls n (λ i d h. apart (suc i) d (omega arith))
 
 -- what a search by number answers
 abbrev pub Searched : List Line → ℕ → Result ℕ ℕ → Type 0
-Searched ls n r = MatchResult r (λ i. (l : Line) → l ≡ get_or ls i l → line_at (lines_of ls) n ≡ Some (line_of l)) (λ i. line_at (lines_of ls) n ≡ None)
+Searched ls n r = MatchResult r (λ i. (l : Line) → l ≡ get_or ls i l → line_at (lines_of ls) n ≡ Some (line_tree l)) (λ i. line_at (lines_of ls) n ≡ None)
 
 pub searched : (ls : List Line) (n : ℕ) (r : Result ℕ ℕ) → AreRising (lines_of ls) → IsSearchInRange r (length ls) → IsBinarySearchResult (λ (l : Line). nat_cmp l.number n) ls r → Searched ls n r
 searched ls n (Ok i) rising range found = λ l is. line_there ls n i l rising range is (ap (λ (m : Line). m.number) is ∙ ranked _ n _ (sym (found l)))

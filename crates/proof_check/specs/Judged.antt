@@ -30,7 +30,9 @@ parents_by w = (inference_by w).parents
 
 -- what a rule makes of clauses, with what has to be equal
 abbrev pub IsPending : InferenceRule → List ClauseTree → Pending → Type 0
-IsPending r cs p = (trees_of p.lefts ≡ lefts (r.pairs cs)) × (trees_of p.rights ≡ rights (r.pairs cs)) × (p.rest ≡ r.rest cs)
+IsPending r cs p =
+    (trees_of p.lefts ≡ lefts (r.pairs cs)) × (trees_of p.rights ≡ rights (r.pairs cs))
+    × (p.rest ≡ r.rest cs)
 
 -- a rule: it doesn't fit, nothing unifies, or its conclusion
 abbrev pub JudgedAs : InferenceRule → List ClauseTree → Judged → Type 0

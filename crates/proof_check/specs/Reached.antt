@@ -3,7 +3,7 @@ use Rattle.std.specs.Prelude.{ℕ, ◌≡◌, ◌<◌, ◌≤◌, ◌-◌, false
 use Rattle.fol_core.specs.Stated.{Said}
 use Rattle.derivation.specs.Lines.{LineTree, InputRow, AreLines, ends_empty, is_empty_clause}
 use Rattle.derivation.specs.Refused.{HasFault, IsFault}
-use Rattle.derivation.specs.View.{line_of, lines_of}
+use Rattle.derivation.specs.View.{line_tree, lines_of}
 use Rattle.derivation.specs.declared.line.Line.{Line}
 
 -- each number is above this one
@@ -27,20 +27,26 @@ ends_behind p [] = is_empty_clause p.content
 ends_behind p (l ∷ ls) = ends_empty (l ∷ ls)
 
 -- a fault behind a line that is one
-abbrev pub FaultBehind : List Said → List InputRow → List LineTree → LineTree → List LineTree → ℕ → ℕ → Type 0
-FaultBehind ss rows earlier p [] number row = (number ≡ p.number) × (row ≡ 9) × (is_empty_clause p.content ≡ false)
-FaultBehind ss rows earlier p (l ∷ ls) number row = HasFault ss rows earlier (Some p.number) (l ∷ ls) number row
+abbrev pub FaultBehind : List Said → List InputRow → List LineTree → LineTree → List LineTree → ℕ →
+    ℕ → Type 0
+FaultBehind ss rows earlier p [] number row =
+    (number ≡ p.number) × (row ≡ 9) × (is_empty_clause p.content ≡ false)
+FaultBehind ss rows earlier p (l ∷ ls) number row =
+    HasFault ss rows earlier (Some p.number) (l ∷ ls) number row
 
 -- behind a line, which is the last one read, the rest decides
-pub record Reaches (ss : List Said) (rows : List InputRow) (all earlier : List LineTree) (p : LineTree) (rest : List LineTree) : Type 0 where
+pub record Reaches (ss : List Said) (rows : List InputRow) (all earlier : List LineTree)
+    (p : LineTree) (rest : List LineTree) : Type 0 where
   pub rising : AreRising earlier
   pub last : AreAtMost p.number earlier
   pub are : AreLines ss rows earlier (Some p.number) rest → AreLines ss rows [] None all
-  pub fault : (number row : ℕ) → FaultBehind ss rows earlier p rest number row → IsFault ss rows all number row
+  pub fault : (number row : ℕ) → FaultBehind ss rows earlier p rest number row →
+      IsFault ss rows all number row
   pub ends : ends_empty all ≡ ends_behind p rest
 
 -- the lines before a place are read, of which the last is the one before it
 pub record Going (ss : List Said) (rows : List InputRow) (ls : List Line) (i : ℕ) : Type 0 where
   pub last : Line
   pub is : last ≡ slice_index_or ls (i - 1) last
-  pub reaches : Reaches ss rows (lines_of ls) (lines_of (take i ls)) (line_of last) (lines_of (drop i ls))
+  pub reaches : Reaches ss rows (lines_of ls) (lines_of (take i ls)) (line_tree last)
+      (lines_of (drop i ls))

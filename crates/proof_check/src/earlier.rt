@@ -3,7 +3,7 @@ ghost use Rattle.std.specs.Prelude.{◌≡◌, false, IfOk, MatchOption};
 ghost use Rattle.std.specs.Option.{option_map};
 ghost use Rattle.derivation.specs.Lines.{line_at, clause_at, AreClauses};
 ghost use Rattle.derivation.specs.Refused.{are_there};
-ghost use Rattle.derivation.specs.View.{line_of, lines_of};
+ghost use Rattle.derivation.specs.View.{line_tree, lines_of};
 ghost use Rattle.proof_check.specs.Reached.{AreRising};
 
 use derivation::{Content, Line};
@@ -13,7 +13,7 @@ use std::alloc::{AllocError, Global};
 /// The line of a number, among lines whose numbers rise.
 pub fn line_at(earlier: &[Line], number: u64) -> Option<&Line>
     requires { AreRising (lines_of earlier.now) }
-    ensures { option_map (λ l. line_of l.now) result ≡ line_at (lines_of earlier.now) number }
+    ensures { option_map (λ l. line_tree l.now) result ≡ line_at (lines_of earlier.now) number }
 {
     match earlier.binary_search_by_key(&number, |line| line.number) {
         Ok(place) => Some(&earlier[place]),

@@ -2,7 +2,7 @@
 ghost use Rattle.std.specs.Prelude.{◌↔◌, IsTrue, IfOk, map};
 ghost use Rattle.fol_core.specs.Stated.{all_said};
 ghost use Rattle.derivation.specs.Lines.{IsAbove};
-ghost use Rattle.derivation.specs.View.{first_word_of, later_of, content_of, line_of, lines_of};
+ghost use Rattle.derivation.specs.View.{first_word_of, later_of, content_of, line_tree, lines_of};
 ghost use Rattle.proof_check.specs.Found.{StatedAs, InputAs, LineAs, FoundAs};
 ghost use Rattle.proof_check.specs.Reached.{AreRising};
 
@@ -103,7 +103,7 @@ pub fn judge_line(
 ) -> Result<Option<u64>, AllocError>
     requires { AreRising (lines_of earlier.now) }
     ensures { IfOk result (FoundAs (all_said inputs.now) rows.now (lines_of earlier.now) last
-        (line_of line.now)) }
+        (line_tree line.now)) }
 {
     if !is_above(last, line.number) {
         return Ok(Some(2));

@@ -20,7 +20,7 @@ use Rattle.ladr_formulas.proofs.Growing.{Grows, same, beyond, grows_formula}
 use Rattle.ladr_lex.specs.declared.misuse.Misuse.{Misuse}
 use Rattle.ladr_reader.specs.Capped.{disjuncts}
 use Rattle.ladr_rules.specs.Shapes.{is_atom}
-use Rattle.proof_lines.specs.Literals.{joins, reads_as_atom, reads_as_literal, is_false, read_as_clause}
+use Rattle.proof_lines.specs.Literals.{joins_formulas, reads_as_atom, reads_as_literal, is_false, read_as_clause}
 
 -- there is a value
 abbrev pub HasSome : {A : Type 0} → Option A → Type 0
@@ -82,7 +82,7 @@ sentence_atom st scope name (Some n) r a b e = absurd cc
 sentence_atom st scope name None r a b e = rw (a, b) refl
 
 -- of names that join nothing
-joins_none : (name : List ℕ) → joins name ≡ false → (connective_of name ≡ None) × (bytes_eq name (codes "!=") ≡ false)
+joins_none : (name : List ℕ) → joins_formulas name ≡ false → (connective_of name ≡ None) × (bytes_eq name (codes "!=") ≡ false)
 joins_none name h =
     let g = or_parts _ (bytes_eq name (codes "#")) h in
     let f = or_parts _ (bytes_eq name (codes "!=")) g.0 in
@@ -99,7 +99,7 @@ comparison_atom st scope name t u s n = by (bytes_eq name (codes "=")) refl
     by true e = rw e refl
     by false e = rw (e, n) refl
 
-two_atom : (st : Style) (scope : List Bound) (name : List ℕ) (t u : RawTree) (s : Reading) → joins name ≡ false
+two_atom : (st : Style) (scope : List Bound) (name : List ℕ) (t u : RawTree) (s : Reading) → joins_formulas name ≡ false
     → is_atom (formula_in st scope s (named name (more_raws t (more_raws u no_raws)))).tree ≡ true
 two_atom st scope name t u s h =
     let none = joins_none name h in
@@ -114,7 +114,7 @@ atom_read st scope s (named name no_raws) h e =
     let v = named_variable st scope name s in
     sentence_atom st scope name v.tree v.reading n.0 n.1 e
 atom_read st scope s (named name (more_raws t no_raws)) h e = (let n : is_denial name ≡ false = not_it (is_denial name) h in rw n refl)
-atom_read st scope s (named name (more_raws t (more_raws u no_raws))) h e = two_atom st scope name t u s (not_it (joins name) h)
+atom_read st scope s (named name (more_raws t (more_raws u no_raws))) h e = two_atom st scope name t u s (not_it (joins_formulas name) h)
 atom_read st scope s (named name (more_raws t (more_raws u (more_raws v ts)))) h e = refl
 
 denied_some : (f : Fol) → is_atom f ≡ true → HasSome (literal_in (negation f))
@@ -133,7 +133,7 @@ literal_read st scope s (named name (more_raws t (more_raws u no_raws))) h e = b
   where
     by : (b : Bool) → bytes_eq name (codes "!=") ≡ b → HasSome (literal_in (formula_in st scope s (named name (more_raws t (more_raws u no_raws)))).tree)
     by true i = (let is : name ≡ codes "!=" = (bytes_eq-Decides name (codes "!=")).0 i in subst (λ n. HasSome (literal_in (formula_in st scope s (named n (more_raws t (more_raws u no_raws)))).tree)) (sym is) (_, refl))
-    by false i = literal_some (formula_in st scope s (named name (more_raws t (more_raws u no_raws)))).tree (two_atom st scope name t u s (not_it (joins name) (or_else (bytes_eq name (codes "!=")) (not (joins name)) h i)))
+    by false i = literal_some (formula_in st scope s (named name (more_raws t (more_raws u no_raws)))).tree (two_atom st scope name t u s (not_it (joins_formulas name) (or_else (bytes_eq name (codes "!=")) (not (joins_formulas name)) h i)))
 literal_read st scope s (named name (more_raws t (more_raws u (more_raws v ts)))) h e = (_, refl)
 
 prepended_some : (o : Option Lit) (c : Option ClauseTree) → HasSome o → HasSome c → HasSome (prepended o c)

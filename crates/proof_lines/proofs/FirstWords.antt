@@ -7,7 +7,7 @@ use Rattle.derivation.specs.declared.words.Satellite.{Satellite}
 use Rattle.ladr_commands.specs.Wanted.{is_comma}
 use Rattle.ladr_lex.specs.Lexeme.{Lexeme}
 use Rattle.proof_words.specs.Classes.{is_of, first_name, first_named, later_named, word_text, names_formula, may_begin}
-use Rattle.proof_words.specs.Spelling.{Spelling, complete, wants, satellites, path, rewritings, words, named, line_words, one_more, no_more, behind_name, after, outcome, WordsOutcome, reads, stops}
+use Rattle.proof_words.specs.Spelling.{Spelling, complete, wants, satellites, path, rewritings, words, named, line_words, one_more, no_more, behind_step_name, spelling_after, words_outcome, WordsOutcome, reads, stops}
 use Rattle.proof_words.specs.Written.{Written, WrittenFirst, written, states_formula, suits}
 use Rattle.proof_words.specs.declared.class.TokenClass.TheVariants.{OpenSquare, FirstWord}
 use Rattle.proof_words.specs.declared.names.ContentKind.{ContentKind}
@@ -38,14 +38,14 @@ taken : (P : Written → Type 0) (b : Bool) (f g : Spelling) → AllSay P f → 
 taken P true f g h e = subst (AllSay P) (some_is f g e) h
 taken P false f g h e = absurd cc
 
-further_says : (P : Written → Type 0) (w : WrittenFirst) (read : List LaterWord) (n : LaterName) → ((ls : List LaterWord) → P (written w ls)) → AllSay P (behind_name w read n)
+further_says : (P : Written → Type 0) (w : WrittenFirst) (read : List LaterWord) (n : LaterName) → ((ls : List LaterWord) → P (written w ls)) → AllSay P (behind_step_name w read n)
 further_says P w read later.Rewrite h = λ a b ls. h ls
 further_says P w read later.Flip h = λ a b c ls. h ls
 further_says P w read later.Merge h = λ a b c ls. h ls
 further_says P w read later.Xx h = λ a b c ls. h ls
 further_says P w read later.UnitDel h = λ a b c d e ls. h ls
 
-all_after : (P : Written → Type 0) (f g : Spelling) (t : Lexeme) → AllSay P f → after f t ≡ Some g → AllSay P g
+all_after : (P : Written → Type 0) (f g : Spelling) (t : Lexeme) → AllSay P f → spelling_after f t ≡ Some g → AllSay P g
 all_after P (complete w) g t h e = absurd cc
 all_after P (wants c onward) g t h e = taken P (is_of c t) (onward t) g (h t) e
 all_after P (satellites read onward) g t h e =
@@ -60,12 +60,12 @@ words_of v (reads w r) = w
 words_of v (stops us) = v
 
 says_behind : (P : Written → Type 0) (f : Spelling) (t : Lexeme) (ts r : List Lexeme) (w : Written) (o : Option Spelling) → AllSay P f
-    → ((g : Spelling) → AllSay P g → outcome g ts ≡ reads w r → P w)
-    → after f t ≡ o → option_map_or (λ g. outcome g ts) o (stops (t ∷ ts)) ≡ reads w r → P w
+    → ((g : Spelling) → AllSay P g → words_outcome g ts ≡ reads w r → P w)
+    → spelling_after f t ≡ o → option_map_or (λ g. words_outcome g ts) o (stops (t ∷ ts)) ≡ reads w r → P w
 says_behind P f t ts r w None h ih a e = absurd (no_stop w r (t ∷ ts) (sym e))
 says_behind P f t ts r w (Some g) h ih a e = ih g (all_after P f g t h a) e
 
-says_so : (P : Written → Type 0) (f : Spelling) (ts r : List Lexeme) (w : Written) → AllSay P f → outcome f ts ≡ reads w r → P w
+says_so : (P : Written → Type 0) (f : Spelling) (ts r : List Lexeme) (w : Written) → AllSay P f → words_outcome f ts ≡ reads w r → P w
 says_so P (complete v) [] r w h e = subst P (ap (words_of v) e) h
 says_so P (wants c onward) [] r w h e = absurd (no_stop w r [] (sym e))
 says_so P (satellites read onward) [] r w h e = absurd (no_stop w r [] (sym e))
@@ -73,11 +73,11 @@ says_so P (path read onward) [] r w h e = absurd (no_stop w r [] (sym e))
 says_so P (rewritings v read) [] r w h e = absurd (no_stop w r [] (sym e))
 says_so P (words v read) [] r w h e = absurd (no_stop w r [] (sym e))
 says_so P (complete v) (t ∷ ts) r w h e = subst P (ap (words_of v) e) h
-says_so P (wants c onward) (t ∷ ts) r w h e = says_behind P (wants c onward) t ts r w (after (wants c onward) t) h (λ g k i. says_so P g ts r w k i) refl e
-says_so P (satellites read onward) (t ∷ ts) r w h e = says_behind P (satellites read onward) t ts r w (after (satellites read onward) t) h (λ g k i. says_so P g ts r w k i) refl e
-says_so P (path read onward) (t ∷ ts) r w h e = says_behind P (path read onward) t ts r w (after (path read onward) t) h (λ g k i. says_so P g ts r w k i) refl e
-says_so P (rewritings v read) (t ∷ ts) r w h e = says_behind P (rewritings v read) t ts r w (after (rewritings v read) t) h (λ g k i. says_so P g ts r w k i) refl e
-says_so P (words v read) (t ∷ ts) r w h e = says_behind P (words v read) t ts r w (after (words v read) t) h (λ g k i. says_so P g ts r w k i) refl e
+says_so P (wants c onward) (t ∷ ts) r w h e = says_behind P (wants c onward) t ts r w (spelling_after (wants c onward) t) h (λ g k i. says_so P g ts r w k i) refl e
+says_so P (satellites read onward) (t ∷ ts) r w h e = says_behind P (satellites read onward) t ts r w (spelling_after (satellites read onward) t) h (λ g k i. says_so P g ts r w k i) refl e
+says_so P (path read onward) (t ∷ ts) r w h e = says_behind P (path read onward) t ts r w (spelling_after (path read onward) t) h (λ g k i. says_so P g ts r w k i) refl e
+says_so P (rewritings v read) (t ∷ ts) r w h e = says_behind P (rewritings v read) t ts r w (spelling_after (rewritings v read) t) h (λ g k i. says_so P g ts r w k i) refl e
+says_so P (words v read) (t ∷ ts) r w h e = says_behind P (words v read) t ts r w (spelling_after (words v read) t) h (λ g k i. says_so P g ts r w k i) refl e
 
 -- a name leads to words of its sort
 named_sort : (n : FirstName) → AllSay (λ w. states_formula w.first ≡ names_formula n) (named n)
@@ -103,26 +103,26 @@ pub record Opened (kind : ContentKind) (ts r : List Lexeme) (w : Written) : Type
   pub is : ts ≡ square ∷ (name ∷ rest)
   pub opens : is_of OpenSquare square ≡ true
   pub fits : is_of (FirstWord kind) name ≡ true
-  pub reads_on : outcome (named (first_named name)) rest ≡ reads w r
+  pub reads_on : words_outcome (named (first_named name)) rest ≡ reads w r
 
 opened_two : (kind : ContentKind) (t u : Lexeme) (us r : List Lexeme) (w : Written) (a b : Bool) → is_of OpenSquare t ≡ a → is_of (FirstWord kind) u ≡ b →
-    outcome (line_words kind) (t ∷ (u ∷ us)) ≡ reads w r → Opened kind (t ∷ (u ∷ us)) r w
+    words_outcome (line_words kind) (t ∷ (u ∷ us)) ≡ reads w r → Opened kind (t ∷ (u ∷ us)) r w
 opened_two kind t u us r w true true i j e =
     record { square = t; name = u; rest = us; is = refl; opens = i; fits = j; reads_on = rw (i, j) at e }
 opened_two kind t u us r w true false i j e = absurd (no_stop w r (u ∷ us) (sym (rw (i, j) at e)))
 opened_two kind t u us r w false b i j e = absurd (no_stop w r (t ∷ (u ∷ us)) (sym (rw i at e)))
 
-opened_one : (kind : ContentKind) (t : Lexeme) (r : List Lexeme) (w : Written) (a : Bool) → is_of OpenSquare t ≡ a → outcome (line_words kind) (t ∷ []) ≡ reads w r → ⊥
+opened_one : (kind : ContentKind) (t : Lexeme) (r : List Lexeme) (w : Written) (a : Bool) → is_of OpenSquare t ≡ a → words_outcome (line_words kind) (t ∷ []) ≡ reads w r → ⊥
 opened_one kind t r w true i e = no_stop w r [] (sym (rw i at e))
 opened_one kind t r w false i e = no_stop w r (t ∷ []) (sym (rw i at e))
 
-pub opened : (kind : ContentKind) (ts r : List Lexeme) (w : Written) → outcome (line_words kind) ts ≡ reads w r → Opened kind ts r w
+pub opened : (kind : ContentKind) (ts r : List Lexeme) (w : Written) → words_outcome (line_words kind) ts ≡ reads w r → Opened kind ts r w
 opened kind [] r w e = absurd (no_stop w r [] (sym e))
 opened kind (t ∷ []) r w e = absurd (opened_one kind t r w (is_of OpenSquare t) refl e)
 opened kind (t ∷ u ∷ us) r w e = opened_two kind t u us r w (is_of OpenSquare t) (is_of (FirstWord kind) u) refl refl e
 
-pub closed_up : (kind : ContentKind) (ts r : List Lexeme) (w : Written) → Opened kind ts r w → outcome (line_words kind) ts ≡ reads w r
-closed_up kind ts r w o = ap (outcome (line_words kind)) o.is ∙ (rw (o.opens, o.fits) o.reads_on)
+pub closed_up : (kind : ContentKind) (ts r : List Lexeme) (w : Written) → Opened kind ts r w → words_outcome (line_words kind) ts ≡ reads w r
+closed_up kind ts r w o = ap (words_outcome (line_words kind)) o.is ∙ (rw (o.opens, o.fits) o.reads_on)
 
 fits_any : (kind : ContentKind) (o : Option FirstName) → option_map_or (may_begin kind) o false ≡ true → option_map_or (may_begin Either) o false ≡ true
 fits_any kind None h = absurd (false≢true h)
@@ -139,7 +139,7 @@ begins_so Clause n w e h = ap not (sym e) ∙ h
 begins_so Either n w e h = refl
 
 -- words behind content of a kind are words behind any
-pub wider : (kind : ContentKind) (ts r : List Lexeme) (w : Written) → outcome (line_words kind) ts ≡ reads w r → outcome (line_words Either) ts ≡ reads w r
+pub wider : (kind : ContentKind) (ts r : List Lexeme) (w : Written) → words_outcome (line_words kind) ts ≡ reads w r → words_outcome (line_words Either) ts ≡ reads w r
 wider kind ts r w e =
     let o = opened kind ts r w e in
     closed_up Either ts r w (record {
@@ -153,8 +153,8 @@ wider kind ts r w e =
     })
 
 -- and the other way, where the first one suits
-pub narrower : (kind : ContentKind) (ts r : List Lexeme) (w : Written) → suits kind w.first ≡ true → outcome (line_words Either) ts ≡ reads w r
-    → outcome (line_words kind) ts ≡ reads w r
+pub narrower : (kind : ContentKind) (ts r : List Lexeme) (w : Written) → suits kind w.first ≡ true → words_outcome (line_words Either) ts ≡ reads w r
+    → words_outcome (line_words kind) ts ≡ reads w r
 narrower kind ts r w h e =
     let o = opened Either ts r w e in
     let n = first_named o.name in

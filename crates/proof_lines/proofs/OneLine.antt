@@ -8,7 +8,7 @@ use Rattle.ladr_reader.proofs.Complete.{item_one}
 use Rattle.proof_lines.specs.ContentTokens.{LineTables, IsContent, content_in, behind_content_in}
 use Rattle.proof_lines.specs.Lines.{LineParts, IsFirstLine}
 use Rattle.proof_lines.proofs.Stops.{item_cut}
-use Rattle.proof_words.specs.Classes.{is_of, number_of}
+use Rattle.proof_words.specs.Classes.{is_of, token_number}
 use Rattle.proof_words.specs.Faults.{AreFirstWords}
 use Rattle.proof_words.specs.Spelling.{SaysWords, line_words}
 use Rattle.proof_words.specs.Written.{states_formula}
@@ -40,7 +40,7 @@ pub record FirstParts (g : LineTables) (ts : List Lexeme) (l : LineParts) (n : �
   pub rest : List Lexeme
   pub is : ts ≡ number ∷ rest
   pub fits : is_of Number number ≡ true
-  pub number_is : l.number ≡ number_of number
+  pub number_is : l.number ≡ token_number number
   pub content : IsContent g (states_formula l.words.first) (content_in rest) l.content
   pub count : ℕ
   pub words : AreFirstWords (line_words Either) (behind_content_in rest) l.words count
@@ -84,6 +84,6 @@ one_line g ts l m i j h k =
     let words = one_front (line_words Either) (behind_content_in a.rest) l.words m.words a.count b.count a.words here in
     let there : IsContent g (states_formula m.words.first) (content_in a.rest) m.content = subst (λ us. IsContent g (states_formula m.words.first) (content_in us) m.content) (sym rests) b.content in
     let same : IsContent g (states_formula l.words.first) (content_in a.rest) m.content = subst (λ w. IsContent g (states_formula w.first) (content_in a.rest) m.content) (sym words.0) there in (
-      same_parts l m (a.number_is ∙ ap number_of heads ∙ sym b.number_is) (content_one g (states_formula l.words.first) (content_in a.rest) l.content m.content a.content same) words.0,
+      same_parts l m (a.number_is ∙ ap token_number heads ∙ sym b.number_is) (content_one g (states_formula l.words.first) (content_in a.rest) l.content m.content a.content same) words.0,
       a.len ∙ ap₂ (λ us n. suc (length (content_in us) + n)) rests words.1 ∙ sym b.len,
     )

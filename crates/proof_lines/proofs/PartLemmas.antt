@@ -15,7 +15,7 @@ use Rattle.proof_lines.specs.declared.content.Terms.{Terms}
 use Rattle.proof_lines.specs.declared.parts.Behind.{Behind}
 use Rattle.proof_lines.proofs.Contents.{lexemes_long, lexemes_append}
 use Rattle.proof_lines.proofs.FirstWords.{wider}
-use Rattle.proof_words.specs.Classes.{is_of, word_text, number_of}
+use Rattle.proof_words.specs.Classes.{is_of, word_text, token_number}
 use Rattle.proof_words.specs.Faults.{AreFirstWords, IsBadWordToken}
 use Rattle.proof_words.specs.Spelling.{line_words}
 use Rattle.proof_words.specs.Written.{written_of, written_first, states_formula}
@@ -73,7 +73,7 @@ bad_behind g ts end k content kind h i front back seen bad = inr (record {
   behind = ap (λ (n : ℕ). n + k) (sym (front_long ts end h) ∙ ap length front);
 })
 
-some_number : (t : Token) (n : ℕ) → whole_number (word_text (lexeme_of t)) ≡ Some n → (is_of Number (lexeme_of t) ≡ true) × (n ≡ number_of (lexeme_of t))
+some_number : (t : Token) (n : ℕ) → whole_number (word_text (lexeme_of t)) ≡ Some n → (is_of Number (lexeme_of t) ≡ true) × (n ≡ token_number (lexeme_of t))
 some_number t n e = (rw e refl, rw e refl)
 
 -- a number in front of both

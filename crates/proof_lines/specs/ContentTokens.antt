@@ -1,4 +1,5 @@
--- The content of a line: tokens up to the first full stop, read with the operators of formulas or of clauses.
+-- The content of a line: tokens up to the first full stop, read with the operators of formulas or
+-- of clauses.
 use Rattle.std.specs.Prelude.{Bool, true, false, IsTrue, List, [], ◌∷◌, if◌then◌else◌}
 use Rattle.fol_core.specs.RawTree.{RawTree}
 use Rattle.ladr_commands.specs.Wanted.{is_stop}
@@ -17,7 +18,8 @@ pub record LineTables : Type 0 where
   pub formulas : OperatorTable
   pub clauses : OperatorTable
 
--- clauses have no operators that stand before their argument and are named like a clause's variable or a Skolem symbol
+-- clauses have no operators that stand before their argument and are named like a clause's variable
+-- or a Skolem symbol
 abbrev pub line_tables : Bool → List OperatorRow → LineTables
 line_tables prolog rows = record {
   formulas = table_of rows;

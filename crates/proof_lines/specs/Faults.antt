@@ -68,13 +68,14 @@ abbrev pub HoldsNoLine : LineTables → List Lexeme → Type 0
 HoldsNoLine g ts =
     (front rest : List Lexeme) (l : LineParts) → ts ≡ front ++ rest → ¬ IsProofLine g front l
 
--- What is true of a bad token: no line begins with the tokens up to and with it, nor are tokens before it a line themselves.
+-- What is true of a bad token: no line begins with the tokens up to and with it, nor are tokens
+-- before it a line themselves.
 pub record IsBadLineToken (g : LineTables) (ts : List Lexeme) (k : ℕ) : Type 0 where
   pub here : k < length ts → ¬ BeginsLine g (take (k + 1) ts)
   pub none : HoldsNoLine g ts
 
--- The tokens begin with no line, and this one is bad; or with a line that is too deep, or is misused by this row at least. Nothing
--- is said of memory.
+-- The tokens begin with no line, and this one is bad; or with a line that is too deep, or is
+-- misused by this row at least. Nothing is said of memory.
 abbrev pub IsLineFault :
     LineTables → Style → List Symbol → List Symbol → List Lexeme → LineFault → Type 0
 IsLineFault g st problem table ts (Bad k) = IsBadOfLine g ts k
@@ -87,14 +88,16 @@ IsLineFault g st problem table ts (Misused misuse) =
     × (line_misuse st problem table (states_formula l.words.first) l.content ≡ Some misuse)
 IsLineFault g st problem table ts Memory = Unit {0}
 
--- The tokens begin with a line that is neither too deep nor misused, the code has it, and behind it this table.
+-- The tokens begin with a line that is neither too deep nor misused, the code has it, and behind it
+-- this table.
 pub record IsLineRead
     (g : LineTables) (st : Style) (problem table : List Symbol) (ts : List Lexeme) (r : LineRead)
     (after : List Symbol) : Type 0 where
   pub parts : LineParts
   pub first : IsFirstLine g ts parts r.len
   pub shallow : is_too_deep (states_formula parts.words.first) parts.content ≡ false
-  pub unmisused : line_misuse st problem table (states_formula parts.words.first) parts.content ≡ None
+  pub unmisused : line_misuse st problem table (states_formula parts.words.first) parts.content
+      ≡ None
   pub line : IsLineOf st table parts r.line
   pub symbols :
       after ≡ (line_made st table (states_formula parts.words.first) parts.content).reading.symbols

@@ -3,7 +3,7 @@ use Rattle.std.specs.Prelude.{◌≡◌, ℕ, ◌≤◌, true, List, ◌∷◌, 
 use Rattle.fol_core.specs.RawTree.{RawTree}
 use Rattle.ladr_lex.specs.Lexeme.{Lexeme}
 use Rattle.proof_lines.specs.ContentTokens.{LineTables, IsContent}
-use Rattle.proof_words.specs.Classes.{is_of, number_of}
+use Rattle.proof_words.specs.Classes.{is_of, token_number}
 use Rattle.proof_words.specs.Spelling.{SaysWords, line_words}
 use Rattle.proof_words.specs.Written.{Written, states_formula}
 use Rattle.proof_words.specs.declared.class.TokenClass.TheVariants.{Number}
@@ -22,7 +22,7 @@ pub record IsProofLine (g : LineTables) (ts : List Lexeme) (l : LineParts) : Typ
   pub words : List Lexeme
   pub split : ts ≡ number ∷ (item ++ words)
   pub is_number : is_of Number number ≡ true
-  pub number_is : l.number ≡ number_of number
+  pub number_is : l.number ≡ token_number number
   pub content : IsContent g (states_formula l.words.first) item l.content
   pub says : SaysWords (line_words Either) words l.words
 

@@ -7,18 +7,20 @@ use Rattle.ladr_formulas.specs.Formulas.{is_denial, arity_of}
 use Rattle.ladr_reader.specs.Capped.{disjuncts, all_within}
 use Rattle.proof_lines.specs.declared.literals.TheConstants.{MOST_ATOM_LEVELS, MOST_LITERAL_LEVELS}
 
--- whether a name with two arguments joins formulas, or a formula and its attributes, or denies an equation
-abbrev pub joins : List ℕ → Bool
-joins s =
+-- whether a name with two arguments joins formulas, or a formula and its attributes, or denies an
+-- equation
+abbrev pub joins_formulas : List ℕ → Bool
+joins_formulas s =
     bytes_eq s (codes "&") || bytes_eq s (codes "|") || bytes_eq s (codes "->")
     || bytes_eq s (codes "<-") || bytes_eq s (codes "<->") || bytes_eq s (codes "!=")
     || bytes_eq s (codes "#")
 
--- whether a name with so many arguments is that of a relation, or of an equation; one without may be a variable's, which is misused
+-- whether a name with so many arguments is that of a relation, or of an equation; one without may
+-- be a variable's, which is misused
 abbrev pub names_atom : List ℕ → ℕ → Bool
 names_atom s arity =
     if arity == 0 then not (bytes_eq s (codes "$T") || bytes_eq s (codes "$F"))
-    else (if arity == 1 then not (is_denial s) else not (arity == 2 && joins s))
+    else (if arity == 1 then not (is_denial s) else not (arity == 2 && joins_formulas s))
 
 abbrev pub reads_as_atom : RawTree → Bool
 reads_as_atom (quantified q x t) = false

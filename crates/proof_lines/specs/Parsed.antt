@@ -36,9 +36,9 @@ first_number [] = None
 first_number (t ∷ ts) = whole_number (word_text t)
 
 -- the code has the term, or nothing where it is too deep
-abbrev pub IsTermRead : RawTree → Option Raw → Type 0
-IsTermRead t (Some raw) = (raw_of raw ≡ t) × (is_too_deep true t ≡ false)
-IsTermRead t None = is_too_deep true t ≡ true
+abbrev pub HasTermRead : RawTree → Option Raw → Type 0
+HasTermRead t (Some raw) = (raw_of raw ≡ t) × (is_too_deep true t ≡ false)
+HasTermRead t None = is_too_deep true t ≡ true
 
 -- the code has the literals, or nothing where one is too deep
 abbrev pub AreLiteralsRead : RawTree → Option (Vec Raw) → Type 0
@@ -49,7 +49,7 @@ AreLiteralsRead t None = is_too_deep false t ≡ true
 
 -- the content is one of a formula, and the code has it; so of a clause
 abbrev pub IsFormulaSeen : LineTables → List Lexeme → Option Raw → Type 0
-IsFormulaSeen g ts o = (t : RawTree) × IsContent g true ts t × IsTermRead t o
+IsFormulaSeen g ts o = (t : RawTree) × IsContent g true ts t × HasTermRead t o
 
 abbrev pub IsClauseSeen : LineTables → List Lexeme → Option (Vec Raw) → Type 0
 IsClauseSeen g ts o = (t : RawTree) × IsContent g false ts t × AreLiteralsRead t o
@@ -67,7 +67,7 @@ kind_seen (seen.Either f c) = kind.Either
 
 -- what is left of the content behind the words: the term of a formula, or the literals of a clause
 abbrev pub AreTermsRead : Bool → RawTree → Terms → Type 0
-AreTermsRead true t (Formula f) = IsTermRead t f
+AreTermsRead true t (Formula f) = HasTermRead t f
 AreTermsRead false t (Clause c) = AreLiteralsRead t c
 AreTermsRead by_formula t terms = ⊥
 
@@ -102,7 +102,7 @@ abbrev pub IsClauseTerm : RawTree → List Raw → Type 0
 IsClauseTerm t literals = (raw_list literals ≡ disjuncts t) × (read_as_clause (disjuncts t) ≡ true)
 
 -- the term breaks no row, the code has what it states, and behind it this table
-pub record IsStated
+pub record IsTermStated
     (st : Style) (problem table : List Symbol) (by_formula : Bool) (t : RawTree) (content : Content)
     (after : List Symbol) : Type 0 where
   pub unmisused : line_misuse st problem table by_formula t ≡ None

@@ -10,7 +10,7 @@ use Rattle.derivation.specs.declared.line.Content.{Content}
 use Rattle.derivation.specs.declared.line.Content.TheVariants.{Formula, Clause}
 use Rattle.derivation.specs.declared.line.Line.{Line}
 use Rattle.ladr_formulas.specs.ClauseIn.{clause_in}
-use Rattle.ladr_formulas.specs.Formulas.{Made, meets, formula_reading, names_of}
+use Rattle.ladr_formulas.specs.Formulas.{Made, meets, formula_reading, names_of_variables}
 use Rattle.ladr_formulas.specs.declared.styles.Style.{Style}
 use Rattle.ladr_lex.specs.declared.limits.TheConstants.{MOST_LEVELS}
 use Rattle.ladr_lex.specs.declared.misuse.Misuse.{Misuse}
@@ -36,7 +36,8 @@ abbrev pub is_unfit : Bool → RawTree → Bool
 is_unfit true t = has_unfit_weight (attributed t).attributes
 is_unfit false t = false
 
--- The misuse of the least row that a line breaks: besides those of its formula, a stray relation is one of the row of two kinds.
+-- The misuse of the least row that a line breaks: besides those of its formula, a stray relation is
+-- one of the row of two kinds.
 abbrev pub line_misuse : Style → List Symbol → List Symbol → Bool → RawTree → Option Misuse
 line_misuse st problem table by_formula t =
     let made = line_made st table by_formula t in
@@ -46,7 +47,7 @@ line_misuse st problem table by_formula t =
 -- the code's content is the formula with its names and label; the clause
 abbrev pub IsContentOf : Bool → RawTree → Made Fol → Content → Type 0
 IsContentOf true t m (Formula f label) =
-    (fol_of f.shape ≡ m.tree) × (f.names ≡ names_of m.reading.variables)
+    (fol_of f.shape ≡ m.tree) × (f.names ≡ names_of_variables m.reading.variables)
     × (option_map raw_of label ≡ label_of (attributed t).attributes)
 IsContentOf false t m (Clause c) = clause_in m.tree ≡ Some c
 IsContentOf by_formula t m content = ⊥

@@ -8,8 +8,8 @@ use Rattle.proof_lines.specs.Lines.{LineParts}
 use Rattle.proof_words.specs.Written.{Written}
 
 -- the operators at the start, which formulas and clauses share
-abbrev pub at_start : LineTables
-at_start = record { formulas = table_of standard_rows; clauses = table_of standard_rows }
+abbrev pub worked_tables : LineTables
+worked_tables = record { formulas = table_of standard_rows; clauses = table_of standard_rows }
 
 abbrev pub parts : ℕ → RawTree → Written → LineParts
 parts number content words = record { number = number; content = content; words = words }

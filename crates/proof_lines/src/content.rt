@@ -9,7 +9,7 @@ ghost use Rattle.ladr_reader.specs.Reads.{Item};
 ghost use Rattle.ladr_reader.specs.Table.{OperatorTable, table_of};
 ghost use Rattle.proof_lines.specs.ContentTokens.{LineTables, IsClauseItem, tables_of, content_in, behind_content_in};
 ghost use Rattle.proof_lines.specs.Faults.{IsNoItem, IsNoClause, IsNoContent};
-ghost use Rattle.proof_lines.specs.Parsed.{IsTermRead, AreLiteralsRead, IsContentSeen, kind_seen, AreTermsSeen, IsPartFault};
+ghost use Rattle.proof_lines.specs.Parsed.{HasTermRead, AreLiteralsRead, IsContentSeen, kind_seen, AreTermsSeen, IsPartFault};
 ghost use Rattle.proof_lines.specs.Literals.{may_be_clause};
 ghost use Rattle.proof_lines.specs.declared.literals.TheConstants.{MOST_LITERAL_LEVELS};
 
@@ -96,7 +96,7 @@ pub fn content_end(tokens: &[Token]) -> usize
 // The term of a formula that the tokens are.
 fn formula_seen(alloc: Global, ops: &Ops, tokens: &[Token]) -> Result<Option<Raw>, PartFault>
     ensures read { IfOk result (λ o. (t : RawTree) × Item (table_of ops.now)
-        (lexemes_of tokens.now) t × IsTermRead t o) }
+        (lexemes_of tokens.now) t × HasTermRead t o) }
     ensures fault { IfErr result (IsPartFault (IsNoItem (table_of ops.now)
         (lexemes_of tokens.now))) }
 {

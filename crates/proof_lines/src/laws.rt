@@ -5,7 +5,7 @@ ghost use Rattle.ladr_reader.specs.Worked.{constant, unary, binary};
 ghost use Rattle.proof_lines.specs.ContentTokens.{LineTables};
 ghost use Rattle.proof_lines.specs.Faults.{IsBadOfLine, IsBadLineToken};
 ghost use Rattle.proof_lines.specs.Lines.{LineParts, IsProofLine, IsFirstLine};
-ghost use Rattle.proof_lines.specs.WorkedLines.{at_start, parts};
+ghost use Rattle.proof_lines.specs.WorkedLines.{worked_tables, parts};
 ghost use Rattle.proof_words.specs.Worked.{tokens_of};
 ghost use Rattle.proof_words.specs.Written.{written, as_goal, by_copy, by_xx_res};
 
@@ -23,16 +23,16 @@ pub fn bad_tokens_are_bad()
 
 /// Lines, and tokens that are none.
 pub fn worked()
-    ensures clause { IsProofLine at_start (tokens_of "7 p(x) | -q.  [copy(5)].") (parts 7
+    ensures clause { IsProofLine worked_tables (tokens_of "7 p(x) | -q.  [copy(5)].") (parts 7
         (binary "|" (unary "p" (constant "x")) (unary "-" (constant "q")))
         (written (by_copy 5) [])) }
-    ensures formula { IsProofLine at_start (tokens_of "2 p & q # label(a).  [goal].") (parts 2
+    ensures formula { IsProofLine worked_tables (tokens_of "2 p & q # label(a).  [goal].") (parts 2
         (binary "#" (binary "&" (constant "p") (constant "q")) (unary "label" (constant "a")))
         (written as_goal [])) }
-    ensures empty { IsProofLine at_start (tokens_of "9 $F.  [xx_res(8,a)].")
+    ensures empty { IsProofLine worked_tables (tokens_of "9 $F.  [xx_res(8,a)].")
         (parts 9 (constant "$F") (written (by_xx_res 8 0) [])) }
-    ensures no_number { IsBadOfLine at_start (tokens_of "p.  [goal].") 0 }
-    ensures zeros { IsBadOfLine at_start (tokens_of "07 p.  [goal].") 0 }
-    ensures content { IsBadOfLine at_start (tokens_of "7 p q.  [goal].") 2 }
-    ensures no_clause { IsBadOfLine at_start (tokens_of "7 p & q.  [copy(5)].") 6 }
+    ensures no_number { IsBadOfLine worked_tables (tokens_of "p.  [goal].") 0 }
+    ensures zeros { IsBadOfLine worked_tables (tokens_of "07 p.  [goal].") 0 }
+    ensures content { IsBadOfLine worked_tables (tokens_of "7 p q.  [goal].") 2 }
+    ensures no_clause { IsBadOfLine worked_tables (tokens_of "7 p & q.  [copy(5)].") 6 }
 {}

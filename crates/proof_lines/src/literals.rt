@@ -3,7 +3,7 @@ ghost use Rattle.std.specs.Prelude.{◌≡◌, nat_le};
 ghost use Rattle.std.specs.List.{list_all};
 ghost use Rattle.fol_core.specs.RawTree.{depth};
 ghost use Rattle.fol_core.specs.RawView.{raw_of, raw_list};
-ghost use Rattle.proof_lines.specs.Literals.{names_atom, reads_as_atom, is_inequation, reads_as_literal, undenied, is_false, read_as_clause, are_shallow, joins};
+ghost use Rattle.proof_lines.specs.Literals.{names_atom, reads_as_atom, is_inequation, reads_as_literal, undenied, is_false, read_as_clause, are_shallow, joins_formulas};
 
 use fol_core::Raw;
 
@@ -15,7 +15,7 @@ pub const MOST_LITERAL_LEVELS: u16 = 1001;
 
 // Whether a name with two arguments joins formulas, or a formula and its attributes, or denies an equation.
 fn joins(name: &[u8]) -> bool
-    ensures { result ≡ joins name.now }
+    ensures { result ≡ joins_formulas name.now }
 {
     name == b"&".as_slice()
         || name == b"|".as_slice()

@@ -5,7 +5,7 @@ ghost use Rattle.fol_core.specs.RawView.{raw_of};
 ghost use Rattle.fol_core.specs.SymbolTable.{KeepsNumbers};
 ghost use Rattle.ladr_formulas.specs.Formulas.{Reading, meets, style_of};
 ghost use Rattle.ladr_formulas.specs.declared.styles.Mode.TheVariants.{Prover};
-ghost use Rattle.proof_lines.specs.Parsed.{AreTermsRead, IsClauseTerm, IsStated, IsStatedFault, IsTermFaultOf};
+ghost use Rattle.proof_lines.specs.Parsed.{AreTermsRead, IsClauseTerm, IsTermStated, IsStatedFault, IsTermFaultOf};
 ghost use Rattle.proof_lines.specs.Stated.{is_too_deep};
 
 use crate::content::Terms;
@@ -36,7 +36,7 @@ fn formula(
     problem: &Problem,
     symbols: &mut Symbols,
 ) -> Result<Content, LineFault>
-    ensures stated { IfOk result (λ content. IsStated (style_of Prover
+    ensures stated { IfOk result (λ content. IsTermStated (style_of Prover
         problem.now.options.prolog_style_variables) problem.now.symbols symbols.old true
         (raw_of raw) content symbols.new) }
     ensures fault { IfErr result (IsStatedFault (style_of Prover
@@ -65,7 +65,7 @@ fn clause(
 ) -> Result<Content, LineFault>
     requires { (t : RawTree) × IsClauseTerm t literals.now }
     ensures stated { (t : RawTree) → IsClauseTerm t literals.now → IfOk result (λ content.
-        IsStated (style_of Prover problem.now.options.prolog_style_variables)
+        IsTermStated (style_of Prover problem.now.options.prolog_style_variables)
         problem.now.symbols symbols.old false t content symbols.new) }
     ensures fault { (t : RawTree) → IsClauseTerm t literals.now → IfErr result
         (IsStatedFault (style_of Prover problem.now.options.prolog_style_variables)
@@ -92,7 +92,7 @@ pub fn state(
     requires { (by_formula : Bool) × (t : RawTree) × AreTermsRead by_formula t terms }
     ensures stated { (by_formula : Bool) (t : RawTree) → AreTermsRead by_formula t terms
         → IfOk result (λ content. (is_too_deep by_formula t ≡ false)
-        × IsStated (style_of Prover problem.now.options.prolog_style_variables)
+        × IsTermStated (style_of Prover problem.now.options.prolog_style_variables)
         problem.now.symbols symbols.old by_formula t content symbols.new) }
     ensures fault { (by_formula : Bool) (t : RawTree) → AreTermsRead by_formula t terms
         → IfErr result (IsTermFaultOf (style_of Prover

@@ -76,11 +76,11 @@ is_of CommaOrClose t = is_comma t || is_close t
 is_of CommaOrCloseSquare t = is_comma t || is_close_square t
 
 -- what a token of a class says
-abbrev pub number_of : Lexeme → ℕ
-number_of t = unwrap_or (whole_number (word_text t)) 0
+abbrev pub token_number : Lexeme → ℕ
+token_number t = unwrap_or (whole_number (word_text t)) 0
 
-abbrev pub place_of : Lexeme → ℕ
-place_of t = place_named (word_text t)
+abbrev pub literal_place : Lexeme → ℕ
+literal_place t = place_named (word_text t)
 
 abbrev pub first_named : Lexeme → FirstName
 first_named t = unwrap_or (first_name (word_text t)) first.Assumption

@@ -18,10 +18,12 @@ AreFirstWords f ts w n = (n ≤ length ts) × SaysWords f (take n ts) w
 
 -- no front of the tokens is such words
 abbrev pub HoldsNoWords : Spelling → List Lexeme → Type 0
-HoldsNoWords f ts = (front rest : List Lexeme) (w : Written) → ts ≡ front ++ rest → ¬ SaysWords f front w
+HoldsNoWords f ts =
+    (front rest : List Lexeme) (w : Written) → ts ≡ front ++ rest → ¬ SaysWords f front w
 
--- Token k is the first that goes on with no words of this spelling, or the tokens end there too early: some words begin with the k
--- tokens before it, and none with it as well; nor are tokens before it words themselves.
+-- Token k is the first that goes on with no words of this spelling, or the tokens end there too
+-- early: some words begin with the k tokens before it, and none with it as well; nor are tokens
+-- before it words themselves.
 pub record IsBadWordToken (f : Spelling) (ts : List Lexeme) (k : ℕ) : Type 0 where
   pub within : k ≤ length ts
   pub before : BeginsWords f (take k ts)

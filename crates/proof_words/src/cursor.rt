@@ -2,7 +2,7 @@
 ghost use Rattle.std.specs.Prelude.{◌≡◌, ◌∷◌, Err, true, IfOk, OnOk, length};
 ghost use Rattle.ladr_lex.specs.Lexeme.{Lexeme, lexeme_of, lexemes_of};
 ghost use Rattle.proof_words.specs.Classes.{is_of};
-ghost use Rattle.proof_words.specs.Spelling.{Spelling, wants, outcome, stops};
+ghost use Rattle.proof_words.specs.Spelling.{Spelling, wants, words_outcome, stops};
 ghost use Rattle.proof_words.specs.declared.fault.Halt.TheVariants.{Bad};
 
 use crate::class::TokenClass;
@@ -51,9 +51,9 @@ impl<'a> Walk<'a> {
         ensures passed { IfOk result (λ t. self.old ≡ lexeme_of t ∷ self.new) }
         ensures of { IfOk result (λ t. is_of class (lexeme_of t) ≡ true) }
         ensures ok { IfOk result (λ t. (onward : Lexeme → Spelling)
-            → outcome (wants class onward) self.old ≡ outcome (onward (lexeme_of t)) self.new) }
+            → words_outcome (wants class onward) self.old ≡ words_outcome (onward (lexeme_of t)) self.new) }
         ensures bad { result ≡ Err Bad → (onward : Lexeme → Spelling)
-            → outcome (wants class onward) self.old ≡ stops self.new }
+            → words_outcome (wants class onward) self.old ≡ stops self.new }
     {
         let Some(token) = self.tokens.get(self.at) else {
             return Err(Halt::Bad);

@@ -1,7 +1,7 @@
 // The parts that words are made of.
 ghost use Rattle.std.specs.Prelude.{◌≡◌, ◌<◌, ◌≤◌, ◌∷◌, ◌++◌, [], ℕ, List, Err, IfOk, OnOk, if◌then◌else◌, length};
 ghost use Rattle.derivation.specs.declared.words.Satellite.{Satellite};
-ghost use Rattle.proof_words.specs.Spelling.{Spelling, passing, number_then, place_then, one_number, one_place, satellite_then, subterm_then, satellites, path, wants, more_or, behind_satellites, behind_path, outcome, stops};
+ghost use Rattle.proof_words.specs.Spelling.{Spelling, passed_then, number_then, place_then, one_number, one_place, satellite_then, subterm_then, satellites, path, wants, more_or, behind_satellites, behind_path, words_outcome, stops};
 ghost use Rattle.proof_words.specs.declared.fault.Halt.TheVariants.{Bad};
 
 use crate::class::{TokenClass, word_text};
@@ -14,10 +14,10 @@ use std::alloc::Global;
 
 /// A token that says nothing more.
 pub fn pass(walk: &mut Walk, class: TokenClass) -> Result<(), Halt>
-    ensures ok { OnOk result ((f : Spelling) → outcome (passing class f) walk.old
-        ≡ outcome f walk.new) }
+    ensures ok { OnOk result ((f : Spelling) → words_outcome (passed_then class f) walk.old
+        ≡ words_outcome f walk.new) }
     ensures bad { result ≡ Err Bad → (f : Spelling)
-        → outcome (passing class f) walk.old ≡ stops walk.new }
+        → words_outcome (passed_then class f) walk.old ≡ stops walk.new }
     ensures shorter { OnOk result (length walk.new < length walk.old) }
 {
     walk.take(class)?;
@@ -27,9 +27,9 @@ pub fn pass(walk: &mut Walk, class: TokenClass) -> Result<(), Halt>
 /// A number.
 pub fn number(walk: &mut Walk) -> Result<u64, Halt>
     ensures ok { IfOk result (λ n. (onward : ℕ → Spelling)
-        → outcome (number_then onward) walk.old ≡ outcome (onward n) walk.new) }
+        → words_outcome (number_then onward) walk.old ≡ words_outcome (onward n) walk.new) }
     ensures bad { result ≡ Err Bad → (onward : ℕ → Spelling)
-        → outcome (number_then onward) walk.old ≡ stops walk.new }
+        → words_outcome (number_then onward) walk.old ≡ stops walk.new }
     ensures shorter { OnOk result (length walk.new < length walk.old) }
 {
     let token = walk.take(TokenClass::Number)?;
@@ -39,9 +39,9 @@ pub fn number(walk: &mut Walk) -> Result<u64, Halt>
 /// The name of a literal.
 pub fn place(walk: &mut Walk) -> Result<u64, Halt>
     ensures ok { IfOk result (λ a. (onward : ℕ → Spelling)
-        → outcome (place_then onward) walk.old ≡ outcome (onward a) walk.new) }
+        → words_outcome (place_then onward) walk.old ≡ words_outcome (onward a) walk.new) }
     ensures bad { result ≡ Err Bad → (onward : ℕ → Spelling)
-        → outcome (place_then onward) walk.old ≡ stops walk.new }
+        → words_outcome (place_then onward) walk.old ≡ stops walk.new }
     ensures shorter { OnOk result (length walk.new < length walk.old) }
 {
     let token = walk.take(TokenClass::LiteralName)?;
@@ -51,9 +51,9 @@ pub fn place(walk: &mut Walk) -> Result<u64, Halt>
 /// `(n)`
 pub fn one_number(walk: &mut Walk) -> Result<u64, Halt>
     ensures ok { IfOk result (λ n. (onward : ℕ → Spelling)
-        → outcome (one_number onward) walk.old ≡ outcome (onward n) walk.new) }
+        → words_outcome (one_number onward) walk.old ≡ words_outcome (onward n) walk.new) }
     ensures bad { result ≡ Err Bad → (onward : ℕ → Spelling)
-        → outcome (one_number onward) walk.old ≡ stops walk.new }
+        → words_outcome (one_number onward) walk.old ≡ stops walk.new }
 {
     pass(walk, TokenClass::Open)?;
     let n = number(walk)?;
@@ -64,9 +64,9 @@ pub fn one_number(walk: &mut Walk) -> Result<u64, Halt>
 /// `(a)`
 pub fn one_place(walk: &mut Walk) -> Result<u64, Halt>
     ensures ok { IfOk result (λ a. (onward : ℕ → Spelling)
-        → outcome (one_place onward) walk.old ≡ outcome (onward a) walk.new) }
+        → words_outcome (one_place onward) walk.old ≡ words_outcome (onward a) walk.new) }
     ensures bad { result ≡ Err Bad → (onward : ℕ → Spelling)
-        → outcome (one_place onward) walk.old ≡ stops walk.new }
+        → words_outcome (one_place onward) walk.old ≡ stops walk.new }
     ensures shorter { OnOk result (length walk.new < length walk.old) }
 {
     pass(walk, TokenClass::Open)?;
@@ -78,9 +78,9 @@ pub fn one_place(walk: &mut Walk) -> Result<u64, Halt>
 /// `a,m,b`
 pub fn satellite(walk: &mut Walk) -> Result<Satellite, Halt>
     ensures ok { IfOk result (λ s. (onward : Satellite → Spelling)
-        → outcome (satellite_then onward) walk.old ≡ outcome (onward s) walk.new) }
+        → words_outcome (satellite_then onward) walk.old ≡ words_outcome (onward s) walk.new) }
     ensures bad { result ≡ Err Bad → (onward : Satellite → Spelling)
-        → outcome (satellite_then onward) walk.old ≡ stops walk.new }
+        → words_outcome (satellite_then onward) walk.old ≡ stops walk.new }
     ensures shorter { OnOk result (length walk.new < length walk.old) }
 {
     let a = place(walk)?;
@@ -98,10 +98,10 @@ pub fn satellite(walk: &mut Walk) -> Result<Satellite, Halt>
 /// Whether a comma stands behind a part, or else what ends the parts.
 pub fn is_more(walk: &mut Walk, class: TokenClass) -> Result<bool, Halt>
     ensures ok { IfOk result (λ more. (f g : Spelling)
-        → outcome (wants class (more_or f g)) walk.old
-        ≡ outcome (if more then f else g) walk.new) }
+        → words_outcome (wants class (more_or f g)) walk.old
+        ≡ words_outcome (if more then f else g) walk.new) }
     ensures bad { result ≡ Err Bad → (f g : Spelling)
-        → outcome (wants class (more_or f g)) walk.old ≡ stops walk.new }
+        → words_outcome (wants class (more_or f g)) walk.old ≡ stops walk.new }
     ensures shorter { OnOk result (length walk.new < length walk.old) }
 {
     let token = walk.take(class)?;
@@ -111,10 +111,10 @@ pub fn is_more(walk: &mut Walk, class: TokenClass) -> Result<bool, Halt>
 // A satellite, and whether one more follows.
 fn further_satellite(walk: &mut Walk) -> Result<(Satellite, bool), Halt>
     ensures ok { IfOk result (λ r. (read : List Satellite) (onward : List Satellite → Spelling)
-        → outcome (satellites read onward) walk.old ≡ outcome (if r.1 then
+        → words_outcome (satellites read onward) walk.old ≡ words_outcome (if r.1 then
         satellites (read ++ r.0 ∷ []) onward else onward (read ++ r.0 ∷ [])) walk.new) }
     ensures bad { result ≡ Err Bad → (read : List Satellite) (onward : List Satellite → Spelling)
-        → outcome (satellites read onward) walk.old ≡ stops walk.new }
+        → words_outcome (satellites read onward) walk.old ≡ stops walk.new }
     ensures shorter { OnOk result (length walk.new < length walk.old) }
 {
     let satellite = first_satellite(walk)?;
@@ -126,10 +126,10 @@ fn further_satellite(walk: &mut Walk) -> Result<(Satellite, bool), Halt>
 #[tactic(auto, using(crate::proofs::Spellings::as_satellite))]
 fn first_satellite(walk: &mut Walk) -> Result<Satellite, Halt>
     ensures ok { IfOk result (λ s. (read : List Satellite) (onward : List Satellite → Spelling)
-        → outcome (satellites read onward) walk.old
-        ≡ outcome (behind_satellites (read ++ s ∷ []) onward) walk.new) }
+        → words_outcome (satellites read onward) walk.old
+        ≡ words_outcome (behind_satellites (read ++ s ∷ []) onward) walk.new) }
     ensures bad { result ≡ Err Bad → (read : List Satellite) (onward : List Satellite → Spelling)
-        → outcome (satellites read onward) walk.old ≡ stops walk.new }
+        → words_outcome (satellites read onward) walk.old ≡ stops walk.new }
     ensures shorter { OnOk result (length walk.new < length walk.old) }
 {
     let satellite = satellite(walk)?;
@@ -139,9 +139,9 @@ fn first_satellite(walk: &mut Walk) -> Result<Satellite, Halt>
 /// Satellites up to `)`.
 pub fn satellites(alloc: Global, walk: &mut Walk) -> Result<Vec<Satellite>, Halt>
     ensures ok { IfOk result (λ ss. (onward : List Satellite → Spelling)
-        → outcome (satellites [] onward) walk.old ≡ outcome (onward ss.items) walk.new) }
+        → words_outcome (satellites [] onward) walk.old ≡ words_outcome (onward ss.items) walk.new) }
     ensures bad { result ≡ Err Bad → (onward : List Satellite → Spelling)
-        → outcome (satellites [] onward) walk.old ≡ stops walk.new }
+        → words_outcome (satellites [] onward) walk.old ≡ stops walk.new }
 {
     let mut read = Vec::new(alloc);
     loop {
@@ -157,10 +157,10 @@ pub fn satellites(alloc: Global, walk: &mut Walk) -> Result<Vec<Satellite>, Halt
 #[tactic(auto, using(crate::proofs::Spellings::as_step))]
 fn step(walk: &mut Walk) -> Result<u64, Halt>
     ensures ok { IfOk result (λ n. (read : List ℕ) (onward : List ℕ → Spelling)
-        → outcome (path read onward) walk.old
-        ≡ outcome (behind_path (read ++ n ∷ []) onward) walk.new) }
+        → words_outcome (path read onward) walk.old
+        ≡ words_outcome (behind_path (read ++ n ∷ []) onward) walk.new) }
     ensures bad { result ≡ Err Bad → (read : List ℕ) (onward : List ℕ → Spelling)
-        → outcome (path read onward) walk.old ≡ stops walk.new }
+        → words_outcome (path read onward) walk.old ≡ stops walk.new }
     ensures shorter { OnOk result (length walk.new < length walk.old) }
 {
     let n = number(walk)?;
@@ -170,10 +170,10 @@ fn step(walk: &mut Walk) -> Result<u64, Halt>
 // A number of a path, and whether one more follows.
 fn further_step(walk: &mut Walk) -> Result<(u64, bool), Halt>
     ensures ok { IfOk result (λ r. (read : List ℕ) (onward : List ℕ → Spelling)
-        → outcome (path read onward) walk.old ≡ outcome (if r.1 then
+        → words_outcome (path read onward) walk.old ≡ words_outcome (if r.1 then
         path (read ++ r.0 ∷ []) onward else onward (read ++ r.0 ∷ [])) walk.new) }
     ensures bad { result ≡ Err Bad → (read : List ℕ) (onward : List ℕ → Spelling)
-        → outcome (path read onward) walk.old ≡ stops walk.new }
+        → words_outcome (path read onward) walk.old ≡ stops walk.new }
     ensures shorter { OnOk result (length walk.new < length walk.old) }
 {
     let n = step(walk)?;
@@ -184,9 +184,9 @@ fn further_step(walk: &mut Walk) -> Result<(u64, bool), Halt>
 // The numbers of a path up to `)`.
 fn path(alloc: Global, walk: &mut Walk) -> Result<Vec<u64>, Halt>
     ensures ok { IfOk result (λ ns. (onward : List ℕ → Spelling)
-        → outcome (path [] onward) walk.old ≡ outcome (onward ns.items) walk.new) }
+        → words_outcome (path [] onward) walk.old ≡ words_outcome (onward ns.items) walk.new) }
     ensures bad { result ≡ Err Bad → (onward : List ℕ → Spelling)
-        → outcome (path [] onward) walk.old ≡ stops walk.new }
+        → words_outcome (path [] onward) walk.old ≡ stops walk.new }
     ensures shorter { OnOk result (length walk.new < length walk.old) }
 {
     let mut read = Vec::new(alloc);
@@ -210,10 +210,10 @@ pub struct Subterm {
 /// `n(a,path)`
 pub fn read_subterm(alloc: Global, walk: &mut Walk) -> Result<Subterm, Halt>
     ensures ok { IfOk result (λ t. (onward : ℕ → ℕ → List ℕ → Spelling)
-        → outcome (subterm_then onward) walk.old
-        ≡ outcome (onward t.clause t.literal t.path.items) walk.new) }
+        → words_outcome (subterm_then onward) walk.old
+        ≡ words_outcome (onward t.clause t.literal t.path.items) walk.new) }
     ensures bad { result ≡ Err Bad → (onward : ℕ → ℕ → List ℕ → Spelling)
-        → outcome (subterm_then onward) walk.old ≡ stops walk.new }
+        → words_outcome (subterm_then onward) walk.old ≡ stops walk.new }
     ensures shorter { OnOk result (length walk.new < length walk.old) }
 {
     let clause = number(walk)?;

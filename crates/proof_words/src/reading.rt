@@ -4,7 +4,7 @@ ghost use Rattle.derivation.specs.declared.words.Satellite.{Satellite};
 ghost use Rattle.ladr_lex.specs.Lexeme.{lexemes_of};
 ghost use Rattle.proof_words.specs.Classes.{names_formula, may_begin};
 ghost use Rattle.proof_words.specs.Faults.{IsWordsFault, AreFirstWords};
-ghost use Rattle.proof_words.specs.Spelling.{Spelling, line_words, behind_content, behind_first, named, takes_steps, clash, equation_then, outcome, reads, stops};
+ghost use Rattle.proof_words.specs.Spelling.{Spelling, line_words, behind_content, behind_first_word, named, takes_steps, clash, equation_then, words_outcome, reads, stops};
 ghost use Rattle.proof_words.specs.Written.{written_of, written_first, states_formula, suits};
 ghost use Rattle.proof_words.specs.declared.fault.Halt.TheVariants.{Bad};
 ghost use Rattle.proof_words.specs.declared.names.FirstName.TheVariants.{Resolve, Factor, Para, XxRes};
@@ -40,10 +40,10 @@ pub fn read_words(
 
 // All words.
 fn line(alloc: Global, kind: ContentKind, walk: &mut Walk) -> Result<Just, Halt>
-    ensures ok { IfOk result (λ j. outcome (line_words kind) walk.old
+    ensures ok { IfOk result (λ j. words_outcome (line_words kind) walk.old
         ≡ reads (written_of j) walk.new) }
     ensures suits { IfOk result (λ j. suits kind (written_first j.first) ≡ true) }
-    ensures bad { result ≡ Err Bad → outcome (line_words kind) walk.old ≡ stops walk.new }
+    ensures bad { result ≡ Err Bad → words_outcome (line_words kind) walk.old ≡ stops walk.new }
 {
     pass(walk, TokenClass::OpenSquare)?;
     let name = name(kind, walk)?;
@@ -53,10 +53,10 @@ fn line(alloc: Global, kind: ContentKind, walk: &mut Walk) -> Result<Just, Halt>
 
 // The name of the first one.
 fn name(kind: ContentKind, walk: &mut Walk) -> Result<FirstName, Halt>
-    ensures ok { IfOk result (λ name. outcome (behind_content kind) walk.old
-        ≡ outcome (named name) walk.new) }
+    ensures ok { IfOk result (λ name. words_outcome (behind_content kind) walk.old
+        ≡ words_outcome (named name) walk.new) }
     ensures begins { IfOk result (λ name. may_begin kind name ≡ true) }
-    ensures bad { result ≡ Err Bad → outcome (behind_content kind) walk.old ≡ stops walk.new }
+    ensures bad { result ≡ Err Bad → words_outcome (behind_content kind) walk.old ≡ stops walk.new }
 {
     let token = walk.take(TokenClass::FirstWord(kind))?;
     Ok(first_name(word_text(&token)).unwrap_or(FirstName::Assumption))
@@ -64,10 +64,10 @@ fn name(kind: ContentKind, walk: &mut Walk) -> Result<FirstName, Halt>
 
 // `(n,a,m,b)`
 fn resolve(walk: &mut Walk) -> Result<First, Halt>
-    ensures ok { IfOk result (λ first. outcome (named Resolve) walk.old
-        ≡ outcome (behind_first (written_first first)) walk.new) }
+    ensures ok { IfOk result (λ first. words_outcome (named Resolve) walk.old
+        ≡ words_outcome (behind_first_word (written_first first)) walk.new) }
     ensures sort { IfOk result (λ first. states_formula (written_first first) ≡ false) }
-    ensures bad { result ≡ Err Bad → outcome (named Resolve) walk.old ≡ stops walk.new }
+    ensures bad { result ≡ Err Bad → words_outcome (named Resolve) walk.old ≡ stops walk.new }
 {
     pass(walk, TokenClass::Open)?;
     let n = number(walk)?;
@@ -80,9 +80,9 @@ fn resolve(walk: &mut Walk) -> Result<First, Halt>
 // `(n,a1,m1,b1,..)`
 fn clash(alloc: Global, walk: &mut Walk) -> Result<(u64, Vec<Satellite>), Halt>
     ensures ok { IfOk result (λ r. (onward : ℕ → List Satellite → Spelling)
-        → outcome (clash onward) walk.old ≡ outcome (onward r.0 r.1.items) walk.new) }
+        → words_outcome (clash onward) walk.old ≡ words_outcome (onward r.0 r.1.items) walk.new) }
     ensures bad { result ≡ Err Bad → (onward : ℕ → List Satellite → Spelling)
-        → outcome (clash onward) walk.old ≡ stops walk.new }
+        → words_outcome (clash onward) walk.old ≡ stops walk.new }
 {
     pass(walk, TokenClass::Open)?;
     let n = number(walk)?;
@@ -93,10 +93,10 @@ fn clash(alloc: Global, walk: &mut Walk) -> Result<(u64, Vec<Satellite>), Halt>
 
 // `(n,a,b)`
 fn factor(walk: &mut Walk) -> Result<First, Halt>
-    ensures ok { IfOk result (λ first. outcome (named Factor) walk.old
-        ≡ outcome (behind_first (written_first first)) walk.new) }
+    ensures ok { IfOk result (λ first. words_outcome (named Factor) walk.old
+        ≡ words_outcome (behind_first_word (written_first first)) walk.new) }
     ensures sort { IfOk result (λ first. states_formula (written_first first) ≡ false) }
-    ensures bad { result ≡ Err Bad → outcome (named Factor) walk.old ≡ stops walk.new }
+    ensures bad { result ≡ Err Bad → words_outcome (named Factor) walk.old ≡ stops walk.new }
 {
     pass(walk, TokenClass::Open)?;
     let n = number(walk)?;
@@ -110,10 +110,10 @@ fn factor(walk: &mut Walk) -> Result<First, Halt>
 
 // `(n,a)`
 fn xx_res(walk: &mut Walk) -> Result<First, Halt>
-    ensures ok { IfOk result (λ first. outcome (named XxRes) walk.old
-        ≡ outcome (behind_first (written_first first)) walk.new) }
+    ensures ok { IfOk result (λ first. words_outcome (named XxRes) walk.old
+        ≡ words_outcome (behind_first_word (written_first first)) walk.new) }
     ensures sort { IfOk result (λ first. states_formula (written_first first) ≡ false) }
-    ensures bad { result ≡ Err Bad → outcome (named XxRes) walk.old ≡ stops walk.new }
+    ensures bad { result ≡ Err Bad → words_outcome (named XxRes) walk.old ≡ stops walk.new }
 {
     pass(walk, TokenClass::Open)?;
     let n = number(walk)?;
@@ -126,9 +126,9 @@ fn xx_res(walk: &mut Walk) -> Result<First, Halt>
 // `n(a,s)`
 fn equation(walk: &mut Walk) -> Result<(u64, u64, u64), Halt>
     ensures ok { IfOk result (λ r. (onward : ℕ → ℕ → ℕ → Spelling)
-        → outcome (equation_then onward) walk.old ≡ outcome (onward r.0 r.1 r.2) walk.new) }
+        → words_outcome (equation_then onward) walk.old ≡ words_outcome (onward r.0 r.1 r.2) walk.new) }
     ensures bad { result ≡ Err Bad → (onward : ℕ → ℕ → ℕ → Spelling)
-        → outcome (equation_then onward) walk.old ≡ stops walk.new }
+        → words_outcome (equation_then onward) walk.old ≡ stops walk.new }
 {
     let n = number(walk)?;
     pass(walk, TokenClass::Open)?;
@@ -141,10 +141,10 @@ fn equation(walk: &mut Walk) -> Result<(u64, u64, u64), Halt>
 
 // `(n(a,s),m(b,path))`
 fn para(alloc: Global, walk: &mut Walk) -> Result<First, Halt>
-    ensures ok { IfOk result (λ first. outcome (named Para) walk.old
-        ≡ outcome (behind_first (written_first first)) walk.new) }
+    ensures ok { IfOk result (λ first. words_outcome (named Para) walk.old
+        ≡ words_outcome (behind_first_word (written_first first)) walk.new) }
     ensures sort { IfOk result (λ first. states_formula (written_first first) ≡ false) }
-    ensures bad { result ≡ Err Bad → outcome (named Para) walk.old ≡ stops walk.new }
+    ensures bad { result ≡ Err Bad → words_outcome (named Para) walk.old ≡ stops walk.new }
 {
     pass(walk, TokenClass::Open)?;
     let (from, equation, side) = equation(walk)?;
@@ -163,11 +163,11 @@ fn para(alloc: Global, walk: &mut Walk) -> Result<First, Halt>
 
 // The first word behind its name.
 fn named(alloc: Global, walk: &mut Walk, name: FirstName) -> Result<First, Halt>
-    ensures ok { IfOk result (λ first. outcome (named name) walk.old
-        ≡ outcome (behind_first (written_first first)) walk.new) }
+    ensures ok { IfOk result (λ first. words_outcome (named name) walk.old
+        ≡ words_outcome (behind_first_word (written_first first)) walk.new) }
     ensures sort { IfOk result (λ first. states_formula (written_first first)
         ≡ names_formula name) }
-    ensures bad { result ≡ Err Bad → outcome (named name) walk.old ≡ stops walk.new }
+    ensures bad { result ≡ Err Bad → words_outcome (named name) walk.old ≡ stops walk.new }
 {
     match name {
         FirstName::Assumption => Ok(First::Assumption),
@@ -204,10 +204,10 @@ fn takes_steps(first: &First) -> bool
 
 // What stands behind the first word.
 fn behind_first(alloc: Global, walk: &mut Walk, first: First) -> Result<Just, Halt>
-    ensures ok { IfOk result (λ j. outcome (behind_first (written_first first)) walk.old
+    ensures ok { IfOk result (λ j. words_outcome (behind_first_word (written_first first)) walk.old
         ≡ reads (written_of j) walk.new) }
     ensures first { IfOk result (λ j. written_first j.first ≡ written_first first) }
-    ensures bad { result ≡ Err Bad → outcome (behind_first (written_first first)) walk.old
+    ensures bad { result ≡ Err Bad → words_outcome (behind_first_word (written_first first)) walk.old
         ≡ stops walk.new }
 {
     if takes_steps(&first) {

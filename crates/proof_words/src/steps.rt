@@ -2,7 +2,7 @@
 ghost use Rattle.std.specs.Prelude.{◌≡◌, ◌<◌, ◌∷◌, ◌++◌, [], List, Err, IfOk, OnOk, if◌then◌else◌, length, map};
 ghost use Rattle.derivation.specs.Later.{LaterWord, rewritten, flipped, merged, reflexive, unit_deleted};
 ghost use Rattle.derivation.specs.View.{later_of};
-ghost use Rattle.proof_words.specs.Spelling.{Spelling, passing, complete, words, rewritings, behind_name, behind_rewritings, one_more, no_more, outcome, reads, stops};
+ghost use Rattle.proof_words.specs.Spelling.{Spelling, passed_then, complete, words, rewritings, behind_step_name, behind_rewritings, one_more, no_more, words_outcome, reads, stops};
 ghost use Rattle.proof_words.specs.Written.{Written, WrittenFirst, written};
 ghost use Rattle.proof_words.specs.declared.class.TokenClass.TheVariants.{Close, Stop};
 ghost use Rattle.proof_words.specs.declared.names.LaterName.TheVariants as names;
@@ -20,10 +20,10 @@ use std::alloc::Global;
 #[tactic(auto, using(crate::proofs::Spellings::as_rewriting))]
 fn rewriting(alloc: Global, walk: &mut Walk) -> Result<Later, Halt>
     ensures ok { IfOk result (λ l. (w : WrittenFirst) (read : List LaterWord)
-        → outcome (rewritings w read) walk.old ≡ outcome
+        → words_outcome (rewritings w read) walk.old ≡ words_outcome
         (behind_rewritings w (read ++ later_of l ∷ [])) walk.new) }
     ensures bad { result ≡ Err Bad → (w : WrittenFirst) (read : List LaterWord)
-        → outcome (rewritings w read) walk.old ≡ stops walk.new }
+        → words_outcome (rewritings w read) walk.old ≡ stops walk.new }
     ensures shorter { OnOk result (length walk.new < length walk.old) }
 {
     let subterm = read_subterm(alloc, walk)?;
@@ -37,11 +37,11 @@ fn rewriting(alloc: Global, walk: &mut Walk) -> Result<Later, Halt>
 // A rewriting, and whether one more follows.
 fn further_rewriting(alloc: Global, walk: &mut Walk) -> Result<(Later, bool), Halt>
     ensures ok { IfOk result (λ r. (w : WrittenFirst) (read : List LaterWord)
-        → outcome (rewritings w read) walk.old ≡ outcome (if r.1 then
+        → words_outcome (rewritings w read) walk.old ≡ words_outcome (if r.1 then
         rewritings w (read ++ later_of r.0 ∷ []) else
-        passing Close (words w (read ++ later_of r.0 ∷ []))) walk.new) }
+        passed_then Close (words w (read ++ later_of r.0 ∷ []))) walk.new) }
     ensures bad { result ≡ Err Bad → (w : WrittenFirst) (read : List LaterWord)
-        → outcome (rewritings w read) walk.old ≡ stops walk.new }
+        → words_outcome (rewritings w read) walk.old ≡ stops walk.new }
     ensures shorter { OnOk result (length walk.new < length walk.old) }
 {
     let rewriting = rewriting(alloc, walk)?;
@@ -51,10 +51,10 @@ fn further_rewriting(alloc: Global, walk: &mut Walk) -> Result<(Later, bool), Ha
 
 // Rewritings up to `])`.
 fn rewritings(alloc: Global, walk: &mut Walk, steps: &mut Vec<Later>) -> Result<(), Halt>
-    ensures ok { OnOk result ((w : WrittenFirst) → outcome
+    ensures ok { OnOk result ((w : WrittenFirst) → words_outcome
         (rewritings w (map later_of steps.old.items)) walk.old
-        ≡ outcome (words w (map later_of steps.new.items)) walk.new) }
-    ensures bad { result ≡ Err Bad → (w : WrittenFirst) → outcome
+        ≡ words_outcome (words w (map later_of steps.new.items)) walk.new) }
+    ensures bad { result ≡ Err Bad → (w : WrittenFirst) → words_outcome
         (rewritings w (map later_of steps.old.items)) walk.old ≡ stops walk.new }
     ensures shorter { OnOk result (length walk.new < length walk.old) }
 {
@@ -71,10 +71,10 @@ fn rewritings(alloc: Global, walk: &mut Walk, steps: &mut Vec<Later>) -> Result<
 // `(a,n)`
 fn place_and_number(walk: &mut Walk) -> Result<Later, Halt>
     ensures ok { IfOk result (λ l. (w : WrittenFirst) (read : List LaterWord)
-        → outcome (behind_name w read names.UnitDel) walk.old
-        ≡ outcome (words w (read ++ later_of l ∷ [])) walk.new) }
+        → words_outcome (behind_step_name w read names.UnitDel) walk.old
+        ≡ words_outcome (words w (read ++ later_of l ∷ [])) walk.new) }
     ensures bad { result ≡ Err Bad → (w : WrittenFirst) (read : List LaterWord)
-        → outcome (behind_name w read names.UnitDel) walk.old ≡ stops walk.new }
+        → words_outcome (behind_step_name w read names.UnitDel) walk.old ≡ stops walk.new }
     ensures shorter { OnOk result (length walk.new < length walk.old) }
 {
     pass(walk, TokenClass::Open)?;
@@ -87,11 +87,11 @@ fn place_and_number(walk: &mut Walk) -> Result<Later, Halt>
 
 // `([n(a,path),..])`
 fn rewrite(alloc: Global, walk: &mut Walk, steps: &mut Vec<Later>) -> Result<(), Halt>
-    ensures ok { OnOk result ((w : WrittenFirst) → outcome
-        (behind_name w (map later_of steps.old.items) names.Rewrite) walk.old
-        ≡ outcome (words w (map later_of steps.new.items)) walk.new) }
-    ensures bad { result ≡ Err Bad → (w : WrittenFirst) → outcome
-        (behind_name w (map later_of steps.old.items) names.Rewrite) walk.old ≡ stops walk.new }
+    ensures ok { OnOk result ((w : WrittenFirst) → words_outcome
+        (behind_step_name w (map later_of steps.old.items) names.Rewrite) walk.old
+        ≡ words_outcome (words w (map later_of steps.new.items)) walk.new) }
+    ensures bad { result ≡ Err Bad → (w : WrittenFirst) → words_outcome
+        (behind_step_name w (map later_of steps.old.items) names.Rewrite) walk.old ≡ stops walk.new }
     ensures shorter { OnOk result (length walk.new < length walk.old) }
 {
     pass(walk, TokenClass::Open)?;
@@ -102,11 +102,11 @@ fn rewrite(alloc: Global, walk: &mut Walk, steps: &mut Vec<Later>) -> Result<(),
 
 // What stands behind a word.
 fn step(alloc: Global, walk: &mut Walk, name: LaterName, steps: &mut Vec<Later>) -> Result<(), Halt>
-    ensures ok { OnOk result ((w : WrittenFirst) → outcome
-        (behind_name w (map later_of steps.old.items) name) walk.old
-        ≡ outcome (words w (map later_of steps.new.items)) walk.new) }
-    ensures bad { result ≡ Err Bad → (w : WrittenFirst) → outcome
-        (behind_name w (map later_of steps.old.items) name) walk.old ≡ stops walk.new }
+    ensures ok { OnOk result ((w : WrittenFirst) → words_outcome
+        (behind_step_name w (map later_of steps.old.items) name) walk.old
+        ≡ words_outcome (words w (map later_of steps.new.items)) walk.new) }
+    ensures bad { result ≡ Err Bad → (w : WrittenFirst) → words_outcome
+        (behind_step_name w (map later_of steps.old.items) name) walk.old ≡ stops walk.new }
     ensures shorter { OnOk result (length walk.new < length walk.old) }
 {
     let step = match name {
@@ -127,11 +127,11 @@ fn step(alloc: Global, walk: &mut Walk, name: LaterName, steps: &mut Vec<Later>)
 #[tactic(auto, using(crate::proofs::Spellings::as_words))]
 fn has_more(walk: &mut Walk) -> Result<bool, Halt>
     ensures ok { IfOk result (λ more. (w : WrittenFirst) (read : List LaterWord)
-        → outcome (words w read) walk.old ≡ outcome (if more then
+        → words_outcome (words w read) walk.old ≡ words_outcome (if more then
         one_more w read else
         no_more w read) walk.new) }
     ensures bad { result ≡ Err Bad → (w : WrittenFirst) (read : List LaterWord)
-        → outcome (words w read) walk.old ≡ stops walk.new }
+        → words_outcome (words w read) walk.old ≡ stops walk.new }
     ensures shorter { OnOk result (length walk.new < length walk.old) }
 {
     let more = is_more(walk, TokenClass::CommaOrCloseSquare)?;
@@ -141,10 +141,10 @@ fn has_more(walk: &mut Walk) -> Result<bool, Halt>
 // The name of a word.
 fn name(walk: &mut Walk) -> Result<LaterName, Halt>
     ensures ok { IfOk result (λ name. (w : WrittenFirst) (read : List LaterWord)
-        → outcome (one_more w read) walk.old
-        ≡ outcome (behind_name w read name) walk.new) }
+        → words_outcome (one_more w read) walk.old
+        ≡ words_outcome (behind_step_name w read name) walk.new) }
     ensures bad { result ≡ Err Bad → (w : WrittenFirst) (read : List LaterWord)
-        → outcome (one_more w read) walk.old
+        → words_outcome (one_more w read) walk.old
         ≡ stops walk.new }
     ensures shorter { OnOk result (length walk.new < length walk.old) }
 {
@@ -154,10 +154,10 @@ fn name(walk: &mut Walk) -> Result<LaterName, Halt>
 
 /// `.`, and the words are complete.
 pub fn stop(walk: &mut Walk) -> Result<(), Halt>
-    ensures ok { OnOk result ((w : Written) → outcome (passing Stop (complete w)) walk.old
+    ensures ok { OnOk result ((w : Written) → words_outcome (passed_then Stop (complete w)) walk.old
         ≡ reads w walk.new) }
     ensures bad { result ≡ Err Bad → (w : Written)
-        → outcome (passing Stop (complete w)) walk.old ≡ stops walk.new }
+        → words_outcome (passed_then Stop (complete w)) walk.old ≡ stops walk.new }
 {
     pass(walk, TokenClass::Stop)?;
     Ok(())
@@ -165,11 +165,11 @@ pub fn stop(walk: &mut Walk) -> Result<(), Halt>
 
 // One more word, and whether there is one; else `]`.
 fn further(alloc: Global, walk: &mut Walk, steps: &mut Vec<Later>) -> Result<bool, Halt>
-    ensures ok { IfOk result (λ more. (w : WrittenFirst) → outcome
-        (words w (map later_of steps.old.items)) walk.old ≡ outcome (if more then
+    ensures ok { IfOk result (λ more. (w : WrittenFirst) → words_outcome
+        (words w (map later_of steps.old.items)) walk.old ≡ words_outcome (if more then
         words w (map later_of steps.new.items) else
         no_more w (map later_of steps.new.items)) walk.new) }
-    ensures bad { result ≡ Err Bad → (w : WrittenFirst) → outcome
+    ensures bad { result ≡ Err Bad → (w : WrittenFirst) → words_outcome
         (words w (map later_of steps.old.items)) walk.old ≡ stops walk.new }
     ensures shorter { OnOk result (length walk.new < length walk.old) }
 {
@@ -183,10 +183,10 @@ fn further(alloc: Global, walk: &mut Walk, steps: &mut Vec<Later>) -> Result<boo
 
 // All further words, up to `]`.
 fn all_further(alloc: Global, walk: &mut Walk, steps: &mut Vec<Later>) -> Result<(), Halt>
-    ensures ok { OnOk result ((w : WrittenFirst) → outcome
+    ensures ok { OnOk result ((w : WrittenFirst) → words_outcome
         (words w (map later_of steps.old.items)) walk.old
-        ≡ outcome (no_more w (map later_of steps.new.items)) walk.new) }
-    ensures bad { result ≡ Err Bad → (w : WrittenFirst) → outcome
+        ≡ words_outcome (no_more w (map later_of steps.new.items)) walk.new) }
+    ensures bad { result ≡ Err Bad → (w : WrittenFirst) → words_outcome
         (words w (map later_of steps.old.items)) walk.old ≡ stops walk.new }
 {
     loop {
@@ -200,10 +200,10 @@ fn all_further(alloc: Global, walk: &mut Walk, steps: &mut Vec<Later>) -> Result
 
 /// Words behind the first one, up to `].`
 pub fn steps(alloc: Global, walk: &mut Walk) -> Result<Vec<Later>, Halt>
-    ensures ok { IfOk result (λ ls. (w : WrittenFirst) → outcome (words w []) walk.old
+    ensures ok { IfOk result (λ ls. (w : WrittenFirst) → words_outcome (words w []) walk.old
         ≡ reads (written w (map later_of ls.items)) walk.new) }
     ensures bad { result ≡ Err Bad → (w : WrittenFirst)
-        → outcome (words w []) walk.old ≡ stops walk.new }
+        → words_outcome (words w []) walk.old ≡ stops walk.new }
 {
     let mut steps = Vec::new(alloc);
     match all_further(alloc, walk, &mut steps) {

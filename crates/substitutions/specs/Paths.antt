@@ -21,7 +21,8 @@ subterm_at t (k ∷ path) = option_and_then (λ u. subterm_at u path) (part_at t
 -- the arguments with one of them changed
 abbrev pub with_argument : (Tree → Tree) → Trees → ℕ → Trees
 with_argument change none k = none
-with_argument change (more t ts) k = if k == 1 then more (change t) ts else more t (with_argument change ts (k - 1))
+with_argument change (more t ts) k =
+    if k == 1 then more (change t) ts else more t (with_argument change ts (k - 1))
 
 abbrev pub with_part : (Tree → Tree) → Tree → ℕ → Tree
 with_part change (app f ts) k = app f (with_argument change ts k)

@@ -11,7 +11,7 @@ use Rattle.fol_core.specs.declared.term.Term.{Term}
 use Rattle.fol_core.specs.Tree.{Tree, var, app, trees_of}
 use Rattle.fol_core.proofs.Places.{first_place-found, first_place_is_position}
 use Rattle.term_bank.specs.Bank.{tree_at, IsAt, Grows, AreOnce, sizes_of, depths_of, saturated}
-use Rattle.term_bank.specs.Cells.{AreNumbersBelow, numbers, ArgumentsAreIn, tree_in, IsMeasured, built, IsNewTerm, IsCell, AreCells, IsStored}
+use Rattle.term_bank.specs.Cells.{AreNumbersBelow, numbers, ArgumentsAreIn, tree_in, IsMeasured, trees_built, IsNewTerm, IsCell, AreCells, IsStored}
 use Rattle.term_bank.specs.declared.cell.TermCell.{TermCell}
 use Rattle.term_bank.specs.declared.cell.TermCell.TheVariants.{Variable, Element, Application}
 use Rattle.term_bank.specs.declared.cell.Measures.{Measures}
@@ -69,50 +69,50 @@ arguments_more m n h (Variable x) b = tt
 arguments_more m n h (Element k) b = tt
 arguments_more m n h (Application f ks) b = below_more m n h (numbers ks.items) b
 
-pub built_grows : (bank : List Tree) (cs : List (TermCell × Measures)) → Grows bank (built bank cs)
+pub built_grows : (bank : List Tree) (cs : List (TermCell × Measures)) → Grows bank (trees_built bank cs)
 built_grows bank [] = grows_refl bank
-built_grows bank (c ∷ cs) = grows_on bank (bank ++ tree_in bank c.0 ∷ []) (built bank (c ∷ cs)) (tree_in bank c.0 ∷ [], refl) (built_grows (bank ++ tree_in bank c.0 ∷ []) cs)
+built_grows bank (c ∷ cs) = grows_on bank (bank ++ tree_in bank c.0 ∷ []) (trees_built bank (c ∷ cs)) (tree_in bank c.0 ∷ [], refl) (built_grows (bank ++ tree_in bank c.0 ∷ []) cs)
 
 -- as many terms as cells
-pub built_length : (bank : List Tree) (cs : List (TermCell × Measures)) → length (built bank cs) ≡ length bank + length cs
+pub built_length : (bank : List Tree) (cs : List (TermCell × Measures)) → length (trees_built bank cs) ≡ length bank + length cs
 built_length bank [] = omega arith
 built_length bank (c ∷ cs) = built_length (bank ++ tree_in bank c.0 ∷ []) cs ∙ ap (λ n. n + length cs) (length_end bank (tree_in bank c.0)) ∙ omega arith
 
 -- one cell more is one term more
-pub built_end : (bank : List Tree) (cs : List (TermCell × Measures)) (c : TermCell × Measures) → built bank (cs ++ c ∷ []) ≡ built bank cs ++ tree_in (built bank cs) c.0 ∷ []
+pub built_end : (bank : List Tree) (cs : List (TermCell × Measures)) (c : TermCell × Measures) → trees_built bank (cs ++ c ∷ []) ≡ trees_built bank cs ++ tree_in (trees_built bank cs) c.0 ∷ []
 built_end bank [] c = refl
 built_end bank (d ∷ cs) c = built_end (bank ++ tree_in bank d.0 ∷ []) cs c
 
-pub cells_end : (bank : List Tree) (cs : List (TermCell × Measures)) (c : TermCell × Measures) → AreCells bank cs → IsCell (built bank cs) c → AreCells bank (cs ++ c ∷ [])
+pub cells_end : (bank : List Tree) (cs : List (TermCell × Measures)) (c : TermCell × Measures) → AreCells bank cs → IsCell (trees_built bank cs) c → AreCells bank (cs ++ c ∷ [])
 cells_end bank [] c are is = (is, tt)
 cells_end bank (d ∷ cs) c are is = (are.0, cells_end (bank ++ tree_in bank d.0 ∷ []) cs c are.1 is)
 
 pub placed_from : (bank : List Tree) (cs : List (TermCell × Measures)) → AreCells bank cs → (k : ℕ) (c : TermCell × Measures) → slice_get cs k ≡ Some c
-    → IsStored (built bank cs) (length bank + k) c
+    → IsStored (trees_built bank cs) (length bank + k) c
 placed_from bank [] are k c h = cc
 placed_from bank (d ∷ cs) are zero c h =
     let t : Tree = tree_in bank d.0 in
     let next : List Tree = bank ++ t ∷ [] in
-    let on : Grows next (built next cs) = built_grows next cs in
-    let all : Grows bank (built next cs) = built_grows bank (d ∷ cs) in
+    let on : Grows next (trees_built next cs) = built_grows next cs in
+    let all : Grows bank (trees_built next cs) = built_grows bank (d ∷ cs) in
     let e : d ≡ c = cc in
     let short : length bank < length next = subst (λ n. length bank < n) (sym (length_end bank t)) (omega arith) in
-    let at : tree_at (built next cs) (length bank) ≡ t = grows_at next (built next cs) on (length bank) short ∙ get_or-append_seam bank t [] (var 0) in
+    let at : tree_at (trees_built next cs) (length bank) ≡ t = grows_at next (trees_built next cs) on (length bank) short ∙ get_or-append_seam bank t [] (var 0) in
     let zero_more : length bank + zero ≡ length bank = omega arith in
-    subst (λ x. IsStored (built next cs) (length bank + zero) x) e
-    (subst (λ n. IsStored (built next cs) n d) (sym zero_more)
+    subst (λ x. IsStored (trees_built next cs) (length bank + zero) x) e
+    (subst (λ n. IsStored (trees_built next cs) n d) (sym zero_more)
     (record {
-      tree = at ∙ sym (tree_grows bank (built next cs) all d.0 are.0.arguments);
+      tree = at ∙ sym (tree_grows bank (trees_built next cs) all d.0 are.0.arguments);
       arguments = are.0.arguments;
       measured = subst (λ u. IsMeasured u d.1) (sym at) are.0.measured;
     }))
 placed_from bank (d ∷ cs) are (suc k) c h =
     let next : List Tree = bank ++ tree_in bank d.0 ∷ [] in
     let e : length next + k ≡ length bank + suc k = ap (λ n. n + k) (length_end bank (tree_in bank d.0)) ∙ omega arith in
-    subst (λ n. IsStored (built next cs) n c) e (placed_from next cs are.1 k c h)
+    subst (λ n. IsStored (trees_built next cs) n c) e (placed_from next cs are.1 k c h)
 
-pub placed : (cs : List (TermCell × Measures)) → AreCells [] cs → (k : ℕ) (c : TermCell × Measures) → slice_get cs k ≡ Some c → IsStored (built [] cs) k c
-placed cs are k c h = subst (λ n. IsStored (built [] cs) n c) (omega arith) (placed_from [] cs are k c h)
+pub placed : (cs : List (TermCell × Measures)) → AreCells [] cs → (k : ℕ) (c : TermCell × Measures) → slice_get cs k ≡ Some c → IsStored (trees_built [] cs) k c
+placed cs are k c h = subst (λ n. IsStored (trees_built [] cs) n c) (omega arith) (placed_from [] cs are k c h)
 
 -- no term stands twice
 one_more_once : (bank : List Tree) (t : Tree) → AreOnce bank → IsNewTerm bank t → AreOnce (bank ++ t ∷ [])
@@ -139,19 +139,19 @@ one_more_once bank t once is_new i j a b e =
           ]
     ]
 
-pub built_once : (bank : List Tree) (cs : List (TermCell × Measures)) → AreOnce bank → AreCells bank cs → AreOnce (built bank cs)
+pub built_once : (bank : List Tree) (cs : List (TermCell × Measures)) → AreOnce bank → AreCells bank cs → AreOnce (trees_built bank cs)
 built_once bank [] once are = once
 built_once bank (c ∷ cs) once are = built_once (bank ++ tree_in bank c.0 ∷ []) cs (one_more_once bank (tree_in bank c.0) once are.0.is_new) are.1
 
 -- a cell that equals a key stands there, and one that equals none is new
-pub found_at : (cs : List (TermCell × Measures)) → AreCells [] cs → (c : TermCell) (n : ℕ) → Some n ≡ position (equal_cells c) (keys_of cs) → IsAt (built [] cs) n (tree_in (built [] cs) c)
+pub found_at : (cs : List (TermCell × Measures)) → AreCells [] cs → (c : TermCell) (n : ℕ) → Some n ≡ position (equal_cells c) (keys_of cs) → IsAt (trees_built [] cs) n (tree_in (trees_built [] cs) c)
 found_at cs are c n h =
     let there = first_place-found (equal_cells c) (keys_of cs) n (first_place_is_position (equal_cells c) (keys_of cs) ∙ sym h) in
     let cell = key_at cs n there.0 there.1 in
     let p = placed cs are n cell.0 cell.1 in
     record {
       within = subst (λ k. n < k) (sym (built_length [] cs)) (omega (arith, short cs n cell.0 cell.1));
-      tree = p.tree ∙ ap (tree_in (built [] cs)) cell.2 ∙ sym (same_tree (built [] cs) c there.0 there.2);
+      tree = p.tree ∙ ap (tree_in (trees_built [] cs)) cell.2 ∙ sym (same_tree (trees_built [] cs) c there.0 there.2);
     }
   where
     key_at : (cs : List (TermCell × Measures)) (n : ℕ) (k : TermCell) → slice_get (keys_of cs) n ≡ Some k → (d : TermCell × Measures) × (slice_get cs n ≡ Some d) × (d.0 ≡ k)
@@ -164,22 +164,22 @@ found_at cs are c n h =
     short (c ∷ cs) zero d h = omega arith
     short (c ∷ cs) (suc n) d h = let s = short cs n d h in omega arith
 
-pub once_built : (cs : List (TermCell × Measures)) → AreCells [] cs → AreOnce (built [] cs)
+pub once_built : (cs : List (TermCell × Measures)) → AreCells [] cs → AreOnce (trees_built [] cs)
 once_built cs are = built_once [] cs (λ i j a b e. elim (none i a) [ ]) are
   where
     none : (i : ℕ) → i < 0 → ⊥
     none i h = omega arith
 
-pub new_where_none : (cs : List (TermCell × Measures)) → AreCells [] cs → (c : TermCell) → ArgumentsAreIn (length (built [] cs)) c → position (equal_cells c) (keys_of cs) ≡ None
-    → IsNewTerm (built [] cs) (tree_in (built [] cs) c)
+pub new_where_none : (cs : List (TermCell × Measures)) → AreCells [] cs → (c : TermCell) → ArgumentsAreIn (length (trees_built [] cs)) c → position (equal_cells c) (keys_of cs) ≡ None
+    → IsNewTerm (trees_built [] cs) (tree_in (trees_built [] cs) c)
 new_where_none cs are c arguments h n within e =
     let inside : n < 0 + length cs = subst (λ k. n < k) (built_length [] cs) within in
     let inner : n < length cs = omega (arith, inside) in
     let there = entry_at cs n inner in
     let p = placed cs are n there.0 there.1 in
-    let least : n ≤ length (built [] cs) = omega (arith, within) in
-    let more = arguments_more n (length (built [] cs)) least there.0.0 p.arguments in
-    let same = equal_cell (built [] cs) (once_built cs are) c there.0.0 arguments more (sym e ∙ p.tree) in
+    let least : n ≤ length (trees_built [] cs) = omega (arith, within) in
+    let more = arguments_more n (length (trees_built [] cs)) least there.0.0 p.arguments in
+    let same = equal_cell (trees_built [] cs) (once_built cs are) c there.0.0 arguments more (sym e ∙ p.tree) in
     let other = none_passes cs n there.0 (first_place_is_position (equal_cells c) (keys_of cs) ∙ h) there.1 in
     cc
   where
@@ -199,11 +199,11 @@ new_where_none cs are c arguments h n within e =
         by false e None i zero none at rest = let same : f ≡ d = cc in ap (λ (x : TermCell × Measures). equal_cells c x.0) (sym same) ∙ e
         by false e None i (suc n) none at rest = rest n i at
 
-pub full_length : (cs : List (TermCell × Measures)) → length (built [] cs) ≡ length cs
+pub full_length : (cs : List (TermCell × Measures)) → length (trees_built [] cs) ≡ length cs
 full_length cs = built_length [] cs ∙ omega arith
 
 -- a cell whose term is new equals no key
-pub apart_where_new : (cs : List (TermCell × Measures)) → AreCells [] cs → (c : TermCell) → IsNewTerm (built [] cs) (tree_in (built [] cs) c) → first_place (equal_cells c) (keys_of cs) ≡ None
+pub apart_where_new : (cs : List (TermCell × Measures)) → AreCells [] cs → (c : TermCell) → IsNewTerm (trees_built [] cs) (tree_in (trees_built [] cs) c) → first_place (equal_cells c) (keys_of cs) ≡ None
 apart_where_new cs are c is_new = by (first_place (equal_cells c) (keys_of cs)) refl
   where
     by : (o : Option ℕ) → first_place (equal_cells c) (keys_of cs) ≡ o → first_place (equal_cells c) (keys_of cs) ≡ None

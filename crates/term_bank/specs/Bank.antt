@@ -18,7 +18,8 @@ Grows old new = (others : List Tree) × (new ≡ old ++ others)
 
 -- no term has two numbers
 abbrev pub AreOnce : List Tree → Type 0
-AreOnce bank = (i j : ℕ) → i < length bank → j < length bank → tree_at bank i ≡ tree_at bank j → i ≡ j
+AreOnce bank =
+    (i j : ℕ) → i < length bank → j < length bank → tree_at bank i ≡ tree_at bank j → i ≡ j
 
 abbrev mutual
   -- how many symbols and variables stand in a term, each as often as it stands there
@@ -33,14 +34,14 @@ abbrev mutual
 
 abbrev mutual
   -- how many levels a term has: one more than its deepest argument
-  pub depth_of : Tree → ℕ
-  depth_of (var x) = 1
-  depth_of (elem k) = 1
-  depth_of (app f ts) = depths_of ts + 1
+  pub term_depth : Tree → ℕ
+  term_depth (var x) = 1
+  term_depth (elem k) = 1
+  term_depth (app f ts) = depths_of ts + 1
 
   pub depths_of : Trees → ℕ
   depths_of none = 0
-  depths_of (more t ts) = max (depth_of t) (depths_of ts)
+  depths_of (more t ts) = max (term_depth t) (depths_of ts)
 
 -- a count that stops at the greatest number of 64 bits
 abbrev pub saturated : ℕ → ℕ

@@ -2,7 +2,7 @@
 ghost use Rattle.std.specs.Prelude.{◌≡◌, ℕ, ◌<◌, ◌↔◌, [], IfOk, IsTrue, length, map};
 ghost use Rattle.fol_core.specs.Tree.{app, trees_of};
 ghost use Rattle.fol_core.specs.TermView.{tree_of};
-ghost use Rattle.term_bank.specs.Bank.{tree_at, IsAt, Grows, AreOnce, size_of, depth_of, saturated};
+ghost use Rattle.term_bank.specs.Bank.{tree_at, IsAt, Grows, AreOnce, size_of, term_depth, saturated};
 ghost use Rattle.term_bank.specs.Cells.{tree_in, ArgumentsAreIn, IsMeasured, AreNumbersBelow, numbers, IsStored};
 ghost use Rattle.term_bank.specs.Nodes.{node_tree, NodeIsBelow};
 
@@ -25,13 +25,13 @@ impl Model for Bank {
     ghost use Rattle.std.specs.Prelude.{List, []};
     ghost use Rattle.fol_core.specs.Tree.{Tree};
     ghost use Rattle.fol_core.specs.TreeCodes.{coded_trees};
-    ghost use Rattle.term_bank.specs.Cells.{built, AreCells};
+    ghost use Rattle.term_bank.specs.Cells.{trees_built, AreCells};
 
     ghost Value = { List Tree };
 
     ghost coded = { coded_trees };
 
-    ghost view = { λ a. built [] a.cells.entries };
+    ghost view = { λ a. trees_built [] a.cells.entries };
 
     ghost invariant = { λ a. AreCells [] a.cells.entries };
 }
@@ -88,7 +88,7 @@ impl Bank {
     /// How many levels the term has.
     pub fn depth(&self, id: TermId) -> u64
         requires { id.0 < length self.now }
-        ensures { result ≡ depth_of (tree_at self.now id.0) }
+        ensures { result ≡ term_depth (tree_at self.now id.0) }
     {
         self.cell(id).1.depth
     }

@@ -6,14 +6,16 @@ use Rattle.unifiers.specs.Matching.{same_tree}
 
 -- An order of symbols: whether the first stands above the second.
 module _ (above : ℕ → ℕ → Bool) where
-  -- f(ss) against a second term, where it is known of the arguments ss whether one is greater than a term or the same, and
-  -- whether the first pair in which they differ has the greater one of theirs
+  -- f(ss) against a second term, where it is known of the arguments ss whether one is greater than
+  -- a term or the same, and whether the first pair in which they differ has the greater one of
+  -- theirs
   module _ (f : ℕ) (ss : Trees) (some : Tree → Bool) (first : Trees → Bool) where
     abbrev mutual
       pub app_greater : Tree → Bool
       app_greater (var y) = have_variable y ss
       app_greater (elem k) = some (elem k)
-      app_greater (app g ts) = some (app g ts) || ((above f g && greater_each ts) || (f == g && (greater_each ts && first ts)))
+      app_greater (app g ts) = some (app g ts)
+      || ((above f g && greater_each ts) || (f == g && (greater_each ts && first ts)))
 
       -- it is greater than each of some terms
       pub greater_each : Trees → Bool
@@ -21,13 +23,14 @@ module _ (above : ℕ → ℕ → Bool) where
       greater_each (more t ts) = app_greater t && greater_each ts
 
   abbrev mutual
-    -- s > t where t is a variable of s other than s; or s is f(s1,..) and some si is t or greater; or t is g(t1,..), f stands above
-    -- g, and s is greater than each tj; or f is g, s is greater than each tj, and the first pair of arguments that differ has
-    -- the one of s greater
+    -- s > t where t is a variable of s other than s; or s is f(s1,..) and some si is t or greater;
+    -- or t is g(t1,..), f stands above g, and s is greater than each tj; or f is g, s is greater
+    -- than each tj, and the first pair of arguments that differ has the one of s greater
     pub lpo_greater : Tree → Tree → Bool
     lpo_greater (var x) t = false
     lpo_greater (elem k) t = false
-    lpo_greater (app f ss) t = app_greater f ss (λ u. some_at_least ss u) (λ us. first_greater ss us) t
+    lpo_greater (app f ss) t = app_greater f ss (λ u. some_at_least ss u)
+    (λ us. first_greater ss us) t
 
     pub some_at_least : Trees → Tree → Bool
     some_at_least none t = false
@@ -36,4 +39,5 @@ module _ (above : ℕ → ℕ → Bool) where
     pub first_greater : Trees → Trees → Bool
     first_greater none ts = false
     first_greater (more s ss) none = false
-    first_greater (more s ss) (more t ts) = if same_tree s t then first_greater ss ts else lpo_greater s t
+    first_greater (more s ss) (more t ts) = if same_tree s t then first_greater ss ts
+    else lpo_greater s t

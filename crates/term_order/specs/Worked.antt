@@ -20,15 +20,20 @@ inverse t = app 1 (more t none)
 abbrev product : Tree → Tree → Tree
 product s t = app 2 (more s (more t none))
 
--- The equations of groups from left to right. The inverse of a product and the product of inverses aren't comparable where
--- products stand above inverses, and else the first is greater. Sides that differ by an exchange of variables are not comparable.
+-- The equations of groups from left to right. The inverse of a product and the product of inverses
+-- aren't comparable where products stand above inverses, and else the first is greater. Sides that
+-- differ by an exchange of variables are not comparable.
 abbrev pub WorkedPathOrder : Type 0
 WorkedPathOrder =
     (lpo_greater later (product e (var 0)) (var 0) ≡ true)
     × (lpo_greater later (product (inverse (var 0)) (var 0)) e ≡ true)
-    × (lpo_greater later (product (product (var 0) (var 1)) (var 2)) (product (var 0) (product (var 1) (var 2))) ≡ true)
-    × (lpo_greater later (inverse (product (var 0) (var 1))) (product (inverse (var 1)) (inverse (var 0))) ≡ false)
-    × (lpo_greater later (product (inverse (var 1)) (inverse (var 0))) (inverse (product (var 0) (var 1))) ≡ false)
-    × (lpo_greater earlier (inverse (product (var 0) (var 1))) (product (inverse (var 1)) (inverse (var 0))) ≡ true)
+    × (lpo_greater later (product (product (var 0) (var 1)) (var 2))
+    (product (var 0) (product (var 1) (var 2))) ≡ true)
+    × (lpo_greater later (inverse (product (var 0) (var 1)))
+    (product (inverse (var 1)) (inverse (var 0))) ≡ false)
+    × (lpo_greater later (product (inverse (var 1)) (inverse (var 0)))
+    (inverse (product (var 0) (var 1))) ≡ false)
+    × (lpo_greater earlier (inverse (product (var 0) (var 1)))
+    (product (inverse (var 1)) (inverse (var 0))) ≡ true)
     × (lpo_greater later (product (var 0) (var 1)) (product (var 1) (var 0)) ≡ false)
     × (lpo_greater later (var 0) (var 1) ≡ false)

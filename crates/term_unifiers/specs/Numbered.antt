@@ -29,10 +29,11 @@ abbrev pub replacing : List Tree → Replacement → Substitution
 replacing bank r = only r.variable (tree_at bank r.term.0)
 
 -- what is remembered of the first terms is what a substitution makes of them
-pub record AreImages (u : Substitution) (bank : List Tree) (images : List (Option TermId)) : Type 0 where
-  pub few : length images ≤ length bank
-  pub right : (n : ℕ) (id : TermId) → n < length images → slice_index_or images n None ≡ Some id
-      → IsAt bank id.0 (substitute u (tree_at bank n))
+pub record AreImages (u : Substitution) (bank : List Tree) (images : List (Option TermId)) : Type 0
+  where
+    pub few : length images ≤ length bank
+    pub right : (n : ℕ) (id : TermId) → n < length images → slice_index_or images n None ≡ Some id
+        → IsAt bank id.0 (substitute u (tree_at bank n))
 
 -- the number of a term with another one put in, in a bank that grew, and what is remembered then
 pub record IsPut (r : Replacement) (old : List Tree) (n : ℕ) (images : List (Option TermId))
@@ -59,9 +60,11 @@ pub record HavePut (r : Replacement) (old : List Tree) (ls rs cs : List TermId)
   pub rights : AreAt new qs (map (substitute (replacing old r)) (trees_at old rs))
   pub atoms : AreAt new bs (map (substitute (replacing old r)) (trees_at old cs))
 
-abbrev pub IsPutThrough : Replacement → List Tree → List TermId → List TermId → List TermId → List Tree → List TermId → List TermId → List TermId → Bool → Type 0
+abbrev pub IsPutThrough : Replacement → List Tree → List TermId → List TermId → List TermId →
+    List Tree → List TermId → List TermId → List TermId → Bool → Type 0
 IsPutThrough r old ls rs cs new ks qs bs true = HavePut r old ls rs cs new ks qs bs
-IsPutThrough r old ls rs cs new ks qs bs false = has_variable r.variable (tree_at old r.term.0) ≡ true
+IsPutThrough r old ls rs cs new ks qs bs false =
+    has_variable r.variable (tree_at old r.term.0) ≡ true
 
 -- the atoms of a clause
 abbrev pub atoms_of : ClauseTree → List Tree

@@ -37,7 +37,8 @@ pub record Binds (x : ℕ) (t : Tree) (ls rs ks qs : List Tree) : Type 0 where
   pub even : length ks ≡ length qs
   pub onward : (u : Substitution) → MakesSame u ls rs → (u x ≡ substitute u t) × MakesSame u ks qs
   pub back : (u : Substitution) → u x ≡ substitute u t → MakesSame u ks qs → MakesSame u ls rs
-  pub among : (xs : List ℕ) → AreAmong xs ls → AreAmong xs rs → IsTrue (is_in x xs) × AreAmong xs (t ∷ []) × AreAmong xs ks × AreAmong xs qs
+  pub among : (xs : List ℕ) → AreAmong xs ls → AreAmong xs rs → IsTrue (is_in x xs)
+      × AreAmong xs (t ∷ []) × AreAmong xs ks × AreAmong xs qs
 
 -- the term that is to be put in is the bank's
 abbrev pub IsTermIn : List Tree → Differing → Type 0
@@ -52,7 +53,8 @@ pub record AreLeftIn (bank : List Tree) (d : Differing) (ls rs : List TermId) : 
   pub term : IsTermIn bank d
 
 -- a variable and a term, by number
-abbrev pub BindsAt : List Tree → Replacement → List TermId → List TermId → List TermId → List TermId → Type 0
+abbrev pub BindsAt : List Tree → Replacement → List TermId → List TermId → List TermId → List TermId
+    → Type 0
 BindsAt bank r ls rs ks qs = Binds r.variable (tree_at bank r.term.0)
     (trees_at bank ls) (trees_at bank rs) (trees_at bank ks) (trees_at bank qs)
 
@@ -69,13 +71,15 @@ pub record Lessens (bank : List Tree) (ls rs ks qs : List TermId) : Type 0 where
   pub fewer : suc (nodes_of_list (trees_at bank ks)) ≤ nodes_of_list (trees_at bank ls)
 
 -- what is found of the last pair, and what is left behind it
-abbrev pub Compared : List Tree → Differing → List TermId → List TermId → List TermId → List TermId → Type 0
+abbrev pub Compared : List Tree → Differing → List TermId → List TermId → List TermId → List TermId
+    → Type 0
 Compared bank Same ls rs ks qs = Lessens bank ls rs ks qs
 Compared bank Clash ls rs ks qs = AreNeverSame bank ls rs
 Compared bank (Bind r) ls rs ks qs = BindsAt bank r ls rs ks qs
 
 -- and of all
-abbrev pub Reduced : List Tree → Differing → List TermId → List TermId → List TermId → List TermId → Type 0
+abbrev pub Reduced : List Tree → Differing → List TermId → List TermId → List TermId → List TermId →
+    Type 0
 Reduced bank Same ls rs ks qs = AreAlwaysSame bank ls rs
 Reduced bank Clash ls rs ks qs = AreNeverSame bank ls rs
 Reduced bank (Bind r) ls rs ks qs = BindsAt bank r ls rs ks qs

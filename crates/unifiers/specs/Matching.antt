@@ -38,7 +38,8 @@ abbrev mutual
 
   pub matched_all : Trees → Trees → List Binding → Option (List Binding)
   matched_all none none bs = Some bs
-  matched_all (more s ss) (more t ts) bs = option_and_then (λ cs. matched_all ss ts cs) (matched s t bs)
+  matched_all (more s ss) (more t ts) bs =
+      option_and_then (λ cs. matched_all ss ts cs) (matched s t bs)
   matched_all ss ts bs = None
 
 -- a substitution gives the variables these terms

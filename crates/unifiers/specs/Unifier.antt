@@ -60,14 +60,18 @@ solution [] = var
 solution (b ∷ bs) = followed (only b.0 b.1) (solution bs)
 
 -- a variable that differs is bound, unless its term has it, and what is left is unified
-abbrev pub after_difference : Difference → Option (List Binding) → (ℕ → Tree → Option (List Binding)) → Option (List Binding)
+abbrev pub after_difference : Difference → Option (List Binding) →
+    (ℕ → Tree → Option (List Binding)) → Option (List Binding)
 after_difference same found go = found
 after_difference clash found go = None
-after_difference (bind x t) found go = if has_variable x t then None else option_map (λ bs. (x, t) ∷ bs) (go x t)
+after_difference (bind x t) found go =
+    if has_variable x t then None else option_map (λ bs. (x, t) ∷ bs) (go x t)
 
 abbrev pub unifier : ℕ → Trees → Trees → Option (List Binding)
 unifier zero ss ts = after_difference (differ_all ss ts) (Some []) (λ x t. None)
-unifier (suc k) ss ts = after_difference (differ_all ss ts) (Some []) (λ x t. unifier k (substitute_all (only x t) ss) (substitute_all (only x t) ts))
+unifier (suc k) ss ts =
+    after_difference (differ_all ss ts) (Some [])
+    (λ x t. unifier k (substitute_all (only x t) ss) (substitute_all (only x t) ts))
 
 -- each round does away with a variable
 abbrev pub unifier_of : Trees → Trees → Option (List Binding)

@@ -19,7 +19,8 @@ one t = more t none
 -- g(x,f(a)) with g(f(y),x); x with f(x); a with f(a)
 abbrev pub WorkedUnifiers : Type 0
 WorkedUnifiers =
-    (unifier_of (one (g (var 0) (f a))) (one (g (f (var 1)) (var 0))) ≡ Some ((0, f (var 1)) ∷ (1, a) ∷ []))
+    (unifier_of (one (g (var 0) (f a))) (one (g (f (var 1)) (var 0)))
+    ≡ Some ((0, f (var 1)) ∷ (1, a) ∷ []))
     × (unifier_of (one (var 0)) (one (f (var 0))) ≡ None)
     × (unifier_of (one a) (one (f a)) ≡ None)
     × (unifier_of (one (var 0)) (one (var 0)) ≡ Some [])

@@ -2,7 +2,7 @@ use Rattle.std.proofs.Common.{◌≡◌, ◌≤◌, ◌∙◌, ap, subst, length
 use Rattle.ladr_lex.specs.Lexeme.{lexemes_of}
 use Rattle.ladr_commands.specs.Commands.{commands_of}
 use Rattle.ladr_commands.specs.Faults.{IsBadCommandToken}
-use Rattle.ladr_commands.specs.Form.{outcome, stops}
+use Rattle.ladr_commands.specs.Form.{form_outcome, stops}
 use Rattle.ladr_commands.proofs.Forms.{length-lexemes_of, left_within, first_bad}
 use Rattle.ladr_commands.proofs.read.read_command.Goals as goal
 
@@ -14,7 +14,7 @@ overflow_sub-result c =
 
 pub returns-in-Err-Bad-clause-fault : goal.returns-in-Err-Bad-clause-fault
 returns-in-Err-Bad-clause-fault c =
-    let e : outcome (commands_of c.args.tester) c.new-cursor.result ≡ stops c.command.new.cursor = c.command.ensures.bad (cc) in
+    let e : form_outcome (commands_of c.args.tester) c.new-cursor.result ≡ stops c.command.new.cursor = c.command.ensures.bad (cc) in
     let k : length (lexemes_of c.args.tokens.now) - length c.command.new.cursor ≡ length c.args.tokens.now - c.left.result =
     omega (arith, length-lexemes_of c.args.tokens.now, c.left.ensures) in
     let h = first_bad (commands_of c.args.tester) (lexemes_of c.args.tokens.now) c.command.new.cursor (rw c.new-cursor.ensures at e) in

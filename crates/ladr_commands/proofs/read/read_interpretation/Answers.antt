@@ -2,7 +2,7 @@ use Rattle.std.proofs.Common.{◌≡◌, ◌≤◌, ◌∙◌, ap, subst, length
 use Rattle.ladr_lex.specs.Lexeme.{lexemes_of}
 use Rattle.ladr_commands.specs.Commands.{interpretation_item}
 use Rattle.ladr_commands.specs.Faults.{IsBadCommandToken}
-use Rattle.ladr_commands.specs.Form.{outcome, stops}
+use Rattle.ladr_commands.specs.Form.{form_outcome, stops}
 use Rattle.ladr_commands.proofs.Forms.{length-lexemes_of, left_within, first_bad}
 use Rattle.ladr_commands.proofs.read.read_interpretation.Goals as goal
 
@@ -14,7 +14,7 @@ overflow_sub-result c =
 
 pub returns-in-Err-Bad-clause-fault : goal.returns-in-Err-Bad-clause-fault
 returns-in-Err-Bad-clause-fault c =
-    let e : outcome interpretation_item c.new-cursor.result ≡ stops c.worded_interpretation.new.cursor = c.worded_interpretation.ensures.bad (cc) in
+    let e : form_outcome interpretation_item c.new-cursor.result ≡ stops c.worded_interpretation.new.cursor = c.worded_interpretation.ensures.bad (cc) in
     let k : length (lexemes_of c.args.tokens.now) - length c.worded_interpretation.new.cursor ≡ length c.args.tokens.now - c.left.result =
     omega (arith, length-lexemes_of c.args.tokens.now, c.left.ensures) in
     let h = first_bad interpretation_item (lexemes_of c.args.tokens.now) c.worded_interpretation.new.cursor (rw c.new-cursor.ensures at e) in

@@ -2,7 +2,7 @@ use Rattle.std.proofs.Common.{◌≡◌, List, [], ap, ◌∙◌}
 use Rattle.fol_core.specs.Fol.{Fol}
 use Rattle.fol_core.specs.RawView.{raw_list}
 use Rattle.ladr_reader.specs.Capped.{disjuncts}
-use Rattle.ladr_formulas.specs.Formulas.{Reading, Made, formula_in, names_of}
+use Rattle.ladr_formulas.specs.Formulas.{Reading, Made, formula_in, names_of_variables}
 use Rattle.ladr_formulas.specs.Literals.{formulas_in, clause_from}
 use Rattle.ladr_formulas.proofs.ClauseLemmas.{reads}
 use Rattle.ladr_formulas.proofs.clauses.whole_clause.Goals as goal
@@ -16,7 +16,7 @@ returns-clause-read c = λ t parts none.
     let reading : c.clause.new.reader.reading ≡ (formula_in st [] s t).reading = c.in_ok-clause.ensures.reading ∙ ap (λ (m : Made (List Fol)). m.reading) all ∙ is.reading in
     record {
       clause = c.in_ok-clause.ensures.clause ∙ ap (λ (m : Made (List Fol)). clause_from m.tree) all ∙ is.clause;
-      named = c.in_ok-names.ensures ∙ ap (λ (r : Reading). names_of r.variables) reading;
+      named = c.in_ok-names.ensures ∙ ap (λ (r : Reading). names_of_variables r.variables) reading;
       least = c.least.ensures ∙ ap (λ (r : Reading). r.least) reading;
       large = c.is_large.ensures ∙ ap (λ (r : Reading). r.large) reading;
       symbols = ap (λ (r : Reading). r.symbols) reading;

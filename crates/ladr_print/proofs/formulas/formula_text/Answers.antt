@@ -3,10 +3,10 @@ use Rattle.std.specs.Option.{option_map}
 use Rattle.fol_core.specs.FormulaView.{fol_of}
 use Rattle.fol_core.specs.RawView.{raw_of}
 use Rattle.ladr_reader.specs.Table.{table_of}
-use Rattle.ladr_formulas.specs.Formulas.{names_of}
-use Rattle.ladr_print.specs.FormulaText.{formula_raw, attributed}
+use Rattle.ladr_formulas.specs.Formulas.{names_of_variables}
+use Rattle.ladr_print.specs.FormulaText.{formula_raw, with_attribute}
 use Rattle.ladr_print.specs.RawText.{text_of}
-use Rattle.ladr_print.specs.ReadsAgain.{behind, ReadsFormula}
+use Rattle.ladr_print.specs.ReadsAgain.{made_behind, ReadsFormula}
 use Rattle.ladr_print.specs.TermText.{name_in}
 use Rattle.ladr_print.specs.StatesAs.{StatesAs}
 use Rattle.ladr_print.proofs.Stating.{states_back, formula_again}
@@ -29,8 +29,8 @@ returns-clause-again c =
     let rows = c.args.ops.now in
     let label = option_map (λ l. raw_of l.now) c.args.label in
     let T = c.args.symbols.now in
-    let text : c.in_ok-text.text.items ≡ text_of (table_of rows) (attributed label (formula_raw T (name_in (names_of m.reading.variables)) m.tree)) =
-    c.in_ok-text.ensures ∙ (λ i. text_of (table_of rows) (attributed label (formula_raw T (name_in (sym names i)) (sym f i))))
+    let text : c.in_ok-text.text.items ≡ text_of (table_of rows) (with_attribute label (formula_raw T (name_in (names_of_variables m.reading.variables)) m.tree)) =
+    c.in_ok-text.ensures ∙ (λ i. text_of (table_of rows) (with_attribute label (formula_raw T (name_in (sym names i)) (sym f i))))
     in
-    subst (λ (l : List ℕ). ReadsFormula (table_of rows) st before l label m × ReadsFormula (table_of rows) st T l label (behind T m)) (sym text)
+    subst (λ (l : List ℕ). ReadsFormula (table_of rows) st before l label m × ReadsFormula (table_of rows) st T l label (made_behind T m)) (sym text)
     (formula_again rows st before other label m T c.rows_are_lawful.ensures k s among)

@@ -48,7 +48,7 @@ returns-in-Ok-take_file-clause-ranged c = subst AreInRange (sym c.finish.ensures
 pub returns-in-Ok-take_file-clause-interpreted : goal.returns-in-Ok-take_file-clause-interpreted
 returns-in-Ok-take_file-clause-interpreted c = λ tests.
     let f = finished c in
-    let there = has_interpretation (length c.args.bytes.now) f.0 (sofar_of c.take_file.new.draft) (subst (λ (m : Mode). file.finished m (length c.args.bytes.now) f.0 ≡ problem (sofar_of c.take_file.new.draft)) tests f.2) in
+    let there = has_interpretation (length c.args.bytes.now) f.0 (sofar_of c.take_file.new.draft) (subst (λ (m : Mode). file.at_file_end m (length c.args.bytes.now) f.0 ≡ problem (sofar_of c.take_file.new.draft)) tests f.2) in
     ap is_some c.finish.ensures.of.interpretation ∙ there
 
 pub returns-in-Ok-take_file-clause-well_formed : goal.returns-in-Ok-take_file-clause-well_formed

@@ -6,7 +6,7 @@ use Rattle.clap.specs.ValueTests.{is_unsigned_in}
 use Rattle.clap.proofs.WalkLemmas.{both}
 use Rattle.clap.proofs.OnLiterals.{clap_on_literals}
 use Rattle.ladr_words.specs.Commands.{ladr_on_literals}
-use Rattle.ladr_words.specs.Tasks.{task_of, number_of}
+use Rattle.ladr_words.specs.Tasks.{task_of, number_written}
 use Rattle.ladr_words.specs.Worked.{searching, mace4}
 use Rattle.ladr_words.proofs.laws.start_size_is_read.Goals as goal
 
@@ -34,7 +34,7 @@ by_test x xs n true e is low high dash =
     reads x xs (ne_eqb x 45 dash) numeral.0 numeral.1 bounds.0 ends.0 ends.1
     (ap (nat_le 1) value ∙ le-leb 1 n low) (ap (λ k. nat_le k 200) value ∙ le-leb n 200 high) ∙ ap (λ k. searching (Some k) None None None) value
 
-by_text : (text : List ℕ) (n : ℕ) → number_of text ≡ Some n → 1 ≤ n → n ≤ 200 → slice_index text 0 ≢ 45
+by_text : (text : List ℕ) (n : ℕ) → number_written text ≡ Some n → 1 ≤ n → n ≤ 200 → slice_index text 0 ≢ 45
     → task_of (mace4 ((45 ∷ 110 ∷ []) ∷ text ∷ [])) ≡ searching (Some n) None None None
 by_text [] n is low high dash = cc
 by_text (x ∷ xs) n is low high dash = by_test x xs n (is_unsigned_in 0 (2 ^ 64 - 1) (x ∷ xs)) refl is low high dash

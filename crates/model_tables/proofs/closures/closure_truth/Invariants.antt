@@ -1,7 +1,7 @@
 -- the elements are digits, and the formula was true at all before them
 use Rattle.std.proofs.Common.{◌≡◌, ◌+◌, ◌-◌, length, map}
 use Rattle.fol_core.specs.FormulaView.{fol_of}
-use Rattle.model_tables.specs.Digits.{AreDigits, count, number}
+use Rattle.model_tables.specs.Digits.{AreDigits, digits_count, digits_number}
 use Rattle.model_tables.specs.Variables.{assignment}
 use Rattle.model_tables.proofs.Stepped.{IsPassed}
 use Rattle.model_tables.proofs.closures.closure_truth.Given as goal
@@ -14,4 +14,4 @@ invariant-loop-env l = record {
 }
 
 abbrev pub decreases-loop-env : goal.decreases-loop-env
-decreases-loop-env l = count (map (λ x. l.tables.top + 1) l.variables) - number (map (λ x. l.tables.top + 1) l.variables) (map (assignment l.env) l.variables)
+decreases-loop-env l = digits_count (map (λ x. l.tables.top + 1) l.variables) - digits_number (map (λ x. l.tables.top + 1) l.variables) (map (assignment l.env) l.variables)

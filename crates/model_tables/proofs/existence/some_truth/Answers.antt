@@ -2,7 +2,7 @@ use Rattle.std.proofs.Common.{◌≡◌, ◌∙◌, ◌+◌, ℕ, List, Option, 
 use Rattle.std.proofs.lemmas.List.{length-replicate}
 use Rattle.fol_core.specs.FormulaView.{fol_of}
 use Rattle.fol_core.specs.Truth.{Assignment, Holds}
-use Rattle.model_tables.specs.Digits.{number}
+use Rattle.model_tables.specs.Digits.{digits_number}
 use Rattle.model_tables.specs.Tables.{meaning_of}
 use Rattle.model_tables.specs.Variables.{assignment, with_vars}
 use Rattle.model_tables.proofs.Elements.{same_room}
@@ -69,7 +69,7 @@ loop-elements-preserved c =
           ∙ ap (λ (e : Assignment). with_vars e xs ns) c.loop-elements.invariant.set
           ∙ set_again a xs ms ns (digits_many _ _ digits ∙ length-replicate (length xs) (t.top + 1));
       digits = digits;
-      none = before_more (λ es. ¬ Holds (meaning_of t) (with_vars a xs es) f) (bounds t xs) ms (number (bounds t xs) ns) c.loop-elements.invariant.digits c.loop-elements.invariant.none now next;
+      none = before_more (λ es. ¬ Holds (meaning_of t) (with_vars a xs es) f) (bounds t xs) ms (digits_number (bounds t xs) ns) c.loop-elements.invariant.digits c.loop-elements.invariant.none now next;
     }
 
 pub returns-clause-truth : goal.returns-clause-truth

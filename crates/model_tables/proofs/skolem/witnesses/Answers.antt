@@ -1,7 +1,7 @@
 use Rattle.std.proofs.Common.{◌≡◌, ◌∙◌, ◌+◌, ℕ, List, [], ap, length, replicate, arith}
 use Rattle.std.proofs.lemmas.List.{length-replicate, with_items_is}
 use Rattle.fol_core.specs.EntryView.{skolem_axiom_of}
-use Rattle.model_tables.specs.Digits.{AreDigits, number}
+use Rattle.model_tables.specs.Digits.{AreDigits, digits_number}
 use Rattle.model_tables.specs.Expansion.{assigned, IsLeastWitness}
 use Rattle.model_tables.proofs.Filling.{room_for, filled_none, filled_more, filled_all}
 use Rattle.model_tables.proofs.Numbers.{number_below, digits_many}
@@ -15,7 +15,7 @@ loop-values-init c =
     let w = skolem_axiom_of c.args.entry.now in
     let zero : c.in_ok-arguments.arguments.items ≡ replicate (length xs) 0 =
     c.in_ok-arguments.ensures.items_if_clones_equal (λ y e. e) ∙ ap (λ (n : ℕ). replicate {A = ℕ} n 0) (c.len.ensures ∙ c.args.entry.now.variables.ok.0) in
-    let none : number (bounds t xs) c.in_ok-arguments.arguments.items ≡ 0 = rw zero (number_zeros (length xs) (t.top + 1)) in
+    let none : digits_number (bounds t xs) c.in_ok-arguments.arguments.items ≡ 0 = rw zero (number_zeros (length xs) (t.top + 1)) in
     let digits : AreDigits (bounds t xs) c.in_ok-arguments.arguments.items = rw zero (zeros (length xs) (t.top + 1) (omega arith)) in
     let least : IsLeastWitness t (assigned xs c.in_ok-arguments.arguments.items) w c.least.result = rw c.deref.ensures.value at c.least.ensures.least in
     record {
@@ -71,7 +71,7 @@ loop-values-preserved c =
           ∙ c.least-in-loop-values.auto.elements ∙ ap (λ (es : List ℕ). length es) c.deref_mut-in-loop-values-2.ensures.value ∙ c.loop-values.invariant.elements;
       digits = digits;
       filled = rw (c.in_ok-push-2.ensures.items, next)
-          (filled_more t w (number (bounds t xs) c.loop-values.arguments.items + 1) c.loop-values.values.items ns c.least-in-loop-values.result c.loop-values.invariant.filled digits next least);
+          (filled_more t w (digits_number (bounds t xs) c.loop-values.arguments.items + 1) c.loop-values.values.items ns c.least-in-loop-values.result c.loop-values.invariant.filled digits next least);
     })
 
 pub returns : goal.returns

@@ -1,6 +1,6 @@
 use Rattle.std.proofs.Common.{Some, arith, ◌<◌, take, length, subst, sym}
 use Rattle.fol_core.specs.Stated.{all_said}
-use Rattle.derivation.specs.View.{line_of, lines_of}
+use Rattle.derivation.specs.View.{line_tree, lines_of}
 use Rattle.derivation.specs.declared.line.Line.{Line}
 use Rattle.proof_check.specs.Found.{FoundAs}
 use Rattle.proof_check.proofs.CheckSteps.{going_next}
@@ -17,5 +17,5 @@ loop-i-preserved c =
     let above : 0 < i = omega arith in
     let below : i < length ls = omega arith in
     going_next ss rows ls i l x c.loop-i.invariant above below c.index-lines-i-in-loop-i.is c.index-lines-i.is
-    (subst (λ o. FoundAs ss rows (lines_of (take i ls)) (Some x.number) (line_of l) o) c.in-None.is
-    (subst (λ (y : Line). FoundAs ss rows (lines_of (take i ls)) (Some y.number) (line_of l) c.in_ok-judge_line.field-0) (sym c.index-lines-i.is) c.in_ok-judge_line.ensures))
+    (subst (λ o. FoundAs ss rows (lines_of (take i ls)) (Some x.number) (line_tree l) o) c.in-None.is
+    (subst (λ (y : Line). FoundAs ss rows (lines_of (take i ls)) (Some y.number) (line_tree l) c.in_ok-judge_line.field-0) (sym c.index-lines-i.is) c.in_ok-judge_line.ensures))

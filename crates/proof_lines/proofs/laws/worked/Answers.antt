@@ -9,7 +9,7 @@ use Rattle.ladr_reader.proofs.Live.{HasNames, table_names}
 use Rattle.ladr_reader.proofs.Runs.{run_item, bad_at}
 use Rattle.proof_lines.specs.ContentTokens.{HasKind}
 use Rattle.proof_lines.specs.Literals.{may_be_clause}
-use Rattle.proof_lines.specs.WorkedLines.{at_start}
+use Rattle.proof_lines.specs.WorkedLines.{worked_tables}
 use Rattle.proof_words.specs.Spelling.{line_words}
 use Rattle.proof_words.specs.Worked.{tokens_of}
 use Rattle.proof_words.specs.declared.names.ContentKind.TheVariants.{Formula}
@@ -73,7 +73,7 @@ returns-clause-content _ =
     let none = bad_at 500 standard standard_lawful names (tokens_of "p q.") 1 _ _ (lit≤ tt) refl refl in
     inr (refl, (1, refl, inl (record { formula = 1; clause = 1; no_formula = none; no_clause = inl none; later = refl })))
 
-both_read : HasKind at_start (tokens_of "p & q.") Formula
+both_read : HasKind worked_tables (tokens_of "p & q.") Formula
 unfolding start_of is_blank is_ordinary is_special
 both_read =
     let item = run_item standard standard_lawful (tokens_of "p & q.") (binary "&" (constant "p") (constant "q")) 780 refl in (

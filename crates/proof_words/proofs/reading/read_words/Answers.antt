@@ -1,7 +1,7 @@
 use Rattle.std.proofs.Common.{◌≡◌, ◌≤◌, ◌∙◌, ap, subst, length, ◌-◌, ℕ, arith}
 use Rattle.ladr_lex.specs.Lexeme.{lexemes_of}
 use Rattle.proof_words.specs.Faults.{IsBadWordToken, AreFirstWords}
-use Rattle.proof_words.specs.Spelling.{line_words, outcome, reads, stops}
+use Rattle.proof_words.specs.Spelling.{line_words, words_outcome, reads, stops}
 use Rattle.proof_words.specs.Written.{written_of}
 use Rattle.proof_words.proofs.Spellings.{length-lexemes_of, left_within, read_within, first_bad, first_words}
 use Rattle.proof_words.proofs.reading.read_words.Goals as goal
@@ -20,7 +20,7 @@ overflow_sub-result-in-Err-Bad c =
 
 pub returns-in-Ok-clause-read : goal.returns-in-Ok-clause-read
 returns-in-Ok-clause-read c =
-    let e : outcome (line_words c.args.kind) c.new-walk.result ≡ reads (written_of c.in-Ok.just) c.line.new.walk = c.in-Ok.ensures.ok in
+    let e : words_outcome (line_words c.args.kind) c.new-walk.result ≡ reads (written_of c.in-Ok.just) c.line.new.walk = c.in-Ok.ensures.ok in
     let k : length (lexemes_of c.args.tokens.now) - length c.line.new.walk ≡ length c.args.tokens.now - c.left.result =
     omega (arith, length-lexemes_of c.args.tokens.now, c.left.ensures) in
     let h = first_words (line_words c.args.kind) (lexemes_of c.args.tokens.now) c.line.new.walk (written_of c.in-Ok.just) (rw c.new-walk.ensures at e) in
@@ -28,7 +28,7 @@ returns-in-Ok-clause-read c =
 
 pub returns-in-Err-Bad-clause-fault : goal.returns-in-Err-Bad-clause-fault
 returns-in-Err-Bad-clause-fault c =
-    let e : outcome (line_words c.args.kind) c.new-walk.result ≡ stops c.line.new.walk = c.line.ensures.bad (cc) in
+    let e : words_outcome (line_words c.args.kind) c.new-walk.result ≡ stops c.line.new.walk = c.line.ensures.bad (cc) in
     let k : length (lexemes_of c.args.tokens.now) - length c.line.new.walk ≡ length c.args.tokens.now - c.left-in-Err-Bad.result =
     omega (arith, length-lexemes_of c.args.tokens.now, c.left-in-Err-Bad.ensures) in
     let h = first_bad (line_words c.args.kind) (lexemes_of c.args.tokens.now) c.line.new.walk (rw c.new-walk.ensures at e) in

@@ -1,8 +1,8 @@
 -- the names so far are those of the first variables
 use Rattle.std.proofs.Common.{◌≡◌, take}
-use Rattle.ladr_formulas.specs.Formulas.{names_of}
+use Rattle.ladr_formulas.specs.Formulas.{names_of_variables}
 use Rattle.ladr_formulas.specs.Numbering.{variable_list}
 use Rattle.ladr_formulas.proofs.numbering.Variables.names.Given as goal
 
 abbrev pub invariant-loop-variable : goal.invariant-loop-variable
-invariant-loop-variable l = l.names ≡ names_of (variable_list (take l.variable-index l.variable-items))
+invariant-loop-variable l = l.names ≡ names_of_variables (variable_list (take l.variable-index l.variable-items))

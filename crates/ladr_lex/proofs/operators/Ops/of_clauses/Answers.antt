@@ -2,8 +2,8 @@ use Rattle.std.proofs.Common.{◌≡◌, ℕ, List, Some, true, sym, ap, subst, 
 use Rattle.std.specs.Prelude.{slice_get}
 use Rattle.std.proofs.lemmas.Bool.{and_parts, not-true}
 use Rattle.ladr_lex.specs.ClauseNames.{clause_operator}
-use Rattle.ladr_lex.specs.Cuts.{is_symbol}
-use Rattle.ladr_lex.specs.Operators.{OperatorRow, has_precedence, is_word, with_row, are_lawful}
+use Rattle.ladr_lex.specs.Cuts.{is_plain_symbol}
+use Rattle.ladr_lex.specs.Operators.{OperatorRow, has_precedence, is_quantifier_word, with_operator_row, are_lawful}
 use Rattle.ladr_lex.proofs.ClauseOperators.{row_entry, row_lawful, kept_precedence, next_put, frees, keeps_fixed, all_of, length_rows, ends}
 use Rattle.ladr_lex.proofs.operators.Ops.of_clauses.Goals as goal
 use Rattle.ladr_lex.proofs.operators.Ops.of_clauses.Goals.{in-Some+in_ok-put, in_default}
@@ -11,12 +11,12 @@ use Rattle.ladr_lex.proofs.operators.Ops.of_clauses.Goals.{in-Some+in_ok-put, in
 pub put-requires-clause-symbol : goal.put-requires-clause-symbol
 put-requires-clause-symbol c =
     let lawful = row_lawful _ c.loop-i.i _ c.self.invariant (row_entry c.self.inside.rows.entries c.loop-i.i _ _ (sym c.in-Some.ensures.entry)) in
-    ap (λ (n : List ℕ). is_symbol n) c.deref.ensures.value ∙ (and_parts _ _ (and_parts _ _ lawful).0).0
+    ap (λ (n : List ℕ). is_plain_symbol n) c.deref.ensures.value ∙ (and_parts _ _ (and_parts _ _ lawful).0).0
 
 pub put-requires-clause-word : goal.put-requires-clause-word
 put-requires-clause-word c =
     let lawful = row_lawful _ c.loop-i.i _ c.self.invariant (row_entry c.self.inside.rows.entries c.loop-i.i _ _ (sym c.in-Some.ensures.entry)) in
-    ap (λ (n : List ℕ). is_word n) c.deref.ensures.value ∙ not-true _ (and_parts _ _ (and_parts _ _ lawful).0).1
+    ap (λ (n : List ℕ). is_quantifier_word n) c.deref.ensures.value ∙ not-true _ (and_parts _ _ (and_parts _ _ lawful).0).1
 
 pub put-requires-clause-precedence : goal.put-requires-clause-precedence
 put-requires-clause-precedence c =
@@ -35,7 +35,7 @@ loop-i-preserved c =
           let operator : w.clause_operator.result ≡ clause_operator c.args.prolog r.name r.operator =
           w.clause_operator.ensures ∙ ap (λ (n : List ℕ). clause_operator c.args.prolog n r.operator) w.deref-in-Some.ensures.value in
           next_put c.args.prolog c.args.self.now c.loop-i.ops c.match-get_index.ops c.loop-i.i r lawful here
-          (w.ops-is ∙ w.in_ok-put.ensures.ok ∙ (λ j. with_row (named j) (operator j) c.loop-i.ops)) c.loop-i.invariant)
+          (w.ops-is ∙ w.in_ok-put.ensures.ok ∙ (λ j. with_operator_row (named j) (operator j) c.loop-i.ops)) c.loop-i.invariant)
       | in_default w ↦ absurd (omega (arith, c.len-i-end.ensures.len, ends c.self.inside.rows.entries c.loop-i.i (sym w.in_default.ensures.entry)))
     ]
 

@@ -1,14 +1,14 @@
 use Rattle.std.proofs.Common.{◌≡◌, ℕ, List, Option, Some, true, ap, ◌∙◌, sym, min, max, ◌+◌}
 use Rattle.fol_core.specs.RawTree.{RawTree}
 use Rattle.fol_core.specs.RawView.{raw_of}
-use Rattle.ladr_reader.specs.Capped.{is_one}
+use Rattle.ladr_reader.specs.Capped.{is_one_argument}
 use Rattle.ladr_reader.specs.DisjunctView.{in_order, levels_of}
 use Rattle.ladr_reader.proofs.Disjunctions.{popped_levels}
 use Rattle.ladr_reader.proofs.disjuncts.Disjuncts.behind.Goals as goal
 
 pub invariant_of-result : goal.invariant_of-result
 invariant_of-result c = λ x h.
-    let one : is_one (Some c.in-Some.trees) ≡ true = ap (λ (o : Option (List RawTree)). is_one o) (sym c.in-Some.is ∙ c.first.view_is) ∙ c.requires in
+    let one : is_one_argument (Some c.in-Some.trees) ≡ true = ap (λ (o : Option (List RawTree)). is_one_argument o) (sym c.in-Some.is ∙ c.first.view_is) ∙ c.requires in
     let levels : c.saturating_add.result ≡ min (max c.self.inside.levels c.first.inside.levels + 1) 4294967295 =
     c.saturating_add.ensures ∙ ap (λ (n : ℕ). min (n + 1) 4294967295) (c.max.ensures ∙ ap (max c.self.inside.levels) c.from.ensures) in
     levels

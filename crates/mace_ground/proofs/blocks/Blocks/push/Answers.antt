@@ -1,7 +1,7 @@
 use Rattle.std.proofs.Common.{◌≡◌, List, ◌∷◌, [], ◌++◌, map, ap, ◌∙◌, arith}
 use Rattle.mace_ground.specs.Cells.{cells_in}
 use Rattle.mace_ground.specs.Cells as cells
-use Rattle.mace_ground.specs.Spans.{block_of, noted}
+use Rattle.mace_ground.specs.Spans.{block_of, span_noted}
 use Rattle.mace_ground.specs.declared.blocks.Block.{Block}
 use Rattle.mace_ground.proofs.Placing.{placed_more, cells_more, blocks_more}
 use Rattle.mace_ground.proofs.blocks.Blocks.push.Goals as goal
@@ -17,5 +17,5 @@ invariant_of-self-2 c =
     rw more record {
       cells = omega (arith, step, c.self.invariant.cells, many, fits);
       spans = placed_more c.self.inside.size blocks (record { first = c.self.inside.cells; block = c.args.block }) c.self.inside.spans.items c.place.new.spans.items c.self.invariant.cells c.self.invariant.spans
-          (λ s. c.place.ensures s ∙ ap (noted (record { first = c.self.inside.cells; block = c.args.block }) s) (c.in_ok-make_room.ensures.same s));
+          (λ s. c.place.ensures s ∙ ap (span_noted (record { first = c.self.inside.cells; block = c.args.block }) s) (c.in_ok-make_room.ensures.same s));
     }

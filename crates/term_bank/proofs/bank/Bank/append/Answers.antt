@@ -4,7 +4,7 @@ use Rattle.fol_core.specs.Tree.{Tree}
 use Rattle.indexmap.specs.IndexMap.{insert_entry}
 use Rattle.fol_core.proofs.Places.{insert_entry-apart}
 use Rattle.term_bank.specs.Bank.{IsAt}
-use Rattle.term_bank.specs.Cells.{tree_in, built, IsNewTerm, IsCell, AreCells}
+use Rattle.term_bank.specs.Cells.{tree_in, trees_built, IsNewTerm, IsCell, AreCells}
 use Rattle.term_bank.specs.declared.cell.TermCell.{TermCell}
 use Rattle.term_bank.specs.declared.cell.Measures.{Measures}
 use Rattle.term_bank.proofs.Building.{built_end, cells_end, apart_where_new, at_end, full_length}
@@ -12,13 +12,13 @@ use Rattle.term_bank.proofs.Same.{equal_cells}
 use Rattle.term_bank.proofs.bank.Bank.append.Goals as goal
 
 -- the entries behind, where the term is new
-behind : (cs new : List (TermCell × Measures)) (bank : List Tree) (c : TermCell) (m : Measures) → AreCells [] cs → built [] cs ≡ bank → IsNewTerm bank (tree_in bank c)
+behind : (cs new : List (TermCell × Measures)) (bank : List Tree) (c : TermCell) (m : Measures) → AreCells [] cs → trees_built [] cs ≡ bank → IsNewTerm bank (tree_in bank c)
     → new ≡ insert_entry equal_cells cs c m → new ≡ cs ++ (c, m) ∷ []
 behind cs new bank c m are view is_new e =
     e ∙ insert_entry-apart equal_cells c m cs (apart_where_new cs are c (subst (λ b. IsNewTerm b (tree_in b c)) (sym view) is_new))
 
-grown : (cs new : List (TermCell × Measures)) (bank : List Tree) (c : TermCell) (m : Measures) → built [] cs ≡ bank → new ≡ cs ++ (c, m) ∷ [] → built [] new ≡ bank ++ tree_in bank c ∷ []
-grown cs new bank c m view e = ap (built []) e ∙ built_end [] cs (c, m) ∙ ap (λ b. b ++ tree_in b c ∷ []) view
+grown : (cs new : List (TermCell × Measures)) (bank : List Tree) (c : TermCell) (m : Measures) → trees_built [] cs ≡ bank → new ≡ cs ++ (c, m) ∷ [] → trees_built [] new ≡ bank ++ tree_in bank c ∷ []
+grown cs new bank c m view e = ap (trees_built []) e ∙ built_end [] cs (c, m) ∙ ap (λ b. b ++ tree_in b c ∷ []) view
 
 pub invariant_of-self-2 : goal.invariant_of-self-2
 invariant_of-self-2 c =
