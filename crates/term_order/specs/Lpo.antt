@@ -14,8 +14,9 @@ module _ (above : ℕ → ℕ → Bool) where
       pub app_greater : Tree → Bool
       app_greater (var y) = have_variable y ss
       app_greater (elem k) = some (elem k)
-      app_greater (app g ts) = some (app g ts)
-      || ((above f g && greater_each ts) || (f == g && (greater_each ts && first ts)))
+      app_greater (app g ts) =
+          some (app g ts)
+          || ((above f g && greater_each ts) || (f == g && (greater_each ts && first ts)))
 
       -- it is greater than each of some terms
       pub greater_each : Trees → Bool
@@ -29,8 +30,8 @@ module _ (above : ℕ → ℕ → Bool) where
     pub lpo_greater : Tree → Tree → Bool
     lpo_greater (var x) t = false
     lpo_greater (elem k) t = false
-    lpo_greater (app f ss) t = app_greater f ss (λ u. some_at_least ss u)
-    (λ us. first_greater ss us) t
+    lpo_greater (app f ss) t =
+        app_greater f ss (λ u. some_at_least ss u) (λ us. first_greater ss us) t
 
     pub some_at_least : Trees → Tree → Bool
     some_at_least none t = false
@@ -39,5 +40,5 @@ module _ (above : ℕ → ℕ → Bool) where
     pub first_greater : Trees → Trees → Bool
     first_greater none ts = false
     first_greater (more s ss) none = false
-    first_greater (more s ss) (more t ts) = if same_tree s t then first_greater ss ts
-    else lpo_greater s t
+    first_greater (more s ss) (more t ts) =
+        if same_tree s t then first_greater ss ts else lpo_greater s t
