@@ -145,7 +145,7 @@ ReadBack = (n k : ℕ) (symbols : List Symbol) (t : Finite) → IsPrintable n k 
 
 pub record Laws : Type 0 where
   pub new : AreNew
-  pub number_behind : SkolemsStandBehind
+  pub behind : SkolemsStandBehind
   pub back : ReadBack
 
 -- the sizes and the numbers of models that a search prints
