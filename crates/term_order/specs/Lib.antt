@@ -1,3 +1,4 @@
+pub mod Kbo
 pub mod Laws
 pub mod Lpo
 pub mod Worked

@@ -1,5 +1,6 @@
 // Laws of orders of terms, and terms compared by hand.
-ghost use Rattle.std.specs.Prelude.{ℕ, Bool};
+ghost use Rattle.std.specs.Prelude.{ℕ, Bool, ◌≤◌};
+ghost use Rattle.term_order.specs.Kbo.{kbo_greater};
 ghost use Rattle.term_order.specs.Laws.{IsSymbolOrder, IsTermOrder};
 ghost use Rattle.term_order.specs.Lpo.{lpo_greater};
 ghost use Rattle.term_order.specs.Worked.{WorkedPathOrder};
@@ -8,6 +9,12 @@ ghost use Rattle.term_order.specs.Worked.{WorkedPathOrder};
 /// instances are ordered as their terms are.
 pub fn lpo_is_order()
     ensures { (above : ℕ → ℕ → Bool) → IsSymbolOrder above → IsTermOrder (lpo_greater above) }
+{}
+
+/// So it is by the Knuth-Bendix order, where each symbol weighs at least 1.
+pub fn kbo_is_order()
+    ensures { (above : ℕ → ℕ → Bool) (weight : ℕ → ℕ) → IsSymbolOrder above
+        → ((f : ℕ) → 1 ≤ weight f) → IsTermOrder (kbo_greater above weight) }
 {}
 
 /// Terms compared.

@@ -3,4 +3,4 @@
 
 mod laws;
 
-pub use laws::{lpo_is_order, worked};
+pub use laws::{kbo_is_order, lpo_is_order, worked};
