@@ -1,13 +1,12 @@
 -- The Knuth-Bendix order is an order, and instances are ordered as their terms are.
-use Rattle.std.proofs.Common.{◌≡◌, ℕ, zero, suc, ◌+◌, ◌-◌, ◌<◌, ◌≤◌, Bool, true, false, ◌==◌, ◌&&◌, ◌||◌, if◌then◌else◌, ◌++◌, inl, inr, refl, sym, ap, ap₂, ◌∙◌, subst, eq-eqb, eqb-true, arith}
+use Rattle.std.proofs.Common.{◌≡◌, ℕ, zero, suc, ◌+◌, ◌-◌, ◌<◌, ◌≤◌, Bool, true, false, ◌==◌, ◌&&◌, ◌||◌, if◌then◌else◌, inl, inr, refl, sym, ap, ◌∙◌, subst, eq-eqb, eqb-true, arith}
 use Rattle.std.specs.Prelude.{nat_lt}
 use Rattle.std.proofs.lemmas.Bool.Decides.{nat_tests}
 use Rattle.fol_core.specs.Substitutions.{Substitution, substitute, substitute_all}
 use Rattle.fol_core.specs.Tree.{Tree, var, elem, app, Trees, none, more, nodes, nodes_of}
-use Rattle.substitutions.specs.Occurring.{has_variable, have_variable}
-use Rattle.term_order.specs.Kbo.{times_in, times_in_all, none_oftener_all, weigh, weigh_all, outweighs, kbo_greater, kbo_first}
+use Rattle.term_order.specs.Kbo.{times_in, times_in_all, none_oftener_all, weigh, weigh_all, kbo_greater, kbo_first}
 use Rattle.term_order.specs.Laws.{IsSymbolOrder}
-use Rattle.term_order.proofs.Occurrences.{HasEach, each_from, each_test, each_put, once_all, stands_all, stands, places_in, places_in_all, total, total_both, places_grow, place_counts, times_put_all}
+use Rattle.term_order.proofs.Occurrences.{HasEach, each_from, each_test, each_put, once_all, stands_all, places_in, places_in_all, total, total_both, places_grow, place_counts, times_put_all}
 use Rattle.term_order.proofs.Tests.{split_and, split_or, both_and, left_or, right_or, same_from}
 use Rattle.unifiers.specs.Matching.{same_tree}
 use Rattle.unifiers.proofs.Matches.{tree_same}
@@ -33,16 +32,18 @@ module _ (above : ℕ → ℕ → Bool) (weight : ℕ → ℕ) where
 
   pub why : (f : ℕ) (ss : Trees) (g : ℕ) (ts : Trees) → Outweighs (app f ss) (app g ts) → HasEach ss ts × Decides f ss g ts
   why f ss g ts h =
-      let p = split_and (none_oftener_all ss ts ts) _ h in
-      (each_from ss ts p.0, elim (split_or (nat_lt (weight_in (app g ts)) (weight_in (app f ss))) _ p.1) [
-        | inl i ↦ heavier (grind (arith, nat_tests, i))
-        | inr i ↦ let q = split_and (weight_in (app f ss) == weight_in (app g ts)) _ i in
-            let same = eqb-true (weight_in (app f ss)) (weight_in (app g ts)) q.0 in
-            elim (split_or (above f g) (f == g && kbo_first above weight ss ts) q.1) [
-              | inl j ↦ by_head same j
-              | inr j ↦ let r = split_and (f == g) (kbo_first above weight ss ts) j in by_first same (eqb-true f g r.0) r.1
-            ]
-      ])
+      let p = split_and (none_oftener_all ss ts ts) _ h in (
+        each_from ss ts p.0,
+        elim (split_or (nat_lt (weight_in (app g ts)) (weight_in (app f ss))) _ p.1) [
+          | inl i ↦ heavier (grind (arith, nat_tests, i))
+          | inr i ↦ let q = split_and (weight_in (app f ss) == weight_in (app g ts)) _ i in
+              let same = eqb-true (weight_in (app f ss)) (weight_in (app g ts)) q.0 in
+              elim (split_or (above f g) (f == g && kbo_first above weight ss ts) q.1) [
+                | inl j ↦ by_head same j
+                | inr j ↦ let r = split_and (f == g) (kbo_first above weight ss ts) j in by_first same (eqb-true f g r.0) r.1
+              ]
+        ],
+      )
 
   pub because : (f : ℕ) (ss : Trees) (g : ℕ) (ts : Trees) → HasEach ss ts → Decides f ss g ts → Outweighs (app f ss) (app g ts)
   because f ss g ts e d = both_and (none_oftener_all ss ts ts) _ (each_test ss ts e) (by d)
@@ -133,7 +134,7 @@ module _ (above : ℕ → ℕ → Bool) (weight : ℕ → ℕ) where
     onward_by (suc n) (app f ss) (app g ts) (app i us) b h k =
         let p = why f ss g ts h in let q = why g ts i us k in
         because f ss i us (λ z. (let c = p.0 z in let d = q.0 z in omega (arith, c, d)))
-          (decides_onward f ss g ts i us (first_onward ss ts us (λ x y z c l m. onward_by n x y z (omega (arith, b, c)) l m)) p.1 q.1)
+        (decides_onward f ss g ts i us (first_onward ss ts us (λ x y z c l m. onward_by n x y z (omega (arith, b, c)) l m)) p.1 q.1)
 
     pub onward : (s t u : Tree) → Outweighs s t → Outweighs t u → Outweighs s u
     onward s t u h k = onward_by (suc (nodes s)) s t u (omega arith) h k
@@ -173,7 +174,7 @@ module _ (above : ℕ → ℕ → Bool) (weight : ℕ → ℕ) where
       below_instance f ss y (elem k) e h = refl
       below_instance f ss y (app g vs) e h =
           because f (substitute_all p ss) g vs (λ z. each z (place_counts (λ x. times_in z (p x)) ss y h) (times_put_all p z ss) (ap (times_in z) e))
-            (heavier (by (weigh_put_all ss) (place_counts extra ss y h) (has_weight y ss h) (ap weight_in e) (heavy f) (weighs_one (p y))))
+          (heavier (by (weigh_put_all ss) (place_counts extra ss y h) (has_weight y ss h) (ap weight_in e) (heavy f) (weighs_one (p y))))
         where
           each : (z : ℕ) → times_in z (p y) ≤ total (λ x. times_in z (p x)) (places_in_all ss)
               → times_in_all z (substitute_all p ss) ≡ total (λ x. times_in z (p x)) (places_in_all ss) → times_in z (p y) ≡ times_in_all z vs
@@ -237,7 +238,7 @@ module _ (above : ℕ → ℕ → Bool) (weight : ℕ → ℕ) where
       stays_by order (suc n) (app f ss) (app g ts) b h =
           let q = why f ss g ts h in
           because f (substitute_all p ss) g (substitute_all p ts) (each_put p ss ts q.0)
-            (decides_stays f ss g ts q.0 (first_stays order ss ts (λ s t c l. stays_by order n s t (omega (arith, b, c)) l)) q.1)
+          (decides_stays f ss g ts q.0 (first_stays order ss ts (λ s t c l. stays_by order n s t (omega (arith, b, c)) l)) q.1)
 
       pub stays : IsSymbolOrder above → (s t : Tree) → Outweighs s t → Outweighs (substitute p s) (substitute p t)
       stays order s t h = stays_by order (suc (nodes s)) s t (omega arith) h

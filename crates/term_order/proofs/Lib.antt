@@ -1,6 +1,12 @@
+pub mod Bounds
+pub mod Comparing
+pub mod Fronts
+pub mod Heads
 pub mod KboOrder
+pub mod LpoCases
 pub mod LpoOrder
 pub mod LpoParts
 pub mod LpoStable
 pub mod Occurrences
 pub mod Tests
+pub mod Walks

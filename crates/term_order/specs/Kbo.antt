@@ -47,7 +47,7 @@ module _ (above : ℕ → ℕ → Bool) (weight : ℕ → ℕ) where
   outweighs f ss g ts first =
       none_oftener_all ss ts ts
       && (nat_lt (weigh (app g ts)) (weigh (app f ss))
-        || (weigh (app f ss) == weigh (app g ts) && (above f g || (f == g && first))))
+      || (weigh (app f ss) == weigh (app g ts) && (above f g || (f == g && first))))
 
   abbrev mutual
     -- s > t where t is a variable that s has and isn't; or an element, and s an application; or two
