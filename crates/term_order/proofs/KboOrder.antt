@@ -16,10 +16,10 @@ module _ (above : ℕ → ℕ → Bool) (weight : ℕ → ℕ) where
   Outweighs s t = kbo_greater above weight s t ≡ true
 
   abbrev pub weight_in : Tree → ℕ
-  weight_in t = weigh above weight t
+  weight_in t = weigh weight t
 
   abbrev pub weights_in : Trees → ℕ
-  weights_in ts = weigh_all above weight ts
+  weights_in ts = weigh_all weight ts
 
   abbrev pub FirstOutweighs : Trees → Trees → Type 0
   FirstOutweighs ss ts = kbo_first above weight ss ts ≡ true

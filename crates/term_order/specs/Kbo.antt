@@ -27,8 +27,8 @@ module _ (ss ts : Trees) where
     none_oftener_all none = true
     none_oftener_all (more u us) = none_oftener u && none_oftener_all us
 
--- An order of symbols, and what each of them weighs.
-module _ (above : ℕ → ℕ → Bool) (weight : ℕ → ℕ) where
+-- What each symbol weighs.
+module _ (weight : ℕ → ℕ) where
   abbrev mutual
     -- what a term weighs: its symbols' weights, and 1 for each variable and element
     pub weigh : Tree → ℕ
@@ -40,14 +40,16 @@ module _ (above : ℕ → ℕ → Bool) (weight : ℕ → ℕ) where
     weigh_all none = 0
     weigh_all (more t ts) = weigh t + weigh_all ts
 
+-- An order of symbols, and what each of them weighs.
+module _ (above : ℕ → ℕ → Bool) (weight : ℕ → ℕ) where
   -- whether f(ss) outweighs g(ts), where it is known whether the first pair of arguments that
   -- differ has the greater one in ss: no variable stands in ts more often, and f(ss) weighs more; or
   -- they weigh the same, and f stands above g, or is g and the arguments decide
   abbrev pub outweighs : ℕ → Trees → ℕ → Trees → Bool → Bool
   outweighs f ss g ts first =
       none_oftener_all ss ts ts
-      && (nat_lt (weigh (app g ts)) (weigh (app f ss))
-      || (weigh (app f ss) == weigh (app g ts) && (above f g || (f == g && first))))
+      && (nat_lt (weigh weight (app g ts)) (weigh weight (app f ss))
+      || (weigh weight (app f ss) == weigh weight (app g ts) && (above f g || (f == g && first))))
 
   abbrev mutual
     -- s > t where t is a variable that s has and isn't; or an element, and s an application; or two

@@ -2,6 +2,7 @@
 #![tactic(auto)]
 
 mod compared;
+mod kbo;
 mod laws;
 mod path;
 mod precedence;

@@ -17,7 +17,7 @@ use term_bank::{Bank, Node, TermId};
 // Whether the term has the variable.
 #[cycle(variable)]
 #[tactic(auto, using(crate::proofs::Walks::variable_here, crate::proofs::Walks::variable_behind, crate::proofs::Walks::variable_end))]
-fn has_variable(bank: &Bank, t: TermId, x: u64) -> bool
+pub fn has_variable(bank: &Bank, t: TermId, x: u64) -> bool
     requires { t.0 < length bank.now }
     ensures { result ≡ has_variable x (tree_at bank.now t.0) }
 {
@@ -36,7 +36,7 @@ fn has_variable(bank: &Bank, t: TermId, x: u64) -> bool
 }
 
 // How many terms at the front are the same in both lists.
-fn common_len(bank: &Bank, ss: &[TermId], ts: &[TermId]) -> usize
+pub fn common_len(bank: &Bank, ss: &[TermId], ts: &[TermId]) -> usize
     requires ss { AreNumbersBelow (length bank.now) (numbers ss.now) }
     requires ts { AreNumbersBelow (length bank.now) (numbers ts.now) }
     ensures { AreCommon bank.now ss.now ts.now result }
