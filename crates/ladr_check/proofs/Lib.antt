@@ -1,0 +1,10 @@
+mod Judgings
+mod LinesKept
+mod Nameless
+mod Offering
+mod OneOutcome
+mod Refusing
+mod Showing
+mod Sound
+mod Standing
+mod WideNumerals

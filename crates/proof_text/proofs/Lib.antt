@@ -1,0 +1,4 @@
+pub mod Gathered
+pub mod LineLemmas
+pub mod LinesRead
+pub mod TokenPlaces

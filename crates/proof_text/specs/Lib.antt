@@ -1,0 +1,6 @@
+pub mod Blocks
+pub mod Found
+pub mod Frame
+pub mod Going
+pub mod Proofs
+pub mod Refused
