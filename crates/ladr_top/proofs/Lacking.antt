@@ -1,6 +1,7 @@
 -- Runs in which little was done.
 use Rattle.std.proofs.Common.{◌≡◌, ℕ, false, List, [], ◌∷◌, ◌++◌, Err, inl, refl, sym, ◌∙◌}
 use Rattle.std.proofs.lemmas.Bool.{true≢false}
+use Rattle.ladr_check.specs.Shown.{ShowsProofs}
 use Rattle.ladr_intake.specs.Command.{Runs}
 use Rattle.ladr_intake.specs.declared.stops.Refused.{Refused}
 use Rattle.ladr_intake.specs.declared.stops.Stop.{Stop}
@@ -31,4 +32,15 @@ none_shown words from to unread = record {
     exhausted = λ n before small h u is. absurd (none_stands before _ _ h.1.1);
   };
   fronts = λ x posed read countable. absurd (true≢false (sym read.0.over ∙ unread));
+}
+
+-- nor does the line of a proof
+pub none_accepted : (from : Inflow) (to : Outflow) → ShowsProofs from from to to
+none_accepted from to = record {
+  bytes = [];
+  taken = inl (Gives-none from);
+  written = [];
+  wrote = (Takes-none to).took;
+  accepted = λ k small h. absurd (none_stands h.0 _ _ h.1.1.1);
+  all_accepted = λ n small h. absurd (none_stands h.0 _ _ h.1.1.1);
 }

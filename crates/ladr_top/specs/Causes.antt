@@ -2,13 +2,15 @@
 use Rattle.std.specs.Prelude.{ℕ}
 use Rattle.std.specs.declared.result.Result.{Result}
 use Rattle.std.specs.declared.result.Result.TheVariants.{Ok, Err}
+use Rattle.ladr_check.specs.Outcomes.{check_status}
+use Rattle.ladr_check.specs.declared.ends.CheckEnd.{CheckEnd}
 use Rattle.ladr_clausetester.specs.declared.testing.Tested.{Tested}
 use Rattle.ladr_intake.specs.declared.stops.Stop.{Stop}
 use Rattle.ladr_intake.specs.declared.stops.Stop.TheVariants as stops
 use Rattle.ladr_mace4.specs.Statuses.{end_status}
 use Rattle.ladr_mace4.specs.declared.ends.SearchEnd.{SearchEnd}
 use Rattle.ladr_top.specs.declared.cause.Cause.{Cause}
-use Rattle.ladr_top.specs.declared.cause.Cause.TheVariants.{Words, Refused, ReadFault, WriteFault, Memory, Clausetester, Mace4}
+use Rattle.ladr_top.specs.declared.cause.Cause.TheVariants.{Words, Refused, ReadFault, WriteFault, Memory, Check, Clausetester, Mace4}
 
 -- a command came to no end of its own
 abbrev pub cause_of : Stop → Cause
@@ -29,5 +31,6 @@ status_of (Refused why) = 1
 status_of ReadFault = 10
 status_of WriteFault = 11
 status_of Memory = 12
+status_of (Check end) = check_status end
 status_of (Clausetester end) = 0
 status_of (Mace4 end) = end_status end

@@ -1,6 +1,9 @@
 -- What a run amounts to.
 use Rattle.std.specs.Prelude.{◌≡◌}
 use Rattle.std.specs.declared.result.Result.{Result}
+use Rattle.ladr_check.specs.Checking.{Checks}
+use Rattle.ladr_check.specs.Offered.{offers, refuses_proofs}
+use Rattle.ladr_check.specs.declared.ends.CheckEnd.{CheckEnd}
 use Rattle.ladr_clausetester.specs.Testing.{Tests}
 use Rattle.ladr_clausetester.specs.declared.testing.Tested.{Tested}
 use Rattle.ladr_formulas.specs.declared.styles.Mode.TheVariants.{Tester, Mace}
@@ -16,12 +19,18 @@ use Rattle.ladr_output.specs.Telling.{PieceTells}
 use Rattle.ladr_top.specs.Causes.{cause_of, cause_by}
 use Rattle.ladr_top.specs.Words.{no_command_line}
 use Rattle.ladr_top.specs.declared.cause.Cause.{Cause}
-use Rattle.ladr_top.specs.declared.cause.Cause.TheVariants.{Words, Clausetester, Mace4}
+use Rattle.ladr_top.specs.declared.cause.Cause.TheVariants.{Words, Check, Clausetester, Mace4}
 use Rattle.ladr_words.specs.declared.task.ModelOptions.{ModelOptions}
 
 -- words that are no command: their line is printed, or what cut it off is the cause
 abbrev pub RefusesWords : Outflow → Outflow → Cause → Type 0
 RefusesWords = PieceTells Words (λ cut. cause_of (stop_of_cut cut)) no_command_line
+
+-- the input is a text of proofs
+abbrev pub RunsCheck : Inflow → Inflow → Outflow → Outflow → Cause → Type 0
+RunsCheck from from' to to' cause =
+    (r : Result CheckEnd Stop) × Checks offers refuses_proofs from from' to to' r
+    × (cause ≡ cause_by Check r)
 
 -- The input is a file in the language of this program: of `clausetester`, or of `mace4` with these
 -- words.

@@ -2,6 +2,7 @@
 ghost use Rattle.std.specs.Prelude.{◌≡◌};
 ghost use Rattle.ladr_top.specs.Causes.{cause_of, status_of};
 
+pub use ladr_check::CheckEnd;
 pub use ladr_clausetester::Tested;
 use ladr_intake::Stop;
 pub use ladr_intake::{Limit, Place, Refused};
@@ -16,6 +17,7 @@ pub enum Cause {
     ReadFault,
     WriteFault,
     Memory,
+    Check(CheckEnd),
     Clausetester(Tested),
     Mace4(SearchEnd),
 }
@@ -49,6 +51,7 @@ pub fn status(cause: &Cause) -> u8
         Cause::ReadFault => 10,
         Cause::WriteFault => 11,
         Cause::Memory => 12,
+        Cause::Check(end) => end.status(),
         Cause::Clausetester(_) => 0,
         Cause::Mace4(end) => end.status(),
     }

@@ -1,17 +1,19 @@
 // The one call of the program.
 ghost use Rattle.std.specs.Prelude.{◌≡◌, ◌≢◌, false, None, Some, map};
 ghost use Rattle.std.specs.String.{string_bytes};
+ghost use Rattle.ladr_check.specs.Shown.{ShowsProofs};
 ghost use Rattle.ladr_top.specs.Causes.{cause_by, status_of};
 ghost use Rattle.ladr_top.specs.Limits.{AreLimits};
-ghost use Rattle.ladr_top.specs.Runs.{RefusesWords, RunsClausetester, RunsMace4, ShowsMace4};
+ghost use Rattle.ladr_top.specs.Runs.{RefusesWords, RunsCheck, RunsClausetester, RunsMace4, ShowsMace4};
 ghost use Rattle.ladr_words.specs.Tasks.{task_of};
 ghost use Rattle.ladr_words.specs.declared.task.ModelOptions.{ModelOptions};
-ghost use Rattle.ladr_words.specs.declared.task.Task.TheVariants.{Clausetester, Mace4};
+ghost use Rattle.ladr_words.specs.declared.task.Task.TheVariants.{Check, Clausetester, Mace4};
 
 use crate::cause::{Cause, Exit, cause_of, status};
 use crate::limits::limits_are_told;
 use crate::lines::no_command;
 use fol_core::Interpretation;
+use ladr_check::{CheckEnd, check_text, checks_show};
 use ladr_clausetester::{Tested, clausetester};
 use ladr_intake::{Stop, stop_by};
 use ladr_io::{Clock, Sink, Source};
@@ -43,6 +45,18 @@ pub fn run<I: Interpretation, S: Source, K: Sink, C: Clock>(
         → RefusesWords (K.outflow sink.old) (K.outflow sink.new) result.cause }
     ensures untouched { task_of (map string_bytes words.now) ≡ None → source.new ≡ source.old }
 
+    // The proofs of the input are checked.
+    ensures check { task_of (map string_bytes words.now) ≡ Some Check
+        → RunsCheck (S.inflow source.old) (S.inflow source.new) (K.outflow sink.old)
+        (K.outflow sink.new) result.cause }
+
+    // Where the line of an accepted proof stands in what was written, that proof of the input is a refutation of its problem, and no
+    // interpretation, finite or infinite, whose Skolem symbols pick witnesses makes each assumption true and each goal false; where the
+    // line stands that all are accepted, there is one at least, and each is a refutation. So it is whatever became of the run.
+    ensures proofs { task_of (map string_bytes words.now) ≡ Some Check
+        → ShowsProofs (S.inflow source.old) (S.inflow source.new) (K.outflow sink.old)
+        (K.outflow sink.new) }
+
     // The input is tested.
     ensures clausetester { task_of (map string_bytes words.now) ≡ Some Clausetester
         → RunsClausetester (S.inflow source.old) (S.inflow source.new) (K.outflow sink.old)
@@ -64,13 +78,24 @@ pub fn run<I: Interpretation, S: Source, K: Sink, C: Clock>(
     ensures clock { ((o : ModelOptions) → task_of (map string_bytes words.now) ≢ Some (Mace4 o))
         → C.times clock.new ≡ C.times clock.old }
 {
+    checks_show();
     searches_show();
     limits_are_told();
     match task_of(alloc, words) {
+        Ok(Task::Check) => exit(checked(check_text(alloc, source, sink))),
         Ok(Task::Clausetester) => exit(tested(clausetester(alloc, source, sink))),
         Ok(Task::Mace4 { options }) => exit(searched(mace4(alloc, options, source, sink, clock))),
         Err(WordsError::NoCommand) => exit(refuse(alloc, sink)),
         Err(WordsError::Memory) => exit(Cause::Memory),
+    }
+}
+
+fn checked(ended: Result<CheckEnd, Stop>) -> Cause
+    ensures { result ≡ cause_by Cause.Check ended }
+{
+    match ended {
+        Ok(end) => Cause::Check(end),
+        Err(stop) => cause_of(stop),
     }
 }
 

@@ -21,6 +21,10 @@ taking command argument = with_rule command argument
 unfoldable pub having : App → App → App
 having command part = with_subcommand command part.top
 
+-- check
+unfoldable pub check_app : App
+check_app = new_app (codes "check")
+
 -- clausetester
 unfoldable pub clausetester_app : App
 clausetester_app = new_app (codes "clausetester")
@@ -50,9 +54,9 @@ bare_app = record {
 
 -- the program
 unfoldable pub ladr_app : App
-ladr_app = having (having bare_app clausetester_app) mace4_app
+ladr_app = having (having (having bare_app check_app) clausetester_app) mace4_app
 
 -- what a proof opens to compute with the program's command
 unfoldable pub ladr_on_literals : ⊤
-unfolding number_option taking having clausetester_app mace4_app bare_app ladr_app
+unfolding number_option taking having check_app clausetester_app mace4_app bare_app ladr_app
 ladr_on_literals = tt

@@ -8,7 +8,7 @@ use Rattle.clap.specs.Faults.{fault_of}
 use Rattle.clap.specs.ValueTests.{is_unsigned_in}
 use Rattle.ladr_words.specs.Commands.{ladr_app}
 use Rattle.ladr_words.specs.declared.task.Task.{Task}
-use Rattle.ladr_words.specs.declared.task.Task.TheVariants.{Clausetester, Mace4}
+use Rattle.ladr_words.specs.declared.task.Task.TheVariants.{Check, Clausetester, Mace4}
 use Rattle.ladr_words.specs.declared.task.ModelOptions.{ModelOptions}
 
 -- the number that a text writes in decimal digits, with a plus before them or not; it has at most
@@ -41,8 +41,9 @@ model_options rows = record {
 -- the task of a command's name and of what clap found of its arguments
 abbrev pub task_named : List ℕ → List Row → Option Task
 task_named name rows =
-    if bytes_eq name (codes "clausetester") then Some Clausetester
-    else (if bytes_eq name (codes "mace4") then Some (Mace4 (model_options rows)) else None)
+    if bytes_eq name (codes "check") then Some Check
+    else (if bytes_eq name (codes "clausetester") then Some Clausetester
+    else (if bytes_eq name (codes "mace4") then Some (Mace4 (model_options rows)) else None))
 
 -- the task of the words: none where clap has an error for them
 unfoldable pub task_of : List (List ℕ) → Option Task
@@ -57,6 +58,7 @@ IsFrom least most given = IfSome given (λ n. (least ≤ n) × (n ≤ most))
 
 -- each number of a task is in its range
 abbrev pub HasRanges : Task → Type 0
+HasRanges Check = Unit {0}
 HasRanges Clausetester = Unit {0}
 HasRanges (Mace4 options) =
     IsFrom 1 200 options.start_size × IsFrom 1 200 options.end_size

@@ -2,7 +2,7 @@
 use Rattle.std.specs.Prelude.{ℕ, ◌≡◌, ◌≤◌, ◌≢◌, List, [], ◌∷◌, Option, Some, None, codes, slice_index}
 use Rattle.ladr_words.specs.Tasks.{task_of, number_written}
 use Rattle.ladr_words.specs.declared.task.Task.{Task}
-use Rattle.ladr_words.specs.declared.task.Task.TheVariants.{Clausetester, Mace4}
+use Rattle.ladr_words.specs.declared.task.Task.TheVariants.{Check, Clausetester, Mace4}
 
 abbrev pub searching : Option ℕ → Option ℕ → Option ℕ → Option ℕ → Option Task
 searching start_size end_size max_models max_seconds =
@@ -20,7 +20,8 @@ mace4 words = codes "mace4" ∷ words
 -- some command lines and their tasks
 abbrev pub WorkedLines : Type 0
 WorkedLines =
-    (task_of (codes "clausetester" ∷ []) ≡ Some Clausetester)
+    (task_of (codes "check" ∷ []) ≡ Some Check)
+    × (task_of (codes "clausetester" ∷ []) ≡ Some Clausetester)
     × (task_of (mace4 []) ≡ searching None None None None)
     × (task_of (mace4 (codes "-n" ∷ codes "3" ∷ codes "-N" ∷ codes "4" ∷ []))
     ≡ searching (Some 3) (Some 4) None None)
@@ -36,6 +37,7 @@ WorkedRefusals =
     × (task_of (codes "help" ∷ []) ≡ None)
     × (task_of (codes "--version" ∷ []) ≡ None)
     × (task_of (codes "prooftrans" ∷ []) ≡ None)
+    × (task_of (codes "check" ∷ codes "-t" ∷ codes "5" ∷ []) ≡ None)
     × (task_of (codes "clausetester" ∷ codes "extra" ∷ []) ≡ None)
     × (task_of (mace4 (codes "--help" ∷ [])) ≡ None)
     × (task_of (mace4 (codes "-n" ∷ codes "0" ∷ [])) ≡ None)

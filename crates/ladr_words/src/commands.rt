@@ -2,7 +2,7 @@
 ghost use Rattle.std.specs.Prelude.{◌≡◌, IfOk, false};
 ghost use Rattle.clap.specs.Words.{rule_of, app_of, shape_of};
 ghost use Rattle.clap.specs.declared.builder.command.Command.TheViews.{out-Command};
-ghost use Rattle.ladr_words.specs.Commands.{number_option, bare_app, clausetester_app, mace4_app, ladr_app, taking, having};
+ghost use Rattle.ladr_words.specs.Commands.{number_option, bare_app, check_app, clausetester_app, mace4_app, ladr_app, taking, having};
 
 use clap::builder::ValueParser;
 use clap::{Arg, ArgAction, Command};
@@ -38,6 +38,14 @@ fn having<'a>(command: Command<'a>, part: Command<'a>) -> Result<Command<'a>, Al
     ensures { IfOk result (λ c. app_of c ≡ having (app_of command.entry) (app_of part.entry)) }
 {
     command.subcommand(part)
+}
+
+#[tactic(auto, unfolding(crate::specs::Commands::check_app))]
+fn check<'a>(alloc: Global) -> Command<'a>
+    ensures app { app_of result ≡ check_app }
+    ensures local { (out-Command result).has_globals ≡ false }
+{
+    Command::new(alloc, "check")
 }
 
 #[tactic(auto, unfolding(crate::specs::Commands::clausetester_app))]
@@ -98,7 +106,8 @@ fn bare<'a>(alloc: Global) -> Command<'a>
 pub fn ladr<'a>(alloc: Global) -> Result<Command<'a>, AllocError>
     ensures { IfOk result (λ c. app_of c ≡ ladr_app) }
 {
-    let command = having(bare(alloc), clausetester(alloc))?;
+    let command = having(bare(alloc), check(alloc))?;
+    let command = having(command, clausetester(alloc))?;
     let command = having(command, mace4(alloc)?)?;
     Ok(command)
 }

@@ -8,6 +8,7 @@ use thiserror::Error;
 /// A command with its options.
 #[derive(Clone, Copy, Debug, PartialEq, Eq)]
 pub enum Task {
+    Check,
     Clausetester,
     Mace4 { options: ModelOptions },
 }

@@ -68,6 +68,7 @@ fn task_named(name: &str, matches: &ArgMatches) -> Option<Task>
     ensures ranges { IfSome result HasRanges }
 {
     match name {
+        "check" => Some(Task::Check),
         "clausetester" => Some(Task::Clausetester),
         "mace4" => Some(Task::Mace4 {
             options: model_options(matches),

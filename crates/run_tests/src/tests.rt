@@ -60,6 +60,15 @@ fn runs_end_as_told(rt: HostRuntime) -> Result<(), Fail> {
             REPORT,
         ),
         ("clausetester", INVOLUTION, 1, 2, 11, b"l"),
+        ("check", PROVED, 0, 0, 0, ACCEPTED),
+        (
+            "check",
+            UNPROVED,
+            0,
+            0,
+            7,
+            b"ladr: not accepted, line 5, cause 3\n",
+        ),
     ] {
         let (ended, held) = outcome(rt.alloc(), command, input, read, write, &[])?;
         assert_eq!(rt; ended, status, "{command}");
@@ -70,7 +79,7 @@ fn runs_end_as_told(rt: HostRuntime) -> Result<(), Fail> {
 
 #[test]
 fn each_failed_read_is_told(rt: HostRuntime) -> Result<(), Fail> {
-    for command in ["clausetester", "mace4"] {
+    for command in ["check", "clausetester", "mace4"] {
         for taken in 0..=INVOLUTION.len() as u64 {
             let (status, held) = outcome(rt.alloc(), command, INVOLUTION, taken + 1, 0, &[])?;
             assert_eq!(rt; status, 10, "{command} after {taken} bytes");
@@ -87,6 +96,7 @@ fn each_failed_read_is_told(rt: HostRuntime) -> Result<(), Fail> {
 #[test]
 fn each_failed_write_leaves_a_front(rt: HostRuntime) -> Result<(), Fail> {
     for (command, input, output) in [
+        ("check", PROVED, ACCEPTED),
         ("clausetester", INVOLUTION, REPORT),
         ("mace4 -n 3 -N 3 -m 10", INVOLUTIONS, ALL_OF_THREE),
     ] {
@@ -103,6 +113,14 @@ fn each_failed_write_leaves_a_front(rt: HostRuntime) -> Result<(), Fail> {
     }
     Ok(())
 }
+
+const ACCEPTED: &[u8] = b"% Proof 1 accepted.\n% Exit accepted 1.\n";
+
+const PROVED: &[u8] =
+    b"% Input 35\nformulas(sos).\np.\n-p.\nend_of_list.\n\n============================== PROOF =================================\n1 p.  [assumption].\n2 -p.  [assumption].\n3 p.  [clausify(1)].\n4 -p.  [clausify(2)].\n5 $F.  [resolve(3,a,4,a)].\n============================== end of proof ==========================\n";
+
+const UNPROVED: &[u8] =
+    b"% Input 35\nformulas(sos).\np.\n-p.\nend_of_list.\n\n============================== PROOF =================================\n1 p.  [assumption].\n3 p.  [clausify(1)].\n5 $F.  [resolve(3,a,4,a)].\n============================== end of proof ==========================\n";
 
 const INVOLUTIONS: &[u8] = b"formulas(assumptions).\nf(f(x)) = x.\nend_of_list.\n";
 

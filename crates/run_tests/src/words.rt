@@ -27,6 +27,8 @@ fn reads_words(rt: HostRuntime) -> Result<(), Fail> {
         ..PLAIN
     };
     assert_eq!(rt; task_of(rt.alloc(), &line), Ok(Task::Mace4 { options }));
+    let line = texts(rt.alloc(), &["check"])?;
+    assert_eq!(rt; task_of(rt.alloc(), &line), Ok(Task::Check));
     let line = texts(rt.alloc(), &["clausetester"])?;
     assert_eq!(rt; task_of(rt.alloc(), &line), Ok(Task::Clausetester));
     let line = texts(rt.alloc(), &["mace4", "-h"])?;

@@ -2,7 +2,7 @@ use Rattle.std.proofs.Common.{◌≡◌, Err, subst}
 use Rattle.ladr_intake.specs.declared.stops.Stop.TheVariants as stops
 use Rattle.ladr_io.proofs.StreamLaws.{Takes-none}
 use Rattle.ladr_output.specs.declared.cut.Cut.TheVariants as cuts
-use Rattle.ladr_top.proofs.Lacking.{lacking, none_shown}
+use Rattle.ladr_top.proofs.Lacking.{lacking, none_shown, none_accepted}
 use Rattle.ladr_top.specs.Runs.{ShowsMace4}
 use Rattle.ladr_words.specs.Tasks.{HasRanges}
 use Rattle.ladr_top.proofs.running.run.Goals as goal
@@ -10,6 +10,15 @@ use Rattle.ladr_words.specs.declared.task.ModelOptions.{ModelOptions}
 
 pub returns-in-Err-Memory-clause-words : goal.returns-in-Err-Memory-clause-words
 returns-in-Err-Memory-clause-words g c = λ e. (Err cuts.Memory, Takes-none _, c.exit-in-Err-Memory.ensures.cause)
+
+pub returns-in-Err-Memory-clause-check : goal.returns-in-Err-Memory-clause-check
+returns-in-Err-Memory-clause-check g c = λ e. (Err stops.Memory, lacking _ _ _ _ _ _ _ tt, c.exit-in-Err-Memory.ensures.cause)
+
+pub returns-in-Err-Memory-clause-proofs : goal.returns-in-Err-Memory-clause-proofs
+returns-in-Err-Memory-clause-proofs g c = λ e. none_accepted _ _
+
+pub returns-in-Ok-Check-clause-proofs : goal.returns-in-Ok-Check-clause-proofs
+returns-in-Ok-Check-clause-proofs g c = λ e. c.checks_show.ensures.show _ _ _ _ c.check_text.result c.check_text.ensures
 
 pub returns-in-Err-Memory-clause-clausetester : goal.returns-in-Err-Memory-clause-clausetester
 returns-in-Err-Memory-clause-clausetester g c = λ e. (Err stops.Memory, lacking _ _ _ _ _ _ _ tt, c.exit-in-Err-Memory.ensures.cause)

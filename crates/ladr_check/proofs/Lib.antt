@@ -1,0 +1,13 @@
+mod Judgings
+mod LinesKept
+mod Nameless
+mod Offering
+mod OneFrame
+mod OneOffer
+mod OneOutcome
+mod OneReading
+mod Refusing
+mod Showing
+mod Sound
+mod Standing
+mod WideNumerals

@@ -1,0 +1,15 @@
+use Rattle.std.proofs.Common.{◌≡◌, [], refl}
+use Rattle.ladr_check.specs.CheckReport.{check_report}
+use Rattle.ladr_check.specs.Checking.{IsChecked}
+use Rattle.ladr_check.specs.Offered.{offered_by}
+use Rattle.ladr_io.proofs.StreamLaws.{Takes-none}
+use Rattle.ladr_output.proofs.Tellings.{ended_by}
+use Rattle.ladr_check.proofs.checking.tell.Goals as goal
+
+pub returns-in-Err : goal.returns-in-Err
+returns-in-Err g c = ([], refl, Takes-none _)
+
+pub returns : goal.returns
+returns g c =
+    let over = c.in-Ok.over in
+    ended_by (λ text. text ≡ []) (IsChecked (offered_by c.args.read)) over.end (check_report over.accepted over.end) _ _ c.ending.result refl (over.accepted, c.in-Ok.ensures, refl) (c.ending.ensures.printed (check_report over.accepted over.end) c.report.ensures)

@@ -1,0 +1,5 @@
+pub mod Checking
+pub mod CheckReport
+pub mod Offered
+pub mod Outcomes
+pub mod Shown

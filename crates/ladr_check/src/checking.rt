@@ -1,0 +1,54 @@
+// The command as a whole.
+ghost use Rattle.std.specs.Prelude.{◌≡◌, [], false};
+ghost use Rattle.clausify.specs.Names.{HasNoSkolemRelation};
+ghost use Rattle.fol_core.specs.Stated.{stated_of, IsWellFormed};
+ghost use Rattle.fol_core.specs.SymbolTable.{KeepsNumbers};
+ghost use Rattle.ladr_check.specs.Checking.{Checks, IsChecked};
+ghost use Rattle.ladr_check.specs.Offered.{offers, offered_by, refuses_proofs};
+ghost use Rattle.ladr_output.specs.Telling.{Tells};
+
+use crate::ends::CheckEnd;
+use crate::judging::judge_proofs;
+use crate::report::report;
+use crate::taking::take_proofs;
+use ladr_intake::{Stop, refuse, stop_by};
+use ladr_io::{Sink, Source};
+use ladr_output::{Cut, ending};
+use proof_text::ProofRead;
+use std::alloc::Global;
+
+/// Reads the input and tells whether its proofs are accepted, or why it offers none that can be read.
+pub fn check_text<S: Source, K: Sink>(
+    alloc: Global,
+    source: &mut S,
+    sink: &mut K,
+) -> Result<CheckEnd, Stop>
+    requires source { (S.inflow source.old).over ≡ false }
+    requires sink { (K.outflow sink.old).over ≡ false }
+    ensures { Checks offers refuses_proofs (S.inflow source.old) (S.inflow source.new)
+        (K.outflow sink.old) (K.outflow sink.new) result }
+{
+    match take_proofs(alloc, source) {
+        Ok(read) => match tell(alloc, read, sink) {
+            Ok(end) => Ok(end),
+            Err(cut) => Err(stop_by(cut)),
+        },
+        Err(why) => Err(refuse(alloc, why, sink)),
+    }
+}
+
+// Checks what was read, and tells how that ends.
+fn tell<K: Sink>(alloc: Global, read: ProofRead, sink: &mut K) -> Result<CheckEnd, Cut>
+    requires well_formed { IsWellFormed (stated_of read.problem) }
+    requires table { KeepsNumbers read.problem.symbols read.symbols }
+    requires no_relation { HasNoSkolemRelation read.problem.symbols read.symbols }
+    requires sink { (K.outflow sink.old).over ≡ false }
+    ensures { Tells (λ text. text ≡ []) (IsChecked (offered_by read)) (K.outflow sink.old)
+        (K.outflow sink.new) result }
+{
+    let over = match judge_proofs(alloc, read) {
+        Ok(over) => over,
+        Err(_) => return Err(Cut::Memory),
+    };
+    ending(report(alloc, over), over.end, sink)
+}

@@ -1,0 +1,60 @@
+// What checks amount to, and reports worked out: the functions do nothing, and their contracts are the laws.
+ghost use Rattle.std.specs.Prelude.{◌≡◌, codes};
+ghost use Rattle.ladr_check.specs.CheckReport.{check_report};
+ghost use Rattle.ladr_check.specs.Outcomes.{EndIsOne};
+ghost use Rattle.ladr_check.specs.Shown.{OneRefutationSuffices, OffersAreAlone, ChecksShow};
+ghost use Rattle.ladr_check.specs.declared.ends.CheckEnd.TheVariants.{Accepted, NotAccepted, ClauseLimit};
+
+use derivation::{fault_is_one, lines_without_elements};
+use ladr_formulas::prover_names_no_element;
+use ladr_problem::{one_outcome, problems_are_proper};
+use proof_check::no_countermodel;
+use proof_lines::{bad_tokens_are_bad, one_line};
+
+/// What is offered comes out in one way.
+pub fn one_end()
+    ensures { EndIsOne }
+{
+    fault_is_one();
+}
+
+/// Where one proof of a text is a refutation, no interpretation, finite or infinite, whose Skolem symbols pick witnesses makes each
+/// assumption of its problem true and each goal false.
+pub fn one_refutation_suffices()
+    ensures { OneRefutationSuffices }
+{
+    lines_without_elements();
+    no_countermodel();
+    problems_are_proper();
+    prover_names_no_element();
+}
+
+/// Bytes that offer something offer nothing else, and they aren't refused.
+pub fn offers_are_alone()
+    ensures { OffersAreAlone }
+{
+    one_outcome();
+    one_line();
+    bad_tokens_are_bad();
+}
+
+/// Where the line of an accepted proof stands in the output of a run, that proof is a refutation; where the line stands that all
+/// are accepted, each of them is. So it is whatever became of the run; and what is offered comes out in one way.
+pub fn checks_show()
+    ensures show { ChecksShow }
+    ensures once { EndIsOne }
+{
+    one_refutation_suffices();
+    offers_are_alone();
+    one_end();
+}
+
+/// Reports on two proofs that are accepted, on a second one that isn't, and on a formula with too many clauses.
+pub fn worked()
+    ensures accepted { check_report 2 (Accepted 2)
+        ≡ codes "% Proof 1 accepted.\n% Proof 2 accepted.\n% Exit accepted 2.\n" }
+    ensures not_accepted { check_report 1 (NotAccepted 7 6)
+        ≡ codes "% Proof 1 accepted.\nladr: not accepted, line 7, cause 6\n" }
+    ensures limit { check_report 0 (ClauseLimit 3)
+        ≡ codes "ladr: clause limit at formula 3\n" }
+{}
