@@ -1,8 +1,10 @@
 -- What a search gives, by what it found.
-use Rattle.std.proofs.Common.{◌≡◌, ℕ, zero, suc, Bool, List, Option, refl, sym, subst}
+use Rattle.std.proofs.Common.{◌≡◌, ℕ, zero, suc, ◌-◌, Bool, List, [], ◌∷◌, length, Option, refl, sym, subst, ap, arith}
 use Rattle.ladr_io.specs.Times.{Times}
+use Rattle.mace_cells.proofs.Reading.{reads_none, reads_fewer}
 use Rattle.mace_cells.proofs.Steps.{found, ended}
 use Rattle.mace_cells.specs.Leaves.{choices_of}
+use Rattle.mace_cells.specs.Readings.{ReadsOn}
 use Rattle.mace_cells.specs.Searches.{HasFound, IsTimed}
 use Rattle.mace_cells.specs.World.{World}
 use Rattle.mace_cells.specs.declared.frame.Frame.{Frame}
@@ -33,3 +35,15 @@ gives_by w w' es es' fs fs' live old stop late t answer n state worlds lives aft
     (subst (λ (v : World). AnswersByCells (course w live fs es stop late) (course v (live_in (follows_after answer n)) fs' es' stop (late_in (follows_after answer n))) answer t) (sym worlds)
     (at_once w es es' fs fs' live stop late t answer n (subst (λ (v : World). HasFound w live (choices_of w fs) (meaning_by_cells v es') answer (choices_of w fs')) worlds h)
     (subst (λ (v : World). answer ≡ Model → AreTablesFor v (finite_of v es')) worlds whole) timed)))
+
+many_choices : (w : World) (fs : List Frame) → length (choices_of w fs) ≡ length fs
+many_choices w [] = refl
+many_choices w (f ∷ fs) = ap suc (many_choices w fs)
+
+-- choices are counted as the code counts them
+pub reads_by : (w w' : World) (fs fs' : List Frame) (stop : Option ℕ) (t t' : Times) → ReadsOn stop (length fs' - length fs) t t' → ReadsOn stop (length (choices_of w' fs') - length (choices_of w fs)) t t'
+reads_by w w' fs fs' stop t t' h = rw (many_choices w fs, many_choices w' fs') h
+
+-- no choice more, and no reading
+pub reads_still : (stop : Option ℕ) (n : ℕ) (t : Times) → ReadsOn stop (n - n) t t
+reads_still stop n t = reads_fewer stop 0 (n - n) t t (omega arith) (reads_none stop t)

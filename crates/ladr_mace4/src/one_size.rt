@@ -1,9 +1,9 @@
 // One size.
-ghost use Rattle.std.specs.Prelude.{◌≡◌, ◌<◌, ◌≤◌, ◌+◌, ℕ, false, IfOk, Ok};
+ghost use Rattle.std.specs.Prelude.{◌≡◌, ◌<◌, ◌≤◌, ℕ, false, IfOk, Ok};
 ghost use Rattle.fol_core.specs.Occurs.{size_needed};
 ghost use Rattle.ladr_mace4.specs.Lines.{skipped_line};
 ghost use Rattle.ladr_mace4.specs.Story.{SizeGoes, SizeEnds};
-ghost use Rattle.ladr_mace4.specs.Watching.{IsWatched, HasRead};
+ghost use Rattle.ladr_mace4.specs.Watching.{IsWatched, HasReadAtLeast};
 ghost use Rattle.ladr_output.specs.Telling.{IsPiece, Tells};
 ghost use Rattle.model_tables.specs.Size.{formulas_of};
 
@@ -33,12 +33,13 @@ pub fn one_size<K: Sink, C: Clock>(
 ) -> Result<Step, Cut>
     requires size { 1 ≤ n }
     requires end { n ≤ plan.end }
+    requires most { n ≤ 200 }
     requires needed { needed ≡ size_needed (formulas_of asked.now) }
     requires fewer { k < plan.wanted }
     requires seconds { watch.old.seconds ≡ plan.seconds }
     requires watched { IsWatched watch.old (C.times clock.old) }
     requires sink { (K.outflow sink.old).over ≡ false }
-    ensures tells { (r : ℕ) → HasRead plan.seconds r (C.times clock.old)
+    ensures tells { (r : ℕ) → HasReadAtLeast plan.seconds r (C.times clock.old)
         → Tells (SizeGoes asked.now plan (C.times clock.new) n k r)
         (SizeEnds asked.now plan (C.times clock.new) n k r) (K.outflow sink.old)
         (K.outflow sink.new) result }

@@ -2,3 +2,4 @@ pub mod Stacks
 pub mod Steps
 pub mod Drives
 pub mod Making
+pub mod Reading

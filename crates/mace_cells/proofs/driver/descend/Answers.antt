@@ -1,5 +1,5 @@
-use Rattle.std.proofs.Common.{true, refl, ◌∙◌}
-use Rattle.mace_search.proofs.Watching.{goes_none, goes_both}
+use Rattle.std.proofs.Common.{true, refl, ◌∙◌, arith}
+use Rattle.mace_cells.proofs.Reading.{reads_none, reads_both, reads_fewer}
 use Rattle.mace_cells.proofs.Steps.{itself}
 use Rattle.mace_cells.proofs.Drives.{both, at_end, smaller, few_choices, still, refuted_still, few_still}
 use Rattle.mace_cells.proofs.driver.descend.Goals as goal
@@ -10,7 +10,7 @@ loop-board-init g c = record {
   standing = c.requires.standing;
   leaves = itself (g.B.Board.world c.args.board.now) true _;
   early = c.requires.early;
-  goes = goes_none c.args.stop _;
+  goes = reads_fewer c.args.stop 0 _ _ _ (omega arith) (reads_none c.args.stop _);
 }
 
 pub back-requires-clause-standing : goal.back-requires-clause-standing
@@ -34,7 +34,7 @@ loop-board-preserved-else-not-back g c = record {
   standing = c.back.ensures.standing;
   leaves = both (g.B.Board.world c.args.board.now) (g.B.Board.world c.status.new.self) true true true _ _ _ (c.status.ensures.world ∙ c.loop-board.invariant.world) c.loop-board.invariant.leaves c.if-not-back.ensures.leaves;
   early = c.loop-board.invariant.early;
-  goes = c.loop-board.invariant.goes;
+  goes = reads_fewer c.args.stop _ _ _ _ (omega (arith, c.back.ensures.few)) c.loop-board.invariant.goes;
 }
 
 pub step-requires-clause-standing : goal.step-requires-clause-standing
@@ -60,5 +60,5 @@ loop-board-preserved g c = record {
   standing = c.step.ensures.standing;
   leaves = both (g.B.Board.world c.args.board.now) (g.B.Board.world c.status.new.self) true true true _ _ _ (c.status.ensures.world ∙ c.loop-board.invariant.world) c.loop-board.invariant.leaves c.if-not-step.ensures.leaves;
   early = c.in_default.ensures.late;
-  goes = goes_both c.args.stop _ _ _ c.loop-board.invariant.goes c.late.ensures.goes;
+  goes = reads_both c.args.stop _ 1 _ _ _ _ (omega (arith, c.step.ensures.few)) c.loop-board.invariant.goes c.late.ensures.goes;
 }

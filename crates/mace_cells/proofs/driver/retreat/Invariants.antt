@@ -10,6 +10,7 @@ invariant-loop-frame g l = record {
   world : g.B.Board.world l.board ≡ g.B.Board.world l.fn.board;
   standing : IsStanding (g.B.Board.world l.board) (g.B.Board.decided l.board) l.frames;
   leaves : LeavesOpen (g.B.Board.world l.fn.board) false (choices_of (g.B.Board.world l.fn.board) l.fn.frames.list) false (choices_of (g.B.Board.world l.fn.board) l.frames.list);
+  few : length l.frames.list ≤ length l.fn.frames.list;
   behind : beyond (many_cells (g.B.Board.world l.fn.board)) l.fn.frames.list ≤ beyond (many_cells (g.B.Board.world l.fn.board)) l.frames.list;
 }
 
