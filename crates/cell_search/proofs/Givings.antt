@@ -1,10 +1,12 @@
 -- What a search gives, by what it found.
-use Rattle.std.proofs.Common.{◌≡◌, ℕ, zero, suc, ◌-◌, Bool, List, [], ◌∷◌, length, Option, refl, sym, subst, ap, arith}
+use Rattle.std.proofs.Common.{◌≡◌, ℕ, zero, suc, Bool, false, List, Option, refl, sym, subst}
 use Rattle.ladr_io.specs.Times.{Times}
-use Rattle.mace_cells.proofs.Reading.{reads_none, reads_fewer}
+use Rattle.mace_cells.proofs.Moving.{goes_nowhere}
+use Rattle.mace_cells.proofs.Reading.{reads_none}
 use Rattle.mace_cells.proofs.Steps.{found, ended}
 use Rattle.mace_cells.specs.Leaves.{choices_of}
-use Rattle.mace_cells.specs.Readings.{ReadsOn}
+use Rattle.mace_cells.specs.Choices.{Choice}
+use Rattle.mace_cells.specs.Readings.{GoesInTime}
 use Rattle.mace_cells.specs.Searches.{HasFound, IsTimed}
 use Rattle.mace_cells.specs.World.{World}
 use Rattle.mace_cells.specs.declared.frame.Frame.{Frame}
@@ -36,14 +38,13 @@ gives_by w w' es es' fs fs' live old stop late t answer n state worlds lives aft
     (at_once w es es' fs fs' live stop late t answer n (subst (λ (v : World). HasFound w live (choices_of w fs) (meaning_by_cells v es') answer (choices_of w fs')) worlds h)
     (subst (λ (v : World). answer ≡ Model → AreTablesFor v (finite_of v es')) worlds whole) timed)))
 
-many_choices : (w : World) (fs : List Frame) → length (choices_of w fs) ≡ length fs
-many_choices w [] = refl
-many_choices w (f ∷ fs) = ap suc (many_choices w fs)
+-- the clock was read as often as the code says
+pub goes_by : (w w' : World) (fs fs' : List Frame) (live old : Bool) (stop : Option ℕ) (t t' : Times) (answer : Answer) → w' ≡ w → old ≡ live
+    → GoesInTime w stop live (choices_of w fs) answer (choices_of w fs') t t' → GoesInTime w stop old (choices_of w fs) answer (choices_of w' fs') t t'
+goes_by w w' fs fs' live old stop t t' answer worlds lives h =
+    subst (λ (b : Bool). GoesInTime w stop b (choices_of w fs) answer (choices_of w' fs') t t') (sym lives)
+    (subst (λ (v : World). GoesInTime w stop live (choices_of w fs) answer (choices_of v fs') t t') (sym worlds) h)
 
--- choices are counted as the code counts them
-pub reads_by : (w w' : World) (fs fs' : List Frame) (stop : Option ℕ) (t t' : Times) → ReadsOn stop (length fs' - length fs) t t' → ReadsOn stop (length (choices_of w' fs') - length (choices_of w fs)) t t'
-reads_by w w' fs fs' stop t t' h = rw (many_choices w fs, many_choices w' fs') h
-
--- no choice more, and no reading
-pub reads_still : (stop : Option ℕ) (n : ℕ) (t : Times) → ReadsOn stop (n - n) t t
-reads_still stop n t = reads_fewer stop 0 (n - n) t t (omega arith) (reads_none stop t)
+-- where nothing is left no cell is chosen, and the clock isn't read
+pub goes_no_more : (w : World) (stop : Option ℕ) (cs : List Choice) (t : Times) → GoesInTime w stop false cs Exhausted cs t t
+goes_no_more w stop cs t = (0, goes_nowhere w false cs, reads_none stop t)

@@ -66,12 +66,12 @@ mod tests {
 
     // What the writes take, one after another: so many bytes, or an error.
     #[derive(Drop)]
-    struct Takes {
+    struct Accepting {
         writes: [Result<u8, ErrorKind>; 6],
         at: usize,
     }
 
-    impl Write for Takes {
+    impl Write for Accepting {
         fn write(&mut self, buf: &[u8]) -> io::Result<usize> {
             if self.at >= self.writes.len() {
                 return Ok(buf.len());
@@ -92,7 +92,7 @@ mod tests {
     // It is asked again after a fault, as no caller may, to see what it counts.
     #[test]
     fn counts_each_fault_and_writes_on(rt: HostRuntime) -> Result<(), Fail> {
-        let mut output = StandardOutput::new(Takes {
+        let mut output = StandardOutput::new(Accepting {
             writes: [
                 Ok(2),
                 Err(ErrorKind::Interrupted),

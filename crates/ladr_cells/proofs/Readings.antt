@@ -106,7 +106,7 @@ module _ (T : List Symbol) where
 
   mutual
     term_fits : (st : Style) (scope : List Bound) (s : Reading) (t : RawTree) → TermFits (term_of st scope s t)
-    term_fits st scope s (quantified q x t) h k = term_fits st (record { name = x; limited_number_of = length s.variables } ∷ scope) (with_variable x false (meets true QuantifierInTerm s)) t h k
+    term_fits st scope s (quantified q x t) h k = term_fits st (record { name = x; number = length s.variables } ∷ scope) (with_variable x false (meets true QuantifierInTerm s)) t h k
     term_fits st scope s (named name no_raws) h k = constant_fits st name (named_variable st scope name s).tree (named_variable st scope name s).reading h k
     term_fits st scope s (named name (more_raws t ts)) h k =
         let met = meets (is_too_great st name) UnfitNumeral s in
@@ -177,7 +177,7 @@ module _ (T : List Symbol) where
 
   pub formula_fits : (st : Style) (scope : List Bound) (t : RawTree) (s : Reading) → FormulaFits (formula_in st scope s t)
   formula_fits st scope (quantified q x t) s =
-      let inner : List Bound = record { name = x; limited_number_of = length s.variables } ∷ scope in
+      let inner : List Bound = record { name = x; number = length s.variables } ∷ scope in
       bound_fits q (length s.variables) (formula_in st inner (with_variable x false s) t) (formula_fits st inner t (with_variable x false s))
   formula_fits st scope (named name no_raws) s = sentence_fits st scope name (named_variable st scope name s).tree (named_variable st scope name s).reading
   formula_fits st scope (named name (more_raws t no_raws)) s =

@@ -47,7 +47,7 @@ same_kind Relation = refl
 record Stands (a T : List Symbol) (x : Symbol) : Type 0 where
   clash : is_clash T x ≡ is_clash a x
   table : entered T x ≡ T
-  limited_number_of : number_of T x.name x.arity ≡ number_of (entered a x) x.name x.arity
+  number : number_of T x.name x.arity ≡ number_of (entered a x) x.name x.arity
 
 stands_at : (T : List Symbol) (x : Symbol) (n : ℕ) → number_of T x.name x.arity ≡ Some n → entered T x ≡ T
 stands_at T x n h = ap (λ (o : Option ℕ). if is_some o then T else T ++ x ∷ []) h
@@ -63,7 +63,7 @@ stands a T x k = by (number_of a x.name x.arity) refl
         record {
           clash = clash_of T x n there ∙ ap (λ (kind : Kind). not (is_same_kind kind x.kind)) (kind_found a T x.name x.arity n keeps h) ∙ sym (clash_of a x n h);
           table = stands_at T x n there;
-          limited_number_of = there ∙ sym (ap (λ (t : List Symbol). number_of t x.name x.arity) old ∙ h);
+          number = there ∙ sym (ap (λ (t : List Symbol). number_of t x.name x.arity) old ∙ h);
         }
     by None h =
         let new : entered a x ≡ a ++ x ∷ [] = ap (λ (o : Option ℕ). if is_some o then a else a ++ x ∷ []) h in
@@ -75,7 +75,7 @@ stands a T x k = by (number_of a x.name x.arity) refl
           clash = clash_of T x (length a) there ∙ ap (λ (k : Kind). not (is_same_kind k x.kind)) kind ∙ ap not (same_kind x.kind)
               ∙ sym (ap (λ (o : Option ℕ). option_map_or (λ n. not (is_same_kind (kind_at a n) x.kind)) o false) h);
           table = stands_at T x (length a) there;
-          limited_number_of = there ∙ sym (ap (λ (t : List Symbol). number_of t x.name x.arity) new ∙ last);
+          number = there ∙ sym (ap (λ (t : List Symbol). number_of t x.name x.arity) new ∙ last);
         }
 
 module _ (T : List Symbol) where
@@ -153,7 +153,7 @@ module _ (T : List Symbol) where
 
   mutual
     pub term_into : (st : Style) (scope : List Bound) (t : RawTree) → Alike (λ s. term_of st scope s t)
-    term_into st scope (quantified q x t) s k = term_into st (record { name = x; limited_number_of = length s.variables } ∷ scope) t (with_variable x false (meets true QuantifierInTerm s)) k
+    term_into st scope (quantified q x t) s k = term_into st (record { name = x; number = length s.variables } ∷ scope) t (with_variable x false (meets true QuantifierInTerm s)) k
     term_into st scope (named name no_raws) s k = constant_into st scope name s k
     term_into st scope (named name (more_raws t ts)) s k =
         let arity = suc (arity_of ts) in
@@ -230,7 +230,7 @@ module _ (T : List Symbol) where
 
   formula_into : (st : Style) (scope : List Bound) (t : RawTree) → Alike (λ s. formula_in st scope s t)
   formula_into st scope (quantified q x t) s k =
-      ap (under (bound_by q (length s.variables))) (formula_into st (record { name = x; limited_number_of = length s.variables } ∷ scope) t (with_variable x false s) k)
+      ap (under (bound_by q (length s.variables))) (formula_into st (record { name = x; number = length s.variables } ∷ scope) t (with_variable x false s) k)
   formula_into st scope (named name no_raws) s k = sentence_into st scope name s k
   formula_into st scope (named name (more_raws t no_raws)) s k =
       either_into (is_denial name) (λ (r : Reading). under negation (formula_in st scope r t)) (relation_of st scope name (more_raws t no_raws))

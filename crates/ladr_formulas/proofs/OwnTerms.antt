@@ -78,10 +78,10 @@ mutual
   term_good st scope s (quantified q x t) =
       let bad = meets true QuantifierInTerm s in
       let after = with_variable x false bad in
-      let body = term_good st (record { name = x; limited_number_of = length s.variables } ∷ scope) after t in
+      let body = term_good st (record { name = x; number = length s.variables } ∷ scope) after t in
       let grown = grows_on s bad after (grows_met true QuantifierInTerm s) (grows_variable x false bad) in
       record {
-        grows = grows_on s after (term_of st (record { name = x; limited_number_of = length s.variables } ∷ scope) after t).reading grown body.grows;
+        grows = grows_on s after (term_of st (record { name = x; number = length s.variables } ∷ scope) after t).reading grown body.grows;
         known = λ least y i. absurd (met QuantifierInTerm s (body.grows.least least));
         below = body.below;
       }

@@ -41,7 +41,7 @@ pub record Made (A : Type 0) : Type 0 where
 -- the variables that quantifiers around bind, the innermost first, with their numbers
 pub record Bound : Type 0 where
   pub name : List ℕ
-  pub limited_number_of : ℕ
+  pub number : ℕ
 
 -- a misuse is met, if the test says so
 abbrev pub meets : Bool → Misuse → Reading → Reading
@@ -136,7 +136,7 @@ abbrev mutual
   -- its body is read on
   pub term_of : Style → List Bound → Reading → RawTree → Made Tree
   term_of st scope s (quantified q x t) =
-      term_of st (record { name = x; limited_number_of = length s.variables } ∷ scope)
+      term_of st (record { name = x; number = length s.variables } ∷ scope)
       (with_variable x false (meets true QuantifierInTerm s)) t
   term_of st scope s (named name no_raws) = constant st scope name s
   term_of st scope s (named name (more_raws t ts)) =
@@ -246,7 +246,7 @@ comparison st scope name t u s =
 abbrev pub formula_in : Style → List Bound → Reading → RawTree → Made Fol
 formula_in st scope s (quantified q x t) =
     under (bound_by q (length s.variables))
-    (formula_in st (record { name = x; limited_number_of = length s.variables } ∷ scope)
+    (formula_in st (record { name = x; number = length s.variables } ∷ scope)
     (with_variable x false s) t)
 formula_in st scope s (named name no_raws) = sentence st scope name s
 formula_in st scope s (named name (more_raws t no_raws)) =

@@ -13,8 +13,8 @@ pub fn worked_formulas()
     // all x p(x,f(y)): the bound variable is number 0, the free one number 1; p comes before f.
     ensures bound_and_free { (formula_reading for_tester [] bound_and_free).tree
         ≡ forall 0 (atom 0 (more (var 0) (more (function 1 (var 1)) none))) }
-    ensures names { names_of_variables (formula_reading for_tester [] bound_and_free).reading.variables
-        ≡ codes "x" ∷ codes "y" ∷ [] }
+    ensures names { names_of_variables
+        (formula_reading for_tester [] bound_and_free).reading.variables ≡ codes "x" ∷ codes "y" ∷ [] }
     ensures symbols { (formula_reading for_tester [] bound_and_free).reading.symbols
         ≡ symbol (codes "p") 2 Relation ∷ symbol (codes "f") 1 Function ∷ [] }
     // f(f(x)) = x

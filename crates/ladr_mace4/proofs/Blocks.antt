@@ -32,7 +32,7 @@ models_blocks n k (t ∷ ts) = shows n (suc k) t ∷ models_blocks n (suc k) ts
 
 abbrev pub size_blocks : ℕ → ℕ → Size → List SearchBlock
 size_blocks n k skipped = skips n ∷ []
-size_blocks n k (searched ts) = begins n ∷ (models_blocks n k ts ++ exhausts n ∷ [])
+size_blocks n k (searched ts chosen) = begins n ∷ (models_blocks n k ts ++ exhausts n ∷ [])
 
 abbrev pub sizes_blocks : ℕ → ℕ → ℕ → List Size → List SearchBlock
 sizes_blocks step n k [] = []
@@ -41,7 +41,7 @@ sizes_blocks step n k (size ∷ sizes) = size_blocks n k size ++ sizes_blocks st
 abbrev pub now_blocks : ℕ → ℕ → Now → List SearchBlock
 now_blocks n k between = []
 now_blocks n k opened = begins n ∷ []
-now_blocks n k (inside ts) = begins n ∷ models_blocks n k ts
+now_blocks n k (inside ts chosen) = begins n ∷ models_blocks n k ts
 
 -- their texts
 texts_append : (p : Stated) (cs bs : List SearchBlock) → blocks_text p (cs ++ bs) ≡ blocks_text p cs ++ blocks_text p bs
@@ -54,7 +54,7 @@ models_same p n k (t ∷ ts) = ap (λ (u : List ℕ). model_text (all_symbols p)
 
 size_same : (p : Stated) (n k : ℕ) (size : Size) → size_text p n k size ≡ blocks_text p (size_blocks n k size)
 size_same p n k skipped = sym (append-nil _)
-size_same p n k (searched ts) =
+size_same p n k (searched ts chosen) =
     let last : block_text p (exhausts n) ≡ blocks_text p (exhausts n ∷ []) = sym (append-nil _) in
     ap (λ (u : List ℕ). block_text p (begins n) ++ u) (ap (λ (u : List ℕ). u ++ block_text p (exhausts n)) (models_same p n k ts) ∙ ap (λ (u : List ℕ). blocks_text p (models_blocks n k ts) ++ u) last ∙ sym (texts_append p (models_blocks n k ts) (exhausts n ∷ [])))
 
@@ -67,7 +67,7 @@ sizes_same p step n k (size ∷ sizes) =
 now_same : (p : Stated) (n k : ℕ) (now : Now) → text_at p n k now ≡ blocks_text p (now_blocks n k now)
 now_same p n k between = refl
 now_same p n k opened = sym (append-nil _)
-now_same p n k (inside ts) = ap (λ (u : List ℕ). block_text p (begins n) ++ u) (models_same p n k ts)
+now_same p n k (inside ts chosen) = ap (λ (u : List ℕ). block_text p (begins n) ++ u) (models_same p n k ts)
 
 -- all blocks by then
 abbrev pub blocks_by : Plan → List Size → Now → List SearchBlock
@@ -134,7 +134,7 @@ module _ (laws : Laws) (p : Stated) (o : Options) (proper : IsProper p o) where
 
   good_size : (before : List SearchBlock) (s : Plan) (n k : ℕ) (size : Size) → n ≤ 200 → k + models_in size < 2 ^ 64 → HasEnded p s n size → AreGood p before (size_blocks n k size)
   good_size before s n k skipped most number h = (tt, tt)
-  good_size before s n k (searched us) most number h =
+  good_size before s n k (searched us chosen) most number h =
       let begun = before ++ begins n ∷ [] in (
         tt,
         good_append p begun (models_blocks n k us) (exhausts n ∷ []) (good_models begun n k us most number h.0.1.0 h.1.0)
@@ -150,7 +150,7 @@ module _ (laws : Laws) (p : Stated) (o : Options) (proper : IsProper p o) where
   good_now : (before : List SearchBlock) (s : Plan) (n k : ℕ) (now : Now) → s.end ≤ 200 → k + models_at now < 2 ^ 64 → IsAtSize p s n now → AreGood p before (now_blocks n k now)
   good_now before s n k between most number h = tt
   good_now before s n k opened most number h = (tt, tt)
-  good_now before s n k (inside us) most number h = (tt, good_models (before ++ begins n ∷ []) n k us (omega (arith, h.0.0, most)) number h.1.0 h.2.0)
+  good_now before s n k (inside us chosen) most number h = (tt, good_models (before ++ begins n ∷ []) n k us (omega (arith, h.0.0, most)) number h.1.0 h.2.0)
 
   good_by : (s : Plan) (sizes : List Size) (now : Now) → s.end ≤ 200 → models_by sizes now < 2 ^ 64 → HaveEnded p s s.start sizes → IsAtSize p s (size_behind s (length sizes)) now → AreGood p [] (blocks_by s sizes now)
   good_by s sizes now most number ended stands =

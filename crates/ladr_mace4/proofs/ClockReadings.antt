@@ -8,7 +8,7 @@ use Rattle.fol_core.specs.Stated.{Stated}
 use Rattle.ladr_mace4.specs.Finding.{Comes, Sought}
 use Rattle.ladr_mace4.specs.Fronts.{times_after}
 use Rattle.ladr_mace4.specs.Story.{Now, Stops, SearchComes}
-use Rattle.ladr_mace4.specs.Watching.{time_to_stop, IsInTime, HasReadAtLeast}
+use Rattle.ladr_mace4.specs.Watching.{time_to_stop, IsInTime, HasRead}
 use Rattle.ladr_mace4.specs.declared.ends.SearchEnd.{SearchEnd}
 use Rattle.ladr_mace4.specs.declared.ends.SearchEnd.TheVariants.{MaxModels, Exhausted, AllModels, MaxMegs, MaxSeconds, GroundLimit, ClauseLimit}
 use Rattle.ladr_mace4.specs.declared.plan.Plan.{Plan}
@@ -77,9 +77,9 @@ in_time_as (Some s) t t' h early = λ many.
     let first = h.first (omega (arith, some)) in
     (omega (arith, h.last some, first, (early some).0), omega (arith, h.between, first, (early some).0))
 
-read_as : (o : Option ℕ) (n : ℕ) (t t' : Times) → TellsAs t t' → HasReadAtLeast o n t → HasReadAtLeast o n t'
+read_as : (o : Option ℕ) (n : ℕ) (t t' : Times) → TellsAs t t' → HasRead o n t → HasRead o n t'
 read_as None n t t' h unread = omega (arith, h.count, unread)
-read_as (Some s) n t t' h reads = omega (arith, h.count, reads)
+read_as (Some s) n t t' h reads = h.count ∙ reads
 
 late_as : (o : Option ℕ) (last : ℕ) (t t' : Times) → TellsAs t t' → IsLate (time_to_stop o t) t last → IsLate (time_to_stop o t') t' last
 late_as None last t t' h late = absurd late

@@ -1,7 +1,7 @@
 -- The clock of a search, from one reading to the next.
 use Rattle.std.proofs.Common.{◌≡◌, ℕ, ◌+◌, ◌*◌, ◌<◌, ◌≤◌, Option, None, Some, unwrap_or, sym, subst, ap, ◌∙◌, arith}
 use Rattle.ladr_io.specs.Times.{Times, later}
-use Rattle.ladr_mace4.specs.Watching.{time_to_stop, IsInTime, HasReadAtLeast, IsLookedAt, IsWatchedBy, IsWatched, HasBegunBy, HasBegun}
+use Rattle.ladr_mace4.specs.Watching.{time_to_stop, IsInTime, HasRead, IsLookedAt, IsWatchedBy, IsWatched, HasBegunBy, HasBegun}
 use Rattle.ladr_mace4.specs.declared.watch.Watch.{Watch}
 use Rattle.mace_cells.specs.Readings.{ReadsOn}
 use Rattle.mace_search.specs.Watch.{IsEarly, IsLate}
@@ -65,23 +65,18 @@ pub early_at : (w : Watch) (stop : Option ℕ) (t : Times) → HasBegun w t → 
 early_at w stop t begun was e = early_by w.seconds w.first stop t begun was e
 
 -- once more where a time is set
-pub looked_on : (seconds : Option ℕ) (t t' : Times) (n : ℕ) → IsLookedAt seconds t t' → HasReadAtLeast seconds n t → HasReadAtLeast seconds (n + 1) t'
+pub looked_on : (seconds : Option ℕ) (t t' : Times) (n : ℕ) → IsLookedAt seconds t t' → HasRead seconds n t → HasRead seconds (n + 1) t'
 looked_on None t t' n e h = rw e h
 looked_on (Some s) t t' n e h = let count : t'.count ≡ (later t t'.last).count = ap (λ (x : Times). x.count) e in omega (arith, count, h)
 
 -- no reading yet
-pub unread : (seconds : Option ℕ) (t : Times) → t.count ≡ 0 → HasReadAtLeast seconds 0 t
+pub unread : (seconds : Option ℕ) (t : Times) → t.count ≡ 0 → HasRead seconds 0 t
 unread None t e = e
-unread (Some s) t e = omega arith
+unread (Some s) t e = omega (arith, e)
 
 -- where the clock was read on
-pub read_on : (seconds stop : Option ℕ) (t₀ t t' : Times) (n more all : ℕ) → all ≤ n + more → stop ≡ time_to_stop seconds t₀ → HasReadAtLeast seconds n t → ReadsOn stop more t t' → HasReadAtLeast seconds all t'
+pub read_on : (seconds stop : Option ℕ) (t₀ t t' : Times) (n more all : ℕ) → all ≡ n + more → stop ≡ time_to_stop seconds t₀ → HasRead seconds n t → ReadsOn stop more t t' → HasRead seconds all t'
 read_on None None t₀ t t' n more all few e h goes = rw goes h
 read_on None (Some x) t₀ t t' n more all few e h goes = absurd cc
 read_on (Some s) None t₀ t t' n more all few e h goes = absurd cc
 read_on (Some s) (Some x) t₀ t t' n more all few e h goes = omega (arith, few, h, goes.1)
-
--- fewer readings than there were at least
-pub fewer_read : (o : Option ℕ) (n m : ℕ) (t : Times) → m ≤ n → HasReadAtLeast o n t → HasReadAtLeast o m t
-fewer_read None n m t le reads = reads
-fewer_read (Some x) n m t le reads = omega (arith, le, reads)

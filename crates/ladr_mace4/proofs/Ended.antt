@@ -8,7 +8,7 @@ use Rattle.ladr_io.specs.Streams.{Outflow, Takes}
 use Rattle.ladr_io.specs.Times.{Times}
 use Rattle.ladr_mace4.specs.Plans.{size_behind}
 use Rattle.ladr_mace4.specs.Story.{Size, between, HasEnded, HaveEnded, models_in, models_in_all, readings_in, readings_in_all, size_text, sizes_text, SizeGoes, SizeEnds, AllIsSearched, Stops, SearchGoes, SearchComes}
-use Rattle.ladr_mace4.specs.Watching.{IsInTime, HasReadAtLeast}
+use Rattle.ladr_mace4.specs.Watching.{IsInTime, HasRead}
 use Rattle.ladr_mace4.specs.declared.ends.SearchEnd.{SearchEnd}
 use Rattle.ladr_mace4.specs.declared.ends.SearchEnd.TheVariants.{MaxModels, Exhausted, AllModels, MaxMegs, MaxSeconds, GroundLimit, ClauseLimit}
 use Rattle.ladr_mace4.specs.declared.ends.SearchOver.{SearchOver}
@@ -24,11 +24,11 @@ pub record Ended (p : Stated) (s : Plan) (t : Times) (n : ℕ) (sizes : List Siz
   pub ended : HaveEnded p s s.start sizes
   pub next : n ≡ size_behind s (length sizes)
   pub count : k ≡ models_in_all sizes
-  pub reads : HasReadAtLeast s.seconds (readings_in_all sizes) t
+  pub reads : HasRead s.seconds (readings_in_all sizes) t
   pub took : Takes a b (sizes_text p s.step s.start 0 sizes)
 
 -- none so far
-pub none_ended : (p : Stated) (s : Plan) (t : Times) (a : Outflow) → HasReadAtLeast s.seconds 0 t → Ended p s t s.start [] 0 a a
+pub none_ended : (p : Stated) (s : Plan) (t : Times) (a : Outflow) → HasRead s.seconds 0 t → Ended p s t s.start [] 0 a a
 none_ended p s t a reads = record { ended = tt; next = omega arith; count = refl; reads = reads; took = Takes-none a }
 
 -- a step more before the others
@@ -103,12 +103,12 @@ module _ (p : Stated) (s : Plan) (t : Times) (sizes : List Size) (ended : HaveEn
   text_is size = let from_zero : 0 + k ≡ k = omega arith in text_more p s.step s.start 0 sizes size ∙ ap (λ (i : ℕ). front ++ size_text p n i size) from_zero
 
   -- one size more
-  one_more : (t₀ : Times) (m k' j : ℕ) (size : Size) (a b c : Outflow) → m ≡ n → k' ≡ k → n ≤ s.end → HasEnded p s n size → j ≡ k + models_in size → HasReadAtLeast s.seconds (r + readings_in size) t → Takes a b front → Takes b c (size_text p n k size) → Ended p s t (m + s.step) (sizes ++ size ∷ []) j a c
+  one_more : (t₀ : Times) (m k' j : ℕ) (size : Size) (a b c : Outflow) → m ≡ n → k' ≡ k → n ≤ s.end → HasEnded p s n size → j ≡ k + models_in size → HasRead s.seconds (r + readings_in size) t → Takes a b front → Takes b c (size_text p n k size) → Ended p s t (m + s.step) (sizes ++ size ∷ []) j a c
   one_more t₀ m k' j size a b c next count within is e reads took more = record {
     ended = ended_more p s s.start sizes size ended within is;
     next = next_more s m sizes size next;
     count = omega (arith, e, many_more sizes size);
-    reads = subst (λ (i : ℕ). HasReadAtLeast s.seconds i t) (sym (reads_more sizes size)) reads;
+    reads = subst (λ (i : ℕ). HasRead s.seconds i t) (sym (reads_more sizes size)) reads;
     took = subst (Takes a c) (sym (text_is size)) (Takes-append a b c front (size_text p n k size) took more);
   }
 
@@ -125,7 +125,7 @@ module _ (p : Stated) (s : Plan) (t : Times) (sizes : List Size) (ended : HaveEn
         so_far = record { ended = ended_more p s s.start sizes size ended h.1 h.2; fewer = few; stands = tt };
         most = omega (arith, few);
         in_time = h.5;
-        reads = subst (λ (i : ℕ). HasReadAtLeast s.seconds i t) (omega (arith, reads_more sizes size)) h.6;
+        reads = subst (λ (i : ℕ). HasRead s.seconds i t) (omega (arith, reads_more sizes size)) h.6;
         text_is = ap (λ (x : List ℕ). front ++ x) h.7 ∙ sym (text_is size) ∙ sym (append-nil _);
       }
 
@@ -164,7 +164,7 @@ module _ (p : Stated) (s : Plan) (t : Times) (sizes : List Size) (ended : HaveEn
       ((h.0, one_more t m k' j h.0 a b c next count h.1 h.2 h.3 h.6 took (subst (Takes b c) h.7 x)), h.4, h.5)
 
   -- all sizes are behind the search
-  pub ends_behind : (a b : Outflow) (m j : ℕ) (end : SearchEnd) → m ≡ n → j ≡ k → IsInTime s.seconds t → HasReadAtLeast s.seconds r t → s.end < m → AllIsSearched j end → Takes a b front → Tells {E = SearchOver} (SearchGoes p s t) (λ e u. SearchComes p s t e.end e.printed u) a b (Ok (record { end = end; printed = j }))
+  pub ends_behind : (a b : Outflow) (m j : ℕ) (end : SearchEnd) → m ≡ n → j ≡ k → IsInTime s.seconds t → HasRead s.seconds r t → s.end < m → AllIsSearched j end → Takes a b front → Tells {E = SearchOver} (SearchGoes p s t) (λ e u. SearchComes p s t e.end e.printed u) a b (Ok (record { end = end; printed = j }))
   ends_behind a b m j end next count early reads over is took = (
     front,
     record {
@@ -173,7 +173,7 @@ module _ (p : Stated) (s : Plan) (t : Times) (sizes : List Size) (ended : HaveEn
       so_far = record { ended = ended; fewer = fewer; stands = tt };
       count = omega (arith, count);
       stops = stops_behind p s t n j end early (omega (arith, over, next)) is;
-      reads = subst (λ (i : ℕ). HasReadAtLeast s.seconds i t) (omega arith) reads;
+      reads = subst (λ (i : ℕ). HasRead s.seconds i t) (omega arith) reads;
       text_is = sym (append-nil front);
     },
     took,

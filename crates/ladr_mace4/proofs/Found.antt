@@ -1,5 +1,5 @@
 -- The models of a size, as they are found and printed.
-use Rattle.std.proofs.Common.{◌≡◌, ℕ, suc, ◌+◌, ◌-◌, ◌<◌, ◌≤◌, Bool, true, false, List, [], ◌∷◌, ◌++◌, length, Option, None, Result, Ok, Err, IfOk, inl, inr, refl, ap, sym, subst, ◌∙◌, append_assoc, append-nil, arith}
+use Rattle.std.proofs.Common.{◌≡◌, ℕ, suc, ◌+◌, ◌<◌, ◌≤◌, Bool, true, false, List, [], ◌∷◌, ◌++◌, length, Option, None, Some, Result, Ok, Err, IfOk, inl, inr, refl, ap, sym, subst, ◌∙◌, append_assoc, append-nil, arith}
 use Rattle.std.proofs.lemmas.Bool.{cases_lt, false≢true}
 use Rattle.cell_search.specs.Courses.{Course}
 use Rattle.cell_search.specs.Finites.{AreTablesFor, tables_over}
@@ -14,15 +14,14 @@ use Rattle.ladr_cells.specs.Worlds.{world_for, ground_size}
 use Rattle.ladr_io.proofs.StreamLaws.{Takes-none, Takes-append}
 use Rattle.ladr_io.specs.Streams.{Outflow, Takes}
 use Rattle.ladr_io.specs.Times.{Times}
-use Rattle.ladr_mace4.proofs.Clocks.{fewer_read}
 use Rattle.ladr_mace4.proofs.WholeModels.{whole_over, whole_model, none_behind}
 use Rattle.ladr_mace4.specs.Lines.{size_line, exhausted_line}
 use Rattle.ladr_mace4.specs.Models.{IsWholeModel, AreShown}
 use Rattle.ladr_mace4.specs.ItemTexts.{IsPrinted}
 use Rattle.ladr_mace4.specs.Rooms.{HasRoomForGround, IsBegun}
 use Rattle.ladr_mace4.specs.Skolems.{all_symbols, all_axioms}
-use Rattle.ladr_mace4.specs.Story.{inside, searched, models_text, readings_for, SizeGoes, SizeEnds}
-use Rattle.ladr_mace4.specs.Watching.{time_to_stop, IsInTime, HasReadAtLeast}
+use Rattle.ladr_mace4.specs.Story.{inside, searched, models_text, GoesTo, TakesChoice, SizeGoes, SizeEnds}
+use Rattle.ladr_mace4.specs.Watching.{time_to_stop, IsInTime, HasRead}
 use Rattle.ladr_mace4.specs.declared.ends.SearchEnd.TheVariants.{MaxModels, MaxSeconds}
 use Rattle.ladr_mace4.specs.declared.ends.Step.{Step}
 use Rattle.ladr_mace4.specs.declared.ends.Step.TheVariants.{Over, Ends}
@@ -31,14 +30,17 @@ use Rattle.ladr_output.proofs.Tellings.{told_behind, cut_by, first_cut}
 use Rattle.ladr_output.specs.Telling.{IsPiece, Tells}
 use Rattle.ladr_output.specs.declared.cut.Cut.{Cut}
 use Rattle.ladr_output.specs.declared.cut.Cut.TheVariants.{WriteFault, Memory}
+use Rattle.mace_cells.proofs.Moving.{goes_nowhere, goes_then, leaves_choices, few_standing}
 use Rattle.mace_cells.proofs.Reading.{reads_none, reads_both}
 use Rattle.mace_cells.specs.Choices.{Choice, IsOpen}
 use Rattle.mace_cells.specs.Leaves.{FindsModel, IsOver}
-use Rattle.mace_cells.specs.Readings.{ReadsOn}
+use Rattle.mace_cells.specs.Moves.{GoesBy}
+use Rattle.mace_cells.specs.Readings.{ReadsOn, GoesInTime}
 use Rattle.mace_cells.specs.Solutions.{IsCarried}
 use Rattle.mace_cells.specs.World.{World, Solves, AreAlike}
 use Rattle.mace_search.specs.Models.{IsModel}
 use Rattle.mace_search.specs.Watch.{IsLate}
+use Rattle.mace_search.specs.declared.answer.Answer.TheVariants as answers
 use Rattle.model_tables.specs.Expansion.{IsExpansion}
 use Rattle.model_tables.specs.ModelText.{model_text}
 use Rattle.model_tables.specs.Isomorphism.{IsIsomorphism}
@@ -84,18 +86,21 @@ nothing_yet p n k search a e live none late = record {
   lives = λ some. absurd (omega (arith, some));
 }
 
--- The clock was read at least so often since: for each choice that stands, and once where there
--- are two models.
-pub record HasChosen (us : List Finite) (search : Course) (t t' : Times) : Type 0 where
-  pub many : ℕ
-  pub choices : length search.choices ≤ many
-  pub models : 2 ≤ length us → 1 ≤ many
-  pub goes : ReadsOn search.stop many t t'
+-- How the search went so far: it chose so many cells, some where there are two models, and the clock
+-- was read as often since.
+pub record HasGone (us : List Finite) (search : Course) (t t' : Times) : Type 0 where
+  pub chosen : ℕ
+  pub way : GoesBy search.world true [] chosen search.live search.choices
+  pub models : 2 ≤ length us → 1 ≤ chosen
+  pub goes : ReadsOn search.stop chosen t t'
 
-pub none_chosen : (search : Course) (t : Times) → search.choices ≡ [] → HasChosen [] search t t
-none_chosen search t none =
-    let no : length search.choices ≡ 0 = ap (λ (cs : List Choice). length cs) none in
-    record { many = 0; choices = omega (arith, no); models = λ two. absurd (omega (arith, two)); goes = reads_none search.stop t }
+pub none_gone : (search : Course) (t : Times) → search.live ≡ true → search.choices ≡ [] → HasGone [] search t t
+none_gone search t live none = record {
+  chosen = 0;
+  way = subst (λ (b : Bool). GoesBy search.world true [] 0 b search.choices) (sym live) (subst (λ (cs : List Choice). GoesBy search.world true [] 0 true cs) (sym none) (goes_nowhere search.world true []));
+  models = λ two. absurd (omega (arith, two));
+  goes = reads_none search.stop t;
+}
 
 -- with no choice, and none followed, there is no further model
 no_further : (w : World) (live : Bool) (cs cs' : List Choice) (m : Meaning) → live ≡ false → length cs ≤ 0 → FindsModel w live cs m cs' → ⊥
@@ -106,44 +111,51 @@ no_further w live [] cs' m e few finds = by (subst (λ (b : Bool). IsOpen b [] m
     by (inl h) = false≢true h.0
     by (inr h) = h
 
-pub chosen_more : (us : List Finite) (v : Finite) (search search' : Course) (m : Meaning) (t u u' : Times) → HasChosen us search t u → (1 ≤ length us → search.live ≡ false) → FindsModel search.world search.live search.choices m search'.choices → search'.stop ≡ search.stop
-    → ReadsOn search.stop (length search'.choices - length search.choices) u u' → HasChosen (us ++ v ∷ []) search' t u'
-chosen_more us v search search' m t u u' h lives finds same goes =
-    let more = length search'.choices - length search.choices in
+pub gone_more : (us : List Finite) (v : Finite) (search search' : Course) (m : Meaning) (t u u' : Times) → HasGone us search t u → (1 ≤ length us → search.live ≡ false) → FindsModel search.world search.live search.choices m search'.choices → search'.world ≡ search.world → search'.stop ≡ search.stop
+    → search'.live ≡ false → GoesInTime search.world search.stop search.live search.choices answers.Model search'.choices u u' → HasGone (us ++ v ∷ []) search' t u'
+gone_more us v search search' m t u u' h lives finds world same live k =
+    let all = h.chosen + k.0 in
+    let to_model = goes_then search.world true search.live true [] search.choices search'.choices h.chosen k.0 all refl h.way k.1 in
+    let left = goes_then search.world true true false [] search'.choices search'.choices all 0 all (omega arith) to_model (leaves_choices search.world search'.choices) in
     record {
-      many = h.many + more;
-      choices = omega (arith, h.choices);
-      models = λ two. elim (cases_lt 0 h.many) [
+      chosen = all;
+      way = subst (λ (b : Bool). GoesBy search'.world true [] all b search'.choices) (sym live) (subst (λ (w : World). GoesBy w true [] all false search'.choices) (sym world) left);
+      models = λ two. elim (cases_lt 0 h.chosen) [
         | inl some ↦ omega (arith, some)
-        | inr none ↦ absurd (no_further search.world search.live search.choices search'.choices m (lives (omega (arith, two, many_more us v))) (omega (arith, h.choices, none)) finds)
+        | inr none ↦ absurd (no_further search.world search.live search.choices search'.choices m (lives (omega (arith, two, many_more us v))) (omega (arith, few_standing search.world true search.live [] search.choices h.chosen h.way, none)) finds)
       ];
-      goes = subst (λ (o : Option ℕ). ReadsOn o (h.many + more) t u') (sym same) (reads_both search.stop h.many more (h.many + more) t u u' (omega arith) h.goes goes);
+      goes = subst (λ (o : Option ℕ). ReadsOn o all t u') (sym same) (reads_both search.stop h.chosen k.0 all t u u' refl h.goes k.2);
     }
 
--- it was read on, with no model more
-pub chosen_still : (us : List Finite) (search : Course) (more : ℕ) (t u u' : Times) → (h : HasChosen us search t u) → ReadsOn search.stop more u u' → ReadsOn search.stop h.many t u'
-chosen_still us search more t u u' h goes = reads_both search.stop h.many more h.many t u u' (omega arith) h.goes goes
+-- it went to its end, with no model more
+pub gone_over : (us : List Finite) (search : Course) (choices : List Choice) (t u u' : Times) → HasGone us search t u → GoesInTime search.world search.stop search.live search.choices answers.Exhausted choices u u' → choices ≡ []
+    → (chosen : ℕ) × GoesBy search.world true [] chosen false [] × (2 ≤ length us → 1 ≤ chosen) × ReadsOn search.stop chosen t u'
+gone_over us search choices t u u' h k none =
+    let all = h.chosen + k.0 in
+    let to_end = goes_then search.world true search.live false [] search.choices choices h.chosen k.0 all refl h.way k.1 in (
+      all,
+      subst (λ (cs : List Choice). GoesBy search.world true [] all false cs) none to_end,
+      (λ two. omega (arith, h.models two)),
+      reads_both search.stop h.chosen k.0 all t u u' refl h.goes k.2,
+    )
 
--- so there are as many readings as for those models
-pub few_readings : (us : List Finite) → readings_for us ≤ 2
-few_readings [] = omega arith
-few_readings (u ∷ []) = omega arith
-few_readings (u ∷ v ∷ us) = omega arith
+-- or to a choice before which the time was over
+pub gone_late : (us : List Finite) (search : Course) (choices : List Choice) (last : ℕ) (t u u' : Times) → HasGone us search t u → GoesInTime search.world search.stop search.live search.choices (answers.MaxSeconds last) choices u u'
+    → (chosen : ℕ) × GoesBy search.world true [] chosen true choices × (2 ≤ length us → 1 ≤ chosen) × ReadsOn search.stop (suc chosen) t u'
+gone_late us search choices last t u u' h k =
+    let all = h.chosen + k.0 in (
+      all,
+      goes_then search.world true search.live true [] search.choices choices h.chosen k.0 all refl h.way k.1,
+      (λ two. omega (arith, h.models two)),
+      reads_both search.stop h.chosen (suc k.0) (suc all) t u u' (omega arith) h.goes k.2,
+    )
 
-pub some_readings : (us : List Finite) → 1 ≤ readings_for us
-some_readings [] = omega arith
-some_readings (u ∷ []) = omega arith
-some_readings (u ∷ v ∷ us) = omega arith
-
-pub enough_read : (us : List Finite) (r many : ℕ) → (2 ≤ length us → 1 ≤ many) → r + readings_for us ≤ (r + 1) + many
-enough_read [] r many h = omega arith
-enough_read (u ∷ []) r many h = omega arith
-enough_read (u ∷ v ∷ us) r many h = omega (arith, h (omega arith))
-
-pub more_readings : (us : List Finite) (v : Finite) → readings_for us ≤ readings_for (us ++ v ∷ [])
-more_readings [] v = omega arith
-more_readings (u ∷ []) v = omega arith
-more_readings (u ∷ w ∷ us) v = omega arith
+-- two models take a choice
+pub takes_choice : (o : Option ℕ) (us : List Finite) (chosen : ℕ) → (2 ≤ length us → 1 ≤ chosen) → TakesChoice o us chosen
+takes_choice None us chosen h = tt
+takes_choice (Some x) [] chosen h = tt
+takes_choice (Some x) (u ∷ []) chosen h = tt
+takes_choice (Some x) (u ∷ v ∷ us) chosen h = omega (arith, h (omega arith))
 
 -- they are shown
 pub are_shown : (p : Stated) (n : ℕ) (us : List Finite) (live : Bool) (cs : List Choice) → HasShown (world_for p n) (IsWholeModel p n) us live cs → AreShown p n us
@@ -203,28 +215,32 @@ module _ (p : Stated) (s : Plan) (t : Times) (n k r : ℕ) where
   ends_behind front step text = SizeEnds p s t n k r step (size_line n ++ (front ++ text))
 
   -- behind models the size goes on
-  pub going : (us : List Finite) (text : List ℕ) → IsBegun p s n → HasRoomForGround s (ground_size n p) → AreShown p n us → k + length us ≤ s.wanted → IsInTime s.seconds t → HasReadAtLeast s.seconds (r + readings_for us) t → text ≡ models_text p k us → SizeGoes p s t n k r (size_line n ++ text)
-  going us text begun room shown most in_time reads e = (inside us, (begun, room, shown), most, in_time, reads, ap (λ (u : List ℕ). size_line n ++ u) e)
+  pub going : (us : List Finite) (chosen : ℕ) (text : List ℕ) → IsBegun p s n → HasRoomForGround s (ground_size n p) → AreShown p n us → (live : Bool) × ((choices : List Choice) × GoesTo p n chosen live choices) → (2 ≤ length us → 1 ≤ chosen) → k + length us ≤ s.wanted → IsInTime s.seconds t
+      → HasRead s.seconds (r + suc chosen) t → text ≡ models_text p k us → SizeGoes p s t n k r (size_line n ++ text)
+  going us chosen text begun room shown way models most in_time reads e = (inside us chosen, (begun, room, shown, way, takes_choice s.seconds us chosen models), most, in_time, reads, ap (λ (u : List ℕ). size_line n ++ u) e)
 
   -- no model is printed
-  pub line_alone : IsBegun p s n → HasRoomForGround s (ground_size n p) → k < s.wanted → IsInTime s.seconds t → HasReadAtLeast s.seconds (r + 1) t → SizeGoes p s t n k r (size_line n ++ [])
-  line_alone begun room fewer in_time reads = going [] [] begun room (tt, tt) (omega (arith, fewer)) in_time reads refl
+  pub line_alone : IsBegun p s n → HasRoomForGround s (ground_size n p) → k < s.wanted → IsInTime s.seconds t → HasRead s.seconds (r + 1) t → SizeGoes p s t n k r (size_line n ++ [])
+  line_alone begun room fewer in_time reads = going [] 0 [] begun room (tt, tt) (true, ([], goes_nowhere (world_for p n) true [])) (λ two. absurd (omega (arith, two))) (omega (arith, fewer)) in_time reads refl
 
   -- the end of the size is printed, or cut off
   pub at_end : (us : List Finite) (search : Course) (printed : ℕ) (a b c : Outflow) (result : Result Step Cut) → Facts p n → IsBegun p s n → HasRoomForGround s (ground_size n p) → printed < s.wanted → SoFar p n k us search printed a b
-      → IsOver search.world search.live search.choices → IsInTime s.seconds t → HasReadAtLeast s.seconds (r + readings_for us) t → IsPiece (exhausted_line n) b c result → IfOk result (λ step. step ≡ Over printed)
+      → IsOver search.world search.live search.choices → (chosen : ℕ) → GoesBy search.world true [] chosen false [] → (2 ≤ length us → 1 ≤ chosen) → IsInTime s.seconds t → HasRead s.seconds (r + suc chosen) t → IsPiece (exhausted_line n) b c result → IfOk result (λ step. step ≡ Over printed)
       → Tells (λ u. SizeGoes p s t n k r (size_line n ++ u)) (λ e u. SizeEnds p s t n k r e (size_line n ++ u)) a c result
-  at_end us search printed a b c result facts begun room fewer so_far none in_time reads piece step =
+  at_end us search printed a b c result facts begun room fewer so_far none chosen over_by models in_time reads piece step =
       told_behind (λ u. SizeGoes p s t n k r (size_line n ++ u)) (λ e u. SizeEnds p s t n k r e (size_line n ++ u)) a b c (models_text p k us) result so_far.took (by result piece step)
     where
       shown : AreShown p n us
       shown = are_shown p n us search.live search.choices so_far.shown
 
+      way : GoesTo p n chosen false []
+      way = subst (λ (w : World). GoesBy w true [] chosen false []) so_far.world over_by
+
       over : ends_behind (models_text p k us) (Over printed) (exhausted_line n)
-      over = (searched us, begun.0, ((begun.1, room), shown, cover_models p n us search facts so_far.world so_far.shown none), so_far.count, fewer, in_time, reads, refl)
+      over = (searched us chosen, begun.0, ((begun.1, room), shown, cover_models p n us search facts so_far.world so_far.shown none, way, takes_choice s.seconds us chosen models), so_far.count, fewer, in_time, reads, refl)
 
       alone : goes_behind (models_text p k us) []
-      alone = going us (models_text p k us ++ []) begun room shown (omega (arith, so_far.count, fewer)) in_time reads (append-nil (models_text p k us))
+      alone = going us chosen (models_text p k us ++ []) begun room shown (false, ([], way)) models (omega (arith, so_far.count, fewer)) in_time reads (append-nil (models_text p k us))
 
       by : (result : Result Step Cut) → IsPiece (exhausted_line n) b c result → IfOk result (λ step. step ≡ Over printed) → Tells (goes_behind (models_text p k us)) (ends_behind (models_text p k us)) b c result
       by (Ok step) took is = (exhausted_line n, subst (λ (e : Step). ends_behind (models_text p k us) e (exhausted_line n)) (sym is) over, took)
@@ -233,9 +249,10 @@ module _ (p : Stated) (s : Plan) (t : Times) (n k r : ℕ) where
 
   -- a model that is found is cut off
   pub at_model : (us : List Finite) (search : Course) (tables : Finite) (choices : List Choice) (printed : ℕ) (a b c : Outflow) (why : Cut) → Facts p n → IsBegun p s n → HasRoomForGround s (ground_size n p) → printed < s.wanted → SoFar p n k us search printed a b
-      → FindsModel search.world search.live search.choices (meaning_of tables) choices → AreTablesFor search.world tables → IsInTime s.seconds t → HasReadAtLeast s.seconds (r + readings_for (us ++ tables_over (all_symbols p) tables ∷ [])) t → IsPrinted (λ text. text ≡ model_text (all_symbols p) (printed + 1) (tables_over (all_symbols p) tables)) b c (Err why)
+      → FindsModel search.world search.live search.choices (meaning_of tables) choices → AreTablesFor search.world tables → (search' : Course) → search'.world ≡ search.world → (t₀ : Times) → (gone : HasGone (us ++ tables_over (all_symbols p) tables ∷ []) search' t₀ t) → IsInTime s.seconds t
+      → HasRead s.seconds (r + suc gone.chosen) t → IsPrinted (λ text. text ≡ model_text (all_symbols p) (printed + 1) (tables_over (all_symbols p) tables)) b c (Err why)
       → Tells (λ u. SizeGoes p s t n k r (size_line n ++ u)) (λ e u. SizeEnds p s t n k r e (size_line n ++ u)) a c (Err why)
-  at_model us search tables choices printed a b c why facts begun room fewer so_far finds whole_tables in_time reads piece =
+  at_model us search tables choices printed a b c why facts begun room fewer so_far finds whole_tables search' same t₀ gone in_time reads piece =
       told_behind (λ u. SizeGoes p s t n k r (size_line n ++ u)) (λ e u. SizeEnds p s t n k r e (size_line n ++ u)) a b c (models_text p k us) (Err why) so_far.took (by why piece)
     where
       v : Finite
@@ -244,13 +261,15 @@ module _ (p : Stated) (s : Plan) (t : Times) (n k r : ℕ) where
       text : List ℕ
       text = model_text (all_symbols p) (printed + 1) v
 
+      way : (live : Bool) × ((choices : List Choice) × GoesTo p n gone.chosen live choices)
+      way = (search'.live, (search'.choices, subst (λ (w : World). GoesBy w true [] gone.chosen search'.live search'.choices) (same ∙ so_far.world) gone.way))
+
       alone : goes_behind (models_text p k us) []
-      alone = going us (models_text p k us ++ []) begun room (are_shown p n us search.live search.choices so_far.shown) (omega (arith, so_far.count, fewer)) in_time
-          (fewer_read s.seconds (r + readings_for (us ++ v ∷ [])) (r + readings_for us) t (omega (arith, more_readings us v)) reads) (append-nil (models_text p k us))
+      alone = going us gone.chosen (models_text p k us ++ []) begun room (are_shown p n us search.live search.choices so_far.shown) way (λ two. gone.models (omega (arith, two, many_more us v))) (omega (arith, so_far.count, fewer)) in_time reads (append-nil (models_text p k us))
 
       whole : goes_behind (models_text p k us) text
       whole =
-          going (us ++ v ∷ []) (models_text p k us ++ text) begun room (are_shown p n (us ++ v ∷ []) false choices (shown_further p n us search tables choices facts so_far.world so_far.shown finds whole_tables)) (omega (arith, so_far.count, many_more us v, fewer)) in_time reads
+          going (us ++ v ∷ []) gone.chosen (models_text p k us ++ text) begun room (are_shown p n (us ++ v ∷ []) false choices (shown_further p n us search tables choices facts so_far.world so_far.shown finds whole_tables)) way gone.models (omega (arith, so_far.count, many_more us v, fewer)) in_time reads
           (sym (text_of p n k us search printed v a b so_far))
 
       by : (why : Cut) → IsPrinted (λ x. x ≡ text) b c (Err why) → Tells {E = Step} (goes_behind (models_text p k us)) (ends_behind (models_text p k us)) b c (Err why)
@@ -259,15 +278,23 @@ module _ (p : Stated) (s : Plan) (t : Times) (n k r : ℕ) where
       by WriteFault (inr (e, took)) = absurd cc
 
   -- as many models as are wanted are printed
-  pub at_last : (us : List Finite) (search : Course) (printed : ℕ) (a b : Outflow) → IsBegun p s n → HasRoomForGround s (ground_size n p) → printed ≡ s.wanted → SoFar p n k us search printed a b → IsInTime s.seconds t → HasReadAtLeast s.seconds (r + readings_for us) t
+  pub at_last : (us : List Finite) (search : Course) (printed : ℕ) (a b : Outflow) → IsBegun p s n → HasRoomForGround s (ground_size n p) → printed ≡ s.wanted → SoFar p n k us search printed a b → (t₀ : Times) → (gone : HasGone us search t₀ t) → IsInTime s.seconds t → HasRead s.seconds (r + suc gone.chosen) t
       → Tells (λ u. SizeGoes p s t n k r (size_line n ++ u)) (λ e u. SizeEnds p s t n k r e (size_line n ++ u)) a b (Ok (Ends MaxModels printed))
-  at_last us search printed a b begun room all so_far in_time reads = (models_text p k us, (inside us, (begun, room, are_shown p n us search.live search.choices so_far.shown), so_far.count, (in_time, tt, all), reads, refl), so_far.took)
+  at_last us search printed a b begun room all so_far t₀ gone in_time reads = (
+    models_text p k us,
+    (inside us gone.chosen, (begun, room, are_shown p n us search.live search.choices so_far.shown, (search.live, (search.choices, subst (λ (w : World). GoesBy w true [] gone.chosen search.live search.choices) so_far.world gone.way)), takes_choice s.seconds us gone.chosen gone.models), so_far.count, (in_time, tt, all), reads, refl),
+    so_far.took,
+  )
 
   -- the time is over
-  pub at_late : (us : List Finite) (search : Course) (printed first last : ℕ) (a b : Outflow) → IsBegun p s n → HasRoomForGround s (ground_size n p) → printed < s.wanted → SoFar p n k us search printed a b → IsLate (time_to_stop s.seconds t) t last → first ≡ t.first → HasReadAtLeast s.seconds (r + readings_for us) t
+  pub at_late : (us : List Finite) (search : Course) (printed first last : ℕ) (a b : Outflow) → IsBegun p s n → HasRoomForGround s (ground_size n p) → printed < s.wanted → SoFar p n k us search printed a b → (chosen : ℕ) (choices : List Choice) → GoesBy search.world true [] chosen true choices → (2 ≤ length us → 1 ≤ chosen) → IsLate (time_to_stop s.seconds t) t last → first ≡ t.first → HasRead s.seconds (r + suc (suc chosen)) t
       → Tells (λ u. SizeGoes p s t n k r (size_line n ++ u)) (λ e u. SizeEnds p s t n k r e (size_line n ++ u)) a b (Ok (Ends (MaxSeconds first last) printed))
-  at_late us search printed first last a b begun room fewer so_far late is reads =
-      (models_text p k us, (inside us, (begun, room, are_shown p n us search.live search.choices so_far.shown), so_far.count, (late, is, tt, fewer), reads, refl), so_far.took)
+  at_late us search printed first last a b begun room fewer so_far chosen choices goes models late is reads =
+      let way : GoesTo p n chosen true choices = subst (λ (w : World). GoesBy w true [] chosen true choices) so_far.world goes in (
+        models_text p k us,
+        (inside us chosen, (begun, room, are_shown p n us search.live search.choices so_far.shown, (true, (choices, way)), takes_choice s.seconds us chosen models), so_far.count, (late, is, (choices, way), fewer), reads, refl),
+        so_far.took,
+      )
 
 -- a model that was printed
 pub printed_model : (text : List ℕ) (a b : Outflow) → IsPrinted (λ x. x ≡ text) a b (Ok tt) → Takes a b text

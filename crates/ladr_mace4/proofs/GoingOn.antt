@@ -1,5 +1,5 @@
 -- A search that goes on can come to an end: so what it printed is a front of a whole output.
-use Rattle.std.proofs.Common.{◌≡◌, ℕ, zero, suc, ◌+◌, ◌*◌, ◌<◌, ◌≤◌, min, List, [], ◌∷◌, ◌++◌, length, Option, None, Some, inl, inr, refl, ap, sym, subst, ◌∙◌, append_assoc, append-nil, arith}
+use Rattle.std.proofs.Common.{◌≡◌, ℕ, zero, suc, ◌+◌, ◌*◌, ◌<◌, ◌≤◌, min, Bool, true, List, [], ◌∷◌, ◌++◌, length, Option, None, Some, inl, inr, refl, ap, sym, subst, ◌∙◌, append_assoc, append-nil, arith}
 use Rattle.std.proofs.Math.Nat.{suc-mul}
 use Rattle.std.proofs.lemmas.Bool.{cases_lt}
 use Rattle.std.specs.Prelude.{◌⊎◌}
@@ -10,10 +10,9 @@ use Rattle.fol_core.specs.Stated.{Stated, IsWellFormed, AreNewTo}
 use Rattle.ladr_cells.proofs.Covering.{among_last, among_front, different_more}
 use Rattle.ladr_cells.proofs.Uses.{all_append}
 use Rattle.ladr_cells.specs.Showing.{IsOneOf, CoverModels}
-use Rattle.ladr_cells.specs.Worlds.{ground_size}
+use Rattle.ladr_cells.specs.Worlds.{world_for, ground_size}
 use Rattle.ladr_io.specs.Streams.{greatest}
 use Rattle.ladr_io.specs.Times.{Times}
-use Rattle.ladr_mace4.proofs.Clocks.{fewer_read}
 use Rattle.ladr_mace4.proofs.Ended.{ended_more, many_more, length_more, text_more, reads_more}
 use Rattle.ladr_mace4.proofs.Found as finds
 use Rattle.ladr_mace4.proofs.Known.{AreNew}
@@ -24,11 +23,13 @@ use Rattle.ladr_mace4.specs.Models.{IsWholeModel, AreShown}
 use Rattle.ladr_mace4.specs.Plans.{size_behind}
 use Rattle.ladr_mace4.specs.Rooms.{refused_cells, most_cells, HasRoomForGround, IsCrowded, IsBegun}
 use Rattle.ladr_mace4.specs.Skolems.{all_symbols, all_axioms}
-use Rattle.ladr_mace4.specs.Story.{Size, skipped, searched, Now, between, opened, inside, models_in, models_in_all, models_text, size_text, sizes_text, HasEnded, HaveEnded, IsAtSize, Stops, readings_for, readings_in_all, text_by, models_by, readings_by, readings_by_end, SearchGoes, SearchComes}
-use Rattle.ladr_mace4.specs.Watching.{time_to_stop, IsInTime, HasReadAtLeast}
+use Rattle.ladr_mace4.specs.Story.{Size, skipped, searched, Now, between, opened, inside, models_in, models_in_all, models_text, size_text, sizes_text, HasEnded, HaveEnded, IsAtSize, Stops, GoesTo, TakesChoice, readings_in_all, text_by, models_by, readings_by, readings_by_end, SearchGoes, SearchComes}
+use Rattle.ladr_mace4.specs.Watching.{time_to_stop, IsInTime, HasRead}
 use Rattle.ladr_mace4.specs.declared.ends.SearchEnd.{SearchEnd}
 use Rattle.ladr_mace4.specs.declared.ends.SearchEnd.TheVariants.{MaxModels, Exhausted, AllModels, MaxMegs, MaxSeconds, GroundLimit, ClauseLimit}
 use Rattle.ladr_mace4.specs.declared.plan.Plan.{Plan}
+use Rattle.mace_cells.proofs.Moving.{goes_nowhere, goes_live, leaves_choices}
+use Rattle.mace_cells.specs.Choices.{Choice}
 use Rattle.mace_search.proofs.Completing.{by_number}
 use Rattle.mace_search.proofs.Next.{in_count, next_or_none}
 use Rattle.mace_search.specs.Models.{IsModel, IsNextModel}
@@ -43,7 +44,7 @@ use Rattle.model_tables.specs.Size.{formulas_of}
 use Rattle.model_tables.specs.Tables.{Finite}
 
 -- a clock that comes to be late with its reading number m
-late_times : (o : Option ℕ) (sec n m : ℕ) (t : Times) → o ≡ Some sec → IsInTime o t → HasReadAtLeast o n t → 2 ≤ m → (2 < m → m ≤ n + 1) → (t' : Times) × (IsLate (time_to_stop o t') t' t'.last × HasReadAtLeast o m t')
+late_times : (o : Option ℕ) (sec n m : ℕ) (t : Times) → o ≡ Some sec → IsInTime o t → HasRead o n t → 2 ≤ m → (2 < m → m ≤ n + 1) → (t' : Times) × (IsLate (time_to_stop o t') t' t'.last × HasRead o m t')
 late_times None sec n m t e in_time reads two few = absurd cc
 late_times (Some x) sec n m t e in_time reads two few =
     let t' : Times = record { count = min m greatest; first = t.first; last = t.first + 1000 * x; between = t.last } in
@@ -51,16 +52,25 @@ late_times (Some x) sec n m t e in_time reads two few =
     (t', ((omega (arith, two), before, omega arith, refl), omega arith))
 
 -- one that gave its first reading alone
-first_times : (o : Option ℕ) (sec : ℕ) (t : Times) → o ≡ Some sec → (t' : Times) × (IsInTime o t' × HasReadAtLeast o 1 t')
+first_times : (o : Option ℕ) (sec : ℕ) (t : Times) → o ≡ Some sec → (t' : Times) × (IsInTime o t' × HasRead o 1 t')
 first_times None sec t e = absurd cc
 first_times (Some x) sec t e =
     let t' : Times = record { count = 1; first = t.first; last = t.first; between = 0 } in
     (t', ((λ more. absurd (omega (arith, more))), omega arith))
 
 -- where no time is set, any number of readings is none
-any_read : (o : Option ℕ) (n m : ℕ) (t : Times) → o ≡ None → HasReadAtLeast o n t → HasReadAtLeast o m t
+any_read : (o : Option ℕ) (n m : ℕ) (t : Times) → o ≡ None → HasRead o n t → HasRead o m t
 any_read None n m t e reads = reads
 any_read (Some x) n m t e reads = absurd cc
+
+-- no model takes no choice, and where no time is set none do
+no_models : (o : Option ℕ) → TakesChoice o [] 0
+no_models None = tt
+no_models (Some x) = tt
+
+no_choice : (o : Option ℕ) (us : List Finite) → o ≡ None → TakesChoice o us 0
+no_choice None us e = tt
+no_choice (Some x) us e = absurd cc
 
 -- a model with a number below j is one of these, renamed
 abbrev AreCovered : Stated → ℕ → ℕ → List Finite → Type 0
@@ -92,7 +102,7 @@ module _ (behind : SkolemsStandBehind) (new : AreNew) (p : Stated) (well : IsWel
   AreGone sizes = HaveEnded p s s.start sizes × (models_in_all sizes < s.wanted)
 
   -- the search comes to its end here
-  ends_at : (t : Times) (sizes : List Size) (now : Now) (end : SearchEnd) → AreGone sizes → IsAtSize p s (next sizes) now → Stops p s t (next sizes) (models_by sizes now) now end → HasReadAtLeast s.seconds (readings_by_end sizes now) t → Comes (text_by p s sizes now)
+  ends_at : (t : Times) (sizes : List Size) (now : Now) (end : SearchEnd) → AreGone sizes → IsAtSize p s (next sizes) now → Stops p s t (next sizes) (models_by sizes now) now end → HasRead s.seconds (readings_by_end sizes now end) t → Comes (text_by p s sizes now)
   ends_at t sizes now end gone stands stops reads = record {
     times = t;
     end = end;
@@ -103,8 +113,8 @@ module _ (behind : SkolemsStandBehind) (new : AreNew) (p : Stated) (well : IsWel
     parts = sym (append-nil (text_by p s sizes now));
   }
 
-  read_same : (t : Times) (n m : ℕ) → n ≡ m → HasReadAtLeast s.seconds n t → HasReadAtLeast s.seconds m t
-  read_same t n m e reads = subst (λ (i : ℕ). HasReadAtLeast s.seconds i t) e reads
+  read_same : (t : Times) (n m : ℕ) → n ≡ m → HasRead s.seconds n t → HasRead s.seconds m t
+  read_same t n m e reads = subst (λ (i : ℕ). HasRead s.seconds i t) e reads
 
   next_is : (sizes sizes' : List Size) → length sizes' ≡ length sizes + 1 → next sizes' ≡ next sizes + s.step
   next_is sizes sizes' e =
@@ -121,17 +131,17 @@ module _ (behind : SkolemsStandBehind) (new : AreNew) (p : Stated) (well : IsWel
   gone_more sizes size gone within is fewer = (ended_more p s s.start sizes size gone.0 within is, omega (arith, fewer, many_more sizes size))
 
   -- that a size is exhausted stands behind its models
-  exhausted_is : (sizes : List Size) (ts : List Finite) (tried : ℕ) → front (sizes ++ searched ts tried ∷ []) ≡ (front sizes ++ (size_line (next sizes) ++ models_text p (models_in_all sizes) ts)) ++ exhausted_line (next sizes)
-  exhausted_is sizes ts tried =
+  exhausted_is : (sizes : List Size) (us : List Finite) (chosen : ℕ) → front (sizes ++ searched us chosen ∷ []) ≡ (front sizes ++ (size_line (next sizes) ++ models_text p (models_in_all sizes) us)) ++ exhausted_line (next sizes)
+  exhausted_is sizes us chosen =
       let n = next sizes in
-      let texts = models_text p (models_in_all sizes) ts in
-      text_is sizes (searched ts tried) ∙ ap (λ (u : List ℕ). front sizes ++ u) (sym (append_assoc (size_line n) texts (exhausted_line n))) ∙ sym (append_assoc (front sizes) (size_line n ++ texts) (exhausted_line n))
+      let texts = models_text p (models_in_all sizes) us in
+      text_is sizes (searched us chosen) ∙ ap (λ (u : List ℕ). front sizes ++ u) (sym (append_assoc (size_line n) texts (exhausted_line n))) ∙ sym (append_assoc (front sizes) (size_line n ++ texts) (exhausted_line n))
 
   -- all sizes are behind it
-  over : (t : Times) (sizes : List Size) → AreGone sizes → s.end < next sizes → IsInTime s.seconds t → HasReadAtLeast s.seconds (readings_in_all sizes) t → Comes (front sizes)
+  over : (t : Times) (sizes : List Size) → AreGone sizes → s.end < next sizes → IsInTime s.seconds t → HasRead s.seconds (readings_in_all sizes) t → Comes (front sizes)
   over t sizes gone behind_all in_time reads =
       let none : models_by sizes between ≡ models_in_all sizes = omega arith in
-      let read = read_same t (readings_in_all sizes) (readings_by_end sizes between) (omega arith) reads in
+      let read = read_same t (readings_in_all sizes) (readings_in_all sizes + 0) (omega arith) reads in
       shorter (front sizes) [] (elim (cases_lt 0 (models_in_all sizes)) [
         | inl some ↦ ends_at t sizes between AllModels gone tt (in_time, refl, behind_all, omega (arith, some, none)) read
         | inr few ↦ ends_at t sizes between Exhausted gone tt (in_time, refl, behind_all, omega (arith, few, none)) read
@@ -147,7 +157,7 @@ module _ (behind : SkolemsStandBehind) (new : AreNew) (p : Stated) (well : IsWel
     ]
   ]
 
-  crowded_end : (t : Times) (sizes : List Size) (end : SearchEnd) → IsCrowded s (next sizes) (ground_size (next sizes) p) end → AreGone sizes → IsBegun p s (next sizes) → IsInTime s.seconds t → HasReadAtLeast s.seconds (readings_by_end sizes opened) t → Comes (text_by p s sizes opened)
+  crowded_end : (t : Times) (sizes : List Size) (end : SearchEnd) → IsCrowded s (next sizes) (ground_size (next sizes) p) end → AreGone sizes → IsBegun p s (next sizes) → IsInTime s.seconds t → HasRead s.seconds (readings_in_all sizes + 1) t → Comes (text_by p s sizes opened)
   crowded_end t sizes MaxMegs crowded gone begun in_time reads = ends_at t sizes opened MaxMegs gone begun (in_time, refl, crowded) reads
   crowded_end t sizes (GroundLimit size) crowded gone begun in_time reads = ends_at t sizes opened (GroundLimit size) gone begun (in_time, refl, crowded) reads
   crowded_end t sizes MaxModels crowded gone begun in_time reads = absurd crowded
@@ -156,17 +166,18 @@ module _ (behind : SkolemsStandBehind) (new : AreNew) (p : Stated) (well : IsWel
   crowded_end t sizes (MaxSeconds first last) crowded gone begun in_time reads = absurd crowded
   crowded_end t sizes (ClauseLimit formula) crowded gone begun in_time reads = absurd crowded
 
-  -- in a size with models, where a time is set: the time is over before the next choice
-  late_inside : (t : Times) (sizes : List Size) (us : List Finite) (sec : ℕ) → s.seconds ≡ Some sec → AreGone sizes → IsBegun p s (next sizes) → HasRoomForGround s (ground_size (next sizes) p) → AreShown p (next sizes) us → models_in_all sizes + length us < s.wanted → IsInTime s.seconds t → HasReadAtLeast s.seconds (readings_in_all sizes + 1) t
+  -- in a size with models, where a time is set: the time is over before a choice
+  late_inside : (t : Times) (sizes : List Size) (us : List Finite) (chosen : ℕ) (choices : List Choice) (sec : ℕ) → s.seconds ≡ Some sec → AreGone sizes → IsBegun p s (next sizes) → HasRoomForGround s (ground_size (next sizes) p) → AreShown p (next sizes) us → GoesTo p (next sizes) chosen true choices
+      → TakesChoice s.seconds us chosen → models_in_all sizes + length us < s.wanted → IsInTime s.seconds t → HasRead s.seconds (readings_in_all sizes + suc chosen) t
       → Comes (front sizes ++ (size_line (next sizes) ++ models_text p (models_in_all sizes) us))
-  late_inside t sizes us sec set gone begun room shown fewer in_time reads =
+  late_inside t sizes us chosen choices sec set gone begun room shown way takes fewer in_time reads =
       let r = readings_in_all sizes in
-      let late = late_times s.seconds sec (r + 1) (r + 2) t set in_time reads (omega arith) (λ more. omega arith) in
+      let late = late_times s.seconds sec (r + suc chosen) (r + suc (suc chosen)) t set in_time reads (omega arith) (λ more. omega arith) in
       let t' = late.0 in
-      ends_at t' sizes (inside us) (MaxSeconds t'.first t'.last) gone (begun, room, shown) (late.1.0, refl, tt, fewer) (fewer_read s.seconds (r + 2) (r + readings_for us) t' (omega (arith, finds.few_readings us)) late.1.1)
+      ends_at t' sizes (inside us chosen) (MaxSeconds t'.first t'.last) gone (begun, room, shown, (true, (choices, way)), takes) (late.1.0, refl, (choices, way), fewer) late.1.1
 
   -- a size whose line is printed, where a time is set: the time is over as it begins, or before its first choice
-  late_begun : (t : Times) (sizes : List Size) (sec : ℕ) → s.seconds ≡ Some sec → AreGone sizes → IsBegun p s (next sizes) → IsInTime s.seconds t → HasReadAtLeast s.seconds (readings_in_all sizes) t → Comes (front sizes ++ size_line (next sizes))
+  late_begun : (t : Times) (sizes : List Size) (sec : ℕ) → s.seconds ≡ Some sec → AreGone sizes → IsBegun p s (next sizes) → IsInTime s.seconds t → HasRead s.seconds (readings_in_all sizes) t → Comes (front sizes ++ size_line (next sizes))
   late_begun t sizes sec set gone begun in_time reads =
       let n = next sizes in
       let r = readings_in_all sizes in
@@ -181,15 +192,16 @@ module _ (behind : SkolemsStandBehind) (new : AreNew) (p : Stated) (well : IsWel
             elim (room_or_end n) [
               | inl room ↦ (
                   let text : front sizes ++ (size_line n ++ []) ≡ front sizes ++ size_line n = ap (λ (u : List ℕ). front sizes ++ u) (append-nil (size_line n)) in
-                  subst Comes text (late_inside first.0 sizes [] sec set gone begun room (tt, tt) (omega (arith, gone.1)) first.1.0 read))
+                  subst Comes text (late_inside first.0 sizes [] 0 [] sec set gone begun room (tt, tt) (goes_nowhere (world_for p n) true []) (no_models s.seconds) (omega (arith, gone.1)) first.1.0 read))
               | inr crowded ↦ crowded_end first.0 sizes crowded.0 crowded.1 gone begun first.1.0 read
             ])
       ]
 
   -- as many models as are wanted are printed
-  enough : (t : Times) (sizes : List Size) (us : List Finite) → AreGone sizes → IsBegun p s (next sizes) → HasRoomForGround s (ground_size (next sizes) p) → models_in_all sizes + length us ≡ s.wanted → AreShown p (next sizes) us → IsInTime s.seconds t → HasReadAtLeast s.seconds (readings_in_all sizes + readings_for us) t
+  enough : (t : Times) (sizes : List Size) (us : List Finite) (chosen : ℕ) → AreGone sizes → IsBegun p s (next sizes) → HasRoomForGround s (ground_size (next sizes) p) → models_in_all sizes + length us ≡ s.wanted → AreShown p (next sizes) us → (live : Bool) × ((choices : List Choice) × GoesTo p (next sizes) chosen live choices)
+      → TakesChoice s.seconds us chosen → IsInTime s.seconds t → HasRead s.seconds (readings_in_all sizes + suc chosen) t
       → Comes (front sizes ++ (size_line (next sizes) ++ models_text p (models_in_all sizes) us))
-  enough t sizes us gone begun room all shown in_time reads = ends_at t sizes (inside us) MaxModels gone (begun, room, shown) (in_time, tt, all) reads
+  enough t sizes us chosen gone begun room all shown way takes in_time reads = ends_at t sizes (inside us chosen) MaxModels gone (begun, room, shown, way, takes) (in_time, tt, all) reads
 
   -- where there is room the Skolem symbols stand behind, and no formula has one
   stand : (n : ℕ) → 1 ≤ n → HasRoomForGround s (ground_size n p) → StandBehind p
@@ -214,18 +226,16 @@ module _ (behind : SkolemsStandBehind) (new : AreNew) (p : Stated) (well : IsWel
   abbrev GoesOnBehind : List Size → Type 0
   GoesOnBehind sizes = (sizes' : List Size) → AreGone sizes' → length sizes' ≡ length sizes + 1 → Comes (front sizes')
 
-  module _ (t : Times) (none : s.seconds ≡ None) (in_time : IsInTime s.seconds t) (read : (m : ℕ) → HasReadAtLeast s.seconds m t) where
+  module _ (t : Times) (none_set : s.seconds ≡ None) (in_time : IsInTime s.seconds t) (read : (m : ℕ) → HasRead s.seconds m t) where
     -- a size is exhausted, where no time is set
     emptied : (sizes : List Size) (us : List Finite) → AreGone sizes → IsBegun p s (next sizes) → HasRoomForGround s (ground_size (next sizes) p) → models_in_all sizes + length us < s.wanted → AreShown p (next sizes) us → CoverModels p (next sizes) us → GoesOnBehind sizes
         → Comes (front sizes ++ (size_line (next sizes) ++ models_text p (models_in_all sizes) us))
     emptied sizes us gone begun room fewer shown all rest =
         let n = next sizes in
         let texts = models_text p (models_in_all sizes) us in
-        let size = searched us in
-        let is : HasEnded p s n size = ((begun.1, room), shown, all) in
-        let e : front (sizes ++ size ∷ []) ≡ (front sizes ++ (size_line n ++ texts)) ++ exhausted_line n =
-        text_is sizes size ∙ ap (λ (u : List ℕ). front sizes ++ u) (sym (append_assoc (size_line n) texts (exhausted_line n))) ∙ sym (append_assoc (front sizes) (size_line n ++ texts) (exhausted_line n)) in
-        shorter (front sizes ++ (size_line n ++ texts)) (exhausted_line n) (subst Comes e (rest (sizes ++ size ∷ []) (gone_more sizes size gone begun.0 is fewer) (length_more sizes size)))
+        let size = searched us 0 in
+        let is : HasEnded p s n size = ((begun.1, room), shown, all, leaves_choices (world_for p n) [], no_choice s.seconds us none_set) in
+        shorter (front sizes ++ (size_line n ++ texts)) (exhausted_line n) (subst Comes (exhausted_is sizes us 0) (rest (sizes ++ size ∷ []) (gone_more sizes size gone begun.0 is fewer) (length_more sizes size)))
 
     -- a size with models, where no time is set: the models that aren't shown yet are printed, and that it is exhausted
     enumerated : (fuel j : ℕ) (sizes : List Size) (us : List Finite) → AreGone sizes → IsBegun p s (next sizes) → HasRoomForGround s (ground_size (next sizes) p) → models_in_all sizes + length us < s.wanted → AreShown p (next sizes) us → AreCovered p (next sizes) j us → tables_in (next sizes) p ≤ j + fuel → GoesOnBehind sizes
@@ -256,7 +266,7 @@ module _ (behind : SkolemsStandBehind) (new : AreNew) (p : Stated) (well : IsWel
                     shorter (front sizes ++ (size_line n ++ texts)) text
                     (subst Comes same (elim (cases_lt (k + length us') s.wanted) [
                       | inl more ↦ enumerated fuel (suc (table_number y.0)) sizes us' gone begun room more shown' covered' few_left rest
-                      | inr enough_now ↦ enough t sizes us' gone begun room (omega (arith, fewer, enough_now, finds.many_more us e.0)) shown' in_time (read _)
+                      | inr enough_now ↦ enough t sizes us' 0 gone begun room (omega (arith, fewer, enough_now, finds.many_more us e.0)) shown' (true, ([], goes_nowhere (world_for p n) true [])) (no_choice s.seconds us' none_set) in_time (read _)
                     ])))
               ])
         ]
@@ -277,12 +287,12 @@ module _ (behind : SkolemsStandBehind) (new : AreNew) (p : Stated) (well : IsWel
         ]
 
   -- a size whose line is printed, whether a time is set or not
-  begun_by : (o : Option ℕ) → s.seconds ≡ o → (t : Times) (sizes : List Size) → AreGone sizes → IsBegun p s (next sizes) → IsInTime s.seconds t → HasReadAtLeast s.seconds (readings_in_all sizes) t → (s.seconds ≡ None → GoesOnBehind sizes) → Comes (front sizes ++ size_line (next sizes))
+  begun_by : (o : Option ℕ) → s.seconds ≡ o → (t : Times) (sizes : List Size) → AreGone sizes → IsBegun p s (next sizes) → IsInTime s.seconds t → HasRead s.seconds (readings_in_all sizes) t → (s.seconds ≡ None → GoesOnBehind sizes) → Comes (front sizes ++ size_line (next sizes))
   begun_by None e t sizes gone begun in_time reads rest = begun_on t e in_time (λ m. any_read s.seconds (readings_in_all sizes) m t e reads) sizes gone begun (rest e)
   begun_by (Some sec) e t sizes gone begun in_time reads rest = late_begun t sizes sec e gone begun in_time reads
 
   -- behind sizes that ended, as many as `fuel` are to come at most
-  on_behind : (fuel : ℕ) (t : Times) (sizes : List Size) → AreGone sizes → s.end < next sizes + fuel → IsInTime s.seconds t → HasReadAtLeast s.seconds (readings_in_all sizes) t → Comes (front sizes)
+  on_behind : (fuel : ℕ) (t : Times) (sizes : List Size) → AreGone sizes → s.end < next sizes + fuel → IsInTime s.seconds t → HasRead s.seconds (readings_in_all sizes) t → Comes (front sizes)
   on_behind zero t sizes gone few in_time reads = over t sizes gone (omega (arith, few)) in_time reads
   on_behind (suc fuel) t sizes gone few in_time reads =
       let n = next sizes in
@@ -302,33 +312,24 @@ module _ (behind : SkolemsStandBehind) (new : AreNew) (p : Stated) (well : IsWel
       ]
 
   -- all that is to come behind a size more, where no time is set
-  all_behind : (t : Times) (sizes : List Size) (n : ℕ) → IsInTime s.seconds t → HasReadAtLeast s.seconds n t → s.seconds ≡ None → GoesOnBehind sizes
+  all_behind : (t : Times) (sizes : List Size) (n : ℕ) → IsInTime s.seconds t → HasRead s.seconds n t → s.seconds ≡ None → GoesOnBehind sizes
   all_behind t sizes n in_time reads e sizes' gone' more = on_behind (suc s.end) t sizes' gone' (omega arith) in_time (any_read s.seconds n (readings_in_all sizes') t e reads)
 
-  -- in a size of which all tables were tried
-  all_tried : (t : Times) (sizes : List Size) (found ts : List Finite) (tried : ℕ) → AreGone sizes → IsBegun p s (next sizes) → HasRoomForCells s (all_cells (next sizes) p) → models_in_all sizes + length ts < s.wanted → AreFirst p (next sizes) 0 found → AreExpansions (all_axioms p) found ts → tables_in (next sizes) p ≤ behind 0 found → behind 0 found ≤ tried
-      → IsInTime s.seconds t → HasRead s.seconds (readings_in_all sizes + suc tried) t → Comes (front sizes ++ (size_line (next sizes) ++ models_text p (models_in_all sizes) ts))
-  all_tried t sizes found ts tried gone begun room fewer first expansions all least in_time reads =
-      let n = next sizes in
-      let size = searched ts (tables_in n p) in
-      let never : NoneFrom p n (behind 0 found) = λ u is from. (let less = in_count p n u is in omega (arith, less, from, all)) in
-      let is : HasEnded p s n size = ((begun.1, room), (found, (first, never), expansions), refl) in
-      let before = earlier_times s.seconds (readings_in_all sizes + suc tried) (readings_in_all (sizes ++ size ∷ [])) t in_time reads (omega (arith, reads_more sizes size, all, least)) in
-      let rest = on_behind (suc s.end) before.0 (sizes ++ size ∷ []) (gone_more sizes size gone begun.0 is fewer) (omega arith) before.1.0 before.1.1 in
-      shorter (front sizes ++ (size_line n ++ models_text p (models_in_all sizes) ts)) (exhausted_line n) (subst Comes (exhausted_is sizes ts (tables_in n p)) rest)
-
   -- in a size with models, fewer than are wanted, whether a time is set or not
-  inside_by : (o : Option ℕ) → s.seconds ≡ o → (t : Times) (sizes : List Size) (us : List Finite) → AreGone sizes → IsBegun p s (next sizes) → HasRoomForGround s (ground_size (next sizes) p) → models_in_all sizes + length us < s.wanted → AreShown p (next sizes) us → IsInTime s.seconds t
-      → HasReadAtLeast s.seconds (readings_in_all sizes + 1) t → Comes (front sizes ++ (size_line (next sizes) ++ models_text p (models_in_all sizes) us))
-  inside_by None e t sizes us gone begun room fewer shown in_time reads = completed t e in_time (λ m. any_read s.seconds _ m t e reads) sizes us gone begun room fewer shown (all_behind t sizes _ in_time reads e)
-  inside_by (Some sec) e t sizes us gone begun room fewer shown in_time reads = late_inside t sizes us sec e gone begun room shown fewer in_time reads
+  inside_by : (o : Option ℕ) → s.seconds ≡ o → (t : Times) (sizes : List Size) (us : List Finite) (chosen : ℕ) → AreGone sizes → IsBegun p s (next sizes) → HasRoomForGround s (ground_size (next sizes) p) → models_in_all sizes + length us < s.wanted → AreShown p (next sizes) us
+      → (live : Bool) × ((choices : List Choice) × GoesTo p (next sizes) chosen live choices) → TakesChoice s.seconds us chosen → IsInTime s.seconds t
+      → HasRead s.seconds (readings_in_all sizes + suc chosen) t → Comes (front sizes ++ (size_line (next sizes) ++ models_text p (models_in_all sizes) us))
+  inside_by None e t sizes us chosen gone begun room fewer shown way takes in_time reads = completed t e in_time (λ m. any_read s.seconds _ m t e reads) sizes us gone begun room fewer shown (all_behind t sizes _ in_time reads e)
+  inside_by (Some sec) e t sizes us chosen gone begun room fewer shown way takes in_time reads =
+      let on = goes_live (world_for p (next sizes)) [] way.1.0 chosen way.0 way.1.1 in
+      late_inside t sizes us chosen on.0 sec e gone begun room shown on.1 takes fewer in_time reads
 
-  goes_at : (t : Times) (sizes : List Size) (now : Now) → AreGone sizes → IsAtSize p s (next sizes) now → models_by sizes now ≤ s.wanted → IsInTime s.seconds t → HasReadAtLeast s.seconds (readings_by sizes now) t → Comes (text_by p s sizes now)
+  goes_at : (t : Times) (sizes : List Size) (now : Now) → AreGone sizes → IsAtSize p s (next sizes) now → models_by sizes now ≤ s.wanted → IsInTime s.seconds t → HasRead s.seconds (readings_by sizes now) t → Comes (text_by p s sizes now)
   goes_at t sizes between gone stands most in_time reads = subst Comes (sym (append-nil (front sizes))) (on_behind (suc s.end) t sizes gone (omega arith) in_time (read_same t (readings_by sizes between) (readings_in_all sizes) (omega arith) reads))
   goes_at t sizes opened gone begun most in_time reads = begun_by s.seconds refl t sizes gone begun in_time (read_same t (readings_by sizes opened) (readings_in_all sizes) (omega arith) reads) (all_behind t sizes (readings_by sizes opened) in_time reads)
-  goes_at t sizes (inside us) gone (begun, room, shown) most in_time reads = elim (cases_lt (models_in_all sizes + length us) s.wanted) [
-    | inl fewer ↦ inside_by s.seconds refl t sizes us gone begun room fewer shown in_time (fewer_read s.seconds (readings_by sizes (inside us)) (readings_in_all sizes + 1) t (omega (arith, finds.some_readings us)) reads)
-    | inr all ↦ enough t sizes us gone begun room (omega (arith, all, most)) shown in_time reads
+  goes_at t sizes (inside us chosen) gone (begun, room, shown, way, takes) most in_time reads = elim (cases_lt (models_in_all sizes + length us) s.wanted) [
+    | inl fewer ↦ inside_by s.seconds refl t sizes us chosen gone begun room fewer shown way takes in_time reads
+    | inr all ↦ enough t sizes us chosen gone begun room (omega (arith, all, most)) shown way takes in_time reads
   ]
 
   -- a search that goes on can come to an end
@@ -345,6 +346,6 @@ module _ (behind : SkolemsStandBehind) (new : AreNew) (p : Stated) (well : IsWel
       unread_in_time None = refl
       unread_in_time (Some x) = λ more. absurd (omega (arith, more))
 
-      unread_reads : (o : Option ℕ) → HasReadAtLeast o 0 (record { count = 0; first = 0; last = 0; between = 0 })
+      unread_reads : (o : Option ℕ) → HasRead o 0 (record { count = 0; first = 0; last = 0; between = 0 })
       unread_reads None = refl
       unread_reads (Some x) = omega arith

@@ -1,5 +1,5 @@
 -- The clock of a search.
-use Rattle.std.specs.Prelude.{◌≡◌, ℕ, ◌<◌, ◌≤◌, ◌+◌, ◌*◌, min, Option, None, Some}
+use Rattle.std.specs.Prelude.{◌≡◌, ℕ, ◌<◌, ◌+◌, ◌*◌, min, Option, None, Some}
 use Rattle.ladr_io.specs.Streams.{greatest}
 use Rattle.ladr_io.specs.Times.{Times, later}
 use Rattle.ladr_mace4.specs.declared.watch.Watch.{Watch}
@@ -19,11 +19,11 @@ abbrev pub IsInTime : Option ℕ → Times → Type 0
 IsInTime None t = t.count ≡ 0
 IsInTime (Some s) t = AreEarly s t
 
--- Where a time is set the clock gave at least so many readings, as far as its count can tell; else
--- it gave none.
-abbrev pub HasReadAtLeast : Option ℕ → ℕ → Times → Type 0
-HasReadAtLeast None n t = t.count ≡ 0
-HasReadAtLeast (Some s) n t = min n greatest ≤ t.count
+-- Where a time is set the clock gave so many readings, as far as its count can tell; else it gave
+-- none.
+abbrev pub HasRead : Option ℕ → ℕ → Times → Type 0
+HasRead None n t = t.count ≡ 0
+HasRead (Some s) n t = min t.count greatest ≡ min n greatest
 
 -- the clock is read once where a time is set, and else not
 abbrev pub IsLookedAt : Option ℕ → Times → Times → Type 0

@@ -7,7 +7,7 @@ ghost use Rattle.ladr_mace4.specs.Rooms.{HasRoomForGround, IsBegun};
 ghost use Rattle.ladr_mace4.specs.ItemTexts.{IsPrinted};
 ghost use Rattle.ladr_mace4.specs.Skolems.{all_symbols};
 ghost use Rattle.ladr_mace4.specs.Story.{SizeGoes, SizeEnds};
-ghost use Rattle.ladr_mace4.specs.Watching.{IsWatched, HasBegun, HasReadAtLeast};
+ghost use Rattle.ladr_mace4.specs.Watching.{IsWatched, HasBegun, HasRead};
 ghost use Rattle.ladr_output.specs.Telling.{IsPiece, Tells};
 ghost use Rattle.model_tables.specs.ModelText.{model_text};
 
@@ -45,7 +45,7 @@ pub fn models<K: Sink, C: Clock>(
     requires watched { IsWatched watch (C.times clock.old) }
     requires looked { HasBegun watch (C.times clock.old) }
     requires sink { (K.outflow sink.old).over ≡ false }
-    ensures tells { (r : ℕ) → HasReadAtLeast plan.seconds (r + 1) (C.times clock.old)
+    ensures tells { (r : ℕ) → HasRead plan.seconds (r + 1) (C.times clock.old)
         → Tells (λ text. SizeGoes asked.now plan (C.times clock.new) n k r (size_line n
         ++ text)) (λ end text. SizeEnds asked.now plan (C.times clock.new) n k r end (size_line n
         ++ text)) (K.outflow sink.old) (K.outflow sink.new) result }

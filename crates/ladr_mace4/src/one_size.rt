@@ -3,7 +3,7 @@ ghost use Rattle.std.specs.Prelude.{◌≡◌, ◌<◌, ◌≤◌, ℕ, false, I
 ghost use Rattle.fol_core.specs.Occurs.{size_needed};
 ghost use Rattle.ladr_mace4.specs.Lines.{skipped_line};
 ghost use Rattle.ladr_mace4.specs.Story.{SizeGoes, SizeEnds};
-ghost use Rattle.ladr_mace4.specs.Watching.{IsWatched, HasReadAtLeast};
+ghost use Rattle.ladr_mace4.specs.Watching.{IsWatched, HasRead};
 ghost use Rattle.ladr_output.specs.Telling.{IsPiece, Tells};
 ghost use Rattle.model_tables.specs.Size.{formulas_of};
 
@@ -39,7 +39,7 @@ pub fn one_size<K: Sink, C: Clock>(
     requires seconds { watch.old.seconds ≡ plan.seconds }
     requires watched { IsWatched watch.old (C.times clock.old) }
     requires sink { (K.outflow sink.old).over ≡ false }
-    ensures tells { (r : ℕ) → HasReadAtLeast plan.seconds r (C.times clock.old)
+    ensures tells { (r : ℕ) → HasRead plan.seconds r (C.times clock.old)
         → Tells (SizeGoes asked.now plan (C.times clock.new) n k r)
         (SizeEnds asked.now plan (C.times clock.new) n k r) (K.outflow sink.old)
         (K.outflow sink.new) result }

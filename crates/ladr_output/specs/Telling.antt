@@ -28,7 +28,7 @@ PieceTells printed cut_off text old new s =
     (r : Result (Unit {0}) Cut) × IsPiece text old new r × (s ≡ result_of_piece printed cut_off r)
 
 -- What a failed write leaves: the sink took a text that may stand while the run goes on, and then a
--- front of one piece, with which the text may stand too or is a whole output.
+-- front of one text more, with which the first may stand too or is a whole output.
 pub record IsCutOff {E : Type 0} (goes : List ℕ → Type 0) (ends : E → List ℕ → Type 0)
     (old new : Outflow) : Type 0 where
   pub before : List ℕ

@@ -1,5 +1,5 @@
 // Printing piece by piece.
-ghost use Rattle.std.specs.Prelude.{◌≡◌, List, [], ℕ, IfOk, OnErr, Err, false};
+ghost use Rattle.std.specs.Prelude.{◌≡◌, List, [], ℕ, IfOk, OnErr, OnOk, Err, false};
 ghost use Rattle.ladr_output.specs.Telling.{IsPiece, Tells, IsEnd};
 
 use crate::cut::Cut;
@@ -12,6 +12,7 @@ pub fn piece<K: Sink>(text: Result<Vec<u8>, AllocError>, sink: &mut K) -> Result
     ensures printed { (t : List ℕ) → IfOk text (λ v. v.items ≡ t)
         → IsPiece t (K.outflow sink.old) (K.outflow sink.new) result }
     ensures lacking { OnErr text (result ≡ Err Cut.Memory) }
+    ensures sufficed { OnOk text (result ≡ Err Cut.Memory → ⊥) }
 {
     match text {
         Err(_) => Err(Cut::Memory),
@@ -33,6 +34,7 @@ pub fn ending<E: Drop, K: Sink>(
     ensures printed { (t : List ℕ) → IfOk text (λ v. v.items ≡ t)
         → Tells (λ u. u ≡ []) (IsEnd end t) (K.outflow sink.old) (K.outflow sink.new) result }
     ensures lacking { OnErr text (result ≡ Err Cut.Memory) }
+    ensures sufficed { OnOk text (result ≡ Err Cut.Memory → ⊥) }
 {
     match text {
         Err(_) => Err(Cut::Memory),

@@ -270,7 +270,7 @@ record Again (rows : List OperatorRow) (st : Style) (table T : List Symbol) (c :
   precedence : ℕ
   reads : ReadsAs (table_of rows) (clause_bytes (table_of rows) T (clause_variable st.prolog) (renumbered c)) tree precedence
   variables : List Variable
-  raws_count : length variables ≡ length m.reading.variables
+  count : length variables ≡ length m.reading.variables
   made : formula_reading st table tree ≡ record { tree = m.tree; reading = record m.reading { variables = variables } }
 
 module _ (rows : List OperatorRow) (st : Style) (table T : List Symbol) (other : List ℕ) (x : RawTree) (p : ℕ) (c : ClauseTree) (l : are_lawful rows ≡ true) (k : KeepsFixed rows)
@@ -292,7 +292,7 @@ module _ (rows : List OperatorRow) (st : Style) (table T : List Symbol) (other :
         precedence = precedence g (named (codes "$F") no_raws);
         reads = subst (λ (b : List ℕ). ReadsAs g b (named (codes "$F") no_raws) (precedence g (named (codes "$F") no_raws))) (sym text) (printed_reads rows (named (codes "$F") no_raws) l may);
         variables = M.reading.variables;
-        raws_count = refl;
+        count = refl;
         made = ap (formula_reading st table) (sym is);
       }
 
@@ -318,7 +318,7 @@ module _ (rows : List OperatorRow) (st : Style) (table T : List Symbol) (other :
         precedence = precedence g (clause_raw T canonical c);
         reads = subst (λ (b : List ℕ). ReadsAs g b (clause_raw T canonical c) (precedence g (clause_raw T canonical c))) (sym text) (printed_reads rows (clause_raw T canonical c) l may);
         variables = first_variables st.prolog n;
-        raws_count = first_length st.prolog n;
+        count = first_length st.prolog n;
         made = both.0;
       }
 
@@ -340,11 +340,11 @@ clause_both rows st table other c after n T l k frees s kept few size =
     let among : IsAmong m.reading T = record { clean = s.reading.clean; kept = subst (λ (t : List Symbol). KeepsNumbers t T) (sym s.reading.table) kept; few = few } in
     let a = clause_again rows st table T other s.tree s.precedence c l k s.reads among frees (omega (arith, size, s.reading.count)) s.clause in
     let read : Made Fol = record { tree = m.tree; reading = record m.reading { variables = a.variables } } in
-    let clean : IsClean read.reading after n = record { clean = s.reading.clean; table = s.reading.table; raws_count = a.count ∙ s.reading.count } in
+    let clean : IsClean read.reading after n = record { clean = s.reading.clean; table = s.reading.table; count = a.count ∙ s.reading.count } in
     let behind_all : formula_reading st T a.tree ≡ made_behind T read =
     read_behind T st table a.tree (subst (λ (r : Made Fol). KeepsNumbers r.reading.symbols T) (sym a.made) among.kept) ∙ ap (made_behind T) a.made
     in
-    let larger : IsClean (made_behind T read).reading T n = record { clean = s.reading.clean; table = refl; raws_count = a.count ∙ s.reading.count } in (
+    let larger : IsClean (made_behind T read).reading T n = record { clean = s.reading.clean; table = refl; count = a.count ∙ s.reading.count } in (
       record {
         tree = a.tree;
         precedence = a.precedence;
@@ -421,8 +421,8 @@ term_both rows st table other t after n T l k frees s kept few size =
     let larger : term_of st [] (unread T) raw ≡ made_behind T read =
     term_into T st [] raw (unread table) (subst (λ (r : Made Tree). KeepsNumbers r.reading.symbols T) (sym again) keeps) ∙ ap (made_behind T) again
     in
-    let own : IsClean read.reading after n = record { clean = s.reading.clean; table = s.reading.table; raws_count = raws_count } in
-    let all : IsClean (made_behind T read).reading T n = record { clean = s.reading.clean; table = refl; raws_count = raws_count } in (
+    let own : IsClean read.reading after n = record { clean = s.reading.clean; table = s.reading.table; count = raws_count } in
+    let all : IsClean (made_behind T read).reading T n = record { clean = s.reading.clean; table = refl; count = raws_count } in (
       record {
         tree = raw;
         precedence = precedence g raw;

@@ -55,7 +55,7 @@ module _ (T : List Symbol) (v : Naming) where
   abbrev Scoped : List Bound → Type 0
   Scoped scope = (name : List ℕ) (n : ℕ) → bound_number scope name ≡ Some n → v n ≡ name
 
-  scoped_more : (scope : List Bound) (x : List ℕ) (n : ℕ) → v n ≡ x → Scoped scope → Scoped (record { name = x; limited_number_of = n } ∷ scope)
+  scoped_more : (scope : List Bound) (x : List ℕ) (n : ℕ) → v n ≡ x → Scoped scope → Scoped (record { name = x; number = n } ∷ scope)
   scoped_more scope x n h k name m e = by (bytes_eq x name) refl
     where
       by : (b : Bool) → bytes_eq x name ≡ b → v m ≡ name
@@ -159,7 +159,7 @@ module _ (T : List Symbol) (v : Naming) where
       term_back st scope s (quantified q x t) c r =
           let met = meets true QuantifierInTerm s in
           let inner = with_variable x false met in
-          absurd (unmet QuantifierInTerm s (before met _ (beyond met inner _ (grows_variable x false met) (grows_term st (record { name = x; limited_number_of = length s.variables } ∷ scope) inner t)) r))
+          absurd (unmet QuantifierInTerm s (before met _ (beyond met inner _ (grows_variable x false met) (grows_term st (record { name = x; number = length s.variables } ∷ scope) inner t)) r))
       term_back st scope s (named name no_raws) c r = constant_back st scope name s c r
       term_back st scope s (named name (more_raws t ts)) c r =
           let met = meets (is_too_great st name) UnfitNumeral s in
@@ -239,7 +239,7 @@ module _ (T : List Symbol) (v : Naming) where
     pub formula_back : (st : Style) (t : RawTree) (scope : List Bound) (s : Reading) → Scoped scope → Backs (formula_in st scope s t) (turned t)
     formula_back st (quantified q x t) scope s c = λ r.
         let inner = with_variable x false s in
-        let bounds = record { name = x; limited_number_of = length s.variables } ∷ scope in
+        let bounds = record { name = x; number = length s.variables } ∷ scope in
         let kept : Reaches inner = before inner _ (grows_formula st bounds t inner) r in
         let called : v (length s.variables) ≡ x = kept.names (length s.variables) (record { name = x; free = false }) (slice_get_last s.variables (record { name = x; free = false })) in
         bound_back q (length s.variables) x _ (turned t) called (formula_back st t bounds inner (scoped_more scope x (length s.variables) called c) r)

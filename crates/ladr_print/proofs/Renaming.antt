@@ -173,7 +173,7 @@ module _ (st : Style) where
       term_ren (quantified q x t) s k =
           let met = meets true QuantifierInTerm s in
           let inner = with_variable x false met in
-          absurd (unmet T v QuantifierInTerm s (before T v met _ (beyond met inner _ (grows_variable x false met) (grows_term st (record { name = x; limited_number_of = length s.variables } ∷ []) inner t)) k.0))
+          absurd (unmet T v QuantifierInTerm s (before T v met _ (beyond met inner _ (grows_variable x false met) (grows_term st (record { name = x; number = length s.variables } ∷ []) inner t)) k.0))
       term_ren (named name no_raws) s k = constant_ren name s k
       term_ren (named name (more_raws t ts)) s k =
           let met = meets (is_too_great st name) UnfitNumeral s in
@@ -285,7 +285,7 @@ module _ (st : Style) where
       term_noted (quantified q x t) s k =
           let met = meets true QuantifierInTerm s in
           let inner = with_variable x false met in
-          absurd (unmet T v QuantifierInTerm s (before T v met _ (beyond met inner _ (grows_variable x false met) (grows_term st (record { name = x; limited_number_of = length s.variables } ∷ []) inner t)) k.0))
+          absurd (unmet T v QuantifierInTerm s (before T v met _ (beyond met inner _ (grows_variable x false met) (grows_term st (record { name = x; number = length s.variables } ∷ []) inner t)) k.0))
       term_noted (named name no_raws) s k = constant_noted name s
       term_noted (named name (more_raws t ts)) s k =
           let met = meets (is_too_great st name) UnfitNumeral s in

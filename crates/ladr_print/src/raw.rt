@@ -166,7 +166,8 @@ fn application(
     out: &mut Vec<u8>,
 ) -> Result<(), AllocError>
     ensures { OnOk result (out.new.items ≡ out.old.items
-        ++ application_text name.now (printed_all (table_of ops.now) (raws_of (raw_list args.now)))) }
+        ++ application_text name.now
+        (printed_all (table_of ops.now) (raws_of (raw_list args.now)))) }
 {
     out.extend_from_slice(name)?;
     let [first, rest @ ..] = args else {

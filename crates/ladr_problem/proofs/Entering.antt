@@ -75,7 +75,7 @@ constant_tells st name None s t h = by (is_element st name)
 
 mutual
   term_tells : (st : Style) (scope : List Bound) (s : Reading) (t : RawTree) → IsNamed t → Tells s → Tells (term_of st scope s t).reading
-  term_tells st scope s (quantified q x t) h told = term_tells st (record { name = x; limited_number_of = length s.variables } ∷ scope) (with_variable x false (meets true QuantifierInTerm s)) t h told
+  term_tells st scope s (quantified q x t) h told = term_tells st (record { name = x; number = length s.variables } ∷ scope) (with_variable x false (meets true QuantifierInTerm s)) t h told
   term_tells st scope s (named name no_raws) h told =
       constant_tells st name (named_variable st scope name s).tree (named_variable st scope name s).reading (variable_tells st scope name s told) h.0
   term_tells st scope s (named name (more_raws t ts)) h told =
@@ -134,7 +134,7 @@ denial_tells st scope name t s m n h told inner = by (is_denial name)
     by false = relation_tells st scope name (more_raws t no_raws) s n (h, tt) told
 
 pub formula_tells : (st : Style) (scope : List Bound) (s : Reading) (t : RawTree) → IsNamed t → Tells s → Tells (formula_in st scope s t).reading
-formula_tells st scope s (quantified q x t) h told = formula_tells st (record { name = x; limited_number_of = length s.variables } ∷ scope) (with_variable x false s) t h told
+formula_tells st scope s (quantified q x t) h told = formula_tells st (record { name = x; number = length s.variables } ∷ scope) (with_variable x false s) t h told
 formula_tells st scope s (named name no_raws) h told =
     sentence_tells st scope name (named_variable st scope name s).tree (named_variable st scope name s).reading h.0 (variable_tells st scope name s told)
 formula_tells st scope s (named name (more_raws t no_raws)) h told = denial_tells st scope name t s (formula_in st scope s t) h.0 h.1.0 told (formula_tells st scope s t h.1.0 told)

@@ -57,7 +57,7 @@ IsItemRead m s ts (command c) =
 IsItemRead m s ts (within i) =
     IsTrue (is_some s.settings.list) × IsListItem (table_of s.settings.operators) ts i
 
--- the item can't be read, and token k of it is the first bad one
+-- the item can't be read, and token k of it is bad
 abbrev pub IsUnreadable : Mode → Sofar → List Lexeme → ℕ → Type 0
 IsUnreadable m s ts k =
     MatchOption s.settings.list

@@ -23,8 +23,8 @@ pub fn worked()
         (value.Symbol (codes "rpo"))) at_start ≡ Err UnfitValue }
     ensures unknown_list { settings_after Prover (command.Formulas (codes "theorems")) at_start
         ≡ Err UnknownList }
-    ensures operator { settings_after Prover (command.Op 999 (codes "infix") (codes "&" ∷ [])) at_start
-        ≡ Err UnfitOperator }
+    ensures operator { settings_after Prover (command.Op 999 (codes "infix") (codes "&" ∷ []))
+        at_start ≡ Err UnfitOperator }
     ensures symbol { settings_after Prover (command.Op 998 (codes "infix")
         (codes "@@" ∷ codes "&" ∷ [])) at_start ≡ Err UnfitSymbol }
     ensures too_late { settings_after Prover (command.Op 998 (codes "infix") (codes "@@" ∷ []))
@@ -36,14 +36,14 @@ pub fn worked()
     ensures unmatched_end { settings_after Tester command.EndIf at_start ≡ Err UnmatchedIf }
     ensures unfit_order { settings_after Prover (command.FunctionOrder
         (codes "f" ∷ codes "e" ∷ codes "f" ∷ [])) at_start ≡ Err UnfitRule }
-    ensures unfit_interpretation { settings_after Tester (command.Interpretation (by_name 0 [])) at_start
-        ≡ Err UnfitInterpretation }
+    ensures unfit_interpretation { settings_after Tester (command.Interpretation (by_name 0 []))
+        at_start ≡ Err UnfitInterpretation }
     ensures second_interpretation { settings_after Tester (command.Interpretation (by_name 1 []))
         (record at_start { interpretation = Some (by_name 2 []) }) ≡ Err UnfitInterpretation }
     ensures assumptions { settings_after Prover (command.Formulas (codes "sos")) at_start
         ≡ Ok (record at_start { list = Some (list.Formulas Assumptions); listed = true }) }
-    ensures predicates { settings_after Prover (command.PredicateOrder (codes "p" ∷ codes "p" ∷ [])) at_start
-        ≡ Ok at_start }
+    ensures predicates { settings_after Prover
+        (command.PredicateOrder (codes "p" ∷ codes "p" ∷ [])) at_start ≡ Ok at_start }
     ensures other_if { settings_after Prover (command.If (codes "Prover9"))
         (record at_start { block = Some (codes "Mace4") })
         ≡ Ok (record at_start { block = Some (codes "Mace4") }) }

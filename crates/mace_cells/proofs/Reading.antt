@@ -1,5 +1,5 @@
 -- A clock that is read on.
-use Rattle.std.proofs.Common.{◌≡◌, ℕ, ◌+◌, ◌≤◌, Option, None, Some, refl, ap, ◌∙◌, arith}
+use Rattle.std.proofs.Common.{◌≡◌, ℕ, ◌+◌, Option, None, Some, refl, ap, ◌∙◌, arith}
 use Rattle.ladr_io.specs.Times.{Times, later}
 use Rattle.mace_cells.specs.Readings.{ReadsOn}
 use Rattle.mace_search.proofs.Watching.{first_stays}
@@ -11,15 +11,11 @@ reads_once (Some r) t t' s now e early l =
     let count : t'.count ≡ (later t now).count = ap (λ (x : Times). x.count) l in
     (ap (λ (x : Times). x.first) l ∙ first_stays t now early.0, omega (arith, count))
 
--- at least as many of both as of the whole
-pub reads_both : (stop : Option ℕ) (more further all : ℕ) (t u v : Times) → all ≤ more + further → ReadsOn stop more t u → ReadsOn stop further u v → ReadsOn stop all t v
-reads_both None more further all t u v few h k = k ∙ h
-reads_both (Some s) more further all t u v few h k = (k.0 ∙ h.0, omega (arith, few, h.1, k.1))
+-- as many of both as of the whole
+pub reads_both : (stop : Option ℕ) (more further all : ℕ) (t u v : Times) → all ≡ more + further → ReadsOn stop more t u → ReadsOn stop further u v → ReadsOn stop all t v
+reads_both None more further all t u v e h k = k ∙ h
+reads_both (Some s) more further all t u v e h k = (k.0 ∙ h.0, omega (arith, e, h.1, k.1))
 
 pub reads_none : (stop : Option ℕ) (t : Times) → ReadsOn stop 0 t t
 reads_none None t = refl
 reads_none (Some s) t = (refl, omega arith)
-
-pub reads_fewer : (stop : Option ℕ) (more fewer : ℕ) (t u : Times) → fewer ≤ more → ReadsOn stop more t u → ReadsOn stop fewer t u
-reads_fewer None more fewer t u few h = h
-reads_fewer (Some s) more fewer t u few h = (h.0, omega (arith, few, h.1))

@@ -1,9 +1,9 @@
-use Rattle.std.proofs.Common.{◌≡◌, ℕ, ◌+◌, [], ◌∷◌, ◌++◌, Option, Err, refl, sym, subst, ap, ◌∙◌, arith}
+use Rattle.std.proofs.Common.{◌≡◌, ℕ, suc, ◌+◌, [], ◌∷◌, ◌++◌, Option, Err, refl, sym, subst, ap, ◌∙◌, arith}
 use Rattle.cell_search.specs.Courses.{Course}
 use Rattle.cell_search.specs.Finites.{tables_over}
 use Rattle.ladr_io.proofs.StreamLaws.{Takes-none}
 use Rattle.ladr_mace4.proofs.Clocks.{in_time, early_at, watched_on, late_on, read_on}
-use Rattle.ladr_mace4.proofs.Found.{line_alone, at_end, at_model, at_last, at_late, nothing_yet, further, printed_model, none_chosen, chosen_more, chosen_still, enough_read}
+use Rattle.ladr_mace4.proofs.Found.{line_alone, at_end, at_model, at_last, at_late, nothing_yet, further, printed_model, none_gone, gone_more, gone_over, gone_late}
 use Rattle.ladr_mace4.proofs.Known.{facts_of}
 use Rattle.ladr_mace4.specs.Skolems.{all_symbols}
 use Rattle.ladr_mace4.specs.Watching.{time_to_stop}
@@ -25,7 +25,7 @@ loop-printed-init g c =
         [],
         (
           nothing_yet c.args.asked.now c.args.n c.args.k c.in-Ok.search (g.K.Sink.outflow c.args.sink.now) (ap (λ (s : Course). s.world) made) (ap (λ (s : Course). s.live) made) (ap (λ (s : Course). s.choices) made) (ap (λ (s : Course). s.late) made),
-          none_chosen c.in-Ok.search t (ap (λ (s : Course). s.choices) made),
+          none_gone c.in-Ok.search t (ap (λ (s : Course). s.live) made) (ap (λ (s : Course). s.choices) made),
         ),
       );
       stop = stop;
@@ -39,7 +39,7 @@ loop-printed-preserved g c =
     let facts = facts_of c.skolems_stand_behind.ensures c.axioms_are_in_order.ensures.order c.axioms_are_in_order.ensures.new c.solutions_are_models.ensures.says c.solutions_are_models.ensures.each c.isomorphisms_are_carried.ensures c.args.asked.now c.args.n c.requires.size c.is_proper.ensures.well_formed c.is_proper.ensures.few c.is_proper.ensures.few_witnesses in
     let us = c.loop-printed.invariant.so_far.0 in
     let so_far = c.loop-printed.invariant.so_far.1.0 in
-    let chosen = c.loop-printed.invariant.so_far.1.1 in
+    let gone = c.loop-printed.invariant.so_far.1.1 in
     let search = c.loop-printed.search in
     let further_on = c.next_model.new.self in
     let gives = c.in-Model.ensures.gives so_far.late in
@@ -54,7 +54,7 @@ loop-printed-preserved g c =
         _,
         (
           further c.args.asked.now c.args.n c.args.k us search further_on c.loop-printed.printed (c.loop-printed.printed + 1) _ _ _ facts so_far gives.0 gives.1 gives.2 same.0 gives.3 refl made,
-          chosen_more us _ search further_on _ t₀ t t' chosen so_far.lives gives.0 same.1 keeps,
+          gone_more us _ search further_on _ t₀ t t' gone so_far.lives gives.0 same.0 same.1 gives.2 keeps,
         ),
       );
       stop = same.1 ∙ c.loop-printed.invariant.stop;
@@ -68,76 +68,77 @@ returns-in-Err-show-clause-tells g c = λ r reads.
     let facts = facts_of c.skolems_stand_behind.ensures c.axioms_are_in_order.ensures.order c.axioms_are_in_order.ensures.new c.solutions_are_models.ensures.says c.solutions_are_models.ensures.each c.isomorphisms_are_carried.ensures c.args.asked.now c.args.n c.requires.size c.is_proper.ensures.well_formed c.is_proper.ensures.few c.is_proper.ensures.few_witnesses in
     let us = c.loop-printed.invariant.so_far.0 in
     let so_far = c.loop-printed.invariant.so_far.1.0 in
-    let chosen = c.loop-printed.invariant.so_far.1.1 in
+    let gone = c.loop-printed.invariant.so_far.1.1 in
     let search = c.loop-printed.search in
     let further_on = c.next_model.new.self in
     let gives = c.in-Model.ensures.gives so_far.late in
     let t₀ = g.C.Clock.times c.args.clock.now in
     let t = g.C.Clock.times c.loop-printed.clock in
     let t' = g.C.Clock.times c.next_model.new.clock in
-    let more = chosen_more us (tables_over (all_symbols c.args.asked.now) further_on.tables) search further_on _ t₀ t t' chosen so_far.lives gives.0 c.in-Model.ensures.same.1 (c.in-Model.ensures.clock so_far.late) in
-    let goes = subst (λ (x : Option ℕ). ReadsOn x more.many t₀ t') c.in-Model.ensures.same.1 more.goes in
-    let few = enough_read (us ++ tables_over (all_symbols c.args.asked.now) further_on.tables ∷ []) r more.many more.models in
+    let same = c.in-Model.ensures.same in
+    let more = gone_more us (tables_over (all_symbols c.args.asked.now) further_on.tables) search further_on _ t₀ t t' gone so_far.lives gives.0 same.0 same.1 gives.2 (c.in-Model.ensures.clock so_far.late) in
+    let goes = subst (λ (x : Option ℕ). ReadsOn x more.chosen t₀ t') same.1 more.goes in
     let stop : search.stop ≡ time_to_stop c.args.plan.seconds t₀ = subst (λ (s : Option ℕ). search.stop ≡ time_to_stop s t₀) c.requires.seconds c.loop-printed.invariant.stop in
     let watched = watched_on c.args.watch search.stop _ t₀ t' c.requires.looked c.loop-printed.invariant.stop c.requires.watched gives.4 goes in
-    at_model c.args.asked.now c.args.plan t' c.args.n c.args.k r us search further_on.tables further_on.choices c.loop-printed.printed _ _ _ c.in-Err-show.cut facts c.requires.begun c.requires.room c.loop-printed-test.true so_far gives.0 gives.1
-    (in_time c.args.watch c.args.plan.seconds t' c.requires.seconds watched.0) (read_on c.args.plan.seconds search.stop t₀ t₀ t' (r + 1) _ _ few stop reads goes) c.in-Err-show.ensures
+    at_model c.args.asked.now c.args.plan t' c.args.n c.args.k r us search further_on.tables further_on.choices c.loop-printed.printed _ _ _ c.in-Err-show.cut facts c.requires.begun c.requires.room c.loop-printed-test.true so_far gives.0 gives.1 further_on same.0 t₀ more
+    (in_time c.args.watch c.args.plan.seconds t' c.requires.seconds watched.0) (read_on c.args.plan.seconds search.stop t₀ t₀ t' (r + 1) more.chosen (r + suc more.chosen) (omega arith) stop reads goes) c.in-Err-show.ensures
 
 pub returns-in-Exhausted-clause-tells : goal.returns-in-Exhausted-clause-tells
 returns-in-Exhausted-clause-tells g c = λ r reads.
     let facts = facts_of c.skolems_stand_behind.ensures c.axioms_are_in_order.ensures.order c.axioms_are_in_order.ensures.new c.solutions_are_models.ensures.says c.solutions_are_models.ensures.each c.isomorphisms_are_carried.ensures c.args.asked.now c.args.n c.requires.size c.is_proper.ensures.well_formed c.is_proper.ensures.few c.is_proper.ensures.few_witnesses in
     let us = c.loop-printed.invariant.so_far.0 in
     let so_far = c.loop-printed.invariant.so_far.1.0 in
-    let chosen = c.loop-printed.invariant.so_far.1.1 in
+    let gone = c.loop-printed.invariant.so_far.1.1 in
     let search = c.loop-printed.search in
     let gives = c.in-Exhausted.ensures.gives so_far.late in
     let t₀ = g.C.Clock.times c.args.clock.now in
     let t = g.C.Clock.times c.loop-printed.clock in
     let t' = g.C.Clock.times c.next_model.new.clock in
-    let goes = chosen_still us search _ t₀ t t' chosen (c.in-Exhausted.ensures.clock so_far.late) in
+    let over = gone_over us search c.next_model.new.self.choices t₀ t t' gone (c.in-Exhausted.ensures.clock so_far.late) gives.2 in
     let stop : search.stop ≡ time_to_stop c.args.plan.seconds t₀ = subst (λ (s : Option ℕ). search.stop ≡ time_to_stop s t₀) c.requires.seconds c.loop-printed.invariant.stop in
-    let watched = watched_on c.args.watch search.stop _ t₀ t' c.requires.looked c.loop-printed.invariant.stop c.requires.watched gives.4 goes in
-    at_end c.args.asked.now c.args.plan t' c.args.n c.args.k r us search c.loop-printed.printed _ _ _ c.exhausted.result facts c.requires.begun c.requires.room c.loop-printed-test.true so_far gives.0
-    (in_time c.args.watch c.args.plan.seconds t' c.requires.seconds watched.0) (read_on c.args.plan.seconds search.stop t₀ t₀ t' (r + 1) _ _ (enough_read us r chosen.many chosen.models) stop reads goes) c.exhausted.ensures.piece c.exhausted.ensures.step
+    let watched = watched_on c.args.watch search.stop _ t₀ t' c.requires.looked c.loop-printed.invariant.stop c.requires.watched gives.4 over.3 in
+    at_end c.args.asked.now c.args.plan t' c.args.n c.args.k r us search c.loop-printed.printed _ _ _ c.exhausted.result facts c.requires.begun c.requires.room c.loop-printed-test.true so_far gives.0 over.0 over.1 over.2
+    (in_time c.args.watch c.args.plan.seconds t' c.requires.seconds watched.0) (read_on c.args.plan.seconds search.stop t₀ t₀ t' (r + 1) over.0 (r + suc over.0) (omega arith) stop reads over.3) c.exhausted.ensures.piece c.exhausted.ensures.step
 
 pub returns-in-Exhausted-clause-watched : goal.returns-in-Exhausted-clause-watched
 returns-in-Exhausted-clause-watched g c = λ j e.
     let us = c.loop-printed.invariant.so_far.0 in
     let so_far = c.loop-printed.invariant.so_far.1.0 in
-    let chosen = c.loop-printed.invariant.so_far.1.1 in
+    let gone = c.loop-printed.invariant.so_far.1.1 in
     let search = c.loop-printed.search in
     let gives = c.in-Exhausted.ensures.gives so_far.late in
     let t₀ = g.C.Clock.times c.args.clock.now in
     let t = g.C.Clock.times c.loop-printed.clock in
     let t' = g.C.Clock.times c.next_model.new.clock in
-    let goes = chosen_still us search _ t₀ t t' chosen (c.in-Exhausted.ensures.clock so_far.late) in
-    (watched_on c.args.watch search.stop _ t₀ t' c.requires.looked c.loop-printed.invariant.stop c.requires.watched gives.4 goes).0
+    let over = gone_over us search c.next_model.new.self.choices t₀ t t' gone (c.in-Exhausted.ensures.clock so_far.late) gives.2 in
+    (watched_on c.args.watch search.stop _ t₀ t' c.requires.looked c.loop-printed.invariant.stop c.requires.watched gives.4 over.3).0
 
 pub returns-in-MaxSeconds-clause-tells : goal.returns-in-MaxSeconds-clause-tells
 returns-in-MaxSeconds-clause-tells g c = λ r reads.
     let us = c.loop-printed.invariant.so_far.0 in
     let so_far = c.loop-printed.invariant.so_far.1.0 in
-    let chosen = c.loop-printed.invariant.so_far.1.1 in
+    let gone = c.loop-printed.invariant.so_far.1.1 in
     let search = c.loop-printed.search in
     let gives = c.in-MaxSeconds.ensures.gives so_far.late in
     let t₀ = g.C.Clock.times c.args.clock.now in
     let t = g.C.Clock.times c.loop-printed.clock in
     let t' = g.C.Clock.times c.next_model.new.clock in
-    let goes = chosen_still us search _ t₀ t t' chosen (c.in-MaxSeconds.ensures.clock so_far.late) in
+    let choices = c.next_model.new.self.choices in
+    let over = gone_late us search choices c.in-MaxSeconds.last t₀ t t' gone (c.in-MaxSeconds.ensures.clock so_far.late) in
     let stop : search.stop ≡ time_to_stop c.args.plan.seconds t₀ = subst (λ (s : Option ℕ). search.stop ≡ time_to_stop s t₀) c.requires.seconds c.loop-printed.invariant.stop in
-    let late = late_on c.args.watch c.args.plan.seconds search.stop _ t₀ t' c.in-MaxSeconds.last c.requires.seconds c.requires.looked c.loop-printed.invariant.stop goes gives.3 in
-    at_late c.args.asked.now c.args.plan t' c.args.n c.args.k r us search c.loop-printed.printed _ _ _ _ c.requires.begun c.requires.room c.loop-printed-test.true so_far late.0 (c.unwrap_or-first.ensures ∙ late.1)
-    (read_on c.args.plan.seconds search.stop t₀ t₀ t' (r + 1) _ _ (enough_read us r chosen.many chosen.models) stop reads goes)
+    let late = late_on c.args.watch c.args.plan.seconds search.stop _ t₀ t' c.in-MaxSeconds.last c.requires.seconds c.requires.looked c.loop-printed.invariant.stop over.3 gives.3 in
+    at_late c.args.asked.now c.args.plan t' c.args.n c.args.k r us search c.loop-printed.printed _ _ _ _ c.requires.begun c.requires.room c.loop-printed-test.true so_far over.0 choices over.1 over.2 late.0 (c.unwrap_or-first.ensures ∙ late.1)
+    (read_on c.args.plan.seconds search.stop t₀ t₀ t' (r + 1) (suc over.0) (r + suc (suc over.0)) (omega arith) stop reads over.3)
 
 pub returns-clause-tells : goal.returns-clause-tells
 returns-clause-tells g c = λ r reads.
     let us = c.loop-printed.invariant.so_far.0 in
     let so_far = c.loop-printed.invariant.so_far.1.0 in
-    let chosen = c.loop-printed.invariant.so_far.1.1 in
+    let gone = c.loop-printed.invariant.so_far.1.1 in
     let search = c.loop-printed.search in
     let t₀ = g.C.Clock.times c.args.clock.now in
     let t = g.C.Clock.times c.loop-printed.clock in
     let stop : search.stop ≡ time_to_stop c.args.plan.seconds t₀ = subst (λ (s : Option ℕ). search.stop ≡ time_to_stop s t₀) c.requires.seconds c.loop-printed.invariant.stop in
-    let watched = watched_on c.args.watch search.stop _ t₀ t c.requires.looked c.loop-printed.invariant.stop c.requires.watched c.loop-printed.invariant.early chosen.goes in
-    at_last c.args.asked.now c.args.plan t c.args.n c.args.k r us search c.loop-printed.printed _ _ c.requires.begun c.requires.room (omega (arith, c.loop-printed.invariant.fewer, c.loop-printed-test.false)) so_far
-    (in_time c.args.watch c.args.plan.seconds t c.requires.seconds watched.0) (read_on c.args.plan.seconds search.stop t₀ t₀ t (r + 1) _ _ (enough_read us r chosen.many chosen.models) stop reads chosen.goes)
+    let watched = watched_on c.args.watch search.stop _ t₀ t c.requires.looked c.loop-printed.invariant.stop c.requires.watched c.loop-printed.invariant.early gone.goes in
+    at_last c.args.asked.now c.args.plan t c.args.n c.args.k r us search c.loop-printed.printed _ _ c.requires.begun c.requires.room (omega (arith, c.loop-printed.invariant.fewer, c.loop-printed-test.false)) so_far t₀ gone
+    (in_time c.args.watch c.args.plan.seconds t c.requires.seconds watched.0) (read_on c.args.plan.seconds search.stop t₀ t₀ t (r + 1) gone.chosen (r + suc gone.chosen) (omega arith) stop reads gone.goes)

@@ -3,7 +3,7 @@ use Rattle.fol_core.specs.Occurs.{size_needed}
 use Rattle.ladr_mace4.proofs.Begun.{at_skipped, at_line, at_beginning, behind_line}
 use Rattle.ladr_mace4.proofs.Clocks.{in_time, looked_on}
 use Rattle.ladr_mace4.specs.Rooms.{IsBegun}
-use Rattle.ladr_mace4.specs.Watching.{IsInTime, HasReadAtLeast}
+use Rattle.ladr_mace4.specs.Watching.{IsInTime, HasRead}
 use Rattle.model_tables.specs.Size.{formulas_of}
 use Rattle.ladr_mace4.proofs.one_size.one_size.Goals as goal
 
@@ -28,4 +28,4 @@ returns-in-Err-clause-tells g c = λ r reads.
     let t = g.C.Clock.times c.args.clock.now in
     let t' = g.C.Clock.times c.begin.new.clock in
     let early : IsInTime c.args.plan.seconds t' = subst (λ x. IsInTime c.args.plan.seconds x) (sym c.in-Err.ensures.unread) (in_time c.args.watch.now c.args.plan.seconds t c.requires.seconds c.requires.watched) in
-    at_line c.args.asked.now c.args.plan t' c.args.n c.args.k r _ _ c.in-Err.cut begun c.requires.fewer early (subst (λ x. HasReadAtLeast c.args.plan.seconds r x) (sym c.in-Err.ensures.unread) reads) c.in-Err.ensures.line
+    at_line c.args.asked.now c.args.plan t' c.args.n c.args.k r _ _ c.in-Err.cut begun c.requires.fewer early (subst (λ x. HasRead c.args.plan.seconds r x) (sym c.in-Err.ensures.unread) reads) c.in-Err.ensures.line

@@ -1,9 +1,9 @@
-use Rattle.std.proofs.Common.{◌-◌, length, ap, ◌∙◌, subst}
+use Rattle.std.proofs.Common.{ap, ◌∙◌, subst}
 use Rattle.cell_search.specs.Courses.{Course, AnswersByCells, live_in, late_in}
 use Rattle.mace_cells.specs.Leaves.{choices_of}
-use Rattle.mace_cells.specs.Readings.{ReadsOn}
+use Rattle.mace_cells.specs.Readings.{GoesInTime}
 use Rattle.cell_search.specs.Finites.{finite_of}
-use Rattle.cell_search.proofs.Givings.{gives_by, reads_by}
+use Rattle.cell_search.proofs.Givings.{gives_by, goes_by}
 use Rattle.cell_search.proofs.search.Search.go.Goals as goal
 
 pub returns-clause-gives : goal.returns-clause-gives
@@ -30,5 +30,5 @@ returns-clause-clock g c =
     let new = c.next_model-answer.new in
     let t = g.C.Clock.times c.args.clock.now in
     let t' = g.C.Clock.times new.clock in
-    subst (λ (s : Course). ReadsOn s.stop (length (choices_of new.board.world new.frames.list) - length s.choices) t t') c.self.view_is
-    (reads_by a.cells.world new.board.world a.frames.list new.frames.list a.stop t t' c.next_model-answer.ensures.goes)
+    subst (λ (s : Course). GoesInTime s.world s.stop s.live s.choices c.next_model-answer.result (choices_of new.board.world new.frames.list) t t') c.self.view_is
+    (goes_by a.cells.world new.board.world a.frames.list new.frames.list c.args.live (live_in a.state) a.stop t t' c.next_model-answer.result c.next_model-answer.ensures.world (ap (λ (s : Course). s.live) c.self.view_is ∙ c.requires.live) c.next_model-answer.ensures.goes)
