@@ -8,5 +8,5 @@ abbrev pub invariant-loop-value : goal.invariant-loop-value
 invariant-loop-value l = record {
   crossed : AreCrossedBut l.trail l.cell l.value l.only;
   within : IfSome l.only (λ v. v < l.end);
-  open : IfSome l.only (λ v. (v < l.value) × (is_struck_off (l.cell * l.trail.stride + v) l.trail.crossings ≡ false));
+  spare : IfSome l.only (λ v. (v < l.value) × (is_struck_off (l.cell * l.trail.stride + v) l.trail.crossings ≡ false));
 }
