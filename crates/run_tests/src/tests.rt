@@ -159,8 +159,8 @@ const BOTH_OF_TWO: &[u8] =
 
 const BEGUN: &[u8] = b"% Domain size 2.\n";
 
-// The clock is read as a size begins, and before each choice of a cell, two at size 2; a reading of 1,000 is late behind a first
-// one of 0. The last clock goes back.
+// The clock is read as a size begins, and before each choice of a cell, two at size 2; a reading of
+// 1,000 is late behind a first one of 0. The last clock goes back.
 #[test]
 fn clocks_are_heeded(rt: HostRuntime) -> Result<(), Fail> {
     for (command, readings, status, front, rest) in [
