@@ -1,5 +1,5 @@
 -- The clock of a search, from one reading to the next.
-use Rattle.std.proofs.Common.{◌≡◌, ℕ, ◌+◌, ◌*◌, ◌<◌, ◌≤◌, Option, None, Some, unwrap_or, sym, subst, ap, ◌∙◌, arith}
+use Rattle.std.proofs.Common.{◌≡◌, ℕ, ◌+◌, ◌*◌, ◌<◌, Option, None, Some, unwrap_or, sym, subst, ap, ◌∙◌, arith}
 use Rattle.ladr_io.specs.Times.{Times, later}
 use Rattle.ladr_mace4.specs.Watching.{time_to_stop, IsInTime, HasRead, IsLookedAt, IsWatchedBy, IsWatched, HasBegunBy, HasBegun}
 use Rattle.ladr_mace4.specs.declared.watch.Watch.{Watch}

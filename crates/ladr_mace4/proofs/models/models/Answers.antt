@@ -1,4 +1,4 @@
-use Rattle.std.proofs.Common.{◌≡◌, ℕ, suc, ◌+◌, [], ◌∷◌, ◌++◌, Option, Err, refl, sym, subst, ap, ◌∙◌, arith}
+use Rattle.std.proofs.Common.{◌≡◌, ℕ, suc, ◌+◌, [], Option, refl, sym, subst, ap, ◌∙◌, arith}
 use Rattle.cell_search.specs.Courses.{Course}
 use Rattle.cell_search.specs.Finites.{tables_over}
 use Rattle.ladr_io.proofs.StreamLaws.{Takes-none}
