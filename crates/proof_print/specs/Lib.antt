@@ -1,0 +1,5 @@
+pub mod LineTexts
+pub mod Names
+pub mod Reread
+pub mod Rereadable
+pub mod Worked
