@@ -1,6 +1,7 @@
 pub mod ClauseReading
 pub mod ClauseShapes
 pub mod ContentShown
+pub mod FormulaShown
 pub mod Joined
 pub mod LinesBack
 pub mod Numbered

@@ -1,3 +1,4 @@
+pub mod Formulas
 pub mod LineTexts
 pub mod Names
 pub mod Reread

@@ -1,15 +1,23 @@
 // What the texts are read as: the functions do nothing, and their contracts are the laws.
-ghost use Rattle.std.specs.Prelude.{◌≡◌, ℕ, Bool, true, false, IsTrue, List, [], ◌∷◌, ◌++◌, codes};
+ghost use Rattle.std.specs.Prelude.{◌≡◌, ℕ, Bool, true, false, IsTrue, List, Option, [], ◌∷◌, ◌++◌, codes};
+ghost use Rattle.std.specs.Option.{option_map};
 ghost use Rattle.derivation.specs.declared.line.Content.{Content};
+ghost use Rattle.derivation.specs.declared.line.Content.TheVariants as content;
 ghost use Rattle.derivation.specs.declared.line.Line.{Line};
+ghost use Rattle.fol_core.specs.FormulaView.{fol_of};
 ghost use Rattle.fol_core.specs.Literals.{literal, equality};
+ghost use Rattle.fol_core.specs.RawView.{raw_of};
 ghost use Rattle.fol_core.specs.SymbolTable.{Symbol};
+ghost use Rattle.fol_core.specs.declared.formula.Formula.{Formula};
+ghost use Rattle.fol_core.specs.declared.raw.Raw.{Raw};
 ghost use Rattle.fol_core.specs.Tree.{var, app, none, more};
 ghost use Rattle.ladr_formulas.specs.Formulas.{style_of};
 ghost use Rattle.ladr_formulas.specs.declared.styles.Mode.TheVariants.{Prover};
 ghost use Rattle.ladr_lex.specs.Operators.{OperatorRow, are_lawful};
 ghost use Rattle.ladr_print.specs.HasText.{CanNameSymbols};
+ghost use Rattle.ladr_print.specs.StatesAs.{KeepsFixed};
 ghost use Rattle.ladr_reader.specs.Table.{table_of};
+ghost use Rattle.proof_print.specs.Formulas.{IsReadFormula};
 ghost use Rattle.proof_print.specs.LineTexts.{frame_text, head_text};
 ghost use Rattle.proof_print.specs.Names.{AreOfClauses, IsSkolemSymbol, AreSkolemSymbols};
 ghost use Rattle.proof_print.specs.Rereadable.{ReadsAsItself};
@@ -22,6 +30,15 @@ ghost use Rattle.words_print.specs.WordTokens.{words_tokens, words_text};
 /// The text of words is cut into their tokens.
 pub fn words_are_cut()
     ensures { (w : Written) → IsSayable w → (i : ℕ) → IsCutInto i (words_text w) (words_tokens w) }
+{}
+
+/// A formula that some text states, as each of a problem, can be a line's content.
+pub fn formulas_are_printable()
+    ensures { (formulas clauses : List OperatorRow) (prolog : Bool) (problem table : List Symbol)
+        (f : Formula) (label : Option Raw) → KeepsFixed formulas
+        → IsReadFormula formulas prolog table (fol_of f.shape) f.names (option_map raw_of label)
+        → IsPrintableContent (row_tables formulas clauses) prolog problem table
+        (content.Formula f label) }
 {}
 
 /// The text of a line's formula or clause is read as this, behind the table of its symbols, whatever text made them known.
@@ -59,5 +76,6 @@ pub fn worked_texts()
     ensures none { clause_text [] ≡ codes "$F" }
     ensures frame { frame_text (codes "p(a).\n") ≡ codes "% Input 6\np(a).\n\n" }
     ensures head { head_text (record { proof = 1; length = 7; level = 2; weight = 4; given = 3 })
-        ≡ codes "% Proof 1.\n% Length of proof is 7.\n% Level of proof is 2.\n% Maximum clause weight is 4.\n% Given clauses 3.\n" }
+        ≡ codes "% Proof 1.\n% Length of proof is 7.\n% Level of proof is 2.\n"
+        ++ codes "% Maximum clause weight is 4.\n% Given clauses 3.\n" }
 {}
