@@ -8,23 +8,23 @@ use Rattle.derivation.specs.View.{lines_of}
 use Rattle.derivation.specs.declared.line.Derivation.{Derivation}
 use Rattle.fol_core.specs.Stated.{Said}
 use Rattle.ladr_check.specs.Offered.{Offered, proofs_in}
-use Rattle.ladr_check.specs.Outcomes.{AreRefutations, IsNotAccepted, ProofsEnd, end_of_all, input_rows, ComesOut}
+use Rattle.ladr_check.specs.Outcomes.{AreRefutations, IsNotAccepted, ProofsEnd, end_of_all, input_rows, HasNewSkolems, ComesOut}
 use Rattle.ladr_check.specs.declared.ends.CheckEnd.{CheckEnd}
 use Rattle.ladr_check.specs.declared.ends.CheckOver.{CheckOver}
 use Rattle.ladr_check.specs.declared.ends.CheckEnd.TheVariants.{Accepted, NotAccepted, ClauseLimit}
 
-pub comes_out : (x : Offered) (end : CheckEnd) (accepted : ℕ) → first_over 1 x.stated.formulas ≡ None → ProofsEnd x.stated.formulas (input_rows x) x.proofs end accepted → ComesOut x end accepted
-comes_out x (Accepted n) accepted none h = (none, h)
-comes_out x (NotAccepted line row) accepted none h = (none, h)
-comes_out x (ClauseLimit formula) accepted none h = absurd h
+pub comes_out : (x : Offered) (end : CheckEnd) (accepted : ℕ) → first_over 1 x.stated.formulas ≡ None → HasNewSkolems x → ProofsEnd x.stated.formulas (input_rows x) x.proofs end accepted → ComesOut x end accepted
+comes_out x (Accepted n) accepted none new h = (none, new, h)
+comes_out x (NotAccepted line row) accepted none new h = (none, new, h)
+comes_out x (ClauseLimit formula) accepted none new h = absurd h
 
-pub comes_by : {E : Type 0} (x : Offered) (rows : List InputRow) (ps : List (List LineTree)) (r : Result CheckOver E) → first_over 1 x.stated.formulas ≡ None → rows ≡ input_rows x → ps ≡ x.proofs
+pub comes_by : {E : Type 0} (x : Offered) (rows : List InputRow) (ps : List (List LineTree)) (r : Result CheckOver E) → first_over 1 x.stated.formulas ≡ None → HasNewSkolems x → rows ≡ input_rows x → ps ≡ x.proofs
     → IfOk r (λ over. ProofsEnd x.stated.formulas rows ps over.end over.accepted) → IfOk r (λ over. ComesOut x over.end over.accepted)
-comes_by x rows ps (Ok over) none same all h =
-    comes_out x over.end over.accepted none
+comes_by x rows ps (Ok over) none new same all h =
+    comes_out x over.end over.accepted none new
     (subst (λ (qs : List (List LineTree)). ProofsEnd x.stated.formulas (input_rows x) qs over.end over.accepted) all
     (subst (λ (rs : List InputRow). ProofsEnd x.stated.formulas rs ps over.end over.accepted) same h))
-comes_by x rows ps (Err e) none same all h = tt
+comes_by x rows ps (Err e) none new same all h = tt
 
 module _ (ss : List Said) (rows : List InputRow) where
   -- one more refutation

@@ -2,7 +2,10 @@ mod Judgings
 mod LinesKept
 mod Nameless
 mod Offering
+mod OneFrame
+mod OneOffer
 mod OneOutcome
+mod OneReading
 mod Refusing
 mod Showing
 mod Sound

@@ -105,7 +105,7 @@ line_goes g st problem table after ts r h = record { kept = kept; no_relation = 
     kept = subst (λ (s : List Symbol). KeepsNumbers table s) (sym h.symbols) (line_keeps st table by_formula h.parts.content)
 
     strays : brings_stray problem (length table) after ≡ false
-    strays = ap (brings_stray problem (length table)) h.symbols ∙ no_stray st problem table by_formula h.parts.content h.sound
+    strays = ap (brings_stray problem (length table)) h.symbols ∙ no_stray st problem table by_formula h.parts.content h.unmisused
 
     relations : HasNoSkolemRelation problem table → HasNoSkolemRelation problem after
     relations none r letter n few kind skolem is =

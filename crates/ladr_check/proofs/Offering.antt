@@ -27,7 +27,7 @@ use Rattle.proof_text.specs.Refused.{reader_of, IsProofRead, IsProofError}
 use Rattle.proof_text.specs.declared.text.ProofRead.{ProofRead}
 
 -- the proofs by their lines, of both forms
-proofs_lines : (ds : List Derivation) → map lines_of (map (λ d. d.lines.items) ds) ≡ proofs_in ds
+pub proofs_lines : (ds : List Derivation) → map lines_of (map (λ d. d.lines.items) ds) ≡ proofs_in ds
 proofs_lines [] = refl
 proofs_lines (d ∷ ds) = ap (λ ps. lines_of d.lines.items ∷ ps) (proofs_lines ds)
 

@@ -45,12 +45,12 @@ module _ (ss : List Said) (rows : List InputRow) where
 
 pub ends_once : FaultIsNone → FaultIsOne → EndIsOne
 ends_once none one x (Accepted n) (Accepted m) j k h i =
-    let same : n ≡ m = h.1.2 ∙ sym i.1.2 in
-    (ap Accepted same, h.1.3 ∙ same ∙ sym i.1.3)
-ends_once none one x (Accepted n) (NotAccepted line row) j k h i = absurd (not_both x.stated.formulas (input_rows x) none one x.proofs n k line row h.1.0 h.1.1 h.1.2 i.1)
-ends_once none one x (NotAccepted line row) (Accepted n) j k h i = absurd (not_both x.stated.formulas (input_rows x) none one x.proofs n j line row i.1.0 i.1.1 i.1.2 h.1)
+    let same : n ≡ m = h.2.2 ∙ sym i.2.2 in
+    (ap Accepted same, h.2.3 ∙ same ∙ sym i.2.3)
+ends_once none one x (Accepted n) (NotAccepted line row) j k h i = absurd (not_both x.stated.formulas (input_rows x) none one x.proofs n k line row h.2.0 h.2.1 h.2.2 i.2)
+ends_once none one x (NotAccepted line row) (Accepted n) j k h i = absurd (not_both x.stated.formulas (input_rows x) none one x.proofs n j line row i.2.0 i.2.1 i.2.2 h.2)
 ends_once none one x (NotAccepted line row) (NotAccepted line' row') j k h i =
-    let same = refused_once x.stated.formulas (input_rows x) none one x.proofs j k line row line' row' h.1 i.1 in
+    let same = refused_once x.stated.formulas (input_rows x) none one x.proofs j k line row line' row' h.2 i.2 in
     (ap₂ NotAccepted same.1 same.2, same.0)
 ends_once none one x (ClauseLimit n) (ClauseLimit m) j k h i = (let same : n ≡ m = (let e : Some n ≡ Some m = sym h.0 ∙ i.0 in cc) in ap ClauseLimit same, h.1 ∙ sym i.1)
 ends_once none one x (ClauseLimit n) (Accepted m) j k h i = absurd (let e : Some n ≡ None = sym h.0 ∙ i.0 in cc)

@@ -13,7 +13,7 @@ use Rattle.ladr_output.specs.Standing.{Stands}
 use Rattle.ladr_output.specs.Telling.{as_line}
 
 -- where two lines stand in one place, they are the same
-same_line : (l m r s : List ℕ) → is_unbroken l ≡ true → is_unbroken m ≡ true → l ++ 10 ∷ r ≡ m ++ 10 ∷ s → l ≡ m
+pub same_line : (l m r s : List ℕ) → is_unbroken l ≡ true → is_unbroken m ≡ true → l ++ 10 ∷ r ≡ m ++ 10 ∷ s → l ≡ m
 same_line [] [] r s u v e = refl
 same_line [] (y ∷ m) r s u v e =
     let first = (heads 10 y r (m ++ 10 ∷ s) e).0 in

@@ -1,9 +1,10 @@
 -- How the check of proofs comes out.
 use Rattle.std.specs.Prelude.{◌≡◌, ℕ, zero, suc, ◌<◌, List, [], ◌∷◌, ◌++◌, length, Some, None}
-use Rattle.clausify.specs.Input.{clauses_in_table, first_over}
+use Rattle.clausify.specs.Input.{clauses_in_table, axioms_in_table, first_over}
 use Rattle.derivation.specs.Lines.{InputRow, LineTree, IsRefutation}
 use Rattle.derivation.specs.Refused.{IsFault}
-use Rattle.fol_core.specs.Stated.{Said}
+use Rattle.fol_core.specs.SkolemAxioms.{SkolemAxiom, AreInOrder}
+use Rattle.fol_core.specs.Stated.{Said, AreNewTo}
 use Rattle.ladr_check.specs.Offered.{Offered}
 use Rattle.ladr_check.specs.declared.ends.CheckEnd.{CheckEnd}
 use Rattle.ladr_check.specs.declared.ends.CheckEnd.TheVariants.{Accepted, NotAccepted, ClauseLimit}
@@ -46,13 +47,21 @@ end_of_all (suc n) = Accepted (suc n)
 abbrev pub input_rows : Offered → List InputRow
 input_rows x = clauses_in_table x.symbols x.stated
 
+-- what their Skolem symbols are to pick
+abbrev pub input_axioms : Offered → List SkolemAxiom
+input_axioms x = axioms_in_table x.symbols x.stated
+
+-- The Skolem symbols are new: no formula has one, and the body of each has those before it alone.
+abbrev pub HasNewSkolems : Offered → Type 0
+HasNewSkolems x = AreNewTo x.stated.formulas (input_axioms x) × AreInOrder (input_axioms x)
+
 -- What is offered comes out so: the first formula that has too many clauses is named, and no proof
--- is looked at; or the proofs are.
+-- is looked at; or the proofs are, with Skolem symbols that are new.
 abbrev pub ComesOut : Offered → CheckEnd → ℕ → Type 0
 ComesOut x (ClauseLimit formula) accepted =
     (first_over 1 x.stated.formulas ≡ Some formula) × (accepted ≡ 0)
 ComesOut x end accepted =
-    (first_over 1 x.stated.formulas ≡ None)
+    (first_over 1 x.stated.formulas ≡ None) × HasNewSkolems x
     × ProofsEnd x.stated.formulas (input_rows x) x.proofs end accepted
 
 -- it comes out in one way

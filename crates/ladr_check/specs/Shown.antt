@@ -1,7 +1,6 @@
 -- What stands in the output of a check, to those who don't trust what made the proofs.
 use Rattle.std.specs.Prelude.{◌≡◌, ℕ, ◌-◌, ◌≤◌, ◌<◌, ◌^◌, List, length, slice_get, Some}
 use Rattle.std.specs.declared.result.Result.{Result}
-use Rattle.clausify.specs.Input.{axioms_in_table}
 use Rattle.derivation.specs.Lines.{LineTree, IsRefutation}
 use Rattle.fol_core.specs.Meaning.{Meaning, IsLawful}
 use Rattle.fol_core.specs.SkolemAxioms.{PicksWitnesses}
@@ -9,9 +8,10 @@ use Rattle.fol_core.specs.Stated.{IsCountermodel}
 use Rattle.ladr_check.specs.CheckReport.{accepted_line, all_accepted_line}
 use Rattle.ladr_check.specs.Checking.{Checks}
 use Rattle.ladr_check.specs.Offered.{Offered, offers, refuses_proofs}
-use Rattle.ladr_check.specs.Outcomes.{AreRefutations, input_rows}
+use Rattle.ladr_check.specs.Outcomes.{AreRefutations, input_rows, input_axioms, HasNewSkolems}
 use Rattle.ladr_check.specs.declared.ends.CheckEnd.{CheckEnd}
-use Rattle.ladr_intake.specs.Input.{AreTaken}
+use Rattle.ladr_intake.specs.Input.{AreTaken, IsAllRead}
+use Rattle.ladr_intake.specs.declared.stops.Refused.{Refused}
 use Rattle.ladr_intake.specs.declared.stops.Stop.{Stop}
 use Rattle.ladr_io.specs.Streams.{Inflow, Outflow, AreLastHeld}
 use Rattle.ladr_output.specs.Standing.{Stands}
@@ -20,7 +20,7 @@ use Rattle.ladr_output.specs.Standing.{Stands}
 -- true and each goal false.
 abbrev pub HasNoCountermodel : Offered → Type 0
 HasNoCountermodel x =
-    (m : Meaning) → IsLawful m → PicksWitnesses m (axioms_in_table x.symbols x.stated)
+    (m : Meaning) → IsLawful m → PicksWitnesses m (input_axioms x)
     → ¬ IsCountermodel m x.stated.formulas
 
 -- proof k of those that are offered, counted from 1, is a refutation of the problem
@@ -41,12 +41,25 @@ abbrev pub AreAllRefutations : Offered → ℕ → Type 0
 AreAllRefutations x n =
     (1 ≤ n) × (length x.proofs ≡ n) × AreRefutations x.stated.formulas (input_rows x) x.proofs
 
--- the bytes offer something of which this holds, and which has no countermodel
-abbrev pub OffersSound : (Offered → Type 0) → List ℕ → Type 0
-OffersSound IsSo bytes = (x : Offered) × offers bytes x × IsSo x × HasNoCountermodel x
+-- the bytes offer this and nothing else, and they aren't refused
+abbrev pub OffersAlone : List ℕ → Offered → Type 0
+OffersAlone bytes x =
+    offers bytes x × ((y : Offered) → offers bytes y → x ≡ y)
+    × ((why : Refused) → ¬ refuses_proofs bytes why)
 
--- Whatever became of the run: where the line of an accepted proof stands in what was written, that
--- proof of the input is a refutation; and where the line stands that all are accepted, each is.
+-- so it is of all bytes that offer something
+abbrev pub OffersAreAlone : Type 0
+OffersAreAlone = (bytes : List ℕ) (x : Offered) → offers bytes x → OffersAlone bytes x
+
+-- The bytes offer something of which this holds, and which has no countermodel; its Skolem symbols
+-- are new, so that they can pick witnesses in whatever interpretation of the rest.
+abbrev pub OffersSound : (Offered → Type 0) → List ℕ → Type 0
+OffersSound IsSo bytes =
+    (x : Offered) × OffersAlone bytes x × IsSo x × HasNewSkolems x × HasNoCountermodel x
+
+-- Whatever became of the run: where the line of an accepted proof stands in what was written, all of
+-- the input was read, and that proof of it is a refutation; and where the line stands that all are
+-- accepted, each is.
 pub record ShowsProofs (from from' : Inflow) (to to' : Outflow) : Type 0 where
   pub bytes : List ℕ
   pub taken : AreTaken from from' bytes
@@ -54,10 +67,10 @@ pub record ShowsProofs (from from' : Inflow) (to to' : Outflow) : Type 0 where
   pub wrote : AreLastHeld to.held to'.held written
   pub accepted :
       (k : ℕ) → k < 2 ^ 64 → Stands (accepted_line k) written
-      → OffersSound (λ x. IsRefutationAt x k) bytes
+      → IsAllRead from from' bytes × OffersSound (λ x. IsRefutationAt x k) bytes
   pub all_accepted :
       (n : ℕ) → n < 2 ^ 64 → Stands (all_accepted_line n) written
-      → OffersSound (λ x. AreAllRefutations x n) bytes
+      → IsAllRead from from' bytes × OffersSound (λ x. AreAllRefutations x n) bytes
 
 -- so it is of every run of the command
 abbrev pub ChecksShow : Type 0

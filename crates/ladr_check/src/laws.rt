@@ -2,13 +2,14 @@
 ghost use Rattle.std.specs.Prelude.{◌≡◌, codes};
 ghost use Rattle.ladr_check.specs.CheckReport.{check_report};
 ghost use Rattle.ladr_check.specs.Outcomes.{EndIsOne};
-ghost use Rattle.ladr_check.specs.Shown.{OneRefutationSuffices, ChecksShow};
+ghost use Rattle.ladr_check.specs.Shown.{OneRefutationSuffices, OffersAreAlone, ChecksShow};
 ghost use Rattle.ladr_check.specs.declared.ends.CheckEnd.TheVariants.{Accepted, NotAccepted, ClauseLimit};
 
 use derivation::{fault_is_one, lines_without_elements};
 use ladr_formulas::prover_names_no_element;
-use ladr_problem::problems_are_proper;
+use ladr_problem::{one_outcome, problems_are_proper};
 use proof_check::no_countermodel;
+use proof_lines::{bad_tokens_are_bad, one_line};
 
 /// What is offered comes out in one way.
 pub fn one_end()
@@ -28,12 +29,24 @@ pub fn one_refutation_suffices()
     prover_names_no_element();
 }
 
+/// Bytes that offer something offer nothing else, and they aren't refused.
+pub fn offers_are_alone()
+    ensures { OffersAreAlone }
+{
+    one_outcome();
+    one_line();
+    bad_tokens_are_bad();
+}
+
 /// Where the line of an accepted proof stands in the output of a run, that proof is a refutation; where the line stands that all
-/// are accepted, each of them is. So it is whatever became of the run.
+/// are accepted, each of them is. So it is whatever became of the run; and what is offered comes out in one way.
 pub fn checks_show()
-    ensures { ChecksShow }
+    ensures show { ChecksShow }
+    ensures once { EndIsOne }
 {
     one_refutation_suffices();
+    offers_are_alone();
+    one_end();
 }
 
 /// Reports on two proofs that are accepted, on a second one that isn't, and on a formula with too many clauses.

@@ -1,3 +1,4 @@
+pub mod Begun
 pub mod Gathered
 pub mod LineLemmas
 pub mod LinesRead

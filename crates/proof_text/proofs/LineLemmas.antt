@@ -27,22 +27,6 @@ first_by b bs false e more = λ h.
     let left : drop (prefix_len is_in_line (b ∷ bs) + 1) (b ∷ bs) ≡ drop (n + 1) bs = ap (λ (i : ℕ). drop i (b ∷ bs)) m in
     whole ∙ ap (in_front b) (more l) ∙ sym (ap₂ (λ us vs. us ∷ lines_in vs) cut left)
 
-abbrev IsFirstCut : List ℕ → Type 0
-IsFirstCut bs =
-    prefix_len is_in_line bs < length bs → lines_in bs ≡ take (prefix_len is_in_line bs + 1) bs ∷ lines_in (drop (prefix_len is_in_line bs + 1) bs)
-
-first_by : (b : ℕ) (bs : List ℕ) (e : Bool) → ends_line b ≡ e → IsFirstCut bs → IsFirstCut (b ∷ bs)
-first_by b bs true e whole = λ h. (rw e refl)
-first_by b bs false e more = λ h.
-    let n : ℕ = prefix_len is_in_line bs in
-    let k : prefix_len is_in_line (b ∷ bs) ≡ 1 + n = rw e refl in
-    let m : prefix_len is_in_line (b ∷ bs) + 1 ≡ suc (n + 1) = omega (arith, k) in
-    let l : n < length bs = omega (arith, h, k) in
-    let whole : lines_in (b ∷ bs) ≡ in_front b (lines_in bs) = rw e refl in
-    let cut : take (prefix_len is_in_line (b ∷ bs) + 1) (b ∷ bs) ≡ b ∷ take (n + 1) bs = ap (λ (i : ℕ). take i (b ∷ bs)) m in
-    let left : drop (prefix_len is_in_line (b ∷ bs) + 1) (b ∷ bs) ≡ drop (n + 1) bs = ap (λ (i : ℕ). drop i (b ∷ bs)) m in
-    whole ∙ ap (in_front b) (more l) ∙ sym (ap₂ (λ us vs. us ∷ lines_in vs) cut left)
-
 -- a first line with its end
 pub first_cut : (bs : List ℕ) → prefix_len is_in_line bs < length bs →
     lines_in bs ≡ take (prefix_len is_in_line bs + 1) bs ∷ lines_in (drop (prefix_len is_in_line bs + 1) bs)

@@ -1,13 +1,13 @@
 -- Lines read one behind the other.
-use Rattle.std.proofs.Common.{◌≡◌, ◌∙◌, ◌⊎◌, inl, inr, ℕ, zero, suc, ◌+◌, ◌-◌, ◌<◌, ◌≤◌, Bool, true, false, not, List, [], ◌∷◌, ◌++◌, length, map, take, drop, get_or, refl, ap, sym, subst, arith}
+use Rattle.std.proofs.Common.{◌≡◌, ◌∙◌, inl, inr, ℕ, zero, suc, ◌+◌, ◌-◌, ◌<◌, ◌≤◌, Bool, true, false, not, List, [], ◌∷◌, ◌++◌, length, map, take, drop, get_or, refl, ap, sym, subst, arith}
 use Rattle.std.proofs.lemmas.List.{drop-drop, length-append, length-drop, length-map, map-append, take_more, take_all, take-append-drop, drop_more, drop_all}
 use Rattle.std.proofs.lemmas.Bool.{false≢true}
-use Rattle.std.specs.List.{concat, list_all}
+use Rattle.std.specs.List.{concat}
 use Rattle.std.specs.Prelude.{if◌then◌else◌, codes}
 use Rattle.fol_core.specs.SymbolTable.{Symbol, KeepsNumbers}
 use Rattle.derivation.specs.declared.line.Derivation.{Derivation}
 use Rattle.derivation.specs.declared.line.Line.{Line}
-use Rattle.ladr_lex.specs.Cuts.{Piece, piece_of, pieces_of, Cuts}
+use Rattle.ladr_lex.specs.Cuts.{Piece, pieces_of, Cuts}
 use Rattle.ladr_lex.specs.Comments.{begins_with}
 use Rattle.ladr_lex.specs.Lexeme.{Lexeme, lexeme_of, lexemes_of}
 use Rattle.ladr_lex.specs.declared.token.Token.{Token}
@@ -18,7 +18,7 @@ use Rattle.proof_lines.specs.declared.fault.LineFault.{LineFault}
 use Rattle.proof_lines.specs.declared.line.LineRead.{LineRead}
 use Rattle.proof_lines.proofs.Contents.{lexemes_long}
 use Rattle.proof_lines.proofs.PartLemmas.{rest_is}
-use Rattle.proof_text.specs.Blocks.{Block, block, bared, bare, blank, end_of}
+use Rattle.proof_text.specs.Blocks.{Block, block, bared, bare, blank}
 use Rattle.proof_text.specs.Found.{IsBlockRead, AreBlocksRead, none, further}
 use Rattle.proof_text.specs.declared.blocks.BlockRead.{BlockRead}
 use Rattle.proof_text.specs.declared.proofs.LineStop.{LineStop}

@@ -1,5 +1,5 @@
 -- Blocks as the code has them.
-use Rattle.std.specs.Prelude.{◌≡◌, ℕ, ◌+◌, Bool, true, false, List, [], ◌∷◌, ◌++◌, length, drop}
+use Rattle.std.specs.Prelude.{◌≡◌, ℕ, ◌+◌, true, false, List, [], ◌∷◌, ◌++◌, length, drop}
 use Rattle.std.specs.List.{list_any, concat}
 use Rattle.proof_text.specs.Blocks.{Block, block, HasBlocks, lines_in, is_end_banner, bare, end_of}
 use Rattle.proof_text.specs.declared.blocks.BlockRead.{BlockRead}

@@ -1,5 +1,5 @@
 -- How far the code has read.
-use Rattle.std.specs.Prelude.{◌≡◌, ◌⊎◌, ℕ, ◌<◌, List, [], length, drop, map, unwrap_or}
+use Rattle.std.specs.Prelude.{◌≡◌, ◌⊎◌, ◌<◌, List, length, drop, map}
 use Rattle.derivation.specs.declared.line.Derivation.{Derivation}
 use Rattle.derivation.specs.declared.line.Line.{Line}
 use Rattle.fol_core.specs.SymbolTable.{Symbol}

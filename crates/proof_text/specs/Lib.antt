@@ -1,3 +1,4 @@
+pub mod Begun
 pub mod Blocks
 pub mod Found
 pub mod Frame

@@ -1,5 +1,5 @@
 -- The proofs of a text: the lines of its blocks, read one behind the other.
-use Rattle.std.specs.Prelude.{◌≡◌, ℕ, Bool, List, [], ◌∷◌, drop, length}
+use Rattle.std.specs.Prelude.{List, [], ◌∷◌, drop}
 use Rattle.fol_core.specs.SymbolTable.{Symbol}
 use Rattle.derivation.specs.declared.line.Line.{Line}
 use Rattle.ladr_formulas.specs.declared.styles.Style.{Style}

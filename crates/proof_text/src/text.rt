@@ -1,7 +1,9 @@
 // The proofs of a text.
-ghost use Rattle.std.specs.Prelude.{◌≡◌, List, IfOk, IfErr};
+ghost use Rattle.std.specs.Prelude.{◌≡◌, List, IfOk, OnOk, IfErr};
 ghost use Rattle.std.specs.List.{list_all};
 ghost use Rattle.proof_text.specs.Blocks.{Block};
+ghost use Rattle.ladr_problem.specs.declared.read.FileRead.{FileRead};
+ghost use Rattle.proof_text.specs.Begun.{IsBegun};
 ghost use Rattle.proof_text.specs.Found.{AreBlocksRead};
 ghost use Rattle.proof_text.specs.Refused.{HasProblem, IsProofRead, IsProofError};
 
@@ -14,7 +16,7 @@ use fol_core::{Problem, Symbols};
 use ladr_formulas::Mode;
 use ladr_problem::{FileRead, ReadError, read_problem};
 use proof_lines::LineOperators;
-use std::alloc::Global;
+use std::alloc::{AllocError, Global};
 
 /// What a text of proofs says: its problem, the operators of its lines, the symbols of the problem and behind them those that
 /// lines alone bring, and the proofs.
@@ -42,29 +44,27 @@ pub fn read_proof(alloc: Global, bytes: &[u8]) -> Result<ProofRead, ReadError>
         Ok(frame) => frame,
         Err(byte) => return Err(refuse_byte(alloc, bytes, byte)),
     };
-    let file = match read_problem(alloc, Mode::Prover, &bytes[frame.start..frame.end]) {
-        Ok(file) => file,
-        Err(error) => return Err(error),
-    };
     let blocks = match find_blocks(alloc, bytes, frame.end + 1) {
         Ok(blocks) => blocks,
         Err(_) => return Err(ReadError::Memory),
     };
-    read_all(alloc, bytes, file, &blocks)
+    let file = match read_problem(alloc, Mode::Prover, &bytes[frame.start..frame.end]) {
+        Ok(file) => file,
+        Err(error) => return Err(error),
+    };
+    let mut read = match without_proofs(alloc, file) {
+        Ok(read) => read,
+        Err(_) => return Err(ReadError::Memory),
+    };
+    match read_all(alloc, bytes, &blocks, &mut read) {
+        Ok(()) => Ok(read),
+        Err(error) => Err(error),
+    }
 }
 
-// The proofs of a problem.
-fn read_all(
-    alloc: Global,
-    bytes: &[u8],
-    file: FileRead,
-    blocks: &[BlockRead],
-) -> Result<ProofRead, ReadError>
-    requires { (bs : List Block) × HasProblem bytes.now file bs × AreBlocksRead bs blocks.now }
-    ensures read { (bs : List Block) → HasProblem bytes.now file bs → AreBlocksRead bs blocks.now
-        → IfOk result (IsProofRead bytes.now) }
-    ensures refused { (bs : List Block) → HasProblem bytes.now file bs
-        → AreBlocksRead bs blocks.now → IfErr result (IsProofError bytes.now) }
+// What a text says whose problem is read, and no proof.
+fn without_proofs(alloc: Global, file: FileRead) -> Result<ProofRead, AllocError>
+    ensures { IfOk result (IsBegun file) }
 {
     let FileRead {
         problem,
@@ -72,25 +72,43 @@ fn read_all(
         ..
     } = file;
     let prolog = problem.options.prolog_style_variables;
-    let operators = match LineOperators::of(alloc, operators, prolog) {
-        Ok(operators) => operators,
-        Err(_) => return Err(ReadError::Memory),
-    };
-    let mut symbols = match problem.symbols.copy(alloc) {
-        Ok(symbols) => symbols,
-        Err(_) => return Err(ReadError::Memory),
-    };
-    let proofs = match read_blocks(alloc, &operators, &problem, &mut symbols, bytes, blocks) {
-        Ok(proofs) => proofs,
-        Err(error) => return Err(error),
-    };
-    if !are_closed(blocks) {
-        return Err(refuse_byte(alloc, bytes, bytes.len()));
-    }
+    let operators = LineOperators::of(alloc, operators, prolog)?;
+    let symbols = problem.symbols.copy(alloc)?;
     Ok(ProofRead {
         problem,
         operators,
         symbols,
-        proofs,
+        proofs: Vec::new(alloc),
     })
+}
+
+// Reads the proofs in blocks; none is read before.
+fn read_all(
+    alloc: Global,
+    bytes: &[u8],
+    blocks: &[BlockRead],
+    read: &mut ProofRead,
+) -> Result<(), ReadError>
+    requires { (bs : List Block) × AreBlocksRead bs blocks.now }
+    ensures read { (f : FileRead) (bs : List Block) → IsBegun f read.old → HasProblem bytes.now f bs
+        → AreBlocksRead bs blocks.now → OnOk result (IsProofRead bytes.now read.new) }
+    ensures refused { (f : FileRead) (bs : List Block) → IsBegun f read.old
+        → HasProblem bytes.now f bs → AreBlocksRead bs blocks.now
+        → IfErr result (IsProofError bytes.now) }
+{
+    match read_blocks(
+        alloc,
+        &read.operators,
+        &read.problem,
+        &mut read.symbols,
+        bytes,
+        blocks,
+    ) {
+        Ok(proofs) => read.proofs = proofs,
+        Err(error) => return Err(error),
+    }
+    if !are_closed(blocks) {
+        return Err(refuse_byte(alloc, bytes, bytes.len()));
+    }
+    Ok(())
 }

@@ -1,7 +1,14 @@
-use Rattle.std.proofs.Common.{ap}
+use Rattle.std.proofs.Common.{List, ap, subst}
+use Rattle.fol_core.specs.SkolemAxioms.{SkolemAxiom, AreInOrder}
+use Rattle.fol_core.specs.Stated.{stated_of, AreNewTo}
 use Rattle.ladr_check.proofs.Judgings.{comes_by}
 use Rattle.ladr_check.specs.Offered.{proofs_in, offered_by}
+use Rattle.ladr_check.specs.Outcomes.{HasNewSkolems}
 use Rattle.ladr_check.proofs.judging.judge_proofs.Goals as goal
 
 pub returns-in-Ok : goal.returns-in-Ok
-returns-in-Ok c = comes_by (offered_by c.args.read) _ _ c.check_proofs.result c.in-Ok.ensures.within c.in-Ok.ensures.clauses (ap proofs_in c.deref.ensures.value) c.check_proofs.ensures
+returns-in-Ok c =
+    let x = offered_by c.args.read in
+    let made = c.in-Ok.ensures in
+    let new : HasNewSkolems x = (subst (λ (ws : List SkolemAxiom). AreNewTo x.stated.formulas ws) made.skolem made.new, subst AreInOrder made.skolem made.order) in
+    comes_by x _ _ c.check_proofs.result made.within new made.clauses (ap proofs_in c.deref.ensures.value) c.check_proofs.ensures

@@ -18,7 +18,7 @@ pub returns-in-Err-Memory-clause-proofs : goal.returns-in-Err-Memory-clause-proo
 returns-in-Err-Memory-clause-proofs g c = λ e. none_accepted _ _
 
 pub returns-in-Ok-Check-clause-proofs : goal.returns-in-Ok-Check-clause-proofs
-returns-in-Ok-Check-clause-proofs g c = λ e. c.checks_show.ensures _ _ _ _ c.check_text.result c.check_text.ensures
+returns-in-Ok-Check-clause-proofs g c = λ e. c.checks_show.ensures.show _ _ _ _ c.check_text.result c.check_text.ensures
 
 pub returns-in-Err-Memory-clause-clausetester : goal.returns-in-Err-Memory-clause-clausetester
 returns-in-Err-Memory-clause-clausetester g c = λ e. (Err stops.Memory, lacking _ _ _ _ _ _ _ tt, c.exit-in-Err-Memory.ensures.cause)

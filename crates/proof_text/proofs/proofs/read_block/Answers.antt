@@ -1,4 +1,4 @@
-use Rattle.std.proofs.Common.{◌≡◌, ◌∙◌, ◌+◌, ◌-◌, ◌<◌, ◌≤◌, List, length, take, drop, ap, sym, subst, arith}
+use Rattle.std.proofs.Common.{◌≡◌, ◌+◌, ◌-◌, ◌<◌, ◌≤◌, List, length, take, drop, ap, subst, arith}
 use Rattle.ladr_lex.specs.Cuts.{Cuts, pieces_of}
 use Rattle.ladr_lex.specs.declared.token.Token.{Token}
 use Rattle.proof_text.specs.Going.{reader_in, IsLinesStop, OrMemory}

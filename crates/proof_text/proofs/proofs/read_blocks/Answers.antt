@@ -1,5 +1,4 @@
 use Rattle.std.proofs.Common.{◌≡◌, ◌+◌, ◌++◌, ◌∷◌, List, [], take, sym, subst}
-use Rattle.fol_core.specs.SymbolTable.{Symbol}
 use Rattle.derivation.specs.declared.line.Derivation.{Derivation}
 use Rattle.proof_text.specs.Going.{reader_in, lines_of_all}
 use Rattle.proof_text.specs.Proofs.{HasProofs, no_block}

@@ -1,5 +1,4 @@
 use Rattle.std.proofs.Common.{◌≡◌, ◌++◌, ◌+◌, ◌<◌, ◌≤◌, ◌∷◌, List, [], length, drop, sym, subst, arith}
-use Rattle.fol_core.specs.SymbolTable.{Symbol}
 use Rattle.derivation.specs.declared.line.Line.{Line}
 use Rattle.ladr_lex.specs.Cuts.{pieces_of}
 use Rattle.proof_lines.specs.declared.fault.LineFault.TheVariants as fault
