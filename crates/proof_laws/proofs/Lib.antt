@@ -1,0 +1,2 @@
+pub mod InLine
+pub mod PrintedBlocks

@@ -1,0 +1,6 @@
+pub mod Formulas
+pub mod LineTexts
+pub mod Names
+pub mod Reread
+pub mod Rereadable
+pub mod Worked

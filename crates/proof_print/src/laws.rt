@@ -1,0 +1,81 @@
+// What the texts are read as: the functions do nothing, and their contracts are the laws.
+ghost use Rattle.std.specs.Prelude.{◌≡◌, ℕ, Bool, true, false, IsTrue, List, Option, [], ◌∷◌, ◌++◌, codes};
+ghost use Rattle.std.specs.Option.{option_map};
+ghost use Rattle.derivation.specs.declared.line.Content.{Content};
+ghost use Rattle.derivation.specs.declared.line.Content.TheVariants as content;
+ghost use Rattle.derivation.specs.declared.line.Line.{Line};
+ghost use Rattle.fol_core.specs.FormulaView.{fol_of};
+ghost use Rattle.fol_core.specs.Literals.{literal, equality};
+ghost use Rattle.fol_core.specs.RawView.{raw_of};
+ghost use Rattle.fol_core.specs.SymbolTable.{Symbol};
+ghost use Rattle.fol_core.specs.declared.formula.Formula.{Formula};
+ghost use Rattle.fol_core.specs.declared.raw.Raw.{Raw};
+ghost use Rattle.fol_core.specs.Tree.{var, app, none, more};
+ghost use Rattle.ladr_formulas.specs.Formulas.{style_of};
+ghost use Rattle.ladr_formulas.specs.declared.styles.Mode.TheVariants.{Prover};
+ghost use Rattle.ladr_lex.specs.Operators.{OperatorRow, are_lawful};
+ghost use Rattle.ladr_print.specs.HasText.{CanNameSymbols};
+ghost use Rattle.ladr_print.specs.StatesAs.{KeepsFixed};
+ghost use Rattle.ladr_reader.specs.Table.{table_of};
+ghost use Rattle.proof_print.specs.Formulas.{IsReadFormula};
+ghost use Rattle.proof_print.specs.LineTexts.{frame_text, head_text};
+ghost use Rattle.proof_print.specs.Names.{AreOfClauses, IsSkolemSymbol, AreSkolemSymbols};
+ghost use Rattle.proof_print.specs.Rereadable.{ReadsAsItself};
+ghost use Rattle.proof_print.specs.Worked.{clause_text};
+ghost use Rattle.proof_print.specs.Reread.{row_tables, IsCutInto, CanPrint, IsPrintableContent, ArePrintable, ReadsContent, ReadsLines};
+ghost use Rattle.proof_words.specs.Written.{Written};
+ghost use Rattle.words_print.specs.Sayable.{IsSayable};
+ghost use Rattle.words_print.specs.WordTokens.{words_tokens, words_text};
+
+/// The text of words is cut into their tokens.
+pub fn words_are_cut()
+    ensures { (w : Written) → IsSayable w → (i : ℕ) → IsCutInto i (words_text w) (words_tokens w) }
+{}
+
+/// A formula that some text states, as each of a problem, can be a line's content.
+pub fn formulas_are_printable()
+    ensures { (formulas clauses : List OperatorRow) (prolog : Bool) (problem table : List Symbol)
+        (f : Formula) (label : Option Raw) → KeepsFixed formulas
+        → IsReadFormula formulas prolog table (fol_of f.shape) f.names (option_map raw_of label)
+        → IsPrintableContent (row_tables formulas clauses) prolog problem table
+        (content.Formula f label) }
+{}
+
+/// The text of a line's formula or clause is read as this, behind the table of its symbols, whatever text made them known.
+pub fn contents_read_back()
+    ensures { (formulas clauses : List OperatorRow) (prolog : Bool) (problem table : List Symbol)
+        (content : Content) → IsTrue (are_lawful formulas) → CanPrint clauses prolog table
+        → IsPrintableContent (row_tables formulas clauses) prolog problem table content
+        → ReadsContent (row_tables formulas clauses) prolog problem table content }
+{}
+
+/// Printed lines are read as the same lines in their order, and the table of symbols stays.
+pub fn lines_read_back()
+    ensures { (formulas clauses : List OperatorRow) (prolog : Bool) (problem table : List Symbol)
+        (ls : List Line) → IsTrue (are_lawful formulas) → CanPrint clauses prolog table
+        → ArePrintable (row_tables formulas clauses) prolog problem table ls
+        → ReadsLines (row_tables formulas clauses) prolog problem table ls }
+{}
+
+/// Names that texts of formulas take in are taken in by those of clauses, and so are the names of Skolem symbols, which are read
+/// as themselves: a table with Skolem symbols at its end can be named where the problem's can.
+pub fn skolem_symbols_are_named()
+    ensures named { (prolog : Bool) (formulas clauses : List OperatorRow)
+        (table news : List Symbol) → AreOfClauses prolog formulas clauses
+        → CanNameSymbols (table_of formulas) table → AreSkolemSymbols news
+        → CanNameSymbols (table_of clauses) (table ++ news) }
+    ensures read { (prolog : Bool) (x : Symbol) → IsSkolemSymbol x
+        → ReadsAsItself (style_of Prover prolog) x }
+{}
+
+/// Texts of a clause, of a frame and of a head.
+pub fn worked_texts()
+    ensures clause { clause_text (literal false (app 0 (more (var 0) none))
+        ∷ literal true (app equality (more (var 1) (more (app 1 none) none))) ∷ [])
+        ≡ codes "-man(x) | y = socrates" }
+    ensures none { clause_text [] ≡ codes "$F" }
+    ensures frame { frame_text (codes "p(a).\n") ≡ codes "% Input 6\np(a).\n\n" }
+    ensures head { head_text (record { proof = 1; length = 7; level = 2; weight = 4; given = 3 })
+        ≡ codes "% Proof 1.\n% Length of proof is 7.\n% Level of proof is 2.\n"
+        ++ codes "% Maximum clause weight is 4.\n% Given clauses 3.\n" }
+{}

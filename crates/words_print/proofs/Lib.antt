@@ -1,0 +1,3 @@
+pub mod Joints
+pub mod LetterNames
+pub mod SaidWords

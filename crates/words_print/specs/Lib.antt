@@ -1,0 +1,2 @@
+pub mod WordTokens
+pub mod Sayable
