@@ -23,8 +23,8 @@ use Rattle.model_tables.specs.ModelText.{model_text}
 use Rattle.model_tables.specs.Size.{formulas_of}
 use Rattle.model_tables.specs.Tables.{Finite}
 
--- How a size ended: it was skipped, or searched to its end, with the models that were printed and so
--- many cells chosen.
+-- How a size ended: it was skipped, or searched to its end, with the models that were printed and
+-- so many cells chosen.
 pub data Size : Type 0 where
   skipped : Size
   searched : List Finite → ℕ → Size

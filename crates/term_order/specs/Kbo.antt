@@ -43,8 +43,8 @@ module _ (weight : ℕ → ℕ) where
 -- An order of symbols, and what each of them weighs.
 module _ (above : ℕ → ℕ → Bool) (weight : ℕ → ℕ) where
   -- whether f(ss) outweighs g(ts), where it is known whether the first pair of arguments that
-  -- differ has the greater one in ss: no variable stands in ts more often, and f(ss) weighs more; or
-  -- they weigh the same, and f stands above g, or is g and the arguments decide
+  -- differ has the greater one in ss: no variable stands in ts more often, and f(ss) weighs more;
+  -- or they weigh the same, and f stands above g, or is g and the arguments decide
   abbrev pub outweighs : ℕ → Trees → ℕ → Trees → Bool → Bool
   outweighs f ss g ts first =
       none_oftener_all ss ts ts
