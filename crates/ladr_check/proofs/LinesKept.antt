@@ -25,7 +25,7 @@ use Rattle.proof_lines.specs.Faults.{IsLineRead}
 use Rattle.proof_lines.specs.Stated.{line_made, line_misuse, is_unfit}
 use Rattle.proof_lines.specs.Strays.{is_skolem_name, has_name, is_stray_relation, brings_stray}
 use Rattle.proof_lines.specs.declared.line.LineRead.{LineRead}
-use Rattle.proof_text.specs.Blocks.{Block}
+use Rattle.proof_text.specs.Blocks.{TextBlock}
 use Rattle.proof_text.specs.Proofs.{Reader, HasLines, HasProofs}
 use Rattle.proof_text.specs.Proofs as proofs
 use Rattle.proof_words.specs.Written.{states_formula}
@@ -128,6 +128,6 @@ lines_go : (g : Reader) (table last : List Symbol) (ts us : List Piece) (ls : Li
 lines_go g table last ts us ls proofs.no_line = record { kept = λ n s e. e; no_relation = λ none. none }
 lines_go g table last ts us ls (proofs.further_line r first h) = goes_both g.problem table _ last (line_goes g.tables g.style g.problem table _ _ r first) (lines_go g _ last _ us _ h)
 
-pub proofs_go : (g : Reader) (table last : List Symbol) (bs : List Block) (ps : List (List Line)) → HasProofs g table bs ps last → Goes g.problem table last
+pub proofs_go : (g : Reader) (table last : List Symbol) (bs : List TextBlock) (ps : List (List Line)) → HasProofs g table bs ps last → Goes g.problem table last
 proofs_go g table last bs ps proofs.no_block = record { kept = λ n s e. e; no_relation = λ none. none }
 proofs_go g table last bs ps (proofs.further_block h k) = goes_both g.problem table _ last (lines_go g table _ h.0 [] _ h.2) (proofs_go g _ last _ _ k)

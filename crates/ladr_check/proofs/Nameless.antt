@@ -19,7 +19,7 @@ use Rattle.ladr_formulas.specs.declared.styles.Mode.TheVariants.{Prover}
 use Rattle.ladr_lex.specs.Cuts.{Piece}
 use Rattle.proof_lines.specs.ContentTokens.{LineTables}
 use Rattle.proof_lines.specs.Stated.{line_made, IsContentOf}
-use Rattle.proof_text.specs.Blocks.{Block}
+use Rattle.proof_text.specs.Blocks.{TextBlock}
 use Rattle.proof_text.specs.Proofs.{Reader, HasLines, HasProofs}
 use Rattle.proof_text.specs.Proofs as proofs
 use Rattle.proof_words.specs.Written.{states_formula}
@@ -59,6 +59,6 @@ module _ (law : ClausesNameNone) (prolog : Bool) where
   lines_none tables problem table last ts us ls (proofs.further_line r first h) =
       (content_none table (states_formula first.parts.words.first) first.parts.content r.line.content first.line.content, lines_none tables problem _ last _ us _ h)
 
-  pub proofs_none : (tables : LineTables) (problem table last : List Symbol) (bs : List Block) (ps : List (List Line)) → HasProofs (reader tables problem) table bs ps last → ProofsNameNone (map lines_of ps)
+  pub proofs_none : (tables : LineTables) (problem table last : List Symbol) (bs : List TextBlock) (ps : List (List Line)) → HasProofs (reader tables problem) table bs ps last → ProofsNameNone (map lines_of ps)
   proofs_none tables problem table last bs ps proofs.no_block = tt
   proofs_none tables problem table last bs ps (proofs.further_block h k) = (lines_none tables problem table _ h.0 [] _ h.2, proofs_none tables problem _ last _ _ k)

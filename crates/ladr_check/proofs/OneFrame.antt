@@ -10,7 +10,7 @@ use Rattle.ladr_lex.proofs.Numerals.{decimal_whole}
 use Rattle.ladr_lex.specs.Comments.{begins_with, is_in_line}
 use Rattle.ladr_lex.specs.Numeral.{whole_number}
 use Rattle.ladr_output.proofs.Standing.{is_unbroken, unbroken_append, decimal_unbroken}
-use Rattle.proof_text.specs.Frame.{first_line, count_told, IsFramed, IsCutOff, IsUnframed}
+use Rattle.proof_text.specs.Frame.{first_line, count_told, IsFramed, EndsInside, IsUnframed}
 
 begun : (word line : List ℕ) → begins_with word line ≡ true → line ≡ word ++ drop (length word) line
 begun [] line h = refl
@@ -78,14 +78,14 @@ framed_sound bytes p r byte h un =
     let len : prefix_len is_in_line bytes ≡ length h.line = ap (prefix_len is_in_line) h.split ∙ in_line h.line rest within in
     let line : first_line bytes ≡ h.line = ap₂ (λ (n : ℕ) (bs : List ℕ). take n bs) len h.split ∙ front_of h.line (10 ∷ rest) in
     let tells : count_told (first_line bytes) ≡ Some (length p) = ap count_told line ∙ h.tells in
-    let cut : IsCutOff bytes (prefix_len is_in_line bytes + 1 + length p) byte = subst (λ (o : Option ℕ). MatchOption o (byte ≡ 0) (λ n. IsCutOff bytes (prefix_len is_in_line bytes + 1 + n) byte)) tells un in
+    let cut : EndsInside bytes (prefix_len is_in_line bytes + 1 + length p) byte = subst (λ (o : Option ℕ). MatchOption o (byte ≡ 0) (λ n. EndsInside bytes (prefix_len is_in_line bytes + 1 + n) byte)) tells un in
     let front = h.line ++ (10 ∷ p) in
     let all : bytes ≡ front ++ (10 ∷ r) = h.split ∙ sym (append_assoc h.line (10 ∷ p) (10 ∷ r)) in
     let place : prefix_len is_in_line bytes + 1 + length p ≡ length front = omega (arith, len, length-append h.line (10 ∷ p)) in
     let long : length bytes ≡ length front + suc (length r) = ap length all ∙ length-append front (10 ∷ r) in
     let there : slice_get bytes (length front) ≡ Some 10 = ap (λ (bs : List ℕ). slice_get bs (length front)) all ∙ stands_at front r 10 in
-    off front long there (subst (λ (n : ℕ). IsCutOff bytes n byte) place cut)
+    off front long there (subst (λ (n : ℕ). EndsInside bytes n byte) place cut)
   where
-    off : (front : List ℕ) → length bytes ≡ length front + suc (length r) → slice_get bytes (length front) ≡ Some 10 → IsCutOff bytes (length front) byte → ⊥
+    off : (front : List ℕ) → length bytes ≡ length front + suc (length r) → slice_get bytes (length front) ≡ Some 10 → EndsInside bytes (length front) byte → ⊥
     off front long there (inl short) = omega (arith, long, short.0)
     off front long there (inr other) = other.2 there

@@ -36,7 +36,7 @@ use Rattle.proof_lines.specs.Stated.{is_too_deep, line_misuse}
 use Rattle.proof_lines.specs.declared.fault.LineFault.{LineFault}
 use Rattle.proof_lines.specs.declared.fault.LineFault.TheVariants as fault
 use Rattle.proof_lines.specs.declared.line.LineRead.{LineRead}
-use Rattle.proof_text.specs.Blocks.{Block, bare, end_of, lines_in}
+use Rattle.proof_text.specs.Blocks.{TextBlock, bare, end_of_block, lines_in}
 use Rattle.proof_text.specs.Proofs.{Reader, HasLines, no_line, further_line, HasBlockLines, HasProofs, no_block, further_block}
 use Rattle.proof_text.specs.Refused.{reader_of, HasProblem, HasRefusedBlock, IsBlockRefused, IsLineRefused, IsProofRead, IsProofError}
 use Rattle.proof_text.specs.Refused as refused
@@ -78,15 +78,15 @@ module _ (one : OneLine) (bad : BadTokens) (g : Reader) where
       unstopped why h k same.2 (ap₂ (λ (n : ℕ) (x : List Piece). drop n x) same.0 e) v some f m
 
   -- behind the blocks before a block its lines are read
-  read_behind : {table other last mid : List Symbol} {bs cs : List Block} {ps qs : List (List Line)} (b : Block) (behind : List Block) → HasProofs g table bs ps last → HasProofs g other cs qs mid → table ≡ other → bs ≡ cs ++ (b ∷ behind)
+  read_behind : {table other last mid : List Symbol} {bs cs : List TextBlock} {ps qs : List (List Line)} (b : TextBlock) (behind : List TextBlock) → HasProofs g table bs ps last → HasProofs g other cs qs mid → table ≡ other → bs ≡ cs ++ (b ∷ behind)
       → (ls : List Line) × (x : List Symbol) × HasBlockLines g mid b ls x
   read_behind b behind no_block no_block t e = absurd (no_line_there _ _ e)
   read_behind b behind no_block (further_block there k) t e = absurd (no_line_there _ _ e)
   read_behind {table} b behind (further_block {mid = mid} {b = c} {ls = ls} here h) no_block t e =
-      (ls, mid, subst (λ (x : List Symbol). HasBlockLines g x b ls mid) t (subst (λ (x : Block). HasBlockLines g table x ls mid) (heads c b _ _ e).0 here))
+      (ls, mid, subst (λ (x : List Symbol). HasBlockLines g x b ls mid) t (subst (λ (x : TextBlock). HasBlockLines g table x ls mid) (heads c b _ _ e).0 here))
   read_behind {table} {other} b behind (further_block {b = c} here h) (further_block {b = d} there k) t e =
       let parts = heads c d _ _ e in
-      let cut = subst (λ (x : Block). Cuts x.start (bare x) here.0) parts.0 here.1 in
+      let cut = subst (λ (x : TextBlock). Cuts x.start (bare x) here.0) parts.0 here.1 in
       let tokens : here.0 ≡ there.0 = cut_once d.start (bare d) here.0 there.0 cut there.1 in
       read_behind b behind h k (lines_once one g here.2 there.2 t tokens refl refl).1 parts.1
 
@@ -96,24 +96,24 @@ module _ (one : OneLine) (bad : BadTokens) (g : Reader) where
   unmemory bytes end shut ts (errors.TooLarge byte what) h = h
   unmemory bytes end shut ts errors.Memory h = h
 
-  unrefused_block : (table last : List Symbol) (bytes : List ℕ) (bs : List Block) (ps : List (List Line)) (e : ReadError) → HasProofs g table bs ps last → HasRefusedBlock g table bytes bs e → ⊥
+  unrefused_block : (table last : List Symbol) (bytes : List ℕ) (bs : List TextBlock) (ps : List (List Line)) (e : ReadError) → HasProofs g table bs ps last → HasRefusedBlock g table bytes bs e → ⊥
   unrefused_block table last bytes bs ps e h r =
       let b = r.block in
       let there = read_behind b r.behind h r.read refl r.split in
       let x = r.here in
       let tokens : there.2.0 ≡ x.tokens = cut_once b.start (bare b) there.2.0 x.tokens there.2.1 x.cut in
       unstopped x.why there.2.2 x.read refl tokens refl x.some x.is_fault
-      (λ is. unmemory bytes (end_of b) b.closed x.left e (subst (λ (w : LineFault). IsLineRefused bytes (end_of b) b.closed x.left w e) is x.refused))
+      (λ is. unmemory bytes (end_of_block b) b.closed x.left e (subst (λ (w : LineFault). IsLineRefused bytes (end_of_block b) b.closed x.left w e) is x.refused))
 
 module _ (says : OneOutcome) (bytes : List ℕ) where
   -- a text has one problem
-  record SameProblem (f g : FileRead) (bs cs : List Block) : Type 0 where
+  record SameProblem (f g : FileRead) (bs cs : List TextBlock) : Type 0 where
     stated : stated_of f.problem ≡ stated_of g.problem
     symbols : f.problem.symbols ≡ g.problem.symbols
     readers : reader_of f ≡ reader_of g
     blocks : bs ≡ cs
 
-  same_problems : (f g : FileRead) (bs cs : List Block) → HasProblem bytes f bs → HasProblem bytes g cs → SameProblem f g bs cs
+  same_problems : (f g : FileRead) (bs cs : List TextBlock) → HasProblem bytes f bs → HasProblem bytes g cs → SameProblem f g bs cs
   same_problems f g bs cs h k =
       let texts = framed_once bytes h.input k.input h.rest k.rest h.framed k.framed in
       let told = says Prover k.input (problem h.sofar) (problem k.sofar) (subst (λ (t : List ℕ). Says Prover t (problem h.sofar)) texts.0 h.says) k.says in
@@ -160,11 +160,11 @@ module _ (says : OneOutcome) (bytes : List ℕ) where
       read_unrefused r h (refused.line {e} {f} {bs} has at) m =
           let same = same_problems f h.file bs h.blocks has h.has_problem in
           let there = subst (λ (x : Reader). HasRefusedBlock x h.file.problem.symbols bytes h.blocks e) same.readers
-          (subst (λ (x : List Symbol). HasRefusedBlock (reader_of f) x bytes h.blocks e) same.symbols (subst (λ (x : List Block). HasRefusedBlock (reader_of f) f.problem.symbols bytes x e) same.blocks at)) in
+          (subst (λ (x : List Symbol). HasRefusedBlock (reader_of f) x bytes h.blocks e) same.symbols (subst (λ (x : List TextBlock). HasRefusedBlock (reader_of f) f.problem.symbols bytes x e) same.blocks at)) in
           unrefused_block one bad (reader_of h.file) h.file.problem.symbols r.symbols bytes h.blocks _ e h.proofs_are there
       read_unrefused r h (refused.open_block {e} {f} {bs} has read open_one at) m =
           let same = same_problems f h.file bs h.blocks has h.has_problem in
-          true≢false (sym h.closed ∙ ap (list_all (λ (b : Block). b.closed)) (sym same.blocks) ∙ open_one)
+          true≢false (sym h.closed ∙ ap (list_all (λ (b : TextBlock). b.closed)) (sym same.blocks) ∙ open_one)
       read_unrefused r h refused.memory m = m refl
 
       no_memory : (why : Refused) → error_of why ≡ errors.Memory → ⊥

@@ -26,7 +26,7 @@ use Rattle.proof_lines.specs.Faults.{IsLineRead}
 use Rattle.proof_lines.specs.Lines.{LineParts, IsFirstLine}
 use Rattle.proof_lines.specs.Stated.{IsContentOf, IsLineOf, line_made}
 use Rattle.proof_lines.specs.declared.line.LineRead.{LineRead}
-use Rattle.proof_text.specs.Blocks.{Block, block, HasBlocks, nothing, outside, closed, still_open, is_proof_banner, is_end_banner, bare}
+use Rattle.proof_text.specs.Blocks.{TextBlock, block, HasBlocks, nothing, outside, closed, still_open, is_proof_banner, is_end_banner, bare}
 use Rattle.proof_text.specs.Proofs.{Reader, HasLines, no_line, further_line, HasBlockLines, HasProofs, no_block, further_block}
 use Rattle.proof_words.specs.Written.{WrittenFirst, Written, written_first, written_of, states_formula, meant}
 
@@ -58,7 +58,7 @@ no_end_in : (a : Lines) (x : List ℕ) (r : Lines) → is_end_banner x ≡ true 
 no_end_in [] x r u h = true≢false (sym u ∙ (or_parts (is_end_banner x) (list_any is_end_banner r) h).0)
 no_end_in (p ∷ a) x r u h = no_end_in a x r u (or_parts (is_end_banner p) (list_any is_end_banner (a ++ (x ∷ r))) h).1
 
-abbrev block_at : ℕ → List ℕ → Lines → Bool → Block
+abbrev block_at : ℕ → List ℕ → Lines → Bool → TextBlock
 block_at i line inner shut = block (i + length line) inner shut
 
 same_start : (i j : ℕ) (line other : List ℕ) (inner others : Lines) (shut : Bool) → i ≡ j → line ≡ other → inner ≡ others → block_at i line inner shut ≡ block_at j other others shut
@@ -67,7 +67,7 @@ same_start i j line other inner others shut at e f = λ k. block_at (at k) (e k)
 not_plain : (line other : List ℕ) → is_proof_banner line ≡ false → is_proof_banner other ≡ true → line ≡ other → ⊥
 not_plain line other n y e = true≢false (sym y ∙ ap is_proof_banner (sym e) ∙ n)
 
-pub blocks_once : {i j : ℕ} {ls ms : Lines} {bs cs : List Block} → HasBlocks i ls bs → HasBlocks j ms cs → i ≡ j → ls ≡ ms → bs ≡ cs
+pub blocks_once : {i j : ℕ} {ls ms : Lines} {bs cs : List TextBlock} → HasBlocks i ls bs → HasBlocks j ms cs → i ≡ j → ls ≡ ms → bs ≡ cs
 blocks_once nothing nothing at e = refl
 blocks_once nothing (outside n k) at e = absurd (no_line_there _ _ e)
 blocks_once nothing (closed end y n ends k) at e = absurd (no_line_there _ _ e)
@@ -85,7 +85,7 @@ blocks_once (closed {i} {line} {inner} {lines} end y n ends h) (closed {i = j} {
     let same = ends_once inner others end last lines more n m ends lasts parts.1 in
     let place : i + length line + length (concat inner) + length end ≡ j + length other + length (concat others) + length last =
     omega (arith, at, ap length parts.0, ap (λ (ls : Lines). length (concat ls)) same.0, ap length same.1) in
-    ap₂ (λ (b : Block) (bs : List Block). b ∷ bs) (same_start i j line other inner others true at parts.0 same.0) (blocks_once h k place same.2)
+    ap₂ (λ (b : TextBlock) (bs : List TextBlock). b ∷ bs) (same_start i j line other inner others true at parts.0 same.0) (blocks_once h k place same.2)
 blocks_once (closed {i} {line} {inner} {lines} end y n ends h) (still_open {i = j} {line = other} {inner = others} z m) at e =
     let parts = heads line other (inner ++ (end ∷ lines)) others e in
     absurd (no_end_in inner end lines ends (ap (list_any is_end_banner) parts.1 ∙ m))
@@ -96,7 +96,7 @@ blocks_once (still_open {i} {line} {inner} y n) (closed {i = j} {line = other} {
     absurd (no_end_in others last more lasts (ap (list_any is_end_banner) (sym parts.1) ∙ n))
 blocks_once (still_open {i} {line} {inner} y n) (still_open {i = j} {line = other} {inner = others} z m) at e =
     let parts = heads line other inner others e in
-    ap (λ (b : Block). b ∷ []) (same_start i j line other inner others false at parts.0 parts.1)
+    ap (λ (b : TextBlock). b ∷ []) (same_start i j line other inner others false at parts.0 parts.1)
 
 -- words mean what they are written for
 means : (w : First) → meant (written_first w) ≡ first_word_of w
@@ -166,14 +166,14 @@ module _ (one : OneLine) (g : Reader) where
       let rest = lines_once h k same.2 (ap₂ (λ (n : ℕ) (x : List Piece). drop n x) same.0 e) v w in
       (ap₂ (λ (l : LineTree) (xs : List LineTree). l ∷ xs) same.1 rest.0, rest.1)
 
-  pub proofs_once : {table other last end : List Symbol} {bs cs : List Block} {ps qs : List (List Line)} → HasProofs g table bs ps last → HasProofs g other cs qs end → table ≡ other → bs ≡ cs
+  pub proofs_once : {table other last end : List Symbol} {bs cs : List TextBlock} {ps qs : List (List Line)} → HasProofs g table bs ps last → HasProofs g other cs qs end → table ≡ other → bs ≡ cs
       → (map lines_of ps ≡ map lines_of qs) × (last ≡ end)
   proofs_once no_block no_block t e = (refl, t)
   proofs_once no_block (further_block h k) t e = absurd (no_line_there _ _ e)
   proofs_once (further_block h k) no_block t e = absurd (no_line_there _ _ (sym e))
   proofs_once {table} {other} (further_block {b = b} here h) (further_block {b = c} there k) t e =
       let parts = heads b c _ _ e in
-      let cut = subst (λ (x : Block). Cuts x.start (bare x) here.0) parts.0 here.1 in
+      let cut = subst (λ (x : TextBlock). Cuts x.start (bare x) here.0) parts.0 here.1 in
       let tokens : here.0 ≡ there.0 = cut_once c.start (bare c) here.0 there.0 cut there.1 in
       let same = lines_once here.2 there.2 t tokens refl refl in
       let rest = proofs_once h k same.1 parts.1 in

@@ -23,7 +23,7 @@ use Rattle.ladr_problem.specs.declared.refusal.ReadError.{ReadError}
 use Rattle.ladr_problem.specs.declared.refusal.ReadError.TheVariants as errors
 use Rattle.proof_lines.specs.declared.fault.LineFault.{LineFault}
 use Rattle.proof_lines.specs.declared.fault.LineFault.TheVariants as fault
-use Rattle.proof_text.specs.Blocks.{end_of}
+use Rattle.proof_text.specs.Blocks.{end_of_block}
 use Rattle.proof_text.specs.Refused.{byte_shown, token_shown, IsUnreadableAt, IsLineRefused, IsProofError}
 use Rattle.proof_text.specs.Refused as refused
 
@@ -91,7 +91,7 @@ by_line bytes end closed ts fault.Memory (errors.Unreadable place) h = absurd h
 told_within : (bytes : List ℕ) (e : ReadError) → IsProofError bytes e → IsToldWithin e
 told_within bytes e (refused.frame byte un at) = by_byte bytes byte e at
 told_within bytes e (refused.problem framed is) = by_problem _ e is
-told_within bytes e (refused.line has h) = by_line bytes (end_of h.block) h.block.closed h.here.left h.here.why e h.here.refused
+told_within bytes e (refused.line has h) = by_line bytes (end_of_block h.block) h.block.closed h.here.left h.here.why e h.here.refused
 told_within bytes e (refused.open_block has read unclosed at) = by_byte bytes _ e at
 told_within bytes e refused.memory = tt
 

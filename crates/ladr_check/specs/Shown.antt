@@ -57,9 +57,9 @@ abbrev pub OffersSound : (Offered → Type 0) → List ℕ → Type 0
 OffersSound IsSo bytes =
     (x : Offered) × OffersAlone bytes x × IsSo x × HasNewSkolems x × HasNoCountermodel x
 
--- Whatever became of the run: where the line of an accepted proof stands in what was written, all of
--- the input was read, and that proof of it is a refutation; and where the line stands that all are
--- accepted, each is.
+-- Whatever became of the run: where the line of an accepted proof stands in what was written, all
+-- of the input was read, and that proof of it is a refutation; and where the line stands that all
+-- are accepted, each is.
 pub record ShowsProofs (from from' : Inflow) (to to' : Outflow) : Type 0 where
   pub bytes : List ℕ
   pub taken : AreTaken from from' bytes

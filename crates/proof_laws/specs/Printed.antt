@@ -10,7 +10,7 @@ use Rattle.proof_lines.specs.ContentTokens.{LineTables}
 use Rattle.proof_print.specs.LineTexts.{proof_bytes, proof_banner, line_text}
 use Rattle.proof_print.specs.Reread.{ArePrintable}
 use Rattle.proof_print.specs.declared.texts.Heads.{Heads}
-use Rattle.proof_text.specs.Blocks.{Block, block, HasBlocks, lines_in}
+use Rattle.proof_text.specs.Blocks.{TextBlock, block, HasBlocks, lines_in}
 use Rattle.proof_text.specs.Proofs.{HasProofs}
 use Rattle.words_print.specs.Sayable.{IsShort}
 
@@ -48,7 +48,7 @@ head_lines h =
     ∷ head_line (codes "% Given clauses ") h.given ∷ []
 
 -- the block that a proof is, where its banner stands at place i
-abbrev pub printed_block : LineTables → List Symbol → Bool → ℕ → PrintedProof → Block
+abbrev pub printed_block : LineTables → List Symbol → Bool → ℕ → PrintedProof → TextBlock
 printed_block g table prolog i p =
     block (i + length proof_banner) (head_lines p.heads ++ map (line_text g table prolog) p.lines)
     true
@@ -61,7 +61,7 @@ HoldsNoProof text = (i : ℕ) → HasBlocks i (lines_in text) []
 -- these have their lines, each read behind the table, which stays
 pub record ReadsProofs (g : LineTables) (prolog : Bool) (problem table : List Symbol) (i : ℕ)
     (ps : List PrintedProof) (tail : List ℕ) : Type 0 where
-  pub blocks : List Block
+  pub blocks : List TextBlock
   pub found : HasBlocks i (lines_in (proofs_text g table prolog ps ++ tail)) blocks
   pub proofs :
       HasProofs (record { tables = g; style = style_of Prover prolog; problem = problem }) table

@@ -4,8 +4,8 @@ use Rattle.std.proofs.lemmas.List.{length-append, drop_all, map-append}
 use Rattle.std.proofs.lemmas.List.Folds.{list_any-append, concat-append}
 use Rattle.std.specs.Prelude.{slice_range}
 use Rattle.std.specs.List.{list_any, concat}
-use Rattle.proof_text.specs.Blocks.{Block, block, HasBlocks, nothing, outside, closed, still_open, lines_in, is_proof_banner, is_end_banner, bared}
-use Rattle.proof_text.specs.Found.{IsBlockRead, AreBlocksRead, none, further, IsBlockFound, HasFound}
+use Rattle.proof_text.specs.Blocks.{TextBlock, block, HasBlocks, nothing, outside, closed, still_open, lines_in, is_proof_banner, is_end_banner, bared}
+use Rattle.proof_text.specs.Found.{IsBlockRead, AreBlocksRead, none, further, IsBlockFound, HasFoundBlocks}
 use Rattle.proof_text.specs.Found as found
 use Rattle.proof_text.specs.declared.blocks.BlockRead.{BlockRead}
 use Rattle.proof_text.proofs.LineLemmas.{slice_long}
@@ -57,9 +57,9 @@ open_at bytes start at text r g whole a b c d =
 
 -- blocks that were found in front of a place
 pub record Passed (bytes : List ℕ) (from at : ℕ) (found : List BlockRead) : Type 0 where
-  pub blocks : List Block
+  pub blocks : List TextBlock
   pub read : AreBlocksRead blocks found
-  pub onward : (more : List Block) → HasBlocks at (lines_in (drop at bytes)) more → HasBlocks from (lines_in (drop from bytes)) (blocks ++ more)
+  pub onward : (more : List TextBlock) → HasBlocks at (lines_in (drop at bytes)) more → HasBlocks from (lines_in (drop from bytes)) (blocks ++ more)
 
 pub passed_none : (bytes : List ℕ) (from : ℕ) → Passed bytes from from []
 passed_none bytes from = record { blocks = []; read = none; onward = λ more h. h }
@@ -74,14 +74,14 @@ passed_line bytes from at end line rs p l plain = record {
       p.onward more (subst (λ ls. HasBlocks at ls more) (sym l.lines) (outside plain there));
 }
 
-read_more : {bs : List Block} {rs : List BlockRead} (b : Block) (r : BlockRead) → AreBlocksRead bs rs → IsBlockRead b r → AreBlocksRead (bs ++ b ∷ []) (rs ++ r ∷ [])
+read_more : {bs : List TextBlock} {rs : List BlockRead} (b : TextBlock) (r : BlockRead) → AreBlocksRead bs rs → IsBlockRead b r → AreBlocksRead (bs ++ b ∷ []) (rs ++ r ∷ [])
 read_more b r none h = further h none
 read_more b r (further i is) h = further i (read_more b r is h)
 
 no_line_there : {A : Type 0} (x : A) (xs : List A) → x ∷ xs ≡ [] → ⊥
 no_line_there x xs e = (let l : length (x ∷ xs) ≡ 0 = ap length e in omega (arith, l))
 
-no_blocks : {i : ℕ} {ls : List (List ℕ)} {more : List Block} → HasBlocks i ls more → ls ≡ [] → more ≡ []
+no_blocks : {i : ℕ} {ls : List (List ℕ)} {more : List TextBlock} → HasBlocks i ls more → ls ≡ [] → more ≡ []
 no_blocks nothing e = refl
 no_blocks (outside n h) e = absurd (no_line_there _ _ e)
 no_blocks (closed end a b c h) e = absurd (no_line_there _ _ e)
@@ -119,7 +119,7 @@ pub at_line : (bytes : List ℕ) (at end : ℕ) → at ≤ end → end ≤ lengt
 at_line bytes at end h k lines = (let long : length (slice_range bytes at end) ≡ end - at = slice_long bytes at end h k in record { lines = lines; place = omega (arith, long, h) })
 
 -- at the end all are found
-pub all_found : (bytes : List ℕ) (from at : ℕ) (rs : List BlockRead) → Passed bytes from at rs → length bytes ≤ at → HasFound from (lines_in (drop from bytes)) rs
+pub all_found : (bytes : List ℕ) (from at : ℕ) (rs : List BlockRead) → Passed bytes from at rs → length bytes ≤ at → HasFoundBlocks from (lines_in (drop from bytes)) rs
 all_found bytes from at rs p h =
     let empty : lines_in (drop at bytes) ≡ [] = ap lines_in (drop_all at bytes h) in
     let last : HasBlocks at (lines_in (drop at bytes)) [] = subst (λ ls. HasBlocks at ls []) (sym empty) nothing in

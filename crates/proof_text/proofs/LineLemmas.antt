@@ -9,7 +9,7 @@ use Rattle.std.specs.List.{prefix_len}
 use Rattle.ladr_lex.specs.Comments.{is_in_line}
 use Rattle.ladr_lex.specs.Places.{ends_line}
 use Rattle.proof_text.specs.Blocks.{lines_in, in_front}
-use Rattle.proof_text.specs.Frame.{count_told, IsFramed, IsCutOff, IsUnframed}
+use Rattle.proof_text.specs.Frame.{count_told, IsFramed, EndsInside, IsUnframed}
 
 abbrev IsFirstCut : List ℕ → Type 0
 IsFirstCut bs =
@@ -78,9 +78,9 @@ framed_at bytes len end count e tells at within ten =
 pub untold : (bytes : List ℕ) (len : ℕ) → len ≡ prefix_len is_in_line bytes → count_told (take len bytes) ≡ None → IsUnframed bytes 0
 untold bytes len e none = rw (ap (λ (n : ℕ). count_told (take n bytes)) (sym e) ∙ none) refl
 
-pub cut_off : (bytes : List ℕ) (len n byte : ℕ) → len ≡ prefix_len is_in_line bytes → count_told (take len bytes) ≡ Some n → IsCutOff bytes (len + 1 + n) byte → IsUnframed bytes byte
+pub cut_off : (bytes : List ℕ) (len n byte : ℕ) → len ≡ prefix_len is_in_line bytes → count_told (take len bytes) ≡ Some n → EndsInside bytes (len + 1 + n) byte → IsUnframed bytes byte
 cut_off bytes len n byte e tells off =
-    rw (ap (λ (k : ℕ). count_told (take k bytes)) (sym e) ∙ tells) (subst (λ (k : ℕ). IsCutOff bytes (k + 1 + n) byte) e off)
+    rw (ap (λ (k : ℕ). count_told (take k bytes)) (sym e) ∙ tells) (subst (λ (k : ℕ). EndsInside bytes (k + 1 + n) byte) e off)
 
 -- a line that stands at a place, with its end
 pub line_at : (bytes : List ℕ) (at len end : ℕ) → len ≡ prefix_len is_in_line (drop at bytes) → len < length (drop at bytes) → end ≡ at + len + 1 →

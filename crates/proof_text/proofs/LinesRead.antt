@@ -18,7 +18,7 @@ use Rattle.proof_lines.specs.declared.fault.LineFault.{LineFault}
 use Rattle.proof_lines.specs.declared.line.LineRead.{LineRead}
 use Rattle.proof_lines.proofs.Contents.{lexemes_long}
 use Rattle.proof_lines.proofs.PartLemmas.{rest_is}
-use Rattle.proof_text.specs.Blocks.{Block, block, bared, bare, blank}
+use Rattle.proof_text.specs.Blocks.{TextBlock, block, bared, bare, blank}
 use Rattle.proof_text.specs.Found.{IsBlockRead, AreBlocksRead, none, further}
 use Rattle.proof_text.specs.declared.blocks.BlockRead.{BlockRead}
 use Rattle.proof_text.specs.declared.proofs.LineStop.{LineStop}
@@ -42,7 +42,7 @@ lines_more g last r no_line is = further_line r is no_line
 lines_more g last r (further_line q first h) is = further_line q first (lines_more g last r h is)
 
 -- one block more
-pub proofs_more : (g : Reader) {table mid : List Symbol} {bs : List Block} {ps : List (List Line)} (last : List Symbol) (b : Block) (ls : List Line) → HasProofs g table bs ps mid
+pub proofs_more : (g : Reader) {table mid : List Symbol} {bs : List TextBlock} {ps : List (List Line)} (last : List Symbol) (b : TextBlock) (ls : List Line) → HasProofs g table bs ps mid
     → HasBlockLines g mid b ls last → HasProofs g table (bs ++ b ∷ []) (ps ++ ls ∷ []) last
 proofs_more g last b ls no_block h = further_block h no_block
 proofs_more g last b ls (further_block first k) h = further_block first (proofs_more g last b ls k h)
@@ -123,18 +123,18 @@ bare_long (l ∷ ls) =
     a ∙ (omega (arith, first, bare_long ls)) ∙ sym b
 
 -- a block's bytes end where it ends
-pub block_end : (b : Block) (r : BlockRead) → IsBlockRead b r → r.start + length r.bytes.items ≡ r.end
+pub block_end : (b : TextBlock) (r : BlockRead) → IsBlockRead b r → r.start + length r.bytes.items ≡ r.end
 block_end b r is = (let long : length r.bytes.items ≡ length (concat b.lines) = ap length is.bytes ∙ bare_long b.lines in omega (arith, long, is.start, is.end))
 
-block_cut : (b : Block) (r : BlockRead) (ts : List Piece) → IsBlockRead b r → Cuts r.start r.bytes.items ts → Cuts b.start (bare b) ts
+block_cut : (b : TextBlock) (r : BlockRead) (ts : List Piece) → IsBlockRead b r → Cuts r.start r.bytes.items ts → Cuts b.start (bare b) ts
 block_cut b r ts is cut = subst (λ (i : ℕ). Cuts i (bare b) ts) is.start (subst (λ us. Cuts r.start us ts) is.bytes cut)
 
-pub block_lines : (g : Reader) (table last : List Symbol) (b : Block) (r : BlockRead) (ts : List Piece) (ls : List Line) → IsBlockRead b r → Cuts r.start r.bytes.items ts
+pub block_lines : (g : Reader) (table last : List Symbol) (b : TextBlock) (r : BlockRead) (ts : List Piece) (ls : List Line) → IsBlockRead b r → Cuts r.start r.bytes.items ts
     → HasLines g table ts ls last [] → HasBlockLines g table b ls last
 block_lines g table last b r ts ls is cut h = (ts, block_cut b r ts is cut, h)
 
 -- the line at a place of a block is refused
-pub block_refused : (g : Reader) (table : List Symbol) (bytes : List ℕ) (b : Block) (r : BlockRead) (ts : List Token) (at : ℕ) (fault : LineFault) (e : ReadError) → IsBlockRead b r
+pub block_refused : (g : Reader) (table : List Symbol) (bytes : List ℕ) (b : TextBlock) (r : BlockRead) (ts : List Token) (at : ℕ) (fault : LineFault) (e : ReadError) → IsBlockRead b r
     → Cuts r.start r.bytes.items (pieces_of ts) → IsLinesStop g table (pieces_of ts) (record { at = at; fault = fault })
     → OrMemory (IsLineRefused bytes r.end r.closed (pieces_of (take (length ts - at) (drop at ts))) fault) e → OrMemory (IsBlockRefused g table bytes b) e
 block_refused g table bytes b r ts at fault e is cut stop (inl memory) = inl memory
@@ -157,26 +157,26 @@ block_refused g table bytes b r ts at fault e is cut stop (inr told) =
     })
 
 -- the block under a number
-pub record HasBlockAt (bs : List Block) (k : ℕ) (r : BlockRead) : Type 0 where
-  pub here : Block
+pub record HasBlockAt (bs : List TextBlock) (k : ℕ) (r : BlockRead) : Type 0 where
+  pub here : TextBlock
   pub is : IsBlockRead here r
   pub split : bs ≡ take k bs ++ (here ∷ drop (k + 1) bs)
   pub more : take (k + 1) bs ≡ take k bs ++ here ∷ []
 
-same_long : {bs : List Block} {rs : List BlockRead} → AreBlocksRead bs rs → length bs ≡ length rs
+same_long : {bs : List TextBlock} {rs : List BlockRead} → AreBlocksRead bs rs → length bs ≡ length rs
 same_long none = refl
 same_long (further is more) = ap suc (same_long more)
 
-read_under : {bs : List Block} {rs : List BlockRead} (k : ℕ) (b : Block) (r : BlockRead) → AreBlocksRead bs rs → k < length rs → IsBlockRead (get_or bs k b) (get_or rs k r)
+read_under : {bs : List TextBlock} {rs : List BlockRead} (k : ℕ) (b : TextBlock) (r : BlockRead) → AreBlocksRead bs rs → k < length rs → IsBlockRead (get_or bs k b) (get_or rs k r)
 read_under k b r none h = absurd (omega (arith, h))
 read_under zero b r (further is more) h = is
 read_under (suc k) b r (further is more) h = read_under k b r more (omega (arith, h))
 
-pub block_under : (bs : List Block) (rs : List BlockRead) (k : ℕ) (r : BlockRead) → AreBlocksRead bs rs → k < length rs → r ≡ get_or rs k r → HasBlockAt bs k r
+pub block_under : (bs : List TextBlock) (rs : List BlockRead) (k : ℕ) (r : BlockRead) → AreBlocksRead bs rs → k < length rs → r ≡ get_or rs k r → HasBlockAt bs k r
 block_under bs rs k r read h is =
     let long : length bs ≡ length rs = same_long read in
     let first : k < length bs = omega (arith, long, h) in
-    let none_there : Block = block 0 [] false in
+    let none_there : TextBlock = block 0 [] false in
     record {
       here = get_or bs k none_there;
       is = subst (λ q. IsBlockRead (get_or bs k none_there) q) (sym is) (read_under k none_there r read h);
@@ -185,7 +185,7 @@ block_under bs rs k r read h is =
     }
 
 -- the proof of one block more
-pub next_proof : (g : Reader) (table mid last : List Symbol) (bs : List Block) (k : ℕ) (r : BlockRead) (ds : List Derivation) (d : Derivation) (at : HasBlockAt bs k r)
+pub next_proof : (g : Reader) (table mid last : List Symbol) (bs : List TextBlock) (k : ℕ) (r : BlockRead) (ds : List Derivation) (d : Derivation) (at : HasBlockAt bs k r)
     → HasProofs g table (take k bs) (lines_of_all ds) mid → HasBlockLines g mid at.here d.lines.items last → HasProofs g table (take (k + 1) bs) (lines_of_all (ds ++ d ∷ [])) last
 next_proof g table mid last bs k r ds d at h here =
     let proofs : HasProofs g table (take k bs ++ at.here ∷ []) (lines_of_all ds ++ d.lines.items ∷ []) last = proofs_more g last at.here d.lines.items h here in
@@ -194,7 +194,7 @@ next_proof g table mid last bs k r ds d at h here =
     subst (λ cs. HasProofs g table cs (lines_of_all (ds ++ d ∷ [])) last) (sym at.more) named
 
 -- the block under a number is refused
-pub refused_under : (g : Reader) (table mid : List Symbol) (bytes : List ℕ) (bs : List Block) (k : ℕ) (r : BlockRead) (ps : List (List Line)) (e : ReadError) (at : HasBlockAt bs k r)
+pub refused_under : (g : Reader) (table mid : List Symbol) (bytes : List ℕ) (bs : List TextBlock) (k : ℕ) (r : BlockRead) (ps : List (List Line)) (e : ReadError) (at : HasBlockAt bs k r)
     → HasProofs g table (take k bs) ps mid → OrMemory (IsBlockRefused g mid bytes at.here) e → OrMemory (HasRefusedBlock g table bytes bs) e
 refused_under g table mid bytes bs k r ps e at h (inl memory) = inl memory
 refused_under g table mid bytes bs k r ps e at h (inr here) = inr (record {
@@ -209,7 +209,7 @@ refused_under g table mid bytes bs k r ps e at h (inr here) = inr (record {
 })
 
 -- all blocks are read
-pub all_proofs : (g : Reader) (table last : List Symbol) (bs : List Block) (rs : List BlockRead) (k : ℕ) (ps : List (List Line)) → AreBlocksRead bs rs → length rs ≤ k
+pub all_proofs : (g : Reader) (table last : List Symbol) (bs : List TextBlock) (rs : List BlockRead) (k : ℕ) (ps : List (List Line)) → AreBlocksRead bs rs → length rs ≤ k
     → HasProofs g table (take k bs) ps last → HasProofs g table bs ps last
 all_proofs g table last bs rs k ps read h proofs =
     let whole : take k bs ≡ bs = take_all k bs (omega (arith, same_long read, h)) in

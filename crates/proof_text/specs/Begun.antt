@@ -6,7 +6,7 @@ use Rattle.proof_text.specs.Refused.{reader_of}
 use Rattle.proof_text.specs.declared.text.ProofRead.{ProofRead}
 
 -- the code has the problem, the operators of its lines, and a copy of its symbols
-pub record IsBegun (f : FileRead) (r : ProofRead) : Type 0 where
+pub record IsWithoutProofs (f : FileRead) (r : ProofRead) : Type 0 where
   pub problem : r.problem ≡ f.problem
   pub operators : tables_of r.operators ≡ (reader_of f).tables
   pub symbols : r.symbols ≡ f.problem.symbols

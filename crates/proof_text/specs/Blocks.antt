@@ -30,26 +30,26 @@ is_end_banner line =
     has_text (codes "============================== end of proof ==========================") line
 
 -- the place of a block's first line, its lines, and whether the banner of its end follows
-pub record Block : Type 0 where
+pub record TextBlock : Type 0 where
   pub start : ℕ
   pub lines : List (List ℕ)
   pub closed : Bool
 
-abbrev pub block : ℕ → List (List ℕ) → Bool → Block
+abbrev pub block : ℕ → List (List ℕ) → Bool → TextBlock
 block start lines closed = record { start = start; lines = lines; closed = closed }
 
-abbrev pub end_of : Block → ℕ
-end_of b = b.start + length (concat b.lines)
+abbrev pub end_of_block : TextBlock → ℕ
+end_of_block b = b.start + length (concat b.lines)
 
 -- These are the blocks of lines, of which the first stands at place i.
-pub data HasBlocks : ℕ → List (List ℕ) → List Block → Type 0 where
+pub data HasBlocks : ℕ → List (List ℕ) → List TextBlock → Type 0 where
   nothing : {i : ℕ} → HasBlocks i [] []
   outside :
-      {i : ℕ} {line : List ℕ} {lines : List (List ℕ)} {bs : List Block} →
+      {i : ℕ} {line : List ℕ} {lines : List (List ℕ)} {bs : List TextBlock} →
       is_proof_banner line ≡ false →
       HasBlocks (i + length line) lines bs → HasBlocks i (line ∷ lines) bs
   closed :
-      {i : ℕ} {line : List ℕ} {inner lines : List (List ℕ)} {bs : List Block} (end : List ℕ) →
+      {i : ℕ} {line : List ℕ} {inner lines : List (List ℕ)} {bs : List TextBlock} (end : List ℕ) →
       is_proof_banner line ≡ true → list_any is_end_banner inner ≡ false → is_end_banner end ≡ true
       →
       HasBlocks (i + length line + length (concat inner) + length end) lines bs →
@@ -67,5 +67,5 @@ abbrev pub bared : List ℕ → List ℕ
 bared line = if begins_with (codes "%") line then map blank line else line
 
 -- the bytes of a block that are read
-abbrev pub bare : Block → List ℕ
+abbrev pub bare : TextBlock → List ℕ
 bare b = concat (map bared b.lines)

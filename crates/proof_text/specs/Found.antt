@@ -1,19 +1,20 @@
 -- Blocks as the code has them.
 use Rattle.std.specs.Prelude.{◌≡◌, ℕ, ◌+◌, true, false, List, [], ◌∷◌, ◌++◌, length, drop}
 use Rattle.std.specs.List.{list_any, concat}
-use Rattle.proof_text.specs.Blocks.{Block, block, HasBlocks, lines_in, is_end_banner, bare, end_of}
+use Rattle.proof_text.specs.Blocks.{TextBlock, block, HasBlocks, lines_in, is_end_banner, bare, end_of_block}
 use Rattle.proof_text.specs.declared.blocks.BlockRead.{BlockRead}
 
 -- the code has this block
-pub record IsBlockRead (b : Block) (r : BlockRead) : Type 0 where
+pub record IsBlockRead (b : TextBlock) (r : BlockRead) : Type 0 where
   pub start : r.start ≡ b.start
-  pub end : r.end ≡ end_of b
+  pub end : r.end ≡ end_of_block b
   pub bytes : r.bytes.items ≡ bare b
   pub closed : r.closed ≡ b.closed
 
-pub data AreBlocksRead : List Block → List BlockRead → Type 0 where
+pub data AreBlocksRead : List TextBlock → List BlockRead → Type 0 where
   none : AreBlocksRead [] []
-  further : {b : Block} {r : BlockRead} {bs : List Block} {rs : List BlockRead} → IsBlockRead b r →
+  further : {b : TextBlock} {r : BlockRead} {bs : List TextBlock} {rs : List BlockRead} →
+      IsBlockRead b r →
       AreBlocksRead bs rs → AreBlocksRead (b ∷ bs) (r ∷ rs)
 
 -- The code has the block whose first line stands at a place, and the place where the text goes on
@@ -32,5 +33,5 @@ pub data IsBlockFound (bytes : List ℕ) (start : ℕ) : BlockRead → ℕ → T
       IsBlockFound bytes start r next
 
 -- the code has the blocks of these lines
-abbrev pub HasFound : ℕ → List (List ℕ) → List BlockRead → Type 0
-HasFound i lines found = (bs : List Block) × HasBlocks i lines bs × AreBlocksRead bs found
+abbrev pub HasFoundBlocks : ℕ → List (List ℕ) → List BlockRead → Type 0
+HasFoundBlocks i lines found = (bs : List TextBlock) × HasBlocks i lines bs × AreBlocksRead bs found

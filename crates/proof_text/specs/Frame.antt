@@ -21,8 +21,8 @@ pub record IsFramed (bytes problem rest : List ℕ) : Type 0 where
   pub split : bytes ≡ line ++ (10 ∷ (problem ++ (10 ∷ rest)))
 
 -- the bytes up to a place aren't all there, or no line ends at that place
-abbrev pub IsCutOff : List ℕ → ℕ → ℕ → Type 0
-IsCutOff bytes end byte =
+abbrev pub EndsInside : List ℕ → ℕ → ℕ → Type 0
+EndsInside bytes end byte =
     ((length bytes ≤ end) × (byte ≡ length bytes))
     ⊎ ((end < length bytes) × (byte ≡ end) × ¬ slice_get bytes end ≡ Some 10)
 
@@ -30,4 +30,4 @@ IsCutOff bytes end byte =
 abbrev pub IsUnframed : List ℕ → ℕ → Type 0
 IsUnframed bytes byte =
     MatchOption (count_told (first_line bytes)) (byte ≡ 0)
-    (λ n. IsCutOff bytes (prefix_len is_in_line bytes + 1 + n) byte)
+    (λ n. EndsInside bytes (prefix_len is_in_line bytes + 1 + n) byte)

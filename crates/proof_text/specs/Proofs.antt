@@ -8,7 +8,7 @@ use Rattle.ladr_problem.specs.Items.{lexemes}
 use Rattle.proof_lines.specs.ContentTokens.{LineTables}
 use Rattle.proof_lines.specs.Faults.{IsLineRead}
 use Rattle.proof_lines.specs.declared.line.LineRead.{LineRead}
-use Rattle.proof_text.specs.Blocks.{Block, bare}
+use Rattle.proof_text.specs.Blocks.{TextBlock, bare}
 
 -- what lines are read with: the operators, the style of variables, and the problem's symbols
 pub record Reader : Type 0 where
@@ -28,16 +28,16 @@ pub data HasLines (g : Reader) : List Symbol → List Piece → List Line → Li
       HasLines g table ts (r.line ∷ ls) last us
 
 -- the tokens of a block are these lines
-abbrev pub HasBlockLines : Reader → List Symbol → Block → List Line → List Symbol → Type 0
+abbrev pub HasBlockLines : Reader → List Symbol → TextBlock → List Line → List Symbol → Type 0
 HasBlockLines g table b ls last =
     (ts : List Piece) × Cuts b.start (bare b) ts × HasLines g table ts ls last []
 
 -- blocks have these lines, block by block
-pub data HasProofs (g : Reader) : List Symbol → List Block → List (List Line) → List Symbol →
+pub data HasProofs (g : Reader) : List Symbol → List TextBlock → List (List Line) → List Symbol →
     Type 0 where
   no_block : {table : List Symbol} → HasProofs g table [] [] table
   further_block :
-      {table mid last : List Symbol} {b : Block} {bs : List Block} {ls : List Line}
+      {table mid last : List Symbol} {b : TextBlock} {bs : List TextBlock} {ls : List Line}
       {ps : List (List Line)} →
       HasBlockLines g table b ls mid → HasProofs g mid bs ps last →
       HasProofs g table (b ∷ bs) (ls ∷ ps) last

@@ -23,7 +23,7 @@ use Rattle.proof_lines.specs.ContentTokens.{line_tables, tables_of}
 use Rattle.proof_lines.specs.Faults.{IsLineFault}
 use Rattle.proof_lines.specs.declared.fault.LineFault.{LineFault}
 use Rattle.proof_lines.specs.declared.fault.LineFault.TheVariants as fault
-use Rattle.proof_text.specs.Blocks.{Block, HasBlocks, lines_in, bare, end_of}
+use Rattle.proof_text.specs.Blocks.{TextBlock, HasBlocks, lines_in, bare, end_of_block}
 use Rattle.proof_text.specs.Frame.{IsFramed, IsUnframed}
 use Rattle.proof_text.specs.Proofs.{Reader, HasLines, HasProofs}
 use Rattle.proof_text.specs.declared.text.ProofRead.{ProofRead}
@@ -68,7 +68,7 @@ IsLineRefused bytes end closed ts (fault.Misused m) (Misuse p row) =
 IsLineRefused bytes end closed ts why e = ⊥
 
 -- Lines of a block are read, and then one is refused, which begins with the tokens that are left.
-pub record IsBlockRefused (g : Reader) (table : List Symbol) (bytes : List ℕ) (b : Block)
+pub record IsBlockRefused (g : Reader) (table : List Symbol) (bytes : List ℕ) (b : TextBlock)
     (e : ReadError) : Type 0 where
   pub tokens : List Piece
   pub cut : Cuts b.start (bare b) tokens
@@ -79,14 +79,14 @@ pub record IsBlockRefused (g : Reader) (table : List Symbol) (bytes : List ℕ) 
   pub some : 0 < length left
   pub why : LineFault
   pub is_fault : IsLineFault g.tables g.style g.problem last (lexemes left) why
-  pub refused : IsLineRefused bytes (end_of b) b.closed left why e
+  pub refused : IsLineRefused bytes (end_of_block b) b.closed left why e
 
 -- the first block that is refused so
-pub record HasRefusedBlock (g : Reader) (table : List Symbol) (bytes : List ℕ) (bs : List Block)
+pub record HasRefusedBlock (g : Reader) (table : List Symbol) (bytes : List ℕ) (bs : List TextBlock)
     (e : ReadError) : Type 0 where
-  pub before : List Block
-  pub block : Block
-  pub behind : List Block
+  pub before : List TextBlock
+  pub block : TextBlock
+  pub behind : List TextBlock
   pub split : bs ≡ before ++ (block ∷ behind)
   pub proofs : List (List Line)
   pub middle : List Symbol
@@ -102,7 +102,7 @@ reader_of f = record {
 }
 
 -- The text has a frame with a problem, and behind it these blocks.
-pub record HasProblem (bytes : List ℕ) (f : FileRead) (bs : List Block) : Type 0 where
+pub record HasProblem (bytes : List ℕ) (f : FileRead) (bs : List TextBlock) : Type 0 where
   pub input : List ℕ
   pub rest : List ℕ
   pub framed : IsFramed bytes input rest
@@ -119,10 +119,11 @@ pub data IsProofError (bytes : List ℕ) : ReadError → Type 0 where
   problem : {e : ReadError} {input rest : List ℕ} → IsFramed bytes input rest →
       IsReadError Prover input e → IsProofError bytes e
   line :
-      {e : ReadError} {f : FileRead} {bs : List Block} → HasProblem bytes f bs →
+      {e : ReadError} {f : FileRead} {bs : List TextBlock} → HasProblem bytes f bs →
       HasRefusedBlock (reader_of f) f.problem.symbols bytes bs e → IsProofError bytes e
   open_block :
-      {e : ReadError} {f : FileRead} {bs : List Block} {ps : List (List Line)} {last : List Symbol}
+      {e : ReadError} {f : FileRead} {bs : List TextBlock} {ps : List (List Line)}
+      {last : List Symbol}
       → HasProblem bytes f bs →
       HasProofs (reader_of f) f.problem.symbols bs ps last → list_all (λ b. b.closed) bs ≡ false →
       IsUnreadableAt bytes (length bytes) e → IsProofError bytes e
@@ -132,7 +133,7 @@ pub data IsProofError (bytes : List ℕ) : ReadError → Type 0 where
 -- of all.
 pub record IsProofRead (bytes : List ℕ) (r : ProofRead) : Type 0 where
   pub file : FileRead
-  pub blocks : List Block
+  pub blocks : List TextBlock
   pub has_problem : HasProblem bytes file blocks
   pub problem_is : r.problem ≡ file.problem
   pub operators_are : tables_of r.operators ≡ (reader_of file).tables

@@ -1,7 +1,7 @@
 // The blocks of a proof's text.
 ghost use Rattle.std.specs.Prelude.{◌≡◌, ◌∷◌, ◌++◌, ◌<◌, ◌≤◌, IfOk, OnOk, length, drop, slice_range};
 ghost use Rattle.proof_text.specs.Blocks.{lines_in, has_text, blank, bared};
-ghost use Rattle.proof_text.specs.Found.{IsBlockFound, HasFound};
+ghost use Rattle.proof_text.specs.Found.{IsBlockFound, HasFoundBlocks};
 
 use crate::frame::first_line_len;
 use std::alloc::{AllocError, Global};
@@ -105,7 +105,7 @@ fn block_at(alloc: Global, bytes: &[u8], start: usize) -> Result<(BlockRead, usi
 #[tactic(auto, using(crate::proofs::Gathered::passed_none, crate::proofs::Gathered::passed_line, crate::proofs::Gathered::passed_block, crate::proofs::Gathered::at_line, crate::proofs::Gathered::all_found))]
 pub fn find_blocks(alloc: Global, bytes: &[u8], from: usize) -> Result<Vec<BlockRead>, AllocError>
     requires { from ≤ length bytes.now }
-    ensures { IfOk result (λ found. HasFound from (lines_in (drop from bytes.now)) found.items) }
+    ensures { IfOk result (λ found. HasFoundBlocks from (lines_in (drop from bytes.now)) found.items) }
 {
     let mut found = Vec::new(alloc);
     let mut at = from;

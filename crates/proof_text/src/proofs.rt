@@ -2,7 +2,7 @@
 ghost use Rattle.std.specs.Prelude.{List, [], IfOk, IfErr};
 ghost use Rattle.fol_core.specs.SymbolTable.{KeepsNumbers};
 ghost use Rattle.ladr_lex.specs.Cuts.{pieces_of};
-ghost use Rattle.proof_text.specs.Blocks.{Block};
+ghost use Rattle.proof_text.specs.Blocks.{TextBlock};
 ghost use Rattle.proof_text.specs.Found.{IsBlockRead, AreBlocksRead};
 ghost use Rattle.proof_text.specs.Going.{reader_in, lines_of_all, IsLinesStop, OrMemory};
 ghost use Rattle.proof_text.specs.Proofs.{HasLines, HasBlockLines, HasProofs};
@@ -66,10 +66,10 @@ fn read_block(
     bytes: &[u8],
     block: &BlockRead,
 ) -> Result<Derivation, ReadError>
-    requires { (b : Block) × IsBlockRead b block.now }
-    ensures read { (b : Block) → IsBlockRead b block.now → IfOk result (λ d. HasBlockLines
+    requires { (b : TextBlock) × IsBlockRead b block.now }
+    ensures read { (b : TextBlock) → IsBlockRead b block.now → IfOk result (λ d. HasBlockLines
         (reader_in operators.now problem.now) symbols.old b d.lines.items symbols.new) }
-    ensures refused { (b : Block) → IsBlockRead b block.now → IfErr result (OrMemory
+    ensures refused { (b : TextBlock) → IsBlockRead b block.now → IfErr result (OrMemory
         (IsBlockRefused (reader_in operators.now problem.now) symbols.old bytes.now b)) }
     ensures kept { KeepsNumbers symbols.old symbols.new }
 {
@@ -96,11 +96,11 @@ pub fn read_blocks(
     bytes: &[u8],
     blocks: &[BlockRead],
 ) -> Result<Vec<Derivation>, ReadError>
-    requires { (bs : List Block) × AreBlocksRead bs blocks.now }
-    ensures read { (bs : List Block) → AreBlocksRead bs blocks.now → IfOk result (λ proofs.
+    requires { (bs : List TextBlock) × AreBlocksRead bs blocks.now }
+    ensures read { (bs : List TextBlock) → AreBlocksRead bs blocks.now → IfOk result (λ proofs.
         HasProofs (reader_in operators.now problem.now) symbols.old bs
         (lines_of_all proofs.items) symbols.new) }
-    ensures refused { (bs : List Block) → AreBlocksRead bs blocks.now → IfErr result (OrMemory
+    ensures refused { (bs : List TextBlock) → AreBlocksRead bs blocks.now → IfErr result (OrMemory
         (HasRefusedBlock (reader_in operators.now problem.now) symbols.old bytes.now bs)) }
     ensures kept { KeepsNumbers symbols.old symbols.new }
 {

@@ -1,9 +1,9 @@
 // The proofs of a text.
 ghost use Rattle.std.specs.Prelude.{◌≡◌, List, IfOk, OnOk, IfErr};
 ghost use Rattle.std.specs.List.{list_all};
-ghost use Rattle.proof_text.specs.Blocks.{Block};
+ghost use Rattle.proof_text.specs.Blocks.{TextBlock};
 ghost use Rattle.ladr_problem.specs.declared.read.FileRead.{FileRead};
-ghost use Rattle.proof_text.specs.Begun.{IsBegun};
+ghost use Rattle.proof_text.specs.Begun.{IsWithoutProofs};
 ghost use Rattle.proof_text.specs.Found.{AreBlocksRead};
 ghost use Rattle.proof_text.specs.Refused.{HasProblem, IsProofRead, IsProofError};
 
@@ -64,7 +64,7 @@ pub fn read_proof(alloc: Global, bytes: &[u8]) -> Result<ProofRead, ReadError>
 
 // What a text says whose problem is read, and no proof.
 fn without_proofs(alloc: Global, file: FileRead) -> Result<ProofRead, AllocError>
-    ensures { IfOk result (IsBegun file) }
+    ensures { IfOk result (IsWithoutProofs file) }
 {
     let FileRead {
         problem,
@@ -89,10 +89,10 @@ fn read_all(
     blocks: &[BlockRead],
     read: &mut ProofRead,
 ) -> Result<(), ReadError>
-    requires { (bs : List Block) × AreBlocksRead bs blocks.now }
-    ensures read { (f : FileRead) (bs : List Block) → IsBegun f read.old → HasProblem bytes.now f bs
+    requires { (bs : List TextBlock) × AreBlocksRead bs blocks.now }
+    ensures read { (f : FileRead) (bs : List TextBlock) → IsWithoutProofs f read.old → HasProblem bytes.now f bs
         → AreBlocksRead bs blocks.now → OnOk result (IsProofRead bytes.now read.new) }
-    ensures refused { (f : FileRead) (bs : List Block) → IsBegun f read.old
+    ensures refused { (f : FileRead) (bs : List TextBlock) → IsWithoutProofs f read.old
         → HasProblem bytes.now f bs → AreBlocksRead bs blocks.now
         → IfErr result (IsProofError bytes.now) }
 {

@@ -1,4 +1,14 @@
+pub mod Bounds
+pub mod Comparing
+pub mod Fronts
+pub mod Heads
+pub mod KboHeads
+pub mod KboOrder
+pub mod LpoCases
 pub mod LpoOrder
 pub mod LpoParts
 pub mod LpoStable
+pub mod Occurrences
+pub mod Sizes
 pub mod Tests
+pub mod Walks

@@ -1,3 +1,6 @@
+pub mod Compared
+pub mod Kbo
 pub mod Laws
 pub mod Lpo
+pub mod Precedences
 pub mod Worked

@@ -1,6 +1,7 @@
 -- Terms compared by hand.
 use Rattle.std.specs.Prelude.{ℕ, ◌≡◌, Bool, true, false, nat_lt}
 use Rattle.fol_core.specs.Tree.{Tree, var, app, none, more}
+use Rattle.term_order.specs.Kbo.{kbo_greater}
 use Rattle.term_order.specs.Lpo.{lpo_greater}
 
 -- a symbol with a greater number stands above
@@ -37,3 +38,21 @@ WorkedPathOrder =
     (product (inverse (var 1)) (inverse (var 0))) ≡ true)
     × (lpo_greater later (product (var 0) (var 1)) (product (var 1) (var 0)) ≡ false)
     × (lpo_greater later (var 0) (var 1) ≡ false)
+
+-- each symbol weighs 1
+abbrev alike : ℕ → ℕ
+alike f = 1
+
+-- By weights, a product is above a product of fewer symbols where no variable stands in it more
+-- often; of equal weights the first pair of arguments that differ decides, so that an equation of
+-- three factors goes from left to right; and x*y isn't comparable with x*x.
+abbrev pub WorkedWeightOrder : Type 0
+WorkedWeightOrder =
+    (kbo_greater later alike (product e (var 0)) (var 0) ≡ true)
+    × (kbo_greater later alike (product (inverse (var 0)) (var 0)) e ≡ true)
+    × (kbo_greater later alike (product (product (var 0) (var 1)) (var 2))
+    (product (var 0) (product (var 1) (var 2))) ≡ true)
+    × (kbo_greater later alike (product (var 0) (product (var 1) (var 2)))
+    (product (product (var 0) (var 1)) (var 2)) ≡ false)
+    × (kbo_greater later alike (product (var 0) (var 1)) (product (var 0) (var 0)) ≡ false)
+    × (kbo_greater later alike (product (var 0) (var 0)) (product (var 0) (var 1)) ≡ false)

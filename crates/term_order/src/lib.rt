@@ -1,6 +1,12 @@
 // Orders of terms.
 #![tactic(auto)]
 
+mod compared;
+mod kbo;
 mod laws;
+mod path;
+mod precedence;
 
-pub use laws::{lpo_is_order, worked};
+pub use compared::Compared;
+pub use laws::{kbo_is_order, lpo_is_order, symbols_are_ordered, worked};
+pub use precedence::{Precedence, Row};

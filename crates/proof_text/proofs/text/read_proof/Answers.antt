@@ -8,7 +8,7 @@ use Rattle.ladr_problem.specs.Sofar.{Sofar}
 use Rattle.ladr_problem.specs.Whole.{IsOf}
 use Rattle.ladr_problem.specs.declared.read.FileRead.{FileRead}
 use Rattle.ladr_problem.specs.declared.refusal.ReadError.{ReadError}
-use Rattle.proof_text.specs.Blocks.{Block, HasBlocks, lines_in}
+use Rattle.proof_text.specs.Blocks.{TextBlock, HasBlocks, lines_in}
 use Rattle.proof_text.specs.Found.{AreBlocksRead}
 use Rattle.proof_text.specs.Frame.{IsFramed, IsUnframed}
 use Rattle.proof_text.specs.Going.{OrMemory}
@@ -21,7 +21,7 @@ not_framed bytes byte e off (inl lacking) = subst (IsProofError bytes) (sym lack
 not_framed bytes byte e off (inr there) = frame byte off there
 
 -- a framed problem, and the blocks behind it
-with_blocks : (bytes : List ℕ) (start end : ℕ) (f : FileRead) (bs : List Block) → end < length bytes → IsFramed bytes (slice_range bytes start end) (drop (end + 1) bytes)
+with_blocks : (bytes : List ℕ) (start end : ℕ) (f : FileRead) (bs : List TextBlock) → end < length bytes → IsFramed bytes (slice_range bytes start end) (drop (end + 1) bytes)
     → (s : Sofar) × Says Prover (slice_range bytes start end) (outcome.problem s) × IsOf s f → HasBlocks (end + 1) (lines_in (drop (end + 1) bytes)) bs → HasProblem bytes f bs
 with_blocks bytes start end f bs h framed says blocks =
     let long : length (drop (end + 1) bytes) ≡ length bytes - (end + 1) = length-drop (end + 1) bytes in

@@ -1,0 +1,26 @@
+-- The tests in turn.
+use Rattle.std.proofs.Common.{sym, ◌∙◌}
+use Rattle.term_bank.specs.Bank.{tree_at}
+use Rattle.term_order.specs.Kbo.{kbo_greater}
+use Rattle.term_order.specs.Precedences.{stands_above, weight_at}
+use Rattle.term_order.proofs.Comparing.{they_are_same, first_is_greater, second_is_greater, none_is_greater}
+use Rattle.term_order.proofs.precedence.Precedence.kbo.Goals as goal
+
+pub returns-then-same : goal.returns-then-same
+returns-then-same c =
+    they_are_same (kbo_greater (stands_above c.args.self.now.rows.items) (weight_at c.args.self.now.rows.items)) (tree_at c.args.bank.now c.args.s.0) (tree_at c.args.bank.now c.args.t.0) (c.same.ensures.0 c.if-same.true)
+
+pub returns-then-outweighs : goal.returns-then-outweighs
+returns-then-outweighs c =
+    first_is_greater (kbo_greater (stands_above c.args.self.now.rows.items) (weight_at c.args.self.now.rows.items)) (tree_at c.args.bank.now c.args.s.0) (tree_at c.args.bank.now c.args.t.0)
+    (λ e. (let yes = c.same.ensures.1 e in let no = c.if-same.false in cc)) (sym c.outweighs.ensures ∙ c.if-outweighs.true)
+
+pub returns-then-outweighs-2 : goal.returns-then-outweighs-2
+returns-then-outweighs-2 c =
+    second_is_greater (kbo_greater (stands_above c.args.self.now.rows.items) (weight_at c.args.self.now.rows.items)) (tree_at c.args.bank.now c.args.s.0) (tree_at c.args.bank.now c.args.t.0)
+    (λ e. (let yes = c.same.ensures.1 e in let no = c.if-same.false in cc)) (sym c.outweighs.ensures ∙ c.if-outweighs.false) (sym c.outweighs-2.ensures ∙ c.if-outweighs-2.true)
+
+pub returns : goal.returns
+returns c =
+    none_is_greater (kbo_greater (stands_above c.args.self.now.rows.items) (weight_at c.args.self.now.rows.items)) (tree_at c.args.bank.now c.args.s.0) (tree_at c.args.bank.now c.args.t.0)
+    (λ e. (let yes = c.same.ensures.1 e in let no = c.if-same.false in cc)) (sym c.outweighs.ensures ∙ c.if-outweighs.false) (sym c.outweighs-2.ensures ∙ c.if-outweighs-2.false)

@@ -1,0 +1,10 @@
+// How two terms compare.
+
+/// Which of two terms is greater, if they aren't the same.
+#[derive(Clone, Copy, Debug, PartialEq, Eq)]
+pub enum Compared {
+    Greater,
+    Less,
+    Same,
+    NotComparable,
+}
