@@ -40,6 +40,6 @@ fn an_open_block_is_refused(rt: HostRuntime) -> Result<(), Fail> {
     let text =
         b"% Input 0\n\n============================== PROOF =================================\n";
     let read = read_proof(rt.alloc(), text);
-    assert!(rt; matches!(read, Err(ReadError::Unreadable(place)) if place.byte == 82));
+    assert!(rt; matches!(&read, Err(ReadError::Unreadable(place)) if place.byte == 82));
     Ok(())
 }
