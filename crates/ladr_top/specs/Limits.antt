@@ -2,6 +2,7 @@
 use Rattle.std.specs.Prelude.{◌≡◌}
 use Rattle.clausify.specs.declared.limit.TheConstants.{MOST_CLAUSES}
 use Rattle.ladr_lex.specs.declared.limits.TheConstants.{MOST_BYTES, MOST_LEVELS, MOST_SYMBOLS, MOST_ARGUMENTS, MOST_ELEMENT}
+use Rattle.proof_lines.specs.declared.literals.TheConstants.{MOST_ATOM_LEVELS, MOST_LITERAL_LEVELS}
 use Rattle.model_tables.specs.declared.limits.TheConstants.{MOST_CELLS}
 
 -- bytes of an input, levels of a term, symbols of a problem and arguments of a symbol, the greatest
@@ -11,6 +12,11 @@ AreOfTheLanguage =
     (MOST_BYTES ≡ 16777216) × (MOST_LEVELS ≡ 500) × (MOST_SYMBOLS ≡ 65535)
     × (MOST_ARGUMENTS ≡ 255) × (MOST_ELEMENT ≡ 999999999)
 
+-- levels of an atom of a clause in a proof's line, and of such a literal, whose denial counts
+abbrev pub AreOfLines : Type 0
+AreOfLines = (MOST_ATOM_LEVELS ≡ 1000) × (MOST_LITERAL_LEVELS ≡ 1001)
+
 -- and clauses of a formula, and cells of a size
 abbrev pub AreLimits : Type 0
-AreLimits = AreOfTheLanguage × (MOST_CLAUSES ≡ 20000) × (MOST_CELLS ≡ 50000000)
+AreLimits =
+    AreOfTheLanguage × AreOfLines × (MOST_CLAUSES ≡ 20000) × (MOST_CELLS ≡ 50000000)
