@@ -4,11 +4,11 @@ use Rattle.mace_cells.specs.Trails.{Partial, is_struck_off}
 use Rattle.mace_cells.specs.World.{World}
 
 -- what is searched for, and the table so far
-pub record Position : Type 0 where
+pub record BoardPosition : Type 0 where
   pub world : World
   pub table : Partial
 
-abbrev pub position : World → Partial → Position
+abbrev pub position : World → Partial → BoardPosition
 position world table = record { world = world; table = table }
 
 -- the values of a cell from v on and below u are crossed off

@@ -14,7 +14,7 @@ use Rattle.mace_ground.specs.GroundCodes.{coded_block}
 use Rattle.model_tables.specs.Tables.{Finite}
 use Rattle.model_tables.specs.TablesCodes.{coded_finite}
 use Rattle.cell_search.specs.Courses.{Course}
-use Rattle.cell_search.specs.Positions.{Position, position}
+use Rattle.cell_search.specs.Positions.{BoardPosition, position}
 
 abbrev pub coded_world : Coded World
 coded_world =
@@ -36,7 +36,7 @@ coded_partial =
     (λ t. ((t.many, t.stride), (t.entries, t.crossings)))
     (λ p. partial p.0.0 p.0.1 p.1.0 p.1.1) (λ _. refl)
 
-abbrev pub coded_position : Coded Position
+abbrev pub coded_position : Coded BoardPosition
 coded_position =
     code_by (World × Partial) (coded× coded_world coded_partial) (λ s. (s.world, s.table))
     (λ p. position p.0 p.1) (λ _. refl)

@@ -36,13 +36,13 @@ pub struct Cells<'a> {
 impl<'a> Model for Cells<'a> {
     ghost use Rattle.std.specs.Prelude.{length};
     ghost use Rattle.cell_search.specs.Full.{HaveVariables};
-    ghost use Rattle.cell_search.specs.Positions.{Position};
+    ghost use Rattle.cell_search.specs.Positions.{BoardPosition};
     ghost use Rattle.cell_search.specs.SearchCodes.{coded_position};
     ghost use Rattle.cell_search.specs.Searchable.{HasAllCells};
     ghost use Rattle.cell_search.specs.Losses.{IsBoard};
     ghost use Rattle.model_tables.specs.Size.{AllBelow};
 
-    ghost Value = { Position };
+    ghost Value = { BoardPosition };
 
     ghost coded = { coded_position };
 

@@ -15,4 +15,4 @@ mod tables;
 mod walk;
 mod walks;
 
-pub use search::Search;
+pub use search::CellSearch;

@@ -53,14 +53,14 @@ fn above_numeral(numeral: Option<u32>) -> u64
 
 /// A search for the models of a size; contracts see its course.
 #[derive(Drop)]
-pub struct Search<'a> {
+pub struct CellSearch<'a> {
     cells: Cells<'a>,
     frames: Stack<Frame>,
     stop: Option<u128>,
     state: State,
 }
 
-impl<'a> Model for Search<'a> {
+impl<'a> Model for CellSearch<'a> {
     ghost use Rattle.cell_search.specs.Courses.{Course, live_in, late_in, IsStateOf};
     ghost use Rattle.cell_search.specs.Finites.{finite_of};
     ghost use Rattle.cell_search.specs.SearchCodes.{coded_course};
@@ -87,7 +87,7 @@ impl<'a> Model for Search<'a> {
     } };
 }
 
-impl<'a> Search<'a> {
+impl<'a> CellSearch<'a> {
     /// A search for models of `size` elements, at most 255, which stops at a reading of the clock from `stop` on. All tables are
     /// ahead. It takes all the memory that it will need.
     pub fn new(
@@ -96,7 +96,7 @@ impl<'a> Search<'a> {
         symbols: &Symbols,
         size: u32,
         stop: Option<u128>,
-    ) -> Result<Search<'a>, AllocError>
+    ) -> Result<CellSearch<'a>, AllocError>
         requires size { size ≤ 255 }
         requires count { ground_count size symbols.now clauses.now ≤ MOST_CELLS }
         requires searchable { HasAllCells (world_of symbols.now clauses.now size) }
@@ -120,7 +120,7 @@ impl<'a> Search<'a> {
         let groups = groups(alloc, &setup, &clauses.clauses)?;
         let walks = walks(alloc, &clauses.clauses)?;
         let cells = Cells::new(alloc, setup, walks, groups)?;
-        Ok(Search {
+        Ok(CellSearch {
             cells,
             frames,
             stop,

@@ -10,14 +10,14 @@ use Rattle.term_order.specs.Compared.{trees_under, is_greater_than_each, AreComm
 use Rattle.term_order.specs.Laws.{IsSymbolOrder}
 use Rattle.term_order.specs.Lpo.{lpo_greater, some_at_least}
 use Rattle.term_order.specs.Precedences.{stands_above, row_at}
-use Rattle.term_order.specs.declared.precedence.Row.{Row}
+use Rattle.term_order.specs.declared.precedence.SymbolRow.{SymbolRow}
 use Rattle.term_order.proofs.Fronts.{under_at, under_length}
 use Rattle.term_order.proofs.LpoCases.{each, above_case, below_case, short_case, long_case, other_case, greater_case}
 use Rattle.term_order.proofs.Tests.{split_or, split_and, left_or, right_or, both_and}
 use Rattle.unifiers.specs.Matching.{same_tree}
 
 -- the order of symbols is one
-module _ (rows : List Row) where
+module _ (rows : List SymbolRow) where
   data Comes (a b x y f g : ℕ) : Type 0 where
     by_list : b < a → Comes a b x y f g
     by_arity : a ≡ b → y < x → Comes a b x y f g

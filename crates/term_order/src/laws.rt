@@ -4,7 +4,7 @@ ghost use Rattle.term_order.specs.Kbo.{kbo_greater};
 ghost use Rattle.term_order.specs.Laws.{IsSymbolOrder, IsTermOrder};
 ghost use Rattle.term_order.specs.Lpo.{lpo_greater};
 ghost use Rattle.term_order.specs.Precedences.{stands_above};
-ghost use Rattle.term_order.specs.declared.precedence.Row.{Row};
+ghost use Rattle.term_order.specs.declared.precedence.SymbolRow.{SymbolRow};
 ghost use Rattle.term_order.specs.Worked.{WorkedPathOrder, WorkedWeightOrder};
 
 /// Whatever the order of symbols, no term is above itself by the path order, what is above a term is above all below it, and
@@ -21,7 +21,7 @@ pub fn kbo_is_order()
 
 /// Rows order the symbols.
 pub fn symbols_are_ordered()
-    ensures { (rows : List Row) → IsSymbolOrder (stands_above rows) }
+    ensures { (rows : List SymbolRow) → IsSymbolOrder (stands_above rows) }
 {}
 
 /// Terms compared.

@@ -9,4 +9,4 @@ mod precedence;
 
 pub use compared::Compared;
 pub use laws::{kbo_is_order, lpo_is_order, symbols_are_ordered, worked};
-pub use precedence::{Precedence, Row};
+pub use precedence::{Precedence, SymbolRow};

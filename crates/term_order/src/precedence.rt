@@ -8,7 +8,7 @@ use ladr_options::Order;
 /// How a symbol stands in the order of symbols: its name's place among those that the file lists, from 1 on, or 0; then its
 /// arity. And what it weighs.
 #[derive(Clone, Copy, Debug, PartialEq, Eq)]
-pub struct Row {
+pub struct SymbolRow {
     pub listed: u64,
     pub arity: u64,
     pub weight: u32,
@@ -18,17 +18,17 @@ pub struct Row {
 #[derive(Drop)]
 pub struct Precedence {
     pub order: Order,
-    pub rows: Vec<Row>,
+    pub rows: Vec<SymbolRow>,
 }
 
 impl Precedence {
     // The symbol's row; one without a row is listed nowhere.
-    fn row(&self, f: Sym) -> Row
+    fn row(&self, f: Sym) -> SymbolRow
         ensures { result ≡ row_at self.now.rows.items f.0 }
     {
         match self.rows.as_slice().get(f.0 as usize) {
             Some(row) => *row,
-            None => Row {
+            None => SymbolRow {
                 listed: 0,
                 arity: 0,
                 weight: 1,

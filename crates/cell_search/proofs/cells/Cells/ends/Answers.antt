@@ -4,7 +4,7 @@ use Rattle.mace_cells.specs.Trails.{value_in}
 use Rattle.mace_cells.specs.World.{IsRefuted}
 use Rattle.mace_cells.specs.declared.board.Status.{Status}
 use Rattle.cell_search.specs.Finites.{finite_of, meaning_by_cells, AreTablesFor}
-use Rattle.cell_search.specs.Positions.{Position}
+use Rattle.cell_search.specs.Positions.{BoardPosition}
 use Rattle.cell_search.specs.Losses.{decided_in}
 use Rattle.cell_search.proofs.Boards.{settled, none_settled}
 use Rattle.cell_search.proofs.Tabling.{tables_whole}
@@ -14,15 +14,15 @@ use Rattle.cell_search.proofs.cells.Cells.ends.Goals as goal
 pub returns-in-Open-clause-open : goal.returns-in-Open-clause-open
 returns-in-Open-clause-open c = λ k is.
     let same : c.in-Open.cell ≡ k = cc in
-    ap (λ (j : ℕ). value_in c.args.self.now.table.entries j) (sym same) ∙ subst (λ (p : Position). value_in p.table.entries c.in-Open.cell ≡ None) c.self.view_is c.in-Open.ensures.2
+    ap (λ (j : ℕ). value_in c.args.self.now.table.entries j) (sym same) ∙ subst (λ (p : BoardPosition). value_in p.table.entries c.in-Open.cell ≡ None) c.self.view_is c.in-Open.ensures.2
 
 pub returns-in-Amiss-clause-told : goal.returns-in-Amiss-clause-told
-returns-in-Amiss-clause-told c = subst (λ (p : Position). IsRefuted p.world (decided_in p.world p.table.entries)) c.self.view_is c.in-Amiss.ensures
+returns-in-Amiss-clause-told c = subst (λ (p : BoardPosition). IsRefuted p.world (decided_in p.world p.table.entries)) c.self.view_is c.in-Amiss.ensures
 
 pub returns-after-are_true-clause-told : goal.returns-after-are_true-clause-told
 returns-after-are_true-clause-told c =
     let a = c.self.inside in
-    subst (λ (p : Position). IsAsSaid p.world (decided_in p.world p.table.entries) (meaning_by_cells p.world p.table.entries) c.if-are_true.result) c.self.view_is
+    subst (λ (p : BoardPosition). IsAsSaid p.world (decided_in p.world p.table.entries) (meaning_by_cells p.world p.table.entries) c.if-are_true.result) c.self.view_is
     (
     elim c.if-are_true.branch [
       | then-are_true v ↦
@@ -37,5 +37,5 @@ returns-after-are_true-clause-told c =
 pub returns-after-are_true-clause-full : goal.returns-after-are_true-clause-full
 returns-after-are_true-clause-full c = λ e.
     let a = c.self.inside in
-    subst (λ (p : Position). AreTablesFor p.world (finite_of p.world p.table.entries)) c.self.view_is
+    subst (λ (p : BoardPosition). AreTablesFor p.world (finite_of p.world p.table.entries)) c.self.view_is
     (tables_whole a.setup a.trail.entries c.self.invariant.board.some c.in-Full.ensures)

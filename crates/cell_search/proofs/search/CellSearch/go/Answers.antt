@@ -3,7 +3,7 @@ use Rattle.cell_search.specs.Courses.{Course, AnswersByCells, live_in, late_in}
 use Rattle.mace_cells.specs.Leaves.{choices_of}
 use Rattle.cell_search.specs.Finites.{finite_of}
 use Rattle.cell_search.proofs.Givings.{gives_by}
-use Rattle.cell_search.proofs.search.Search.go.Goals as goal
+use Rattle.cell_search.proofs.search.CellSearch.go.Goals as goal
 
 pub returns-clause-gives : goal.returns-clause-gives
 returns-clause-gives g c =
