@@ -31,19 +31,26 @@ Works symbols old new f =
     × (new.scope.items ≡ old.scope.items)
     × (new.terms.items ≡ old.terms.items)
 
+-- the next symbol where work stands
+abbrev pub symbol_at : List ℕ → Work → ℕ
+symbol_at symbols work = slice_index symbols (length work.entries.items)
+
+-- its witness for a variable in a body
+abbrev pub axiom_at : List ℕ → Work → ℕ → Fol → SkolemAxiom
+axiom_at symbols work x body =
+    record { symbol = symbol_at symbols work; variables = work.scope.items; variable = x; body = body }
+
 -- a Skolem symbol is noted, and its term given for the variable, in front of whose body work stood
 abbrev pub BeginsWork : List ℕ → Work → Work → ℕ → Fol → Type 0
-BeginsWork symbols old new variable body =
-    let symbol = slice_index symbols (length old.entries.items) in
-    (map skolem_axiom_of new.entries.items ≡ map skolem_axiom_of old.entries.items
-    ++ record { symbol = symbol; variables = old.scope.items; variable = variable; body = body }
-    ∷ [])
+BeginsWork symbols old new x body =
+    (map skolem_axiom_of new.entries.items
+    ≡ map skolem_axiom_of old.entries.items ++ axiom_at symbols old x body ∷ [])
     × (length new.entries.items ≡ length old.entries.items + 1)
     × (new.scope.items ≡ old.scope.items)
     × (take (length old.terms.items) new.terms.items ≡ old.terms.items)
     × (length new.terms.items ≡ length old.terms.items + 1)
-    × (substitution_kept new.terms.items
-    ≡ with_term (substitution_kept old.terms.items) variable (skolem_term symbol old.scope.items))
+    × (substitution_kept new.terms.items ≡ with_term (substitution_kept old.terms.items) x
+    (skolem_term (symbol_at symbols old) old.scope.items))
 
 -- what the work in front of one form gives is what the work in front of another gives
 abbrev pub LeadsWork : List ℕ → Work → Work → Fol → Fol → Type 0

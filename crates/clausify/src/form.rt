@@ -31,7 +31,8 @@ pub fn form(
 // The negation normal form of a part.
 #[cycle(form)]
 fn part(alloc: Global, sub: &Sub, sign: bool, values: &[(u64, Term)]) -> Result<Sub, AllocError>
-    ensures { IfOk result (λ f. f ≡ substitute_in (substitution_kept values.now) (nnf_of sign sub.now)) }
+    ensures { IfOk result (λ f. f
+        ≡ substitute_in (substitution_kept values.now) (nnf_of sign sub.now)) }
 {
     let shape = form(alloc, &sub.shape, sign, values)?;
     Sub::new(alloc, shape)

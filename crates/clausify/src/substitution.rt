@@ -27,7 +27,8 @@ fn term_for(alloc: Global, x: u64, values: &[(u64, Term)]) -> Result<Term, Alloc
 /// The term with terms put in for its variables.
 
 pub fn substitute(alloc: Global, term: &Term, values: &[(u64, Term)]) -> Result<Term, AllocError>
-    ensures { IfOk result (λ t. tree_of t ≡ substitute (substitution_kept values.now) (tree_of term.now)) }
+    ensures { IfOk result (λ t. tree_of t
+        ≡ substitute (substitution_kept values.now) (tree_of term.now)) }
 {
     match term {
         Term::Var(x) => term_for(alloc, *x, values),

@@ -4,7 +4,7 @@ use Rattle.std.specs.Global.{Vec}
 use Rattle.std.specs.Map.{lookup}
 use Rattle.std.specs.Str.{bytes_eq}
 use Rattle.indexmap.specs.IndexMap.{insert_entry}
-use Rattle.fol_core.specs.KboRows.{kbo_rows_of, is_weighed, with_weight}
+use Rattle.fol_core.specs.KboRows.{kbo_rows_of, is_weighed, with_weight, weight_in}
 
 pub has_weight : (name : List ℕ) (rows : List (Vec ℕ × ℕ)) → is_some (lookup (λ v. bytes_eq name v.items) rows) ≡ is_weighed name (kbo_rows_of rows)
 has_weight name [] = refl
@@ -32,3 +32,8 @@ row_put rows copy weight new = last rows new ∙ sym (ap (λ b. if b then kbo_ro
 
 pub there_stays : (name : List ℕ) (weight : ℕ) (rows : List (List ℕ × ℕ)) → is_weighed name rows ≡ true → rows ≡ with_weight name weight rows
 there_stays name weight rows there = sym (ap (λ b. if b then rows else rows ++ (name, weight) ∷ []) there)
+
+-- a name weighs what it weighs among the rows that are kept
+pub same_weight : (name : List ℕ) (rows : List (Vec ℕ × ℕ)) → lookup (λ v. bytes_eq name v.items) rows ≡ weight_in name (kbo_rows_of rows)
+same_weight name [] = refl
+same_weight name (r ∷ rows) = ap (cond (bytes_eq name r.0.items) (Some r.1)) (same_weight name rows)

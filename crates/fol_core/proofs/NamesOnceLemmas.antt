@@ -1,12 +1,12 @@
 -- What a set of names has is what the list of its names has.
-use Rattle.std.proofs.Common.{◌≡◌, ℕ, Bool, true, false, ◌||◌, ◌&&◌, not, if◌then◌else◌, List, [], ◌∷◌, ◌++◌, refl, sym, ap, ◌∙◌}
+use Rattle.std.proofs.Common.{◌≡◌, ℕ, Bool, true, false, ◌||◌, ◌&&◌, not, if◌then◌else◌, List, [], ◌∷◌, ◌++◌, position, refl, sym, ap, ◌∙◌, arith}
 use Rattle.std.specs.Global.{Vec}
 use Rattle.std.specs.List.{list_any}
 use Rattle.std.specs.Str.{bytes_eq}
 use Rattle.indexmap.specs.IndexSet.{insert_key}
 use Rattle.std.proofs.lemmas.Bool.{and_parts}
 use Rattle.std.proofs.lemmas.Slice.Eq.{bytes_eq-Decides}
-use Rattle.fol_core.specs.NamesOnce.{names_of, is_in, are_apart, with_name}
+use Rattle.fol_core.specs.NamesOnce.{names_of, is_in, are_apart, with_name, place_in}
 
 pub is_among : (name : List ℕ) (names : List (Vec ℕ)) → list_any (λ v. bytes_eq name v.items) names ≡ is_in name (names_of names)
 is_among name [] = refl
@@ -73,3 +73,8 @@ apart_more (n ∷ names) name apart new =
 
     both : {a b : Bool} → a ≡ true → b ≡ true → (a && b) ≡ true
     both e f = cc
+
+-- a name has the place that it has among the names that are kept
+pub same_place : (name : List ℕ) (names : List (Vec ℕ)) → position (λ v. bytes_eq name v.items) names ≡ place_in name (names_of names)
+same_place name [] = refl
+same_place name (v ∷ names) = grind (arith, same_place name names)

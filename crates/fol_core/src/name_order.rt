@@ -1,6 +1,6 @@
 // Names in an order, each once.
 ghost use Rattle.std.specs.Prelude.{◌≡◌, [], not, length, IfOk, OnOk, OnErr};
-ghost use Rattle.fol_core.specs.NamesOnce.{is_in, with_name, names_of};
+ghost use Rattle.fol_core.specs.NamesOnce.{is_in, with_name, names_of, place_in};
 
 use indexmap::IndexSet;
 use std::alloc::{AllocError, Global};
@@ -36,6 +36,13 @@ impl NameOrder {
         ensures { result ≡ length self.now }
     {
         self.names.len()
+    }
+
+    /// The place of a name among them, counted from 0.
+    pub fn position(&self, name: &[u8]) -> Option<usize>
+        ensures { result ≡ place_in name.now self.now }
+    {
+        self.names.get_index_of(name)
     }
 
     /// Puts a name behind the others, unless it is one of them; whether it was not.

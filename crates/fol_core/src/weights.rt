@@ -1,6 +1,6 @@
 // Rules of weights: what a pattern weighs, and the weights of symbols for an order of terms.
 ghost use Rattle.std.specs.Prelude.{◌≡◌, [], not, map, IfOk, OnOk, OnErr};
-ghost use Rattle.fol_core.specs.KboRows.{is_weighed, with_weight, kbo_rows_of};
+ghost use Rattle.fol_core.specs.KboRows.{is_weighed, with_weight, kbo_rows_of, weight_in};
 ghost use Rattle.fol_core.specs.WeightView.{weight_of};
 
 use crate::name::Name;
@@ -103,6 +103,13 @@ impl KboWeights {
         KboWeights {
             weights: IndexMap::new(alloc),
         }
+    }
+
+    /// What the name weighs, if it has a weight.
+    pub fn weight(&self, name: &[u8]) -> Option<u32>
+        ensures { result ≡ weight_in name.now self.now }
+    {
+        self.weights.get(name).copied()
     }
 
     /// Puts the weight of a name behind the others, unless the name has one; whether it had none.

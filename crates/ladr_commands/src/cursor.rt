@@ -52,7 +52,8 @@ impl<'a> Cursor<'a> {
         ensures passed { IfOk result (λ t. self.old ≡ lexeme_of t ∷ self.new) }
         ensures fits { IfOk result (λ t. fits wanted (lexeme_of t) ≡ true) }
         ensures ok { IfOk result (λ t. (onward : Lexeme → Form)
-            → form_outcome (token wanted onward) self.old ≡ form_outcome (onward (lexeme_of t)) self.new) }
+            → form_outcome (token wanted onward) self.old
+            ≡ form_outcome (onward (lexeme_of t)) self.new) }
         ensures bad { result ≡ Err fault.Bad → (onward : Lexeme → Form)
             → form_outcome (token wanted onward) self.old ≡ stops self.new }
     {

@@ -21,7 +21,8 @@ use std::alloc::Global;
 
 /// `(n, [name = number, ..], [entry, ..]).`
 pub fn opened_interpretation(alloc: Global, cursor: &mut Cursor) -> Result<ByName, Fault>
-    ensures ok { IfOk result (λ it. form_outcome interpretation cursor.old ≡ reads (Interpretation it)) }
+    ensures ok { IfOk result (λ it. form_outcome interpretation cursor.old
+        ≡ reads (Interpretation it)) }
     ensures bad { result ≡ Err Bad → form_outcome interpretation cursor.old ≡ stops cursor.new }
 {
     cursor.take(Wanted::Open)?;
@@ -50,7 +51,8 @@ fn comment_list(cursor: &mut Cursor) -> Result<(), Fault>
 
 // `= number`, and then further comments up to `]`.
 fn comments(cursor: &mut Cursor) -> Result<(), Fault>
-    ensures ok { OnOk result ((f : Form) → form_outcome (comment f) cursor.old ≡ form_outcome f cursor.new) }
+    ensures ok { OnOk result ((f : Form) → form_outcome (comment f) cursor.old
+        ≡ form_outcome f cursor.new) }
     ensures bad { result ≡ Err Bad → (f : Form)
         → form_outcome (comment f) cursor.old ≡ stops cursor.new }
 {
@@ -63,7 +65,8 @@ fn comments(cursor: &mut Cursor) -> Result<(), Fault>
 // `= number`, and whether a comma stands behind it, or else `]`.
 fn comment(cursor: &mut Cursor) -> Result<bool, Fault>
     ensures ok { IfOk result (λ more. (f : Form)
-        → form_outcome (comment f) cursor.old ≡ form_outcome (if more then comments f else f) cursor.new) }
+        → form_outcome (comment f) cursor.old
+        ≡ form_outcome (if more then comments f else f) cursor.new) }
     ensures bad { result ≡ Err Bad → (f : Form)
         → form_outcome (comment f) cursor.old ≡ stops cursor.new }
     ensures shorter { OnOk result (length cursor.new < length cursor.old) }
@@ -111,7 +114,8 @@ fn entries(
 ) -> Result<Vec<TableEntry>, Fault>
     ensures ok { IfOk result (λ es. form_outcome (entry size [] kind) cursor.old
         ≡ form_outcome (closed (Interpretation (by_name size es.items))) cursor.new) }
-    ensures bad { result ≡ Err Bad → form_outcome (entry size [] kind) cursor.old ≡ stops cursor.new }
+    ensures bad { result ≡ Err Bad → form_outcome (entry size [] kind) cursor.old
+        ≡ stops cursor.new }
 {
     let mut entries = Vec::new(alloc);
     let mut kind = kind;
@@ -163,7 +167,8 @@ fn arity(cursor: &mut Cursor) -> Result<u64, Fault>
         → form_outcome (token CommaOrOpen (behind_entry_name n es kind name)) cursor.old
         ≡ form_outcome (entry_values n es kind name arity) cursor.new) }
     ensures bad { result ≡ Err Bad → (n : ℕ) (es : List NamedTable) (kind : Kind) (name : List ℕ)
-        → form_outcome (token CommaOrOpen (behind_entry_name n es kind name)) cursor.old ≡ stops cursor.new }
+        → form_outcome (token CommaOrOpen (behind_entry_name n es kind name)) cursor.old
+        ≡ stops cursor.new }
     ensures shorter { OnOk result (length cursor.new ≤ length cursor.old) }
 {
     let mark = cursor.take(Wanted::CommaOrOpen)?;

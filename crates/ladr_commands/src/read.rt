@@ -53,7 +53,8 @@ pub fn read_interpretation(alloc: Global, tokens: &[Token]) -> Result<ByName, Co
 fn worded_interpretation(alloc: Global, cursor: &mut Cursor) -> Result<ByName, Fault>
     ensures ok { IfOk result (λ it. form_outcome interpretation_item cursor.old
         ≡ reads (Interpretation it)) }
-    ensures bad { result ≡ Err Bad → form_outcome interpretation_item cursor.old ≡ stops cursor.new }
+    ensures bad { result ≡ Err Bad → form_outcome interpretation_item cursor.old
+        ≡ stops cursor.new }
 {
     cursor.take(Wanted::InterpretationWord)?;
     opened_interpretation(alloc, cursor)
@@ -62,7 +63,8 @@ fn worded_interpretation(alloc: Global, cursor: &mut Cursor) -> Result<ByName, F
 // All that is left is a command.
 fn command(alloc: Global, tester: bool, cursor: &mut Cursor) -> Result<Command, Fault>
     ensures ok { IfOk result (λ c. form_outcome (commands_of tester) cursor.old ≡ reads c) }
-    ensures bad { result ≡ Err Bad → form_outcome (commands_of tester) cursor.old ≡ stops cursor.new }
+    ensures bad { result ≡ Err Bad → form_outcome (commands_of tester) cursor.old
+        ≡ stops cursor.new }
 {
     let token = first_word(tester, cursor)?;
     behind_first(alloc, cursor, &token)
@@ -72,7 +74,8 @@ fn command(alloc: Global, tester: bool, cursor: &mut Cursor) -> Result<Command, 
 fn first_word<'a>(tester: bool, cursor: &mut Cursor<'a>) -> Result<Token<'a>, Fault>
     ensures ok { IfOk result (λ t. form_outcome (commands_of tester) cursor.old
         ≡ form_outcome (behind_first_token (lexeme_of t)) cursor.new) }
-    ensures bad { result ≡ Err Bad → form_outcome (commands_of tester) cursor.old ≡ stops cursor.new }
+    ensures bad { result ≡ Err Bad → form_outcome (commands_of tester) cursor.old
+        ≡ stops cursor.new }
 {
     if tester {
         cursor.take(Wanted::TesterWord)
@@ -83,9 +86,10 @@ fn first_word<'a>(tester: bool, cursor: &mut Cursor<'a>) -> Result<Token<'a>, Fa
 
 // What stands behind the first token.
 fn behind_first(alloc: Global, cursor: &mut Cursor, first: &Token) -> Result<Command, Fault>
-    ensures ok { IfOk result (λ c. form_outcome (behind_first_token (lexeme_of first.now)) cursor.old
-        ≡ reads c) }
-    ensures bad { result ≡ Err Bad → form_outcome (behind_first_token (lexeme_of first.now)) cursor.old
+    ensures ok { IfOk result (λ c.
+        form_outcome (behind_first_token (lexeme_of first.now)) cursor.old ≡ reads c) }
+    ensures bad { result ≡ Err Bad
+        → form_outcome (behind_first_token (lexeme_of first.now)) cursor.old
         ≡ stops cursor.new }
 {
     if is_interpretation(first) {
@@ -178,7 +182,8 @@ fn member(alloc: Global, cursor: &mut Cursor) -> Result<(Name, bool), Fault>
 // `name, .., name]`
 fn names(alloc: Global, cursor: &mut Cursor) -> Result<Names, Fault>
     ensures ok { IfOk result (λ names. (onward : List (List ℕ) → Form)
-        → form_outcome (members Symbol [] onward) cursor.old ≡ form_outcome (onward names) cursor.new) }
+        → form_outcome (members Symbol [] onward) cursor.old
+        ≡ form_outcome (onward names) cursor.new) }
     ensures bad { result ≡ Err Bad → (onward : List (List ℕ) → Form)
         → form_outcome (members Symbol [] onward) cursor.old ≡ stops cursor.new }
 {
@@ -209,7 +214,8 @@ fn opened_names(alloc: Global, cursor: &mut Cursor) -> Result<Names, Fault>
 // `(name, value).`
 fn opened_assignment(alloc: Global, cursor: &mut Cursor) -> Result<Command, Fault>
     ensures ok { IfOk result (λ c. form_outcome (opened assign_form) cursor.old ≡ reads c) }
-    ensures bad { result ≡ Err Bad → form_outcome (opened assign_form) cursor.old ≡ stops cursor.new }
+    ensures bad { result ≡ Err Bad → form_outcome (opened assign_form) cursor.old
+        ≡ stops cursor.new }
 {
     cursor.take(Wanted::Open)?;
     let name = cursor.take(Wanted::Symbol)?;
@@ -265,7 +271,8 @@ fn whole_in(token: &Token) -> u64
 // `(number, type, symbols).`
 fn opened_declaration(alloc: Global, cursor: &mut Cursor) -> Result<Command, Fault>
     ensures ok { IfOk result (λ c. form_outcome (opened declaration) cursor.old ≡ reads c) }
-    ensures bad { result ≡ Err Bad → form_outcome (opened declaration) cursor.old ≡ stops cursor.new }
+    ensures bad { result ≡ Err Bad → form_outcome (opened declaration) cursor.old
+        ≡ stops cursor.new }
 {
     cursor.take(Wanted::Open)?;
     let precedence = cursor.take(Wanted::Numeral)?;
@@ -283,7 +290,8 @@ fn closed_symbols(alloc: Global, cursor: &mut Cursor) -> Result<Names, Fault>
         → form_outcome (token SymbolOrOpenSquare (behind_type p type)) cursor.old
         ≡ reads (command.Op p type names)) }
     ensures bad { result ≡ Err Bad → (p : ℕ) (type : List ℕ)
-        → form_outcome (token SymbolOrOpenSquare (behind_type p type)) cursor.old ≡ stops cursor.new }
+        → form_outcome (token SymbolOrOpenSquare (behind_type p type)) cursor.old
+        ≡ stops cursor.new }
 {
     let token = cursor.take(Wanted::SymbolOrOpenSquare)?;
     if is_open_square(&token) {

@@ -14,7 +14,8 @@ pub fn worked_formulas()
     ensures bound_and_free { (formula_reading for_tester [] bound_and_free).tree
         ≡ forall 0 (atom 0 (more (var 0) (more (function 1 (var 1)) none))) }
     ensures names { names_of_variables
-        (formula_reading for_tester [] bound_and_free).reading.variables ≡ codes "x" ∷ codes "y" ∷ [] }
+        (formula_reading for_tester [] bound_and_free).reading.variables
+        ≡ codes "x" ∷ codes "y" ∷ [] }
     ensures symbols { (formula_reading for_tester [] bound_and_free).reading.symbols
         ≡ symbol (codes "p") 2 Relation ∷ symbol (codes "f") 1 Function ∷ [] }
     // f(f(x)) = x

@@ -26,7 +26,12 @@ pub struct Readings {
 impl Model for Readings {
     ghost Value = { Times };
 
-    ghost view = { λ r. record { count = r.count; first = r.first; last = r.last; between = r.between } };
+    ghost view = { λ r. record {
+      count = r.count;
+      first = r.first;
+      last = r.last;
+      between = r.between;
+    } };
 }
 
 impl Readings {

@@ -20,7 +20,12 @@ struct Calls {
 impl Model for Calls {
     ghost Value = { CallsState };
 
-    ghost view = { λ c. record { fails = c.fails.items; made = c.made; faults = c.faults; over = c.over } };
+    ghost view = { λ c. record {
+      fails = c.fails.items;
+      made = c.made;
+      faults = c.faults;
+      over = c.over;
+    } };
 }
 
 impl Calls {
@@ -78,7 +83,11 @@ pub struct MemSource {
 impl Model for MemSource {
     ghost Value = { SourceState };
 
-    ghost view = { λ s. record { left = drop s.at s.bytes.items; piece = s.piece; calls = s.calls } };
+    ghost view = { λ s. record {
+      left = drop s.at s.bytes.items;
+      piece = s.piece;
+      calls = s.calls;
+    } };
 
     ghost invariant = { λ s. (s.at ≤ length s.bytes.items) × (0 < s.piece) };
 }

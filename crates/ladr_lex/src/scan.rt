@@ -146,8 +146,10 @@ fn add<'a>(
 ) -> Result<(), AllocError>
     requires place { at < length bytes.now }
     requires text { start + length bytes.now < 2 ^ 64 }
-    requires kind { kind_beginning (slice_index bytes.now at) (drop (at + 1) bytes.now) ≡ Some kind }
-    requires end { end ≡ at + 1 + length_behind (slice_index bytes.now at) (drop (at + 1) bytes.now) }
+    requires kind { kind_beginning (slice_index bytes.now at) (drop (at + 1) bytes.now)
+        ≡ Some kind }
+    requires end { end
+        ≡ at + 1 + length_behind (slice_index bytes.now at) (drop (at + 1) bytes.now) }
     requires within { end ≤ length bytes.now }
     ensures { OnOk result (Advances start bytes.now found.old.items found.new.items at end) }
 {
@@ -163,7 +165,8 @@ fn add<'a>(
 fn piece_at(bytes: &[u8], at: usize) -> (Option<TokenKind>, usize)
     requires { at < length bytes.now }
     ensures kind { result.0 ≡ kind_beginning (slice_index bytes.now at) (drop (at + 1) bytes.now) }
-    ensures end { result.1 ≡ at + 1 + length_behind (slice_index bytes.now at) (drop (at + 1) bytes.now) }
+    ensures end { result.1
+        ≡ at + 1 + length_behind (slice_index bytes.now at) (drop (at + 1) bytes.now) }
     ensures within { result.1 ≤ length bytes.now }
 {
     match start_of(bytes[at]) {

@@ -39,7 +39,8 @@ impl Model for Disjuncts {
 
     ghost view = { λ a. option_map (λ t. in_order a.before (raw_of t)) a.last };
 
-    ghost invariant = { λ a. ForSome a.last (λ t. a.levels ≡ levels_of (in_order a.before (raw_of t))) };
+    ghost invariant = { λ a.
+        ForSome a.last (λ t. a.levels ≡ levels_of (in_order a.before (raw_of t))) };
 }
 
 impl Disjuncts {

@@ -61,7 +61,10 @@ impl<'a> Model for PlainSearch<'a> {
 
     ghost view = { λ a. search_of (stated_of a.problem.now) a.tables a.state a.stop };
 
-    ghost invariant = { λ a. record { formulas : a.check ≡ all_said a.problem.now.inputs.items; tables : IsInterpretation (a.tables.top + 1) (stated_of a.problem.now) a.tables } };
+    ghost invariant = { λ a. record {
+      formulas : a.check ≡ all_said a.problem.now.inputs.items;
+      tables : IsInterpretation (a.tables.top + 1) (stated_of a.problem.now) a.tables;
+    } };
 }
 
 impl<'a> PlainSearch<'a> {

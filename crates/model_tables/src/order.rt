@@ -32,7 +32,8 @@ fn advance_rows(size: u32, rows: &mut [Row]) -> bool
         (digits_number (bounds_of size rows.new) (cells_of rows.new)
         ≡ digits_number (bounds_of size rows.old) (cells_of rows.old) + 1)
         ((digits_count (bounds_of size rows.old) ≡ digits_number (bounds_of size rows.old)
-        (cells_of rows.old) + 1) × (digits_number (bounds_of size rows.new) (cells_of rows.new) ≡ 0)) }
+        (cells_of rows.old) + 1)
+        × (digits_number (bounds_of size rows.new) (cells_of rows.new) ≡ 0)) }
 {
     let mut at = rows.len();
     while at > 0 {
@@ -52,7 +53,8 @@ fn advance_row(size: u32, row: &mut Row) -> bool
     ensures digits { AreDigits (bounds_in size row.new) row.new.values }
     ensures next { MatchBool result
         (listing_number size row.new ≡ listing_number size row.old + 1)
-        ((count_in size row.old ≡ listing_number size row.old + 1) × (listing_number size row.new ≡ 0)) }
+        ((count_in size row.old ≡ listing_number size row.old + 1)
+        × (listing_number size row.new ≡ 0)) }
 {
     let bound = bound(size, row.kind);
     advance_values(bound, &mut row.values)

@@ -105,7 +105,8 @@ fn block_at(alloc: Global, bytes: &[u8], start: usize) -> Result<(BlockRead, usi
 #[tactic(auto, using(crate::proofs::Gathered::passed_none, crate::proofs::Gathered::passed_line, crate::proofs::Gathered::passed_block, crate::proofs::Gathered::at_line, crate::proofs::Gathered::all_found))]
 pub fn find_blocks(alloc: Global, bytes: &[u8], from: usize) -> Result<Vec<BlockRead>, AllocError>
     requires { from ≤ length bytes.now }
-    ensures { IfOk result (λ found. HasFoundBlocks from (lines_in (drop from bytes.now)) found.items) }
+    ensures { IfOk result (λ found.
+        HasFoundBlocks from (lines_in (drop from bytes.now)) found.items) }
 {
     let mut found = Vec::new(alloc);
     let mut at = from;

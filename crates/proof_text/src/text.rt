@@ -90,7 +90,8 @@ fn read_all(
     read: &mut ProofRead,
 ) -> Result<(), ReadError>
     requires { (bs : List TextBlock) × AreBlocksRead bs blocks.now }
-    ensures read { (f : FileRead) (bs : List TextBlock) → IsWithoutProofs f read.old → HasProblem bytes.now f bs
+    ensures read { (f : FileRead) (bs : List TextBlock) → IsWithoutProofs f read.old
+        → HasProblem bytes.now f bs
         → AreBlocksRead bs blocks.now → OnOk result (IsProofRead bytes.now read.new) }
     ensures refused { (f : FileRead) (bs : List TextBlock) → IsWithoutProofs f read.old
         → HasProblem bytes.now f bs → AreBlocksRead bs blocks.now

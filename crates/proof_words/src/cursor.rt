@@ -51,7 +51,8 @@ impl<'a> Walk<'a> {
         ensures passed { IfOk result (λ t. self.old ≡ lexeme_of t ∷ self.new) }
         ensures of { IfOk result (λ t. is_of class (lexeme_of t) ≡ true) }
         ensures ok { IfOk result (λ t. (onward : Lexeme → Spelling)
-            → words_outcome (wants class onward) self.old ≡ words_outcome (onward (lexeme_of t)) self.new) }
+            → words_outcome (wants class onward) self.old
+            ≡ words_outcome (onward (lexeme_of t)) self.new) }
         ensures bad { result ≡ Err Bad → (onward : Lexeme → Spelling)
             → words_outcome (wants class onward) self.old ≡ stops self.new }
     {

@@ -139,7 +139,8 @@ fn first_satellite(walk: &mut Walk) -> Result<Satellite, Halt>
 /// Satellites up to `)`.
 pub fn satellites(alloc: Global, walk: &mut Walk) -> Result<Vec<Satellite>, Halt>
     ensures ok { IfOk result (λ ss. (onward : List Satellite → Spelling)
-        → words_outcome (satellites [] onward) walk.old ≡ words_outcome (onward ss.items) walk.new) }
+        → words_outcome (satellites [] onward) walk.old
+        ≡ words_outcome (onward ss.items) walk.new) }
     ensures bad { result ≡ Err Bad → (onward : List Satellite → Spelling)
         → words_outcome (satellites [] onward) walk.old ≡ stops walk.new }
 {

@@ -126,7 +126,8 @@ fn xx_res(walk: &mut Walk) -> Result<First, Halt>
 // `n(a,s)`
 fn equation(walk: &mut Walk) -> Result<(u64, u64, u64), Halt>
     ensures ok { IfOk result (λ r. (onward : ℕ → ℕ → ℕ → Spelling)
-        → words_outcome (equation_then onward) walk.old ≡ words_outcome (onward r.0 r.1 r.2) walk.new) }
+        → words_outcome (equation_then onward) walk.old
+        ≡ words_outcome (onward r.0 r.1 r.2) walk.new) }
     ensures bad { result ≡ Err Bad → (onward : ℕ → ℕ → ℕ → Spelling)
         → words_outcome (equation_then onward) walk.old ≡ stops walk.new }
 {
@@ -207,7 +208,8 @@ fn behind_first(alloc: Global, walk: &mut Walk, first: First) -> Result<Just, Ha
     ensures ok { IfOk result (λ j. words_outcome (behind_first_word (written_first first)) walk.old
         ≡ reads (written_of j) walk.new) }
     ensures first { IfOk result (λ j. written_first j.first ≡ written_first first) }
-    ensures bad { result ≡ Err Bad → words_outcome (behind_first_word (written_first first)) walk.old
+    ensures bad { result ≡ Err Bad
+        → words_outcome (behind_first_word (written_first first)) walk.old
         ≡ stops walk.new }
 {
     if takes_steps(&first) {

@@ -91,7 +91,8 @@ fn rewrite(alloc: Global, walk: &mut Walk, steps: &mut Vec<Later>) -> Result<(),
         (behind_step_name w (map later_of steps.old.items) names.Rewrite) walk.old
         ≡ words_outcome (words w (map later_of steps.new.items)) walk.new) }
     ensures bad { result ≡ Err Bad → (w : WrittenFirst) → words_outcome
-        (behind_step_name w (map later_of steps.old.items) names.Rewrite) walk.old ≡ stops walk.new }
+        (behind_step_name w (map later_of steps.old.items) names.Rewrite) walk.old
+        ≡ stops walk.new }
     ensures shorter { OnOk result (length walk.new < length walk.old) }
 {
     pass(walk, TokenClass::Open)?;

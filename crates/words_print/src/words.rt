@@ -73,7 +73,8 @@ fn is_rewriting(step: &Later) -> bool
 }
 
 fn between_words(out: &mut Vec<u8>, inside: bool, next: bool) -> Result<(), AllocError>
-    ensures { OnOk result (out.new.items ≡ out.old.items ++ joint_text (between_words inside next)) }
+    ensures { OnOk result (out.new.items
+        ≡ out.old.items ++ joint_text (between_words inside next)) }
 {
     match (inside, next) {
         (false, true) => out.extend_from_slice(b",rewrite(["),
@@ -171,7 +172,8 @@ fn factor(out: &mut Vec<u8>, n: u64, a: u64, b: u64) -> Result<(), AllocError>
 
 // Adds `xx_res(n,a)`.
 fn xx_res(out: &mut Vec<u8>, n: u64, a: u64) -> Result<(), AllocError>
-    ensures { OnOk result (out.new.items ≡ out.old.items ++ joint_text (first_tokens (by_xx_res n a))) }
+    ensures { OnOk result (out.new.items
+        ≡ out.old.items ++ joint_text (first_tokens (by_xx_res n a))) }
 {
     out.extend_from_slice(b"xx_res(")?;
     decimal(out, n)?;
@@ -208,8 +210,8 @@ fn para(out: &mut Vec<u8>, step: &Paramodulation) -> Result<(), AllocError>
 
 // Adds `n(a,s)`.
 fn equation_side(out: &mut Vec<u8>, n: u64, a: u64, side: u64) -> Result<(), AllocError>
-    ensures { OnOk result (out.new.items ≡ out.old.items
-        ++ joint_text (number_token n ∷ in_parens (literal_token a ∷ comma ∷ number_token side ∷ []))) }
+    ensures { OnOk result (out.new.items ≡ out.old.items ++ joint_text (number_token n
+        ∷ in_parens (literal_token a ∷ comma ∷ number_token side ∷ []))) }
 {
     decimal(out, n)?;
     out.extend_from_slice(b"(")?;
@@ -221,7 +223,8 @@ fn equation_side(out: &mut Vec<u8>, n: u64, a: u64, side: u64) -> Result<(), All
 
 // Adds `n(a,path)`.
 fn subterm(out: &mut Vec<u8>, n: u64, a: u64, path: &[u64]) -> Result<(), AllocError>
-    ensures { OnOk result (out.new.items ≡ out.old.items ++ joint_text (subterm_tokens n a path.now)) }
+    ensures { OnOk result (out.new.items
+        ≡ out.old.items ++ joint_text (subterm_tokens n a path.now)) }
 {
     decimal(out, n)?;
     out.extend_from_slice(b"(")?;
@@ -233,7 +236,8 @@ fn subterm(out: &mut Vec<u8>, n: u64, a: u64, path: &[u64]) -> Result<(), AllocE
 
 // Adds `,n` for each number.
 fn further_numbers(out: &mut Vec<u8>, numbers: &[u64]) -> Result<(), AllocError>
-    ensures { OnOk result (out.new.items ≡ out.old.items ++ joint_text (further_numbers numbers.now)) }
+    ensures { OnOk result (out.new.items
+        ≡ out.old.items ++ joint_text (further_numbers numbers.now)) }
 {
     for n in numbers {
         out.extend_from_slice(b",")?;
