@@ -1,11 +1,11 @@
 -- Steps of a partial table that lose nothing.
 use Rattle.std.proofs.Common.{◌≡◌, ℕ, suc, ◌+◌, ◌*◌, ◌-◌, ◌/◌, ◌%◌, ◌<◌, ◌≤◌, ◌==◌, ◌||◌, Bool, true, false, if◌then◌else◌, MatchBool, max, List, [], ◌∷◌, length, None, Some, refl, sym, ap, ◌∙◌, subst, arith}
-use Rattle.std.proofs.lemmas.Bool.{eqb-true}
+use Rattle.std.proofs.lemmas.Bool.{eqb-true, eq-eqb, false≢true}
 use Rattle.std.proofs.lemmas.Nat.{div-mul-add, mod-mul-add}
 use Rattle.std.proofs.lemmas.Option.{none-some, same_Some}
 use Rattle.std.proofs.lemmas.Bool.Decides.{nat_tests}
 use Rattle.fol_core.specs.Meaning.{Meaning}
-use Rattle.mace_cells.specs.Choices.{Decision, AgreesWith, IsLatest}
+use Rattle.mace_cells.specs.Choices.{Decision, AgreesWith, IsUndecided, IsLatest}
 use Rattle.mace_cells.specs.Stacked.{rest_of}
 use Rattle.mace_cells.specs.Trails.{Partial, partial, value_in, is_struck_off, earliest, before_decision, latest_mark, cut_to, undone}
 use Rattle.mace_cells.specs.World.{World, Solves, cell_of, many_cells}
@@ -145,3 +145,25 @@ agrees_all w m (e ∷ es) fresh extends = by e.decided (agrees_all w m es fresh.
     by : (b : Bool) → AgreesWith m (decided_in w es) → AgreesWith m (if b then decision_of w e ∷ decided_in w es else decided_in w es)
     by true rest = (here, rest)
     by false rest = rest
+
+-- no decision is one of a cell that has no value
+pub undecided_by : (w : World) → ((j k : ℕ) → j < many_cells w → k < many_cells w → cell_of w j ≡ cell_of w k → j ≡ k) → (es : List TrailEntry) (k : ℕ) → AreFresh w es → k < many_cells w → value_in es k ≡ None → IsUndecided (decided_in w es) (cell_of w k)
+undecided_by w differ [] k fresh within none = tt
+undecided_by w differ (e ∷ es) k fresh within none = by (k == e.cell) e.decided refl none (λ given. undecided_by w differ es k fresh.2 within given)
+  where
+    other : (k == e.cell) ≡ false → cell_of w e.cell ≡ cell_of w k → ⊥
+    other t same = false≢true (sym t ∙ eq-eqb k e.cell (sym (differ e.cell k fresh.0 within same)))
+
+    by : (b d : Bool) → (k == e.cell) ≡ b → (if b then Some e.value else value_in es k) ≡ None → (value_in es k ≡ None → IsUndecided (decided_in w es) (cell_of w k))
+        → IsUndecided (if d then decision_of w e ∷ decided_in w es else decided_in w es) (cell_of w k)
+    by true d t given rest = absurd (none-some _ (sym given))
+    by false true t given rest = (other t, rest given)
+    by false false t given rest = rest given
+
+-- what gets a value leaves what others have
+pub kept_by : (e : TrailEntry) (es : List TrailEntry) → value_in es e.cell ≡ None → (k u : ℕ) → value_in es k ≡ Some u → value_in (e ∷ es) k ≡ Some u
+kept_by e es blank k u h = by (k == e.cell) refl
+  where
+    by : (b : Bool) → (k == e.cell) ≡ b → (if b then Some e.value else value_in es k) ≡ Some u
+    by true t = absurd (none-some u (sym blank ∙ ap (λ (j : ℕ). value_in es j) (sym (eqb-true k e.cell t)) ∙ h))
+    by false t = h

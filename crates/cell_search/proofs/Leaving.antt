@@ -1,5 +1,5 @@
 -- What can't be, and what must be, by what is left.
-use Rattle.std.proofs.Common.{◌≡◌, ℕ, ◌+◌, ◌*◌, ◌<◌, ◌≤◌, ◌==◌, ◌⊎◌, inl, inr, Bool, true, false, MatchBool, max, Option, None, Some, refl, sym, ◌∙◌, subst, arith}
+use Rattle.std.proofs.Common.{◌≡◌, ℕ, ◌+◌, ◌*◌, ◌<◌, ◌≤◌, ◌==◌, ◌⊎◌, inl, inr, List, Bool, true, false, MatchBool, max, Option, None, Some, refl, sym, ◌∙◌, subst, arith}
 use mathlib.Core.Bool.{beq}
 use Rattle.std.proofs.lemmas.Bool.{cases_lt}
 use Rattle.std.proofs.lemmas.Option.{none-some, same_Some}
@@ -8,9 +8,10 @@ use Rattle.fol_core.specs.Meaning.{Meaning}
 use Rattle.mace_cells.specs.Choices.{AgreesWith}
 use Rattle.mace_cells.specs.Trails.{Partial, value_in, is_struck_off}
 use Rattle.mace_cells.specs.World.{World, Solves, cell_of, many_cells, IsRefuted}
+use Rattle.mace_cells.specs.declared.trail.TrailEntry.{TrailEntry}
 use Rattle.mace_ground.specs.Cells.{value_at}
 use Rattle.model_tables.specs.Size.{bound_of}
-use Rattle.cell_search.specs.Asking.{IsDue, IsOnly, AreCrossedBut}
+use Rattle.cell_search.specs.Asking.{IsDue, IsOnly, AreCrossedBut, KeepsValues, IsGivenSingle}
 use Rattle.cell_search.specs.Losses.{decided_in, IsBoard}
 use Rattle.cell_search.specs.declared.asks.Ask.{Ask}
 use Rattle.cell_search.proofs.Bounding.{value_below}
@@ -37,6 +38,10 @@ module _ (w : World) (t : Partial) (board : IsBoard w t) (k : ℕ) (within : k <
 
   pub one_left : (end v : ℕ) → end ≡ bound_of w.size (cell_of w k).kind → end ≤ t.stride → AreCrossedBut t k end (Some v) → IsOnly w t.entries k v
   one_left end v is fits crossed = λ m s agrees. sym (same_Some _ _ (left_by end (Some v) is fits crossed m s agrees))
+
+  -- a cell of one value has that one
+  pub single : (end : ℕ) → end ≡ bound_of w.size (cell_of w k).kind → end ≡ 1 → IsOnly w t.entries k 0
+  single end is one = λ m s agrees. omega (arith, is, one, value_below w m k board.some s within)
 
   -- what the table has
   pub given : (v : ℕ) → Some v ≡ value_in t.entries k → IsOnly w t.entries k v
@@ -68,3 +73,10 @@ beq-false true true h e = let g : true ≡ false = h in cc
 beq-false true false h e = cc
 beq-false false true h e = cc
 beq-false false false h e = let g : true ≡ false = h in cc
+
+-- the cells of one value, one after the other
+pub single_more : (w : World) (es es' : List TrailEntry) (i : ℕ) → ((k : ℕ) → k < i → IsGivenSingle w es k) → KeepsValues es es' → IsGivenSingle w es' i → (k : ℕ) → k < i + 1 → IsGivenSingle w es' k
+single_more w es es' i before kept here = λ k h. elim (cases_lt k i) [
+  | inl less ↦ λ one. (let g = before k less one in (g.0, kept k g.0 g.1))
+  | inr most ↦ let same : i ≡ k = omega (arith, h, most) in subst (λ (j : ℕ). IsGivenSingle w es' j) same here
+]

@@ -1,5 +1,5 @@
 -- What clauses ask, literal by literal.
-use Rattle.std.proofs.Common.{◌≡◌, ℕ, suc, ◌+◌, ◌<◌, ◌≤◌, ◌==◌, ◌||◌, ◌⊎◌, inl, inr, Bool, true, false, not, IsTrue, if◌then◌else◌, MatchBool, List, [], ◌∷◌, length, map, drop, get_or, Option, None, Some, refl, sym, ap, ◌∙◌, subst, arith}
+use Rattle.std.proofs.Common.{◌≡◌, ℕ, zero, suc, ◌+◌, ◌<◌, ◌≤◌, ◌==◌, ◌||◌, ◌⊎◌, inl, inr, Bool, true, false, not, IsTrue, if◌then◌else◌, MatchBool, List, [], ◌∷◌, length, map, drop, get_or, Option, None, Some, refl, sym, ap, ◌∙◌, subst, arith}
 use Rattle.std.proofs.Math.Seq.{drop-cons}
 use Rattle.std.proofs.lemmas.Bool.{eqb-true, eqb-false, not-true}
 use Rattle.std.proofs.lemmas.Bool.Decides.{nat_tests}
@@ -14,7 +14,7 @@ use Rattle.fol_core.specs.declared.symbols.Kind.TheVariants.{Function, Relation}
 use Rattle.mace_cells.specs.World.{World, cell_of, many_cells}
 use Rattle.mace_cells.specs.declared.trail.TrailEntry.{TrailEntry}
 use Rattle.mace_ground.specs.Cells.{value_at}
-use Rattle.cell_search.specs.Asking.{Passes, AreSides, IsAsked}
+use Rattle.cell_search.specs.Asking.{Passes, AreSides, IsAsked, AreSeenFalse}
 use Rattle.cell_search.specs.Known.{seen, cell_seen, equation_seen, literal_seen}
 use Rattle.cell_search.specs.Losses.{Extends}
 use Rattle.cell_search.specs.declared.asks.Ask.{Ask}
@@ -129,3 +129,18 @@ module _ (w : World) (es : List TrailEntry) (e : Assignment) (ls : List Literal)
           let o = subst (λ (p : Option ℕ). IsUnknownTrue m e ls p) some unknown_true in
           let same : o.0 ≡ l = o.1.0 ∙ get_or_default ls j o.0 l within ∙ sym is in
           subst (λ (k : Literal). IsTrue (is_true_literal m e (literal_of k))) same o.1.1
+
+-- a literal that isn't seen to be false keeps the clause from it
+pub seen_false : (w : World) (es : List TrailEntry) (e : Assignment) (ls : List Literal) (i : ℕ) (l : Literal) → i < length ls → l ≡ get_or ls i l → AreSeenFalse w es e (map literal_of ls) → literal_seen w es e (literal_of l) ≡ Some false
+seen_false w es e [] i l within is h = absurd (omega (arith, within))
+seen_false w es e (k ∷ ls) zero l within is h = subst (λ (x : Literal). literal_seen w es e (literal_of x) ≡ Some false) (sym is) h.0
+seen_false w es e (k ∷ ls) (suc i) l within is h = seen_false w es e ls i l (omega (arith, within)) is h.1
+
+abbrev pub IsUnseen : World → List TrailEntry → Assignment → List Literal → ℕ → Type 0
+IsUnseen w es e ls j = (l : Literal) × ((l ≡ get_or ls j l) × (None ≡ literal_seen w es e (literal_of l)))
+
+pub quiet_known : (w : World) (es : List TrailEntry) (e : Assignment) (ls : List Literal) (i : ℕ) (l : Literal) → i < length ls → l ≡ get_or ls i l → Some true ≡ literal_seen w es e (literal_of l) → AreSeenFalse w es e (map literal_of ls) → ⊥
+quiet_known w es e ls i l within is known h = let both : ◌≡◌ {A = Option Bool} (Some true) (Some false) = known ∙ seen_false w es e ls i l within is h in absurd cc
+
+pub quiet_unseen : (w : World) (es : List TrailEntry) (e : Assignment) (ls : List Literal) (i : ℕ) → i < length ls → IsUnseen w es e ls i → AreSeenFalse w es e (map literal_of ls) → ⊥
+quiet_unseen w es e ls i within unseen h = let both : ◌≡◌ {A = Option Bool} None (Some false) = unseen.1.1 ∙ seen_false w es e ls i unseen.0 within unseen.1.0 h in absurd cc

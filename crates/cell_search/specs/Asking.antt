@@ -1,14 +1,16 @@
 -- What clauses ask of cells.
-use Rattle.std.specs.Prelude.{ℕ, ◌+◌, ◌*◌, ◌≡◌, ◌<◌, ◌⊎◌, true, IsTrue, MatchBool, List, Option, None, Some}
+use Rattle.std.specs.Prelude.{ℕ, ◌+◌, ◌*◌, ◌≡◌, ◌<◌, ◌⊎◌, true, false, IsTrue, MatchBool, List, [], ◌∷◌, Option, None, Some}
 use Rattle.fol_core.specs.Literals.{Lit, ClauseTree, is_true_literal, is_true_clause}
 use Rattle.fol_core.specs.Meaning.{Meaning}
 use Rattle.fol_core.specs.Tree.{Tree}
 use Rattle.fol_core.specs.Truth.{Assignment, value_of}
 use Rattle.mace_cells.specs.Choices.{AgreesWith}
-use Rattle.mace_cells.specs.Trails.{Partial, is_struck_off}
+use Rattle.mace_cells.specs.Trails.{Partial, value_in, is_struck_off}
 use Rattle.mace_cells.specs.World.{World, Solves, cell_of, many_cells}
 use Rattle.mace_cells.specs.declared.trail.TrailEntry.{TrailEntry}
 use Rattle.mace_ground.specs.Cells.{value_at}
+use Rattle.model_tables.specs.Size.{bound_of}
+use Rattle.cell_search.specs.Known.{literal_seen}
 use Rattle.cell_search.specs.Losses.{Extends, decided_in}
 use Rattle.cell_search.specs.declared.asks.Ask.{Ask}
 use Rattle.cell_search.specs.declared.closing.Rest.{Rest}
@@ -36,9 +38,15 @@ IsAsked w es e l a =
     (a.cell < many_cells w)
     × ((m : Meaning) → Extends w m es → IsTrue (is_true_literal m e l) → Passes w m a)
 
--- it can't make the clause true, or where it does it passes
+-- each literal is false by the values of the table
+abbrev pub AreSeenFalse : World → List TrailEntry → Assignment → ClauseTree → Type 0
+AreSeenFalse w es e [] = Unit {0}
+AreSeenFalse w es e (l ∷ ls) = (literal_seen w es e l ≡ Some false) × AreSeenFalse w es e ls
+
+-- some literal isn't seen to be false; or what has the values can't make the clause true, or where
+-- it does it passes
 abbrev pub InstanceTells : World → List TrailEntry → Assignment → ClauseTree → Verdict → Type 0
-InstanceTells w es e c Quiet = Unit {0}
+InstanceTells w es e c Quiet = AreSeenFalse w es e c → ⊥
 InstanceTells w es e c Contradiction =
     (m : Meaning) → Extends w m es → IsTrue (is_true_clause m e c) → ⊥
 InstanceTells w es e c (Asks a) =
@@ -64,8 +72,30 @@ abbrev pub AreCrossedBut : Partial → ℕ → ℕ → Option ℕ → Type 0
 AreCrossedBut t k end only =
     (v : ℕ) → v < end → (is_struck_off (k * t.stride + v) t.crossings ≡ true) ⊎ (only ≡ Some v)
 
+-- two values below `end` aren't crossed off
+abbrev pub HasTwoLeft : Partial → ℕ → ℕ → Type 0
+HasTwoLeft t k end =
+    (v u : ℕ)
+    × ((v < u) × (u < end) × (is_struck_off (k * t.stride + v) t.crossings ≡ false)
+    × (is_struck_off (k * t.stride + u) t.crossings ≡ false))
+
 -- what values a cell has left
 abbrev pub IsRest : Partial → ℕ → ℕ → Rest → Type 0
 IsRest t k end Nothing = AreCrossedBut t k end None
 IsRest t k end (One v) = (v < end) × AreCrossedBut t k end (Some v)
-IsRest t k end Several = Unit {0}
+IsRest t k end Several = HasTwoLeft t k end
+
+-- the cell has a value, or two that it can have are left
+abbrev pub IsWellLeft : World → Partial → ℕ → Type 0
+IsWellLeft w t k =
+    ((v : ℕ) × (value_in t.entries k ≡ Some v))
+    ⊎ HasTwoLeft t k (bound_of w.size (cell_of w k).kind)
+
+-- what had a value has it still
+abbrev pub KeepsValues : List TrailEntry → List TrailEntry → Type 0
+KeepsValues es es' = (k v : ℕ) → value_in es k ≡ Some v → value_in es' k ≡ Some v
+
+-- a cell that can have one value alone has a value
+abbrev pub IsGivenSingle : World → List TrailEntry → ℕ → Type 0
+IsGivenSingle w es k =
+    bound_of w.size (cell_of w k).kind ≡ 1 → (v : ℕ) × (value_in es k ≡ Some v)

@@ -4,11 +4,12 @@ use Rattle.std.specs.List.{AllByRecursion}
 use Rattle.fol_core.specs.Literals.{ClauseTree, is_true_clause, IsTrueClause, AreTrueClauses}
 use Rattle.fol_core.specs.Meaning.{Meaning}
 use Rattle.fol_core.specs.Truth.{Assignment}
-use Rattle.mace_cells.specs.Trails.{value_in}
+use Rattle.mace_cells.specs.Trails.{Partial, value_in}
 use Rattle.mace_cells.specs.World.{World, Solves, cell_of, many_cells, IsRefuted}
 use Rattle.mace_cells.specs.declared.trail.TrailEntry.{TrailEntry}
 use Rattle.model_tables.specs.Size.{bound_of}
 use Rattle.mace_ground.specs.Instances.{variables_in}
+use Rattle.cell_search.specs.Asking.{HasTwoLeft}
 use Rattle.cell_search.specs.Known.{literal_seen}
 use Rattle.cell_search.specs.Searchable.{IsClauseOfCells}
 use Rattle.cell_search.specs.Losses.{Extends, decided_in}
@@ -21,12 +22,13 @@ IsFull w es =
     (k : ℕ) → k < many_cells w → (v : ℕ)
     × ((value_in es k ≡ Some v) × (v < bound_of w.size (cell_of w k).kind))
 
--- a cell has none, or one has a value that it can't have, or neither
-abbrev pub IsFilledAs : World → List TrailEntry → Filled → Type 0
-IsFilledAs w es (Open k) =
-    (k < many_cells w) × (length (decided_in w es) < many_cells w) × (value_in es k ≡ None)
-IsFilledAs w es Amiss = IsRefuted w (decided_in w es)
-IsFilledAs w es Full = IsFull w es
+-- a cell has none, and two left; or no solution agrees with what was decided; or each has one
+abbrev pub IsFilledAs : World → Partial → Filled → Type 0
+IsFilledAs w t (Open k) =
+    (k < many_cells w) × (length (decided_in w t.entries) < many_cells w)
+    × (value_in t.entries k ≡ None) × HasTwoLeft t k (bound_of w.size (cell_of w k).kind)
+IsFilledAs w t Amiss = IsRefuted w (decided_in w t.entries)
+IsFilledAs w t Full = IsFull w t.entries
 
 -- no literal is known to be true
 abbrev pub NoneIsTrue : World → List TrailEntry → Assignment → ClauseTree → Type 0

@@ -1,13 +1,16 @@
 // The board of a search: a partial table of its cells, closed under what the clauses ask.
 ghost use Rattle.std.specs.Prelude.{ℕ, ◌≡◌, ◌<◌, ◌≤◌, [], None, false, max, IfOk, length, replicate};
+ghost use Rattle.cell_search.specs.Asking.{HasTwoLeft};
 ghost use Rattle.cell_search.specs.Finites.{finite_of, meaning_by_cells, tables_over, AreTablesFor};
 ghost use Rattle.cell_search.specs.Positions.{position, IsLeast};
 ghost use Rattle.cell_search.specs.Searchable.{HasAllCells};
 ghost use Rattle.cell_search.specs.Losses.{decided_in};
 ghost use Rattle.mace_cells.specs.Boards.{IsAsSaid};
 ghost use Rattle.mace_cells.specs.Trails.{partial, value_in};
-ghost use Rattle.mace_cells.specs.World.{many_cells, IsRefuted};
+ghost use Rattle.model_tables.specs.Size.{bound_of};
+ghost use Rattle.mace_cells.specs.World.{cell_of, many_cells, IsRefuted};
 
+use crate::closing::settle_single;
 use crate::full::{Filled, are_true, fullness, room};
 use crate::going::{begin, close};
 use crate::setup::Setup;
@@ -91,7 +94,7 @@ impl<'a> Cells<'a> {
         finite(alloc, &self.setup, &self.trail, symbols)
     }
 
-    // Goes over all instances, at the beginning.
+    // Gives the cells of one value that one, and goes over all instances, at the beginning.
     fn start(&mut self) -> bool
         ensures world { self.new.world ≡ self.old.world }
         ensures decided { decided_in self.old.world self.new.table.entries
@@ -103,6 +106,9 @@ impl<'a> Cells<'a> {
             return true;
         }
         self.begun = true;
+        if !settle_single(&self.setup, &mut self.trail) {
+            return false;
+        }
         begin(&self.setup, &mut self.trail, &self.walks, &mut self.env)
     }
 
@@ -127,15 +133,19 @@ impl<'a> Cells<'a> {
 
     // Whether a cell is to be chosen next, or else the clauses are true.
     fn ends(&mut self) -> Status
-        ensures same { self.new ≡ self.old }
-        ensures told { IsAsSaid self.old.world (decided_in self.old.world self.old.table.entries)
-            (meaning_by_cells self.old.world self.old.table.entries) result }
+        ensures world { self.new.world ≡ self.old.world }
+        ensures decided { decided_in self.old.world self.new.table.entries
+            ≡ decided_in self.old.world self.old.table.entries }
+        ensures told { IsAsSaid self.new.world (decided_in self.new.world self.new.table.entries)
+            (meaning_by_cells self.new.world self.new.table.entries) result }
         ensures open { (cell : ℕ) → result ≡ Status.Choose cell
-            → value_in self.old.table.entries cell ≡ None }
+            → value_in self.new.table.entries cell ≡ None }
+        ensures left { (cell : ℕ) → result ≡ Status.Choose cell → HasTwoLeft self.new.table cell
+            (bound_of self.new.world.size (cell_of self.new.world cell).kind) }
         ensures full { result ≡ Status.Settled
-            → AreTablesFor self.old.world (finite_of self.old.world self.old.table.entries) }
+            → AreTablesFor self.new.world (finite_of self.new.world self.new.table.entries) }
     {
-        match fullness(&self.setup, &self.trail) {
+        match fullness(&self.setup, &mut self.trail) {
             Filled::Open(cell) => Status::Choose(cell),
             Filled::Amiss => Status::Refuted,
             Filled::Full => {

@@ -1,6 +1,6 @@
 // Values that are given to cells, or crossed off them, since clauses ask for it.
-ghost use Rattle.std.specs.Prelude.{◌≡◌, ◌<◌, ◌≤◌, ◌^◌, true, false, None};
-ghost use Rattle.cell_search.specs.Asking.{IsDue, IsOnly, IsNone, IsRest};
+ghost use Rattle.std.specs.Prelude.{ℕ, ◌≡◌, ◌<◌, ◌≤◌, ◌^◌, ◌⊎◌, true, false, None, Some};
+ghost use Rattle.cell_search.specs.Asking.{IsDue, IsOnly, IsNone, IsRest, IsWellLeft, KeepsValues, IsGivenSingle};
 ghost use Rattle.cell_search.specs.Losses.{IsBoard, decided_in};
 ghost use Rattle.mace_cells.specs.Trails.{value_in};
 ghost use Rattle.mace_cells.specs.World.{cell_of, many_cells, IsRefuted};
@@ -18,8 +18,8 @@ pub enum Rest {
     Several,
 }
 
-// What values below `end` a cell has left.
-fn left(trail: &Trail, cell: u32, end: u32) -> Rest
+/// What values below `end` a cell has left.
+pub fn left(trail: &Trail, cell: u32, end: u32) -> Rest
     requires cell { cell < trail.now.many }
     requires end { end ≤ trail.now.stride }
     requires byte { end < 2 ^ 8 }
@@ -40,8 +40,8 @@ fn left(trail: &Trail, cell: u32, end: u32) -> Rest
     }
 }
 
-// Gives a cell the one value that it can have; false where it can't have that one either.
-fn settle(setup: &Setup, trail: &mut Trail, cell: u32, value: u32) -> bool
+/// Gives a cell the one value that it can have; false where it can't have that one either.
+pub fn settle(setup: &Setup, trail: &mut Trail, cell: u32, value: u32) -> bool
     requires board { IsBoard setup.now trail.old }
     requires cell { cell < many_cells setup.now }
     requires blank { value_in trail.old.entries cell ≡ None }
@@ -49,6 +49,8 @@ fn settle(setup: &Setup, trail: &mut Trail, cell: u32, value: u32) -> bool
     ensures board { IsBoard setup.now trail.new }
     ensures decided { decided_in setup.now trail.new.entries
         ≡ decided_in setup.now trail.old.entries }
+    ensures given { result ≡ true → value_in trail.new.entries cell ≡ Some value }
+    ensures kept { KeepsValues trail.old.entries trail.new.entries }
     ensures refuted { result ≡ false
         → IsRefuted setup.now (decided_in setup.now trail.old.entries) }
 {
@@ -63,6 +65,46 @@ fn settle(setup: &Setup, trail: &mut Trail, cell: u32, value: u32) -> bool
     true
 }
 
+// Gives a cell that can have one value alone that value; false where no solution can.
+fn settle_one(setup: &Setup, trail: &mut Trail, cell: u32) -> bool
+    requires board { IsBoard setup.now trail.old }
+    requires cell { cell < many_cells setup.now }
+    ensures board { IsBoard setup.now trail.new }
+    ensures decided { decided_in setup.now trail.new.entries
+        ≡ decided_in setup.now trail.old.entries }
+    ensures kept { KeepsValues trail.old.entries trail.new.entries }
+    ensures given { result ≡ true → IsGivenSingle setup.now trail.new.entries cell }
+    ensures refuted { result ≡ false
+        → IsRefuted setup.now (decided_in setup.now trail.old.entries) }
+{
+    if setup.bound(cell) != 1 {
+        return true;
+    }
+    match trail.value(cell) {
+        Some(_) => true,
+        None => settle(setup, trail, cell, 0),
+    }
+}
+
+/// Gives each cell that can have one value alone that value; false where no solution can.
+pub fn settle_single(setup: &Setup, trail: &mut Trail) -> bool
+    requires { IsBoard setup.now trail.old }
+    ensures board { IsBoard setup.now trail.new }
+    ensures decided { decided_in setup.now trail.new.entries
+        ≡ decided_in setup.now trail.old.entries }
+    ensures given { result ≡ true → (cell : ℕ) → cell < many_cells setup.now
+        → IsGivenSingle setup.now trail.new.entries cell }
+    ensures refuted { result ≡ false
+        → IsRefuted setup.now (decided_in setup.now trail.old.entries) }
+{
+    for cell in 0..setup.cells() {
+        if !settle_one(setup, trail, cell) {
+            return false;
+        }
+    }
+    true
+}
+
 // Crosses a value that it can't have off a cell, which gets the value that is left where there is only one; false where none is.
 fn strike(setup: &Setup, trail: &mut Trail, cell: u32, value: u32) -> bool
     requires board { IsBoard setup.now trail.old }
@@ -72,6 +114,8 @@ fn strike(setup: &Setup, trail: &mut Trail, cell: u32, value: u32) -> bool
     ensures board { IsBoard setup.now trail.new }
     ensures decided { decided_in setup.now trail.new.entries
         ≡ decided_in setup.now trail.old.entries }
+    ensures left { result ≡ true → (trail.new.crossings ≡ trail.old.crossings)
+        ⊎ IsWellLeft setup.now trail.new cell }
     ensures refuted { result ≡ false
         → IsRefuted setup.now (decided_in setup.now trail.old.entries) }
 {

@@ -2,7 +2,7 @@
 ghost use Rattle.std.specs.Prelude.{◌≡◌, ◌<◌, ◌≤◌, ℕ, IfOk, IsTrue, MatchBool, length, map};
 ghost use Rattle.cell_search.specs.Full.{IsFull, IsFilledAs, NoneIsTrue, IsDueClause, IsTrueFrom, HasNoSolution, MakesTrue, HaveVariables};
 ghost use Rattle.cell_search.specs.Searchable.{HasAllCells};
-ghost use Rattle.cell_search.specs.Losses.{IsBoard, Extends};
+ghost use Rattle.cell_search.specs.Losses.{IsBoard, Extends, decided_in};
 ghost use Rattle.fol_core.specs.ClauseView.{literal_of};
 ghost use Rattle.fol_core.specs.Literals.{is_true_clause};
 ghost use Rattle.fol_core.specs.Meaning.{Meaning};
@@ -10,6 +10,7 @@ ghost use Rattle.mace_cells.specs.World.{many_cells};
 ghost use Rattle.mace_ground.specs.Instances.{assigned_by, variables_in};
 ghost use Rattle.model_tables.specs.Size.{AllBelow};
 
+use crate::closing::{Rest, left, settle};
 use crate::literals::truth;
 use crate::setup::Setup;
 use fol_core::Literal;
@@ -17,7 +18,7 @@ use mace_cells::Trail;
 use mace_ground::variables_in;
 use std::alloc::AllocError;
 
-/// A cell has no value, or one has a value that it can't have, or neither.
+/// A cell has no value, and two left; or the decisions leave a cell none; or each has a value that it can have.
 #[derive(Clone, Copy, Debug)]
 pub enum Filled {
     Open(u32),
@@ -25,17 +26,31 @@ pub enum Filled {
     Full,
 }
 
-/// Whether each cell has a value that it can have; else the first that hasn't.
-pub fn fullness(setup: &Setup, trail: &Trail) -> Filled
-    requires { IsBoard setup.now trail.now }
-    ensures { IsFilledAs setup.now trail.now.entries result }
+/// Whether each cell has a value that it can have; else the first that has none, and two left. One that has one left gets it.
+pub fn fullness(setup: &Setup, trail: &mut Trail) -> Filled
+    requires { IsBoard setup.now trail.old }
+    ensures board { IsBoard setup.now trail.new }
+    ensures decided { decided_in setup.now trail.new.entries
+        ≡ decided_in setup.now trail.old.entries }
+    ensures filled { IsFilledAs setup.now trail.new result }
 {
     for cell in 0..setup.cells() {
-        let Some(value) = trail.value(cell) else {
-            return Filled::Open(cell);
-        };
-        if u32::from(value) >= setup.bound(cell) {
-            return Filled::Amiss;
+        let end = setup.bound(cell);
+        match trail.value(cell) {
+            Some(value) => {
+                if u32::from(value) >= end {
+                    return Filled::Amiss;
+                }
+            }
+            None => match left(trail, cell, end) {
+                Rest::Nothing => return Filled::Amiss,
+                Rest::One(value) => {
+                    if !settle(setup, trail, cell, value) {
+                        return Filled::Amiss;
+                    }
+                }
+                Rest::Several => return Filled::Open(cell),
+            },
         }
     }
     Filled::Full

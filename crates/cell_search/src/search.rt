@@ -3,8 +3,9 @@ ghost use Rattle.std.specs.Prelude.{◌≡◌, ℕ, ◌≤◌, [], true, false, 
 ghost use Rattle.cell_search.specs.Courses.{world_of, above_numeral, IsSameCourse, AnswersByCells, follows_after};
 ghost use Rattle.cell_search.specs.Finites.{finite_of, tables_over};
 ghost use Rattle.cell_search.specs.Searchable.{HasAllCells};
+ghost use Rattle.mace_cells.specs.Readings.{GoesInTime};
 ghost use Rattle.mace_ground.specs.Count.{ground_count};
-ghost use Rattle.mace_search.specs.Watch.{IsEarly, KeepsFirst};
+ghost use Rattle.mace_search.specs.Watch.{IsEarly};
 ghost use Rattle.mace_search.specs.declared.answer.Answer.TheVariants.{Exhausted, MaxSeconds};
 ghost use Rattle.model_tables.specs.declared.limits.TheConstants.{MOST_CELLS};
 
@@ -140,7 +141,8 @@ impl<'a> CellSearch<'a> {
         requires { self.old.late ≡ None → IsEarly self.old.stop (C.times clock.old) }
         ensures same { IsSameCourse self.old self.new }
         ensures clock { self.old.late ≡ None
-            → KeepsFirst self.old.stop (C.times clock.old) (C.times clock.new) }
+            → GoesInTime self.old.world self.old.stop self.old.live self.old.choices result
+            self.new.choices (C.times clock.old) (C.times clock.new) }
         ensures gives { self.old.late ≡ None
             → AnswersByCells self.old self.new result (C.times clock.new) }
         // An answer that ends the search comes again, with no reading.
@@ -164,7 +166,8 @@ impl<'a> CellSearch<'a> {
         requires late { self.old.late ≡ None }
         requires early { IsEarly self.old.stop (C.times clock.old) }
         ensures same { IsSameCourse self.old self.new }
-        ensures clock { KeepsFirst self.old.stop (C.times clock.old) (C.times clock.new) }
+        ensures clock { GoesInTime self.old.world self.old.stop self.old.live self.old.choices
+            result self.new.choices (C.times clock.old) (C.times clock.new) }
         ensures gives { AnswersByCells self.old self.new result (C.times clock.new) }
     {
         let answer = next_model(&mut self.cells, &mut self.frames, live, self.stop, clock);

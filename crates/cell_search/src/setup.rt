@@ -32,7 +32,12 @@ impl<'a> Model for Setup<'a> {
 
     ghost coded = { coded_world };
 
-    ghost view = { λ a. record { size = a.ground.size; fixed = a.fixed; clauses = a.ground.clauses; blocks = a.ground.blocks } };
+    ghost view = { λ a. record {
+      size = a.ground.size;
+      fixed = a.fixed;
+      clauses = a.ground.clauses;
+      blocks = a.ground.blocks;
+    } };
 
     ghost invariant = { λ a. record {
       some : 0 < a.ground.size;

@@ -14,11 +14,11 @@ use Rattle.mace_cells.specs.World.{World, Solves, AreAlike}
 use Rattle.mace_search.specs.Complete.{IsNewModel, AreDifferent}
 use Rattle.model_tables.specs.Tables.{Finite, meaning_of}
 
-among_last : (us : List Finite) (u : Finite) → IsOneOf u (us ++ u ∷ [])
+pub among_last : (us : List Finite) (u : Finite) → IsOneOf u (us ++ u ∷ [])
 among_last [] u = inl refl
 among_last (v ∷ us) u = inr (among_last us u)
 
-among_front : (us : List Finite) (u v : Finite) → IsOneOf u us → IsOneOf u (us ++ v ∷ [])
+pub among_front : (us : List Finite) (u v : Finite) → IsOneOf u us → IsOneOf u (us ++ v ∷ [])
 among_front [] u v h = absurd h
 among_front (x ∷ us) u v (inl e) = inl e
 among_front (x ∷ us) u v (inr h) = inr (among_front us u v h)
@@ -27,7 +27,7 @@ new_more : (us : List Finite) (u v : Finite) → IsNewModel u us → (u ≡ v �
 new_more [] u v h other = (other, tt)
 new_more (x ∷ us) u v h other = (h.0, new_more us u v h.1 other)
 
-different_more : (us : List Finite) (v : Finite) → AreDifferent us → IsNewModel v us → AreDifferent (us ++ v ∷ [])
+pub different_more : (us : List Finite) (v : Finite) → AreDifferent us → IsNewModel v us → AreDifferent (us ++ v ∷ [])
 different_more [] v d new = (tt, tt)
 different_more (u ∷ us) v d new = (new_more us u v d.0 (λ e. new.0 (sym e)), different_more us v d.1 new.1)
 

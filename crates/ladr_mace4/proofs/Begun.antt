@@ -1,15 +1,14 @@
 -- One size, by what its parts tell.
-use Rattle.std.proofs.Common.{◌≡◌, ℕ, ◌+◌, ◌<◌, ◌≤◌, [], ◌++◌, Result, Ok, Err, IfOk, inl, inr, refl, sym, subst, append-nil, arith}
+use Rattle.std.proofs.Common.{◌≡◌, ℕ, ◌+◌, ◌<◌, ◌≤◌, [], ◌++◌, Result, Ok, Err, IfOk, inr, refl, sym, subst, arith}
 use Rattle.fol_core.specs.Occurs.{size_needed}
 use Rattle.fol_core.specs.Stated.{Stated}
 use Rattle.ladr_io.specs.Streams.{Outflow, Takes}
 use Rattle.ladr_io.specs.Times.{Times}
 use Rattle.ladr_mace4.specs.Lines.{size_line, skipped_line}
 use Rattle.ladr_mace4.specs.Rooms.{IsBegun}
-use Rattle.ladr_mace4.specs.Story.{between, opened, inside, skipped, SizeGoes, SizeEnds, Stops, how_far}
+use Rattle.ladr_mace4.specs.Story.{between, opened, skipped, SizeGoes, SizeEnds, Stops}
 use Rattle.ladr_mace4.specs.Watching.{IsInTime, HasRead}
 use Rattle.ladr_mace4.specs.declared.ends.SearchEnd.{SearchEnd}
-use Rattle.ladr_mace4.specs.declared.ends.SearchEnd.TheVariants.{MaxModels, Exhausted, AllModels, MaxMegs, MaxSeconds, GroundLimit, ClauseLimit}
 use Rattle.ladr_mace4.specs.declared.ends.Step.{Step}
 use Rattle.ladr_mace4.specs.declared.ends.Step.TheVariants.{Over, Ends}
 use Rattle.ladr_mace4.specs.declared.plan.Plan.{Plan}
@@ -18,16 +17,6 @@ use Rattle.ladr_output.specs.Telling.{IsPiece, Tells}
 use Rattle.ladr_output.specs.declared.cut.Cut.{Cut}
 use Rattle.ladr_output.specs.declared.cut.Cut.TheVariants.{WriteFault, Memory}
 use Rattle.model_tables.specs.Size.{formulas_of}
-
--- no table is tried as a size begins
-none_tried : (p : Stated) (n : ℕ) (end : SearchEnd) → how_far p n end [] 0
-none_tried p n MaxModels = refl
-none_tried p n Exhausted = refl
-none_tried p n AllModels = refl
-none_tried p n MaxMegs = refl
-none_tried p n (MaxSeconds first last) = inl (refl, refl)
-none_tried p n (GroundLimit size) = refl
-none_tried p n (ClauseLimit formula) = refl
 
 module _ (p : Stated) (s : Plan) (t : Times) (n k r : ℕ) where
   -- nothing of the size is printed yet
@@ -52,8 +41,8 @@ module _ (p : Stated) (s : Plan) (t : Times) (n k r : ℕ) where
       cut_by (Unit {0}) (SizeGoes p s t n k r) (SizeEnds p s t n k r) (size_line n) a b why (nothing fewer in_time reads) (opened, begun, omega (arith, fewer), in_time, subst (λ (j : ℕ). HasRead s.seconds j t) (omega arith) reads, refl) piece
 
   -- the search ends as the size begins
-  pub at_beginning : (a b : Outflow) (end : SearchEnd) → IsBegun p s n → Takes a b (size_line n) → Stops p s t n k (inside [] 0) end → HasRead s.seconds (r + 1) t → Tells (SizeGoes p s t n k r) (SizeEnds p s t n k r) a b (Ok (Ends end k))
-  at_beginning a b end begun took stops reads = (size_line n, (inside [] 0, (begun, (λ more. absurd (omega (arith, more))), ([], tt, tt, none_tried p n end)), omega arith, stops, reads, sym (append-nil (size_line n))), took)
+  pub at_beginning : (a b : Outflow) (end : SearchEnd) → IsBegun p s n → Takes a b (size_line n) → Stops p s t n k opened end → HasRead s.seconds (r + 1) t → Tells (SizeGoes p s t n k r) (SizeEnds p s t n k r) a b (Ok (Ends end k))
+  at_beginning a b end begun took stops reads = (size_line n, (opened, begun, omega arith, stops, reads, refl), took)
 
   -- the size goes on behind its line
   pub behind_line : (a b c : Outflow) (result : Result Step Cut) → Takes a b (size_line n) → Tells (λ u. SizeGoes p s t n k r (size_line n ++ u)) (λ e u. SizeEnds p s t n k r e (size_line n ++ u)) b c result → Tells (SizeGoes p s t n k r) (SizeEnds p s t n k r) a c result

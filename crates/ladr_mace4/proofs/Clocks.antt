@@ -1,19 +1,20 @@
 -- The clock of a search, from one reading to the next.
-use Rattle.std.proofs.Common.{◌≡◌, ℕ, ◌+◌, ◌*◌, ◌<◌, Option, None, Some, unwrap_or, refl, sym, subst, ap, ◌∙◌, arith}
+use Rattle.std.proofs.Common.{◌≡◌, ℕ, ◌+◌, ◌*◌, ◌<◌, Option, None, Some, unwrap_or, sym, subst, ap, ◌∙◌, arith}
 use Rattle.ladr_io.specs.Times.{Times, later}
 use Rattle.ladr_mace4.specs.Watching.{time_to_stop, IsInTime, HasRead, IsLookedAt, IsWatchedBy, IsWatched, HasBegunBy, HasBegun}
 use Rattle.ladr_mace4.specs.declared.watch.Watch.{Watch}
-use Rattle.mace_search.specs.Watch.{IsEarly, IsLate, KeepsFirst, HasReadMore}
+use Rattle.mace_cells.specs.Readings.{ReadsOn}
+use Rattle.mace_search.specs.Watch.{IsEarly, IsLate}
 
-watched_by : (seconds first stop : Option ℕ) (t t' : Times) → HasBegunBy seconds first t → stop ≡ time_to_stop seconds t → IsWatchedBy seconds first t → IsEarly stop t' → KeepsFirst stop t t' → IsWatchedBy seconds first t' × HasBegunBy seconds first t'
-watched_by None first None t t' begun e was early goes = (rw goes was, rw goes begun)
-watched_by None first (Some x) t t' begun e was early goes = absurd cc
-watched_by (Some s) None stop t t' begun e was early goes = absurd begun
-watched_by (Some s) (Some f) None t t' begun e was early goes = absurd cc
-watched_by (Some s) (Some f) (Some x) t t' begun e was early goes =
+watched_by : (seconds first stop : Option ℕ) (more : ℕ) (t t' : Times) → HasBegunBy seconds first t → stop ≡ time_to_stop seconds t → IsWatchedBy seconds first t → IsEarly stop t' → ReadsOn stop more t t' → IsWatchedBy seconds first t' × HasBegunBy seconds first t'
+watched_by None first None n t t' begun e was early goes = (rw goes was, rw goes begun)
+watched_by None first (Some x) n t t' begun e was early goes = absurd cc
+watched_by (Some s) None stop n t t' begun e was early goes = absurd begun
+watched_by (Some s) (Some f) None n t t' begun e was early goes = absurd cc
+watched_by (Some s) (Some f) (Some x) n t t' begun e was early goes =
     let x_is : x ≡ t.first + 1000 * s = cc in
-    let early' : 1 < t'.count → (t'.last < t'.first + 1000 * s) × (t'.between < t'.first + 1000 * s) = λ more. (omega (arith, (early.1 more).0, x_is, goes), omega (arith, (early.1 more).1, x_is, goes)) in
-    ((early.0, goes ∙ begun.1, early'), (early.0, goes ∙ begun.1))
+    let early' : 1 < t'.count → (t'.last < t'.first + 1000 * s) × (t'.between < t'.first + 1000 * s) = λ more. (omega (arith, (early.1 more).0, x_is, goes.0), omega (arith, (early.1 more).1, x_is, goes.0)) in
+    ((early.0, goes.0 ∙ begun.1, early'), (early.0, goes.0 ∙ begun.1))
 
 time_by : (seconds first : Option ℕ) (t : Times) → IsWatchedBy seconds first t → IsInTime seconds t
 time_by None first t watched = watched
@@ -21,21 +22,21 @@ time_by (Some s) None t watched = λ more. absurd (omega (arith, watched, more))
 time_by (Some s) (Some f) t watched = watched.2
 
 -- the clock is still watched
-pub watched_on : (w : Watch) (stop : Option ℕ) (t t' : Times) → HasBegun w t → stop ≡ time_to_stop w.seconds t → IsWatched w t → IsEarly stop t' → KeepsFirst stop t t' → IsWatched w t' × HasBegun w t'
-watched_on w stop t t' begun e was early goes = watched_by w.seconds w.first stop t t' begun e was early goes
+pub watched_on : (w : Watch) (stop : Option ℕ) (more : ℕ) (t t' : Times) → HasBegun w t → stop ≡ time_to_stop w.seconds t → IsWatched w t → IsEarly stop t' → ReadsOn stop more t t' → IsWatched w t' × HasBegun w t'
+watched_on w stop more t t' begun e was early goes = watched_by w.seconds w.first stop more t t' begun e was early goes
 
 -- late, by the watch
-late_by : (seconds first stop : Option ℕ) (t t' : Times) (last : ℕ) → HasBegunBy seconds first t → stop ≡ time_to_stop seconds t → KeepsFirst stop t t' → IsLate stop t' last → IsLate (time_to_stop seconds t') t' last × (unwrap_or first 0 ≡ t'.first)
-late_by None first None t t' last begun e goes late = absurd late
-late_by None first (Some x) t t' last begun e goes late = absurd cc
-late_by (Some s) None stop t t' last begun e goes late = absurd begun
-late_by (Some s) (Some f) None t t' last begun e goes late = absurd cc
-late_by (Some s) (Some f) (Some x) t t' last begun e goes late =
-    let x_is : x ≡ t'.first + 1000 * s = omega (arith, (let y : x ≡ t.first + 1000 * s = cc in y), goes) in
-    (subst (λ (y : ℕ). IsLate (Some y) t' last) x_is late, sym begun.1 ∙ sym goes)
+late_by : (seconds first stop : Option ℕ) (more : ℕ) (t t' : Times) (last : ℕ) → HasBegunBy seconds first t → stop ≡ time_to_stop seconds t → ReadsOn stop more t t' → IsLate stop t' last → IsLate (time_to_stop seconds t') t' last × (unwrap_or first 0 ≡ t'.first)
+late_by None first None n t t' last begun e goes late = absurd late
+late_by None first (Some x) n t t' last begun e goes late = absurd cc
+late_by (Some s) None stop n t t' last begun e goes late = absurd begun
+late_by (Some s) (Some f) None n t t' last begun e goes late = absurd cc
+late_by (Some s) (Some f) (Some x) n t t' last begun e goes late =
+    let x_is : x ≡ t'.first + 1000 * s = omega (arith, (let y : x ≡ t.first + 1000 * s = cc in y), goes.0) in
+    (subst (λ (y : ℕ). IsLate (Some y) t' last) x_is late, sym begun.1 ∙ sym goes.0)
 
-pub late_on : (w : Watch) (s stop : Option ℕ) (t t' : Times) (last : ℕ) → w.seconds ≡ s → HasBegun w t → stop ≡ time_to_stop w.seconds t → KeepsFirst stop t t' → IsLate stop t' last → IsLate (time_to_stop s t') t' last × (unwrap_or w.first 0 ≡ t'.first)
-late_on w s stop t t' last e begun is goes late = subst (λ (o : Option ℕ). IsLate (time_to_stop o t') t' last × (unwrap_or w.first 0 ≡ t'.first)) e (late_by w.seconds w.first stop t t' last begun is goes late)
+pub late_on : (w : Watch) (s stop : Option ℕ) (more : ℕ) (t t' : Times) (last : ℕ) → w.seconds ≡ s → HasBegun w t → stop ≡ time_to_stop w.seconds t → ReadsOn stop more t t' → IsLate stop t' last → IsLate (time_to_stop s t') t' last × (unwrap_or w.first 0 ≡ t'.first)
+late_on w s stop more t t' last e begun is goes late = subst (λ (o : Option ℕ). IsLate (time_to_stop o t') t' last × (unwrap_or w.first 0 ≡ t'.first)) e (late_by w.seconds w.first stop more t t' last begun is goes late)
 
 -- in time, by the watch
 pub in_time : (w : Watch) (s : Option ℕ) (t : Times) → w.seconds ≡ s → IsWatched w t → IsInTime s t
@@ -73,18 +74,9 @@ pub unread : (seconds : Option ℕ) (t : Times) → t.count ≡ 0 → HasRead se
 unread None t e = e
 unread (Some s) t e = omega (arith, e)
 
--- so many times more
-pub read_on : (seconds stop : Option ℕ) (t₀ t t' : Times) (n k m : ℕ) → stop ≡ time_to_stop seconds t₀ → HasRead seconds n t → KeepsFirst stop t t' → HasReadMore stop k t t' → m ≡ n + k → HasRead seconds m t'
-read_on None None t₀ t t' n k m e h goes reads is = rw goes h
-read_on None (Some x) t₀ t t' n k m e h goes reads is = absurd cc
-read_on (Some s) None t₀ t t' n k m e h goes reads is = absurd cc
-read_on (Some s) (Some x) t₀ t t' n k m e h goes reads is = omega (arith, h, reads, is)
-
--- from one time to a third
-pub keeps_both : (stop : Option ℕ) (t u v : Times) → KeepsFirst stop t u → KeepsFirst stop u v → KeepsFirst stop t v
-keeps_both None t u v h k = k ∙ h
-keeps_both (Some s) t u v h k = k ∙ h
-
-pub keeps_none : (stop : Option ℕ) (t : Times) → KeepsFirst stop t t
-keeps_none None t = refl
-keeps_none (Some s) t = refl
+-- where the clock was read on
+pub read_on : (seconds stop : Option ℕ) (t₀ t t' : Times) (n more all : ℕ) → all ≡ n + more → stop ≡ time_to_stop seconds t₀ → HasRead seconds n t → ReadsOn stop more t t' → HasRead seconds all t'
+read_on None None t₀ t t' n more all few e h goes = rw goes h
+read_on None (Some x) t₀ t t' n more all few e h goes = absurd cc
+read_on (Some s) None t₀ t t' n more all few e h goes = absurd cc
+read_on (Some s) (Some x) t₀ t t' n more all few e h goes = omega (arith, few, h, goes.1)

@@ -1,32 +1,48 @@
 -- A search that goes on can come to an end: so what it printed is a front of a whole output.
-use Rattle.std.proofs.Common.{◌≡◌, ℕ, zero, suc, ◌+◌, ◌*◌, ◌-◌, ◌<◌, ◌≤◌, min, List, [], ◌∷◌, ◌++◌, length, Option, None, Some, inl, inr, refl, ap, sym, subst, ◌∙◌, append_assoc, append-nil, arith}
+use Rattle.std.proofs.Common.{◌≡◌, ℕ, zero, suc, ◌+◌, ◌*◌, ◌<◌, ◌≤◌, min, true, false, List, [], ◌∷◌, ◌++◌, length, Option, None, Some, IfSome, inl, inr, refl, ap, sym, subst, ◌∙◌, append_assoc, append-nil, arith}
 use Rattle.std.proofs.Math.Nat.{suc-mul}
 use Rattle.std.proofs.lemmas.Bool.{cases_lt}
 use Rattle.std.specs.Prelude.{◌⊎◌}
+use Rattle.clausify.specs.Behind.{SkolemsStandBehind, StandBehind}
+use Rattle.fol_core.specs.Literals.{equality}
 use Rattle.fol_core.specs.Occurs.{size_needed}
-use Rattle.fol_core.specs.Stated.{Stated}
+use Rattle.fol_core.specs.Stated.{Stated, IsWellFormed, AreNewTo}
+use Rattle.ladr_cells.proofs.Covering.{among_last, among_front, different_more}
+use Rattle.ladr_cells.proofs.Uses.{all_append}
+use Rattle.ladr_cells.specs.Showing.{IsOneOf, CoverModels}
+use Rattle.ladr_cells.specs.Worlds.{world_for, ground_size}
 use Rattle.ladr_io.specs.Streams.{greatest}
 use Rattle.ladr_io.specs.Times.{Times}
 use Rattle.ladr_mace4.proofs.Ended.{ended_more, many_more, length_more, text_more, reads_more}
 use Rattle.ladr_mace4.proofs.Found as finds
+use Rattle.ladr_mace4.proofs.Known.{InOrder, AreNew, EachSolves}
+use Rattle.ladr_mace4.proofs.Same.{one_or_new, new_by}
+use Rattle.ladr_mace4.proofs.WholeModels.{few_skolems, expanded_model}
 use Rattle.ladr_mace4.specs.Lines.{size_line, skipped_line, exhausted_line}
+use Rattle.ladr_mace4.specs.Models.{IsWholeModel, AreShown}
 use Rattle.ladr_mace4.specs.Plans.{size_behind}
-use Rattle.ladr_mace4.specs.Rooms.{refused_cells, most_cells, HasRoomForCells, HasRoomForModels, IsCrowded, IsBegun}
-use Rattle.ladr_mace4.specs.Skolems.{all_symbols, all_axioms, all_cells, AreExpansions}
-use Rattle.ladr_mace4.specs.Story.{Size, skipped, searched, Now, between, opened, inside, models_in, models_in_all, models_text, size_text, sizes_text, HasEnded, HaveEnded, IsAtSize, AreTriedFurther, how_far, Stops, readings_in_all, text_by, models_by, readings_by, SearchGoes, SearchComes}
+use Rattle.ladr_mace4.specs.Rooms.{refused_cells, most_cells, HasRoomForGround, IsCrowded, IsBegun}
+use Rattle.ladr_mace4.specs.Skolems.{all_symbols, all_axioms}
+use Rattle.ladr_mace4.specs.Story.{Size, skipped, searched, Now, between, opened, inside, models_in, models_in_all, models_text, size_text, sizes_text, HasEnded, HaveEnded, IsAtSize, Stops, GoesTo, HasCourse, readings_in_all, text_by, models_by, readings_by, readings_by_end, SearchGoes, SearchComes}
 use Rattle.ladr_mace4.specs.Watching.{time_to_stop, IsInTime, HasRead}
 use Rattle.ladr_mace4.specs.declared.ends.SearchEnd.{SearchEnd}
 use Rattle.ladr_mace4.specs.declared.ends.SearchEnd.TheVariants.{MaxModels, Exhausted, AllModels, MaxMegs, MaxSeconds, GroundLimit, ClauseLimit}
 use Rattle.ladr_mace4.specs.declared.plan.Plan.{Plan}
-use Rattle.mace_search.proofs.Next.{in_count, some_tables, next_or_none}
-use Rattle.mace_search.specs.Models.{AreFirst, NoneFrom, number_behind}
+use Rattle.mace_cells.proofs.Moving.{goes_nowhere, goes_then, goes_live, goes_to_end}
+use Rattle.mace_cells.specs.Choices.{Choice}
+use Rattle.mace_cells.specs.World.{World, Solves}
+use Rattle.mace_search.proofs.Completing.{by_number}
+use Rattle.mace_search.proofs.Next.{in_count, next_or_none}
+use Rattle.mace_search.specs.Models.{IsModel, IsNextModel}
 use Rattle.mace_search.specs.Plain.{tables_in}
 use Rattle.mace_search.specs.Watch.{IsLate}
-use Rattle.model_tables.proofs.Decided.{some_expansion}
+use Rattle.model_tables.proofs.Kept.{expansion_isomorphic}
+use Rattle.model_tables.specs.Expansion.{IsExpansion}
 use Rattle.model_tables.specs.ModelText.{model_text}
 use Rattle.model_tables.specs.Order.{table_number}
+use Rattle.model_tables.specs.Isomorphism.{IsIsomorphism}
 use Rattle.model_tables.specs.Size.{formulas_of}
-use Rattle.model_tables.specs.Tables.{Finite}
+use Rattle.model_tables.specs.Tables.{Finite, meaning_of}
 
 -- a clock that comes to be late with its reading number m
 late_times : (o : Option ℕ) (sec n m : ℕ) (t : Times) → o ≡ Some sec → IsInTime o t → HasRead o n t → 2 ≤ m → (2 < m → m ≤ n + 1) → (t' : Times) × (IsLate (time_to_stop o t') t' t'.last × HasRead o m t')
@@ -41,31 +57,28 @@ first_times : (o : Option ℕ) (sec : ℕ) (t : Times) → o ≡ Some sec → (t
 first_times None sec t e = absurd cc
 first_times (Some x) sec t e =
     let t' : Times = record { count = 1; first = t.first; last = t.first; between = 0 } in
-    (t', ((λ more. absurd (omega (arith, more))), refl))
-
--- one that gave fewer readings
-earlier_times : (o : Option ℕ) (n m : ℕ) (t : Times) → IsInTime o t → HasRead o n t → m ≤ n → (t' : Times) × (IsInTime o t' × HasRead o m t')
-earlier_times None n m t in_time reads le = (t, (in_time, reads))
-earlier_times (Some x) n m t in_time reads le =
-    let t' : Times = record t { count = min m greatest } in
-    (t', (λ more. in_time (omega (arith, more, le, reads)), omega arith))
+    (t', ((λ more. absurd (omega (arith, more))), omega arith))
 
 -- where no time is set, any number of readings is none
 any_read : (o : Option ℕ) (n m : ℕ) (t : Times) → o ≡ None → HasRead o n t → HasRead o m t
 any_read None n m t e reads = reads
 any_read (Some x) n m t e reads = absurd cc
 
--- the tables behind the last model are no more than there are
-behind_within : (p : Stated) (n k : ℕ) (ts : List Finite) → AreFirst p n k ts → k ≤ tables_in n p → number_behind k ts ≤ tables_in n p
-behind_within p n k [] h le = le
-behind_within p n k (t ∷ ts) h le = behind_within p n (suc (table_number t)) ts h.1 (omega (arith, in_count p n t h.0.0))
+-- where no time is set, nothing is asked of what is asked where one is
+none_asked : (o : Option ℕ) (P : Type 0) → o ≡ None → IfSome o (λ s. P)
+none_asked None P e = tt
+none_asked (Some x) P e = absurd cc
 
-tried_least : (p : Stated) (n : ℕ) (ts : List Finite) (tried : ℕ) → AreFirst p n 0 ts → AreTriedFurther p n ts tried → number_behind 0 ts ≤ tried
-tried_least p n ts tried h (inl e) = omega (arith, e)
-tried_least p n ts tried h (inr (inl x)) = omega (arith, x.1.1, x.2)
-tried_least p n ts tried h (inr (inr x)) = omega (arith, x.1, behind_within p n 0 ts h (omega arith))
+-- and where one is set, it is so
+asked_so : (o : Option ℕ) (sec : ℕ) (P : Type 0) → o ≡ Some sec → IfSome o (λ s. P) → P
+asked_so None sec P e h = absurd cc
+asked_so (Some x) sec P e h = h
 
-module _ (p : Stated) (s : Plan) (start : 1 ≤ s.start) (step : 1 ≤ s.step) where
+-- a model with a number below j is one of these, renamed
+abbrev AreCovered : Stated → ℕ → ℕ → List Finite → Type 0
+AreCovered p n j us = (y : Finite) → IsModel p n y → table_number y < j → (u : Finite) × IsOneOf u us × ((r : ℕ → ℕ) × IsIsomorphism n p r y u)
+
+module _ (behind : SkolemsStandBehind) (order : InOrder) (new : AreNew) (each : EachSolves) (p : Stated) (well : IsWellFormed p) (few : length p.symbols ≤ equality) (s : Plan) (start : 1 ≤ s.start) (step : 1 ≤ s.step) where
   -- the text of sizes that ended, and the size behind them
   abbrev front : List Size → List ℕ
   front sizes = sizes_text p s.step s.start 0 sizes
@@ -91,7 +104,7 @@ module _ (p : Stated) (s : Plan) (start : 1 ≤ s.start) (step : 1 ≤ s.step) w
   AreGone sizes = HaveEnded p s s.start sizes × (models_in_all sizes < s.wanted)
 
   -- the search comes to its end here
-  ends_at : (t : Times) (sizes : List Size) (now : Now) (end : SearchEnd) → AreGone sizes → IsAtSize (how_far p (next sizes) end) p s (next sizes) now → Stops p s t (next sizes) (models_by sizes now) now end → HasRead s.seconds (readings_by sizes now) t → Comes (text_by p s sizes now)
+  ends_at : (t : Times) (sizes : List Size) (now : Now) (end : SearchEnd) → AreGone sizes → IsAtSize p s (next sizes) now → Stops p s t (next sizes) (models_by sizes now) now end → HasRead s.seconds (readings_by_end sizes now end) t → Comes (text_by p s sizes now)
   ends_at t sizes now end gone stands stops reads = record {
     times = t;
     end = end;
@@ -120,111 +133,164 @@ module _ (p : Stated) (s : Plan) (start : 1 ≤ s.start) (step : 1 ≤ s.step) w
   gone_more sizes size gone within is fewer = (ended_more p s s.start sizes size gone.0 within is, omega (arith, fewer, many_more sizes size))
 
   -- that a size is exhausted stands behind its models
-  exhausted_is : (sizes : List Size) (ts : List Finite) (tried : ℕ) → front (sizes ++ searched ts tried ∷ []) ≡ (front sizes ++ (size_line (next sizes) ++ models_text p (models_in_all sizes) ts)) ++ exhausted_line (next sizes)
-  exhausted_is sizes ts tried =
+  exhausted_is : (sizes : List Size) (us : List Finite) (chosen : ℕ) → front (sizes ++ searched us chosen ∷ []) ≡ (front sizes ++ (size_line (next sizes) ++ models_text p (models_in_all sizes) us)) ++ exhausted_line (next sizes)
+  exhausted_is sizes us chosen =
       let n = next sizes in
-      let texts = models_text p (models_in_all sizes) ts in
-      text_is sizes (searched ts tried) ∙ ap (λ (u : List ℕ). front sizes ++ u) (sym (append_assoc (size_line n) texts (exhausted_line n))) ∙ sym (append_assoc (front sizes) (size_line n ++ texts) (exhausted_line n))
+      let texts = models_text p (models_in_all sizes) us in
+      text_is sizes (searched us chosen) ∙ ap (λ (u : List ℕ). front sizes ++ u) (sym (append_assoc (size_line n) texts (exhausted_line n))) ∙ sym (append_assoc (front sizes) (size_line n ++ texts) (exhausted_line n))
 
   -- all sizes are behind it
   over : (t : Times) (sizes : List Size) → AreGone sizes → s.end < next sizes → IsInTime s.seconds t → HasRead s.seconds (readings_in_all sizes) t → Comes (front sizes)
   over t sizes gone behind_all in_time reads =
       let none : models_by sizes between ≡ models_in_all sizes = omega arith in
-      let read = read_same t (readings_in_all sizes) (readings_by sizes between) (omega arith) reads in
+      let read = read_same t (readings_in_all sizes) (readings_in_all sizes + 0) (omega arith) reads in
       shorter (front sizes) [] (elim (cases_lt 0 (models_in_all sizes)) [
         | inl some ↦ ends_at t sizes between AllModels gone tt (in_time, refl, behind_all, omega (arith, some, none)) read
         | inr few ↦ ends_at t sizes between Exhausted gone tt (in_time, refl, behind_all, omega (arith, few, none)) read
       ])
 
-  -- there is room for the cells of a size, or the search ends for want of it
-  room_or_end : (n : ℕ) → HasRoomForCells s (all_cells n p) ⊎ ((end : SearchEnd) × IsCrowded s n (all_cells n p) end)
-  room_or_end n = elim (cases_lt (all_cells n p) refused_cells) [
+  -- there is room for a size, or the search ends for want of it
+  room_or_end : (n : ℕ) → HasRoomForGround s (ground_size n p) ⊎ ((end : SearchEnd) × IsCrowded s n (ground_size n p) end)
+  room_or_end n = elim (cases_lt (ground_size n p) refused_cells) [
     | inr many ↦ inr (GroundLimit n, (many, refl))
-    | inl few ↦ elim (cases_lt (all_cells n p) (most_cells s)) [
+    | inl few ↦ elim (cases_lt (ground_size n p) (most_cells s)) [
       | inl room ↦ inl (few, room)
       | inr many ↦ inr (MaxMegs, (few, many))
     ]
   ]
 
-  crowded_end : (t : Times) (sizes : List Size) (end : SearchEnd) → IsCrowded s (next sizes) (all_cells (next sizes) p) end → AreGone sizes → IsBegun p s (next sizes) → IsInTime s.seconds t → HasRead s.seconds (readings_by sizes (inside [] 0)) t → Comes (text_by p s sizes (inside [] 0))
-  crowded_end t sizes MaxMegs crowded gone begun in_time reads = ends_at t sizes (inside [] 0) MaxMegs gone (begun, (λ more. absurd (omega (arith, more))), ([], tt, tt, refl)) (in_time, refl, crowded) reads
-  crowded_end t sizes (GroundLimit size) crowded gone begun in_time reads = ends_at t sizes (inside [] 0) (GroundLimit size) gone (begun, (λ more. absurd (omega (arith, more))), ([], tt, tt, refl)) (in_time, refl, crowded) reads
+  crowded_end : (t : Times) (sizes : List Size) (end : SearchEnd) → IsCrowded s (next sizes) (ground_size (next sizes) p) end → AreGone sizes → IsBegun p s (next sizes) → IsInTime s.seconds t → HasRead s.seconds (readings_in_all sizes + 1) t → Comes (text_by p s sizes opened)
+  crowded_end t sizes MaxMegs crowded gone begun in_time reads = ends_at t sizes opened MaxMegs gone begun (in_time, refl, crowded) reads
+  crowded_end t sizes (GroundLimit size) crowded gone begun in_time reads = ends_at t sizes opened (GroundLimit size) gone begun (in_time, refl, crowded) reads
   crowded_end t sizes MaxModels crowded gone begun in_time reads = absurd crowded
   crowded_end t sizes Exhausted crowded gone begun in_time reads = absurd crowded
   crowded_end t sizes AllModels crowded gone begun in_time reads = absurd crowded
   crowded_end t sizes (MaxSeconds first last) crowded gone begun in_time reads = absurd crowded
   crowded_end t sizes (ClauseLimit formula) crowded gone begun in_time reads = absurd crowded
 
-  -- a size whose line is printed, where a time is set: the time is over as it begins, or before its first table
+  -- in a size with models, where a time is set: the time is over before a choice
+  late_inside : (t : Times) (sizes : List Size) (us : List Finite) (chosen : ℕ) (choices : List Choice) (sec : ℕ) → s.seconds ≡ Some sec → AreGone sizes → IsBegun p s (next sizes) → HasRoomForGround s (ground_size (next sizes) p) → AreShown p (next sizes) us → GoesTo p (next sizes) us chosen true choices
+      → models_in_all sizes + length us < s.wanted → IsInTime s.seconds t → HasRead s.seconds (readings_in_all sizes + suc chosen) t
+      → Comes (front sizes ++ (size_line (next sizes) ++ models_text p (models_in_all sizes) us))
+  late_inside t sizes us chosen choices sec set gone begun room shown way fewer in_time reads =
+      let r = readings_in_all sizes in
+      let late = late_times s.seconds sec (r + suc chosen) (r + suc (suc chosen)) t set in_time reads (omega arith) (λ more. omega arith) in
+      let t' = late.0 in
+      ends_at t' sizes (inside us chosen) (MaxSeconds t'.first t'.last) gone (begun, room, shown, finds.where_set s.seconds (HasCourse p (next sizes) us chosen) (true, (choices, way, inl tt))) (late.1.0, refl, (choices, way), fewer) late.1.1
+
+  -- a size whose line is printed, where a time is set: the time is over as it begins, or before its first choice
   late_begun : (t : Times) (sizes : List Size) (sec : ℕ) → s.seconds ≡ Some sec → AreGone sizes → IsBegun p s (next sizes) → IsInTime s.seconds t → HasRead s.seconds (readings_in_all sizes) t → Comes (front sizes ++ size_line (next sizes))
   late_begun t sizes sec set gone begun in_time reads =
       let n = next sizes in
       let r = readings_in_all sizes in
-      let none : models_in_all sizes + 0 < s.wanted = omega (arith, gone.1) in
-      let text : front sizes ++ (size_line n ++ []) ≡ front sizes ++ size_line n = ap (λ (u : List ℕ). front sizes ++ u) (append-nil (size_line n)) in
-      subst Comes text (elim (cases_lt 0 r) [
+      elim (cases_lt 0 r) [
         | inl some ↦ (
             let late = late_times s.seconds sec r (r + 1) t set in_time reads (omega (arith, some)) (λ more. omega arith) in
             let t' = late.0 in
-            ends_at t' sizes (inside [] 0) (MaxSeconds t'.first t'.last) gone (begun, (λ more. absurd (omega (arith, more))), ([], tt, tt, inl (refl, refl))) (late.1.0, refl, tt, none) late.1.1)
-        | inr few ↦ elim (room_or_end n) [
-          | inl room ↦ (
-              let late = late_times s.seconds sec r 2 t set in_time reads (omega arith) (λ more. absurd (omega (arith, more))) in
-              let t' = late.0 in
-              ends_at t' sizes (inside [] 1) (MaxSeconds t'.first t'.last) gone (begun, (λ more. room), ([], tt, tt, inr (0, refl, omega arith, some_tables p n (omega (arith, start)), λ u is from before. absurd (omega (arith, before))))) (late.1.0, refl, tt, none) (read_same t' 2 (r + 2) (omega (arith, few)) late.1.1))
-          | inr crowded ↦ (
-              let first = first_times s.seconds sec t set in
-              crowded_end first.0 sizes crowded.0 crowded.1 gone begun first.1.0 (read_same first.0 1 (r + 1) (omega (arith, few)) first.1.1))
-        ]
-      ])
-
-  -- fewer tables tried
-  room_fewer : (n : ℕ) (ts : List Finite) (tried m : ℕ) → HasRoomForModels p s n ts tried → m ≤ tried → HasRoomForModels p s n ts m
-  room_fewer n [] tried m room le = λ more. room (omega (arith, more, le))
-  room_fewer n (t ∷ ts) tried m room le = room
+            ends_at t' sizes opened (MaxSeconds t'.first t'.last) gone begun (late.1.0, refl, tt, omega (arith, gone.1)) late.1.1)
+        | inr none ↦ (
+            let first = first_times s.seconds sec t set in
+            let read = read_same first.0 1 (r + 1) (omega (arith, none)) first.1.1 in
+            elim (room_or_end n) [
+              | inl room ↦ (
+                  let text : front sizes ++ (size_line n ++ []) ≡ front sizes ++ size_line n = ap (λ (u : List ℕ). front sizes ++ u) (append-nil (size_line n)) in
+                  subst Comes text (late_inside first.0 sizes [] 0 [] sec set gone begun room (tt, tt) (goes_nowhere (world_for p n) true []) (omega (arith, gone.1)) first.1.0 read))
+              | inr crowded ↦ crowded_end first.0 sizes crowded.0 crowded.1 gone begun first.1.0 read
+            ])
+      ]
 
   -- as many models as are wanted are printed
-  enough : (t : Times) (sizes : List Size) (found ts : List Finite) → AreGone sizes → IsBegun p s (next sizes) → HasRoomForModels p s (next sizes) ts (number_behind 0 found) → models_in_all sizes + length ts ≡ s.wanted → AreFirst p (next sizes) 0 found → AreExpansions (all_axioms p) found ts → IsInTime s.seconds t → HasRead s.seconds (readings_in_all sizes + suc (number_behind 0 found)) t
-      → Comes (front sizes ++ (size_line (next sizes) ++ models_text p (models_in_all sizes) ts))
-  enough t sizes found ts gone begun room all first expansions in_time reads = ends_at t sizes (inside ts (number_behind 0 found)) MaxModels gone (begun, room, (found, first, expansions, refl)) (in_time, tt, all) reads
+  enough : (t : Times) (sizes : List Size) (us : List Finite) (chosen : ℕ) → AreGone sizes → IsBegun p s (next sizes) → HasRoomForGround s (ground_size (next sizes) p) → models_in_all sizes + length us ≡ s.wanted → AreShown p (next sizes) us
+      → IfSome s.seconds (λ seconds. HasCourse p (next sizes) us chosen) → IsInTime s.seconds t → HasRead s.seconds (readings_in_all sizes + suc chosen) t
+      → Comes (front sizes ++ (size_line (next sizes) ++ models_text p (models_in_all sizes) us))
+  enough t sizes us chosen gone begun room all shown way in_time reads = ends_at t sizes (inside us chosen) MaxModels gone (begun, room, shown, way) (in_time, tt, all) reads
+
+  -- where there is room the Skolem symbols stand behind, and no formula has one
+  stand : (n : ℕ) → 1 ≤ n → HasRoomForGround s (ground_size n p) → StandBehind p
+  stand n some room = behind p few (few_skolems p n some room.0)
+
+  apart : (n : ℕ) → 1 ≤ n → HasRoomForGround s (ground_size n p) → AreNewTo p.formulas (all_axioms p)
+  apart n some room = new p.symbols p well few (λ k h e. e) (few_skolems p n some room.0)
+
+  -- a model with values for the Skolem symbols that solves the clauses
+  expanded : (n : ℕ) → 1 ≤ n → HasRoomForGround s (ground_size n p) → (t : Finite) → IsModel p n t → (e : Finite) × (IsExpansion t (all_axioms p) e × Solves (world_for p n) (meaning_of e))
+  expanded n some room = each p n well few (order p.symbols p well few (λ k h e. e) (few_skolems p n some room.0)) (apart n some room)
+
+  -- a model more is covered
+  covered_more : (n j : ℕ) (us us' : List Finite) (y e : Finite) → IsNextModel p n j y → IsIsomorphism n p (λ x. x) y e → ((u : Finite) → IsOneOf u us → IsOneOf u us') → IsOneOf e us' → AreCovered p n j us → AreCovered p n (suc (table_number y)) us'
+  covered_more n j us us' y e next iso kept one covered z is before = elim (cases_lt (table_number z) j) [
+    | inl less ↦ (let c = covered z is less in (c.0, kept c.0 c.1, c.2))
+    | inr from ↦ elim (cases_lt (table_number z) (table_number y)) [
+      | inl less ↦ absurd (next.2 z is from less)
+      | inr le ↦ (
+          let same : y ≡ z = by_number p n y z next.0.0 is.0 (omega (arith, le, before)) in
+          (e, one, ((λ x. x), subst (λ (v : Finite). IsIsomorphism n p (λ x. x) v e) same iso)))
+    ]
+  ]
 
   -- what a search behind one size more comes to
   abbrev GoesOnBehind : List Size → Type 0
   GoesOnBehind sizes = (sizes' : List Size) → AreGone sizes' → length sizes' ≡ length sizes + 1 → Comes (front sizes')
 
-  module _ (t : Times) (none : s.seconds ≡ None) (in_time : IsInTime s.seconds t) (read : (m : ℕ) → HasRead s.seconds m t) where
-    -- a size with models, where no time is set: the next models are printed, and that it is exhausted
-    enumerated : (more : ℕ) (sizes : List Size) (found ts : List Finite) → AreGone sizes → IsBegun p s (next sizes) → HasRoomForCells s (all_cells (next sizes) p) → models_in_all sizes + length ts + more ≡ s.wanted → AreFirst p (next sizes) 0 found → AreExpansions (all_axioms p) found ts → GoesOnBehind sizes
-        → Comes (front sizes ++ (size_line (next sizes) ++ models_text p (models_in_all sizes) ts))
-    enumerated zero sizes found ts gone begun room all first expansions rest = enough t sizes found ts gone begun (finds.room_for p s (next sizes) ts (number_behind 0 found) room) (omega (arith, all)) first expansions in_time (read _)
-    enumerated (suc more) sizes found ts gone begun room all first expansions rest =
+  module _ (t : Times) (none_set : s.seconds ≡ None) (in_time : IsInTime s.seconds t) (read : (m : ℕ) → HasRead s.seconds m t) where
+    -- a size is exhausted, where no time is set
+    emptied : (sizes : List Size) (us : List Finite) → AreGone sizes → IsBegun p s (next sizes) → HasRoomForGround s (ground_size (next sizes) p) → models_in_all sizes + length us < s.wanted → AreShown p (next sizes) us → CoverModels p (next sizes) us → GoesOnBehind sizes
+        → Comes (front sizes ++ (size_line (next sizes) ++ models_text p (models_in_all sizes) us))
+    emptied sizes us gone begun room fewer shown all rest =
+        let n = next sizes in
+        let texts = models_text p (models_in_all sizes) us in
+        let size = searched us 0 in
+        let is : HasEnded p s n size = ((begun.1, room), shown, all, none_asked s.seconds (GoesTo p n us 0 false []) none_set) in
+        shorter (front sizes ++ (size_line n ++ texts)) (exhausted_line n) (subst Comes (exhausted_is sizes us 0) (rest (sizes ++ size ∷ []) (gone_more sizes size gone begun.0 is fewer) (length_more sizes size)))
+
+    -- a size with models, where no time is set: the models that aren't shown yet are printed, and that it is exhausted
+    enumerated : (fuel j : ℕ) (sizes : List Size) (us : List Finite) → AreGone sizes → IsBegun p s (next sizes) → HasRoomForGround s (ground_size (next sizes) p) → models_in_all sizes + length us < s.wanted → AreShown p (next sizes) us → AreCovered p (next sizes) j us → tables_in (next sizes) p ≤ j + fuel → GoesOnBehind sizes
+        → Comes (front sizes ++ (size_line (next sizes) ++ models_text p (models_in_all sizes) us))
+    enumerated zero j sizes us gone begun room fewer shown covered all rest =
+        let n = next sizes in
+        emptied sizes us gone begun room fewer shown (λ y is. covered y is (omega (arith, in_count p n y is, all))) rest
+    enumerated (suc fuel) j sizes us gone begun room fewer shown covered all rest =
         let n = next sizes in
         let k = models_in_all sizes in
         let some : 1 ≤ n = omega (arith, start) in
-        let texts = models_text p k ts in
-        elim (next_or_none p n (number_behind 0 found) some) [
-          | inr never ↦ (
-              let size = searched ts (tables_in n p) in
-              let is : HasEnded p s n size = ((begun.1, room), (found, (first, never), expansions), refl) in
-              shorter (front sizes ++ (size_line n ++ texts)) (exhausted_line n) (subst Comes (exhausted_is sizes ts (tables_in n p)) (rest (sizes ++ size ∷ []) (gone_more sizes size gone begun.0 is (omega (arith, all))) (length_more sizes size))))
+        elim (next_or_none p n j some) [
+          | inr never ↦ emptied sizes us gone begun room fewer shown (λ y is. elim (cases_lt (table_number y) j) [ inl before ↦ covered y is before | inr from ↦ absurd (never y is from) ]) rest
           | inl y ↦ (
-              let u = some_expansion y.0 (all_axioms p) in
-              let text = model_text (all_symbols p) (suc (k + length ts)) u.0 in
-              let e : front sizes ++ (size_line n ++ models_text p k (ts ++ u.0 ∷ [])) ≡ (front sizes ++ (size_line n ++ texts)) ++ text =
-              ap (λ (v : List ℕ). front sizes ++ (size_line n ++ v)) (finds.text_more p k ts u.0) ∙ ap (λ (v : List ℕ). front sizes ++ v) (sym (append_assoc (size_line n) texts text)) ∙ sym (append_assoc (front sizes) (size_line n ++ texts) text) in
-              shorter (front sizes ++ (size_line n ++ texts)) text
-              (subst Comes e (enumerated more sizes (found ++ y.0 ∷ []) (ts ++ u.0 ∷ []) gone begun room (omega (arith, all, finds.many_more ts u.0)) (finds.first_more p n 0 found y.0 first y.1) (finds.expanded_more (all_axioms p) found ts y.0 u.0 expansions u.1) rest)))
+              let e = expanded n some room y.0 y.1.0 in
+              let iso = expansion_isomorphic n p (all_axioms p) y.0 e.0 y.1.0.0 (apart n some room) e.1.0 in
+              let few_left : tables_in n p ≤ suc (table_number y.0) + fuel = omega (arith, all, y.1.1) in
+              elim (one_or_new e.0 us) [
+                | inl one ↦ enumerated fuel (suc (table_number y.0)) sizes us gone begun room fewer shown (covered_more n j us us y.0 e.0 y.1 iso (λ u h. h) one covered) few_left rest
+                | inr none ↦ (
+                    let us' = us ++ e.0 ∷ [] in
+                    let texts = models_text p k us in
+                    let text = model_text (all_symbols p) (suc (k + length us)) e.0 in
+                    let shown' : AreShown p n us' = (all_append (IsWholeModel p n) us (e.0 ∷ []) shown.0 (expanded_model p n y.0 e.0 (stand n some room) (apart n some room) y.1.0 e.1.0 e.1.1.holds, tt), different_more us e.0 shown.1 (new_by e.0 us none)) in
+                    let covered' = covered_more n j us us' y.0 e.0 y.1 iso (λ u h. among_front us u e.0 h) (among_last us e.0) covered in
+                    let same : front sizes ++ (size_line n ++ models_text p k us') ≡ (front sizes ++ (size_line n ++ texts)) ++ text =
+                    ap (λ (v : List ℕ). front sizes ++ (size_line n ++ v)) (finds.text_more p k us e.0) ∙ ap (λ (v : List ℕ). front sizes ++ v) (sym (append_assoc (size_line n) texts text)) ∙ sym (append_assoc (front sizes) (size_line n ++ texts) text) in
+                    shorter (front sizes ++ (size_line n ++ texts)) text
+                    (subst Comes same (elim (cases_lt (k + length us') s.wanted) [
+                      | inl more ↦ enumerated fuel (suc (table_number y.0)) sizes us' gone begun room more shown' covered' few_left rest
+                      | inr enough_now ↦ enough t sizes us' 0 gone begun room (omega (arith, fewer, enough_now, finds.many_more us e.0)) shown' (none_asked s.seconds (HasCourse p n us' 0) none_set) in_time (read _)
+                    ])))
+              ])
         ]
+
+    -- behind models that are shown, whichever they are
+    completed : (sizes : List Size) (us : List Finite) → AreGone sizes → IsBegun p s (next sizes) → HasRoomForGround s (ground_size (next sizes) p) → models_in_all sizes + length us < s.wanted → AreShown p (next sizes) us → GoesOnBehind sizes
+        → Comes (front sizes ++ (size_line (next sizes) ++ models_text p (models_in_all sizes) us))
+    completed sizes us gone begun room fewer shown rest = enumerated (tables_in (next sizes) p) 0 sizes us gone begun room fewer shown (λ y is before. absurd (omega (arith, before))) (omega arith) rest
 
     -- a size whose line is printed
     begun_on : (sizes : List Size) → AreGone sizes → IsBegun p s (next sizes) → GoesOnBehind sizes → Comes (front sizes ++ size_line (next sizes))
     begun_on sizes gone begun rest =
         let n = next sizes in
         let text : front sizes ++ (size_line n ++ []) ≡ front sizes ++ size_line n = ap (λ (u : List ℕ). front sizes ++ u) (append-nil (size_line n)) in
-        subst Comes text (elim (room_or_end n) [
-          | inl room ↦ enumerated (s.wanted - models_in_all sizes) sizes [] [] gone begun room (omega (arith, gone.1)) tt tt rest
+        elim (room_or_end n) [
+          | inl room ↦ subst Comes text (completed sizes [] gone begun room (omega (arith, gone.1)) (tt, tt) rest)
           | inr crowded ↦ crowded_end t sizes crowded.0 crowded.1 gone begun in_time (read _)
-        ])
+        ]
 
   -- a size whose line is printed, whether a time is set or not
   begun_by : (o : Option ℕ) → s.seconds ≡ o → (t : Times) (sizes : List Size) → AreGone sizes → IsBegun p s (next sizes) → IsInTime s.seconds t → HasRead s.seconds (readings_in_all sizes) t → (s.seconds ≡ None → GoesOnBehind sizes) → Comes (front sizes ++ size_line (next sizes))
@@ -255,54 +321,40 @@ module _ (p : Stated) (s : Plan) (start : 1 ≤ s.start) (step : 1 ≤ s.step) w
   all_behind : (t : Times) (sizes : List Size) (n : ℕ) → IsInTime s.seconds t → HasRead s.seconds n t → s.seconds ≡ None → GoesOnBehind sizes
   all_behind t sizes n in_time reads e sizes' gone' more = on_behind (suc s.end) t sizes' gone' (omega arith) in_time (any_read s.seconds n (readings_in_all sizes') t e reads)
 
-  -- in a size of which all tables were tried
-  all_tried : (t : Times) (sizes : List Size) (found ts : List Finite) (tried : ℕ) → AreGone sizes → IsBegun p s (next sizes) → HasRoomForCells s (all_cells (next sizes) p) → models_in_all sizes + length ts < s.wanted → AreFirst p (next sizes) 0 found → AreExpansions (all_axioms p) found ts → tables_in (next sizes) p ≤ number_behind 0 found → number_behind 0 found ≤ tried
-      → IsInTime s.seconds t → HasRead s.seconds (readings_in_all sizes + suc tried) t → Comes (front sizes ++ (size_line (next sizes) ++ models_text p (models_in_all sizes) ts))
-  all_tried t sizes found ts tried gone begun room fewer first expansions all least in_time reads =
-      let n = next sizes in
-      let size = searched ts (tables_in n p) in
-      let never : NoneFrom p n (number_behind 0 found) = λ u is from. (let less = in_count p n u is in omega (arith, less, from, all)) in
-      let is : HasEnded p s n size = ((begun.1, room), (found, (first, never), expansions), refl) in
-      let before = earlier_times s.seconds (readings_in_all sizes + suc tried) (readings_in_all (sizes ++ size ∷ [])) t in_time reads (omega (arith, reads_more sizes size, all, least)) in
-      let rest = on_behind (suc s.end) before.0 (sizes ++ size ∷ []) (gone_more sizes size gone begun.0 is fewer) (omega arith) before.1.0 before.1.1 in
-      shorter (front sizes ++ (size_line n ++ models_text p (models_in_all sizes) ts)) (exhausted_line n) (subst Comes (exhausted_is sizes ts (tables_in n p)) rest)
-
   -- in a size with models, fewer than are wanted, whether a time is set or not
-  inside_by : (o : Option ℕ) → s.seconds ≡ o → (t : Times) (sizes : List Size) (found ts : List Finite) (tried : ℕ) → AreGone sizes → IsBegun p s (next sizes) → HasRoomForModels p s (next sizes) ts tried → models_in_all sizes + length ts < s.wanted → AreFirst p (next sizes) 0 found → AreExpansions (all_axioms p) found ts → number_behind 0 found ≤ tried → IsInTime s.seconds t
-      → HasRead s.seconds (readings_in_all sizes + suc tried) t → Comes (front sizes ++ (size_line (next sizes) ++ models_text p (models_in_all sizes) ts))
-  inside_by None e t sizes found [] tried gone begun room fewer first expansions least in_time reads =
-      let n = next sizes in
-      let text : front sizes ++ size_line n ≡ front sizes ++ (size_line n ++ []) = ap (λ (u : List ℕ). front sizes ++ u) (sym (append-nil (size_line n))) in
-      subst Comes text (begun_on t e in_time (λ m. any_read s.seconds _ m t e reads) sizes gone begun (all_behind t sizes _ in_time reads e))
-  inside_by None e t sizes found (u ∷ ts) tried gone begun room fewer first expansions least in_time reads =
-      enumerated t e in_time (λ m. any_read s.seconds _ m t e reads) (s.wanted - (models_in_all sizes + length (u ∷ ts))) sizes found (u ∷ ts) gone begun room (omega (arith, fewer)) first expansions (all_behind t sizes _ in_time reads e)
-  inside_by (Some sec) e t sizes found [] tried gone begun room fewer first expansions least in_time reads =
-      let n = next sizes in
-      let text : front sizes ++ size_line n ≡ front sizes ++ (size_line n ++ []) = ap (λ (u : List ℕ). front sizes ++ u) (sym (append-nil (size_line n))) in
-      let before = earlier_times s.seconds (readings_in_all sizes + suc tried) (readings_in_all sizes) t in_time reads (omega arith) in
-      subst Comes text (late_begun before.0 sizes sec e gone begun before.1.0 before.1.1)
-  inside_by (Some sec) e t sizes found (u ∷ ts) tried gone begun room fewer first expansions least in_time reads =
-      let r = readings_in_all sizes in
-      let tables = number_behind 0 found in
-      elim (cases_lt tables (tables_in (next sizes) p)) [
-        | inl left ↦ (
-            let late = late_times s.seconds sec (r + suc tried) (r + suc (suc tables)) t e in_time reads (omega arith) (λ more. omega (arith, least)) in
-            let t' = late.0 in
-            ends_at t' sizes (inside (u ∷ ts) (suc tables)) (MaxSeconds t'.first t'.last) gone (begun, room, (found, first, expansions, inr (tables, refl, omega arith, left, λ v is from before. absurd (omega (arith, from, before))))) (late.1.0, refl, tt, fewer) late.1.1)
-        | inr all ↦ all_tried t sizes found (u ∷ ts) tried gone begun room fewer first expansions all least in_time reads
-      ]
+  inside_by : (o : Option ℕ) → s.seconds ≡ o → (t : Times) (sizes : List Size) (us : List Finite) (chosen : ℕ) → AreGone sizes → IsBegun p s (next sizes) → HasRoomForGround s (ground_size (next sizes) p) → models_in_all sizes + length us < s.wanted → AreShown p (next sizes) us
+      → IfSome s.seconds (λ seconds. HasCourse p (next sizes) us chosen) → IsInTime s.seconds t
+      → HasRead s.seconds (readings_in_all sizes + suc chosen) t → Comes (front sizes ++ (size_line (next sizes) ++ models_text p (models_in_all sizes) us))
+  inside_by None e t sizes us chosen gone begun room fewer shown way in_time reads = completed t e in_time (λ m. any_read s.seconds _ m t e reads) sizes us gone begun room fewer shown (all_behind t sizes _ in_time reads e)
+  inside_by (Some sec) e t sizes us chosen gone begun room fewer shown way in_time reads = by (asked_so s.seconds sec (HasCourse p n us chosen) e way)
+    where
+      n : ℕ
+      n = next sizes
 
-  goes_at : (t : Times) (sizes : List Size) (now : Now) → AreGone sizes → IsAtSize (AreTriedFurther p (next sizes)) p s (next sizes) now → models_by sizes now ≤ s.wanted → IsInTime s.seconds t → HasRead s.seconds (readings_by sizes now) t → Comes (text_by p s sizes now)
+      w : World
+      w = world_for p n
+
+      -- it goes on to a choice, or each model is printed, and the size is exhausted
+      by : HasCourse p n us chosen → Comes (front sizes ++ (size_line n ++ models_text p (models_in_all sizes) us))
+      by (live, (choices, to_here, inl more)) =
+          let on = goes_live w live choices more in
+          let there = goes_then w true live true [] choices on.0 (length us) 0 (length us) chosen 0 chosen (omega arith) (omega arith) to_here on.1 in
+          late_inside t sizes us chosen on.0 sec e gone begun room shown there fewer in_time reads
+      by (live, (choices, to_here, inr all)) =
+          let there : GoesTo p n us chosen false [] = goes_then w true live false [] choices [] (length us) 0 (length us) chosen 0 chosen (omega arith) (omega arith) to_here (goes_to_end w live choices) in
+          let size = searched us chosen in
+          let is : HasEnded p s n size = ((begun.1, room), shown, all, finds.where_set s.seconds (GoesTo p n us chosen false []) there) in
+          let gone' = gone_more sizes size gone begun.0 is fewer in
+          let reads' = read_same t (readings_in_all sizes + suc chosen) (readings_in_all (sizes ++ size ∷ [])) (omega (arith, reads_more sizes size)) reads in
+          shorter (front sizes ++ (size_line n ++ models_text p (models_in_all sizes) us)) (exhausted_line n) (subst Comes (exhausted_is sizes us chosen) (on_behind (suc s.end) t (sizes ++ size ∷ []) gone' (omega arith) in_time reads'))
+
+  goes_at : (t : Times) (sizes : List Size) (now : Now) → AreGone sizes → IsAtSize p s (next sizes) now → models_by sizes now ≤ s.wanted → IsInTime s.seconds t → HasRead s.seconds (readings_by sizes now) t → Comes (text_by p s sizes now)
   goes_at t sizes between gone stands most in_time reads = subst Comes (sym (append-nil (front sizes))) (on_behind (suc s.end) t sizes gone (omega arith) in_time (read_same t (readings_by sizes between) (readings_in_all sizes) (omega arith) reads))
   goes_at t sizes opened gone begun most in_time reads = begun_by s.seconds refl t sizes gone begun in_time (read_same t (readings_by sizes opened) (readings_in_all sizes) (omega arith) reads) (all_behind t sizes (readings_by sizes opened) in_time reads)
-  goes_at t sizes (inside ts tried) gone (begun, room, (found, first, expansions, far)) most in_time reads =
-      let least = tried_least p (next sizes) found tried first far in
-      elim (cases_lt (models_in_all sizes + length ts) s.wanted) [
-        | inl fewer ↦ inside_by s.seconds refl t sizes found ts tried gone begun room fewer first expansions least in_time reads
-        | inr all ↦ (
-            let before = earlier_times s.seconds (readings_in_all sizes + suc tried) (readings_in_all sizes + suc (number_behind 0 found)) t in_time reads (omega (arith, least)) in
-            enough before.0 sizes found ts gone begun (room_fewer (next sizes) ts tried (number_behind 0 found) room least) (omega (arith, all, most)) first expansions before.1.0 before.1.1)
-      ]
+  goes_at t sizes (inside us chosen) gone (begun, room, shown, way) most in_time reads = elim (cases_lt (models_in_all sizes + length us) s.wanted) [
+    | inl fewer ↦ inside_by s.seconds refl t sizes us chosen gone begun room fewer shown way in_time reads
+    | inr all ↦ enough t sizes us chosen gone begun room (omega (arith, all, most)) shown way in_time reads
+  ]
 
   -- a search that goes on can come to an end
   pub goes_comes : (t : Times) (text : List ℕ) → SearchGoes p s t text → Comes text
@@ -320,4 +372,4 @@ module _ (p : Stated) (s : Plan) (start : 1 ≤ s.start) (step : 1 ≤ s.step) w
 
       unread_reads : (o : Option ℕ) → HasRead o 0 (record { count = 0; first = 0; last = 0; between = 0 })
       unread_reads None = refl
-      unread_reads (Some x) = refl
+      unread_reads (Some x) = omega arith

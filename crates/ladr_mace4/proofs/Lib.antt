@@ -1,3 +1,4 @@
+pub mod AskedWorld
 pub mod Begun
 pub mod Blocks
 pub mod ClockReadings
@@ -7,11 +8,14 @@ pub mod Found
 pub mod Fronts
 pub mod GoingOn
 pub mod Items
+pub mod Known
 pub mod ModelLines
 pub mod Names
 pub mod Planned
 pub mod Printable
+pub mod Same
 pub mod SearchBlocks
 pub mod Seeking
 pub mod Showing
 pub mod Standing
+pub mod WholeModels

@@ -1,5 +1,5 @@
 -- A model with the values of the Skolem symbols reads back from its text.
-use Rattle.std.proofs.Common.{◌≡◌, ◌⊎◌, inl, inr, ℕ, zero, suc, ◌+◌, ◌^◌, ◌<◌, ◌≤◌, Bool, true, false, if◌then◌else◌, List, [], ◌∷◌, ◌++◌, length, map, take, slice_index, refl, sym, ap, ap₂, ◌∙◌, subst, append_assoc, append-nil, arith}
+use Rattle.std.proofs.Common.{◌≡◌, ◌⊎◌, inl, inr, ℕ, zero, suc, ◌+◌, ◌^◌, ◌<◌, ◌≤◌, Bool, true, false, if◌then◌else◌, List, [], ◌∷◌, ◌++◌, length, map, slice_index, refl, sym, ap, ap₂, ◌∙◌, subst, arith}
 use Rattle.std.specs.Prelude.{nat_le}
 use Rattle.std.specs.Char.{is_ascii_digit}
 use Rattle.std.specs.Fmt.{decimal}
@@ -7,9 +7,9 @@ use Rattle.std.specs.List.{AllByRecursion, list_all}
 use Rattle.std.proofs.lemmas.Bool.{and_from, or_left}
 use Rattle.std.proofs.lemmas.Bool.Decides.{nat_tests}
 use Rattle.std.proofs.lemmas.Fmt.{decimal_is_IsNumeral_wide}
-use Rattle.std.proofs.lemmas.List.{length-map, take_all}
+use Rattle.std.proofs.lemmas.List.{length-map}
 use Rattle.std.proofs.lemmas.List.Folds.{list_all-append}
-use Rattle.clausify.specs.Behind.{AreFor, HasOwnName, StandBehind}
+use Rattle.clausify.specs.Behind.{HasOwnName, StandBehind}
 use Rattle.clausify.specs.Input.{skolems}
 use Rattle.clausify.specs.Names.{letter_numbered}
 use Rattle.fol_core.specs.Fol.{Fol}
@@ -23,13 +23,13 @@ use Rattle.fol_core.specs.declared.symbols.Kind.TheVariants.{Function}
 use Rattle.ladr_lex.proofs.Numerals.{own}
 use Rattle.ladr_lex.specs.Bytes.{is_ordinary}
 use Rattle.ladr_lex.specs.Cuts.{is_run, is_plain_symbol, is_quoted}
-use Rattle.ladr_mace4.specs.Skolems.{all_symbols, all_axioms, without_skolems}
-use Rattle.ladr_models.specs.ReadsBack.{IsRow, AreRows, IsPrintable}
+use Rattle.ladr_mace4.specs.Skolems.{all_symbols}
+use Rattle.ladr_models.specs.ReadsBack.{AreRows}
 use Rattle.ladr_problem.specs.Names.{is_name, are_named, AreTellable}
-use Rattle.model_tables.proofs.Expanding.{row_own, same_top}
+use Rattle.model_tables.proofs.Expanding.{row_own}
 use Rattle.model_tables.proofs.Filling.{one_expansion}
-use Rattle.model_tables.specs.Expansion.{assigned, IsLeastWitness, AreLeastWitnesses, with_row, with_values, IsExpansion}
-use Rattle.model_tables.specs.Size.{AllBelow, AreListings, IsInterpretation, bound_of, formulas_of}
+use Rattle.model_tables.specs.Expansion.{assigned, IsLeastWitness, AreLeastWitnesses, with_row, with_values}
+use Rattle.model_tables.specs.Size.{AllBelow, IsListing, AreListings, bound_of}
 use Rattle.model_tables.specs.Tables.{Listing, Finite, listing, row_of, place_from, element}
 
 -- least witnesses are elements: those in whose place 0 stands where there is no such element are least witnesses too
@@ -81,82 +81,29 @@ values_below t w values h = subst (AllBelow (t.top + 1)) (sym same) (elements_be
     same = sym (row_own t.rows t.top w.symbol (listing Function values)) ∙ ap (λ (u : Finite). row_of u w.symbol) both ∙ row_own t.rows t.top w.symbol (listing Function elements)
 
 -- rows, and one more
-listings_rows : (n : ℕ) (fs : List Fol) (k : ℕ) (ss : List Symbol) (ls : List Listing) → AreListings n fs k ss ls → AreRows n ss ls
+pub listings_rows : (n : ℕ) (fs : List Fol) (k : ℕ) (ss : List Symbol) (ls : List Listing) → AreListings n fs k ss ls → AreRows n ss ls
 listings_rows n fs k [] [] h = tt
 listings_rows n fs k [] (l ∷ ls) h = absurd h
 listings_rows n fs k (s ∷ ss) [] h = absurd h
 listings_rows n fs k (s ∷ ss) (l ∷ ls) h = ((occurs_in k fs, h.0), listings_rows n fs (suc k) ss ls h.1)
 
-rows_many : (n : ℕ) (ss : List Symbol) (ls : List Listing) → AreRows n ss ls → length ls ≡ length ss
+pub rows_many : (n : ℕ) (ss : List Symbol) (ls : List Listing) → AreRows n ss ls → length ls ≡ length ss
 rows_many n [] [] h = refl
 rows_many n [] (l ∷ ls) h = absurd h
 rows_many n (s ∷ ss) [] h = absurd h
 rows_many n (s ∷ ss) (l ∷ ls) h = ap suc (rows_many n ss ls h.1)
 
-rows_more : (n : ℕ) (ss : List Symbol) (ls : List Listing) (s : Symbol) (l : Listing) → AreRows n ss ls → IsRow n s l → AreRows n (ss ++ s ∷ []) (ls ++ l ∷ [])
-rows_more n [] [] s l h r = (r, tt)
-rows_more n [] (m ∷ ls) s l h r = absurd h
-rows_more n (u ∷ ss) [] s l h r = absurd h
-rows_more n (u ∷ ss) (m ∷ ls) s l h r = (h.0, rows_more n ss ls s l h.1 r)
-
-row_last : (ls : List Listing) (l : Listing) → with_row ls (length ls) l ≡ ls ++ l ∷ []
+pub row_last : (ls : List Listing) (l : Listing) → with_row ls (length ls) l ≡ ls ++ l ∷ []
 row_last [] l = refl
 row_last (m ∷ ls) l = ap (λ (rows : List Listing). m ∷ rows) (row_last ls l)
 
 -- the row of a Skolem symbol
-witness_row : (n : ℕ) (u : Finite) (s : Symbol) (w : SkolemAxiom) (values : List ℕ) → u.top + 1 ≡ n → s.kind ≡ Function → length w.variables ≡ s.arity → AreLeastWitnesses u w values → IsRow n s (listing Function values)
+pub witness_row : (n : ℕ) (u : Finite) (s : Symbol) (w : SkolemAxiom) (values : List ℕ) → u.top + 1 ≡ n → s.kind ≡ Function → length w.variables ≡ s.arity → AreLeastWitnesses u w values → IsListing n s true (listing Function values)
 witness_row n u s w values size kind many least = (
-  true,
-  (
-    sym kind,
-    least.0 ∙ ap₂ (λ (m k : ℕ). m ^ k) size many,
-    subst (λ (k : Kind). AllBelow (bound_of n k) values) (sym kind) (subst (λ (m : ℕ). AllBelow m values) size (values_below u w values least)),
-  ),
+  sym kind,
+  least.0 ∙ ap₂ (λ (m k : ℕ). m ^ k) size many,
+  subst (λ (k : Kind). AllBelow (bound_of n k) values) (sym kind) (subst (λ (m : ℕ). AllBelow m values) size (values_below u w values least)),
 )
-
--- an expansion has rows for all symbols
-pub expanded_rows : (n : ℕ) (ss more : List Symbol) (ws : List SkolemAxiom) (u t : Finite) → u.top + 1 ≡ n → AreRows n ss u.rows → AreFor (length ss) more ws → IsExpansion u ws t → AreRows n (ss ++ more) t.rows
-expanded_rows n ss [] [] u t size rows f x = subst (λ (us : List Symbol). AreRows n us t.rows) (sym (append-nil ss)) (subst (λ (v : Finite). AreRows n ss v.rows) (sym x) rows)
-expanded_rows n ss [] (w ∷ ws) u t size rows f x = absurd f
-expanded_rows n ss (s ∷ more) [] u t size rows f x = absurd f
-expanded_rows n ss (s ∷ more) (w ∷ ws) u t size rows f x =
-    let l = listing Function x.0 in
-    let last : with_row u.rows w.symbol l ≡ u.rows ++ l ∷ [] = ap (λ (k : ℕ). with_row u.rows k l) (f.0 ∙ sym (rows_many n ss u.rows rows)) ∙ row_last u.rows l in
-    let all = subst (AreRows n (ss ++ s ∷ [])) (sym last) (rows_more n ss u.rows s l rows (witness_row n u s w x.0 size f.1 f.2 x.1.0)) in
-    subst (λ (us : List Symbol). AreRows n us t.rows) (append_assoc ss (s ∷ []) more)
-    (expanded_rows n (ss ++ s ∷ []) more ws (with_values u w.symbol x.0) t size all (subst (λ (k : ℕ). AreFor k more ws) (one_more ss s) f.3) x.1.1)
-  where
-    one_more : (ss : List Symbol) (s : Symbol) → suc (length ss) ≡ length (ss ++ s ∷ [])
-    one_more [] s = refl
-    one_more (u ∷ ss) s = ap suc (one_more ss s)
-
--- an expansion keeps the rows of the symbols that stand before all Skolem symbols
-row_longer : (ls : List Listing) (s : ℕ) (l : Listing) → length ls ≤ length (with_row ls s l)
-row_longer [] s l = omega arith
-row_longer (m ∷ ls) zero l = omega arith
-row_longer (m ∷ ls) (suc s) l = omega (arith, row_longer ls s l)
-
-row_before : (ls : List Listing) (s j : ℕ) (l : Listing) → j ≤ s → j ≤ length ls → take j (with_row ls s l) ≡ take j ls
-row_before [] s zero l le few = refl
-row_before [] s (suc j) l le few = absurd (omega (arith, few))
-row_before (m ∷ ls) s zero l le few = refl
-row_before (m ∷ ls) zero (suc j) l le few = absurd (omega (arith, le))
-row_before (m ∷ ls) (suc s) (suc j) l le few = ap (λ (rows : List Listing). m ∷ rows) (row_before ls s j l (omega (arith, le)) (omega (arith, few)))
-
-rows_before : (j m : ℕ) (more : List Symbol) (ws : List SkolemAxiom) (u t : Finite) → j ≤ m → j ≤ length u.rows → AreFor m more ws → IsExpansion u ws t → take j t.rows ≡ take j u.rows
-rows_before j m more [] u t le few f x = ap (λ (v : Finite). take j v.rows) x
-rows_before j m [] (w ∷ ws) u t le few f x = absurd f
-rows_before j m (s ∷ more) (w ∷ ws) u t le few f x =
-    let l = listing Function x.0 in
-    rows_before j (suc m) more ws (with_values u w.symbol x.0) t (omega (arith, le)) (omega (arith, few, row_longer u.rows w.symbol l)) f.3 x.1.1 ∙ row_before u.rows w.symbol j l (omega (arith, le, f.0)) few
-
--- so without the rows of the Skolem symbols it is the tables that it expands
-pub without_same : (n : ℕ) (p : Stated) (u t : Finite) → StandBehind p → IsInterpretation n p u → IsExpansion u (all_axioms p) t → without_skolems p t ≡ u
-without_same n p u t behind is x =
-    let many : length u.rows ≡ length p.symbols = rows_many n p.symbols u.rows (listings_rows n (formulas_of p) 0 p.symbols u.rows is.1) in
-    let kept = rows_before (length p.symbols) (length p.symbols) (skolems p.symbols p.formulas) (all_axioms p) u t (omega arith) (omega (arith, many)) behind.witnesses x in
-    let rows : take (length p.symbols) t.rows ≡ u.rows = kept ∙ take_all (length p.symbols) u.rows (omega (arith, many)) in
-    ap₂ (λ (top : ℕ) (ls : List Listing). record { top = top; rows = ls }) (same_top (all_axioms p) u t x) rows
 
 -- the names of Skolem symbols are ordinary symbols
 digits_ordinary : (ds : List ℕ) → list_all is_ascii_digit ds ≡ true → list_all is_ordinary ds ≡ true
@@ -182,18 +129,8 @@ own_named table (s ∷ ss) h =
     (subst (λ (name : List ℕ). is_name name ≡ true) (sym h.0.1.4) (numbered_name h.0.1.0 h.0.1.1 h.0.1.2 h.0.1.3)) (own_named table ss h.1)
 
 -- all symbols can be told apart
-all_tellable : (p : Stated) → StandBehind p → AreTellable p.symbols → AreTellable (all_symbols p)
+pub all_tellable : (p : Stated) → StandBehind p → AreTellable p.symbols → AreTellable (all_symbols p)
 all_tellable p behind told = record {
   different = behind.different told.different;
   named = ap are_named behind.table ∙ list_all-append (λ (s : Symbol). is_name s.name) p.symbols (skolems p.symbols p.formulas) ∙ and_from _ _ told.named (own_named p.symbols (skolems p.symbols p.formulas) behind.names);
-}
-
-pub model_printable : (n k : ℕ) (p : Stated) (u t : Finite) → StandBehind p → AreTellable p.symbols → n ≤ 200 → k < 2 ^ 64 → IsInterpretation n p u → IsExpansion u (all_axioms p) t → IsPrintable n k (all_symbols p) t
-model_printable n k p u t behind told most number is x = record {
-  most = most;
-  number = number;
-  tellable = all_tellable p behind told;
-  size = ap (λ (top : ℕ). top + 1) (same_top (all_axioms p) u t x) ∙ is.0;
-  rows = subst (λ (ss : List Symbol). AreRows n ss t.rows) (sym behind.table)
-      (expanded_rows n p.symbols (skolems p.symbols p.formulas) (all_axioms p) u t is.0 (listings_rows n (formulas_of p) 0 p.symbols u.rows is.1) behind.witnesses x);
 }

@@ -157,5 +157,5 @@ searches_show laws says refuses language words ranges a b c d t r h = record {
   bytes = h.bytes;
   taken = h.taken;
   shows = λ x posed. tells_shows laws says refuses language h.bytes x posed words ranges a b t c d (end_of r) h.tells;
-  fronts = λ x posed read countable. tells_front says refuses language h.bytes x posed words ranges a b read countable t c d (end_of r) h.tells;
+  fronts = λ x posed read countable. tells_front laws says refuses language h.bytes x posed words ranges a b read countable t c d (end_of r) h.tells;
 }

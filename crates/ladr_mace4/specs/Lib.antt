@@ -2,6 +2,7 @@ pub mod Finding
 pub mod Fronts
 pub mod ItemTexts
 pub mod Lines
+pub mod Models
 pub mod Plans
 pub mod Rooms
 pub mod Shown

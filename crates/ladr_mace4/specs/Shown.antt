@@ -1,7 +1,9 @@
 -- What stands in the output of a search, to those who asked for it.
 use Rattle.std.specs.Prelude.{◌≡◌, ℕ, ◌^◌, ◌<◌, List, ◌++◌, codes}
 use Rattle.std.specs.declared.result.Result.{Result}
+use Rattle.fol_core.specs.Literals.{AreTrueClauses}
 use Rattle.fol_core.specs.Stated.{Stated, IsCountermodel}
+use Rattle.ladr_cells.specs.Worlds.{clauses_for}
 use Rattle.ladr_intake.specs.Input.{AreTaken, IsAllRead}
 use Rattle.ladr_intake.specs.Posed.{Posed}
 use Rattle.ladr_intake.specs.declared.stops.Refused.{Refused}
@@ -26,12 +28,13 @@ use Rattle.model_tables.specs.Size.{IsInterpretation}
 use Rattle.model_tables.specs.Tables.{Finite, meaning_of}
 
 -- Tables with a value for each cell, at size n, of the symbols of the formulas, in which each
--- assumption is true and each goal is false; and the text of model k reads back as these tables,
--- the rows of the Skolem symbols too.
+-- assumption is true and each goal is false, and with values of the Skolem symbols with which the
+-- clauses are true; and the text of model k reads back as these tables, Skolem symbols too.
 abbrev pub IsShown : Stated → ℕ → ℕ → Finite → Type 0
 IsShown p n k t =
     IsInterpretation n p (without_skolems p t)
     × IsCountermodel (meaning_of t) p.formulas
+    × AreTrueClauses (meaning_of t) (clauses_for p)
     × ReadsBack (model_text (all_symbols p) k t) (all_symbols p) t
 
 -- what the text of a model begins with

@@ -17,9 +17,9 @@ lonely = stated [] (said Assumption (exists 0 (forall 1 (equal (var 0) (var 1)))
 abbrev pub alone : Finite
 alone = record { top = 0; rows = listing Function (0 ∷ []) ∷ [] }
 
--- size 1 has this model, and size 2 none; either has one table for no symbol
+-- size 1 has this model, and size 2 none, no cell being chosen
 abbrev pub lonely_sizes : List Size
-lonely_sizes = searched (alone ∷ []) 1 ∷ searched [] 1 ∷ []
+lonely_sizes = searched (alone ∷ []) 0 ∷ searched [] 0 ∷ []
 
 abbrev pub lonely_text : List ℕ
 lonely_text =

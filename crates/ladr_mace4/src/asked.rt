@@ -1,15 +1,22 @@
 // A problem to search the models of.
-ghost use Rattle.std.specs.Prelude.{◌≡◌, ◌-◌, ◌^◌, ℕ, min, None, Some, Err, IfOk, OnOk};
+ghost use Rattle.std.specs.Prelude.{◌≡◌, ◌-◌, ◌^◌, ◌≤◌, ◌<◌, ℕ, [], true, min, length, None, Some, Err, IfOk, OnOk};
+ghost use Rattle.cell_search.specs.Finites.{finite_of, tables_over};
 ghost use Rattle.clausify.specs.Input.{first_over};
+ghost use Rattle.fol_core.specs.Literals.{equality};
+ghost use Rattle.fol_core.specs.Occurs.{size_needed};
 ghost use Rattle.fol_core.specs.Stated.{stated_of, IsWellFormed};
-ghost use Rattle.ladr_mace4.specs.Skolems.{all_symbols, all_axioms, all_cells};
-ghost use Rattle.model_tables.specs.Expansion.{IsExpansion};
+ghost use Rattle.ladr_cells.specs.Fitting.{FitsTable};
+ghost use Rattle.ladr_cells.specs.Worlds.{world_for, ground_size};
+ghost use Rattle.ladr_mace4.specs.Skolems.{all_symbols, all_axioms};
 ghost use Rattle.model_tables.specs.ModelText.{model_text};
-ghost use Rattle.model_tables.specs.Tables.{Finite};
+ghost use Rattle.model_tables.specs.Size.{formulas_of};
 
+use cell_search::CellSearch;
 use clausify::{ClauseError, clauses_of, own_table};
-use fol_core::{Clauses, Problem, Symbols};
-use model_tables::{Tables, cell_count, expand, interpretation_text, skolem_cell_count};
+use fol_core::{Clauses, Entry, Problem, Symbols};
+use ladr_cells::cells_for_all;
+use mace_ground::count;
+use model_tables::{Tables, interpretation_text};
 use std::alloc::{AllocError, Global};
 use std::marker::Model;
 
@@ -22,11 +29,13 @@ pub struct Asked<'a> {
 }
 
 impl<'a> Model for Asked<'a> {
-    ghost use Rattle.std.specs.Prelude.{◌≡◌, map};
+    ghost use Rattle.std.specs.Prelude.{◌≡◌, ◌≤◌, length, map};
+    ghost use Rattle.clausify.specs.Input.{used_symbols, clauses_in_table, numeral_of};
+    ghost use Rattle.fol_core.specs.Literals.{equality};
     ghost use Rattle.fol_core.specs.EntryView.{skolem_axiom_of};
-    ghost use Rattle.fol_core.specs.Stated.{Stated, stated_of};
+    ghost use Rattle.fol_core.specs.Stated.{Stated, stated_of, IsWellFormed};
     ghost use Rattle.fol_core.specs.StatedCodes.{coded_stated};
-    ghost use Rattle.fol_core.specs.SkolemAxioms.{AreInOrder};
+    ghost use Rattle.ladr_cells.specs.Fitting.{FitsTable};
     ghost use Rattle.ladr_mace4.specs.Skolems.{all_symbols, all_axioms};
 
     ghost Value = { Stated };
@@ -37,15 +46,24 @@ impl<'a> Model for Asked<'a> {
 
     ghost invariant = { λ a. record {
       symbols : a.symbols ≡ all_symbols (stated_of a.problem.now);
+      clauses : a.clauses.clauses.items
+          ≡ clauses_in_table (stated_of a.problem.now).symbols (stated_of a.problem.now);
       witnesses : map skolem_axiom_of a.clauses.skolem.items ≡ all_axioms (stated_of a.problem.now);
-      order : AreInOrder (map skolem_axiom_of a.clauses.skolem.items);
+      used : map (λ s. s.0) a.clauses.symbols.items
+          ≡ used_symbols (stated_of a.problem.now).symbols (stated_of a.problem.now).formulas;
+      numeral : a.clauses.numeral ≡ numeral_of (stated_of a.problem.now).formulas;
+      well_formed : IsWellFormed (stated_of a.problem.now);
+      fits : FitsTable (stated_of a.problem.now);
+      few : length (stated_of a.problem.now).symbols ≤ equality;
+      few_witnesses : length (all_axioms (stated_of a.problem.now)) ≤ equality;
     } };
 }
 
 impl<'a> Asked<'a> {
     /// Makes the clauses of a problem.
     pub fn new(alloc: Global, problem: &'a Problem) -> Result<Asked<'a>, ClauseError>
-        requires { IsWellFormed (stated_of problem.now) }
+        requires well_formed { IsWellFormed (stated_of problem.now) }
+        requires fits { FitsTable (stated_of problem.now) }
         ensures asked { IfOk result (λ a. a ≡ stated_of problem.now) }
         ensures limit { (n : ℕ) → result ≡ Err (ClauseError.ClauseLimit n)
             → first_over 1 (stated_of problem.now).formulas ≡ Some n }
@@ -54,6 +72,8 @@ impl<'a> Asked<'a> {
         let mut symbols = problem.symbols.copy(alloc)?;
         own_table();
         let clauses = clauses_of(alloc, problem, &mut symbols)?;
+        few_symbols(&problem.symbols);
+        few_entries(&clauses.skolem);
         Ok(Asked {
             problem,
             symbols,
@@ -61,20 +81,70 @@ impl<'a> Asked<'a> {
         })
     }
 
-    /// How many cells all symbols have at a size, or the greatest u64 if there are more.
-    pub fn cells(&self, alloc: Global, size: u32) -> Result<u64, AllocError>
-        ensures { IfOk result (λ n. n ≡ min (all_cells size self.now) (2 ^ 64 - 1)) }
+    /// How many cells and ground literals there are at a size, or the greatest number if there are more.
+    pub fn ground_count(&self, size: u32) -> u128
+        ensures { result ≡ min (ground_size size self.now) (2 ^ 128 - 1) }
     {
-        let skolem = skolem_cell_count(&self.clauses, size);
-        Ok(cell_count(alloc, self.problem, size)?.saturating_add(skolem))
+        count(&self.clauses, &self.symbols, size)
     }
 
-    /// The text of a model with the values of the Skolem symbols.
-    pub fn text(&self, alloc: Global, tables: &Tables, k: u64) -> Result<Vec<u8>, AllocError>
-        ensures { IfOk result (λ v. (u : Finite) × IsExpansion tables.now (all_axioms self.now) u
-            × (v.items ≡ model_text (all_symbols self.now) k u)) }
+    /// A search for the models of a size, which stops at a reading of the clock from `stop` on.
+    pub fn search(
+        &self,
+        alloc: Global,
+        size: u32,
+        stop: Option<u128>,
+    ) -> Result<CellSearch<'_>, AllocError>
+        requires some { 0 < size }
+        requires size { size ≤ 255 }
+        requires needed { size_needed (formulas_of self.now) ≤ size }
+        requires count { ground_size size self.now ≤ 50000000 }
+        ensures { IfOk result (λ s. s ≡ record {
+          world = world_for self.now size;
+          live = true;
+          choices = [];
+          tables = finite_of (world_for self.now size) [];
+          stop = stop;
+          late = None;
+        }) }
     {
-        let expanded = expand(alloc, tables, &self.clauses)?;
-        interpretation_text(alloc, &expanded, &self.symbols, k)
+        cells_for_all();
+        CellSearch::new(alloc, &self.clauses, &self.symbols, size, stop)
     }
+
+    /// The tables of the model that a search found.
+    pub fn tables(&self, alloc: Global, search: &CellSearch) -> Result<Tables, AllocError>
+        ensures { IfOk result (λ t. t ≡ tables_over (all_symbols self.now) search.now.tables) }
+    {
+        search.tables(alloc, &self.symbols)
+    }
+
+    /// The text of a model.
+    pub fn text(&self, alloc: Global, tables: &Tables, k: u64) -> Result<Vec<u8>, AllocError>
+        ensures { IfOk result (λ v. v.items ≡ model_text (all_symbols self.now) k tables.now) }
+    {
+        interpretation_text(alloc, tables, &self.symbols, k)
+    }
+
+    /// What is asked makes sense to a search: its formulas have its symbols alone, which are few enough, as are those of its clauses.
+    pub fn is_proper(&self)
+        ensures well_formed { IsWellFormed self.now }
+        ensures few { length self.now.symbols ≤ equality }
+        ensures few_witnesses { length (all_axioms self.now) ≤ equality }
+    {
+        let _ = &self.problem;
+    }
+}
+
+// There are no more symbols of a table, nor Skolem symbols, than there are numbers.
+fn few_symbols(symbols: &Symbols)
+    ensures { length symbols.now ≤ equality }
+{
+    let _many = symbols.len();
+}
+
+fn few_entries(entries: &[Entry])
+    ensures { length entries.now ≤ equality }
+{
+    let _many = entries.len();
 }

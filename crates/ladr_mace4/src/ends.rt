@@ -11,11 +11,11 @@ pub enum SearchEnd {
     Exhausted,
     /// Each size was skipped or is exhausted, and there are models, but fewer than were wanted.
     AllModels,
-    /// The cells of a size are too many to search.
+    /// The cells and ground literals of a size are too many to search.
     MaxMegs,
     /// The time is over, by the clock's first reading and its last.
     MaxSeconds { first: u64, last: u64 },
-    /// The cells of a size are too many by far.
+    /// The cells and ground literals of a size are too many by far.
     GroundLimit { size: u64 },
     /// A formula has too many clauses; formulas are counted from 1.
     ClauseLimit { formula: u64 },

@@ -1,20 +1,27 @@
 // The models of one size, printed as they are found.
-ghost use Rattle.std.specs.Prelude.{◌≡◌, ◌<◌, ◌≤◌, ℕ, ◌++◌, ◌+◌, false, Ok, OnOk, IfOk};
+ghost use Rattle.std.specs.Prelude.{◌≡◌, ◌<◌, ◌≤◌, ℕ, ◌++◌, ◌+◌, false, Ok, IfOk};
+ghost use Rattle.cell_search.specs.Finites.{tables_over};
+ghost use Rattle.ladr_cells.specs.Worlds.{ground_size};
 ghost use Rattle.ladr_mace4.specs.Lines.{size_line, exhausted_line};
-ghost use Rattle.ladr_mace4.specs.Rooms.{HasRoomForCells, IsBegun};
-ghost use Rattle.ladr_mace4.specs.Skolems.{all_cells};
+ghost use Rattle.ladr_mace4.specs.Rooms.{HasRoomForGround, IsBegun};
+ghost use Rattle.ladr_mace4.specs.ItemTexts.{IsPrinted};
+ghost use Rattle.ladr_mace4.specs.Skolems.{all_symbols};
 ghost use Rattle.ladr_mace4.specs.Story.{SizeGoes, SizeEnds};
 ghost use Rattle.ladr_mace4.specs.Watching.{IsWatched, HasBegun, HasRead};
 ghost use Rattle.ladr_output.specs.Telling.{IsPiece, Tells};
+ghost use Rattle.model_tables.specs.ModelText.{model_text};
 
 use crate::asked::Asked;
 use crate::ends::{SearchEnd, Step};
 use crate::plan::Plan;
 use crate::printing::{SearchItem, print_item};
 use crate::watch::Watch;
+use cell_search::CellSearch;
+use clausify::{axioms_are_in_order, skolems_stand_behind};
+use ladr_cells::{isomorphisms_are_carried, solutions_are_models};
 use ladr_io::{Clock, Sink};
 use ladr_output::Cut;
-use mace_search::{Answer, PlainSearch};
+use mace_search::Answer;
 use std::alloc::Global;
 
 /// Prints the models of a size, behind its line and k models before them, and that it is exhausted,
@@ -30,8 +37,9 @@ pub fn models<K: Sink, C: Clock>(
     clock: &mut C,
 ) -> Result<Step, Cut>
     requires size { 1 ≤ n }
+    requires most { n ≤ 200 }
     requires begun { IsBegun asked.now plan n }
-    requires room { HasRoomForCells plan (all_cells n asked.now) }
+    requires room { HasRoomForGround plan (ground_size n asked.now) }
     requires fewer { k < plan.wanted }
     requires seconds { watch.seconds ≡ plan.seconds }
     requires watched { IsWatched watch (C.times clock.old) }
@@ -43,7 +51,12 @@ pub fn models<K: Sink, C: Clock>(
         ++ text)) (K.outflow sink.old) (K.outflow sink.new) result }
     ensures watched { (j : ℕ) → result ≡ Ok (Step.Over j) → IsWatched watch (C.times clock.new) }
 {
-    let mut search = match PlainSearch::new(alloc, asked.problem, n, watch.stop()) {
+    asked.is_proper();
+    skolems_stand_behind();
+    axioms_are_in_order();
+    solutions_are_models();
+    isomorphisms_are_carried();
+    let mut search = match asked.search(alloc, n, watch.stop()) {
         Ok(search) => search,
         Err(_) => return Err(Cut::Memory),
     };
@@ -58,17 +71,31 @@ pub fn models<K: Sink, C: Clock>(
             Answer::Model => {}
         }
         printed += 1;
-        match print_item(
-            alloc,
-            asked,
-            SearchItem::Shows(search.tables(), printed),
-            sink,
-        ) {
+        match show(alloc, asked, &search, printed, sink) {
             Ok(()) => {}
             Err(cut) => return Err(cut),
         }
     }
     Ok(Step::Ends(SearchEnd::MaxModels, printed))
+}
+
+// Prints the model that a search found, by its number.
+fn show<K: Sink>(
+    alloc: Global,
+    asked: &Asked,
+    search: &CellSearch,
+    number: u64,
+    sink: &mut K,
+) -> Result<(), Cut>
+    requires { (K.outflow sink.old).over ≡ false }
+    ensures { IsPrinted (λ text. text ≡ model_text (all_symbols asked.now) number
+        (tables_over (all_symbols asked.now) search.now.tables)) (K.outflow sink.old)
+        (K.outflow sink.new) result }
+{
+    match asked.tables(alloc, search) {
+        Ok(tables) => print_item(alloc, asked, SearchItem::Shows(&tables, number), sink),
+        Err(_) => Err(Cut::Memory),
+    }
 }
 
 // Prints that a size is exhausted, so many models being printed by then.

@@ -1,5 +1,5 @@
 // One size.
-ghost use Rattle.std.specs.Prelude.{◌≡◌, ◌<◌, ◌≤◌, ◌+◌, ℕ, false, IfOk, Ok};
+ghost use Rattle.std.specs.Prelude.{◌≡◌, ◌<◌, ◌≤◌, ℕ, false, IfOk, Ok};
 ghost use Rattle.fol_core.specs.Occurs.{size_needed};
 ghost use Rattle.ladr_mace4.specs.Lines.{skipped_line};
 ghost use Rattle.ladr_mace4.specs.Story.{SizeGoes, SizeEnds};
@@ -33,6 +33,7 @@ pub fn one_size<K: Sink, C: Clock>(
 ) -> Result<Step, Cut>
     requires size { 1 ≤ n }
     requires end { n ≤ plan.end }
+    requires most { n ≤ 200 }
     requires needed { needed ≡ size_needed (formulas_of asked.now) }
     requires fewer { k < plan.wanted }
     requires seconds { watch.old.seconds ≡ plan.seconds }

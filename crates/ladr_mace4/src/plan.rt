@@ -18,7 +18,7 @@ pub struct Plan {
     pub wanted: u64,
     /// After how many seconds to stop, if a time is set.
     pub seconds: Option<u64>,
-    /// How much room the cells may take; a meg has 65,536 cells.
+    /// How much room the cells and ground literals may take; a meg has 65,536 of them.
     pub megs: u32,
 }
 

@@ -1,6 +1,7 @@
 // The models of what an input states.
 ghost use Rattle.std.specs.Prelude.{◌≡◌, ◌≤◌, false};
 ghost use Rattle.fol_core.specs.Stated.{stated_of, IsWellFormed};
+ghost use Rattle.ladr_cells.specs.Fitting.{FitsTable};
 ghost use Rattle.ladr_formulas.specs.declared.styles.Mode.TheVariants.{Mace};
 ghost use Rattle.ladr_intake.specs.Posed.{poses};
 ghost use Rattle.ladr_intake.specs.Refusals.{refuses};
@@ -17,6 +18,7 @@ use crate::printing::print_end;
 use crate::sizes::search_sizes;
 use clausify::ClauseError;
 use fol_core::Problem;
+use ladr_cells::problems_fit;
 use ladr_formulas::Mode;
 use ladr_intake::{Stop, refuse, stop_by, take_in};
 use ladr_io::{Clock, Sink, Source};
@@ -33,6 +35,7 @@ fn seek<K: Sink, C: Clock>(
     clock: &mut C,
 ) -> Result<SearchOver, Cut>
     requires well_formed { IsWellFormed (stated_of problem.now) }
+    requires fits { FitsTable (stated_of problem.now) }
     requires start { 1 ≤ plan.start }
     requires end { plan.end ≤ 200 }
     requires step { IsSize plan.step }
@@ -63,6 +66,7 @@ fn find<K: Sink, C: Clock>(
     clock: &mut C,
 ) -> Result<SearchEnd, Cut>
     requires well_formed { IsWellFormed (stated_of problem.now) }
+    requires fits { FitsTable (stated_of problem.now) }
     requires ranged { AreInRange problem.now.options }
     requires words { HasRanges (Task.Mace4 words) }
     requires unread { (C.times clock.old).count ≡ 0 }
@@ -93,6 +97,7 @@ pub fn mace4<S: Source, K: Sink, C: Clock>(
     ensures { Searches (poses Mace) (refuses Mace) words (S.inflow source.old) (S.inflow source.new)
         (K.outflow sink.old) (K.outflow sink.new) (C.times clock.new) result }
 {
+    problems_fit();
     match take_in(alloc, Mode::Mace, source) {
         Ok(read) => match find(alloc, &read.problem, words, sink, clock) {
             Ok(end) => Ok(end),

@@ -2,7 +2,7 @@
 use Rattle.std.proofs.Common.{◌≡◌, ℕ, suc, ◌+◌, ◌*◌, ◌-◌, ◌^◌, ◌<◌, ◌≤◌, Bool, true, false, List, [], ◌∷◌, None, Some, MatchBool, length, refl, sym, ap, ◌∙◌, subst, arith}
 use Rattle.std.proofs.Math.Nat.{one-le-pow, pow-suc, mul-le-mul_right}
 use Rattle.fol_core.specs.Meaning.{Meaning}
-use Rattle.mace_cells.specs.Choices.{Decision, IsLatest}
+use Rattle.mace_cells.specs.Choices.{Decision, IsUndecided, IsLatest}
 use Rattle.mace_cells.specs.Leaves.{LeavesOpen, choice_of, choices_of, decisions_of}
 use Rattle.mace_cells.specs.Searches.{HasFound}
 use Rattle.mace_cells.specs.Stacked.{Stacked, rest_of}
@@ -142,6 +142,10 @@ refuted_still w w' ds ds' worlds same none = subst (λ (es : List Decision). IsR
 
 pub few_still : (w w' : World) (ds ds' : List Decision) → w' ≡ w → ds' ≡ ds → length ds < many_cells w → length ds' < many_cells w'
 few_still w w' ds ds' worlds same few = subst (λ (es : List Decision). length es < many_cells w') (sym same) (subst (λ (v : World). length ds < many_cells v) (sym worlds) few)
+
+pub undecided_still : (w w' : World) (ds ds' : List Decision) (cell : ℕ) → w' ≡ w → ds' ≡ ds → IsUndecided ds (cell_of w cell) → IsUndecided ds' (cell_of w' cell)
+undecided_still w w' ds ds' cell worlds same none =
+    subst (λ (es : List Decision). IsUndecided es (cell_of w' cell)) (sym same) (subst (λ (v : World). IsUndecided ds (cell_of v cell)) (sym worlds) none)
 
 -- the latest choice is that of the latest decision
 pub latest_decided : (w : World) (ds : List Decision) (fs rest : List Frame) (f : Frame) → ds ≡ decisions_of w fs → fs ≡ f ∷ rest → IsLatest ds (cell_of w f.cell)

@@ -2,3 +2,5 @@ pub mod Stacks
 pub mod Steps
 pub mod Drives
 pub mod Making
+pub mod Reading
+pub mod Moving

@@ -1,5 +1,5 @@
 -- Where a search stands: its choices, and which interpretations are still ahead of it.
-use Rattle.std.specs.Prelude.{ℕ, ◌≡◌, ◌<◌, ◌≤◌, ◌⊎◌, Bool, IsTrue, List, [], ◌∷◌}
+use Rattle.std.specs.Prelude.{ℕ, ◌≡◌, ◌<◌, ◌≤◌, ◌⊎◌, Bool, true, false, IsTrue, List, [], ◌∷◌}
 use Rattle.fol_core.specs.Meaning.{Meaning}
 use Rattle.mace_ground.specs.Cells.{Cell, value_at}
 
@@ -11,6 +11,11 @@ pub record Decision : Type 0 where
 abbrev pub AgreesWith : Meaning → List Decision → Type 0
 AgreesWith m [] = Unit {0}
 AgreesWith m (d ∷ ds) = (value_at m d.cell ≡ d.value) × AgreesWith m ds
+
+-- no decision is one of this cell
+abbrev pub IsUndecided : List Decision → Cell → Type 0
+IsUndecided [] c = Unit {0}
+IsUndecided (d ∷ ds) c = (d.cell ≡ c → ⊥) × IsUndecided ds c
 
 -- the latest decision is one of this cell
 abbrev pub IsLatest : List Decision → Cell → Type 0
@@ -39,3 +44,9 @@ IsAhead m (c ∷ cs) =
 -- it is ahead, or the decisions are still being followed and it agrees with all of them
 abbrev pub IsOpen : Bool → List Choice → Meaning → Type 0
 IsOpen live cs m = (IsTrue live × AgreesWith m (decisions cs)) ⊎ IsAhead m cs
+
+-- decisions are being followed, or some choice has a further value to be tried
+abbrev pub MayGoOn : Bool → List Choice → Type 0
+MayGoOn true cs = Unit {0}
+MayGoOn false [] = ⊥
+MayGoOn false (c ∷ cs) = (c.value < c.most) ⊎ MayGoOn false cs

@@ -2,6 +2,8 @@ pub mod Boards
 pub mod Choices
 pub mod Leaves
 pub mod Made
+pub mod Moves
+pub mod Readings
 pub mod Searches
 pub mod Solutions
 pub mod Stacked

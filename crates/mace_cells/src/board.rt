@@ -1,5 +1,5 @@
 // What a search asks of the board on which it decides the values of cells.
-ghost use Rattle.std.specs.Prelude.{ℕ, ◌≡◌, ◌<◌, ◌≤◌, List, ◌∷◌, length};
+ghost use Rattle.std.specs.Prelude.{ℕ, ◌≡◌, ◌<◌, ◌≤◌, List, ◌∷◌, length, max};
 ghost use Rattle.fol_core.specs.Meaning.{Meaning};
 ghost use Rattle.mace_cells.specs.Boards.{IsAsSaid};
 ghost use Rattle.mace_cells.specs.Choices.{Decision, IsLatest};
@@ -36,8 +36,9 @@ pub trait Board {
 
     fn most(&self, cell: u32) -> u8
         requires { cell < many_cells (world self.now) }
-        ensures { IsBound (world self.now) (decided self.now)
-            (cell_of (world self.now) cell) result };
+        ensures bound { IsBound (world self.now) (decided self.now)
+            (cell_of (world self.now) cell) result }
+        ensures fits { result < max (world self.now).size 2 };
 
     fn next_value(&self, cell: u32, from: u32, most: u8) -> Option<u8>
         requires { cell < many_cells (world self.now) }

@@ -1,12 +1,15 @@
 // The search: a cell is chosen, its values are tried in rising order, and where none is left the choice before it goes on.
-ghost use Rattle.std.specs.Prelude.{◌≡◌, ◌<◌, ◌≤◌, true, false, [], ◌∷◌, MatchBool, length};
+ghost use Rattle.std.specs.Prelude.{◌≡◌, suc, ◌-◌, ◌<◌, ◌≤◌, true, false, [], ◌∷◌, MatchBool, length};
+ghost use Rattle.mace_cells.specs.Choices.{IsUndecided};
 ghost use Rattle.mace_cells.specs.Leaves.{LeavesOpen, choices_of};
+ghost use Rattle.mace_cells.specs.Moves.{GoesBy};
+ghost use Rattle.mace_cells.specs.Readings.{GoesInTime};
 ghost use Rattle.mace_cells.specs.Searches.{HasFound, IsTimed};
 ghost use Rattle.mace_cells.specs.Stacked.{rest_of};
 ghost use Rattle.mace_cells.specs.Standing.{IsStanding, place, beyond};
-ghost use Rattle.mace_cells.specs.World.{many_cells, IsRefuted};
+ghost use Rattle.mace_cells.specs.World.{cell_of, many_cells, IsRefuted};
 ghost use Rattle.mace_search.specs.declared.answer.Answer.TheVariants.{Model};
-ghost use Rattle.mace_search.specs.Watch.{IsEarly, KeepsFirst};
+ghost use Rattle.mace_search.specs.Watch.{IsEarly};
 
 use crate::board::{Board, Status};
 use crate::frame::Frame;
@@ -21,6 +24,9 @@ fn revise<B: Board>(board: &mut B, frames: &mut Stack<Frame>, frame: Frame) -> b
     requires latest { frames.old.list ≡ frame ∷ rest_of frames.old.list }
     ensures world { B.world board.new ≡ B.world board.old }
     ensures standing { IsStanding (B.world board.new) (B.decided board.new) frames.new }
+    ensures goes { GoesBy (B.world board.old) false
+        (choices_of (B.world board.old) frames.old.list) 0 0 result
+        (choices_of (B.world board.old) frames.new.list) }
     ensures leaves { LeavesOpen (B.world board.old) false
         (choices_of (B.world board.old) frames.old.list) result
         (choices_of (B.world board.old) frames.new.list) }
@@ -47,6 +53,9 @@ fn retreat<B: Board>(board: &mut B, frames: &mut Stack<Frame>) -> bool
     requires standing { IsStanding (B.world board.old) (B.decided board.old) frames.old }
     ensures world { B.world board.new ≡ B.world board.old }
     ensures standing { IsStanding (B.world board.new) (B.decided board.new) frames.new }
+    ensures goes { GoesBy (B.world board.old) false
+        (choices_of (B.world board.old) frames.old.list) 0 0 result
+        (choices_of (B.world board.old) frames.new.list) }
     ensures leaves { LeavesOpen (B.world board.old) false
         (choices_of (B.world board.old) frames.old.list) result
         (choices_of (B.world board.old) frames.new.list) }
@@ -66,9 +75,13 @@ fn choose<B: Board>(board: &mut B, frames: &mut Stack<Frame>, cell: u32) -> bool
     requires standing { IsStanding (B.world board.old) (B.decided board.old) frames.old }
     requires cell { cell < many_cells (B.world board.old) }
     requires room { length frames.old.list < many_cells (B.world board.old) }
+    requires undecided { IsUndecided (B.decided board.old) (cell_of (B.world board.old) cell) }
     requires open { B.is_open board.old cell }
     ensures world { B.world board.new ≡ B.world board.old }
     ensures standing { IsStanding (B.world board.new) (B.decided board.new) frames.new }
+    ensures goes { GoesBy (B.world board.old) true
+        (choices_of (B.world board.old) frames.old.list) 0 1 result
+        (choices_of (B.world board.old) frames.new.list) }
     ensures leaves { LeavesOpen (B.world board.old) true
         (choices_of (B.world board.old) frames.old.list) result
         (choices_of (B.world board.old) frames.new.list) }
@@ -92,9 +105,13 @@ fn step<B: Board>(board: &mut B, frames: &mut Stack<Frame>, cell: u32) -> bool
     requires standing { IsStanding (B.world board.old) (B.decided board.old) frames.old }
     requires cell { cell < many_cells (B.world board.old) }
     requires room { length frames.old.list < many_cells (B.world board.old) }
+    requires undecided { IsUndecided (B.decided board.old) (cell_of (B.world board.old) cell) }
     requires open { B.is_open board.old cell }
     ensures world { B.world board.new ≡ B.world board.old }
     ensures standing { IsStanding (B.world board.new) (B.decided board.new) frames.new }
+    ensures goes { GoesBy (B.world board.old) true
+        (choices_of (B.world board.old) frames.old.list) 0 1 result
+        (choices_of (B.world board.old) frames.new.list) }
     ensures leaves { LeavesOpen (B.world board.old) true
         (choices_of (B.world board.old) frames.old.list) result
         (choices_of (B.world board.old) frames.new.list) }
@@ -114,6 +131,9 @@ fn back<B: Board>(board: &mut B, frames: &mut Stack<Frame>) -> bool
     requires refuted { IsRefuted (B.world board.old) (B.decided board.old) }
     ensures world { B.world board.new ≡ B.world board.old }
     ensures standing { IsStanding (B.world board.new) (B.decided board.new) frames.new }
+    ensures goes { GoesBy (B.world board.old) true
+        (choices_of (B.world board.old) frames.old.list) 0 0 result
+        (choices_of (B.world board.old) frames.new.list) }
     ensures leaves { LeavesOpen (B.world board.old) true
         (choices_of (B.world board.old) frames.old.list) result
         (choices_of (B.world board.old) frames.new.list) }
@@ -134,7 +154,9 @@ fn descend<B: Board, C: Clock>(
     requires early { IsEarly stop (C.times clock.old) }
     ensures world { B.world board.new ≡ B.world board.old }
     ensures standing { IsStanding (B.world board.new) (B.decided board.new) frames.new }
-    ensures goes { KeepsFirst stop (C.times clock.old) (C.times clock.new) }
+    ensures goes { GoesInTime (B.world board.old) stop true
+        (choices_of (B.world board.old) frames.old.list) result
+        (choices_of (B.world board.old) frames.new.list) (C.times clock.old) (C.times clock.new) }
     ensures found { HasFound (B.world board.old) true
         (choices_of (B.world board.old) frames.old.list) (B.found board.new) result
         (choices_of (B.world board.old) frames.new.list) }
@@ -166,6 +188,9 @@ fn begin<B: Board>(board: &mut B, frames: &mut Stack<Frame>, live: bool) -> bool
     requires standing { IsStanding (B.world board.old) (B.decided board.old) frames.old }
     ensures world { B.world board.new ≡ B.world board.old }
     ensures standing { IsStanding (B.world board.new) (B.decided board.new) frames.new }
+    ensures goes { GoesBy (B.world board.old) live
+        (choices_of (B.world board.old) frames.old.list) 0 0 result
+        (choices_of (B.world board.old) frames.new.list) }
     ensures leaves { LeavesOpen (B.world board.old) live
         (choices_of (B.world board.old) frames.old.list) result
         (choices_of (B.world board.old) frames.new.list) }
@@ -186,7 +211,9 @@ pub fn next_model<B: Board, C: Clock>(
     requires early { IsEarly stop (C.times clock.old) }
     ensures world { B.world board.new ≡ B.world board.old }
     ensures standing { IsStanding (B.world board.new) (B.decided board.new) frames.new }
-    ensures goes { KeepsFirst stop (C.times clock.old) (C.times clock.new) }
+    ensures goes { GoesInTime (B.world board.old) stop live
+        (choices_of (B.world board.old) frames.old.list) result
+        (choices_of (B.world board.old) frames.new.list) (C.times clock.old) (C.times clock.new) }
     ensures found { HasFound (B.world board.old) live
         (choices_of (B.world board.old) frames.old.list) (B.found board.new) result
         (choices_of (B.world board.old) frames.new.list) }

@@ -1,6 +1,6 @@
 // Stacks of fixed room, so that nothing has to be asked for while a search runs.
-ghost use Rattle.std.specs.Prelude.{◌≡◌, ◌<◌, List, [], ◌∷◌, ◌++◌, IfOk, MatchOption, length};
-ghost use Rattle.mace_cells.specs.Stacked.{stacked, rest_of};
+ghost use Rattle.std.specs.Prelude.{◌≡◌, ◌<◌, List, [], ◌∷◌, IfOk, MatchOption, length};
+ghost use Rattle.mace_cells.specs.Stacked.{stacked, rest_of, IsItemAt};
 
 use std::alloc::{AllocError, Global};
 use std::marker::Model;
@@ -20,7 +20,10 @@ impl<T> Model for Stack<T> {
 
     ghost coded = { coded_stacked T.code };
 
-    ghost view = { λ a. record { room = length a.items.items; list = reverse (take a.top a.items.items) } };
+    ghost view = { λ a. record {
+      room = length a.items.items;
+      list = reverse (take a.top a.items.items);
+    } };
 
     ghost invariant = { λ a. a.top ≤ length a.items.items };
 }
@@ -56,8 +59,7 @@ impl<T: Copy + Drop> Stack<T> {
     /// An item, the earliest being 0.
     pub fn get(&self, at: usize) -> T
         requires { at < length self.now.list }
-        ensures { (later : List T) × ((earlier : List T)
-            × (self.now.list ≡ later ++ result ∷ earlier)) }
+        ensures { IsItemAt self.now.list at result }
     {
         self.items[at]
     }

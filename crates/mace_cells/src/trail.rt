@@ -1,7 +1,7 @@
 // The values that cells have and that are crossed off, and the steps by which they came.
 ghost use Rattle.std.specs.Prelude.{◌≡◌, ◌+◌, ◌*◌, ◌<◌, ◌≤◌, false, [], ◌∷◌, None, IfOk, IfNone, length};
 ghost use Rattle.mace_cells.specs.Made.{IsMade};
-ghost use Rattle.mace_cells.specs.Stacked.{stacked};
+ghost use Rattle.mace_cells.specs.Stacked.{stacked, IsItemAt};
 ghost use Rattle.mace_cells.specs.Trails.{partial, value_in, is_struck_off, undone, cells_written, struck, before_decision, latest_mark, earliest};
 
 use crate::stack::Stack;
@@ -43,7 +43,8 @@ impl Model for Trail {
       room : a.entries.room ≡ length a.values.items;
       more : a.crossings.room ≡ length a.values.items * a.stride;
       values : IsMade None (length a.values.items) (cells_written a.entries.list) a.values.items;
-      crossed : IsMade false (length a.values.items * a.stride) (struck a.crossings.list) a.crossed.items;
+      crossed : IsMade false (length a.values.items * a.stride)
+          (struck a.crossings.list) a.crossed.items;
     } };
 }
 
@@ -100,7 +101,8 @@ impl Trail {
     /// The cell that got a value in this step, the first being 0.
     pub fn cell_at(&self, step: usize) -> u32
         requires { step < length self.now.entries }
-        ensures { result < self.now.many }
+        ensures within { result < self.now.many }
+        ensures entry { (e : TrailEntry) × IsItemAt self.now.entries step e × (result ≡ e.cell) }
     {
         self.entries.get(step).cell
     }
@@ -182,7 +184,8 @@ fn place(cell: u32, value: u8, stride: usize, length: usize) -> usize
 
 // Takes values back as far as the latest decision, and tells how many had been crossed off before it.
 fn take_back(values: &mut Vec<Option<u8>>, entries: &mut Stack<TrailEntry>) -> Option<usize>
-    requires { IsMade None (length values.old.items) (cells_written entries.old.list) values.old.items }
+    requires { IsMade None (length values.old.items)
+        (cells_written entries.old.list) values.old.items }
     ensures made { IsMade None (length values.new.items)
         (cells_written entries.new.list) values.new.items }
     ensures length { length values.new.items ≡ length values.old.items }

@@ -1,13 +1,14 @@
 // Whether the time is over.
 ghost use Rattle.std.specs.Prelude.{MatchOption};
-ghost use Rattle.mace_search.specs.Watch.{IsEarly, IsLate, KeepsFirst};
+ghost use Rattle.mace_cells.specs.Readings.{ReadsOn};
+ghost use Rattle.mace_search.specs.Watch.{IsEarly, IsLate};
 
 use ladr_io::Clock;
 
 /// Reads the clock where there is a stop; a reading that reached it is answered.
 pub fn late<C: Clock>(stop: Option<u128>, clock: &mut C) -> Option<u64>
     requires { IsEarly stop (C.times clock.old) }
-    ensures goes { KeepsFirst stop (C.times clock.old) (C.times clock.new) }
+    ensures goes { ReadsOn stop 1 (C.times clock.old) (C.times clock.new) }
     ensures late { MatchOption result (IsEarly stop (C.times clock.new))
         (λ last. IsLate stop (C.times clock.new) last) }
 {

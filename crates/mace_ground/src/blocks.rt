@@ -45,7 +45,10 @@ impl Model for Blocks {
 
     ghost view = { λ a. record { size = a.size; blocks = map block_of a.list.items } };
 
-    ghost invariant = { λ a. record { cells : a.cells ≡ cells_in a.size (map block_of a.list.items); spans : ArePlaced a.size (map block_of a.list.items) a.spans.items } };
+    ghost invariant = { λ a. record {
+      cells : a.cells ≡ cells_in a.size (map block_of a.list.items);
+      spans : ArePlaced a.size (map block_of a.list.items) a.spans.items;
+    } };
 }
 
 impl Blocks {

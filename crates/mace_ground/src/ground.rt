@@ -29,7 +29,11 @@ impl<'a> Model for Ground<'a> {
 
     ghost coded = { coded_instances };
 
-    ghost view = { λ a. record { size = a.blocks.size; blocks = a.blocks.blocks; clauses = map (λ row. row.1) a.clauses.now } };
+    ghost view = { λ a. record {
+      size = a.blocks.size;
+      blocks = a.blocks.blocks;
+      clauses = map (λ row. row.1) a.clauses.now;
+    } };
 }
 
 impl<'a> Ground<'a> {

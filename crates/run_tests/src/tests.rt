@@ -153,10 +153,10 @@ fn searches_end_as_told(rt: HostRuntime) -> Result<(), Fail> {
             b"% Models=0.\n% Exit exhausted.\n",
         ),
         (
-            "mace4 -n 76 -N 90",
+            "mace4 -n 64 -N 90",
             MANY,
             3,
-            b"% Domain size 76.\n% Models=0.\n% Exit max_megs.\n",
+            b"% Domain size 64.\n% Models=0.\n% Exit max_megs.\n",
         ),
         (
             "mace4 -n 90 -N 90",
@@ -177,8 +177,8 @@ const BOTH_OF_TWO: &[u8] =
 
 const BEGUN: &[u8] = b"% Domain size 2.\n";
 
-// The clock is read as a size begins, and before each of the tables, four of size 2; a reading of 1,000 is late behind a first
-// one of 0. The last clock goes back.
+// The clock is read as a size begins, and before each choice of a cell, two at size 2; a reading of
+// 1,000 is late behind a first one of 0. The last clock goes back.
 #[test]
 fn clocks_are_heeded(rt: HostRuntime) -> Result<(), Fail> {
     for (command, readings, status, front, rest) in [
@@ -201,7 +201,7 @@ fn clocks_are_heeded(rt: HostRuntime) -> Result<(), Fail> {
             &[0, 1, 2, 999, 1000],
             4,
             BOTH_OF_TWO,
-            b"% Models=2.\n% Exit max_seconds 0 1000.\n",
+            b"% Domain size 2 exhausted.\n% Domain size 3.\n% Models=2.\n% Exit max_seconds 0 1000.\n",
         ),
         (
             "mace4 -t 1 -m 9",

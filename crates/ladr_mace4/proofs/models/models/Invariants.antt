@@ -1,18 +1,17 @@
--- the models so far are printed, the clock was early, and it was read once for each of the tables
-use Rattle.std.proofs.Common.{◌≡◌, ◌+◌, ◌-◌, ◌≤◌, ℕ, List, false}
-use Rattle.ladr_mace4.proofs.Found.{SoFar}
-use Rattle.ladr_mace4.specs.Watching.{time_to_stop, HasRead}
-use Rattle.mace_search.specs.Watch.{IsEarly, KeepsFirst}
+-- the models so far are printed, and the clock was early and is read on
+use Rattle.std.proofs.Common.{◌≡◌, ◌-◌, ◌≤◌, List, false}
+use Rattle.ladr_mace4.proofs.Found.{SoFar, HasGone}
+use Rattle.ladr_mace4.specs.Watching.{time_to_stop}
+use Rattle.mace_search.specs.Watch.{IsEarly}
 use Rattle.model_tables.specs.Tables.{Finite}
 use Rattle.ladr_mace4.proofs.models.models.Given as goal
 
 abbrev pub invariant-loop-printed : goal.invariant-loop-printed
 invariant-loop-printed g l = record {
-  so_far : (ts : List Finite) × SoFar l.asked l.n l.k ts l.search l.printed (g.K.Sink.outflow l.fn.sink) (g.K.Sink.outflow l.sink);
+  so_far : (us : List Finite)
+      × (SoFar l.asked l.n l.k us l.search l.printed (g.K.Sink.outflow l.fn.sink) (g.K.Sink.outflow l.sink) × HasGone us l.search (g.C.Clock.times l.fn.clock) (g.C.Clock.times l.clock));
   stop : l.search.stop ≡ time_to_stop l.watch.seconds (g.C.Clock.times l.fn.clock);
   early : IsEarly l.search.stop (g.C.Clock.times l.clock);
-  goes : KeepsFirst l.search.stop (g.C.Clock.times l.fn.clock) (g.C.Clock.times l.clock);
-  reads : (m : ℕ) → HasRead l.plan.seconds m (g.C.Clock.times l.fn.clock) → HasRead l.plan.seconds (m + l.search.ahead) (g.C.Clock.times l.clock);
   writes : (g.K.Sink.outflow l.sink).over ≡ false;
   fewer : l.printed ≤ l.plan.wanted;
 }

@@ -1,4 +1,5 @@
-use Rattle.std.proofs.Common.{◌≡◌, Ok, Err, refl}
+use Rattle.std.proofs.Common.{◌≡◌, Ok, Err, refl, subst}
+use Rattle.ladr_cells.specs.Fitting.{FitsTable}
 use Rattle.ladr_intake.proofs.Commands.{own_runs, none_runs}
 use Rattle.ladr_intake.specs.Posed.{poses, posed_by}
 use Rattle.ladr_intake.specs.Refusals.{refuses}
@@ -6,6 +7,12 @@ use Rattle.ladr_mace4.specs.Finding.{Sought, Seeks}
 use Rattle.ladr_mace4.specs.Plans.{plan_of}
 use Rattle.ladr_formulas.specs.declared.styles.Mode.TheVariants.{Mace}
 use Rattle.ladr_mace4.proofs.search.mace4.Goals as goal
+
+pub find-requires-clause-fits : goal.find-requires-clause-fits
+find-requires-clause-fits g c =
+    let read = c.in-Ok.ensures.read in
+    let said = read.2 in
+    subst FitsTable said.2 (c.problems_fit.ensures Mace read.0 said.0 said.1)
 
 pub returns-in-Ok-find : goal.returns-in-Ok-find
 returns-in-Ok-find g c =

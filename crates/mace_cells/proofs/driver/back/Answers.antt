@@ -1,5 +1,6 @@
-use Rattle.std.proofs.Common.{refl}
+use Rattle.std.proofs.Common.{true, false, refl}
 use Rattle.mace_cells.proofs.Drives.{both, refuted_at, gone_back}
+use Rattle.mace_cells.proofs.Moving.{goes_behind, refutes_choices}
 use Rattle.mace_cells.proofs.driver.back.Goals as goal
 
 pub returns-clause-leaves : goal.returns-clause-leaves
@@ -9,3 +10,8 @@ returns-clause-leaves g c =
 
 pub returns-clause-rises : goal.returns-clause-rises
 returns-clause-rises g c = gone_back c.retreat.result _ _ _ _ c.retreat.ensures.rises
+
+pub returns-clause-goes : goal.returns-clause-goes
+returns-clause-goes g c =
+    let w = g.B.Board.world c.args.board.now in
+    goes_behind w w true false c.retreat.result c.args.frames.now.list c.args.frames.now.list c.retreat.new.frames.list 0 0 0 refl refl (refutes_choices w _) c.retreat.ensures.goes

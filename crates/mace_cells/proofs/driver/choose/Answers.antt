@@ -1,18 +1,29 @@
 use Rattle.std.proofs.Common.{ap}
 use Rattle.mace_cells.specs.Stacked.{Stacked}
+use Rattle.mace_cells.specs.World.{cell_of}
 use Rattle.mace_cells.specs.declared.frame.Frame.{Frame}
 use Rattle.mace_cells.proofs.Drives.{few_decided, first_value, no_value, comes_on}
+use Rattle.mace_cells.proofs.Moving.{to_choose, chooses_value, chooses_none}
 use Rattle.mace_cells.proofs.driver.choose.Goals as goal
 
 pub decide-requires-clause-room : goal.decide-requires-clause-room
 decide-requires-clause-room g c = few_decided (g.B.Board.world c.args.board.now) _ _ _ c.requires.standing.decided c.requires.room
 
 pub returns-in-None-clause-leaves : goal.returns-in-None-clause-leaves
-returns-in-None-clause-leaves g c = no_value _ _ _ c.requires.standing.decided c.args.cell c.most-most.result c.most-most.ensures c.in-None.ensures
+returns-in-None-clause-leaves g c = no_value _ _ _ c.requires.standing.decided c.args.cell c.most-most.result c.most-most.ensures.bound c.in-None.ensures
 
 pub returns-in-Some-clause-leaves : goal.returns-in-Some-clause-leaves
 returns-in-Some-clause-leaves g c =
-    first_value _ _ _ c.requires.standing.decided c.args.cell c.in-Some.value c.most-most.result _ (ap (λ (s : Stacked Frame). s.list) c.push.ensures) c.most-most.ensures c.in-Some.ensures
+    first_value _ _ _ c.requires.standing.decided c.args.cell c.in-Some.value c.most-most.result _ (ap (λ (s : Stacked Frame). s.list) c.push.ensures) c.most-most.ensures.bound c.in-Some.ensures
 
 pub returns-in-Some-clause-rises : goal.returns-in-Some-clause-rises
 returns-in-Some-clause-rises g c = comes_on _ _ _ (record { cell = c.args.cell; value = c.in-Some.value; most = c.most-most.result }) (ap (λ (s : Stacked Frame). s.list) c.push.ensures)
+
+pub returns-in-None-clause-goes : goal.returns-in-None-clause-goes
+returns-in-None-clause-goes g c = chooses_none (g.B.Board.world c.args.board.now) c.args.frames.now.list (cell_of (g.B.Board.world c.args.board.now) c.args.cell)
+    (to_choose (g.B.Board.world c.args.board.now) (g.B.Board.decided c.args.board.now) c.args.frames.now.list c.args.cell c.requires.standing.decided c.requires.cell c.requires.undecided c.requires.room)
+
+pub returns-in-Some-clause-goes : goal.returns-in-Some-clause-goes
+returns-in-Some-clause-goes g c =
+    chooses_value (g.B.Board.world c.args.board.now) c.args.frames.now.list _ (record { cell = c.args.cell; value = c.in-Some.value; most = c.most-most.result })
+    (to_choose (g.B.Board.world c.args.board.now) (g.B.Board.decided c.args.board.now) c.args.frames.now.list c.args.cell c.requires.standing.decided c.requires.cell c.requires.undecided c.requires.room) c.in-Some.ensures.1 c.most-most.ensures.fits (ap (λ (s : Stacked Frame). s.list) c.push.ensures)

@@ -1,7 +1,9 @@
-use Rattle.std.proofs.Common.{true, refl, ◌∙◌}
-use Rattle.mace_search.proofs.Watching.{goes_none, goes_both}
+use Rattle.std.proofs.Common.{◌≡◌, ◌+◌, ◌<◌, suc, true, false, length, refl, ap, ◌∙◌, arith}
+use Rattle.mace_cells.proofs.Moving.{goes_nowhere, goes_behind, few_of}
+use Rattle.mace_cells.proofs.Reading.{reads_none, reads_both}
 use Rattle.mace_cells.proofs.Steps.{itself}
-use Rattle.mace_cells.proofs.Drives.{both, at_end, smaller, few_choices, still, refuted_still, few_still}
+use Rattle.mace_cells.proofs.Drives.{both, at_end, smaller, few_choices, still, refuted_still, few_still, undecided_still}
+use Rattle.mace_cells.specs.World.{many_cells}
 use Rattle.mace_cells.proofs.driver.descend.Goals as goal
 
 pub loop-board-init : goal.loop-board-init
@@ -10,7 +12,7 @@ loop-board-init g c = record {
   standing = c.requires.standing;
   leaves = itself (g.B.Board.world c.args.board.now) true _;
   early = c.requires.early;
-  goes = goes_none c.args.stop _;
+  goes = (0, goes_nowhere (g.B.Board.world c.args.board.now) true _, reads_none c.args.stop _);
 }
 
 pub back-requires-clause-standing : goal.back-requires-clause-standing
@@ -34,7 +36,12 @@ loop-board-preserved-else-not-back g c = record {
   standing = c.back.ensures.standing;
   leaves = both (g.B.Board.world c.args.board.now) (g.B.Board.world c.status.new.self) true true true _ _ _ (c.status.ensures.world ∙ c.loop-board.invariant.world) c.loop-board.invariant.leaves c.if-not-back.ensures.leaves;
   early = c.loop-board.invariant.early;
-  goes = c.loop-board.invariant.goes;
+  goes =
+      let so_far = c.loop-board.invariant.goes in (
+        so_far.0,
+        goes_behind (g.B.Board.world c.args.board.now) (g.B.Board.world c.status.new.self) true true true _ _ _ so_far.0 0 so_far.0 (omega arith) (c.status.ensures.world ∙ c.loop-board.invariant.world) so_far.1 c.if-not-back.ensures.goes,
+        so_far.2,
+      );
 }
 
 pub step-requires-clause-standing : goal.step-requires-clause-standing
@@ -44,6 +51,9 @@ pub step-requires-clause-room : goal.step-requires-clause-room
 step-requires-clause-room g c =
     few_choices (g.B.Board.world c.status.new.self) _ _ (still _ _ _ _ c.loop-board.frames c.status.ensures.world c.status.ensures.decided c.loop-board.invariant.standing).decided
     (few_still _ _ _ _ c.status.ensures.world c.status.ensures.decided c.in-Choose.ensures.told.1)
+
+pub step-requires-clause-undecided : goal.step-requires-clause-undecided
+step-requires-clause-undecided g c = undecided_still _ _ _ _ c.in-Choose.cell c.status.ensures.world c.status.ensures.decided c.in-Choose.ensures.told.2
 
 pub returns-then-not-step-clause-found : goal.returns-then-not-step-clause-found
 returns-then-not-step-clause-found g c =
@@ -60,5 +70,40 @@ loop-board-preserved g c = record {
   standing = c.step.ensures.standing;
   leaves = both (g.B.Board.world c.args.board.now) (g.B.Board.world c.status.new.self) true true true _ _ _ (c.status.ensures.world ∙ c.loop-board.invariant.world) c.loop-board.invariant.leaves c.if-not-step.ensures.leaves;
   early = c.in_default.ensures.late;
-  goes = goes_both c.args.stop _ _ _ c.loop-board.invariant.goes c.late.ensures.goes;
+  goes =
+      let so_far = c.loop-board.invariant.goes in (
+        so_far.0 + 1,
+        goes_behind (g.B.Board.world c.args.board.now) (g.B.Board.world c.status.new.self) true true true _ _ _ so_far.0 1 (so_far.0 + 1) refl (c.status.ensures.world ∙ c.loop-board.invariant.world) so_far.1 c.if-not-step.ensures.goes,
+        reads_both c.args.stop so_far.0 1 (so_far.0 + 1) _ _ _ refl so_far.2 c.late.ensures.goes,
+      );
 }
+
+pub returns-then-not-back-clause-goes : goal.returns-then-not-back-clause-goes
+returns-then-not-back-clause-goes g c =
+    let so_far = c.loop-board.invariant.goes in (
+      so_far.0,
+      goes_behind (g.B.Board.world c.args.board.now) (g.B.Board.world c.status.new.self) true true false _ _ _ so_far.0 0 so_far.0 (omega arith) (c.status.ensures.world ∙ c.loop-board.invariant.world) so_far.1 c.if-not-back.ensures.goes,
+      so_far.2,
+    )
+
+pub returns-then-not-step-clause-goes : goal.returns-then-not-step-clause-goes
+returns-then-not-step-clause-goes g c =
+    let so_far = c.loop-board.invariant.goes in (
+      so_far.0 + 1,
+      goes_behind (g.B.Board.world c.args.board.now) (g.B.Board.world c.status.new.self) true true false _ _ _ so_far.0 1 (so_far.0 + 1) refl (c.status.ensures.world ∙ c.loop-board.invariant.world) so_far.1 c.if-not-step.ensures.goes,
+      reads_both c.args.stop so_far.0 1 (so_far.0 + 1) _ _ _ refl so_far.2 c.late.ensures.goes,
+    )
+
+pub returns-in-Some-clause-goes : goal.returns-in-Some-clause-goes
+returns-in-Some-clause-goes g c =
+    let so_far = c.loop-board.invariant.goes in
+    let w = g.B.Board.world c.args.board.now in
+    let w' = g.B.Board.world c.status.new.self in
+    let standing = still _ _ _ _ c.loop-board.frames c.status.ensures.world c.status.ensures.decided c.loop-board.invariant.standing in
+    let few : length c.loop-board.frames.list < many_cells w' = few_choices w' _ _ standing.decided (few_still _ _ _ _ c.status.ensures.world c.status.ensures.decided c.in-Choose.ensures.told.1) in
+    let same : many_cells w' ≡ many_cells w = ap many_cells (c.status.ensures.world ∙ c.loop-board.invariant.world) in (
+      so_far.0,
+      so_far.1,
+      reads_both c.args.stop so_far.0 1 (suc so_far.0) _ _ _ (omega arith) so_far.2 c.late.ensures.goes,
+      few_of w c.loop-board.frames.list (omega (arith, few, same)),
+    )

@@ -5,13 +5,17 @@ use Rattle.mace_cells.specs.World.{World, many_cells}
 use Rattle.mace_cells.specs.declared.frame.Frame.{Frame}
 use Rattle.mace_cells.proofs.Steps.{itself}
 use Rattle.mace_cells.proofs.Drives.{both, latest_of, beyond_rest}
+use Rattle.mace_cells.proofs.Moving.{goes_nowhere, goes_behind}
 use Rattle.mace_cells.proofs.driver.retreat.Goals as goal
 
 pub loop-frame-init : goal.loop-frame-init
-loop-frame-init g c = record { world = refl; standing = c.requires.standing; leaves = itself (g.B.Board.world c.args.board.now) false _; behind = omega arith }
+loop-frame-init g c = record { world = refl; standing = c.requires.standing; leaves = itself (g.B.Board.world c.args.board.now) false _; goes = goes_nowhere (g.B.Board.world c.args.board.now) false _; behind = omega arith }
 
 pub returns-then-revise-clause-leaves : goal.returns-then-revise-clause-leaves
 returns-then-revise-clause-leaves g c = both _ _ false false true _ _ _ c.loop-frame.invariant.world c.loop-frame.invariant.leaves c.if-revise.ensures.leaves
+
+pub returns-then-revise-clause-goes : goal.returns-then-revise-clause-goes
+returns-then-revise-clause-goes g c = goes_behind _ _ false false true _ _ _ 0 0 0 refl c.loop-frame.invariant.world c.loop-frame.invariant.goes c.if-revise.ensures.goes
 
 pub loop-frame-preserved : goal.loop-frame-preserved
 loop-frame-preserved g c =
@@ -26,5 +30,6 @@ loop-frame-preserved g c =
       world = c.revise.ensures.world ∙ c.loop-frame.invariant.world;
       standing = c.revise.ensures.standing;
       leaves = both _ _ false false false _ _ _ c.loop-frame.invariant.world c.loop-frame.invariant.leaves c.if-revise.ensures.leaves;
+      goes = goes_behind _ _ false false false _ _ _ 0 0 0 refl c.loop-frame.invariant.world c.loop-frame.invariant.goes c.if-revise.ensures.goes;
       behind = omega (arith, c.loop-frame.invariant.behind, less, new);
     }

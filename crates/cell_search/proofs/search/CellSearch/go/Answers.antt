@@ -1,8 +1,9 @@
 use Rattle.std.proofs.Common.{ap, ◌∙◌, subst}
 use Rattle.cell_search.specs.Courses.{Course, AnswersByCells, live_in, late_in}
 use Rattle.mace_cells.specs.Leaves.{choices_of}
+use Rattle.mace_cells.specs.Readings.{GoesInTime}
 use Rattle.cell_search.specs.Finites.{finite_of}
-use Rattle.cell_search.proofs.Givings.{gives_by}
+use Rattle.cell_search.proofs.Givings.{gives_by, goes_by}
 use Rattle.cell_search.proofs.search.CellSearch.go.Goals as goal
 
 pub returns-clause-gives : goal.returns-clause-gives
@@ -22,3 +23,12 @@ returns-clause-gives g c =
     c.len.result c.follows_after-self-inside.result c.next_model-answer.ensures.world (ap (λ (s : Course). s.live) c.self.view_is ∙ c.requires.live) c.follows_after-self-inside.ensures c.next_model-answer.ensures.found
     c.next_model-answer.ensures.full
     c.next_model-answer.ensures.late)
+
+pub returns-clause-clock : goal.returns-clause-clock
+returns-clause-clock g c =
+    let a = c.self.inside in
+    let new = c.next_model-answer.new in
+    let t = g.C.Clock.times c.args.clock.now in
+    let t' = g.C.Clock.times new.clock in
+    subst (λ (s : Course). GoesInTime s.world s.stop s.live s.choices c.next_model-answer.result (choices_of new.board.world new.frames.list) t t') c.self.view_is
+    (goes_by a.cells.world new.board.world a.frames.list new.frames.list c.args.live (live_in a.state) a.stop t t' c.next_model-answer.result c.next_model-answer.ensures.world (ap (λ (s : Course). s.live) c.self.view_is ∙ c.requires.live) c.next_model-answer.ensures.goes)

@@ -1,0 +1,12 @@
+use Rattle.std.proofs.Common.{sym, arith}
+use Rattle.cell_search.proofs.Leaving.{single}
+use Rattle.cell_search.proofs.closing.settle_one.Goals as goal
+
+pub settle-requires-clause-only : goal.settle-requires-clause-only
+settle-requires-clause-only c = single c.args.setup.now c.args.trail.now c.requires.board c.args.cell c.requires.cell c.bound.result c.bound.ensures.bound (omega (arith, c.if-bound-ne1.false))
+
+pub returns-in-Some-clause-given : goal.returns-in-Some-clause-given
+returns-in-Some-clause-given c = λ _ one. (c.in-Some.field-0, sym c.in-Some.ensures.value)
+
+pub returns-in-None-clause-given : goal.returns-in-None-clause-given
+returns-in-None-clause-given c = λ yes one. (0, c.settle.ensures.given yes)
