@@ -18,7 +18,7 @@ use Rattle.unifiers.specs.Matching.{same_tree}
 
 -- the order of symbols is one
 module _ (rows : List SymbolRow) where
-  data Comes (a b x y f g : ℕ) : Type 0 where
+  pub data Comes (a b x y f g : ℕ) : Type 0 where
     by_list : b < a → Comes a b x y f g
     by_arity : a ≡ b → y < x → Comes a b x y f g
     by_number : a ≡ b → x ≡ y → g < f → Comes a b x y f g
@@ -36,7 +36,7 @@ module _ (rows : List SymbolRow) where
         ]
   ]
 
-  because_comes : (f g : ℕ) → Comes (row_at rows f).listed (row_at rows g).listed (row_at rows f).arity (row_at rows g).arity f g → stands_above rows f g ≡ true
+  pub because_comes : (f g : ℕ) → Comes (row_at rows f).listed (row_at rows g).listed (row_at rows f).arity (row_at rows g).arity f g → stands_above rows f g ≡ true
   because_comes f g (by_list h) = left_or (nat_lt (row_at rows g).listed (row_at rows f).listed) _ (grind (arith, nat_tests, h))
   because_comes f g (by_arity e h) =
       right_or (nat_lt (row_at rows g).listed (row_at rows f).listed) _

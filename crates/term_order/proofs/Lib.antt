@@ -4,6 +4,7 @@ pub mod Fronts
 pub mod Heads
 pub mod KboHeads
 pub mod KboOrder
+pub mod Listing
 pub mod LpoCases
 pub mod LpoOrder
 pub mod LpoParts

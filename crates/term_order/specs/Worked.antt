@@ -1,8 +1,13 @@
--- Terms compared by hand.
-use Rattle.std.specs.Prelude.{ℕ, ◌≡◌, Bool, true, false, nat_lt}
+-- Terms and symbols compared by hand.
+use Rattle.std.specs.Prelude.{ℕ, ◌≡◌, Bool, true, false, nat_lt, List, [], ◌∷◌, codes}
+use Rattle.fol_core.specs.SymbolTable.{Symbol, symbol}
 use Rattle.fol_core.specs.Tree.{Tree, var, app, none, more}
+use Rattle.fol_core.specs.declared.symbols.Kind.TheVariants.{Function}
 use Rattle.term_order.specs.Kbo.{kbo_greater}
+use Rattle.term_order.specs.Listed.{symbol_rows}
 use Rattle.term_order.specs.Lpo.{lpo_greater}
+use Rattle.term_order.specs.Precedences.{stands_above, weight_at}
+use Rattle.term_order.specs.declared.precedence.SymbolRow.{SymbolRow}
 
 -- a symbol with a greater number stands above
 abbrev later : ℕ → ℕ → Bool
@@ -56,3 +61,21 @@ WorkedWeightOrder =
     (product (product (var 0) (var 1)) (var 2)) ≡ false)
     × (kbo_greater later alike (product (var 0) (var 1)) (product (var 0) (var 0)) ≡ false)
     × (kbo_greater later alike (product (var 0) (var 0)) (product (var 0) (var 1)) ≡ false)
+
+-- f(x), a, g(x,y), f(x,y), b and the Skolem constant c1, where g and f are listed and b weighs 3
+abbrev table : List Symbol
+table =
+    symbol (codes "f") 1 Function ∷ symbol (codes "a") 0 Function ∷ symbol (codes "g") 2 Function
+    ∷ symbol (codes "f") 2 Function ∷ symbol (codes "b") 0 Function
+    ∷ symbol (codes "c1") 0 Function ∷ []
+
+abbrev rows : List SymbolRow
+rows = symbol_rows (codes "g" ∷ codes "f" ∷ []) ((codes "b", 3) ∷ []) table
+
+-- the order from the lowest up: a, b, c1, g, f with one argument, f with two
+abbrev pub WorkedPrecedence : Type 0
+WorkedPrecedence =
+    (stands_above rows 4 1 ≡ true) × (stands_above rows 5 4 ≡ true)
+    × (stands_above rows 2 5 ≡ true) × (stands_above rows 0 2 ≡ true)
+    × (stands_above rows 3 0 ≡ true) × (stands_above rows 0 3 ≡ false)
+    × (weight_at rows 4 ≡ 3) × (weight_at rows 5 ≡ 1)
