@@ -1,0 +1,6 @@
+pub mod Ancestors
+pub mod Laws
+pub mod Lines
+pub mod Marks
+pub mod Stored
+pub mod Worked

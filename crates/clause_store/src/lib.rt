@@ -1,0 +1,15 @@
+// The lines of a search: the formulas of a problem, and clauses as terms of a bank.
+#![tactic(auto)]
+
+mod ancestors;
+mod copying;
+mod laws;
+mod lines;
+mod parents;
+mod store;
+mod stored;
+
+pub use laws::{ancestors_derive, lines_say_the_same, worked};
+pub use lines::{StoredContent, StoredLine};
+pub use store::Store;
+pub use stored::{New, Stored};
