@@ -1,0 +1,12 @@
+pub mod Alikes
+pub mod Becoming
+pub mod Classes
+pub mod Closing
+pub mod Lists
+pub mod Pairs
+pub mod Seen
+pub mod Solutions
+pub mod Spreads
+pub mod Stays
+pub mod Walks
+pub mod Whole

@@ -1,0 +1,13 @@
+pub mod Bindings
+pub mod Endings
+pub mod Inside
+pub mod Instanced
+pub mod Joins
+pub mod Laws
+pub mod Opens
+pub mod Reaches
+pub mod Rooms
+pub mod Spots
+pub mod Steps
+pub mod Unified
+pub mod Value
