@@ -1,0 +1,16 @@
+-- What the tests of an index say.
+use Rattle.std.specs.Prelude.{◌≡◌, ◌↔◌, IsTrue}
+use Rattle.fol_core.specs.Substitutions.{Substitution, substitute}
+use Rattle.fol_core.specs.Tree.{Tree}
+use Rattle.discrim_tree.specs.Terms.{has_instance, can_unify}
+
+-- a substitution makes of the first term the second
+abbrev pub InstancesAreMade : Type 0
+InstancesAreMade =
+    (s t : Tree) → IsTrue (has_instance s t) ↔ ((u : Substitution) × (substitute u s ≡ t))
+
+-- a substitution for each term makes them the same
+abbrev pub UnifiersAreOfTwo : Type 0
+UnifiersAreOfTwo =
+    (s t : Tree) → IsTrue (can_unify s t)
+    ↔ ((u : Substitution) × (v : Substitution) × (substitute u s ≡ substitute v t))

@@ -1,0 +1,16 @@
+// Laws of the tests of an index, and retrievals worked out: the functions do nothing, and their contracts are the laws.
+ghost use Rattle.discrim_tree.specs.Laws.{InstancesAreMade, UnifiersAreOfTwo};
+ghost use Rattle.discrim_tree.specs.Worked.{WorkedEntries, WorkedRetrievals};
+
+/// A term is an instance of another exactly where a substitution makes it of that, and two terms unify exactly where a
+/// substitution for each makes them the same.
+pub fn tests_are_exact()
+    ensures instances { InstancesAreMade }
+    ensures unifiers { UnifiersAreOfTwo }
+{}
+
+/// Retrievals and entries.
+pub fn worked()
+    ensures retrievals { WorkedRetrievals }
+    ensures entries { WorkedEntries }
+{}

@@ -1,0 +1,10 @@
+// An index of terms: which of them are generalizations or instances of a term, or unify with it.
+#![tactic(auto)]
+
+mod comparing;
+mod entry;
+mod index;
+mod laws;
+
+pub use index::Index;
+pub use laws::{tests_are_exact, worked};
