@@ -1,0 +1,12 @@
+pub mod Chains
+pub mod Copies
+pub mod LinesMore
+pub mod Lists
+pub mod Ordering
+pub mod Orders
+pub mod Picks
+pub mod Rewrites
+pub mod Sound
+pub mod Starts
+pub mod Steps
+pub mod Working

@@ -1,0 +1,16 @@
+pub mod Clashing
+pub mod Concluded
+pub mod Conclusions
+pub mod Equalities
+pub mod Picking
+pub mod Rewriting
+pub mod SearchLaws
+pub mod SearchWorked
+pub mod Searching
+pub mod Shortening
+pub mod Starting
+pub mod StepLaws
+pub mod StepsWorked
+pub mod Subsuming
+pub mod TidyLaws
+pub mod TidyWorked
