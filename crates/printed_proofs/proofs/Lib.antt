@@ -1,0 +1,3 @@
+pub mod LinesBehind
+pub mod OwnLines
+pub mod Printing
