@@ -38,7 +38,12 @@ symbol_at symbols work = slice_index symbols (length work.entries.items)
 -- its witness for a variable in a body
 abbrev pub axiom_at : List ℕ → Work → ℕ → Fol → SkolemAxiom
 axiom_at symbols work x body =
-    record { symbol = symbol_at symbols work; variables = work.scope.items; variable = x; body = body }
+    record {
+      symbol = symbol_at symbols work;
+      variables = work.scope.items;
+      variable = x;
+      body = body;
+    }
 
 -- a Skolem symbol is noted, and its term given for the variable, in front of whose body work stood
 abbrev pub BeginsWork : List ℕ → Work → Work → ℕ → Fol → Type 0
