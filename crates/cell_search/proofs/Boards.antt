@@ -1,7 +1,12 @@
 -- What a board tells of its decisions.
-use Rattle.std.proofs.Common.{◌≡◌, ℕ, zero, suc, ◌+◌, ◌<◌, true, false, max, List, [], Option, None, Some, replicate, refl, sym, ◌∙◌, subst, arith}
+use Rattle.std.proofs.Common.{◌≡◌, ℕ, zero, suc, ◌+◌, ◌<◌, true, false, max, List, [], map, length, Option, None, Some, replicate, refl, sym, ap, ◌∙◌, subst, arith}
 use Rattle.std.proofs.lemmas.Option.{none-some}
 use Rattle.mace_cells.proofs.Steps.{carried_itself}
+use Rattle.std.proofs.lemmas.List.{length-map}
+use Rattle.cell_choice.proofs.Shaping.{shapes_many}
+use Rattle.cell_choice.specs.Shapes.{cell_shapes, ranking_of}
+use Rattle.cell_choice.specs.declared.shape.Shape.{Shape}
+use Rattle.mace_cells.specs.declared.way.Measure.{Measure}
 use Rattle.mace_cells.specs.Choices.{Decision}
 use Rattle.mace_cells.specs.Trails.{Partial, partial}
 use Rattle.mace_cells.specs.World.{World, IsSettled, IsRefuted, AreRefuted, IsBound, IsNextValue, cell_of, many_cells}
@@ -43,15 +48,26 @@ module _ (w : World) (t : Partial) (board : IsBoard w t) where
   least_refutes k v most (Some u) within least = (least.0, least.1, crossed_refutes k v u within least.2)
 
 -- nothing is decided yet
-pub board_at_first : (w : World) → 0 < w.size → IsBoard w (partial (many_cells w) (max w.size 2) [] [])
+pub board_at_first : (w : World) → 0 < w.size → IsBoard w (partial (many_cells w) (max w.size 2) (ranking_of w) [] [])
 board_at_first w some = record {
   some = some;
   many = refl;
   stride = refl;
+  ranking = refl;
   fresh = tt;
   present = λ m solves agrees. ((λ k v within given. absurd (none-some _ given)), (λ k v within fits struck here. let h : false ≡ true = struck in cc));
   before = tt;
+  chosen = tt;
 }
+
+pub first_table : (w : World) (shapes : List Shape) (is : List ℕ) (t : Partial) (stride : ℕ) (m : Measure) → shapes ≡ cell_shapes w.size w.blocks → is ≡ map (λ s. s.above) shapes → stride ≡ max w.size 2 → m ≡ w.way.measure
+    → t ≡ partial (length is) stride (record { indices = is; measure = m }) [] [] → t ≡ partial (many_cells w) (max w.size 2) (ranking_of w) [] []
+first_table w shapes is t stride m same above greatest measure made =
+    let ranks : List ℕ = map (λ s. s.above) (cell_shapes w.size w.blocks) in
+    let indices : is ≡ ranks = above ∙ ap (λ (ss : List Shape). map (λ s. s.above) ss) same in
+    let many : length ranks ≡ many_cells w = length-map (cell_shapes w.size w.blocks) (λ s. s.above) ∙ shapes_many w.size w.blocks in
+    made ∙ ap (λ (xs : List ℕ). partial (length xs) stride (record { indices = xs; measure = m }) [] []) indices ∙ ap (λ (n : ℕ). partial n stride (record { indices = ranks; measure = m }) [] []) many
+    ∙ ap (λ (n : ℕ). partial (many_cells w) n (record { indices = ranks; measure = m }) [] []) greatest ∙ ap (λ (x : Measure). partial (many_cells w) (max w.size 2) (record { indices = ranks; measure = x }) [] []) measure
 
 pub zeros_below : (n k : ℕ) → 0 < n → AllBelow n (replicate k 0)
 zeros_below n zero some = tt

@@ -10,3 +10,5 @@ pub mod Rows
 pub mod Tabling
 pub mod Boards
 pub mod Givings
+pub mod Using
+pub mod Preferring

@@ -5,7 +5,7 @@ use Rattle.fol_core.specs.Meaning.{Meaning}
 use Rattle.fol_core.specs.Tree.{Tree}
 use Rattle.fol_core.specs.Truth.{Assignment, value_of}
 use Rattle.mace_cells.specs.Choices.{AgreesWith}
-use Rattle.mace_cells.specs.Trails.{Partial, value_in, is_struck_off}
+use Rattle.mace_cells.specs.Trails.{Partial, HasTwoLeft, value_in, is_struck_off}
 use Rattle.mace_cells.specs.World.{World, Solves, cell_of, many_cells}
 use Rattle.mace_cells.specs.declared.trail.TrailEntry.{TrailEntry}
 use Rattle.mace_ground.specs.Cells.{value_at}
@@ -71,13 +71,6 @@ IsNone w es k v =
 abbrev pub AreCrossedBut : Partial → ℕ → ℕ → Option ℕ → Type 0
 AreCrossedBut t k end only =
     (v : ℕ) → v < end → (is_struck_off (k * t.stride + v) t.crossings ≡ true) ⊎ (only ≡ Some v)
-
--- two values below `end` aren't crossed off
-abbrev pub HasTwoLeft : Partial → ℕ → ℕ → Type 0
-HasTwoLeft t k end =
-    (v u : ℕ)
-    × ((v < u) × (u < end) × (is_struck_off (k * t.stride + v) t.crossings ≡ false)
-    × (is_struck_off (k * t.stride + u) t.crossings ≡ false))
 
 -- what values a cell has left
 abbrev pub IsRest : Partial → ℕ → ℕ → Rest → Type 0

@@ -1,11 +1,14 @@
 -- The course of a search.
-use Rattle.std.specs.Prelude.{ℕ, zero, suc, ◌≡◌, ◌<◌, Bool, true, false, List, [], length, Option, None, Some}
+use Rattle.std.specs.Prelude.{ℕ, zero, suc, ◌≡◌, ◌<◌, Bool, true, false, max, List, [], length, Option, None, Some}
+use Rattle.cell_choice.specs.Shapes.{ranking_of}
 use Rattle.fol_core.specs.SymbolTable.{Symbol}
 use Rattle.fol_core.specs.declared.clause.Clauses.{Clauses}
 use Rattle.ladr_io.specs.Times.{Times}
-use Rattle.mace_cells.specs.Choices.{Choice}
+use Rattle.mace_cells.specs.Choices.{Choice, decisions}
 use Rattle.mace_cells.specs.Leaves.{LeavesOpen, FindsModel, IsOver}
-use Rattle.mace_cells.specs.World.{World}
+use Rattle.mace_cells.specs.Trails.{Partial, partial}
+use Rattle.mace_cells.specs.World.{World, many_cells}
+use Rattle.mace_cells.specs.declared.way.Way.{Way}
 use Rattle.mace_cells.specs.declared.frame.Frame.{Frame}
 use Rattle.mace_ground.specs.Count.{blocks_in, clause_trees}
 use Rattle.mace_search.specs.Watch.{IsEarly, IsLate}
@@ -13,7 +16,8 @@ use Rattle.mace_search.specs.declared.answer.Answer.{Answer}
 use Rattle.mace_search.specs.declared.answer.Answer.TheVariants as answers
 use Rattle.mace_search.specs.declared.answer.Answer.TheVariants.{Model, MaxSeconds}
 use Rattle.model_tables.specs.Tables.{Finite, meaning_of}
-use Rattle.cell_search.specs.Finites.{AreTablesFor}
+use Rattle.cell_search.specs.Finites.{finite_of, AreTablesFor}
+use Rattle.cell_search.specs.Losses.{AreFresh, HadTwoLeft, decided_in}
 use Rattle.cell_search.specs.declared.search.State.{State}
 use Rattle.cell_search.specs.declared.search.State.TheVariants.{Following, Found, Exhausted, Late}
 
@@ -22,29 +26,52 @@ abbrev pub above_numeral : Option ℕ → ℕ
 above_numeral None = 0
 above_numeral (Some k) = suc k
 
--- what a search is about among n elements; the clauses' symbols stand in the table
-abbrev pub world_of : List Symbol → Clauses → ℕ → World
-world_of table c n =
+-- what a search in this way is about among n elements; the clauses' symbols stand in the table
+abbrev pub world_of : List Symbol → Clauses → ℕ → Way → World
+world_of table c n way =
     record {
       size = n;
       fixed = above_numeral c.numeral;
       clauses = clause_trees c;
       blocks = blocks_in table c;
+      way = way;
     }
 
--- what is searched for; whether the decisions are still being followed, and the choices that stand;
--- the tables of the values so far; when to stop, and the reading by which the time is over
+-- What is searched for; whether the decisions are still being followed, and the choices that stand;
+-- the partial table with the steps that made it, and the tables of its values; when to stop, and the
+-- reading by which the time is over.
 pub record Course : Type 0 where
   pub world : World
   pub live : Bool
   pub choices : List Choice
+  pub table : Partial
   pub tables : Finite
   pub stop : Option ℕ
   pub late : Option ℕ
 
+-- where a search begins
+abbrev pub beginning : World → Option ℕ → Course
+beginning w stop =
+    record {
+      world = w;
+      live = true;
+      choices = [];
+      table = partial (many_cells w) (max w.size 2) (ranking_of w) [] [];
+      tables = finite_of w [];
+      stop = stop;
+      late = None;
+    }
+
 -- the same search, further on
 abbrev pub IsSameCourse : Course → Course → Type 0
 IsSameCourse s s' = (s'.world ≡ s.world) × (s'.stop ≡ s.stop)
+
+-- The decisions of the partial table are the choices that stand. Each was made of a cell that had no
+-- value then, and at least two left: one with a single value left gets that value.
+pub record ChoseOpen (s : Course) : Type 0 where
+  pub decided : decided_in s.world s.table.entries ≡ decisions s.choices
+  pub fresh : AreFresh s.world s.table.entries
+  pub two : HadTwoLeft s.world s.table.stride s.table.entries s.table.crossings
 
 -- What an answer says: the tables have a value for each cell, and are a model that was ahead, and
 -- is ahead no more; none was ahead; or the time is over, and nothing was passed over.

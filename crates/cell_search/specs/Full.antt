@@ -4,23 +4,24 @@ use Rattle.std.specs.List.{AllByRecursion}
 use Rattle.fol_core.specs.Literals.{ClauseTree, is_true_clause, IsTrueClause, AreTrueClauses}
 use Rattle.fol_core.specs.Meaning.{Meaning}
 use Rattle.fol_core.specs.Truth.{Assignment}
-use Rattle.mace_cells.specs.Trails.{Partial, value_in}
+use Rattle.mace_cells.specs.Trails.{Partial, value_in, HasTwoLeft}
 use Rattle.mace_cells.specs.World.{World, Solves, cell_of, many_cells, IsRefuted}
 use Rattle.mace_cells.specs.declared.trail.TrailEntry.{TrailEntry}
 use Rattle.model_tables.specs.Size.{bound_of}
 use Rattle.mace_ground.specs.Instances.{variables_in}
-use Rattle.cell_search.specs.Asking.{HasTwoLeft}
 use Rattle.cell_search.specs.Known.{literal_seen}
 use Rattle.cell_search.specs.Searchable.{IsClauseOfCells}
 use Rattle.cell_search.specs.Losses.{Extends, decided_in}
 use Rattle.cell_search.specs.declared.full.Filled.{Filled}
 use Rattle.cell_search.specs.declared.full.Filled.TheVariants.{Open, Amiss, Full}
 
--- each cell has a value, and one that it can have
+-- a cell has a value, and one that it can have; so has each cell
+abbrev pub HasProperValue : World → List TrailEntry → ℕ → Type 0
+HasProperValue w es k =
+    (v : ℕ) × ((value_in es k ≡ Some v) × (v < bound_of w.size (cell_of w k).kind))
+
 abbrev pub IsFull : World → List TrailEntry → Type 0
-IsFull w es =
-    (k : ℕ) → k < many_cells w → (v : ℕ)
-    × ((value_in es k ≡ Some v) × (v < bound_of w.size (cell_of w k).kind))
+IsFull w es = (k : ℕ) → k < many_cells w → HasProperValue w es k
 
 -- a cell has none, and two left; or no solution agrees with what was decided; or each has one
 abbrev pub IsFilledAs : World → Partial → Filled → Type 0

@@ -1,6 +1,7 @@
 -- Clauses whose terms all have cells.
-use Rattle.std.specs.Prelude.{ℕ, suc, ◌≡◌, ◌<◌, ◌==◌, MatchBool, [], ◌∷◌, Some, map}
+use Rattle.std.specs.Prelude.{ℕ, suc, ◌≡◌, ◌<◌, ◌≤◌, ◌==◌, MatchBool, [], ◌∷◌, Some, map}
 use Rattle.std.specs.List.{AllByRecursion}
+use Rattle.cell_choice.specs.Numbers.{NamesBelow}
 use Rattle.fol_core.specs.Bound.{IsOnce}
 use Rattle.fol_core.specs.Literals.{ClauseTree, equality}
 use Rattle.fol_core.specs.Tree.{Tree, var, elem, app, Trees, none, more}
@@ -47,8 +48,11 @@ abbrev pub IsClauseOfCells : World → ClauseTree → Type 0
 IsClauseOfCells w [] = Unit {0}
 IsClauseOfCells w (l ∷ c) = IsAtomOfCells w l.atom × IsClauseOfCells w c
 
--- there are elements, no symbol has two blocks, and each symbol of the clauses has cells
+-- There are elements, those among them that isomorphisms leave; no symbol has two blocks; each
+-- symbol of the clauses has cells, and each element that they name is one of those.
 pub record HasAllCells (w : World) : Type 0 where
   pub some : 0 < w.size
   pub once : IsOnce (map (λ b. b.symbol) w.blocks)
+  pub fits : w.fixed ≤ w.size
   pub clauses : AllByRecursion (IsClauseOfCells w) w.clauses
+  pub named : AllByRecursion (NamesBelow w.fixed) w.clauses

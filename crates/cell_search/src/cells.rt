@@ -1,14 +1,16 @@
 // The board of a search: a partial table of its cells, closed under what the clauses ask.
 ghost use Rattle.std.specs.Prelude.{ℕ, ◌≡◌, ◌<◌, ◌≤◌, [], None, false, max, IfOk, length, replicate};
-ghost use Rattle.cell_search.specs.Asking.{HasTwoLeft};
+ghost use Rattle.cell_choice.specs.Choosing.{IsPicked};
+ghost use Rattle.cell_choice.specs.Shapes.{cell_shapes, index_in, ranking_of};
 ghost use Rattle.cell_search.specs.Finites.{finite_of, meaning_by_cells, tables_over, AreTablesFor};
 ghost use Rattle.cell_search.specs.Positions.{position, IsLeast};
 ghost use Rattle.cell_search.specs.Searchable.{HasAllCells};
-ghost use Rattle.cell_search.specs.Losses.{decided_in};
+ghost use Rattle.cell_search.specs.Losses.{decided_in, AreFresh, HadTwoLeft};
 ghost use Rattle.mace_cells.specs.Boards.{IsAsSaid};
-ghost use Rattle.mace_cells.specs.Trails.{partial, value_in};
+ghost use Rattle.mace_cells.specs.Numbers.{above_used, greatest_tried};
+ghost use Rattle.mace_cells.specs.Trails.{HasTwoLeft, partial, value_in};
 ghost use Rattle.model_tables.specs.Size.{bound_of};
-ghost use Rattle.mace_cells.specs.World.{cell_of, many_cells, IsRefuted};
+ghost use Rattle.mace_cells.specs.World.{cell_of, many_cells, IsRefuted, IsBound};
 
 use crate::closing::settle_single;
 use crate::full::{Filled, are_true, fullness, room};
@@ -16,8 +18,9 @@ use crate::going::{begin, close};
 use crate::setup::Setup;
 use crate::tables::finite;
 use crate::walk::{Group, Walk};
+use cell_choice::{Shape, above_decision, greatest_tried, indices};
 use fol_core::Symbols;
-use mace_cells::{Board, Status, Trail};
+use mace_cells::{Board, Stack, Status, Trail};
 use model_tables::Tables;
 use std::alloc::{AllocError, Global};
 use std::marker::Model;
@@ -26,7 +29,11 @@ use std::marker::Model;
 #[derive(Drop)]
 pub struct Cells<'a> {
     setup: Setup<'a>,
+    // What the choice looks at, by cell.
+    shapes: Vec<Shape>,
     trail: Trail,
+    // For each decision the least number above those in use with it.
+    uses: Stack<u32>,
     walks: Vec<Walk<'a>>,
     groups: Vec<Group<'a>>,
     // The elements of variables.
@@ -37,12 +44,15 @@ pub struct Cells<'a> {
 }
 
 impl<'a> Model for Cells<'a> {
-    ghost use Rattle.std.specs.Prelude.{length};
+    ghost use Rattle.std.specs.Prelude.{◌≡◌, ◌≤◌, length};
+    ghost use Rattle.cell_choice.specs.Numbers.{uses_by};
+    ghost use Rattle.cell_choice.specs.Shapes.{cell_shapes};
     ghost use Rattle.cell_search.specs.Full.{HaveVariables};
     ghost use Rattle.cell_search.specs.Positions.{BoardPosition};
     ghost use Rattle.cell_search.specs.SearchCodes.{coded_position};
     ghost use Rattle.cell_search.specs.Searchable.{HasAllCells};
-    ghost use Rattle.cell_search.specs.Losses.{IsBoard};
+    ghost use Rattle.cell_search.specs.Losses.{IsBoard, decided_in};
+    ghost use Rattle.mace_cells.specs.World.{many_cells};
     ghost use Rattle.model_tables.specs.Size.{AllBelow};
 
     ghost Value = { BoardPosition };
@@ -56,6 +66,10 @@ impl<'a> Model for Cells<'a> {
       searchable : HasAllCells a.setup;
       room : HaveVariables a.setup.clauses (length a.env.items);
       env : AllBelow a.setup.size a.env.items;
+      shapes : a.shapes.items ≡ cell_shapes a.setup.size a.setup.blocks;
+      uses : a.uses.list ≡ uses_by a.setup.fixed (decided_in a.setup a.trail.entries);
+      stack : a.uses.room ≡ many_cells a.setup;
+      small : a.setup.size ≤ 255;
     } };
 }
 
@@ -65,19 +79,28 @@ impl<'a> Cells<'a> {
     pub fn new(
         alloc: Global,
         setup: Setup<'a>,
+        shapes: Vec<Shape>,
         walks: Vec<Walk<'a>>,
         groups: Vec<Group<'a>>,
     ) -> Result<Cells<'a>, AllocError>
-        requires { HasAllCells setup }
+        requires searchable { HasAllCells setup }
+        requires small { setup.size ≤ 255 }
+        requires shapes { shapes.items ≡ cell_shapes setup.size setup.blocks }
         ensures { IfOk result (λ b. b ≡ position setup.entry
-            (partial (many_cells setup.entry) (max setup.entry.size 2) [] [])) }
+            (partial (many_cells setup.entry) (max setup.entry.size 2)
+            (ranking_of setup.entry) [] [])) }
     {
-        let trail = Trail::new(alloc, setup.cells(), setup.size().max(2))?;
+        let cells = setup.cells() as usize;
+        let indices = indices(alloc, &shapes)?;
+        let trail = Trail::new(alloc, setup.size().max(2), indices, setup.way().measure)?;
+        let uses = Stack::new(alloc, cells, 0)?;
         let room = room(&setup)?;
         let env = zeros(alloc, room)?;
         Ok(Cells {
             setup,
+            shapes,
             trail,
+            uses,
             walks,
             groups,
             env,
@@ -92,6 +115,48 @@ impl<'a> Cells<'a> {
             ≡ tables_over symbols.now (finite_of self.now.world self.now.table.entries)) }
     {
         finite(alloc, &self.setup, &self.trail, symbols)
+    }
+
+    /// Each decision is one of a cell that had no value, and two left.
+    pub fn decides_open(&self)
+        ensures fresh { AreFresh self.now.world self.now.table.entries }
+        ensures two { HadTwoLeft self.now.world self.now.table.stride self.now.table.entries
+            self.now.table.crossings }
+    {
+        let _setup = &self.setup;
+    }
+
+    // The least number above those in use.
+    fn in_use(&self) -> u32
+        ensures { result ≡ above_used self.now.world.fixed
+            (decided_in self.now.world self.now.table.entries) }
+    {
+        match self.uses.top() {
+            Some(used) => used,
+            None => self.setup.fixed() as u32,
+        }
+    }
+
+    // Up to which value a cell is tried.
+    fn tried_to(&self, cell: u32) -> u8
+        requires { cell < many_cells self.now.world }
+        ensures tried { result ≡ greatest_tried self.now.world
+            (decided_in self.now.world self.now.table.entries) (cell_of self.now.world cell) }
+        ensures bound { IsBound self.now.world
+            (decided_in self.now.world self.now.table.entries)
+            (cell_of self.now.world cell) result }
+        ensures fits { result < max self.now.world.size 2 }
+    {
+        let bound = self.setup.bound(cell);
+        let shape = self.shapes[cell as usize];
+        let least_numbers = self.setup.way().least_numbers;
+        greatest_tried(
+            least_numbers,
+            self.setup.size(),
+            bound,
+            self.in_use(),
+            shape,
+        ) as u8
     }
 
     // Gives the cells of one value that one, and goes over all instances, at the beginning.
@@ -142,10 +207,15 @@ impl<'a> Cells<'a> {
             → value_in self.new.table.entries cell ≡ None }
         ensures left { (cell : ℕ) → result ≡ Status.Choose cell → HasTwoLeft self.new.table cell
             (bound_of self.new.world.size (cell_of self.new.world cell).kind) }
+        ensures picked { (cell : ℕ) → result ≡ Status.Choose cell
+            → IsPicked (index_in self.new.world) self.new.table self.new.world.way
+            (above_used self.new.world.fixed
+            (decided_in self.new.world self.new.table.entries)) cell }
         ensures full { result ≡ Status.Settled
             → AreTablesFor self.new.world (finite_of self.new.world self.new.table.entries) }
     {
-        match fullness(&self.setup, &mut self.trail) {
+        let used = self.in_use();
+        match fullness(&self.setup, &mut self.trail, used) {
             Filled::Open(cell) => Status::Choose(cell),
             Filled::Amiss => Status::Refuted,
             Filled::Full => {
@@ -185,7 +255,9 @@ fn least(trail: &Trail, cell: u32, from: u32, most: u8) -> Option<u8>
 impl<'a> Board for Cells<'a> {
     ghost use Rattle.cell_search.specs.Finites.{finite_of, meaning_by_cells, AreTablesFor};
     ghost use Rattle.cell_search.specs.Losses.{decided_in};
-    ghost use Rattle.mace_cells.specs.Trails.{value_in};
+    ghost use Rattle.mace_cells.specs.Trails.{HasTwoLeft, value_in};
+    ghost use Rattle.mace_cells.specs.World.{cell_of};
+    ghost use Rattle.model_tables.specs.Size.{bound_of};
     ghost use Rattle.std.specs.Prelude.{◌≡◌, None};
 
     ghost world = { λ b. b.world };
@@ -194,7 +266,8 @@ impl<'a> Board for Cells<'a> {
 
     ghost found = { λ b. meaning_by_cells b.world b.table.entries };
 
-    ghost is_open = { λ b k. value_in b.table.entries k ≡ None };
+    ghost is_open = { λ b k. (value_in b.table.entries k ≡ None)
+        × HasTwoLeft b.table k (bound_of b.world.size (cell_of b.world k).kind) };
 
     ghost is_full = { λ b. AreTablesFor b.world (finite_of b.world b.table.entries) };
 
@@ -209,7 +282,7 @@ impl<'a> Board for Cells<'a> {
     }
 
     fn most(&self, cell: u32) -> u8 {
-        (self.setup.bound(cell) - 1) as u8
+        self.tried_to(cell)
     }
 
     fn next_value(&self, cell: u32, from: u32, most: u8) -> Option<u8> {
@@ -217,11 +290,15 @@ impl<'a> Board for Cells<'a> {
     }
 
     fn decide(&mut self, cell: u32, value: u8) {
+        let shape = self.shapes[cell as usize];
+        let used = above_decision(self.in_use(), shape, value);
+        self.uses.push(used);
         self.trail.assign(cell, value, true);
     }
 
     fn undo(&mut self) {
         self.trail.undo();
+        self.uses.pop();
         self.head = self.trail.len();
     }
 }

@@ -1,5 +1,5 @@
 // Values that are given to cells, or crossed off them, since clauses ask for it.
-ghost use Rattle.std.specs.Prelude.{ℕ, ◌≡◌, ◌<◌, ◌≤◌, ◌^◌, ◌⊎◌, true, false, None, Some};
+ghost use Rattle.std.specs.Prelude.{ℕ, ◌≡◌, ◌+◌, ◌<◌, ◌≤◌, ◌^◌, ◌⊎◌, length, true, false, None, Some};
 ghost use Rattle.cell_search.specs.Asking.{IsDue, IsOnly, IsNone, IsRest, IsWellLeft, KeepsValues, IsGivenSingle};
 ghost use Rattle.cell_search.specs.Losses.{IsBoard, decided_in};
 ghost use Rattle.mace_cells.specs.Trails.{value_in};
@@ -50,6 +50,8 @@ pub fn settle(setup: &Setup, trail: &mut Trail, cell: u32, value: u32) -> bool
     ensures decided { decided_in setup.now trail.new.entries
         ≡ decided_in setup.now trail.old.entries }
     ensures given { result ≡ true → value_in trail.new.entries cell ≡ Some value }
+    ensures more { result ≡ true
+        → length trail.new.entries ≡ length trail.old.entries + 1 }
     ensures kept { KeepsValues trail.old.entries trail.new.entries }
     ensures refuted { result ≡ false
         → IsRefuted setup.now (decided_in setup.now trail.old.entries) }

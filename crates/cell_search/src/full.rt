@@ -1,18 +1,22 @@
 // Tables that give each cell a value, and whether they make the clauses true.
 ghost use Rattle.std.specs.Prelude.{◌≡◌, ◌<◌, ◌≤◌, ℕ, IfOk, IsTrue, MatchBool, length, map};
-ghost use Rattle.cell_search.specs.Full.{IsFull, IsFilledAs, NoneIsTrue, IsDueClause, IsTrueFrom, HasNoSolution, MakesTrue, HaveVariables};
+ghost use Rattle.cell_choice.specs.Choosing.{IsPicked};
+ghost use Rattle.cell_choice.specs.Shapes.{index_in};
+ghost use Rattle.mace_cells.specs.Trails.{IsBlank};
+ghost use Rattle.cell_search.specs.Full.{HasProperValue, IsFull, IsFilledAs, NoneIsTrue, IsDueClause, IsTrueFrom, HasNoSolution, MakesTrue, HaveVariables};
 ghost use Rattle.cell_search.specs.Searchable.{HasAllCells};
 ghost use Rattle.cell_search.specs.Losses.{IsBoard, Extends, decided_in};
 ghost use Rattle.fol_core.specs.ClauseView.{literal_of};
 ghost use Rattle.fol_core.specs.Literals.{is_true_clause};
 ghost use Rattle.fol_core.specs.Meaning.{Meaning};
-ghost use Rattle.mace_cells.specs.World.{many_cells};
+ghost use Rattle.mace_cells.specs.World.{many_cells, IsRefuted};
 ghost use Rattle.mace_ground.specs.Instances.{assigned_by, variables_in};
 ghost use Rattle.model_tables.specs.Size.{AllBelow};
 
 use crate::closing::{Rest, left, settle};
 use crate::literals::truth;
 use crate::setup::Setup;
+use cell_choice::pick;
 use fol_core::Literal;
 use mace_cells::Trail;
 use mace_ground::variables_in;
@@ -26,34 +30,64 @@ pub enum Filled {
     Full,
 }
 
-/// Whether each cell has a value that it can have; else the first that has none, and two left. One that has one left gets it.
-pub fn fullness(setup: &Setup, trail: &mut Trail) -> Filled
+/// Whether each cell has a value that it can have; else the one of those that have none, and two left, that is to be chosen. One
+/// that would be chosen and has one left gets it.
+pub fn fullness(setup: &Setup, trail: &mut Trail, used: u32) -> Filled
     requires { IsBoard setup.now trail.old }
     ensures board { IsBoard setup.now trail.new }
     ensures decided { decided_in setup.now trail.new.entries
         ≡ decided_in setup.now trail.old.entries }
     ensures filled { IsFilledAs setup.now trail.new result }
+    ensures picked { (cell : ℕ) → result ≡ Filled.Open cell
+        → IsPicked (index_in setup.now) trail.new setup.now.way used cell }
 {
-    for cell in 0..setup.cells() {
-        let end = setup.bound(cell);
-        match trail.value(cell) {
-            Some(value) => {
-                if u32::from(value) >= end {
+    while let Some(cell) = pick(trail, setup.way(), used) {
+        let _value = trail.value(cell);
+        match left(trail, cell, setup.bound(cell)) {
+            Rest::Nothing => return Filled::Amiss,
+            Rest::One(value) => {
+                if !settle(setup, trail, cell, value) {
                     return Filled::Amiss;
                 }
+                let _steps = trail.len();
             }
-            None => match left(trail, cell, end) {
-                Rest::Nothing => return Filled::Amiss,
-                Rest::One(value) => {
-                    if !settle(setup, trail, cell, value) {
-                        return Filled::Amiss;
-                    }
-                }
-                Rest::Several => return Filled::Open(cell),
-            },
+            Rest::Several => return Filled::Open(cell),
         }
     }
-    Filled::Full
+    if have_proper_values(setup, trail) {
+        Filled::Full
+    } else {
+        Filled::Amiss
+    }
+}
+
+// Whether each cell, of which none is without a value, has one that it can have.
+fn have_proper_values(setup: &Setup, trail: &Trail) -> bool
+    requires board { IsBoard setup.now trail.now }
+    requires valued { (k : ℕ) → IsBlank trail.now k → ⊥ }
+    ensures { MatchBool result (IsFull setup.now trail.now.entries)
+        (IsRefuted setup.now (decided_in setup.now trail.now.entries)) }
+{
+    for cell in 0..setup.cells() {
+        if !has_proper_value(setup, trail, cell) {
+            return false;
+        }
+    }
+    true
+}
+
+// Whether the value of a cell is one that it can have.
+fn has_proper_value(setup: &Setup, trail: &Trail, cell: u32) -> bool
+    requires board { IsBoard setup.now trail.now }
+    requires cell { cell < many_cells setup.now }
+    requires valued { IsBlank trail.now cell → ⊥ }
+    ensures { MatchBool result (HasProperValue setup.now trail.now.entries cell)
+        (IsRefuted setup.now (decided_in setup.now trail.now.entries)) }
+{
+    match trail.value(cell) {
+        None => false,
+        Some(value) => u32::from(value) < setup.bound(cell),
+    }
 }
 
 // Whether a literal is known to be true.

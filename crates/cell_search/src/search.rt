@@ -1,7 +1,7 @@
 // The search for the models of a size, cell by cell.
 ghost use Rattle.std.specs.Prelude.{◌≡◌, ℕ, ◌≤◌, [], true, false, None, Some, IfOk};
-ghost use Rattle.cell_search.specs.Courses.{world_of, above_numeral, IsSameCourse, AnswersByCells, follows_after};
-ghost use Rattle.cell_search.specs.Finites.{finite_of, tables_over};
+ghost use Rattle.cell_search.specs.Courses.{world_of, above_numeral, beginning, IsSameCourse, ChoseOpen, AnswersByCells, follows_after};
+ghost use Rattle.cell_search.specs.Finites.{tables_over};
 ghost use Rattle.cell_search.specs.Searchable.{HasAllCells};
 ghost use Rattle.mace_cells.specs.Readings.{GoesInTime};
 ghost use Rattle.mace_ground.specs.Count.{ground_count};
@@ -12,9 +12,10 @@ ghost use Rattle.model_tables.specs.declared.limits.TheConstants.{MOST_CELLS};
 use crate::cells::Cells;
 use crate::setup::Setup;
 use crate::walks::{groups, walks};
+use cell_choice::shapes;
 use fol_core::{Clauses, Symbols};
 use ladr_io::Clock;
-use mace_cells::{Board, Frame, Stack, next_model};
+use mace_cells::{Board, Frame, Stack, Way, next_model};
 use mace_ground::Ground;
 use mace_search::Answer;
 use model_tables::Tables;
@@ -77,6 +78,7 @@ impl<'a> Model for CellSearch<'a> {
       world = a.cells.world;
       live = live_in a.state;
       choices = choices_of a.cells.world a.frames.list;
+      table = a.cells.table;
       tables = finite_of a.cells.world a.cells.table.entries;
       stop = a.stop;
       late = late_in a.state;
@@ -89,29 +91,25 @@ impl<'a> Model for CellSearch<'a> {
 }
 
 impl<'a> CellSearch<'a> {
-    /// A search for models of `size` elements, at most 255, which stops at a reading of the clock from `stop` on. All tables are
+    /// A search for models of `size` elements, at most 255, which chooses cells in this way and stops at a reading of the clock from `stop` on. All tables are
     /// ahead. It takes all the memory that it will need.
     pub fn new(
         alloc: Global,
         clauses: &'a Clauses,
         symbols: &Symbols,
         size: u32,
+        way: Way,
         stop: Option<u128>,
     ) -> Result<CellSearch<'a>, AllocError>
         requires size { size ≤ 255 }
         requires count { ground_count size symbols.now clauses.now ≤ MOST_CELLS }
-        requires searchable { HasAllCells (world_of symbols.now clauses.now size) }
-        ensures { IfOk result (λ s. s ≡ record {
-          world = world_of symbols.now clauses.now size;
-          live = true;
-          choices = [];
-          tables = finite_of (world_of symbols.now clauses.now size) [];
-          stop = stop;
-          late = None;
-        }) }
+        requires searchable { HasAllCells (world_of symbols.now clauses.now size way) }
+        ensures { IfOk result (λ s. s
+            ≡ beginning (world_of symbols.now clauses.now size way) stop) }
     {
         let ground = Ground::build(alloc, clauses, symbols, size)?;
-        let setup = Setup::new(alloc, ground, above_numeral(clauses.numeral))?;
+        let shapes = shapes(alloc, &ground)?;
+        let setup = Setup::new(alloc, ground, above_numeral(clauses.numeral), way)?;
         let blank = Frame {
             cell: 0,
             value: 0,
@@ -120,7 +118,7 @@ impl<'a> CellSearch<'a> {
         let frames = Stack::new(alloc, setup.cells() as usize, blank)?;
         let groups = groups(alloc, &setup, &clauses.clauses)?;
         let walks = walks(alloc, &clauses.clauses)?;
-        let cells = Cells::new(alloc, setup, walks, groups)?;
+        let cells = Cells::new(alloc, setup, shapes, walks, groups)?;
         Ok(CellSearch {
             cells,
             frames,
@@ -145,6 +143,7 @@ impl<'a> CellSearch<'a> {
             self.new.choices (C.times clock.old) (C.times clock.new) }
         ensures gives { self.old.late ≡ None
             → AnswersByCells self.old self.new result (C.times clock.new) }
+        ensures chosen { ChoseOpen self.new }
         // An answer that ends the search comes again, with no reading.
         ensures over { self.old.late ≡ None → self.old.live ≡ false → self.old.choices ≡ []
             → (result ≡ Exhausted) × (self.new ≡ self.old) × (C.times clock.new
@@ -152,6 +151,7 @@ impl<'a> CellSearch<'a> {
         ensures again { (last : ℕ) → self.old.late ≡ Some last → (result ≡ MaxSeconds last)
             × (self.new ≡ self.old) × (C.times clock.new ≡ C.times clock.old) }
     {
+        self.cells.decides_open();
         match self.state {
             State::Following => self.go(true, clock),
             State::Found => self.go(false, clock),
@@ -169,8 +169,10 @@ impl<'a> CellSearch<'a> {
         ensures clock { GoesInTime self.old.world self.old.stop self.old.live self.old.choices
             result self.new.choices (C.times clock.old) (C.times clock.new) }
         ensures gives { AnswersByCells self.old self.new result (C.times clock.new) }
+        ensures chosen { ChoseOpen self.new }
     {
         let answer = next_model(&mut self.cells, &mut self.frames, live, self.stop, clock);
+        self.cells.decides_open();
         self.state = follows_after(answer, self.frames.len());
         answer
     }

@@ -8,16 +8,18 @@ ghost use Rattle.mace_ground.specs.Cells.{found};
 ghost use Rattle.mace_ground.specs.Spans.{span_of};
 
 use fol_core::{Clause, Sym};
+use mace_cells::Way;
 use mace_ground::{Block, Ground, Span, power};
 use model_tables::bound;
 use std::alloc::{AllocError, Global};
 use std::marker::Model;
 
-/// The ground instances of clauses, and the number below which the elements keep their names.
+/// The ground instances of clauses, the number below which the elements keep their names, and how cells are chosen.
 #[derive(Drop)]
 pub struct Setup<'a> {
     ground: Ground<'a>,
     fixed: u64,
+    way: Way,
     // What the values of each cell are below.
     bounds: Vec<u8>,
 }
@@ -37,6 +39,7 @@ impl<'a> Model for Setup<'a> {
       fixed = a.fixed;
       clauses = a.ground.clauses;
       blocks = a.ground.blocks;
+      way = a.way;
     } };
 
     ghost invariant = { λ a. record {
@@ -47,7 +50,12 @@ impl<'a> Model for Setup<'a> {
 
 impl<'a> Setup<'a> {
     /// What a search is about, where there is an element, and no more of them than a byte can tell apart.
-    pub fn new(alloc: Global, ground: Ground<'a>, fixed: u64) -> Result<Setup<'a>, AllocError>
+    pub fn new(
+        alloc: Global,
+        ground: Ground<'a>,
+        fixed: u64,
+        way: Way,
+    ) -> Result<Setup<'a>, AllocError>
         requires some { 0 < ground.size }
         requires small { ground.size ≤ 255 }
         ensures { IfOk result (λ s. s ≡ record {
@@ -55,12 +63,14 @@ impl<'a> Setup<'a> {
           fixed = fixed;
           clauses = ground.entry.clauses;
           blocks = ground.entry.blocks;
+          way = way;
         }) }
     {
         let bounds = bounds(alloc, &ground)?;
         Ok(Setup {
             ground,
             fixed,
+            way,
             bounds,
         })
     }
@@ -71,6 +81,20 @@ impl<'a> Setup<'a> {
         ensures some { 0 < self.now.size }
     {
         self.ground.size()
+    }
+
+    /// The number below which the elements keep their names.
+    pub fn fixed(&self) -> u64
+        ensures { result ≡ self.now.fixed }
+    {
+        self.fixed
+    }
+
+    /// How cells are chosen.
+    pub fn way(&self) -> Way
+        ensures { result ≡ self.now.way }
+    {
+        self.way
     }
 
     /// How many cells there are.

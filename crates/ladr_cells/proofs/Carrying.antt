@@ -26,6 +26,7 @@ use Rattle.ladr_cells.proofs.Listed.{occurring_apart, entry_of, listed_below, fu
 use Rattle.ladr_cells.specs.Worlds.{world_for}
 use Rattle.mace_cells.specs.Solutions.{IsCarried}
 use Rattle.mace_cells.specs.World.{World, Solves, AreAlike}
+use Rattle.mace_cells.specs.declared.way.Way.{Way}
 use Rattle.mace_ground.proofs.Numbering.{by_number}
 use Rattle.mace_ground.specs.Cells.{Block, Cell, cell, found, value_at, value_of_kind}
 use Rattle.model_tables.proofs.Expanding.{same_top, kept_row}
@@ -67,7 +68,7 @@ all_renamed : (n : ℕ) (r : ℕ → ℕ) → ((x : ℕ) → x < n → r x < n) 
 all_renamed n r f [] h = tt
 all_renamed n r f (x ∷ xs) h = (f x h.0, all_renamed n r f xs h.1)
 
-module _ (p : Stated) (n : ℕ) (some : 0 < n) (stand : StandBehind p) (new : AreNewTo p.formulas (axioms_in_table p.symbols p)) where
+module _ (p : Stated) (n : ℕ) (way : Way) (some : 0 < n) (stand : StandBehind p) (new : AreNewTo p.formulas (axioms_in_table p.symbols p)) where
   abbrev table : List Symbol
   table = with_skolems p.symbols p
 
@@ -78,7 +79,7 @@ module _ (p : Stated) (n : ℕ) (some : 0 < n) (stand : StandBehind p) (new : Ar
   all = used_symbols p.symbols p.formulas ++ map (λ w. w.symbol) witnesses
 
   abbrev w : World
-  w = world_for p n
+  w = world_for p n way
 
   -- a symbol of the formulas has a block of its kind and arity
   own_block : (s : ℕ) → s < length p.symbols → occurs_in s (formulas_of p) ≡ true

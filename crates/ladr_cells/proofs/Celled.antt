@@ -7,13 +7,14 @@ use Rattle.std.proofs.lemmas.Bool.{or_cases, or_left, or_right, eqb-true, eq-eqb
 use Rattle.std.proofs.lemmas.Bool.Decides.{nat_tests}
 use Rattle.std.proofs.lemmas.List.Folds.{list_any-append}
 use Rattle.std.proofs.lemmas.Option.{slice_get_within}
+use Rattle.cell_choice.specs.Numbers.{NamesBelow}
 use Rattle.cell_search.specs.Searchable.{count_of, HasCells, IsOfCells, AreOfCells, IsEquationOfCells, IsAtomOfCells, IsClauseOfCells, HasAllCells}
 use Rattle.clausify.specs.Behind.{AreFor, StandBehind, SkolemsStandBehind}
 use Rattle.clausify.specs.Input.{formulas, is_used, numbers_passing, used_symbols, skolems, skolem_numbers, with_skolems, axioms_in_table}
 use Rattle.fol_core.specs.Bound.{IsOnce, uses_symbol}
 use Rattle.fol_core.specs.Free.{is_in}
 use Rattle.fol_core.specs.Literals.{ClauseTree, equality}
-use Rattle.fol_core.specs.Occurs.{occurs_in, size_needed}
+use Rattle.fol_core.specs.Occurs.{occurs_in, size_needed, above_elements, above_all_elements}
 use Rattle.fol_core.specs.SkolemAxioms.{SkolemAxiom}
 use Rattle.fol_core.specs.Stated.{Said, Stated}
 use Rattle.fol_core.specs.SymbolTable.{Symbol, symbol, kind_at, arity_at}
@@ -22,6 +23,7 @@ use Rattle.fol_core.specs.declared.symbols.Kind.{Kind}
 use Rattle.fol_core.specs.declared.symbols.Kind.TheVariants.{Function, Relation}
 use Rattle.fol_core.proofs.Places.{slice_get_more}
 use Rattle.mace_cells.specs.World.{World}
+use Rattle.mace_cells.specs.declared.way.Way.{Way}
 use Rattle.mace_ground.specs.Cells.{Block, blocks_of, found_from}
 use Rattle.ladr_cells.specs.Fitting.{IsUseOf, FitsTable}
 use Rattle.ladr_cells.specs.Uses.{Use, applies, mentions, IsTermOf, AreTermsOf, IsFormulaOf}
@@ -65,6 +67,46 @@ module _ (w : World) where
   clause_of_cells : (c : ClauseTree) → IsClauseOf (IsCelled w) c → IsClauseOfCells w c
   clause_of_cells [] h = tt
   clause_of_cells (l ∷ c) h = (atom_of_cells l.atom h.0, clause_of_cells c h.1)
+
+-- the name of an element below k, or a use of a function or a relation, which isn't equality
+abbrev IsNamed : ℕ → Use → Type 0
+IsNamed k (applies Function s n) = Unit {0}
+IsNamed k (applies Relation s n) = (s == equality) ≡ false
+IsNamed k (mentions j) = j < k
+
+module _ (k : ℕ) where
+  mutual
+    term_named : (t : Tree) → IsTermOf (IsNamed k) t → above_elements t ≤ k
+    term_named (var x) h = omega arith
+    term_named (elem j) h = omega (arith, h)
+    term_named (app s ts) h = terms_named ts h.1
+
+    terms_named : (ts : Trees) → AreTermsOf (IsNamed k) ts → above_all_elements ts ≤ k
+    terms_named none h = omega arith
+    terms_named (more t ts) h = omega (arith, term_named t h.0, terms_named ts h.1)
+
+  sides_named : (ts : Trees) → IsEquationOf (IsNamed k) ts → above_all_elements ts ≤ k
+  sides_named none h = absurd h
+  sides_named (more s none) h = absurd h
+  sides_named (more s (more t none)) h = omega (arith, term_named s h.0, term_named t h.1)
+  sides_named (more s (more t (more u ts))) h = absurd h
+
+  atom_named : (t : Tree) → IsAtomOf (IsNamed k) t → above_elements t ≤ k
+  atom_named (var x) h = absurd h
+  atom_named (elem j) h = absurd h
+  atom_named (app r ts) h = by (r == equality) h
+    where
+      by : (b : Bool) → MatchBool b (IsEquationOf (IsNamed k) ts) (IsNamed k (applies Relation r (count_of ts)) × AreTermsOf (IsNamed k) ts) → above_all_elements ts ≤ k
+      by true h = sides_named ts h
+      by false h = terms_named ts h.1
+
+  clause_named : (c : ClauseTree) → IsClauseOf (IsNamed k) c → NamesBelow k c
+  clause_named [] h = tt
+  clause_named (l ∷ c) h = (atom_named l.atom h.0, clause_named c h.1)
+
+  skolems_named : (ws : List SkolemAxiom) → AllByRecursion (IsSkolemUse (IsNamed k)) ws
+  skolems_named [] = tt
+  skolems_named (w ∷ ws) = (tt, skolems_named ws)
 
 -- the block of a symbol is found among those of some symbols
 abbrev pub block_in : List Symbol → ℕ → Block
@@ -175,7 +217,7 @@ among Q ss (w ∷ ws) f h =
     let symbols = map (λ (w : SkolemAxiom). w.symbol) ws in
     ((h.0, f w.symbol (or_left (w.symbol == w.symbol) (is_in w.symbol symbols) (eq-eqb w.symbol w.symbol refl))), among Q ss ws (λ x i. f x (or_right (x == w.symbol) (is_in x symbols) i)) h.1)
 
-module _ (p : Stated) (n : ℕ) (fits : FitsTable p) (some : 0 < n) (needed : size_needed (formulas p.formulas) ≤ n) (few : length p.symbols ≤ equality) (stand : StandBehind p) where
+module _ (p : Stated) (n : ℕ) (way : Way) (fits : FitsTable p) (some : 0 < n) (needed : size_needed (formulas p.formulas) ≤ n) (few : length p.symbols ≤ equality) (stand : StandBehind p) where
   abbrev table : List Symbol
   table = with_skolems p.symbols p
 
@@ -189,7 +231,7 @@ module _ (p : Stated) (n : ℕ) (fits : FitsTable p) (some : 0 < n) (needed : si
   all = own ++ map (λ w. w.symbol) witnesses
 
   abbrev w : World
-  w = world_for p n
+  w = world_for p n way
 
   rising : Rises 0 all (length p.symbols + length witnesses)
   rising = rises_on 0 (length p.symbols) (length p.symbols + length witnesses) own (map (λ w. w.symbol) witnesses)
@@ -226,6 +268,19 @@ module _ (p : Stated) (n : ℕ) (fits : FitsTable p) (some : 0 < n) (needed : si
     formulas_celled ss (λ s e. used s (or_right (uses_symbol s x.formula) (occurs_in s (formulas ss)) e)) (omega (arith, below)) h.1,
   )
 
+  use_named : (kind : Kind) (s arity : ℕ) → IsUseOf p.symbols (applies kind s arity) → IsNamed w.fixed (applies kind s arity)
+  use_named Function s arity u = tt
+  use_named Relation s arity u =
+      let within = slice_get_within p.symbols s (symbol u.0 arity Relation) u.1 in
+      false_from_ne_true (s == equality) (λ e. absurd (omega (arith, eqb-true s equality e, within, few)))
+
+  formulas_named : (ss : List Said) → size_needed (formulas ss) ≤ w.fixed → AllByRecursion (λ s. IsFormulaOf (IsUseOf p.symbols) s.formula) ss → AllByRecursion (λ s. IsFormulaOf (IsNamed w.fixed) s.formula) ss
+  formulas_named [] below h = tt
+  formulas_named (x ∷ ss) below h = (
+    formula_weaker (IsUseOf p.symbols) (IsNamed w.fixed) x.formula (λ kind s m e u. use_named kind s m u) (λ k l u. omega (arith, l, below)) h.0,
+    formulas_named ss (omega (arith, below)) h.1,
+  )
+
   witnesses_celled : AllByRecursion (IsSkolemUse (IsCelled w)) witnesses
   witnesses_celled =
       let stands = subst (λ (t : List Symbol). AllByRecursion (StandsAs t) witnesses) (sym stand.table) (skolems_stand p.symbols (skolems p.symbols p.formulas) witnesses stand.witnesses) in
@@ -239,11 +294,14 @@ module _ (p : Stated) (n : ℕ) (fits : FitsTable p) (some : 0 < n) (needed : si
   has_all_cells : HasAllCells w
   has_all_cells = record {
     some = some;
+    fits = needed;
     once = subst IsOnce (sym (symbols_back table all)) (rises_once 0 (length p.symbols + length witnesses) all rising);
     clauses = all_weaker (IsClauseOf (IsCelled w)) (IsClauseOfCells w) (clause_of_cells w) (clauses_for p)
         (rows_fit (IsCelled w) relation_apart (skolem_numbers p.symbols p) 1 0 p.formulas (formulas_celled p.formulas (λ s e. e) needed fits) witnesses_celled);
+    named = all_weaker (IsClauseOf (IsNamed w.fixed)) (NamesBelow w.fixed) (clause_named w.fixed) (clauses_for p)
+        (rows_fit (IsNamed w.fixed) (λ r m h. h) (skolem_numbers p.symbols p) 1 0 p.formulas (formulas_named p.formulas (omega arith) fits) (skolems_named w.fixed witnesses));
   }
 
-pub cells_for_all : SkolemsStandBehind → (p : Stated) (n : ℕ) → FitsTable p → 0 < n → size_needed (formulas p.formulas) ≤ n → length p.symbols ≤ equality
-    → length (axioms_in_table p.symbols p) ≤ equality → HasAllCells (world_for p n)
-cells_for_all stand p n fits some needed few fewer = has_all_cells p n fits some needed few (stand p few fewer)
+pub cells_for_all : SkolemsStandBehind → (p : Stated) (n : ℕ) (way : Way) → FitsTable p → 0 < n → size_needed (formulas p.formulas) ≤ n → length p.symbols ≤ equality
+    → length (axioms_in_table p.symbols p) ≤ equality → HasAllCells (world_for p n way)
+cells_for_all stand p n way fits some needed few fewer = has_all_cells p n way fits some needed few (stand p few fewer)

@@ -12,20 +12,21 @@ use Rattle.ladr_cells.specs.Worlds.{world_for}
 use Rattle.mace_cells.specs.World.{Solves}
 use Rattle.mace_search.specs.Models.{IsModel}
 use Rattle.model_tables.proofs.Decided.{some_expansion}
+use Rattle.mace_cells.specs.declared.way.Way.{Way}
 use Rattle.model_tables.proofs.Expanding.{same_top, kept_countermodel, expansion_picks}
 use Rattle.model_tables.specs.Expansion.{IsExpansion}
 use Rattle.model_tables.specs.Tables.{Finite, meaning_of}
 use Rattle.model_tables.specs.TablesLaws.{tables_lawful}
 
-module _ (p : Stated) (n : ℕ) (well_formed : IsWellFormed p) (few : length p.symbols ≤ equality) where
+module _ (p : Stated) (n : ℕ) (way : Way) (well_formed : IsWellFormed p) (few : length p.symbols ≤ equality) where
   -- each assumption is true and each goal false
-  pub solution_says : ((m : Meaning) → IsLawful m → ClausesSuffice m) → (m : Meaning) → Solves (world_for p n) m → IsCountermodel m p.formulas
+  pub solution_says : ((m : Meaning) → IsLawful m → ClausesSuffice m) → (m : Meaning) → Solves (world_for p n way) m → IsCountermodel m p.formulas
   solution_says suffice m solves = suffice m solves.lawful (skolem_numbers p.symbols p) p.formulas (sound_below (length p.symbols) equality p.formulas few well_formed) solves.holds
 
   -- a model of the problem's symbols has an expansion that is a solution
   pub model_solves :
       ((m : Meaning) → IsLawful m → ClausesFollow m) → AreInOrder (axioms_in_table p.symbols p) → AreNewTo p.formulas (axioms_in_table p.symbols p)
-      → (t : Finite) → IsModel p n t → (e : Finite) × (IsExpansion t (axioms_in_table p.symbols p) e × Solves (world_for p n) (meaning_of e))
+      → (t : Finite) → IsModel p n t → (e : Finite) × (IsExpansion t (axioms_in_table p.symbols p) e × Solves (world_for p n way) (meaning_of e))
   model_solves follow order new t model =
       let ws = axioms_in_table p.symbols p in
       let e = some_expansion t ws in

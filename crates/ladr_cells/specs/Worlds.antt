@@ -7,6 +7,7 @@ use Rattle.fol_core.specs.Occurs.{size_needed}
 use Rattle.fol_core.specs.Stated.{Stated}
 use Rattle.ladr_cells.specs.Fitting.{FitsTable}
 use Rattle.mace_cells.specs.World.{World}
+use Rattle.mace_cells.specs.declared.way.Way.{Way}
 use Rattle.mace_ground.specs.Cells.{Block, blocks_of, cells_in}
 use Rattle.mace_ground.specs.Instances.{ground_literals}
 
@@ -21,13 +22,14 @@ blocks_for p =
     (used_symbols p.symbols p.formulas ++ map (λ w. w.symbol) (axioms_in_table p.symbols p))
 
 -- the search among n elements, of which those keep their names that stand below the least number
--- above all that the formulas name
-abbrev pub world_for : Stated → ℕ → World
-world_for p n = record {
+-- above all that the formulas name, and how it goes
+abbrev pub world_for : Stated → ℕ → Way → World
+world_for p n way = record {
   size = n;
   fixed = size_needed (formulas p.formulas);
   clauses = clauses_for p;
   blocks = blocks_for p;
+  way = way;
 }
 
 -- how many cells and ground literals it has
@@ -38,6 +40,6 @@ ground_size n p = cells_in n (blocks_for p) + ground_literals n (clauses_for p)
 -- size with each element that is named, unless there are more symbols than numbers.
 abbrev pub CellsForAll : Type 0
 CellsForAll =
-    (p : Stated) (n : ℕ) → FitsTable p → 0 < n → size_needed (formulas p.formulas) ≤ n
+    (p : Stated) (n : ℕ) (way : Way) → FitsTable p → 0 < n → size_needed (formulas p.formulas) ≤ n
     → length p.symbols ≤ equality → length (axioms_in_table p.symbols p) ≤ equality
-    → HasAllCells (world_for p n)
+    → HasAllCells (world_for p n way)

@@ -14,6 +14,7 @@ ghost use Rattle.ladr_problem.specs.File.{Says, problem};
 ghost use Rattle.ladr_problem.specs.Sofar.{Sofar, stated_in};
 ghost use Rattle.mace_cells.specs.Solutions.{IsCarried};
 ghost use Rattle.mace_cells.specs.World.{Solves, AreAlike};
+ghost use Rattle.mace_cells.specs.declared.way.Way.{Way};
 ghost use Rattle.mace_search.specs.Models.{IsModel};
 ghost use Rattle.model_tables.specs.Expansion.{IsExpansion};
 ghost use Rattle.model_tables.specs.Isomorphism.{IsIsomorphism};
@@ -38,13 +39,13 @@ pub fn cells_for_all()
 /// The solutions of the clauses in a size are what is stated, and each model of the problem's symbols with values for the Skolem
 /// symbols is one.
 pub fn solutions_are_models()
-    ensures says { (p : Stated) (n : ℕ) → IsWellFormed p → length p.symbols ≤ equality
-        → (m : Meaning) → Solves (world_for p n) m → IsCountermodel m p.formulas }
-    ensures each { (p : Stated) (n : ℕ) → IsWellFormed p → length p.symbols ≤ equality
+    ensures says { (p : Stated) (n : ℕ) (way : Way) → IsWellFormed p → length p.symbols ≤ equality
+        → (m : Meaning) → Solves (world_for p n way) m → IsCountermodel m p.formulas }
+    ensures each { (p : Stated) (n : ℕ) (way : Way) → IsWellFormed p → length p.symbols ≤ equality
         → AreInOrder (axioms_in_table p.symbols p)
         → AreNewTo p.formulas (axioms_in_table p.symbols p) → (t : Finite) → IsModel p n t
         → (e : Finite) × (IsExpansion t (axioms_in_table p.symbols p) e
-        × Solves (world_for p n) (meaning_of e)) }
+        × Solves (world_for p n way) (meaning_of e)) }
 {
     clauses_suffice();
     clauses_follow();
@@ -52,10 +53,10 @@ pub fn solutions_are_models()
 
 /// Tables with the values of an interpretation that is isomorphic to an expanded one are isomorphic to the tables expanded.
 pub fn isomorphisms_are_carried()
-    ensures { (p : Stated) (n : ℕ) → 0 < n → StandBehind p
+    ensures { (p : Stated) (n : ℕ) (way : Way) → 0 < n → StandBehind p
         → AreNewTo p.formulas (axioms_in_table p.symbols p) → (t e u : Finite)
         → IsInterpretation n p t → IsExpansion t (axioms_in_table p.symbols p) e
-        → (m : Meaning) → Solves (world_for p n) m → (r : ℕ → ℕ) → (back : ℕ → ℕ)
-        → IsCarried (world_for p n).fixed r back (meaning_of e) m → AreTablesFor (world_for p n) u
-        → AreAlike (world_for p n) m (meaning_of u) → IsIsomorphism n p r t u }
+        → (m : Meaning) → Solves (world_for p n way) m → (r : ℕ → ℕ) → (back : ℕ → ℕ)
+        → IsCarried (world_for p n way).fixed r back (meaning_of e) m
+        → AreTablesFor (world_for p n way) u → AreAlike (world_for p n way) m (meaning_of u) → IsIsomorphism n p r t u }
 {}

@@ -1,7 +1,6 @@
 -- What a search is about, by the clauses that were made.
-use Rattle.std.proofs.Common.{◌≡◌, ℕ, zero, suc, ◌+◌, true, List, [], ◌∷◌, ◌++◌, map, Option, None, refl, ap, ap₂, ◌∙◌}
-use Rattle.cell_search.specs.Courses.{Course, world_of, above_numeral}
-use Rattle.cell_search.specs.Finites.{finite_of}
+use Rattle.std.proofs.Common.{◌≡◌, ℕ, zero, suc, ◌+◌, List, [], ◌∷◌, ◌++◌, map, refl, ap, ap₂, ◌∙◌}
+use Rattle.cell_search.specs.Courses.{world_of, above_numeral}
 use Rattle.clausify.specs.Input.{before, formulas, numeral_of, used_symbols, clauses_in_table}
 use Rattle.fol_core.specs.EntryView.{skolem_axiom_of}
 use Rattle.fol_core.specs.Literals.{ClauseTree}
@@ -13,14 +12,10 @@ use Rattle.fol_core.specs.declared.clause.Clauses.{Clauses}
 use Rattle.fol_core.specs.declared.clause.Entry.{Entry}
 use Rattle.ladr_cells.specs.Worlds.{clauses_for, blocks_for, world_for, ground_size}
 use Rattle.ladr_mace4.specs.Skolems.{all_symbols, all_axioms}
-use Rattle.mace_cells.specs.World.{World}
+use Rattle.mace_cells.specs.declared.way.Way.{Way}
 use Rattle.mace_ground.specs.Cells.{Block, blocks_of, cells_in}
 use Rattle.mace_ground.specs.Count.{blocks_in, clause_trees, ground_count}
 use Rattle.mace_ground.specs.Instances.{ground_literals}
-
--- where a search begins
-abbrev pub beginning : World → Option ℕ → Course
-beginning w stop = record { world = w; live = true; choices = []; tables = finite_of w []; stop = stop; late = None }
 
 numbers_same : (es : List Entry) → map (λ e. e.symbol.0) es ≡ map (λ w. w.symbol) (map skolem_axiom_of es)
 numbers_same [] = refl
@@ -42,7 +37,7 @@ module _ (p : Stated) (table : List Symbol) (c : Clauses) (n : ℕ) (symbols : t
   pub ground_is : ground_count n table c ≡ ground_size n p
   ground_is = ap₂ (λ (bs : List Block) (cs : List ClauseTree). cells_in n bs + ground_literals n cs) blocks_same clauses_same
 
-  pub world_is : c.numeral ≡ numeral_of p.formulas → world_of table c n ≡ world_for p n
-  world_is numeral =
+  pub world_is : (way : Way) → c.numeral ≡ numeral_of p.formulas → world_of table c n way ≡ world_for p n way
+  world_is way numeral =
       let fixed : above_numeral c.numeral ≡ size_needed (formulas p.formulas) = ap above_numeral numeral ∙ above_before (size_needed (formulas p.formulas)) in
-      λ i. record { size = n; fixed = fixed i; clauses = clauses_same i; blocks = blocks_same i }
+      λ i. record { size = n; fixed = fixed i; clauses = clauses_same i; blocks = blocks_same i; way = way }

@@ -10,7 +10,7 @@ use Rattle.ladr_cells.specs.Worlds.{ground_size}
 use Rattle.ladr_io.specs.Times.{Times}
 use Rattle.ladr_mace4.proofs.Known.{InOrder, AreNew, EachSolves}
 use Rattle.ladr_mace4.proofs.SearchBlocks.{SearchBlock, begins, skips, shows, exhausts, block_text, blocks_text, IsShownAmong, AreGood}
-use Rattle.ladr_mace4.proofs.WholeModels.{model_printable, few_skolems, own_tables}
+use Rattle.ladr_mace4.proofs.WholeModels.{model_printable, few_skolems}
 use Rattle.ladr_mace4.specs.Models.{IsWholeModel}
 use Rattle.ladr_mace4.specs.Plans.{size_behind}
 use Rattle.ladr_mace4.specs.Rooms.{refused_cells}
@@ -130,7 +130,7 @@ module _ (laws : Laws) (p : Stated) (o : Options) (proper : IsProper p o) where
   good_models before n k [] most number room h = tt
   good_models before n k (u ∷ us) most number room h =
       let is = printable n (suc k) u most (omega (arith, number)) room h.0 in (
-        ((own_tables p n u h.0, h.0.says, h.0.holds, laws.back n (suc k) (all_symbols p) u is), is.tellable.named),
+        ((h.0, laws.back n (suc k) (all_symbols p) u is), is.tellable.named),
         good_models (before ++ shows n (suc k) u ∷ []) n (suc k) us most (omega (arith, number)) room h.1,
       )
 

@@ -31,12 +31,12 @@ use Rattle.ladr_output.specs.declared.cut.Cut.{Cut}
 use Rattle.ladr_output.specs.declared.cut.Cut.TheVariants.{WriteFault, Memory}
 use Rattle.mace_cells.proofs.Moving.{goes_nowhere, goes_then, gives_one, none_open}
 use Rattle.mace_cells.proofs.Reading.{reads_none, reads_both}
-use Rattle.mace_cells.specs.Choices.{Choice, MayGoOn}
+use Rattle.mace_cells.specs.Choices.{Choice, decisions, MayGoOn}
 use Rattle.mace_cells.specs.Leaves.{FindsModel, IsOver}
 use Rattle.mace_cells.specs.Moves.{GoesBy}
 use Rattle.mace_cells.specs.Readings.{ReadsOn, GoesInTime}
 use Rattle.mace_cells.specs.Solutions.{IsCarried}
-use Rattle.mace_cells.specs.World.{World, Solves, AreAlike}
+use Rattle.mace_cells.specs.World.{World, Solves, AreAlike, IsSettled}
 use Rattle.mace_search.specs.Models.{IsModel}
 use Rattle.mace_search.specs.Watch.{IsLate}
 use Rattle.mace_search.specs.declared.answer.Answer.TheVariants as answers
@@ -57,26 +57,26 @@ text_more p k (u ∷ ts) t =
     rw e (ap (λ (l : List ℕ). model_text (all_symbols p) (suc k) u ++ l) (text_more p (suc k) ts t) ∙ sym (append_assoc (model_text (all_symbols p) (suc k) u) (models_text p (suc k) ts) _))
 
 -- what is known of a problem in a size
-pub record Facts (p : Stated) (n : ℕ) : Type 0 where
+pub record Facts (p : Stated) (s : Plan) (n : ℕ) : Type 0 where
   pub stand : StandBehind p
-  pub says : (m : Meaning) → Solves (world_for p n) m → IsCountermodel m p.formulas
-  pub each : (t : Finite) → IsModel p n t → (e : Finite) × (IsExpansion t (all_axioms p) e × Solves (world_for p n) (meaning_of e))
-  pub renamed : (t e u : Finite) → IsInterpretation n p t → IsExpansion t (all_axioms p) e → (m : Meaning) → Solves (world_for p n) m → (r back : ℕ → ℕ) → IsCarried (world_for p n).fixed r back (meaning_of e) m
-      → AreTablesFor (world_for p n) u → AreAlike (world_for p n) m (meaning_of u) → IsIsomorphism n p r t u
+  pub says : (m : Meaning) → Solves (world_for p n s.way) m → IsCountermodel m p.formulas
+  pub each : (t : Finite) → IsModel p n t → (e : Finite) × (IsExpansion t (all_axioms p) e × Solves (world_for p n s.way) (meaning_of e))
+  pub renamed : (t e u : Finite) → IsInterpretation n p t → IsExpansion t (all_axioms p) e → (m : Meaning) → Solves (world_for p n s.way) m → (r back : ℕ → ℕ) → IsCarried (world_for p n s.way).fixed r back (meaning_of e) m
+      → AreTablesFor (world_for p n s.way) u → AreAlike (world_for p n s.way) m (meaning_of u) → IsIsomorphism n p r t u
 
 -- what a search for the models of a size found so far, and what was printed of it
-pub record SoFar (p : Stated) (n k : ℕ) (us : List Finite) (search : Course) (printed : ℕ) (a b : Outflow) : Type 0 where
-  pub shown : HasShown (world_for p n) (IsWholeModel p n) us search.live search.choices
+pub record SoFar (p : Stated) (s : Plan) (n k : ℕ) (us : List Finite) (search : Course) (printed : ℕ) (a b : Outflow) : Type 0 where
+  pub shown : HasShown (world_for p n s.way) (IsWholeModel p n) us search.live search.choices
   pub count : printed ≡ k + length us
   pub took : Takes a b (models_text p k us)
-  pub world : search.world ≡ world_for p n
+  pub world : search.world ≡ world_for p n s.way
   pub late : search.late ≡ None
 
 -- nothing is found yet
-pub nothing_yet : (p : Stated) (n k : ℕ) (search : Course) (a : Outflow) → search.world ≡ world_for p n → search.live ≡ true → search.choices ≡ [] → search.late ≡ None → SoFar p n k [] search k a a
-nothing_yet p n k search a e live none late = record {
-  shown = subst (λ (b : Bool). HasShown (world_for p n) (IsWholeModel p n) [] b search.choices) (sym live)
-      (subst (λ (cs : List Choice). HasShown (world_for p n) (IsWholeModel p n) [] true cs) (sym none) (none_shown (world_for p n) (IsWholeModel p n)));
+pub nothing_yet : (p : Stated) (s : Plan) (n k : ℕ) (search : Course) (a : Outflow) → search.world ≡ world_for p n s.way → search.live ≡ true → search.choices ≡ [] → search.late ≡ None → SoFar p s n k [] search k a a
+nothing_yet p s n k search a e live none late = record {
+  shown = subst (λ (b : Bool). HasShown (world_for p n s.way) (IsWholeModel p n) [] b search.choices) (sym live)
+      (subst (λ (cs : List Choice). HasShown (world_for p n s.way) (IsWholeModel p n) [] true cs) (sym none) (none_shown (world_for p n s.way) (IsWholeModel p n)));
   count = omega arith;
   took = Takes-none a;
   world = e;
@@ -114,14 +114,14 @@ gone_before us search choices t u u' h k =
     (all, on.0, on.1)
 
 -- the model is given
-pub given_one : (us : List Finite) (v : Finite) (search : Course) (choices : List Choice) (chosen : ℕ) → GoesBy search.world true [] (length us) chosen true choices → GoesBy search.world true [] (length (us ++ v ∷ [])) chosen false choices
-given_one us v search choices chosen way = goes_then search.world true true false [] choices choices (length us) 1 (length (us ++ v ∷ [])) chosen 0 chosen (many_more us v) (omega arith) way (gives_one search.world choices)
+pub given_one : (us : List Finite) (v : Finite) (search : Course) (choices : List Choice) (m : Meaning) (chosen : ℕ) → IsSettled search.world (decisions choices) m → GoesBy search.world true [] (length us) chosen true choices → GoesBy search.world true [] (length (us ++ v ∷ [])) chosen false choices
+given_one us v search choices m chosen settled way = goes_then search.world true true false [] choices choices (length us) 1 (length (us ++ v ∷ [])) chosen 0 chosen (many_more us v) (omega arith) way (gives_one search.world choices m settled)
 
-pub gone_more : (us : List Finite) (v : Finite) (search search' : Course) (t u u' : Times) → HasGone us search t u → search'.world ≡ search.world → search'.stop ≡ search.stop → search'.live ≡ false
+pub gone_more : (us : List Finite) (v : Finite) (search search' : Course) (m : Meaning) (t u u' : Times) → IsSettled search.world (decisions search'.choices) m → HasGone us search t u → search'.world ≡ search.world → search'.stop ≡ search.stop → search'.live ≡ false
     → GoesInTime search.world search.stop search.live search.choices answers.Model search'.choices u u' → HasGone (us ++ v ∷ []) search' t u'
-gone_more us v search search' t u u' h world same live k =
+gone_more us v search search' m t u u' settled h world same live k =
     let before = gone_before us search search'.choices t u u' h k in
-    let left = given_one us v search search'.choices before.0 before.1 in
+    let left = given_one us v search search'.choices m before.0 settled before.1 in
     record {
       chosen = before.0;
       way = subst (λ (b : Bool). GoesBy search'.world true [] (length (us ++ v ∷ [])) before.0 b search'.choices) (sym live) (subst (λ (w : World). GoesBy w true [] (length (us ++ v ∷ [])) before.0 false search'.choices) (sym world) left);
@@ -150,13 +150,13 @@ where_set None P h = tt
 where_set (Some s) P h = h
 
 -- they are shown
-pub are_shown : (p : Stated) (n : ℕ) (us : List Finite) (live : Bool) (cs : List Choice) → HasShown (world_for p n) (IsWholeModel p n) us live cs → AreShown p n us
-are_shown p n us live cs h = (all_weaker (IsFound (world_for p n) (IsWholeModel p n)) (IsWholeModel p n) (λ u f. f.also) us h.found, h.different)
+pub are_shown : (p : Stated) (s : Plan) (n : ℕ) (us : List Finite) (live : Bool) (cs : List Choice) → HasShown (world_for p n s.way) (IsWholeModel p n) us live cs → AreShown p n us
+are_shown p s n us live cs h = (all_weaker (IsFound (world_for p n s.way) (IsWholeModel p n)) (IsWholeModel p n) (λ u f. f.also) us h.found, h.different)
 
 -- where none is left, each model is one of them, renamed
-pub cover_models : (p : Stated) (n : ℕ) (us : List Finite) (live : Bool) (cs : List Choice) → Facts p n → HasShown (world_for p n) (IsWholeModel p n) us live cs → IsOver (world_for p n) live cs → CoverModels p n us
-cover_models p n us live cs facts shown over t is =
-    let w = world_for p n in
+pub cover_models : (p : Stated) (s : Plan) (n : ℕ) (us : List Finite) (live : Bool) (cs : List Choice) → Facts p s n → HasShown (world_for p n s.way) (IsWholeModel p n) us live cs → IsOver (world_for p n s.way) live cs → CoverModels p n us
+cover_models p s n us live cs facts shown over t is =
+    let w = world_for p n s.way in
     let expanded = facts.each t is in
     let x = all_shown w (IsWholeModel p n) us live cs shown over (meaning_of expanded.0) expanded.1.1 in
     let r = x.1.1 in
@@ -165,37 +165,37 @@ cover_models p n us live cs facts shown over t is =
     (u, x.1.2.1.0, (r.0, facts.renamed t expanded.0 u is.0 expanded.1.0 x.0 x.1.0 r.0 r.1.0 r.1.1 found.whole x.1.2.1.1))
 
 -- so it is where no choice has a further value
-pub unfinished_or_covered : (p : Stated) (n : ℕ) (us : List Finite) (live : Bool) (cs : List Choice) → Facts p n → HasShown (world_for p n) (IsWholeModel p n) us live cs → MayGoOn live cs ⊎ CoverModels p n us
-unfinished_or_covered p n us live cs facts shown = elim (none_open live cs) [ inl more ↦ inl more | inr none ↦ inr (cover_models p n us live cs facts shown (λ m s h. none m h)) ]
+pub unfinished_or_covered : (p : Stated) (s : Plan) (n : ℕ) (us : List Finite) (live : Bool) (cs : List Choice) → Facts p s n → HasShown (world_for p n s.way) (IsWholeModel p n) us live cs → MayGoOn live cs ⊎ CoverModels p n us
+unfinished_or_covered p s n us live cs facts shown = elim (none_open live cs) [ inl more ↦ inl more | inr none ↦ inr (cover_models p s n us live cs facts shown (λ m s h. none m h)) ]
 
 -- one model more is shown
-pub shown_further : (p : Stated) (n : ℕ) (us : List Finite) (search : Course) (tables : Finite) (choices : List Choice) → Facts p n → search.world ≡ world_for p n → HasShown (world_for p n) (IsWholeModel p n) us search.live search.choices
-    → FindsModel search.world search.live search.choices (meaning_of tables) choices → AreTablesFor search.world tables → HasShown (world_for p n) (IsWholeModel p n) (us ++ tables_over (all_symbols p) tables ∷ []) false choices
-shown_further p n us search tables choices facts e shown finds whole =
-    let w = world_for p n in
+pub shown_further : (p : Stated) (s : Plan) (n : ℕ) (us : List Finite) (search : Course) (tables : Finite) (choices : List Choice) → Facts p s n → search.world ≡ world_for p n s.way → HasShown (world_for p n s.way) (IsWholeModel p n) us search.live search.choices
+    → FindsModel search.world search.live search.choices (meaning_of tables) choices → AreTablesFor search.world tables → HasShown (world_for p n s.way) (IsWholeModel p n) (us ++ tables_over (all_symbols p) tables ∷ []) false choices
+shown_further p s n us search tables choices facts e shown finds whole =
+    let w = world_for p n s.way in
     let v = tables_over (all_symbols p) tables in
     let whole_here : AreTablesFor w tables = subst (λ (x : World). AreTablesFor x tables) e whole in
     let finds_here : FindsModel w search.live search.choices (meaning_of tables) choices = subst (λ (x : World). FindsModel x search.live search.choices (meaning_of tables) choices) e finds in
-    let same : meaning_of v ≡ meaning_of tables = same_meaning (all_symbols p) tables (none_behind p n facts.stand tables whole_here) in
+    let same : meaning_of v ≡ meaning_of tables = same_meaning (all_symbols p) tables (none_behind p s n facts.stand tables whole_here) in
     let finds_v : FindsModel w search.live search.choices (meaning_of v) choices = subst (λ (m : Meaning). FindsModel w search.live search.choices m choices) (sym same) finds_here in
     shown_more w (IsWholeModel p n) us search.live search.choices choices v shown finds_v
-    (record { whole = whole_over p n facts.stand tables whole_here; solves = finds_v.solves; also = whole_model p n facts.stand tables whole_here (facts.says (meaning_of tables) finds_here.solves) finds_here.solves.holds })
+    (record { whole = whole_over p s n facts.stand tables whole_here; solves = finds_v.settles.0; also = whole_model p s n facts.stand tables whole_here (facts.says (meaning_of tables) finds_here.settles.0) finds_here.settles.0.holds })
 
-text_of : (p : Stated) (n k : ℕ) (us : List Finite) (search : Course) (printed : ℕ) (x : Finite) (a b : Outflow) → SoFar p n k us search printed a b → models_text p k (us ++ x ∷ []) ≡ models_text p k us ++ model_text (all_symbols p) (printed + 1) x
-text_of p n k us search printed x a b so_far =
+text_of : (p : Stated) (s : Plan) (n k : ℕ) (us : List Finite) (search : Course) (printed : ℕ) (x : Finite) (a b : Outflow) → SoFar p s n k us search printed a b → models_text p k (us ++ x ∷ []) ≡ models_text p k us ++ model_text (all_symbols p) (printed + 1) x
+text_of p s n k us search printed x a b so_far =
     let e : suc (k + length us) ≡ printed + 1 = omega (arith, so_far.count) in
     text_more p k us x ∙ ap (λ (j : ℕ). models_text p k us ++ model_text (all_symbols p) j x) e
 
 -- one model more
-pub further : (p : Stated) (n k : ℕ) (us : List Finite) (search search' : Course) (printed printed' : ℕ) (a b c : Outflow) → Facts p n → SoFar p n k us search printed a b → FindsModel search.world search.live search.choices (meaning_of search'.tables) search'.choices → AreTablesFor search.world search'.tables
-    → search'.live ≡ false → search'.world ≡ search.world → search'.late ≡ None → printed' ≡ printed + 1 → Takes b c (model_text (all_symbols p) printed' (tables_over (all_symbols p) search'.tables)) → SoFar p n k (us ++ tables_over (all_symbols p) search'.tables ∷ []) search' printed' a c
-further p n k us search search' printed printed' a b c facts so_far finds whole live world late i took =
+pub further : (p : Stated) (s : Plan) (n k : ℕ) (us : List Finite) (search search' : Course) (printed printed' : ℕ) (a b c : Outflow) → Facts p s n → SoFar p s n k us search printed a b → FindsModel search.world search.live search.choices (meaning_of search'.tables) search'.choices → AreTablesFor search.world search'.tables
+    → search'.live ≡ false → search'.world ≡ search.world → search'.late ≡ None → printed' ≡ printed + 1 → Takes b c (model_text (all_symbols p) printed' (tables_over (all_symbols p) search'.tables)) → SoFar p s n k (us ++ tables_over (all_symbols p) search'.tables ∷ []) search' printed' a c
+further p s n k us search search' printed printed' a b c facts so_far finds whole live world late i took =
     let x = tables_over (all_symbols p) search'.tables in
     let took' : Takes b c (model_text (all_symbols p) (printed + 1) x) = subst (λ (j : ℕ). Takes b c (model_text (all_symbols p) j x)) i took in
     record {
-      shown = subst (λ (l : Bool). HasShown (world_for p n) (IsWholeModel p n) (us ++ x ∷ []) l search'.choices) (sym live) (shown_further p n us search search'.tables search'.choices facts so_far.world so_far.shown finds whole);
+      shown = subst (λ (l : Bool). HasShown (world_for p n s.way) (IsWholeModel p n) (us ++ x ∷ []) l search'.choices) (sym live) (shown_further p s n us search search'.tables search'.choices facts so_far.world so_far.shown finds whole);
       count = omega (arith, so_far.count, many_more us x, i);
-      took = subst (Takes a c) (sym (text_of p n k us search printed x a b so_far)) (Takes-append a b c (models_text p k us) (model_text (all_symbols p) (printed + 1) x) so_far.took took');
+      took = subst (Takes a c) (sym (text_of p s n k us search printed x a b so_far)) (Takes-append a b c (models_text p k us) (model_text (all_symbols p) (printed + 1) x) so_far.took took');
       world = world ∙ so_far.world;
       late = late;
     }
@@ -209,32 +209,32 @@ module _ (p : Stated) (s : Plan) (t : Times) (n k r : ℕ) where
   ends_behind front step text = SizeEnds p s t n k r step (size_line n ++ (front ++ text))
 
   -- behind models the size goes on
-  pub going : (us : List Finite) (chosen : ℕ) (text : List ℕ) → IsBegun p s n → HasRoomForGround s (ground_size n p) → AreShown p n us → HasCourse p n us chosen → k + length us ≤ s.wanted → IsInTime s.seconds t
+  pub going : (us : List Finite) (chosen : ℕ) (text : List ℕ) → IsBegun p s n → HasRoomForGround s (ground_size n p) → AreShown p n us → HasCourse p s n us chosen → k + length us ≤ s.wanted → IsInTime s.seconds t
       → HasRead s.seconds (r + suc chosen) t → text ≡ models_text p k us → SizeGoes p s t n k r (size_line n ++ text)
-  going us chosen text begun room shown way most in_time reads e = (inside us chosen, (begun, room, shown, where_set s.seconds (HasCourse p n us chosen) way), most, in_time, reads, ap (λ (u : List ℕ). size_line n ++ u) e)
+  going us chosen text begun room shown way most in_time reads e = (inside us chosen, (begun, room, shown, where_set s.seconds (HasCourse p s n us chosen) way), most, in_time, reads, ap (λ (u : List ℕ). size_line n ++ u) e)
 
   -- no model is printed
   pub line_alone : IsBegun p s n → HasRoomForGround s (ground_size n p) → k < s.wanted → IsInTime s.seconds t → HasRead s.seconds (r + 1) t → SizeGoes p s t n k r (size_line n ++ [])
-  line_alone begun room fewer in_time reads = going [] 0 [] begun room (tt, tt) (true, ([], goes_nowhere (world_for p n) true [], inl tt)) (omega (arith, fewer)) in_time reads refl
+  line_alone begun room fewer in_time reads = going [] 0 [] begun room (tt, tt) (true, ([], goes_nowhere (world_for p n s.way) true [], inl tt)) (omega (arith, fewer)) in_time reads refl
 
   -- the end of the size is printed, or cut off
-  pub at_end : (us : List Finite) (search : Course) (printed : ℕ) (a b c : Outflow) (result : Result Step Cut) → Facts p n → IsBegun p s n → HasRoomForGround s (ground_size n p) → printed < s.wanted → SoFar p n k us search printed a b
+  pub at_end : (us : List Finite) (search : Course) (printed : ℕ) (a b c : Outflow) (result : Result Step Cut) → Facts p s n → IsBegun p s n → HasRoomForGround s (ground_size n p) → printed < s.wanted → SoFar p s n k us search printed a b
       → IsOver search.world search.live search.choices → (chosen : ℕ) → GoesBy search.world true [] (length us) chosen false [] → IsInTime s.seconds t → HasRead s.seconds (r + suc chosen) t → IsPiece (exhausted_line n) b c result → IfOk result (λ step. step ≡ Over printed)
       → Tells (λ u. SizeGoes p s t n k r (size_line n ++ u)) (λ e u. SizeEnds p s t n k r e (size_line n ++ u)) a c result
   at_end us search printed a b c result facts begun room fewer so_far none chosen over_by in_time reads piece step =
       told_behind (λ u. SizeGoes p s t n k r (size_line n ++ u)) (λ e u. SizeEnds p s t n k r e (size_line n ++ u)) a b c (models_text p k us) result so_far.took (by result piece step)
     where
       shown : AreShown p n us
-      shown = are_shown p n us search.live search.choices so_far.shown
+      shown = are_shown p s n us search.live search.choices so_far.shown
 
-      way : GoesTo p n us chosen false []
+      way : GoesTo p s n us chosen false []
       way = subst (λ (w : World). GoesBy w true [] (length us) chosen false []) so_far.world over_by
 
       covers : CoverModels p n us
-      covers = cover_models p n us search.live search.choices facts so_far.shown (subst (λ (w : World). IsOver w search.live search.choices) so_far.world none)
+      covers = cover_models p s n us search.live search.choices facts so_far.shown (subst (λ (w : World). IsOver w search.live search.choices) so_far.world none)
 
       over : ends_behind (models_text p k us) (Over printed) (exhausted_line n)
-      over = (searched us chosen, begun.0, ((begun.1, room), shown, covers, where_set s.seconds (GoesTo p n us chosen false []) way), so_far.count, fewer, in_time, reads, refl)
+      over = (searched us chosen, begun.0, ((begun.1, room), shown, covers, where_set s.seconds (GoesTo p s n us chosen false []) way), so_far.count, fewer, in_time, reads, refl)
 
       alone : goes_behind (models_text p k us) []
       alone = going us chosen (models_text p k us ++ []) begun room shown (false, ([], way, inr covers)) (omega (arith, so_far.count, fewer)) in_time reads (append-nil (models_text p k us))
@@ -245,7 +245,7 @@ module _ (p : Stated) (s : Plan) (t : Times) (n k r : ℕ) where
       by (Err Memory) nothing is = ([], alone, nothing)
 
   -- a model that is found is cut off
-  pub at_model : (us : List Finite) (search : Course) (tables : Finite) (choices : List Choice) (printed : ℕ) (a b c : Outflow) (why : Cut) → Facts p n → IsBegun p s n → HasRoomForGround s (ground_size n p) → printed < s.wanted → SoFar p n k us search printed a b
+  pub at_model : (us : List Finite) (search : Course) (tables : Finite) (choices : List Choice) (printed : ℕ) (a b c : Outflow) (why : Cut) → Facts p s n → IsBegun p s n → HasRoomForGround s (ground_size n p) → printed < s.wanted → SoFar p s n k us search printed a b
       → FindsModel search.world search.live search.choices (meaning_of tables) choices → AreTablesFor search.world tables → (chosen : ℕ) → GoesBy search.world true [] (length us) chosen true choices → GoesBy search.world true [] (length (us ++ tables_over (all_symbols p) tables ∷ [])) chosen false choices → IsInTime s.seconds t
       → HasRead s.seconds (r + suc chosen) t → IsPrinted (λ text. text ≡ model_text (all_symbols p) (printed + 1) (tables_over (all_symbols p) tables)) b c (Err why)
       → Tells (λ u. SizeGoes p s t n k r (size_line n ++ u)) (λ e u. SizeEnds p s t n k r e (size_line n ++ u)) a c (Err why)
@@ -261,16 +261,16 @@ module _ (p : Stated) (s : Plan) (t : Times) (n k r : ℕ) where
       us' : List Finite
       us' = us ++ v ∷ []
 
-      shown' : HasShown (world_for p n) (IsWholeModel p n) us' false choices
-      shown' = shown_further p n us search tables choices facts so_far.world so_far.shown finds whole_tables
+      shown' : HasShown (world_for p n s.way) (IsWholeModel p n) us' false choices
+      shown' = shown_further p s n us search tables choices facts so_far.world so_far.shown finds whole_tables
 
       alone : goes_behind (models_text p k us) []
-      alone = going us chosen (models_text p k us ++ []) begun room (are_shown p n us search.live search.choices so_far.shown) (true, (choices, subst (λ (w : World). GoesBy w true [] (length us) chosen true choices) so_far.world before, inl tt)) (omega (arith, so_far.count, fewer)) in_time reads (append-nil (models_text p k us))
+      alone = going us chosen (models_text p k us ++ []) begun room (are_shown p s n us search.live search.choices so_far.shown) (true, (choices, subst (λ (w : World). GoesBy w true [] (length us) chosen true choices) so_far.world before, inl tt)) (omega (arith, so_far.count, fewer)) in_time reads (append-nil (models_text p k us))
 
       whole : goes_behind (models_text p k us) text
       whole =
-          going us' chosen (models_text p k us ++ text) begun room (are_shown p n us' false choices shown') (false, (choices, subst (λ (w : World). GoesBy w true [] (length us') chosen false choices) so_far.world after, unfinished_or_covered p n us' false choices facts shown')) (omega (arith, so_far.count, many_more us v, fewer)) in_time reads
-          (sym (text_of p n k us search printed v a b so_far))
+          going us' chosen (models_text p k us ++ text) begun room (are_shown p s n us' false choices shown') (false, (choices, subst (λ (w : World). GoesBy w true [] (length us') chosen false choices) so_far.world after, unfinished_or_covered p s n us' false choices facts shown')) (omega (arith, so_far.count, many_more us v, fewer)) in_time reads
+          (sym (text_of p s n k us search printed v a b so_far))
 
       by : (why : Cut) → IsPrinted (λ x. x ≡ text) b c (Err why) → Tells {E = Step} (goes_behind (models_text p k us)) (ends_behind (models_text p k us)) b c (Err why)
       by why (inl (x, is, piece)) = cut_by (Unit {0}) (goes_behind (models_text p k us)) (ends_behind (models_text p k us)) x b c why alone (subst (goes_behind (models_text p k us)) (sym is) whole) piece
@@ -278,21 +278,21 @@ module _ (p : Stated) (s : Plan) (t : Times) (n k r : ℕ) where
       by WriteFault (inr (e, took)) = absurd cc
 
   -- as many models as are wanted are printed
-  pub at_last : (us : List Finite) (search : Course) (printed : ℕ) (a b : Outflow) → Facts p n → IsBegun p s n → HasRoomForGround s (ground_size n p) → printed ≡ s.wanted → SoFar p n k us search printed a b → (t₀ : Times) → (gone : HasGone us search t₀ t) → IsInTime s.seconds t → HasRead s.seconds (r + suc gone.chosen) t
+  pub at_last : (us : List Finite) (search : Course) (printed : ℕ) (a b : Outflow) → Facts p s n → IsBegun p s n → HasRoomForGround s (ground_size n p) → printed ≡ s.wanted → SoFar p s n k us search printed a b → (t₀ : Times) → (gone : HasGone us search t₀ t) → IsInTime s.seconds t → HasRead s.seconds (r + suc gone.chosen) t
       → Tells (λ u. SizeGoes p s t n k r (size_line n ++ u)) (λ e u. SizeEnds p s t n k r e (size_line n ++ u)) a b (Ok (Ends MaxModels printed))
   at_last us search printed a b facts begun room all so_far t₀ gone in_time reads = (
     models_text p k us,
-    (inside us gone.chosen, (begun, room, are_shown p n us search.live search.choices so_far.shown, where_set s.seconds (HasCourse p n us gone.chosen) (search.live, (search.choices, subst (λ (w : World). GoesBy w true [] (length us) gone.chosen search.live search.choices) so_far.world gone.way, unfinished_or_covered p n us search.live search.choices facts so_far.shown))), so_far.count, (in_time, tt, all), reads, refl),
+    (inside us gone.chosen, (begun, room, are_shown p s n us search.live search.choices so_far.shown, where_set s.seconds (HasCourse p s n us gone.chosen) (search.live, (search.choices, subst (λ (w : World). GoesBy w true [] (length us) gone.chosen search.live search.choices) so_far.world gone.way, unfinished_or_covered p s n us search.live search.choices facts so_far.shown))), so_far.count, (in_time, tt, all), reads, refl),
     so_far.took,
   )
 
   -- the time is over
-  pub at_late : (us : List Finite) (search : Course) (printed first last : ℕ) (a b : Outflow) → IsBegun p s n → HasRoomForGround s (ground_size n p) → printed < s.wanted → SoFar p n k us search printed a b → (chosen : ℕ) (choices : List Choice) → GoesBy search.world true [] (length us) chosen true choices → IsLate (time_to_stop s.seconds t) t last → first ≡ t.first → HasRead s.seconds (r + suc (suc chosen)) t
+  pub at_late : (us : List Finite) (search : Course) (printed first last : ℕ) (a b : Outflow) → IsBegun p s n → HasRoomForGround s (ground_size n p) → printed < s.wanted → SoFar p s n k us search printed a b → (chosen : ℕ) (choices : List Choice) → GoesBy search.world true [] (length us) chosen true choices → IsLate (time_to_stop s.seconds t) t last → first ≡ t.first → HasRead s.seconds (r + suc (suc chosen)) t
       → Tells (λ u. SizeGoes p s t n k r (size_line n ++ u)) (λ e u. SizeEnds p s t n k r e (size_line n ++ u)) a b (Ok (Ends (MaxSeconds first last) printed))
   at_late us search printed first last a b begun room fewer so_far chosen choices goes late is reads =
-      let way : GoesTo p n us chosen true choices = subst (λ (w : World). GoesBy w true [] (length us) chosen true choices) so_far.world goes in (
+      let way : GoesTo p s n us chosen true choices = subst (λ (w : World). GoesBy w true [] (length us) chosen true choices) so_far.world goes in (
         models_text p k us,
-        (inside us chosen, (begun, room, are_shown p n us search.live search.choices so_far.shown, where_set s.seconds (HasCourse p n us chosen) (true, (choices, way, inl tt))), so_far.count, (late, is, (choices, way), fewer), reads, refl),
+        (inside us chosen, (begun, room, are_shown p s n us search.live search.choices so_far.shown, where_set s.seconds (HasCourse p s n us chosen) (true, (choices, way, inl tt))), so_far.count, (late, is, (choices, way), fewer), reads, refl),
         so_far.took,
       )
 

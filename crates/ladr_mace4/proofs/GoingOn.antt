@@ -1,5 +1,5 @@
 -- A search that goes on can come to an end: so what it printed is a front of a whole output.
-use Rattle.std.proofs.Common.{◌≡◌, ℕ, zero, suc, ◌+◌, ◌*◌, ◌<◌, ◌≤◌, min, true, false, List, [], ◌∷◌, ◌++◌, length, Option, None, Some, IfSome, inl, inr, refl, ap, sym, subst, ◌∙◌, append_assoc, append-nil, arith}
+use Rattle.std.proofs.Common.{◌≡◌, ℕ, zero, suc, ◌+◌, ◌*◌, ◌<◌, ◌≤◌, min, Bool, true, false, List, [], ◌∷◌, ◌++◌, length, Option, None, Some, IfSome, inl, inr, refl, ap, sym, subst, ◌∙◌, append_assoc, append-nil, arith}
 use Rattle.std.proofs.Math.Nat.{suc-mul}
 use Rattle.std.proofs.lemmas.Bool.{cases_lt}
 use Rattle.std.specs.Prelude.{◌⊎◌}
@@ -28,8 +28,8 @@ use Rattle.ladr_mace4.specs.Watching.{time_to_stop, IsInTime, HasRead}
 use Rattle.ladr_mace4.specs.declared.ends.SearchEnd.{SearchEnd}
 use Rattle.ladr_mace4.specs.declared.ends.SearchEnd.TheVariants.{MaxModels, Exhausted, AllModels, MaxMegs, MaxSeconds, GroundLimit, ClauseLimit}
 use Rattle.ladr_mace4.specs.declared.plan.Plan.{Plan}
-use Rattle.mace_cells.proofs.Moving.{goes_nowhere, goes_then, goes_live, goes_to_end}
-use Rattle.mace_cells.specs.Choices.{Choice}
+use Rattle.mace_cells.proofs.Moving.{goes_nowhere, goes_then, goes_live, goes_back}
+use Rattle.mace_cells.specs.Choices.{Choice, MayGoOn}
 use Rattle.mace_cells.specs.World.{World, Solves}
 use Rattle.mace_search.proofs.Completing.{by_number}
 use Rattle.mace_search.proofs.Next.{in_count, next_or_none}
@@ -169,14 +169,14 @@ module _ (behind : SkolemsStandBehind) (order : InOrder) (new : AreNew) (each : 
   crowded_end t sizes (ClauseLimit formula) crowded gone begun in_time reads = absurd crowded
 
   -- in a size with models, where a time is set: the time is over before a choice
-  late_inside : (t : Times) (sizes : List Size) (us : List Finite) (chosen : ℕ) (choices : List Choice) (sec : ℕ) → s.seconds ≡ Some sec → AreGone sizes → IsBegun p s (next sizes) → HasRoomForGround s (ground_size (next sizes) p) → AreShown p (next sizes) us → GoesTo p (next sizes) us chosen true choices
+  late_inside : (t : Times) (sizes : List Size) (us : List Finite) (chosen : ℕ) (choices : List Choice) (sec : ℕ) → s.seconds ≡ Some sec → AreGone sizes → IsBegun p s (next sizes) → HasRoomForGround s (ground_size (next sizes) p) → AreShown p (next sizes) us → GoesTo p s (next sizes) us chosen true choices
       → models_in_all sizes + length us < s.wanted → IsInTime s.seconds t → HasRead s.seconds (readings_in_all sizes + suc chosen) t
       → Comes (front sizes ++ (size_line (next sizes) ++ models_text p (models_in_all sizes) us))
   late_inside t sizes us chosen choices sec set gone begun room shown way fewer in_time reads =
       let r = readings_in_all sizes in
       let late = late_times s.seconds sec (r + suc chosen) (r + suc (suc chosen)) t set in_time reads (omega arith) (λ more. omega arith) in
       let t' = late.0 in
-      ends_at t' sizes (inside us chosen) (MaxSeconds t'.first t'.last) gone (begun, room, shown, finds.where_set s.seconds (HasCourse p (next sizes) us chosen) (true, (choices, way, inl tt))) (late.1.0, refl, (choices, way), fewer) late.1.1
+      ends_at t' sizes (inside us chosen) (MaxSeconds t'.first t'.last) gone (begun, room, shown, finds.where_set s.seconds (HasCourse p s (next sizes) us chosen) (true, (choices, way, inl tt))) (late.1.0, refl, (choices, way), fewer) late.1.1
 
   -- a size whose line is printed, where a time is set: the time is over as it begins, or before its first choice
   late_begun : (t : Times) (sizes : List Size) (sec : ℕ) → s.seconds ≡ Some sec → AreGone sizes → IsBegun p s (next sizes) → IsInTime s.seconds t → HasRead s.seconds (readings_in_all sizes) t → Comes (front sizes ++ size_line (next sizes))
@@ -194,14 +194,14 @@ module _ (behind : SkolemsStandBehind) (order : InOrder) (new : AreNew) (each : 
             elim (room_or_end n) [
               | inl room ↦ (
                   let text : front sizes ++ (size_line n ++ []) ≡ front sizes ++ size_line n = ap (λ (u : List ℕ). front sizes ++ u) (append-nil (size_line n)) in
-                  subst Comes text (late_inside first.0 sizes [] 0 [] sec set gone begun room (tt, tt) (goes_nowhere (world_for p n) true []) (omega (arith, gone.1)) first.1.0 read))
+                  subst Comes text (late_inside first.0 sizes [] 0 [] sec set gone begun room (tt, tt) (goes_nowhere (world_for p n s.way) true []) (omega (arith, gone.1)) first.1.0 read))
               | inr crowded ↦ crowded_end first.0 sizes crowded.0 crowded.1 gone begun first.1.0 read
             ])
       ]
 
   -- as many models as are wanted are printed
   enough : (t : Times) (sizes : List Size) (us : List Finite) (chosen : ℕ) → AreGone sizes → IsBegun p s (next sizes) → HasRoomForGround s (ground_size (next sizes) p) → models_in_all sizes + length us ≡ s.wanted → AreShown p (next sizes) us
-      → IfSome s.seconds (λ seconds. HasCourse p (next sizes) us chosen) → IsInTime s.seconds t → HasRead s.seconds (readings_in_all sizes + suc chosen) t
+      → IfSome s.seconds (λ seconds. HasCourse p s (next sizes) us chosen) → IsInTime s.seconds t → HasRead s.seconds (readings_in_all sizes + suc chosen) t
       → Comes (front sizes ++ (size_line (next sizes) ++ models_text p (models_in_all sizes) us))
   enough t sizes us chosen gone begun room all shown way in_time reads = ends_at t sizes (inside us chosen) MaxModels gone (begun, room, shown, way) (in_time, tt, all) reads
 
@@ -213,8 +213,8 @@ module _ (behind : SkolemsStandBehind) (order : InOrder) (new : AreNew) (each : 
   apart n some room = new p.symbols p well few (λ k h e. e) (few_skolems p n some room.0)
 
   -- a model with values for the Skolem symbols that solves the clauses
-  expanded : (n : ℕ) → 1 ≤ n → HasRoomForGround s (ground_size n p) → (t : Finite) → IsModel p n t → (e : Finite) × (IsExpansion t (all_axioms p) e × Solves (world_for p n) (meaning_of e))
-  expanded n some room = each p n well few (order p.symbols p well few (λ k h e. e) (few_skolems p n some room.0)) (apart n some room)
+  expanded : (n : ℕ) → 1 ≤ n → HasRoomForGround s (ground_size n p) → (t : Finite) → IsModel p n t → (e : Finite) × (IsExpansion t (all_axioms p) e × Solves (world_for p n s.way) (meaning_of e))
+  expanded n some room = each p n s.way well few (order p.symbols p well few (λ k h e. e) (few_skolems p n some room.0)) (apart n some room)
 
   -- a model more is covered
   covered_more : (n j : ℕ) (us us' : List Finite) (y e : Finite) → IsNextModel p n j y → IsIsomorphism n p (λ x. x) y e → ((u : Finite) → IsOneOf u us → IsOneOf u us') → IsOneOf e us' → AreCovered p n j us → AreCovered p n (suc (table_number y)) us'
@@ -240,7 +240,7 @@ module _ (behind : SkolemsStandBehind) (order : InOrder) (new : AreNew) (each : 
         let n = next sizes in
         let texts = models_text p (models_in_all sizes) us in
         let size = searched us 0 in
-        let is : HasEnded p s n size = ((begun.1, room), shown, all, none_asked s.seconds (GoesTo p n us 0 false []) none_set) in
+        let is : HasEnded p s n size = ((begun.1, room), shown, all, none_asked s.seconds (GoesTo p s n us 0 false []) none_set) in
         shorter (front sizes ++ (size_line n ++ texts)) (exhausted_line n) (subst Comes (exhausted_is sizes us 0) (rest (sizes ++ size ∷ []) (gone_more sizes size gone begun.0 is fewer) (length_more sizes size)))
 
     -- a size with models, where no time is set: the models that aren't shown yet are printed, and that it is exhausted
@@ -272,7 +272,7 @@ module _ (behind : SkolemsStandBehind) (order : InOrder) (new : AreNew) (each : 
                     shorter (front sizes ++ (size_line n ++ texts)) text
                     (subst Comes same (elim (cases_lt (k + length us') s.wanted) [
                       | inl more ↦ enumerated fuel (suc (table_number y.0)) sizes us' gone begun room more shown' covered' few_left rest
-                      | inr enough_now ↦ enough t sizes us' 0 gone begun room (omega (arith, fewer, enough_now, finds.many_more us e.0)) shown' (none_asked s.seconds (HasCourse p n us' 0) none_set) in_time (read _)
+                      | inr enough_now ↦ enough t sizes us' 0 gone begun room (omega (arith, fewer, enough_now, finds.many_more us e.0)) shown' (none_asked s.seconds (HasCourse p s n us' 0) none_set) in_time (read _)
                     ])))
               ])
         ]
@@ -323,27 +323,32 @@ module _ (behind : SkolemsStandBehind) (order : InOrder) (new : AreNew) (each : 
 
   -- in a size with models, fewer than are wanted, whether a time is set or not
   inside_by : (o : Option ℕ) → s.seconds ≡ o → (t : Times) (sizes : List Size) (us : List Finite) (chosen : ℕ) → AreGone sizes → IsBegun p s (next sizes) → HasRoomForGround s (ground_size (next sizes) p) → models_in_all sizes + length us < s.wanted → AreShown p (next sizes) us
-      → IfSome s.seconds (λ seconds. HasCourse p (next sizes) us chosen) → IsInTime s.seconds t
+      → IfSome s.seconds (λ seconds. HasCourse p s (next sizes) us chosen) → IsInTime s.seconds t
       → HasRead s.seconds (readings_in_all sizes + suc chosen) t → Comes (front sizes ++ (size_line (next sizes) ++ models_text p (models_in_all sizes) us))
   inside_by None e t sizes us chosen gone begun room fewer shown way in_time reads = completed t e in_time (λ m. any_read s.seconds _ m t e reads) sizes us gone begun room fewer shown (all_behind t sizes _ in_time reads e)
-  inside_by (Some sec) e t sizes us chosen gone begun room fewer shown way in_time reads = by (asked_so s.seconds sec (HasCourse p n us chosen) e way)
+  inside_by (Some sec) e t sizes us chosen gone begun room fewer shown way in_time reads = by (asked_so s.seconds sec (HasCourse p s n us chosen) e way)
     where
       n : ℕ
       n = next sizes
 
       w : World
-      w = world_for p n
+      w = world_for p n s.way
 
-      -- it goes on to a choice, or each model is printed, and the size is exhausted
-      by : HasCourse p n us chosen → Comes (front sizes ++ (size_line n ++ models_text p (models_in_all sizes) us))
-      by (live, (choices, to_here, inl more)) =
+      -- it goes on to a choice
+      on_to_choice : (live : Bool) (choices : List Choice) → GoesTo p s n us chosen live choices → MayGoOn live choices → Comes (front sizes ++ (size_line n ++ models_text p (models_in_all sizes) us))
+      on_to_choice live choices to_here more =
           let on = goes_live w live choices more in
           let there = goes_then w true live true [] choices on.0 (length us) 0 (length us) chosen 0 chosen (omega arith) (omega arith) to_here on.1 in
           late_inside t sizes us chosen on.0 sec e gone begun room shown there fewer in_time reads
-      by (live, (choices, to_here, inr all)) =
-          let there : GoesTo p n us chosen false [] = goes_then w true live false [] choices [] (length us) 0 (length us) chosen 0 chosen (omega arith) (omega arith) to_here (goes_to_end w live choices) in
+
+      -- or each model is printed, and the size is exhausted
+      by : HasCourse p s n us chosen → Comes (front sizes ++ (size_line n ++ models_text p (models_in_all sizes) us))
+      by (live, (choices, to_here, inl more)) = on_to_choice live choices to_here more
+      by (true, (choices, to_here, inr all)) = on_to_choice true choices to_here tt
+      by (false, (choices, to_here, inr all)) =
+          let there : GoesTo p s n us chosen false [] = goes_then w true false false [] choices [] (length us) 0 (length us) chosen 0 chosen (omega arith) (omega arith) to_here (goes_back w choices) in
           let size = searched us chosen in
-          let is : HasEnded p s n size = ((begun.1, room), shown, all, finds.where_set s.seconds (GoesTo p n us chosen false []) there) in
+          let is : HasEnded p s n size = ((begun.1, room), shown, all, finds.where_set s.seconds (GoesTo p s n us chosen false []) there) in
           let gone' = gone_more sizes size gone begun.0 is fewer in
           let reads' = read_same t (readings_in_all sizes + suc chosen) (readings_in_all (sizes ++ size ∷ [])) (omega (arith, reads_more sizes size)) reads in
           shorter (front sizes ++ (size_line n ++ models_text p (models_in_all sizes) us)) (exhausted_line n) (subst Comes (exhausted_is sizes us chosen) (on_behind (suc s.end) t (sizes ++ size ∷ []) gone' (omega arith) in_time reads'))

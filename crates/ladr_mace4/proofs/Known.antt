@@ -13,6 +13,8 @@ use Rattle.ladr_mace4.proofs.Found.{Facts}
 use Rattle.ladr_mace4.specs.Skolems.{all_axioms}
 use Rattle.mace_cells.specs.Solutions.{IsCarried}
 use Rattle.mace_cells.specs.World.{Solves, AreAlike}
+use Rattle.ladr_mace4.specs.declared.plan.Plan.{Plan}
+use Rattle.mace_cells.specs.declared.way.Way.{Way}
 use Rattle.mace_search.specs.Models.{IsModel}
 use Rattle.model_tables.specs.Expansion.{IsExpansion}
 use Rattle.model_tables.specs.Isomorphism.{IsIsomorphism}
@@ -27,21 +29,21 @@ abbrev pub AreNew : Type 0
 AreNew = (table : List Symbol) (p : Stated) → IsWellFormed p → length p.symbols ≤ equality → KeepsNumbers p.symbols table → length (axioms_in_table table p) ≤ equality → AreNewTo p.formulas (axioms_in_table table p)
 
 abbrev pub SolutionsSay : Type 0
-SolutionsSay = (p : Stated) (n : ℕ) → IsWellFormed p → length p.symbols ≤ equality → (m : Meaning) → Solves (world_for p n) m → IsCountermodel m p.formulas
+SolutionsSay = (p : Stated) (n : ℕ) (way : Way) → IsWellFormed p → length p.symbols ≤ equality → (m : Meaning) → Solves (world_for p n way) m → IsCountermodel m p.formulas
 
 abbrev pub EachSolves : Type 0
 EachSolves =
-    (p : Stated) (n : ℕ) → IsWellFormed p → length p.symbols ≤ equality → AreInOrder (axioms_in_table p.symbols p) → AreNewTo p.formulas (axioms_in_table p.symbols p)
-    → (t : Finite) → IsModel p n t → (e : Finite) × (IsExpansion t (axioms_in_table p.symbols p) e × Solves (world_for p n) (meaning_of e))
+    (p : Stated) (n : ℕ) (way : Way) → IsWellFormed p → length p.symbols ≤ equality → AreInOrder (axioms_in_table p.symbols p) → AreNewTo p.formulas (axioms_in_table p.symbols p)
+    → (t : Finite) → IsModel p n t → (e : Finite) × (IsExpansion t (axioms_in_table p.symbols p) e × Solves (world_for p n way) (meaning_of e))
 
 abbrev pub AreRenamed : Type 0
 AreRenamed =
-    (p : Stated) (n : ℕ) → 0 < n → StandBehind p → AreNewTo p.formulas (axioms_in_table p.symbols p) → (t e u : Finite) → IsInterpretation n p t → IsExpansion t (axioms_in_table p.symbols p) e
-    → (m : Meaning) → Solves (world_for p n) m → (r : ℕ → ℕ) → (back : ℕ → ℕ) → IsCarried (world_for p n).fixed r back (meaning_of e) m
-    → AreTablesFor (world_for p n) u → AreAlike (world_for p n) m (meaning_of u) → IsIsomorphism n p r t u
+    (p : Stated) (n : ℕ) (way : Way) → 0 < n → StandBehind p → AreNewTo p.formulas (axioms_in_table p.symbols p) → (t e u : Finite) → IsInterpretation n p t → IsExpansion t (axioms_in_table p.symbols p) e
+    → (m : Meaning) → Solves (world_for p n way) m → (r : ℕ → ℕ) → (back : ℕ → ℕ) → IsCarried (world_for p n way).fixed r back (meaning_of e) m
+    → AreTablesFor (world_for p n way) u → AreAlike (world_for p n way) m (meaning_of u) → IsIsomorphism n p r t u
 
-pub facts_of : SkolemsStandBehind → InOrder → AreNew → SolutionsSay → EachSolves → AreRenamed → (p : Stated) (n : ℕ) → 0 < n → IsWellFormed p → length p.symbols ≤ equality → length (all_axioms p) ≤ equality → Facts p n
-facts_of behind order new say each renamed p n some well few few_witnesses =
+pub facts_of : SkolemsStandBehind → InOrder → AreNew → SolutionsSay → EachSolves → AreRenamed → (p : Stated) (s : Plan) (n : ℕ) → 0 < n → IsWellFormed p → length p.symbols ≤ equality → length (all_axioms p) ≤ equality → Facts p s n
+facts_of behind order new say each renamed p s n some well few few_witnesses =
     let stand : StandBehind p = behind p few few_witnesses in
     let apart : AreNewTo p.formulas (all_axioms p) = new p.symbols p well few (λ k s e. e) few_witnesses in
-    record { stand = stand; says = say p n well few; each = each p n well few (order p.symbols p well few (λ k s e. e) few_witnesses) apart; renamed = renamed p n some stand apart }
+    record { stand = stand; says = say p n s.way well few; each = each p n s.way well few (order p.symbols p well few (λ k s e. e) few_witnesses) apart; renamed = renamed p n s.way some stand apart }

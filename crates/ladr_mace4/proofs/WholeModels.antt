@@ -1,5 +1,5 @@
 -- Whole tables of a problem's symbols and of its Skolem symbols.
-use Rattle.std.proofs.Common.{◌≡◌, inl, inr, ℕ, zero, suc, ◌+◌, ◌*◌, ◌^◌, ◌<◌, ◌≤◌, ◌||◌, ◌==◌, Bool, true, false, if◌then◌else◌, List, [], ◌∷◌, ◌++◌, map, length, take, Option, Some, slice_get, refl, sym, ap, ap₂, subst, ◌∙◌, append_assoc, append-nil, arith}
+use Rattle.std.proofs.Common.{◌≡◌, inl, inr, ℕ, zero, suc, ◌+◌, ◌*◌, ◌^◌, ◌<◌, ◌≤◌, ◌||◌, ◌==◌, Bool, true, false, if◌then◌else◌, List, [], ◌∷◌, ◌++◌, map, length, Option, Some, slice_get, refl, sym, ap, ap₂, subst, ◌∙◌, append_assoc, append-nil, arith}
 use Rattle.std.specs.List.{range_with_len}
 use Rattle.std.specs.Option.{option_map_or}
 use Rattle.std.proofs.lemmas.Bool.{or_cases, or_left, or_right, false≢true, eqb-true, eq-eqb}
@@ -24,7 +24,8 @@ use Rattle.ladr_cells.specs.Worlds.{blocks_for, clauses_for, world_for, ground_s
 use Rattle.ladr_mace4.proofs.Printable.{listings_rows, rows_many, row_last, witness_row, all_tellable}
 use Rattle.ladr_mace4.specs.Models.{AreFullRows, IsWholeModel}
 use Rattle.ladr_mace4.specs.Rooms.{refused_cells}
-use Rattle.ladr_mace4.specs.Skolems.{all_symbols, all_axioms, without_skolems}
+use Rattle.ladr_mace4.specs.declared.plan.Plan.{Plan}
+use Rattle.ladr_mace4.specs.Skolems.{all_symbols, all_axioms}
 use Rattle.ladr_models.specs.ReadsBack.{AreRows, IsPrintable}
 use Rattle.ladr_problem.specs.Names.{AreTellable}
 use Rattle.mace_cells.specs.World.{World}
@@ -33,7 +34,7 @@ use Rattle.mace_ground.specs.Instances.{ground_literals}
 use Rattle.mace_search.specs.Models.{IsModel}
 use Rattle.model_tables.proofs.Expanding.{same_top, kept_countermodel}
 use Rattle.model_tables.specs.Expansion.{IsExpansion, with_row, with_values}
-use Rattle.model_tables.specs.Size.{bound_of, AllBelow, IsListing, AreListings, IsInterpretation, formulas_of}
+use Rattle.model_tables.specs.Size.{bound_of, AllBelow, IsListing, AreListings, formulas_of}
 use Rattle.model_tables.specs.Tables.{Listing, Finite, listing, row_of, meaning_of}
 
 -- rows, and full rows behind them
@@ -51,18 +52,6 @@ whole_rows p n u stand is =
     subst (λ (ss : List Symbol). AreRows n ss u.rows) (sym stand.table)
     (subst (AreRows n (p.symbols ++ skolems p.symbols p.formulas)) (sym is.parts)
     (rows_both n p.symbols (skolems p.symbols p.formulas) is.own is.skolem (listings_rows n (formulas_of p) 0 p.symbols is.own is.interpretation.1) is.full))
-
--- so without the rows of the Skolem symbols they are an interpretation of the problem's symbols
-front_alone : (j : ℕ) (ls rest : List Listing) → length ls ≡ j → take j (ls ++ rest) ≡ ls
-front_alone j [] rest e = ap (λ (k : ℕ). take k rest) (sym e)
-front_alone zero (l ∷ ls) rest e = absurd (omega (arith, e))
-front_alone (suc j) (l ∷ ls) rest e = ap (λ (rows : List Listing). l ∷ rows) (front_alone j ls rest (omega (arith, e)))
-
-pub own_tables : (p : Stated) (n : ℕ) (u : Finite) → IsWholeModel p n u → IsInterpretation n p (without_skolems p u)
-own_tables p n u is =
-    let many : length is.own ≡ length p.symbols = rows_many n p.symbols is.own (listings_rows n (formulas_of p) 0 p.symbols is.own is.interpretation.1) in
-    let rows : take (length p.symbols) u.rows ≡ is.own = ap (λ (ls : List Listing). take (length p.symbols) ls) is.parts ∙ front_alone (length p.symbols) is.own is.skolem many in
-    subst (λ (ls : List Listing). IsInterpretation n p (record { top = u.top; rows = ls })) (sym rows) is.interpretation
 
 pub model_printable : (n k : ℕ) (p : Stated) (u : Finite) → StandBehind p → AreTellable p.symbols → n ≤ 200 → k < 2 ^ 64 → IsWholeModel p n u → IsPrintable n k (all_symbols p) u
 model_printable n k p u stand told most number is = record {
@@ -158,12 +147,12 @@ range_both f k (suc m) j all at e here =
     let more : all ≡ suc (m + j) = omega (arith, e) in
     ap (λ (l : ℕ). map f (range_with_len k l)) more ∙ ap (λ (ls : List Listing). f k ∷ ls) (range_both f (k + 1) m j (m + j) at refl (omega (arith, here)))
 
-module _ (p : Stated) (n : ℕ) (stand : StandBehind p) (t : Finite) (whole : AreTablesFor (world_for p n) t) where
+module _ (p : Stated) (s : Plan) (n : ℕ) (stand : StandBehind p) (t : Finite) (whole : AreTablesFor (world_for p n s.way) t) where
   abbrev table : List Symbol
   table = all_symbols p
 
   abbrev w : World
-  w = world_for p n
+  w = world_for p n s.way
 
   abbrev own : List ℕ
   own = used_symbols p.symbols p.formulas

@@ -4,6 +4,11 @@ use Rattle.std.specs.Option.{option_or}
 use Rattle.ladr_mace4.specs.declared.plan.Plan.{Plan}
 use Rattle.ladr_options.specs.declared.options.Options.{Options}
 use Rattle.ladr_words.specs.declared.task.ModelOptions.{ModelOptions}
+use Rattle.mace_cells.specs.declared.way.Candidates.{Candidates}
+use Rattle.mace_cells.specs.declared.way.Candidates.TheVariants.{All, LeastIndex, InUse}
+use Rattle.mace_cells.specs.declared.way.Measure.{Measure}
+use Rattle.mace_cells.specs.declared.way.Measure.TheVariants.{First, MostCrossed}
+use Rattle.mace_cells.specs.declared.way.Way.{Way}
 
 -- The one size that an input asks for by `domain_size`, if it isn't 0; a word for the first or for
 -- the last size cancels it.
@@ -16,6 +21,20 @@ only_size words o =
 abbrev pub seconds_of : Options → Option ℕ
 seconds_of o = if o.max_seconds == 4294967295 then None else Some o.max_seconds
 
+-- how cells are chosen by an input's `selection_order`, `selection_measure` and `lnh`
+abbrev pub candidates_of : ℕ → Candidates
+candidates_of order = if order == 0 then All else (if order == 1 then LeastIndex else InUse)
+
+abbrev pub measure_of : ℕ → Measure
+measure_of number = if number == 0 then First else MostCrossed
+
+abbrev pub way_of : Options → Way
+way_of o = record {
+  candidates = candidates_of o.selection_order;
+  measure = measure_of o.selection_measure;
+  least_numbers = o.lnh;
+}
+
 -- The words stand in place of the input's options. The sizes are the one that is asked for, or
 -- those from the first to the last.
 abbrev pub plan_of : ModelOptions → Options → Plan
@@ -26,6 +45,7 @@ plan_of words o = record {
   wanted = unwrap_or words.max_models o.max_models;
   seconds = option_or words.max_seconds (seconds_of o);
   megs = o.max_megs;
+  way = way_of o;
 }
 
 -- the size behind so many others

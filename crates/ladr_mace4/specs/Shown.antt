@@ -1,9 +1,7 @@
 -- What stands in the output of a search, to those who asked for it.
 use Rattle.std.specs.Prelude.{◌≡◌, ℕ, ◌^◌, ◌<◌, List, ◌++◌, codes}
 use Rattle.std.specs.declared.result.Result.{Result}
-use Rattle.fol_core.specs.Literals.{AreTrueClauses}
-use Rattle.fol_core.specs.Stated.{Stated, IsCountermodel}
-use Rattle.ladr_cells.specs.Worlds.{clauses_for}
+use Rattle.fol_core.specs.Stated.{Stated}
 use Rattle.ladr_intake.specs.Input.{AreTaken, IsAllRead}
 use Rattle.ladr_intake.specs.Posed.{Posed}
 use Rattle.ladr_intake.specs.declared.stops.Refused.{Refused}
@@ -13,8 +11,9 @@ use Rattle.ladr_io.specs.Times.{Times}
 use Rattle.ladr_mace4.specs.Finding.{Searches}
 use Rattle.ladr_mace4.specs.Fronts.{WroteFront}
 use Rattle.ladr_mace4.specs.Lines.{exhausted_line}
+use Rattle.ladr_mace4.specs.Models.{IsWholeModel}
 use Rattle.ladr_mace4.specs.Plans.{plan_of}
-use Rattle.ladr_mace4.specs.Skolems.{all_symbols, without_skolems}
+use Rattle.ladr_mace4.specs.Skolems.{all_symbols}
 use Rattle.ladr_mace4.specs.declared.ends.SearchEnd.{SearchEnd}
 use Rattle.ladr_models.specs.ReadsBack.{ReadsBack}
 use Rattle.ladr_output.specs.Standing.{AreWholeLines, StandsAfter, Stands, HaveOneFront}
@@ -24,18 +23,14 @@ use Rattle.ladr_words.specs.declared.task.Task.TheVariants.{Mace4}
 use Rattle.mace_search.specs.Models.{IsModel}
 use Rattle.model_tables.specs.ModelText.{model_text}
 use Rattle.model_tables.specs.Isomorphism.{IsIsomorphism}
-use Rattle.model_tables.specs.Size.{IsInterpretation}
-use Rattle.model_tables.specs.Tables.{Finite, meaning_of}
+use Rattle.model_tables.specs.Tables.{Finite}
 
--- Tables with a value for each cell, at size n, of the symbols of the formulas, in which each
--- assumption is true and each goal is false, and with values of the Skolem symbols with which the
--- clauses are true; and the text of model k reads back as these tables, Skolem symbols too.
+-- Whole tables of size n, as `mace4` gives them: each assumption is true in them and each goal false,
+-- and with the values of the Skolem symbols, of which each has its row, the clauses are true; and the
+-- text of model k reads back as these tables, Skolem symbols too.
 abbrev pub IsShown : Stated → ℕ → ℕ → Finite → Type 0
 IsShown p n k t =
-    IsInterpretation n p (without_skolems p t)
-    × IsCountermodel (meaning_of t) p.formulas
-    × AreTrueClauses (meaning_of t) (clauses_for p)
-    × ReadsBack (model_text (all_symbols p) k t) (all_symbols p) t
+    IsWholeModel p n t × ReadsBack (model_text (all_symbols p) k t) (all_symbols p) t
 
 -- what the text of a model begins with
 abbrev pub model_opening : List ℕ

@@ -98,16 +98,16 @@ IsSearchable p s n = (size_needed (formulas_of p) ≤ n) × HasRoomForGround s (
 
 -- Cells are chosen, values tried in rising order and choices taken back, from the beginning of size
 -- n to here, a model being given for each of these, and so many cells chosen.
-abbrev pub GoesTo : Stated → ℕ → List Finite → ℕ → Bool → List Choice → Type 0
-GoesTo p n us chosen live choices =
-    GoesBy (world_for p n) true [] (length us) chosen live choices
+abbrev pub GoesTo : Stated → Plan → ℕ → List Finite → ℕ → Bool → List Choice → Type 0
+GoesTo p s n us chosen live choices =
+    GoesBy (world_for p n s.way) true [] (length us) chosen live choices
 
 -- So it comes to choices that are followed, or of which one has a further value, unless each model
 -- of the size is one of these, renamed.
-abbrev pub HasCourse : Stated → ℕ → List Finite → ℕ → Type 0
-HasCourse p n us chosen =
+abbrev pub HasCourse : Stated → Plan → ℕ → List Finite → ℕ → Type 0
+HasCourse p s n us chosen =
     (live : Bool)
-    × ((choices : List Choice) × GoesTo p n us chosen live choices
+    × ((choices : List Choice) × GoesTo p s n us chosen live choices
     × (MayGoOn live choices ⊎ CoverModels p n us))
 
 -- Size n ended so: it is skipped exactly where it lacks an element that the formulas name; where it
@@ -117,7 +117,7 @@ abbrev pub HasEnded : Stated → Plan → ℕ → Size → Type 0
 HasEnded p s n skipped = n < size_needed (formulas_of p)
 HasEnded p s n (searched us chosen) =
     IsSearchable p s n × AreShown p n us × CoverModels p n us
-    × IfSome s.seconds (λ seconds. GoesTo p n us chosen false [])
+    × IfSome s.seconds (λ seconds. GoesTo p s n us chosen false [])
 
 -- the sizes from n on, step by step, ended so, none behind the last
 abbrev pub HaveEnded : Stated → Plan → ℕ → List Size → Type 0
@@ -131,7 +131,7 @@ IsAtSize p s n between = Unit {0}
 IsAtSize p s n opened = IsBegun p s n
 IsAtSize p s n (inside us chosen) =
     IsBegun p s n × HasRoomForGround s (ground_size n p) × AreShown p n us
-    × IfSome s.seconds (λ seconds. HasCourse p n us chosen)
+    × IfSome s.seconds (λ seconds. HasCourse p s n us chosen)
 
 -- models of a size are searched for
 abbrev pub IsInside : Now → Type 0
@@ -140,10 +140,11 @@ IsInside opened = ⊥
 IsInside (inside us chosen) = Unit {0}
 
 -- a size is begun, or the decisions are followed to the next choice of a cell
-abbrev pub IsFollowing : Stated → ℕ → Now → Type 0
-IsFollowing p n between = ⊥
-IsFollowing p n opened = Unit {0}
-IsFollowing p n (inside us chosen) = (choices : List Choice) × GoesTo p n us chosen true choices
+abbrev pub IsFollowing : Stated → Plan → ℕ → Now → Type 0
+IsFollowing p s n between = ⊥
+IsFollowing p s n opened = Unit {0}
+IsFollowing p s n (inside us chosen) =
+    (choices : List Choice) × GoesTo p s n us chosen true choices
 
 -- all sizes are behind a search, j models having been printed
 abbrev pub AllIsSearched : ℕ → SearchEnd → Type 0
@@ -166,7 +167,7 @@ Stops p s t n j now Exhausted =
 Stops p s t n j now MaxMegs = EndsCrowded p s t n now MaxMegs
 Stops p s t n j now (GroundLimit size) = EndsCrowded p s t n now (GroundLimit size)
 Stops p s t n j now (MaxSeconds first last) =
-    IsLate (time_to_stop s.seconds t) t last × (first ≡ t.first) × IsFollowing p n now
+    IsLate (time_to_stop s.seconds t) t last × (first ≡ t.first) × IsFollowing p s n now
     × (j < s.wanted)
 Stops p s t n j now (ClauseLimit formula) = ⊥
 

@@ -1,5 +1,5 @@
 -- Searches worked out.
-use Rattle.std.specs.Prelude.{ℕ, List, [], ◌∷◌, None, codes}
+use Rattle.std.specs.Prelude.{ℕ, true, List, [], ◌∷◌, None, codes}
 use Rattle.fol_core.specs.Fol.{equal, forall, exists}
 use Rattle.fol_core.specs.Stated.{Stated, stated, said}
 use Rattle.fol_core.specs.Tree.{var}
@@ -7,6 +7,9 @@ use Rattle.fol_core.specs.declared.problem.Role.TheVariants.{Assumption}
 use Rattle.fol_core.specs.declared.symbols.Kind.TheVariants.{Function}
 use Rattle.ladr_mace4.specs.Story.{Size, searched}
 use Rattle.ladr_words.specs.declared.task.ModelOptions.{ModelOptions}
+use Rattle.mace_cells.specs.declared.way.Candidates.TheVariants.{InUse}
+use Rattle.mace_cells.specs.declared.way.Measure.TheVariants.{MostCrossed}
+use Rattle.mace_cells.specs.declared.way.Way.{Way}
 use Rattle.model_tables.specs.Tables.{Finite, listing}
 
 -- some element is each one, which has no symbol but the Skolem symbol for it
@@ -28,3 +31,7 @@ lonely_text =
 -- no word beside `mace4`
 abbrev pub bare : ModelOptions
 bare = record { start_size = None; end_size = None; max_models = None; max_seconds = None }
+
+-- how cells are chosen where an input says nothing of it
+abbrev pub usual : Way
+usual = record { candidates = InUse; measure = MostCrossed; least_numbers = true }

@@ -1,6 +1,7 @@
 // A problem to search the models of.
 ghost use Rattle.std.specs.Prelude.{◌≡◌, ◌-◌, ◌^◌, ◌≤◌, ◌<◌, ℕ, [], true, min, length, None, Some, Err, IfOk, OnOk};
-ghost use Rattle.cell_search.specs.Finites.{finite_of, tables_over};
+ghost use Rattle.cell_search.specs.Courses.{beginning};
+ghost use Rattle.cell_search.specs.Finites.{tables_over};
 ghost use Rattle.clausify.specs.Input.{first_over};
 ghost use Rattle.fol_core.specs.Literals.{equality};
 ghost use Rattle.fol_core.specs.Occurs.{size_needed};
@@ -15,6 +16,7 @@ use cell_search::CellSearch;
 use clausify::{ClauseError, clauses_of, own_table};
 use fol_core::{Clauses, Entry, Problem, Symbols};
 use ladr_cells::cells_for_all;
+use mace_cells::Way;
 use mace_ground::count;
 use model_tables::{Tables, interpretation_text};
 use std::alloc::{AllocError, Global};
@@ -88,28 +90,22 @@ impl<'a> Asked<'a> {
         count(&self.clauses, &self.symbols, size)
     }
 
-    /// A search for the models of a size, which stops at a reading of the clock from `stop` on.
+    /// A search for the models of a size, which chooses cells in this way and stops at a reading of the clock from `stop` on.
     pub fn search(
         &self,
         alloc: Global,
         size: u32,
+        way: Way,
         stop: Option<u128>,
     ) -> Result<CellSearch<'_>, AllocError>
         requires some { 0 < size }
         requires size { size ≤ 255 }
         requires needed { size_needed (formulas_of self.now) ≤ size }
         requires count { ground_size size self.now ≤ 50000000 }
-        ensures { IfOk result (λ s. s ≡ record {
-          world = world_for self.now size;
-          live = true;
-          choices = [];
-          tables = finite_of (world_for self.now size) [];
-          stop = stop;
-          late = None;
-        }) }
+        ensures { IfOk result (λ s. s ≡ beginning (world_for self.now size way) stop) }
     {
         cells_for_all();
-        CellSearch::new(alloc, &self.clauses, &self.symbols, size, stop)
+        CellSearch::new(alloc, &self.clauses, &self.symbols, size, way, stop)
     }
 
     /// The tables of the model that a search found.

@@ -18,3 +18,4 @@ pub use ends::SearchEnd;
 pub use laws::{searches_show, worked};
 pub use plan::Plan;
 pub use search::mace4;
+pub use watch::Watch;

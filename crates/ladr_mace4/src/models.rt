@@ -56,7 +56,7 @@ pub fn models<K: Sink, C: Clock>(
     axioms_are_in_order();
     solutions_are_models();
     isomorphisms_are_carried();
-    let mut search = match asked.search(alloc, n, watch.stop()) {
+    let mut search = match asked.search(alloc, n, plan.way, watch.stop()) {
         Ok(search) => search,
         Err(_) => return Err(Cut::Memory),
     };

@@ -1,11 +1,12 @@
 // What is asked of a search for models.
 ghost use Rattle.std.specs.Prelude.{◌≡◌, ◌≤◌, IfSome, unwrap_or};
 ghost use Rattle.ladr_options.specs.Ranges.{AreInRange, IsSize};
-ghost use Rattle.ladr_mace4.specs.Plans.{plan_of, only_size, seconds_of};
+ghost use Rattle.ladr_mace4.specs.Plans.{plan_of, only_size, seconds_of, way_of};
 ghost use Rattle.ladr_words.specs.Tasks.{HasRanges, IsFrom};
 
 use ladr_options::{NO_LIMIT, Options};
 use ladr_words::{ModelOptions, Task};
+use mace_cells::{Candidates, Measure, Way};
 
 /// What is asked of a search.
 #[derive(Clone, Copy, Debug, PartialEq, Eq)]
@@ -20,6 +21,8 @@ pub struct Plan {
     pub seconds: Option<u64>,
     /// How much room the cells and ground literals may take; a meg has 65,536 of them.
     pub megs: u32,
+    /// How cells are chosen, and up to which values they are tried.
+    pub way: Way,
 }
 
 /// The plan by the words, and by the options of the input where the words set nothing.
@@ -42,6 +45,27 @@ pub fn search_plan(words: ModelOptions, options: &Options) -> Plan
         wanted: words.max_models.unwrap_or(u64::from(options.max_models)),
         seconds: words.max_seconds.or(seconds_of(options)),
         megs: options.max_megs,
+        way: way_of(options),
+    }
+}
+
+// How the input's options let cells be chosen.
+fn way_of(options: &Options) -> Way
+    ensures { result ≡ way_of options.now }
+{
+    let candidates = match options.selection_order {
+        0 => Candidates::All,
+        1 => Candidates::LeastIndex,
+        _ => Candidates::InUse,
+    };
+    let measure = match options.selection_measure {
+        0 => Measure::First,
+        _ => Measure::MostCrossed,
+    };
+    Way {
+        candidates,
+        measure,
+        least_numbers: options.lnh,
     }
 }
 

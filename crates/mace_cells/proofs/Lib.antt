@@ -4,3 +4,4 @@ pub mod Drives
 pub mod Making
 pub mod Reading
 pub mod Moving
+pub mod Counting

@@ -3,12 +3,13 @@ use Rattle.std.proofs.Common.{◌≡◌, ◌⊎◌, inl, inr, ℕ, suc, max, ◌
 use Rattle.std.proofs.lemmas.Bool.{cases_lt, false≢true}
 use Rattle.fol_core.specs.Meaning.{Meaning}
 use Rattle.ladr_io.specs.Times.{Times}
-use Rattle.mace_cells.specs.Choices.{Decision, Choice, IsUndecided, IsOpen, MayGoOn}
+use Rattle.mace_cells.specs.Choices.{Decision, Choice, decisions, IsUndecided, IsOpen, MayGoOn}
 use Rattle.mace_cells.specs.Leaves.{choice_of, choices_of, decisions_of}
 use Rattle.mace_cells.specs.Moves.{Move, chooses, finds_none, gives_model, is_refuted, tries, takes_back, IsToChoose, IsMove, AreMoves, models_given, cells_chosen, GoesBy}
+use Rattle.mace_cells.specs.Numbers.{greatest_tried}
 use Rattle.mace_cells.specs.Readings.{GoesInTime}
 use Rattle.mace_cells.specs.Stacked.{rest_of}
-use Rattle.mace_cells.specs.World.{World, cell_of, many_cells}
+use Rattle.mace_cells.specs.World.{World, IsSettled, IsRefuted, cell_of, many_cells}
 use Rattle.mace_cells.specs.declared.frame.Frame.{Frame}
 use Rattle.mace_ground.specs.Cells.{Cell}
 use Rattle.mace_search.specs.declared.answer.Answer.{Answer}
@@ -68,17 +69,17 @@ few_of w fs room = let e = many_choices w fs in omega (arith, e, room)
 pub to_choose : (w : World) (ds : List Decision) (fs : List Frame) (k : ℕ) → ds ≡ decisions_of w fs → k < many_cells w → IsUndecided ds (cell_of w k) → length fs < many_cells w → IsToChoose w (choices_of w fs) (cell_of w k)
 to_choose w ds fs k same within none room = ((k, within, refl), subst (λ (es : List Decision). IsUndecided es (cell_of w k)) same none, few_of w fs room)
 
-pub chooses_value : (w : World) (fs new : List Frame) (f : Frame) → IsToChoose w (choices_of w fs) (cell_of w f.cell) → f.value ≤ f.most → f.most < max w.size 2 → new ≡ f ∷ fs → GoesBy w true (choices_of w fs) 0 1 true (choices_of w new)
-chooses_value w fs new f free le fits is = goes_once w true true (choices_of w fs) (choices_of w new) (chooses (choice_of w f)) (refl, free, le, fits, refl, ap (choices_of w) is)
+pub chooses_value : (w : World) (fs new : List Frame) (f : Frame) → IsToChoose w (choices_of w fs) (cell_of w f.cell) → f.value ≤ f.most → f.most < max w.size 2 → f.most ≡ greatest_tried w (decisions_of w fs) (cell_of w f.cell) → new ≡ f ∷ fs → GoesBy w true (choices_of w fs) 0 1 true (choices_of w new)
+chooses_value w fs new f free le fits most is = goes_once w true true (choices_of w fs) (choices_of w new) (chooses (choice_of w f)) (refl, free, le, fits, most, refl, ap (choices_of w) is)
 
 pub chooses_none : (w : World) (fs : List Frame) (cell : Cell) → IsToChoose w (choices_of w fs) cell → GoesBy w true (choices_of w fs) 0 1 false (choices_of w fs)
 chooses_none w fs cell free = goes_once w true false (choices_of w fs) (choices_of w fs) (finds_none cell) (refl, free, refl, refl)
 
-pub refutes_choices : (w : World) (cs : List Choice) → GoesBy w true cs 0 0 false cs
-refutes_choices w cs = goes_once w true false cs cs is_refuted (refl, refl, refl)
+pub refutes_choices : (w : World) (ds : List Decision) (fs : List Frame) → ds ≡ decisions_of w fs → IsRefuted w ds → GoesBy w true (choices_of w fs) 0 0 false (choices_of w fs)
+refutes_choices w ds fs same none = goes_once w true false (choices_of w fs) (choices_of w fs) is_refuted (refl, subst (λ (es : List Decision). IsRefuted w es) same none, refl, refl)
 
-pub gives_one : (w : World) (cs : List Choice) → GoesBy w true cs 1 0 false cs
-gives_one w cs = goes_once w true false cs cs gives_model (refl, refl, refl)
+pub gives_one : (w : World) (cs : List Choice) (m : Meaning) → IsSettled w (decisions cs) m → GoesBy w true cs 1 0 false cs
+gives_one w cs m settled = goes_once w true false cs cs gives_model (refl, (m, settled), refl, refl)
 
 pub tries_value : (w : World) (old new : List Frame) (f g : Frame) → old ≡ f ∷ rest_of old → f.value < g.value → g.value ≤ f.most → g.cell ≡ f.cell → g.most ≡ f.most → new ≡ g ∷ rest_of old → GoesBy w false (choices_of w old) 0 0 true (choices_of w new)
 tries_value w old new f g latest less le cell most is =
@@ -108,15 +109,11 @@ goes_live w false (c ∷ cs) (inr h) =
     (on.0, goes_then w false false true (c ∷ cs) cs on.0 0 0 0 0 0 0 (omega arith) (omega arith) back on.1)
 
 -- all choices can be taken back
-goes_back : (w : World) (cs : List Choice) → GoesBy w false cs 0 0 false []
+pub goes_back : (w : World) (cs : List Choice) → GoesBy w false cs 0 0 false []
 goes_back w [] = goes_nowhere w false []
 goes_back w (c ∷ cs) =
     let back : GoesBy w false (c ∷ cs) 0 0 false cs = goes_once w false false (c ∷ cs) cs takes_back (refl, refl, refl) in
     goes_then w false false false (c ∷ cs) cs [] 0 0 0 0 0 0 (omega arith) (omega arith) back (goes_back w cs)
-
-pub goes_to_end : (w : World) (live : Bool) (cs : List Choice) → GoesBy w live cs 0 0 false []
-goes_to_end w false cs = goes_back w cs
-goes_to_end w true cs = goes_then w true false false cs cs [] 0 0 0 0 0 0 (omega arith) (omega arith) (refutes_choices w cs) (goes_back w cs)
 
 -- where no choice has one, nothing is open
 pub none_open : (live : Bool) (cs : List Choice) → MayGoOn live cs ⊎ ((m : Meaning) → IsOpen live cs m → ⊥)

@@ -146,7 +146,7 @@ module _ (w : World) where
 
   pub found : (live : Bool) (cs cs' : List Choice) (t : Meaning) → LeavesOpen w live cs true cs' → IsSettled w (decisions cs') t → FindsModel w live cs t cs'
   found live cs cs' t leaves settled = record {
-    solves = settled.0;
+    settles = settled;
     open_before = leaves.behind t (inl (refl, settled.1));
     no_more = not_ahead t cs' settled.1;
     covers = covers;

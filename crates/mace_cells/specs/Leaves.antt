@@ -3,7 +3,7 @@ use Rattle.std.specs.Prelude.{◌⊎◌, Bool, List, map}
 use Rattle.fol_core.specs.Meaning.{Meaning}
 use Rattle.mace_cells.specs.Choices.{Decision, Choice, IsAhead, IsOpen, decisions}
 use Rattle.mace_cells.specs.Solutions.{CoversIsomorphic}
-use Rattle.mace_cells.specs.World.{World, Solves, AreAlike, cell_of}
+use Rattle.mace_cells.specs.World.{World, Solves, AreAlike, IsSettled, cell_of}
 use Rattle.mace_cells.specs.declared.frame.Frame.{Frame}
 
 -- the choice that the code keeps as the number of its cell
@@ -23,11 +23,11 @@ pub record LeavesOpen (w : World) (live : Bool) (cs : List Choice) (live' : Bool
   pub covers : CoversIsomorphic w.size w.clauses w.fixed (IsOpen live cs) (IsOpen live' cs')
   pub behind : (m : Meaning) → IsOpen live' cs' m → IsOpen live cs m
 
--- A solution was open, and is ahead no more; each that was open is isomorphic to one that is like
--- it or is ahead now; what is ahead now was open before.
+-- The decisions settle a solution's values; it was open, and is ahead no more; each that was open is
+-- isomorphic to one that is like it or is ahead now; what is ahead now was open before.
 pub record FindsModel (w : World) (live : Bool) (cs : List Choice) (t : Meaning) (cs' : List Choice)
     : Type 0 where
-  pub solves : Solves w t
+  pub settles : IsSettled w (decisions cs') t
   pub open_before : IsOpen live cs t
   pub no_more : IsAhead t cs' → ⊥
   pub covers : CoversIsomorphic w.size w.clauses w.fixed (IsOpen live cs)

@@ -3,6 +3,7 @@ pub mod Choices
 pub mod Leaves
 pub mod Made
 pub mod Moves
+pub mod Numbers
 pub mod Readings
 pub mod Searches
 pub mod Solutions

@@ -1,7 +1,9 @@
 -- How a search goes from one of its choices to another.
 use Rattle.std.specs.Prelude.{◌≡◌, ℕ, suc, max, ◌<◌, ◌≤◌, Bool, true, false, List, [], ◌∷◌, length}
+use Rattle.fol_core.specs.Meaning.{Meaning}
 use Rattle.mace_cells.specs.Choices.{Choice, decisions, IsUndecided}
-use Rattle.mace_cells.specs.World.{World, cell_of, many_cells}
+use Rattle.mace_cells.specs.Numbers.{greatest_tried}
+use Rattle.mace_cells.specs.World.{World, IsSettled, IsRefuted, cell_of, many_cells}
 use Rattle.mace_ground.specs.Cells.{Cell}
 
 -- It chooses a cell, and tries a value of it or finds none to try; its decisions give a model or
@@ -21,16 +23,19 @@ IsToChoose w cs cell =
     × (length cs < many_cells w)
 
 -- The move leads from these choices to those, the decisions being followed or left. A cell is
--- chosen while they are followed; values rise up to the greatest, which is that of an element, or
--- 1 at most.
+-- chosen while they are followed; they are left where they settle the values of a solution, which
+-- is a model, or where no solution agrees with them; values rise up to the greatest that is to be
+-- tried, which is that of an element, or 1 at most.
 abbrev pub IsMove : World → Bool → List Choice → Move → Bool → List Choice → Type 0
 IsMove w live cs (chooses c) live' cs' =
     (live ≡ true) × IsToChoose w cs c.cell × (c.value ≤ c.most) × (c.most < max w.size 2)
-    × (live' ≡ true) × (cs' ≡ c ∷ cs)
+    × (c.most ≡ greatest_tried w (decisions cs) c.cell) × (live' ≡ true) × (cs' ≡ c ∷ cs)
 IsMove w live cs (finds_none cell) live' cs' =
     (live ≡ true) × IsToChoose w cs cell × (live' ≡ false) × (cs' ≡ cs)
-IsMove w live cs gives_model live' cs' = (live ≡ true) × (live' ≡ false) × (cs' ≡ cs)
-IsMove w live cs is_refuted live' cs' = (live ≡ true) × (live' ≡ false) × (cs' ≡ cs)
+IsMove w live cs gives_model live' cs' =
+    (live ≡ true) × ((m : Meaning) × IsSettled w (decisions cs) m) × (live' ≡ false) × (cs' ≡ cs)
+IsMove w live cs is_refuted live' cs' =
+    (live ≡ true) × IsRefuted w (decisions cs) × (live' ≡ false) × (cs' ≡ cs)
 IsMove w live [] (tries v) live' cs' = ⊥
 IsMove w live (c ∷ cs) (tries v) live' cs' =
     (live ≡ false) × (c.value < v) × (v ≤ c.most) × (live' ≡ true)

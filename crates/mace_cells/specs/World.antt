@@ -4,15 +4,17 @@ use Rattle.fol_core.specs.Literals.{ClauseTree}
 use Rattle.fol_core.specs.Meaning.{Meaning}
 use Rattle.mace_cells.specs.Choices.{Decision, AgreesWith}
 use Rattle.mace_cells.specs.Solutions.{IsSolution, CoversIsomorphic}
+use Rattle.mace_cells.specs.declared.way.Way.{Way}
 use Rattle.mace_ground.specs.Cells.{Block, Cell, cell_at, cells_in, value_at}
 
--- how many elements there are, below which of them an isomorphism moves none, the clauses, and the
--- cells
+-- how many elements there are, below which of them an isomorphism moves none, the clauses, the
+-- cells, and how they are chosen
 pub record World : Type 0 where
   pub size : ℕ
   pub fixed : ℕ
   pub clauses : List ClauseTree
   pub blocks : List Block
+  pub way : Way
 
 abbrev pub Solves : World → Meaning → Type 0
 Solves w m = IsSolution w.size w.clauses m

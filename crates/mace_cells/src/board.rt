@@ -3,6 +3,7 @@ ghost use Rattle.std.specs.Prelude.{ℕ, ◌≡◌, ◌<◌, ◌≤◌, List, �
 ghost use Rattle.fol_core.specs.Meaning.{Meaning};
 ghost use Rattle.mace_cells.specs.Boards.{IsAsSaid};
 ghost use Rattle.mace_cells.specs.Choices.{Decision, IsLatest};
+ghost use Rattle.mace_cells.specs.Numbers.{greatest_tried};
 ghost use Rattle.mace_cells.specs.Stacked.{rest_of};
 ghost use Rattle.mace_cells.specs.World.{World, cell_of, many_cells, IsBound, IsNextValue};
 
@@ -38,6 +39,8 @@ pub trait Board {
         requires { cell < many_cells (world self.now) }
         ensures bound { IsBound (world self.now) (decided self.now)
             (cell_of (world self.now) cell) result }
+        ensures tried { result ≡ greatest_tried (world self.now) (decided self.now)
+            (cell_of (world self.now) cell) }
         ensures fits { result < max (world self.now).size 2 };
 
     fn next_value(&self, cell: u32, from: u32, most: u8) -> Option<u8>

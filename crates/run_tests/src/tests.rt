@@ -130,7 +130,7 @@ const MOVED: &[u8] =
 const MANY: &[u8] = b"formulas(assumptions).\nf(x,y,z,u) = x.\nend_of_list.\n";
 
 const ALL_OF_THREE: &[u8] =
-    b"% Domain size 3.\ninterpretation(3, [number = 1,seconds = 0], [\n    function(f(_), [0,1,2])\n]).\ninterpretation(3, [number = 2,seconds = 0], [\n    function(f(_), [0,2,1])\n]).\ninterpretation(3, [number = 3,seconds = 0], [\n    function(f(_), [1,0,2])\n]).\ninterpretation(3, [number = 4,seconds = 0], [\n    function(f(_), [2,1,0])\n]).\n% Domain size 3 exhausted.\n% Models=4.\n% Exit all_models.\n";
+    b"% Domain size 3.\ninterpretation(3, [number = 1,seconds = 0], [\n    function(f(_), [0,1,2])\n]).\ninterpretation(3, [number = 2,seconds = 0], [\n    function(f(_), [0,2,1])\n]).\ninterpretation(3, [number = 3,seconds = 0], [\n    function(f(_), [1,0,2])\n]).\n% Domain size 3 exhausted.\n% Models=3.\n% Exit all_models.\n";
 
 const ONE_OF_TWO: &[u8] =
     b"% Domain size 2.\ninterpretation(2, [number = 1,seconds = 0], [\n    function(f(_), [1,0])\n]).\n% Models=1.\n% Exit max_models.\n";

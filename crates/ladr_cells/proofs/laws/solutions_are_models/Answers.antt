@@ -2,7 +2,7 @@ use Rattle.ladr_cells.proofs.Solving.{solution_says, model_solves}
 use Rattle.ladr_cells.proofs.laws.solutions_are_models.Goals as goal
 
 pub returns-clause-says : goal.returns-clause-says
-returns-clause-says c = λ p n well few. solution_says p n well few c.clauses_suffice.ensures
+returns-clause-says c = λ p n way well few. solution_says p n way well few c.clauses_suffice.ensures
 
 pub returns-clause-each : goal.returns-clause-each
-returns-clause-each c = λ p n well few. model_solves p n well few c.clauses_follow.ensures
+returns-clause-each c = λ p n way well few. model_solves p n way well few c.clauses_follow.ensures

@@ -23,7 +23,7 @@ loop-printed-init g c =
       so_far = (
         [],
         (
-          nothing_yet c.args.asked.now c.args.n c.args.k c.in-Ok.search (g.K.Sink.outflow c.args.sink.now) (ap (λ (s : Course). s.world) made) (ap (λ (s : Course). s.live) made) (ap (λ (s : Course). s.choices) made) (ap (λ (s : Course). s.late) made),
+          nothing_yet c.args.asked.now c.args.plan c.args.n c.args.k c.in-Ok.search (g.K.Sink.outflow c.args.sink.now) (ap (λ (s : Course). s.world) made) (ap (λ (s : Course). s.live) made) (ap (λ (s : Course). s.choices) made) (ap (λ (s : Course). s.late) made),
           none_gone c.in-Ok.search t (ap (λ (s : Course). s.live) made) (ap (λ (s : Course). s.choices) made),
         ),
       );
@@ -35,7 +35,7 @@ loop-printed-init g c =
 
 pub loop-printed-preserved : goal.loop-printed-preserved
 loop-printed-preserved g c =
-    let facts = facts_of c.skolems_stand_behind.ensures c.axioms_are_in_order.ensures.order c.axioms_are_in_order.ensures.new c.solutions_are_models.ensures.says c.solutions_are_models.ensures.each c.isomorphisms_are_carried.ensures c.args.asked.now c.args.n c.requires.size c.is_proper.ensures.well_formed c.is_proper.ensures.few c.is_proper.ensures.few_witnesses in
+    let facts = facts_of c.skolems_stand_behind.ensures c.axioms_are_in_order.ensures.order c.axioms_are_in_order.ensures.new c.solutions_are_models.ensures.says c.solutions_are_models.ensures.each c.isomorphisms_are_carried.ensures c.args.asked.now c.args.plan c.args.n c.requires.size c.is_proper.ensures.well_formed c.is_proper.ensures.few c.is_proper.ensures.few_witnesses in
     let us = c.loop-printed.invariant.so_far.0 in
     let so_far = c.loop-printed.invariant.so_far.1.0 in
     let gone = c.loop-printed.invariant.so_far.1.1 in
@@ -52,8 +52,8 @@ loop-printed-preserved g c =
       so_far = (
         _,
         (
-          further c.args.asked.now c.args.n c.args.k us search further_on c.loop-printed.printed (c.loop-printed.printed + 1) _ _ _ facts so_far gives.0 gives.1 gives.2 same.0 gives.3 refl made,
-          gone_more us _ search further_on t₀ t t' gone same.0 same.1 gives.2 keeps,
+          further c.args.asked.now c.args.plan c.args.n c.args.k us search further_on c.loop-printed.printed (c.loop-printed.printed + 1) _ _ _ facts so_far gives.0 gives.1 gives.2 same.0 gives.3 refl made,
+          gone_more us _ search further_on _ t₀ t t' gives.0.settles gone same.0 same.1 gives.2 keeps,
         ),
       );
       stop = same.1 ∙ c.loop-printed.invariant.stop;
@@ -64,7 +64,7 @@ loop-printed-preserved g c =
 
 pub returns-in-Err-show-clause-tells : goal.returns-in-Err-show-clause-tells
 returns-in-Err-show-clause-tells g c = λ r reads.
-    let facts = facts_of c.skolems_stand_behind.ensures c.axioms_are_in_order.ensures.order c.axioms_are_in_order.ensures.new c.solutions_are_models.ensures.says c.solutions_are_models.ensures.each c.isomorphisms_are_carried.ensures c.args.asked.now c.args.n c.requires.size c.is_proper.ensures.well_formed c.is_proper.ensures.few c.is_proper.ensures.few_witnesses in
+    let facts = facts_of c.skolems_stand_behind.ensures c.axioms_are_in_order.ensures.order c.axioms_are_in_order.ensures.new c.solutions_are_models.ensures.says c.solutions_are_models.ensures.each c.isomorphisms_are_carried.ensures c.args.asked.now c.args.plan c.args.n c.requires.size c.is_proper.ensures.well_formed c.is_proper.ensures.few c.is_proper.ensures.few_witnesses in
     let us = c.loop-printed.invariant.so_far.0 in
     let so_far = c.loop-printed.invariant.so_far.1.0 in
     let gone = c.loop-printed.invariant.so_far.1.1 in
@@ -77,7 +77,7 @@ returns-in-Err-show-clause-tells g c = λ r reads.
     let same = c.in-Model.ensures.same in
     let v = tables_over (all_symbols c.args.asked.now) further_on.tables in
     let before = gone_before us search further_on.choices t₀ t t' gone (c.in-Model.ensures.clock so_far.late) in
-    let after = given_one us v search further_on.choices before.0 before.1 in
+    let after = given_one us v search further_on.choices _ before.0 gives.0.settles before.1 in
     let stop : search.stop ≡ time_to_stop c.args.plan.seconds t₀ = subst (λ (s : Option ℕ). search.stop ≡ time_to_stop s t₀) c.requires.seconds c.loop-printed.invariant.stop in
     let watched = watched_on c.args.watch search.stop _ t₀ t' c.requires.looked c.loop-printed.invariant.stop c.requires.watched gives.4 before.2 in
     at_model c.args.asked.now c.args.plan t' c.args.n c.args.k r us search further_on.tables further_on.choices c.loop-printed.printed _ _ _ c.in-Err-show.cut facts c.requires.begun c.requires.room c.loop-printed-test.true so_far gives.0 gives.1 before.0 before.1 after
@@ -85,7 +85,7 @@ returns-in-Err-show-clause-tells g c = λ r reads.
 
 pub returns-in-Exhausted-clause-tells : goal.returns-in-Exhausted-clause-tells
 returns-in-Exhausted-clause-tells g c = λ r reads.
-    let facts = facts_of c.skolems_stand_behind.ensures c.axioms_are_in_order.ensures.order c.axioms_are_in_order.ensures.new c.solutions_are_models.ensures.says c.solutions_are_models.ensures.each c.isomorphisms_are_carried.ensures c.args.asked.now c.args.n c.requires.size c.is_proper.ensures.well_formed c.is_proper.ensures.few c.is_proper.ensures.few_witnesses in
+    let facts = facts_of c.skolems_stand_behind.ensures c.axioms_are_in_order.ensures.order c.axioms_are_in_order.ensures.new c.solutions_are_models.ensures.says c.solutions_are_models.ensures.each c.isomorphisms_are_carried.ensures c.args.asked.now c.args.plan c.args.n c.requires.size c.is_proper.ensures.well_formed c.is_proper.ensures.few c.is_proper.ensures.few_witnesses in
     let us = c.loop-printed.invariant.so_far.0 in
     let so_far = c.loop-printed.invariant.so_far.1.0 in
     let gone = c.loop-printed.invariant.so_far.1.1 in
@@ -132,7 +132,7 @@ returns-in-MaxSeconds-clause-tells g c = λ r reads.
 
 pub returns-clause-tells : goal.returns-clause-tells
 returns-clause-tells g c = λ r reads.
-    let facts = facts_of c.skolems_stand_behind.ensures c.axioms_are_in_order.ensures.order c.axioms_are_in_order.ensures.new c.solutions_are_models.ensures.says c.solutions_are_models.ensures.each c.isomorphisms_are_carried.ensures c.args.asked.now c.args.n c.requires.size c.is_proper.ensures.well_formed c.is_proper.ensures.few c.is_proper.ensures.few_witnesses in
+    let facts = facts_of c.skolems_stand_behind.ensures c.axioms_are_in_order.ensures.order c.axioms_are_in_order.ensures.new c.solutions_are_models.ensures.says c.solutions_are_models.ensures.each c.isomorphisms_are_carried.ensures c.args.asked.now c.args.plan c.args.n c.requires.size c.is_proper.ensures.well_formed c.is_proper.ensures.few c.is_proper.ensures.few_witnesses in
     let us = c.loop-printed.invariant.so_far.0 in
     let so_far = c.loop-printed.invariant.so_far.1.0 in
     let gone = c.loop-printed.invariant.so_far.1.1 in

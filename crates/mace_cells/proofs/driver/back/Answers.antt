@@ -14,4 +14,4 @@ returns-clause-rises g c = gone_back c.retreat.result _ _ _ _ c.retreat.ensures.
 pub returns-clause-goes : goal.returns-clause-goes
 returns-clause-goes g c =
     let w = g.B.Board.world c.args.board.now in
-    goes_behind w w true false c.retreat.result c.args.frames.now.list c.args.frames.now.list c.retreat.new.frames.list 0 0 0 refl refl (refutes_choices w _) c.retreat.ensures.goes
+    goes_behind w w true false c.retreat.result c.args.frames.now.list c.args.frames.now.list c.retreat.new.frames.list 0 0 0 refl refl (refutes_choices w _ c.args.frames.now.list c.requires.standing.decided c.requires.refuted) c.retreat.ensures.goes

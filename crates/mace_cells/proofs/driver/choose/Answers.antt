@@ -1,4 +1,6 @@
-use Rattle.std.proofs.Common.{ap}
+use Rattle.std.proofs.Common.{List, ap, ◌∙◌}
+use Rattle.mace_cells.specs.Choices.{Decision}
+use Rattle.mace_cells.specs.Numbers.{greatest_tried}
 use Rattle.mace_cells.specs.Stacked.{Stacked}
 use Rattle.mace_cells.specs.World.{cell_of}
 use Rattle.mace_cells.specs.declared.frame.Frame.{Frame}
@@ -26,4 +28,5 @@ returns-in-None-clause-goes g c = chooses_none (g.B.Board.world c.args.board.now
 pub returns-in-Some-clause-goes : goal.returns-in-Some-clause-goes
 returns-in-Some-clause-goes g c =
     chooses_value (g.B.Board.world c.args.board.now) c.args.frames.now.list _ (record { cell = c.args.cell; value = c.in-Some.value; most = c.most-most.result })
-    (to_choose (g.B.Board.world c.args.board.now) (g.B.Board.decided c.args.board.now) c.args.frames.now.list c.args.cell c.requires.standing.decided c.requires.cell c.requires.undecided c.requires.room) c.in-Some.ensures.1 c.most-most.ensures.fits (ap (λ (s : Stacked Frame). s.list) c.push.ensures)
+    (to_choose (g.B.Board.world c.args.board.now) (g.B.Board.decided c.args.board.now) c.args.frames.now.list c.args.cell c.requires.standing.decided c.requires.cell c.requires.undecided c.requires.room) c.in-Some.ensures.1 c.most-most.ensures.fits
+    (c.most-most.ensures.tried ∙ ap (λ (ds : List Decision). greatest_tried (g.B.Board.world c.args.board.now) ds (cell_of (g.B.Board.world c.args.board.now) c.args.cell)) c.requires.standing.decided) (ap (λ (s : Stacked Frame). s.list) c.push.ensures)

@@ -1,11 +1,15 @@
-use Rattle.std.proofs.Common.{◌≡◌, ℕ, None, sym, subst}
+use Rattle.std.proofs.Common.{◌≡◌, ℕ, None, sym, ap, ◌∙◌, subst}
+use Rattle.cell_choice.specs.Choosing.{IsPicked}
+use Rattle.cell_choice.specs.Shapes.{index_in}
+use Rattle.mace_cells.specs.Numbers.{above_used}
 use Rattle.mace_cells.specs.Boards.{IsAsSaid}
-use Rattle.mace_cells.specs.Trails.{value_in}
+use Rattle.mace_cells.specs.Trails.{value_in, HasTwoLeft}
 use Rattle.mace_cells.specs.World.{cell_of}
 use Rattle.mace_cells.specs.declared.board.Status.{Status}
 use Rattle.model_tables.specs.Size.{bound_of}
-use Rattle.cell_search.specs.Asking.{HasTwoLeft}
 use Rattle.cell_search.specs.Finites.{meaning_by_cells}
+use Rattle.cell_search.specs.Positions.{BoardPosition}
+use Rattle.cell_search.specs.declared.full.Filled.TheVariants.{Open}
 use Rattle.cell_search.specs.Losses.{decided_in}
 use Rattle.cell_search.proofs.Boarding.{undecided_by}
 use Rattle.cell_search.proofs.Boards.{settled, none_settled}
@@ -45,3 +49,12 @@ returns-after-are_true-clause-told c =
 
 pub returns-after-are_true-clause-full : goal.returns-after-are_true-clause-full
 returns-after-are_true-clause-full c = λ e. tables_whole c.self.inside.setup c.fullness.new.trail.entries c.fullness.ensures.board.some c.in-Full.ensures.filled
+
+pub returns-in-Open-clause-picked : goal.returns-in-Open-clause-picked
+returns-in-Open-clause-picked c = λ k is.
+    let a = c.self.inside in
+    let t = c.fullness.new.trail in
+    let same : c.in-Open.cell ≡ k = cc in
+    let used : c.in_use-used.result ≡ above_used a.setup.fixed (decided_in a.setup t.entries) =
+    c.in_use-used.ensures ∙ ap (λ (p : BoardPosition). above_used p.world.fixed (decided_in p.world p.table.entries)) (sym c.self.view_is) ∙ ap (above_used a.setup.fixed) (sym c.fullness.ensures.decided) in
+    subst (λ (u : ℕ). IsPicked (index_in a.setup) t a.setup.way u k) used (c.in-Open.ensures.picked k (ap (λ (j : ℕ). Open j) same))

@@ -1,19 +1,42 @@
-use Rattle.std.proofs.Common.{◌≡◌, ℕ, [], List, length, max, sym, ap, ◌∙◌, subst}
-use Rattle.std.proofs.lemmas.List.{length-replicate}
+use Rattle.std.proofs.Common.{◌≡◌, ℕ, [], List, length, map, max, sym, ap, ◌∙◌, subst, arith}
+use Rattle.std.proofs.lemmas.List.{length-replicate, length-map}
+use Rattle.cell_choice.proofs.Shaping.{shapes_many}
+use Rattle.cell_choice.specs.Numbers.{uses_by}
+use Rattle.cell_choice.specs.Shapes.{ranking_of}
+use Rattle.cell_choice.specs.declared.shape.Shape.{Shape}
+use Rattle.mace_cells.specs.Stacked.{Stacked}
 use Rattle.mace_cells.specs.Trails.{Partial, partial}
 use Rattle.mace_cells.specs.World.{many_cells}
-use Rattle.cell_search.specs.Losses.{IsBoard}
-use Rattle.cell_search.proofs.Boards.{board_at_first, zeros_below}
+use Rattle.mace_cells.specs.declared.way.Way.{Way}
+use Rattle.cell_search.specs.Losses.{IsBoard, decided_in}
+use Rattle.cell_search.specs.Positions.{position}
+use Rattle.cell_search.proofs.Boards.{board_at_first, first_table, zeros_below}
 use Rattle.cell_search.proofs.cells.Cells.new.Goals as goal
+
+pub new-requires : goal.new-requires
+new-requires c =
+    let w = c.args.setup in
+    let is : length c.in_ok-indices.indices.items ≡ length c.deref.result.now = ap (λ (xs : List ℕ). length xs) c.in_ok-indices.ensures ∙ length-map c.deref.result.now (λ s. s.above) in
+    let shapes : length c.deref.result.now ≡ many_cells w = ap (λ (ss : List Shape). length ss) (c.deref.ensures.value ∙ c.requires.shapes) ∙ shapes_many w.size w.blocks in
+    omega (arith, is, shapes, c.cells-cells.ensures, c.cells-cells.type_inv)
 
 pub invariant_of-result : goal.invariant_of-result
 invariant_of-result c =
     let w = c.args.setup in
-    let first : c.in_ok-trail.trail ≡ partial (many_cells w) (max w.size 2) [] [] =
-    c.in_ok-trail.ensures ∙ ap (λ (n : ℕ). partial n c.max.result [] []) c.cells.ensures ∙ ap (λ (n : ℕ). partial (many_cells w) n [] []) (c.max.ensures ∙ ap (λ (n : ℕ). max n 2) c.size.ensures.size) in
+    let first = first_table w c.deref.result.now c.in_ok-indices.indices.items c.in_ok-trail.trail c.max.result c.way.result.measure (c.deref.ensures.value ∙ c.requires.shapes) c.in_ok-indices.ensures (c.max.ensures ∙ ap (λ (n : ℕ). max n 2) c.size.ensures.size) (ap (λ (v : Way). v.measure) c.way.ensures) c.in_ok-trail.ensures in
     record {
-      board = subst (λ (t : Partial). IsBoard w t) (sym first) (board_at_first w c.requires.some);
-      searchable = c.requires;
+      board = subst (λ (t : Partial). IsBoard w t) (sym first) (board_at_first w c.requires.searchable.some);
+      searchable = c.requires.searchable;
       room = let many : length c.in_ok-env.env.items ≡ c.in_ok-room.room = ap (λ (xs : List ℕ). length xs) c.in_ok-env.ensures ∙ length-replicate c.in_ok-room.room 0 in rw many c.in_ok-room.ensures;
-      env = rw c.in_ok-env.ensures (zeros_below w.size c.in_ok-room.room c.requires.some);
+      env = rw c.in_ok-env.ensures (zeros_below w.size c.in_ok-room.room c.requires.searchable.some);
+      shapes = c.requires.shapes;
+      uses = ap (λ (s : Stacked ℕ). s.list) c.in_ok-uses.ensures ∙ ap (λ (t : Partial). uses_by w.fixed (decided_in w t.entries)) (sym first);
+      stack = ap (λ (s : Stacked ℕ). s.room) c.in_ok-uses.ensures ∙ c.cells-cells.ensures;
+      small = c.requires.small;
     }
+
+pub returns : goal.returns
+returns c =
+    let w = c.args.setup in
+    ap (position w)
+    (first_table w c.deref.result.now c.in_ok-indices.indices.items c.in_ok-trail.trail c.max.result c.way.result.measure (c.deref.ensures.value ∙ c.requires.shapes) c.in_ok-indices.ensures (c.max.ensures ∙ ap (λ (n : ℕ). max n 2) c.size.ensures.size) (ap (λ (v : Way). v.measure) c.way.ensures) c.in_ok-trail.ensures)

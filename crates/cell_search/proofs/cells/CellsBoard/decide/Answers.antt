@@ -1,19 +1,46 @@
-use Rattle.std.proofs.Common.{◌≡◌, ◌<◌, None, sym, subst}
-use Rattle.mace_cells.specs.Trails.{Partial, value_in}
-use Rattle.mace_cells.specs.World.{many_cells}
+use Rattle.std.proofs.Common.{◌≡◌, ◌<◌, None, List, length, sym, ap, ◌∙◌, subst, ℕ, arith}
+use Rattle.cell_choice.specs.Numbers.{uses_by}
+use Rattle.cell_choice.specs.declared.shape.Shape.{Shape}
+use Rattle.mace_cells.specs.Numbers.{above_used}
+use Rattle.mace_cells.specs.Stacked.{Stacked}
+use Rattle.mace_cells.specs.Trails.{Partial, HasTwoLeft, value_in}
+use Rattle.mace_cells.specs.World.{cell_of, many_cells}
+use Rattle.model_tables.specs.Size.{bound_of}
 use Rattle.cell_search.specs.Positions.{BoardPosition}
-use Rattle.cell_search.specs.Losses.{IsBoard}
+use Rattle.cell_search.specs.Losses.{IsBoard, decided_in}
 use Rattle.cell_search.proofs.Boarding.{decided}
+use Rattle.cell_search.proofs.Preferring.{many_shapes}
+use Rattle.cell_search.proofs.Using.{uses_many, uses_more, shape_read}
 use Rattle.cell_search.proofs.cells.CellsBoard.decide.Goals as goal
 
 pub invariant_of-self : goal.invariant_of-self
 invariant_of-self c =
     let a = c.self.inside in
     let within = subst (λ (p : BoardPosition). c.args.cell < many_cells p.world) (sym c.self.view_is) c.requires.cell in
-    let blank = subst (λ (p : BoardPosition). value_in p.table.entries c.args.cell ≡ None) (sym c.self.view_is) c.requires.open in
+    let opened = subst (λ (p : BoardPosition). (value_in p.table.entries c.args.cell ≡ None) × HasTwoLeft p.table c.args.cell (bound_of p.world.size (cell_of p.world c.args.cell).kind)) (sym c.self.view_is) c.requires.open in
     record {
-      board = subst (λ (t : Partial). IsBoard a.setup t) (sym c.assign.ensures) (decided a.setup a.trail c.self.invariant.board c.args.cell c.args.value within blank);
+      board = subst (λ (t : Partial). IsBoard a.setup t) (sym c.assign.ensures) (decided a.setup a.trail c.self.invariant.board c.args.cell c.args.value within opened.0 opened.1);
       searchable = c.self.invariant.searchable;
       room = c.self.invariant.room;
       env = c.self.invariant.env;
+      shapes = c.self.invariant.shapes;
+      uses =
+          uses_more a.setup a.trail c.assign.new.self c.args.cell c.args.value (length a.trail.crossings) c.index-shape.result.now.above c.in_use.result c.above_decision-used.result a.uses.list c.push.new.self.list c.self.invariant.uses
+          (ap (λ (s : Stacked ℕ). s.list) c.push.ensures) (ap (λ (s : Shape). s.above) (shape_read a.setup a.shapes.items c.args.cell c.index-shape.result.now c.self.invariant.shapes within c.index-shape.ensures))
+          (c.in_use.ensures ∙ ap (λ (p : BoardPosition). above_used p.world.fixed (decided_in p.world p.table.entries)) (sym c.self.view_is)) c.above_decision-used.ensures c.assign.ensures;
+      stack = ap (λ (s : Stacked ℕ). s.room) c.push.ensures ∙ c.self.invariant.stack;
+      small = c.self.invariant.small;
     }
+
+pub index-shape-requires : goal.index-shape-requires
+index-shape-requires c =
+    let a = c.self.inside in
+    let within = subst (λ (p : BoardPosition). c.args.cell < many_cells p.world) (sym c.self.view_is) c.requires.cell in
+    omega (arith, within, many_shapes a.setup a.shapes.items c.self.invariant.shapes)
+
+pub push-requires : goal.push-requires
+push-requires c =
+    let a = c.self.inside in
+    let room = subst (λ (p : BoardPosition). length (decided_in p.world p.table.entries) < many_cells p.world) (sym c.self.view_is) c.requires.room in
+    let same : length a.uses.list ≡ length (uses_by a.setup.fixed (decided_in a.setup a.trail.entries)) = ap (λ (us : List ℕ). length us) c.self.invariant.uses in
+    omega (arith, room, same, uses_many a.setup.fixed (decided_in a.setup a.trail.entries), c.self.invariant.stack)

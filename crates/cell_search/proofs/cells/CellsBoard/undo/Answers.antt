@@ -1,11 +1,14 @@
-use Rattle.std.proofs.Common.{◌<◌, length, sym, ap, ◌∙◌, subst}
+use Rattle.std.proofs.Common.{◌≡◌, ℕ, ◌<◌, List, None, length, sym, ap, ◌∙◌, subst, arith}
 use Rattle.mace_cells.specs.Choices.{IsLatest}
-use Rattle.mace_cells.specs.Stacked.{rest_of}
-use Rattle.mace_cells.specs.Trails.{Partial, value_in}
+use Rattle.cell_choice.specs.Numbers.{uses_by}
+use Rattle.mace_cells.specs.Stacked.{Stacked, rest_of}
+use Rattle.mace_cells.specs.Trails.{Partial, HasTwoLeft, value_in}
 use Rattle.mace_cells.specs.World.{cell_of, many_cells}
+use Rattle.model_tables.specs.Size.{bound_of}
 use Rattle.cell_search.specs.Positions.{BoardPosition}
 use Rattle.cell_search.specs.Losses.{decided_in, IsBoard}
 use Rattle.cell_search.proofs.Boarding.{taken, reopened}
+use Rattle.cell_search.proofs.Using.{uses_rest, uses_many}
 use Rattle.cell_search.proofs.Tabling.{cells_differ}
 use Rattle.cell_search.proofs.cells.CellsBoard.undo.Goals as goal
 
@@ -18,7 +21,20 @@ invariant_of-self c =
       searchable = c.self.invariant.searchable;
       room = c.self.invariant.room;
       env = c.self.invariant.env;
+      shapes = c.self.invariant.shapes;
+      uses =
+          ap (λ (s : Stacked ℕ). s.list) c.pop.ensures ∙ ap rest_of c.self.invariant.uses ∙ uses_rest a.setup.fixed (decided_in a.setup a.trail.entries)
+          ∙ ap (uses_by a.setup.fixed) (sym (ap (λ (t : Partial). decided_in a.setup t.entries) c.undo.ensures ∙ (taken a.setup a.trail c.self.invariant.board some).1));
+      stack = ap (λ (s : Stacked ℕ). s.room) c.pop.ensures ∙ c.self.invariant.stack;
+      small = c.self.invariant.small;
     }
+
+pub pop-requires : goal.pop-requires
+pop-requires c =
+    let a = c.self.inside in
+    let some = subst (λ (p : BoardPosition). 0 < length (decided_in p.world p.table.entries)) (sym c.self.view_is) c.requires in
+    let same : length a.uses.list ≡ length (uses_by a.setup.fixed (decided_in a.setup a.trail.entries)) = ap (λ (us : List ℕ). length us) c.self.invariant.uses in
+    omega (arith, some, same, uses_many a.setup.fixed (decided_in a.setup a.trail.entries))
 
 pub returns-clause-decided : goal.returns-clause-decided
 returns-clause-decided c =
@@ -32,5 +48,5 @@ returns-clause-open c = λ k within latest.
     let some = subst (λ (p : BoardPosition). 0 < length (decided_in p.world p.table.entries)) (sym c.self.view_is) c.requires in
     let here = subst (λ (p : BoardPosition). k < many_cells p.world) (sym c.self.view_is) within in
     let last = subst (λ (p : BoardPosition). IsLatest (decided_in p.world p.table.entries) (cell_of p.world k)) (sym c.self.view_is) latest in
-    ap (λ (t : Partial). value_in t.entries k) c.undo.ensures
-    ∙ reopened a.setup a.trail c.self.invariant.board (cells_differ a.setup c.self.invariant.searchable.once c.self.invariant.searchable.some) some k here last
+    let again = reopened a.setup a.trail c.self.invariant.board (cells_differ a.setup c.self.invariant.searchable.once c.self.invariant.searchable.some) some k here last in
+    subst (λ (t : Partial). (value_in t.entries k ≡ None) × HasTwoLeft t k (bound_of a.setup.size (cell_of a.setup k).kind)) (sym c.undo.ensures) again

@@ -14,12 +14,13 @@ returns-clause-gives g c =
       world = new.board.world;
       live = live_in c.follows_after-self-inside.result;
       choices = choices_of new.board.world new.frames.list;
+      table = new.board.table;
       tables = finite_of new.board.world new.board.table.entries;
       stop = a.stop;
       late = late_in c.follows_after-self-inside.result;
     } in
     subst (λ (s : Course). AnswersByCells s next c.next_model-answer.result (g.C.Clock.times new.clock)) c.self.view_is
-    (gives_by a.cells.world new.board.world a.cells.table.entries new.board.table.entries a.frames.list new.frames.list c.args.live (live_in a.state) a.stop (late_in a.state) (g.C.Clock.times new.clock) c.next_model-answer.result
+    (gives_by a.cells.world new.board.world a.cells.table new.board.table a.frames.list new.frames.list c.args.live (live_in a.state) a.stop (late_in a.state) (g.C.Clock.times new.clock) c.next_model-answer.result
     c.len.result c.follows_after-self-inside.result c.next_model-answer.ensures.world (ap (λ (s : Course). s.live) c.self.view_is ∙ c.requires.live) c.follows_after-self-inside.ensures c.next_model-answer.ensures.found
     c.next_model-answer.ensures.full
     c.next_model-answer.ensures.late)
@@ -32,3 +33,8 @@ returns-clause-clock g c =
     let t' = g.C.Clock.times new.clock in
     subst (λ (s : Course). GoesInTime s.world s.stop s.live s.choices c.next_model-answer.result (choices_of new.board.world new.frames.list) t t') c.self.view_is
     (goes_by a.cells.world new.board.world a.frames.list new.frames.list c.args.live (live_in a.state) a.stop t t' c.next_model-answer.result c.next_model-answer.ensures.world (ap (λ (s : Course). s.live) c.self.view_is ∙ c.requires.live) c.next_model-answer.ensures.goes)
+
+pub returns-clause-chosen : goal.returns-clause-chosen
+returns-clause-chosen g c =
+    let new = c.next_model-answer.new in
+    record { decided = c.next_model-answer.ensures.standing.decided; fresh = c.decides_open.ensures.fresh; two = c.decides_open.ensures.two }

@@ -1,8 +1,10 @@
 use Rattle.std.proofs.Common.{◌≡◌, ◌<◌, None, Some, List, length, set, refl, sym, ap, ◌∙◌, subst, arith}
 use Rattle.std.proofs.lemmas.List.{length-set}
+use Rattle.cell_ranks.specs.Ranks.{Ranked}
+use Rattle.mace_cells.proofs.Counting.{flagged_set}
 use Rattle.mace_cells.specs.Made.{IsMade}
 use Rattle.mace_cells.specs.Stacked.{Stacked}
-use Rattle.mace_cells.specs.Trails.{Partial, value_in, cells_written}
+use Rattle.mace_cells.specs.Trails.{Partial, value_in, cells_written, AreFlagged, AreScored}
 use Rattle.mace_cells.specs.declared.trail.TrailEntry.{TrailEntry}
 use Rattle.mace_cells.proofs.Making.{value_read, room_left, made_more, blank_value, no_blank_values, many_written}
 use Rattle.mace_cells.proofs.trail.Trail.assign.Goals as goal
@@ -31,4 +33,10 @@ invariant_of-self c =
       more = c.self.invariant.more;
       values = subst (λ (es : List TrailEntry). IsMade None (length xs) (cells_written es) (set xs c.args.cell (Some c.args.value))) (sym list) made;
       crossed = c.self.invariant.crossed;
+      small = c.self.invariant.small;
+      ranked = ap (λ (r : Ranked). length r.indices) c.close.ensures ∙ c.self.invariant.ranked;
+      free =
+          subst (λ (r : Ranked). AreFlagged (set xs c.args.cell (Some c.args.value)) r.free) (sym c.close.ensures)
+          (flagged_set xs c.self.inside.ranks.free c.args.cell (Some c.args.value) within c.self.invariant.free);
+      scored = subst (λ (r : Ranked). AreScored c.self.inside.measure c.self.inside.stride c.self.inside.crossings.list (length xs) r.scores) (sym c.close.ensures) c.self.invariant.scored;
     }

@@ -1,0 +1,3 @@
+pub mod Placing
+pub mod Ranking
+pub mod Winning
