@@ -6,8 +6,8 @@ mod OneFrame
 mod OneOffer
 mod OneOutcome
 mod OneReading
+mod OneRefusal
 mod Refusing
 mod Showing
 mod Sound
 mod Standing
-mod WideNumerals

@@ -1,18 +1,17 @@
 -- What the lines of proofs leave of a table of symbols.
-use Rattle.std.proofs.Common.{◌≡◌, ◌⊎◌, ℕ, zero, suc, ◌^◌, ◌<◌, ◌≤◌, Bool, true, false, List, [], ◌∷◌, length, drop, Option, Some, None, refl, sym, ap, ap₂, ◌∙◌, subst, inl, inr, arith}
+use Rattle.std.proofs.Common.{◌≡◌, ◌⊎◌, ℕ, zero, suc, ◌^◌, ◌<◌, ◌≤◌, Bool, true, false, List, [], ◌∷◌, length, drop, Option, Some, None, refl, sym, ap, ◌∙◌, subst, inl, inr, arith}
 use Rattle.std.specs.Prelude.{not, ◌==◌, ◌||◌, ◌&&◌, slice_get}
 use Rattle.std.specs.List.{list_any}
 use Rattle.std.proofs.lemmas.Bool.{true≢false, and_from, or_left, or_right, or_parts, cases_lt, eq-eqb}
 use Rattle.std.specs.Fmt.{decimal}
-use Rattle.clausify.specs.Names.{letter_numbered, is_named, HasNoSkolemRelation}
+use Rattle.clausify.specs.Names.{letter_numbered, HasNoSkolemRelation}
 use Rattle.derivation.specs.declared.line.Line.{Line}
 use Rattle.fol_core.specs.RawTree.{RawTree}
 use Rattle.fol_core.specs.SymbolTable.{Symbol, name_at, kind_at, is_same_kind, KeepsNumbers}
 use Rattle.fol_core.specs.declared.symbols.Kind.{Kind}
 use Rattle.fol_core.specs.declared.symbols.Kind.TheVariants.{Function, Relation}
-use Rattle.ladr_check.proofs.WideNumerals.{numeral_wide}
+use Rattle.proof_lines.proofs.WideNumerals.{numeral_wide}
 use Rattle.ladr_formulas.proofs.Growing.{grows_formula}
-use Rattle.ladr_formulas.proofs.NumberingLemmas.{bytes_eq_both}
 use Rattle.ladr_formulas.specs.Formulas.{Reading, meets, unread}
 use Rattle.ladr_formulas.specs.declared.styles.Style.{Style}
 use Rattle.ladr_lex.specs.Cuts.{Piece}
@@ -66,10 +65,6 @@ related table r k = by (slice_get table r) refl
     by (Some s) e = (s, e)
     by None e = absurd (let f : kind_at table r ≡ Function = rw e refl in cc)
 
-named_alike : (table : List Symbol) (name : List ℕ) → has_name table name ≡ is_named table name
-named_alike [] name = refl
-named_alike (s ∷ ss) name = ap₂ (λ (a b : Bool). a || b) (bytes_eq_both s.name name) (named_alike ss name)
-
 skolem_name : (letter n : ℕ) → n < 10 ^ 64 → (letter ≡ 99) ⊎ (letter ≡ 102) → is_skolem_name (letter_numbered letter n) ≡ true
 skolem_name letter n few (inl c) = and_from (letter == 99 || letter == 102) (is_numeral (decimal n)) (or_left (letter == 99) (letter == 102) (eq-eqb letter 99 c)) (numeral_wide n few)
 skolem_name letter n few (inr f) = and_from (letter == 99 || letter == 102) (is_numeral (decimal n)) (or_right (letter == 99) (letter == 102) (eq-eqb letter 102 f)) (numeral_wide n few)
@@ -120,7 +115,7 @@ line_goes g st problem table after ts r h = record { kept = kept; no_relation = 
               let found = related after r kind in
               let at : kind_at after r ≡ found.0.kind = rw found.1 refl in
               let named : name_at after r ≡ found.0.name = rw found.1 refl in
-              sym (named_alike problem (letter_numbered letter n)) ∙ unstray problem found.0 (letter_numbered letter n) (sym at ∙ kind) (sym named ∙ is) (skolem_name letter n few skolem)
+              unstray problem found.0 (letter_numbered letter n) (sym at ∙ kind) (sym named ∙ is) (skolem_name letter n few skolem)
               (behind (is_stray_relation problem) (length table) r after found.0 past found.1 strays))
         ]
 

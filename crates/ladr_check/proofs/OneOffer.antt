@@ -1,14 +1,11 @@
 -- Bytes offer one thing, and then they aren't refused.
-use Rattle.std.proofs.Common.{◌≡◌, ℕ, ◌+◌, ◌-◌, ◌<◌, ◌≤◌, Bool, true, false, List, [], ◌∷◌, ◌++◌, length, map, take, drop, Some, None, refl, sym, ap, ap₂, ◌∙◌, subst, arith}
+use Rattle.std.proofs.Common.{◌≡◌, ℕ, ◌-◌, ◌<◌, Bool, List, [], ◌∷◌, ◌++◌, length, map, take, drop, Some, None, refl, sym, ap, ap₂, ◌∙◌, subst, arith}
 use Rattle.std.specs.List.{list_all}
 use Rattle.std.proofs.lemmas.Bool.{true≢false}
 use Rattle.std.proofs.lemmas.List.{take-append-drop}
-use Rattle.derivation.specs.Lines.{LineTree}
-use Rattle.derivation.specs.View.{lines_of}
 use Rattle.derivation.specs.declared.line.Line.{Line}
-use Rattle.fol_core.specs.Stated.{Stated, stated_of}
+use Rattle.fol_core.specs.Stated.{stated_of}
 use Rattle.fol_core.specs.SymbolTable.{Symbol}
-use Rattle.fol_core.specs.declared.problem.Problem.{Problem}
 use Rattle.ladr_check.proofs.Offering.{proofs_lines}
 use Rattle.ladr_check.proofs.OneFrame.{framed_once, framed_sound}
 use Rattle.ladr_check.proofs.OneReading.{OneLine, heads, no_line_there, blocks_once, read_once, none_read, lines_once, proofs_once}
@@ -54,7 +51,7 @@ same_sofar s t e = cc
 
 -- a line that can be read has no fault
 module _ (one : OneLine) (bad : BadTokens) (g : Reader) where
-  unfaulty : (table mid : List Symbol) (ts : List Lexeme) (r : LineRead) (why : LineFault) → IsLineRead g.tables g.style g.problem table ts r mid → IsLineFault g.tables g.style g.problem table ts why → (why ≡ fault.Memory → ⊥) → ⊥
+  pub unfaulty : (table mid : List Symbol) (ts : List Lexeme) (r : LineRead) (why : LineFault) → IsLineRead g.tables g.style g.problem table ts r mid → IsLineFault g.tables g.style g.problem table ts why → (why ≡ fault.Memory → ⊥) → ⊥
   unfaulty table mid ts r (fault.Bad k) h f m = (bad g.tables ts k f).none (take r.len ts) (drop r.len ts) h.parts (sym (take-append-drop r.len ts)) h.first.1
   unfaulty table mid ts r fault.Deep h f m =
       let same = one g.tables ts h.parts f.0 r.len f.1 h.first f.2 in
@@ -66,7 +63,7 @@ module _ (one : OneLine) (bad : BadTokens) (g : Reader) where
   unfaulty table mid ts r fault.Memory h f m = m refl
 
   -- lines that are all of a block don't stop at one of them
-  unstopped : {table other last mid : List Symbol} {ts us vs left : List Piece} {ls ms : List Line} (why : LineFault) → HasLines g table ts ls last vs → HasLines g other us ms mid left → table ≡ other → ts ≡ us → vs ≡ []
+  pub unstopped : {table other last mid : List Symbol} {ts us vs left : List Piece} {ls ms : List Line} (why : LineFault) → HasLines g table ts ls last vs → HasLines g other us ms mid left → table ≡ other → ts ≡ us → vs ≡ []
       → 0 < length left → IsLineFault g.tables g.style g.problem mid (lexemes left) why → (why ≡ fault.Memory → ⊥) → ⊥
   unstopped {ts = ts} {us = us} why no_line no_line t e v some f m = (let none : length us ≡ 0 = ap length (sym e ∙ v) in omega (arith, some, none))
   unstopped {other = other} {us = us} why no_line (further_line q so k) t e v some f m = none_read one g us other _ q (sym e ∙ v) so
@@ -90,13 +87,13 @@ module _ (one : OneLine) (bad : BadTokens) (g : Reader) where
       let tokens : here.0 ≡ there.0 = cut_once d.start (bare d) here.0 there.0 cut there.1 in
       read_behind b behind h k (lines_once one g here.2 there.2 t tokens refl refl).1 parts.1
 
-  unmemory : (bytes : List ℕ) (end : ℕ) (shut : Bool) (ts : List Piece) (e : ReadError) → IsLineRefused bytes end shut ts fault.Memory e → ⊥
+  pub unmemory : (bytes : List ℕ) (end : ℕ) (shut : Bool) (ts : List Piece) (e : ReadError) → IsLineRefused bytes end shut ts fault.Memory e → ⊥
   unmemory bytes end shut ts (errors.Unreadable p) h = h
   unmemory bytes end shut ts (errors.Misuse p row) h = h
   unmemory bytes end shut ts (errors.TooLarge byte what) h = h
   unmemory bytes end shut ts errors.Memory h = h
 
-  unrefused_block : (table last : List Symbol) (bytes : List ℕ) (bs : List TextBlock) (ps : List (List Line)) (e : ReadError) → HasProofs g table bs ps last → HasRefusedBlock g table bytes bs e → ⊥
+  pub unrefused_block : (table last : List Symbol) (bytes : List ℕ) (bs : List TextBlock) (ps : List (List Line)) (e : ReadError) → HasProofs g table bs ps last → HasRefusedBlock g table bytes bs e → ⊥
   unrefused_block table last bytes bs ps e h r =
       let b = r.block in
       let there = read_behind b r.behind h r.read refl r.split in
@@ -107,13 +104,13 @@ module _ (one : OneLine) (bad : BadTokens) (g : Reader) where
 
 module _ (says : OneOutcome) (bytes : List ℕ) where
   -- a text has one problem
-  record SameProblem (f g : FileRead) (bs cs : List TextBlock) : Type 0 where
-    stated : stated_of f.problem ≡ stated_of g.problem
-    symbols : f.problem.symbols ≡ g.problem.symbols
-    readers : reader_of f ≡ reader_of g
-    blocks : bs ≡ cs
+  pub record SameProblem (f g : FileRead) (bs cs : List TextBlock) : Type 0 where
+    pub stated : stated_of f.problem ≡ stated_of g.problem
+    pub symbols : f.problem.symbols ≡ g.problem.symbols
+    pub readers : reader_of f ≡ reader_of g
+    pub blocks : bs ≡ cs
 
-  same_problems : (f g : FileRead) (bs cs : List TextBlock) → HasProblem bytes f bs → HasProblem bytes g cs → SameProblem f g bs cs
+  pub same_problems : (f g : FileRead) (bs cs : List TextBlock) → HasProblem bytes f bs → HasProblem bytes g cs → SameProblem f g bs cs
   same_problems f g bs cs h k =
       let texts = framed_once bytes h.input k.input h.rest k.rest h.framed k.framed in
       let told = says Prover k.input (problem h.sofar) (problem k.sofar) (subst (λ (t : List ℕ). Says Prover t (problem h.sofar)) texts.0 h.says) k.says in
@@ -146,7 +143,7 @@ module _ (says : OneOutcome) (bytes : List ℕ) where
     offered_once x y h k = sym h.2 ∙ same_offer h.0 k.0 h.1 k.1 ∙ k.2
 
     module _ (bad : BadTokens) where
-      problem_sound : (input : List ℕ) (s : Sofar) (e : ReadError) → Says Prover input (problem s) → IsReadError Prover input e → (e ≡ errors.Memory → ⊥) → ⊥
+      pub problem_sound : (input : List ℕ) (s : Sofar) (e : ReadError) → Says Prover input (problem s) → IsReadError Prover input e → (e ≡ errors.Memory → ⊥) → ⊥
       problem_sound input s (errors.Unreadable place) h k m = let e : problem s ≡ unreadable place.byte = says Prover input (problem s) (unreadable place.byte) h k.0 in absurd cc
       problem_sound input s (errors.Misuse place why) h k m = let e : problem s ≡ misused place.byte why = says Prover input (problem s) (misused place.byte why) h k.0 in absurd cc
       problem_sound input s (errors.TooLarge byte what) h k m = let e : problem s ≡ too_large byte what = says Prover input (problem s) (too_large byte what) h k in absurd cc
@@ -167,7 +164,7 @@ module _ (says : OneOutcome) (bytes : List ℕ) where
           true≢false (sym h.closed ∙ ap (list_all (λ (b : TextBlock). b.closed)) (sym same.blocks) ∙ open_one)
       read_unrefused r h refused.memory m = m refl
 
-      no_memory : (why : Refused) → error_of why ≡ errors.Memory → ⊥
+      pub no_memory : (why : Refused) → error_of why ≡ errors.Memory → ⊥
       no_memory (Unreadable place) e = absurd cc
       no_memory (Misuse place why) e = absurd cc
       no_memory (TooLarge byte what) e = absurd cc

@@ -1,10 +1,9 @@
 -- A text has one reading: its blocks, and the lines of each.
-use Rattle.std.proofs.Common.{◌≡◌, ℕ, suc, ◌+◌, ◌<◌, ◌≤◌, Bool, true, false, List, [], ◌∷◌, ◌++◌, length, map, take, drop, Some, refl, sym, ap, ap₂, ◌∙◌, subst, arith}
+use Rattle.std.proofs.Common.{◌≡◌, ℕ, suc, ◌+◌, ◌<◌, Bool, true, false, List, [], ◌∷◌, ◌++◌, length, map, take, drop, Some, refl, sym, ap, ap₂, ◌∙◌, subst, arith}
 use Rattle.std.specs.List.{list_any, concat}
 use Rattle.std.proofs.lemmas.Bool.{true≢false, or_parts}
 use Rattle.std.proofs.lemmas.List.{length-take-le}
-use Rattle.derivation.specs.Later.{LaterWord}
-use Rattle.derivation.specs.Lines.{LineTree, FirstWord, ContentTree, formula, clause}
+use Rattle.derivation.specs.Lines.{LineTree, formula, clause}
 use Rattle.derivation.specs.View.{first_word_of, content_of, line_tree, lines_of}
 use Rattle.derivation.specs.declared.line.Content.{Content}
 use Rattle.derivation.specs.declared.line.Content.TheVariants.{Formula, Clause}
@@ -14,7 +13,6 @@ use Rattle.derivation.specs.declared.words.First.TheVariants as first
 use Rattle.fol_core.specs.Fol.{Fol}
 use Rattle.fol_core.specs.RawTree.{RawTree}
 use Rattle.fol_core.specs.SymbolTable.{Symbol}
-use Rattle.ladr_formulas.specs.ClauseIn.{clause_in}
 use Rattle.ladr_formulas.specs.Formulas.{Made}
 use Rattle.ladr_formulas.specs.declared.styles.Style.{Style}
 use Rattle.ladr_lex.proofs.Unique.{cut_once}
@@ -27,8 +25,8 @@ use Rattle.proof_lines.specs.Lines.{LineParts, IsFirstLine}
 use Rattle.proof_lines.specs.Stated.{IsContentOf, IsLineOf, line_made}
 use Rattle.proof_lines.specs.declared.line.LineRead.{LineRead}
 use Rattle.proof_text.specs.Blocks.{TextBlock, block, HasBlocks, nothing, outside, closed, still_open, is_proof_banner, is_end_banner, bare}
-use Rattle.proof_text.specs.Proofs.{Reader, HasLines, no_line, further_line, HasBlockLines, HasProofs, no_block, further_block}
-use Rattle.proof_words.specs.Written.{WrittenFirst, Written, written_first, written_of, states_formula, meant}
+use Rattle.proof_text.specs.Proofs.{Reader, HasLines, no_line, further_line, HasProofs, no_block, further_block}
+use Rattle.proof_words.specs.Written.{Written, written_first, written_of, states_formula, meant}
 
 abbrev Lines : Type 0
 Lines = List (List ℕ)

@@ -51,6 +51,17 @@ OffersAlone bytes x =
 abbrev pub OffersAreAlone : Type 0
 OffersAreAlone = (bytes : List ℕ) (x : Offered) → offers bytes x → OffersAlone bytes x
 
+-- the bytes are refused so and in no other way, and they offer nothing
+abbrev pub IsRefusedAlone : List ℕ → Refused → Type 0
+IsRefusedAlone bytes why =
+    refuses_proofs bytes why × ((other : Refused) → refuses_proofs bytes other → why ≡ other)
+    × ((x : Offered) → ¬ offers bytes x)
+
+-- so it is of all bytes that are refused
+abbrev pub RefusalsAreAlone : Type 0
+RefusalsAreAlone =
+    (bytes : List ℕ) (why : Refused) → refuses_proofs bytes why → IsRefusedAlone bytes why
+
 -- The bytes offer something of which this holds, and which has no countermodel; its Skolem symbols
 -- are new, so that they can pick witnesses in whatever interpretation of the rest.
 abbrev pub OffersSound : (Offered → Type 0) → List ℕ → Type 0

@@ -2,14 +2,14 @@
 ghost use Rattle.std.specs.Prelude.{◌≡◌, codes};
 ghost use Rattle.ladr_check.specs.CheckReport.{check_report};
 ghost use Rattle.ladr_check.specs.Outcomes.{EndIsOne};
-ghost use Rattle.ladr_check.specs.Shown.{OneRefutationSuffices, OffersAreAlone, ChecksShow};
+ghost use Rattle.ladr_check.specs.Shown.{OneRefutationSuffices, OffersAreAlone, RefusalsAreAlone, ChecksShow};
 ghost use Rattle.ladr_check.specs.declared.ends.CheckEnd.TheVariants.{Accepted, NotAccepted, ClauseLimit};
 
 use derivation::{fault_is_one, lines_without_elements};
 use ladr_formulas::prover_names_no_element;
 use ladr_problem::{one_outcome, problems_are_proper};
 use proof_check::no_countermodel;
-use proof_lines::{bad_tokens_are_bad, one_line};
+use proof_lines::{bad_tokens_are_bad, one_fault, one_line};
 
 /// What is offered comes out in one way.
 pub fn one_end()
@@ -38,14 +38,27 @@ pub fn offers_are_alone()
     bad_tokens_are_bad();
 }
 
+/// Bytes that are refused are refused in one way, with one place, of byte, line, column and token, and they offer nothing.
+pub fn refusals_are_alone()
+    ensures { RefusalsAreAlone }
+{
+    one_outcome();
+    one_line();
+    one_fault();
+    bad_tokens_are_bad();
+}
+
 /// Where the line of an accepted proof stands in the output of a run, that proof is a refutation; where the line stands that all
-/// are accepted, each of them is. So it is whatever became of the run; and what is offered comes out in one way.
+/// are accepted, each of them is. So it is whatever became of the run; what is offered comes out in one way, and what is refused
+/// is refused in one way.
 pub fn checks_show()
     ensures show { ChecksShow }
     ensures once { EndIsOne }
+    ensures alone { RefusalsAreAlone }
 {
     one_refutation_suffices();
     offers_are_alone();
+    refusals_are_alone();
     one_end();
 }
 

@@ -79,7 +79,7 @@ module _ (order : (table : List Symbol) (p : Stated) → IsWellFormed p → leng
 
   pub accepted : (input : List ℕ) (s : Sofar) (f : FileRead) (clauses : List OperatorRow) (table : List Symbol) (ps : List PrintedProof) (tail : List ℕ) → length input < 2 ^ 64
       → Says Prover input (problem s) → IsOf s f → ArePrintableRefutations f clauses table ps → HasFewClauses f table → HoldsNoProof tail → 0 < length ps
-      → AreAccepted (whole_text input f clauses table ps tail) (length ps)
+      → AreAccepted (whole_text input f clauses table ps tail) f table ps
   accepted input s f clauses table ps tail short says is_of h limits none some =
       let r = reads input s f clauses table ps tail short says is_of h none in
       let p = stated_of f.problem in
@@ -88,8 +88,9 @@ module _ (order : (table : List Symbol) (p : Stated) → IsWellFormed p → leng
       let skolems : length (axioms_in_table r.read.symbols p) ≤ equality =
       subst (λ (n : ℕ). n ≤ equality) (all_axioms_count (skolem_numbers table p) (skolem_numbers r.read.symbols p) 0 p.formulas) limits.skolems in
       let count : length ps ≡ length r.read.proofs.items =
-      sym (length-map ps (λ (q : PrintedProof). q.lines)) ∙ sym (length-map (lines_printed ps) (lines_with r.to)) ∙ ap length (sym r.proofs_are) ∙ length-map r.read.proofs.items (λ (d : Derivation). d.lines.items) in (
-        offered_by r.read,
-        alone (whole_text input f clauses table ps tail) (offered_by r.read) (r.read, r.is_read, refl),
-        comes r.read f.problem (sym r.problem_is) is_proper.well_formed few r.keeps limits.clauses skolems r.refute (length ps) some count,
-      )
+      sym (length-map ps (λ (q : PrintedProof). q.lines)) ∙ sym (length-map (lines_printed ps) (lines_with r.to)) ∙ ap length (sym r.proofs_are) ∙ length-map r.read.proofs.items (λ (d : Derivation). d.lines.items) in
+      record {
+        reading = r;
+        alone = alone (whole_text input f clauses table ps tail) (offered_by r.read) (r.read, r.is_read, refl);
+        outcome = comes r.read f.problem (sym r.problem_is) is_proper.well_formed few r.keeps limits.clauses skolems r.refute (length ps) some count;
+      }

@@ -16,15 +16,15 @@ use ladr_check::offers_are_alone;
 use ladr_problem::problems_are_proper;
 use printed_proofs::printed_refutations_are_read;
 
-/// A check of the text of refutations of a file's problem, with this problem in its frame, accepts all of them: no reading of the
-/// text is another one, none refuses it, and the first bad line is none.
+/// A check of the text of refutations of a file's problem, with this problem in its frame, reads these refutations, but for the
+/// numbers of symbols, and accepts all of them; the text has no other reading, and isn't refused.
 pub fn printed_refutations_are_accepted()
     ensures { (input : List ℕ) (s : Sofar) (f : FileRead) (clauses : List OperatorRow)
         (table : List Symbol) (ps : List PrintedProof) (tail : List ℕ) → length input < 2 ^ 64
         → Says Prover input (problem s) → IsOf s f
         → ArePrintableRefutations f clauses table ps → HasFewClauses f table
         → HoldsNoProof tail → 0 < length ps
-        → AreAccepted (whole_text input f clauses table ps tail) (length ps) }
+        → AreAccepted (whole_text input f clauses table ps tail) f table ps }
 {
     axioms_are_in_order();
     problems_are_proper();

@@ -120,7 +120,7 @@ failing test [] n s h e = absurd (cc)
 failing test (x ∷ xs) zero s h e = (let same : x ≡ s = cc in subst (λ (y : Symbol). test y ≡ false) same (or_parts (test x) (list_any test xs) e).0)
 failing test (x ∷ xs) (suc n) s h e = failing test xs n s h (or_parts (test x) (list_any test xs) e).1
 
-all_fail : (test : Symbol → Bool) (xs : List Symbol) → ((n : ℕ) (s : Symbol) → slice_get xs n ≡ Some s → test s ≡ false) → list_any test xs ≡ false
+pub all_fail : (test : Symbol → Bool) (xs : List Symbol) → ((n : ℕ) (s : Symbol) → slice_get xs n ≡ Some s → test s ≡ false) → list_any test xs ≡ false
 all_fail test [] h = refl
 all_fail test (x ∷ xs) h = ap₂ (λ a b. a || b) (h zero x refl) (all_fail test xs (λ n s e. h (suc n) s e))
 

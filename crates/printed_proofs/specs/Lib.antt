@@ -1,2 +1,4 @@
+pub mod Files
 pub mod Refutations
 pub mod Worked
+pub mod WorkedLines

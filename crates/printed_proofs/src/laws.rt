@@ -1,16 +1,23 @@
 // What printed refutations are read as: the functions do nothing, and their contracts are the laws.
-ghost use Rattle.std.specs.Prelude.{◌<◌, ◌^◌, List, ℕ, length};
+ghost use Rattle.std.specs.Prelude.{◌≡◌, ◌<◌, ◌^◌, IsTrue, List, [], ℕ, length};
 ghost use Rattle.fol_core.specs.SymbolTable.{Symbol};
 ghost use Rattle.ladr_formulas.specs.declared.styles.Mode.TheVariants.{Prover};
-ghost use Rattle.ladr_lex.specs.Operators.{OperatorRow};
+ghost use Rattle.ladr_lex.specs.Operators.{OperatorRow, are_lawful};
 ghost use Rattle.ladr_problem.specs.File.{Says, problem};
 ghost use Rattle.ladr_problem.specs.Sofar.{Sofar};
 ghost use Rattle.ladr_problem.specs.Whole.{IsOf};
 ghost use Rattle.ladr_problem.specs.declared.read.FileRead.{FileRead};
+ghost use Rattle.printed_proofs.specs.Files.{HasFewSymbols, CanPrintFile};
 ghost use Rattle.printed_proofs.specs.Refutations.{ArePrintableRefutations, whole_text, ReadsRefutations};
+ghost use Rattle.derivation.specs.declared.words.Later.{Later};
+ghost use Rattle.std.specs.Global.{Vec};
+ghost use Rattle.printed_proofs.specs.WorkedLines.{WorkedRefutation};
 ghost use Rattle.printed_proofs.specs.Worked.{WorkedFrame, WorkedNoFrame, WorkedBlocks};
 ghost use Rattle.proof_laws.specs.Printed.{PrintedProof, HoldsNoProof};
+ghost use Rattle.proof_print.specs.Names.{AreOfClauses};
 
+use clausify::skolems_stand_behind;
+use ladr_models::formulas_state_themselves;
 use ladr_problem::problems_are_proper;
 
 /// The text of refutations of a file's problem, with this problem in its frame, is read as this problem and these refutations: as
@@ -24,6 +31,24 @@ pub fn printed_refutations_are_read()
 {
     problems_are_proper();
 }
+
+/// Proofs of a file's problem can be printed, in its symbols and its Skolem symbols: each symbol that its clauses may have is read
+/// as itself, and each of its formulas can be a line. The operators of clauses are to be those that the file's are made into.
+pub fn files_can_be_printed()
+    ensures { (input : List ℕ) (s : Sofar) (f : FileRead) (clauses : List OperatorRow)
+        → Says Prover input (problem s) → IsOf s f → IsTrue (are_lawful clauses)
+        → AreOfClauses f.problem.options.prolog_style_variables f.operators clauses
+        → HasFewSymbols f → CanPrintFile f clauses }
+{
+    formulas_state_themselves();
+    problems_are_proper();
+    skolems_stand_behind();
+}
+
+/// A refutation of five lines, its text, and what this is read as, worked out.
+pub fn worked_refutation()
+    ensures { (later : Vec Later) → later.items ≡ [] → WorkedRefutation later }
+{}
 
 /// A frame and three that are none, and blocks, worked out.
 pub fn worked()

@@ -3,4 +3,4 @@
 
 mod laws;
 
-pub use laws::{printed_refutations_are_read, worked};
+pub use laws::{files_can_be_printed, printed_refutations_are_read, worked, worked_refutation};

@@ -28,11 +28,11 @@ use Rattle.ladr_print.specs.HasText.{kind_of, HasText, HaveTexts}
 use Rattle.ladr_print.specs.Precedences.{is_infix}
 use Rattle.ladr_print.specs.RawText.{Printed, wrapped, left_argument, right_argument, body, word, further, commas, application_text, with_one, with_two, arranged, text_of, printed, printed_all}
 use Rattle.ladr_print.specs.Spacing.{kept_apart, runs_into}
-use Rattle.ladr_print.proofs.Derived.{clauses_have_texts}
 use Rattle.ladr_print.proofs.Disjunctions.{clause_is}
 use Rattle.ladr_reader.specs.Table.{OperatorTable, table_of, left, right, takes, ends}
 use Rattle.ladr_reader.specs.declared.sides.Side.TheVariants.{UpTo}
 use Rattle.proof_print.specs.LineTexts.{content_text, formula_term}
+use Rattle.proof_print.proofs.NamedClauses.{clause_has}
 use Rattle.proof_print.specs.Reread.{CanPrint, IsPrintableContent, row_tables}
 use Rattle.proof_print.proofs.Joined.{Stands, Tidy, is_mark}
 use Rattle.words_print.specs.WordTokens.{token_text, joint_text}
@@ -177,7 +177,7 @@ pub content_in : (formulas clauses : List OperatorRow) (prolog : Bool) (problem 
 content_in formulas clauses prolog problem T (Formula f label) can p = text_in (table_of formulas) (formula_term T (fol_of f.shape) f.names (option_map raw_of label)) p.0
 content_in formulas clauses prolog problem T (Clause c) can p =
     let v = clause_variable prolog in
-    let over = clauses_have_texts clauses prolog T c can.fixed can.frees can.few can.names p.over in
+    let over = clause_has clauses can.fixed prolog can.frees T can.few c p.over (λ n h e. (p.readable n h e).named) in
     let text = ap (clause_bytes (table_of clauses) T v) p.numbered ∙ clause_is clauses can.fixed T v c in
     subst InLine (sym text) (text_in (table_of clauses) (clause_raw T v c) over)
 

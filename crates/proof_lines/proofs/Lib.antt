@@ -3,8 +3,11 @@ pub mod ClauseReadings
 pub mod Clauses
 pub mod Contents
 pub mod FirstWords
+pub mod KeptNames
 pub mod Levels
+pub mod OneFault
 pub mod OneLine
 pub mod PartLemmas
 pub mod Steps
 pub mod Stops
+pub mod WideNumerals

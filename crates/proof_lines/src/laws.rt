@@ -1,11 +1,15 @@
 // Laws of the definitions.
 ghost use Rattle.std.specs.Prelude.{◌≡◌, ℕ, List, []};
+ghost use Rattle.fol_core.specs.SymbolTable.{Symbol};
+ghost use Rattle.ladr_formulas.specs.declared.styles.Style.{Style};
 ghost use Rattle.ladr_lex.specs.Lexeme.{Lexeme};
 ghost use Rattle.ladr_reader.specs.Worked.{constant, unary, binary};
 ghost use Rattle.proof_lines.specs.ContentTokens.{LineTables};
-ghost use Rattle.proof_lines.specs.Faults.{IsBadOfLine, IsBadLineToken};
+ghost use Rattle.proof_lines.specs.Faults.{IsBadOfLine, IsBadLineToken, IsLineFault};
 ghost use Rattle.proof_lines.specs.Lines.{LineParts, IsProofLine, IsFirstLine};
 ghost use Rattle.proof_lines.specs.WorkedLines.{worked_tables, parts};
+ghost use Rattle.proof_lines.specs.declared.fault.LineFault.{LineFault};
+ghost use Rattle.proof_lines.specs.declared.fault.LineFault.TheVariants.{Memory};
 ghost use Rattle.proof_words.specs.Worked.{tokens_of};
 ghost use Rattle.proof_words.specs.Written.{written, as_goal, by_copy, by_xx_res};
 
@@ -13,6 +17,13 @@ ghost use Rattle.proof_words.specs.Written.{written, as_goal, by_copy, by_xx_res
 pub fn one_line()
     ensures { (g : LineTables) (ts : List Lexeme) (l m : LineParts) (i j : ℕ)
         → IsFirstLine g ts l i → IsFirstLine g ts m j → (l ≡ m) × (i ≡ j) }
+{}
+
+/// Tokens have one fault at most, whatever is said of memory.
+pub fn one_fault()
+    ensures { (g : LineTables) (st : Style) (problem table : List Symbol) (ts : List Lexeme)
+        (a b : LineFault) → IsLineFault g st problem table ts a
+        → IsLineFault g st problem table ts b → ¬ a ≡ Memory → ¬ b ≡ Memory → a ≡ b }
 {}
 
 /// No line goes on with a bad token, and none ends before it.

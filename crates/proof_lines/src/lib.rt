@@ -12,7 +12,8 @@ mod stating;
 mod strays;
 
 pub use fault::LineFault;
-pub use laws::{bad_tokens_are_bad, one_line, worked};
+pub use laws::{bad_tokens_are_bad, one_fault, one_line, worked};
 pub use line::{LineRead, read_line};
 pub use literals::{MOST_ATOM_LEVELS, MOST_LITERAL_LEVELS};
 pub use operators::LineOperators;
+pub use strays::ProblemNames;

@@ -6,11 +6,13 @@ ghost use Rattle.ladr_formulas.specs.declared.styles.Mode.TheVariants.{Prover};
 ghost use Rattle.ladr_lex.specs.Lexeme.{lexemes_of};
 ghost use Rattle.proof_lines.specs.ContentTokens.{tables_of};
 ghost use Rattle.proof_lines.specs.Faults.{IsLineFault, IsLineRead};
+ghost use Rattle.proof_lines.specs.Strays.{AreNamesOf};
 
 use crate::fault::{LineFault, PartFault};
 use crate::operators::LineOperators;
 use crate::parts::{Behind, Parts, read_parts};
 use crate::stating::state;
+use crate::strays::ProblemNames;
 use derivation::Line;
 use fol_core::{Problem, Symbols};
 use ladr_lex::Token;
@@ -23,14 +25,17 @@ pub struct LineRead {
     pub len: usize,
 }
 
-/// The line of a proof of this problem that tokens begin with, read behind lines with these symbols; its symbols are entered.
+/// The line of a proof of this problem, with the names of its symbols, that tokens begin with, read behind lines with these
+/// symbols; its symbols are entered.
 pub fn read_line(
     alloc: Global,
     operators: &LineOperators,
     problem: &Problem,
+    names: &ProblemNames,
     symbols: &mut Symbols,
     tokens: &[Token],
 ) -> Result<LineRead, LineFault>
+    requires { AreNamesOf problem.now.symbols names.now }
     ensures read { IfOk result (λ r. IsLineRead (tables_of operators.now) (style_of Prover
         problem.now.options.prolog_style_variables) problem.now.symbols symbols.old
         (lexemes_of tokens.now) r symbols.new) }
@@ -44,7 +49,7 @@ pub fn read_line(
         Ok(parts) => {
             let Parts { number, behind } = parts;
             let Behind { terms, just, len } = behind;
-            match state(alloc, terms, problem, symbols) {
+            match state(alloc, terms, problem, names, symbols) {
                 Ok(content) => Ok(LineRead {
                     line: Line {
                         number,

@@ -7,10 +7,11 @@ ghost use Rattle.ladr_formulas.specs.Formulas.{Reading, meets, style_of};
 ghost use Rattle.ladr_formulas.specs.declared.styles.Mode.TheVariants.{Prover};
 ghost use Rattle.proof_lines.specs.Parsed.{AreTermsRead, IsClauseTerm, IsTermStated, IsStatedFault, IsTermFaultOf};
 ghost use Rattle.proof_lines.specs.Stated.{is_too_deep};
+ghost use Rattle.proof_lines.specs.Strays.{AreNamesOf};
 
 use crate::content::Terms;
 use crate::fault::LineFault;
-use crate::strays::brings_stray;
+use crate::strays::{ProblemNames, brings_stray};
 use derivation::Content;
 use fol_core::{Problem, Raw, Symbols};
 use ladr_formulas::{Mode, clause_of, read_formula};
@@ -30,12 +31,15 @@ fn meet(test: bool, misuse: Misuse, least: Option<Misuse>) -> Option<Misuse>
 }
 
 // The formula of a line with its label.
+#[tactic(auto, using(crate::proofs::Steps::strays_told))]
 fn formula(
     alloc: Global,
     raw: Raw,
     problem: &Problem,
+    names: &ProblemNames,
     symbols: &mut Symbols,
 ) -> Result<Content, LineFault>
+    requires names { AreNamesOf problem.now.symbols names.now }
     ensures stated { IfOk result (λ content. IsTermStated (style_of Prover
         problem.now.options.prolog_style_variables) problem.now.symbols symbols.old true
         (raw_of raw) content symbols.new) }
@@ -49,7 +53,7 @@ fn formula(
     let prolog = problem.options.prolog_style_variables;
     let read = read_formula(alloc, &stated.formula, symbols, Mode::Prover, prolog)?;
     let least = meet(stated.misused, Misuse::UnfitAttribute, read.least);
-    let strays = brings_stray(&problem.symbols, before, symbols);
+    let strays = brings_stray(names, before, symbols);
     match meet(strays, Misuse::TwoKinds, least) {
         Some(misuse) => Err(LineFault::Misused(misuse)),
         None => Ok(Content::Formula(read.formula, stated.label)),
@@ -57,13 +61,16 @@ fn formula(
 }
 
 // The clause of a line.
+#[tactic(auto, using(crate::proofs::Steps::strays_told))]
 fn clause(
     alloc: Global,
     literals: &[Raw],
     problem: &Problem,
+    names: &ProblemNames,
     symbols: &mut Symbols,
 ) -> Result<Content, LineFault>
-    requires { (t : RawTree) × IsClauseTerm t literals.now }
+    requires names { AreNamesOf problem.now.symbols names.now }
+    requires literals { (t : RawTree) × IsClauseTerm t literals.now }
     ensures stated { (t : RawTree) → IsClauseTerm t literals.now → IfOk result (λ content.
         IsTermStated (style_of Prover problem.now.options.prolog_style_variables)
         problem.now.symbols symbols.old false t content symbols.new) }
@@ -75,7 +82,7 @@ fn clause(
     let before = symbols.len();
     let prolog = problem.options.prolog_style_variables;
     let read = clause_of(alloc, literals, symbols, Mode::Prover, prolog)?;
-    let strays = brings_stray(&problem.symbols, before, symbols);
+    let strays = brings_stray(names, before, symbols);
     match meet(strays, Misuse::TwoKinds, read.least) {
         Some(misuse) => Err(LineFault::Misused(misuse)),
         None => Ok(Content::Clause(read.clause.unwrap())),
@@ -87,9 +94,11 @@ pub fn state(
     alloc: Global,
     terms: Terms,
     problem: &Problem,
+    names: &ProblemNames,
     symbols: &mut Symbols,
 ) -> Result<Content, LineFault>
-    requires { (by_formula : Bool) × (t : RawTree) × AreTermsRead by_formula t terms }
+    requires names { AreNamesOf problem.now.symbols names.now }
+    requires terms { (by_formula : Bool) × (t : RawTree) × AreTermsRead by_formula t terms }
     ensures stated { (by_formula : Bool) (t : RawTree) → AreTermsRead by_formula t terms
         → IfOk result (λ content. (is_too_deep by_formula t ≡ false)
         × IsTermStated (style_of Prover problem.now.options.prolog_style_variables)
@@ -100,8 +109,8 @@ pub fn state(
     ensures kept { KeepsNumbers symbols.old symbols.new }
 {
     match terms {
-        Terms::Formula(Some(raw)) => formula(alloc, raw, problem, symbols),
-        Terms::Clause(Some(literals)) => clause(alloc, &literals, problem, symbols),
+        Terms::Formula(Some(raw)) => formula(alloc, raw, problem, names, symbols),
+        Terms::Clause(Some(literals)) => clause(alloc, &literals, problem, names, symbols),
         Terms::Formula(None) | Terms::Clause(None) => Err(LineFault::Deep),
     }
 }

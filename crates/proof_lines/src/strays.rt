@@ -1,10 +1,42 @@
 // Relations that are named like Skolem symbols, where the problem has no such name.
-ghost use Rattle.std.specs.Prelude.{◌≡◌, ◌<◌, length};
+ghost use Rattle.std.specs.Prelude.{◌≡◌, ◌<◌, IfOk, length};
 ghost use Rattle.fol_core.specs.SymbolTable.{symbol, name_at, arity_at, kind_at};
-ghost use Rattle.proof_lines.specs.Strays.{is_skolem_name, has_name, is_stray_relation, brings_stray};
+ghost use Rattle.proof_lines.specs.Strays.{is_skolem_name, is_kept, AreNamesOf, is_stray, strays_behind};
 
 use fol_core::{Kind, Sym, Symbols};
+use indexmap::IndexSet;
 use ladr_lex::is_numeral;
+use std::alloc::{AllocError, Global};
+
+/// The names of a problem's symbols, each once, to be looked up.
+#[derive(Drop)]
+pub struct ProblemNames {
+    names: IndexSet<Vec<u8>>,
+}
+
+impl ProblemNames {
+    /// Those of a table.
+    #[tactic(auto, using(crate::proofs::KeptNames::names_whole))]
+    pub fn of(alloc: Global, symbols: &Symbols) -> Result<ProblemNames, AllocError>
+        ensures { IfOk result (AreNamesOf symbols.now) }
+    {
+        let mut names = ProblemNames {
+            names: IndexSet::new(alloc),
+        };
+        for number in 0..symbols.len() {
+            let name = Vec::from_slice(alloc, symbols.name(Sym(number as u64)))?;
+            names.names.insert(name)?;
+        }
+        Ok(names)
+    }
+
+    // Whether one of them is this.
+    fn has(&self, name: &[u8]) -> bool
+        ensures { result ≡ is_kept self.now name.now }
+    {
+        self.names.contains(name)
+    }
+}
 
 // Whether a name is `c` or `f` with a number.
 fn is_skolem_name(name: &[u8]) -> bool
@@ -16,26 +48,13 @@ fn is_skolem_name(name: &[u8]) -> bool
     }
 }
 
-// Whether a symbol has this name.
-#[tactic(auto, using(crate::proofs::Steps::name_step))]
-fn has_name(symbols: &Symbols, name: &[u8]) -> bool
-    ensures { result ≡ has_name symbols.now name.now }
-{
-    for n in 0..symbols.len() {
-        if symbols.name(Sym(n as u64)) == name {
-            return true;
-        }
-    }
-    false
-}
-
 /// Whether a symbol behind the first so many is a relation named like a Skolem symbol, and the problem has no such name.
 #[tactic(auto, using(crate::proofs::Steps::stray_step))]
-pub fn brings_stray(problem: &Symbols, before: usize, symbols: &Symbols) -> bool
-    ensures { result ≡ brings_stray problem.now before symbols.now }
+pub fn brings_stray(names: &ProblemNames, before: usize, symbols: &Symbols) -> bool
+    ensures { result ≡ strays_behind (is_kept names.now) before symbols.now }
 {
     for n in before..symbols.len() {
-        if is_stray(problem, symbols, Sym(n as u64)) {
+        if is_stray(names, symbols, Sym(n as u64)) {
             return true;
         }
     }
@@ -43,11 +62,11 @@ pub fn brings_stray(problem: &Symbols, before: usize, symbols: &Symbols) -> bool
 }
 
 // Whether the symbol is one.
-fn is_stray(problem: &Symbols, symbols: &Symbols, s: Sym) -> bool
+fn is_stray(names: &ProblemNames, symbols: &Symbols, s: Sym) -> bool
     requires { s.0 < length symbols.now }
-    ensures { result ≡ is_stray_relation problem.now (symbol (name_at symbols.now s.0)
+    ensures { result ≡ is_stray (is_kept names.now) (symbol (name_at symbols.now s.0)
         (arity_at symbols.now s.0) (kind_at symbols.now s.0)) }
 {
     let name = symbols.name(s);
-    symbols.kind(s) == Kind::Relation && is_skolem_name(name) && !has_name(problem, name)
+    symbols.kind(s) == Kind::Relation && is_skolem_name(name) && !names.has(name)
 }

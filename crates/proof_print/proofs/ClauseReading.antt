@@ -3,17 +3,18 @@ use Rattle.std.proofs.Common.{◌≡◌, ℕ, zero, suc, ◌+◌, ◌^◌, ◌<�
 use Rattle.std.specs.Prelude.{◌==◌, ◌&&◌, ◌||◌, not, nat_lt, slice_get, get_or, is_some, unwrap_or, if◌then◌else◌, codes}
 use Rattle.std.specs.Option.{option_map_or, option_map}
 use Rattle.std.specs.Str.{bytes_eq}
-use Rattle.std.proofs.lemmas.Bool.{cases_lt, and_parts, cond-true, cond-false}
+use Rattle.std.proofs.lemmas.Bool.{cases_lt, and_parts, cond-true, cond-false, or_left, or_right, eq-eqb}
 use Rattle.std.proofs.lemmas.Bool.Decides.{nat_tests}
 use Rattle.std.proofs.lemmas.List.{length-append, take-append-le, take_all, append-nil}
 use Rattle.std.proofs.lemmas.Option.{slice_get-get_or}
 use Rattle.std.proofs.Math.Seq.{take-append_seam}
+use Rattle.fol_core.specs.Bound.{has_symbol, have_symbol}
 use Rattle.fol_core.specs.Fol.{Fol, verum, falsum, equal, atom, negation, conjunction, disjunction, implication, equivalence, forall, exists}
 use Rattle.fol_core.specs.Free.{is_in, noted, joined, variables_of, variables_of_all}
 use Rattle.fol_core.specs.Literals.{Lit, ClauseTree, literal, equality}
 use Rattle.fol_core.specs.RawTree.{named, RawTrees, no_raws, more_raws}
 use Rattle.fol_core.specs.Renumbered.{clause_variables}
-use Rattle.fol_core.specs.SymbolTable.{Symbol, number_of, kind_at, entered, is_clash, is_same_kind}
+use Rattle.fol_core.specs.SymbolTable.{Symbol, number_of, kind_at, entered, is_clash, is_same_kind, FindsEach}
 use Rattle.fol_core.specs.Tree.{Tree, var, elem, app, Trees, none, more}
 use Rattle.fol_core.specs.declared.symbols.Kind.{Kind}
 use Rattle.fol_core.specs.declared.symbols.Kind.TheVariants.{Function, Relation}
@@ -32,7 +33,7 @@ use Rattle.ladr_print.proofs.Letters.{name_free, first_variables, first_length, 
 use Rattle.ladr_print.proofs.Rereading.{denial_read}
 use Rattle.ladr_print.proofs.Upto.{upto, upto_length, not_in, noted_old}
 use Rattle.proof_lines.specs.Literals.{joins_formulas}
-use Rattle.proof_print.specs.Rereadable.{names_relation, CanReadSymbols, HasFunctions, HaveFunctions, IsAtomOfKinds, IsClauseOfKinds}
+use Rattle.proof_print.specs.Rereadable.{names_relation, ReadsAsItself, clause_uses, HasFunctions, HaveFunctions, IsAtomOfKinds, IsClauseOfKinds}
 
 -- each variable of a clause is listed once
 pub clause_once : (c : ClauseTree) → joined [] (clause_variables c) ≡ clause_variables c
@@ -105,13 +106,38 @@ pub not_true : (b : Bool) → not b ≡ true → b ≡ false
 not_true true h = absurd (cc)
 not_true false h = refl
 
-module _ (st : Style) (plain : st.elements ≡ false) (T : List Symbol) (few : length T ≤ equality) (can : CanReadSymbols st T) where
+module _ (st : Style) (plain : st.elements ≡ false) (T : List Symbol) (few : length T ≤ equality) (finds : FindsEach T) where
   abbrev v : Naming
   v = clause_variable st.prolog
 
   -- what is read behind the table, with the first n variables
   abbrev state : ℕ → Bool → Reading
   state n large = record { symbols = T; variables = first_variables st.prolog n; least = None; large = large }
+
+  -- a symbol of the table is read as itself; so is each that passes a test
+  abbrev pub IsOwn : ℕ → Type 0
+  IsOwn s = (x : Symbol) → slice_get T s ≡ Some x → ReadsAsItself st x
+
+  abbrev pub AreOwn : (ℕ → Bool) → Type 0
+  AreOwn is_used = (s : ℕ) → s < length T → is_used s ≡ true → IsOwn s
+
+  pub head_own : (s : ℕ) (ts : Trees) → s < length T → AreOwn (λ j. has_symbol j (app s ts)) → IsOwn s
+  head_own s ts h u = u s h (or_left (s == s) (have_symbol s ts) (eq-eqb s s refl))
+
+  pub rest_own : (s : ℕ) (ts : Trees) → AreOwn (λ j. has_symbol j (app s ts)) → AreOwn (λ j. have_symbol j ts)
+  rest_own s ts u j h e = u j h (or_right (j == s) (have_symbol j ts) e)
+
+  left_own : (p q : ℕ → Bool) → AreOwn (λ j. p j || q j) → AreOwn p
+  left_own p q u j h e = u j h (or_left (p j) (q j) e)
+
+  right_own : (p q : ℕ → Bool) → AreOwn (λ j. p j || q j) → AreOwn q
+  right_own p q u j h e = u j h (or_right (p j) (q j) e)
+
+  pub first_own : (l : Lit) (ls : List Lit) → AreOwn (clause_uses (l ∷ ls)) → AreOwn (λ j. has_symbol j l.atom)
+  first_own l ls u = left_own (λ j. has_symbol j l.atom) (clause_uses ls) u
+
+  pub others_own : (l : Lit) (ls : List Lit) → AreOwn (clause_uses (l ∷ ls)) → AreOwn (clause_uses ls)
+  others_own l ls u = right_own (λ j. has_symbol j l.atom) (clause_uses ls) u
 
   -- a symbol of the table
   pub record Known (s n : ℕ) (kind : Kind) : Type 0 where
@@ -120,9 +146,10 @@ module _ (st : Style) (plain : st.elements ≡ false) (T : List Symbol) (few : l
     pub name : symbol_name T s ≡ found.name
     pub arity : found.arity ≡ n
     pub kind_is : found.kind ≡ kind
+    pub itself : ReadsAsItself st found
 
-  pub known : (s n : ℕ) (kind : Kind) → IsSymbolOf T s n → kind_at T s ≡ kind → Known s n kind
-  known s n kind h k =
+  pub known : (s n : ℕ) (kind : Kind) → IsSymbolOf T s n → kind_at T s ≡ kind → IsOwn s → Known s n kind
+  known s n kind h k o =
       let x : Symbol = get_or T s (record { name = []; arity = 0; kind = Function }) in
       let there : slice_get T s ≡ Some x = slice_get-get_or T s (record { name = []; arity = 0; kind = Function }) h.0 in
       let other : (s == equality) ≡ false = grind (arith, nat_tests, few, h.0) in
@@ -132,6 +159,7 @@ module _ (st : Style) (plain : st.elements ≡ false) (T : List Symbol) (few : l
         name = cond-false (s == equality) _ _ other ∙ ap (λ (o : Option Symbol). option_map_or (λ y. y.name) o []) there;
         arity = sym (ap (λ (o : Option Symbol). option_map_or (λ y. y.arity) o 0) there) ∙ h.1;
         kind_is = sym (ap (λ (o : Option Symbol). option_map_or (λ y. y.kind) o Function) there) ∙ k;
+        itself = o x there;
       }
 
   same_kind : (k : Kind) → not (is_same_kind k k) ≡ false
@@ -139,28 +167,28 @@ module _ (st : Style) (plain : st.elements ≡ false) (T : List Symbol) (few : l
   same_kind Relation = refl
 
   -- a symbol that is there changes nothing
-  symbol_read : (s : ℕ) (x : Symbol) → slice_get T s ≡ Some x → (n : ℕ) (large : Bool) →
+  symbol_read : (s : ℕ) (x : Symbol) → slice_get T s ≡ Some x → ReadsAsItself st x → (n : ℕ) (large : Bool) →
       with_symbol x.name x.arity x.kind (state n large) ≡ state n (large || nat_lt 255 x.arity)
-  symbol_read s x there n large =
-      let number : number_of T x.name x.arity ≡ Some s = can.finds s x there in
+  symbol_read s x there itself n large =
+      let number : number_of T x.name x.arity ≡ Some s = finds s x there in
       let kind : kind_at T s ≡ x.kind = ap (λ (o : Option Symbol). option_map_or (λ y. y.kind) o Function) there in
       let clash : is_clash T x ≡ false =
       ap (λ (o : Option ℕ). option_map_or (λ i. not (is_same_kind (kind_at T i) x.kind)) o false) number
       ∙ ap (λ (k : Kind). not (is_same_kind k x.kind)) kind ∙ same_kind x.kind
       in
       let stays : entered T x ≡ T = ap (λ (o : Option ℕ). if is_some o then T else T ++ x ∷ []) number in
-      let own = (can.itself s x there).no_attribute in
+      let own = itself.no_attribute in
       (λ i. record (meets (own i) UnfitAttribute (meets (clash i) TwoKinds (state n large))) { symbols = stays i; large = large || nat_lt 255 x.arity })
 
   known_read : (s m : ℕ) (kind : Kind) (k : Known s m kind) (n : ℕ) (large : Bool) →
       with_symbol (symbol_name T s) m kind (state n large) ≡ state n (large || nat_lt 255 m)
   known_read s m kind k n large =
-      (λ i. with_symbol (k.name i) (sym k.arity i) (sym k.kind_is i) (state n large)) ∙ symbol_read s k.found k.at n large
+      (λ i. with_symbol (k.name i) (sym k.arity i) (sym k.kind_is i) (state n large)) ∙ symbol_read s k.found k.at k.itself n large
       ∙ ap (λ (j : ℕ). state n (large || nat_lt 255 j)) k.arity
 
   known_number : (s m : ℕ) (kind : Kind) (k : Known s m kind) → unwrap_or (number_of T (symbol_name T s) m) 0 ≡ s
   known_number s m kind k =
-      (λ i. unwrap_or (number_of T (k.name i) (sym k.arity i)) 0) ∙ ap (λ (o : Option ℕ). unwrap_or o 0) (can.finds s k.found k.at)
+      (λ i. unwrap_or (number_of T (k.name i) (sym k.arity i)) 0) ∙ ap (λ (o : Option ℕ). unwrap_or o 0) (finds s k.found k.at)
 
   no_element : (name : List ℕ) → is_element st name ≡ false
   no_element name = ap (λ (b : Bool). b && is_numeral name) plain
@@ -218,11 +246,11 @@ module _ (st : Style) (plain : st.elements ≡ false) (T : List Symbol) (few : l
 
   -- a constant
   no_name : (s n : ℕ) (kind : Kind) (k : Known s n kind) → n ≡ 0 → is_variable st [] (symbol_name T s) ≡ false
-  no_name s n kind k e = ap (is_free_name st) k.name ∙ (can.itself s k.found k.at).no_variable (k.arity ∙ e)
+  no_name s n kind k e = ap (is_free_name st) k.name ∙ k.itself.no_variable (k.arity ∙ e)
 
-  constant_read : (s n : ℕ) (large : Bool) → IsSymbolOf T s 0 → kind_at T s ≡ Function → TermRead (app s none) n n large
-  constant_read s n large h f =
-      let k = known s 0 Function h f in
+  constant_read : (s n : ℕ) (large : Bool) → IsSymbolOf T s 0 → kind_at T s ≡ Function → IsOwn s → TermRead (app s none) n n large
+  constant_read s n large h f o =
+      let k = known s 0 Function h f o in
       let name = symbol_name T s in
       let after = large || nat_lt 255 0 in (
         after,
@@ -255,13 +283,13 @@ module _ (st : Style) (plain : st.elements ≡ false) (T : List Symbol) (few : l
       }
 
   mutual
-    term_read : (t : Tree) → IsTermOver T t → HasFunctions T t → (n m : ℕ) (large : Bool) → m ≤ 2 ^ 64 → joined (upto n) (variables_of t) ≡ upto m → TermRead t n m large
-    term_read (var x) h f n m large size e = variable_read x n m large size e
-    term_read (elem k) h f n m large size e = absurd h
-    term_read (app s none) h f n m large size e =
-        let r = constant_read s n large h.0 f.0 in (r.0, r.1 ∙ ap (λ (k : ℕ). record { tree = app s none; reading = state k r.0 }) (same_numbers n m e))
-    term_read (app s (more t ts)) h f n m large size e =
-        let k = known s (suc (many ts)) Function h.0 f.0 in
+    term_read : (t : Tree) → IsTermOver T t → HasFunctions T t → AreOwn (λ j. has_symbol j t) → (n m : ℕ) (large : Bool) → m ≤ 2 ^ 64 → joined (upto n) (variables_of t) ≡ upto m → TermRead t n m large
+    term_read (var x) h f u n m large size e = variable_read x n m large size e
+    term_read (elem k) h f u n m large size e = absurd h
+    term_read (app s none) h f u n m large size e =
+        let r = constant_read s n large h.0 f.0 (head_own s none h.0.0 u) in (r.0, r.1 ∙ ap (λ (k : ℕ). record { tree = app s none; reading = state k r.0 }) (same_numbers n m e))
+    term_read (app s (more t ts)) h f u n m large size e =
+        let k = known s (suc (many ts)) Function h.0 f.0 (head_own s (more t ts) h.0.0 u) in
         let name = symbol_name T s in
         let xs = terms_raw T v (more t ts) in
         let count : arity_of xs ≡ suc (many ts) = arity_count (more t ts) in
@@ -269,7 +297,7 @@ module _ (st : Style) (plain : st.elements ≡ false) (T : List Symbol) (few : l
         let begun : with_symbol name (arity_of xs) Function (meets (is_too_great st name) UnfitNumeral (state n large)) ≡ state n after =
         (λ i. with_symbol name (count i) Function (meets (not_great name i) UnfitNumeral (state n large))) ∙ known_read s (suc (many ts)) Function k n large
         in
-        let rest = terms_read (more t ts) h.1 f.1 n m after size e in
+        let rest = terms_read (more t ts) h.1 f.1 (rest_own s (more t ts) u) n m after size e in
         let F : Reading → Made Tree = λ z. let al = terms_of st [] z xs in record { tree = app (symbol_number name (arity_of xs) z) al.tree; reading = al.reading } in (
           rest.0,
           ap F begun
@@ -277,23 +305,23 @@ module _ (st : Style) (plain : st.elements ≡ false) (T : List Symbol) (few : l
               ∙ ap (λ (j : ℕ). record { tree = app j (more t ts); reading = state m rest.0 }) (ap (λ (j : ℕ). unwrap_or (number_of T name j) 0) count ∙ known_number s (suc (many ts)) Function k),
         )
 
-    terms_read : (ts : Trees) → AreOver T ts → HaveFunctions T ts → (n m : ℕ) (large : Bool) → m ≤ 2 ^ 64 → joined (upto n) (variables_of_all ts) ≡ upto m → TermsRead ts n m large
-    terms_read none h f n m large size e = (large, ap (λ (k : ℕ). record { tree = none; reading = state k large }) (same_numbers n m e))
-    terms_read (more t ts) h f n m large size e =
+    terms_read : (ts : Trees) → AreOver T ts → HaveFunctions T ts → AreOwn (λ j. have_symbol j ts) → (n m : ℕ) (large : Bool) → m ≤ 2 ^ 64 → joined (upto n) (variables_of_all ts) ≡ upto m → TermsRead ts n m large
+    terms_read none h f u n m large size e = (large, ap (λ (k : ℕ). record { tree = none; reading = state k large }) (same_numbers n m e))
+    terms_read (more t ts) h f u n m large size e =
         let b = between n (variables_of t) (variables_of_all ts) m e in
-        let first = term_read t h.0 f.0 n b.middle large (omega (arith, size, b.within)) b.front in
-        let others = terms_read ts h.1 f.1 b.middle m first.0 size b.back in
+        let first = term_read t h.0 f.0 (left_own (λ j. has_symbol j t) (λ j. have_symbol j ts) u) n b.middle large (omega (arith, size, b.within)) b.front in
+        let others = terms_read ts h.1 f.1 (right_own (λ j. has_symbol j t) (λ j. have_symbol j ts) u) b.middle m first.0 size b.back in
         let xs = terms_raw T v ts in (
           others.0,
           ap (λ (r : Made Tree). let o = terms_of st [] r.reading xs in record { tree = more r.tree o.tree; reading = o.reading }) first.1
               ∙ ap (λ (o : Made Trees). record { tree = more t o.tree; reading = o.reading }) others.1,
         )
 
-  relation_read : (r : ℕ) (ts : Trees) → IsSymbolOf T r (many ts) → kind_at T r ≡ Relation → AreOver T ts → HaveFunctions T ts → (n m : ℕ) (large : Bool) → m ≤ 2 ^ 64 →
+  relation_read : (r : ℕ) (ts : Trees) → IsSymbolOf T r (many ts) → kind_at T r ≡ Relation → AreOver T ts → HaveFunctions T ts → AreOwn (λ j. has_symbol j (app r ts)) → (n m : ℕ) (large : Bool) → m ≤ 2 ^ 64 →
       joined (upto n) (variables_of_all ts) ≡ upto m →
       (after : Bool) × (relation_of st [] (symbol_name T r) (terms_raw T v ts) (state n large) ≡ record { tree = atom r ts; reading = state m after })
-  relation_read r ts h kind over f n m large size e =
-      let k = known r (many ts) Relation h kind in
+  relation_read r ts h kind over f u n m large size e =
+      let k = known r (many ts) Relation h kind (head_own r ts h.0 u) in
       let name = symbol_name T r in
       let xs = terms_raw T v ts in
       let count : arity_of xs ≡ many ts = arity_count ts in
@@ -301,7 +329,7 @@ module _ (st : Style) (plain : st.elements ≡ false) (T : List Symbol) (few : l
       let begun : with_symbol name (arity_of xs) Relation (meets (is_element st name) UnfitNumeral (state n large)) ≡ state n after =
       (λ i. with_symbol name (count i) Relation (meets (no_element name i) UnfitNumeral (state n large))) ∙ known_read r (many ts) Relation k n large
       in
-      let rest = terms_read ts over f n m after size e in
+      let rest = terms_read ts over f (rest_own r ts u) n m after size e in
       let F : Reading → Made Fol = λ z. let al = terms_of st [] z xs in record { tree = atom (symbol_number name (arity_of xs) z) al.tree; reading = al.reading } in (
         rest.0,
         ap F begun
@@ -346,15 +374,15 @@ module _ (st : Style) (plain : st.elements ≡ false) (T : List Symbol) (few : l
     negative : atom_in false formula ≡ Some (literal false a)
     alone : literals_in formula ≡ Some (literal true a ∷ [])
 
-  relation_atom : (r : ℕ) (ts : Trees) → IsSymbolOf T r (many ts) → kind_at T r ≡ Relation → AreOver T ts → HaveFunctions T ts → (n m : ℕ) (large : Bool) → m ≤ 2 ^ 64 →
+  relation_atom : (r : ℕ) (ts : Trees) → IsSymbolOf T r (many ts) → kind_at T r ≡ Relation → AreOver T ts → HaveFunctions T ts → AreOwn (λ j. has_symbol j (app r ts)) → (n m : ℕ) (large : Bool) → m ≤ 2 ^ 64 →
       joined (upto n) (variables_of_all ts) ≡ upto m → AtomRead (app r ts) n m large
-  relation_atom r ts h kind over f n m large size e =
-      let k = known r (many ts) Relation h kind in
+  relation_atom r ts h kind over f u n m large size e =
+      let k = known r (many ts) Relation h kind (head_own r ts h.0 u) in
       let xs = terms_raw T v ts in
       let may : names_relation (symbol_name T r) (arity_of xs) ≡ true =
-      (λ i. names_relation (k.name i) (arity_count ts i)) ∙ (λ i. names_relation k.found.name (sym k.arity i)) ∙ (can.itself r k.found k.at).relation k.kind_is
+      (λ i. names_relation (k.name i) (arity_count ts i)) ∙ (λ i. names_relation k.found.name (sym k.arity i)) ∙ k.itself.relation k.kind_is
       in
-      let one = relation_read r ts h kind over f n m large size e in
+      let one = relation_read r ts h kind over f u n m large size e in
       record {
         formula = atom r ts;
         after = one.0;
@@ -364,12 +392,13 @@ module _ (st : Style) (plain : st.elements ≡ false) (T : List Symbol) (few : l
         alone = refl;
       }
 
-  equation_atom : (a b : Tree) → AreOver T (more a (more b none)) → HaveFunctions T (more a (more b none)) → (n m : ℕ) (large : Bool) → m ≤ 2 ^ 64 →
+  equation_atom : (a b : Tree) → AreOver T (more a (more b none)) → HaveFunctions T (more a (more b none)) → AreOwn (λ j. have_symbol j (more a (more b none))) → (n m : ℕ) (large : Bool) → m ≤ 2 ^ 64 →
       joined (upto n) (variables_of_all (more a (more b none))) ≡ upto m → AtomRead (app equality (more a (more b none))) n m large
-  equation_atom a b over f n m large size e =
+  equation_atom a b over f u n m large size e =
       let i = between n (variables_of a) (variables_of b) m e in
-      let left = term_read a over.0 f.0 n i.middle large (omega (arith, size, i.within)) i.front in
-      let right = term_read b over.1.0 f.1.0 i.middle m left.0 size i.back in
+      let left = term_read a over.0 f.0 (left_own (λ j. has_symbol j a) (λ j. have_symbol j (more b none)) u) n i.middle large (omega (arith, size, i.within)) i.front in
+      let later : AreOwn (λ j. have_symbol j (more b none)) = right_own (λ j. has_symbol j a) (λ j. have_symbol j (more b none)) u in
+      let right = term_read b over.1.0 f.1.0 (left_own (λ j. has_symbol j b) (λ j. have_symbol j none) later) i.middle m left.0 size i.back in
       record {
         formula = equal a b;
         after = right.0;
@@ -381,24 +410,24 @@ module _ (st : Style) (plain : st.elements ≡ false) (T : List Symbol) (few : l
         alone = refl;
       }
 
-  two_only : (ts : Trees) → many ts ≡ 2 → AreOver T ts → HaveFunctions T ts → (n m : ℕ) (large : Bool) → m ≤ 2 ^ 64 → joined (upto n) (variables_of_all ts) ≡ upto m → AtomRead (app equality ts) n m large
-  two_only none h over f n m large size e = absurd (omega arith)
-  two_only (more a none) h over f n m large size e = absurd (omega arith)
-  two_only (more a (more b none)) h over f n m large size e = equation_atom a b over f n m large size e
-  two_only (more a (more b (more c ts))) h over f n m large size e = absurd (omega arith)
+  two_only : (ts : Trees) → many ts ≡ 2 → AreOver T ts → HaveFunctions T ts → AreOwn (λ j. have_symbol j ts) → (n m : ℕ) (large : Bool) → m ≤ 2 ^ 64 → joined (upto n) (variables_of_all ts) ≡ upto m → AtomRead (app equality ts) n m large
+  two_only none h over f u n m large size e = absurd (omega arith)
+  two_only (more a none) h over f u n m large size e = absurd (omega arith)
+  two_only (more a (more b none)) h over f u n m large size e = equation_atom a b over f u n m large size e
+  two_only (more a (more b (more c ts))) h over f u n m large size e = absurd (omega arith)
 
   pub no_equality : (n : ℕ) → n < length T → n ≡ equality → ⊥
   no_equality n h e = omega (arith, few, h, e)
 
-  atom_read : (a : Tree) → IsAtomOver T a → IsAtomOfKinds T a → (n m : ℕ) (large : Bool) → m ≤ 2 ^ 64 → joined (upto n) (variables_of a) ≡ upto m → AtomRead a n m large
-  atom_read (var x) h k n m large size e = absurd h
-  atom_read (elem j) h k n m large size e = absurd h
-  atom_read (app r ts) h k n m large size e = by h.0 k.0
+  atom_read : (a : Tree) → IsAtomOver T a → IsAtomOfKinds T a → AreOwn (λ j. has_symbol j a) → (n m : ℕ) (large : Bool) → m ≤ 2 ^ 64 → joined (upto n) (variables_of a) ≡ upto m → AtomRead a n m large
+  atom_read (var x) h k u n m large size e = absurd h
+  atom_read (elem j) h k u n m large size e = absurd h
+  atom_read (app r ts) h k u n m large size e = by h.0 k.0
     where
       by : (IsSymbolOf T r (many ts) ⊎ ((r ≡ equality) × (many ts ≡ 2))) → ((r ≡ equality) ⊎ (kind_at T r ≡ Relation)) → AtomRead (app r ts) n m large
-      by (inl i) (inr kind) = relation_atom r ts i kind h.1 k.1 n m large size e
+      by (inl i) (inr kind) = relation_atom r ts i kind h.1 k.1 u n m large size e
       by (inl i) (inl is) = absurd (no_equality r i.0 is)
-      by (inr i) kinds = subst (λ (s : ℕ). AtomRead (app s ts) n m large) (sym i.0) (two_only ts i.1 h.1 k.1 n m large size e)
+      by (inr i) kinds = subst (λ (s : ℕ). AtomRead (app s ts) n m large) (sym i.0) (two_only ts i.1 h.1 k.1 (rest_own r ts u) n m large size e)
 
   record LiteralRead (l : Lit) (n m : ℕ) (large : Bool) : Type 0 where
     formula : Fol
@@ -407,12 +436,12 @@ module _ (st : Style) (plain : st.elements ≡ false) (T : List Symbol) (few : l
     one : literal_in formula ≡ Some l
     alone : literals_in formula ≡ Some (l ∷ [])
 
-  literal_read : (positive : Bool) (a : Tree) → IsAtomOver T a → IsAtomOfKinds T a → (n m : ℕ) (large : Bool) → m ≤ 2 ^ 64 → joined (upto n) (variables_of a) ≡ upto m → LiteralRead (literal positive a) n m large
-  literal_read true a h k n m large size e =
-      let r = atom_read a h k n m large size e in
+  literal_read : (positive : Bool) (a : Tree) → IsAtomOver T a → IsAtomOfKinds T a → AreOwn (λ j. has_symbol j a) → (n m : ℕ) (large : Bool) → m ≤ 2 ^ 64 → joined (upto n) (variables_of a) ≡ upto m → LiteralRead (literal positive a) n m large
+  literal_read true a h k u n m large size e =
+      let r = atom_read a h k u n m large size e in
       record { formula = r.formula; after = r.after; read = r.read; one = r.positive; alone = r.alone }
-  literal_read false a h k n m large size e =
-      let r = atom_read a h k n m large size e in
+  literal_read false a h k u n m large size e =
+      let r = atom_read a h k u n m large size e in
       record {
         formula = negation r.formula;
         after = r.after;
@@ -427,14 +456,14 @@ module _ (st : Style) (plain : st.elements ≡ false) (T : List Symbol) (few : l
     read : formula_in st [] (state n large) (clause_raw T v c) ≡ record { tree = formula; reading = state m after }
     are : literals_in formula ≡ Some c
 
-  literals_read : (l : Lit) (ls : List Lit) → IsClauseOver T (l ∷ ls) → IsClauseOfKinds T (l ∷ ls) → (n m : ℕ) (large : Bool) → m ≤ 2 ^ 64 → joined (upto n) (clause_variables (l ∷ ls)) ≡ upto m → LiteralsRead (l ∷ ls) n m large
-  literals_read l [] h k n m large size e =
-      let r = literal_read l.positive l.atom h.0 k.0 n m large size e in
+  literals_read : (l : Lit) (ls : List Lit) → IsClauseOver T (l ∷ ls) → IsClauseOfKinds T (l ∷ ls) → AreOwn (clause_uses (l ∷ ls)) → (n m : ℕ) (large : Bool) → m ≤ 2 ^ 64 → joined (upto n) (clause_variables (l ∷ ls)) ≡ upto m → LiteralsRead (l ∷ ls) n m large
+  literals_read l [] h k u n m large size e =
+      let r = literal_read l.positive l.atom h.0 k.0 (first_own l [] u) n m large size e in
       record { formula = r.formula; after = r.after; read = r.read; are = r.alone }
-  literals_read l (j ∷ ls) h k n m large size e =
+  literals_read l (j ∷ ls) h k u n m large size e =
       let b = between n (variables_of l.atom) (clause_variables (j ∷ ls)) m e in
-      let first = literal_read l.positive l.atom h.0 k.0 n b.middle large (omega (arith, size, b.within)) b.front in
-      let others = literals_read j ls h.1 k.1 b.middle m first.after size b.back in
+      let first = literal_read l.positive l.atom h.0 k.0 (first_own l (j ∷ ls) u) n b.middle large (omega (arith, size, b.within)) b.front in
+      let others = literals_read j ls h.1 k.1 (others_own l (j ∷ ls) u) b.middle m first.after size b.back in
       record {
         formula = disjunction first.formula others.formula;
         after = others.after;
@@ -468,8 +497,8 @@ module _ (st : Style) (plain : st.elements ≡ false) (T : List Symbol) (few : l
     pub read : formula_reading st T (clause_raw T v c) ≡ record { tree = formula; reading = state m after }
     pub is : clause_in formula ≡ Some c
 
-  pub clause_read : (c : ClauseTree) (m : ℕ) → IsClauseOver T c → IsClauseOfKinds T c → m ≤ 2 ^ 64 → clause_variables c ≡ upto m → ClauseRead c m
-  clause_read [] m h k size e =
+  pub clause_read : (c : ClauseTree) (m : ℕ) → IsClauseOver T c → IsClauseOfKinds T c → AreOwn (clause_uses c) → m ≤ 2 ^ 64 → clause_variables c ≡ upto m → ClauseRead c m
+  clause_read [] m h k u size e =
       record {
         formula = falsum;
         after = false;
@@ -477,6 +506,6 @@ module _ (st : Style) (plain : st.elements ≡ false) (T : List Symbol) (few : l
             ∙ ap (λ (n : ℕ). record { tree = falsum; reading = state n false }) (same_numbers 0 m e);
         is = refl;
       }
-  clause_read (l ∷ ls) m h k size e =
-      let r = literals_read l ls h k 0 m false size (clause_once (l ∷ ls) ∙ e) in
+  clause_read (l ∷ ls) m h k u size e =
+      let r = literals_read l ls h k u 0 m false size (clause_once (l ∷ ls) ∙ e) in
       record { formula = r.formula; after = r.after; read = r.read; is = as_clause r.formula (l ∷ ls) r.are }

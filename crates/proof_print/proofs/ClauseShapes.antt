@@ -4,9 +4,10 @@ use Rattle.std.specs.Prelude.{◌||◌, codes}
 use Rattle.std.specs.List.{list_all}
 use Rattle.std.specs.Str.{bytes_eq}
 use Rattle.std.proofs.lemmas.Bool.{and_parts, and_from, cond-false}
+use Rattle.fol_core.specs.Bound.{has_symbol}
 use Rattle.fol_core.specs.Literals.{Lit, ClauseTree, literal, equality}
 use Rattle.fol_core.specs.RawTree.{RawTree, named, RawTrees, no_raws, more_raws}
-use Rattle.fol_core.specs.SymbolTable.{Symbol, kind_at}
+use Rattle.fol_core.specs.SymbolTable.{Symbol, kind_at, FindsEach}
 use Rattle.fol_core.specs.Tree.{Tree, var, elem, app, Trees, none, more}
 use Rattle.fol_core.specs.declared.symbols.Kind.TheVariants.{Relation}
 use Rattle.ladr_formulas.specs.Formulas.{arity_of, is_denial}
@@ -17,8 +18,8 @@ use Rattle.ladr_print.specs.HasText.{many, IsSymbolOf, IsAtomOver, IsClauseOver}
 use Rattle.ladr_print.specs.TermText.{Naming, clause_variable, symbol_name, term_raw, terms_raw}
 use Rattle.ladr_reader.specs.Capped.{is_bar, disjuncts}
 use Rattle.proof_lines.specs.Literals.{joins_formulas, reads_as_atom, is_inequation, reads_as_literal, is_false, read_as_clause, may_be_clause}
-use Rattle.proof_print.specs.Rereadable.{names_relation, CanReadSymbols, IsAtomOfKinds, IsClauseOfKinds}
-use Rattle.proof_print.proofs.ClauseReading.{known, arity_count, no_equality, or_false, not_true}
+use Rattle.proof_print.specs.Rereadable.{names_relation, clause_uses, IsAtomOfKinds, IsClauseOfKinds}
+use Rattle.proof_print.proofs.ClauseReading.{AreOwn, head_own, first_own, others_own, known, arity_count, no_equality, or_false, not_true}
 
 or_true : (a b : Bool) → b ≡ true → (a || b) ≡ true
 or_true true b h = refl
@@ -73,20 +74,23 @@ denied_single s xs h =
     subst Single (sym (plain_denial s xs h))
     (record { one = refl; literal_is = or_true false _ (atom_named s xs h) })
 
-module _ (st : Style) (plain : st.elements ≡ false) (T : List Symbol) (few : length T ≤ equality) (can : CanReadSymbols st T) where
+module _ (st : Style) (plain : st.elements ≡ false) (T : List Symbol) (few : length T ≤ equality) (finds : FindsEach T) where
   abbrev v : Naming
   v = clause_variable st.prolog
+
+  abbrev Own : (ℕ → Bool) → Type 0
+  Own is_used = AreOwn st plain T few finds is_used
 
   record Singles (a : Tree) : Type 0 where
     positive : Single (term_raw T v a)
     negative : Single (denial (term_raw T v a))
 
-  relation_singles : (r : ℕ) (ts : Trees) → IsSymbolOf T r (many ts) → kind_at T r ≡ Relation → Singles (app r ts)
-  relation_singles r ts h kind =
-      let k = known st plain T few can r (many ts) Relation h kind in
+  relation_singles : (r : ℕ) (ts : Trees) → IsSymbolOf T r (many ts) → kind_at T r ≡ Relation → Own (λ j. has_symbol j (app r ts)) → Singles (app r ts)
+  relation_singles r ts h kind u =
+      let k = known st plain T few finds r (many ts) Relation h kind (head_own st plain T few finds r ts h.0 u) in
       let xs = terms_raw T v ts in
       let may : names_relation (symbol_name T r) (arity_of xs) ≡ true =
-      (λ i. names_relation (k.name i) (arity_count st plain T few can ts i)) ∙ (λ i. names_relation k.found.name (sym k.arity i)) ∙ (can.itself r k.found k.at).relation k.kind_is
+      (λ i. names_relation (k.name i) (arity_count st plain T few finds ts i)) ∙ (λ i. names_relation k.found.name (sym k.arity i)) ∙ k.itself.relation k.kind_is
       in
       record { positive = relation_single (symbol_name T r) xs may; negative = denied_single (symbol_name T r) xs may }
 
@@ -96,40 +100,40 @@ module _ (st : Style) (plain : st.elements ≡ false) (T : List Symbol) (few : l
   equation_singles (more a (more b none)) h = record { positive = record { one = refl; literal_is = refl }; negative = record { one = refl; literal_is = refl } }
   equation_singles (more a (more b (more c ts))) h = absurd (omega arith)
 
-  atom_singles : (a : Tree) → IsAtomOver T a → IsAtomOfKinds T a → Singles a
-  atom_singles (var x) h k = absurd h
-  atom_singles (elem j) h k = absurd h
-  atom_singles (app r ts) h k = by h.0 k.0
+  atom_singles : (a : Tree) → IsAtomOver T a → IsAtomOfKinds T a → Own (λ j. has_symbol j a) → Singles a
+  atom_singles (var x) h k u = absurd h
+  atom_singles (elem j) h k u = absurd h
+  atom_singles (app r ts) h k u = by h.0 k.0
     where
       by : (IsSymbolOf T r (many ts) ⊎ ((r ≡ equality) × (many ts ≡ 2))) → ((r ≡ equality) ⊎ (kind_at T r ≡ Relation)) → Singles (app r ts)
-      by (inl i) (inr kind) = relation_singles r ts i kind
-      by (inl i) (inl is) = absurd (no_equality st plain T few can r i.0 is)
+      by (inl i) (inr kind) = relation_singles r ts i kind u
+      by (inl i) (inl is) = absurd (no_equality st plain T few finds r i.0 is)
       by (inr i) kinds = subst (λ (s : ℕ). Singles (app s ts)) (sym i.0) (equation_singles ts i.1)
 
-  literal_single : (positive : Bool) (a : Tree) → IsAtomOver T a → IsAtomOfKinds T a → Single (literal_raw T v (literal positive a))
-  literal_single true a h k = (atom_singles a h k).positive
-  literal_single false a h k = (atom_singles a h k).negative
+  literal_single : (positive : Bool) (a : Tree) → IsAtomOver T a → IsAtomOfKinds T a → Own (λ j. has_symbol j a) → Single (literal_raw T v (literal positive a))
+  literal_single true a h k u = (atom_singles a h k u).positive
+  literal_single false a h k u = (atom_singles a h k u).negative
 
   -- the disjuncts are the literals
   record AllSingle (l : Lit) (ls : List Lit) : Type 0 where
     are : disjuncts (clause_raw T v (l ∷ ls)) ≡ map (literal_raw T v) (l ∷ ls)
     all : list_all reads_as_literal (map (literal_raw T v) (l ∷ ls)) ≡ true
 
-  all_single : (l : Lit) (ls : List Lit) → IsClauseOver T (l ∷ ls) → IsClauseOfKinds T (l ∷ ls) → AllSingle l ls
-  all_single l [] h k =
-      let s = literal_single l.positive l.atom h.0 k.0 in
+  all_single : (l : Lit) (ls : List Lit) → IsClauseOver T (l ∷ ls) → IsClauseOfKinds T (l ∷ ls) → Own (clause_uses (l ∷ ls)) → AllSingle l ls
+  all_single l [] h k u =
+      let s = literal_single l.positive l.atom h.0 k.0 (first_own st plain T few finds l [] u) in
       record { are = s.one; all = and_from _ true s.literal_is refl }
-  all_single l (m ∷ ls) h k =
-      let s = literal_single l.positive l.atom h.0 k.0 in
-      let rest = all_single m ls h.1 k.1 in
+  all_single l (m ∷ ls) h k u =
+      let s = literal_single l.positive l.atom h.0 k.0 (first_own st plain T few finds l (m ∷ ls) u) in
+      let rest = all_single m ls h.1 k.1 (others_own st plain T few finds l (m ∷ ls) u) in
       record { are = ap (λ (ts : List RawTree). literal_raw T v l ∷ ts) rest.are; all = and_from _ _ s.literal_is rest.all }
 
   reads_as : (l : Lit) (ls : List Lit) → list_all reads_as_literal (map (literal_raw T v) (l ∷ ls)) ≡ true → read_as_clause (map (literal_raw T v) (l ∷ ls)) ≡ true
   reads_as l [] h = or_true (is_false (literal_raw T v l)) _ (and_parts _ _ h).0
   reads_as l (m ∷ ls) h = h
 
-  pub stands : (c : ClauseTree) → IsClauseOver T c → IsClauseOfKinds T c → may_be_clause (clause_raw T v c) ≡ true
-  stands [] h k = refl
-  stands (l ∷ ls) h k =
-      let s = all_single l ls h k in
+  pub stands : (c : ClauseTree) → IsClauseOver T c → IsClauseOfKinds T c → Own (clause_uses c) → may_be_clause (clause_raw T v c) ≡ true
+  stands [] h k u = refl
+  stands (l ∷ ls) h k u =
+      let s = all_single l ls h k u in
       or_true _ _ (ap read_as_clause s.are ∙ reads_as l ls s.all)

@@ -25,7 +25,6 @@ use Rattle.ladr_print.specs.ClauseText.{clause_raw, clause_bytes}
 use Rattle.ladr_print.specs.HasText.{HasText}
 use Rattle.ladr_print.specs.Precedences.{precedence}
 use Rattle.ladr_print.specs.RawText.{word, text_of}
-use Rattle.ladr_print.proofs.Derived.{clauses_have_texts}
 use Rattle.ladr_print.proofs.Disjunctions.{clause_is}
 use Rattle.ladr_print.proofs.Letters.{first_variables}
 use Rattle.ladr_print.proofs.Printing.{HasWords, good}
@@ -39,6 +38,7 @@ use Rattle.proof_print.specs.LineTexts.{formula_term, content_text}
 use Rattle.proof_print.specs.Reread.{CanPrint, IsPrintableClause, IsContentTerm, IsPrintableContent, states_content, row_tables}
 use Rattle.proof_print.proofs.ClauseReading.{clause_read}
 use Rattle.proof_print.proofs.ClauseShapes.{stands}
+use Rattle.proof_print.proofs.NamedClauses.{clause_has}
 use Rattle.proof_print.proofs.Numbered.{numbered_upto}
 
 -- a text with tokens that are the term, with a full stop behind them
@@ -66,12 +66,12 @@ shows_item rows t l h =
     }
 
 -- what a clause's term is read as
-clause_term : (rows : List OperatorRow) (prolog : Bool) (problem T : List Symbol) (c : ClauseTree) → CanPrint rows prolog T → IsPrintableClause prolog T c →
+clause_term : (rows : List OperatorRow) (prolog : Bool) (problem T : List Symbol) (c : ClauseTree) → CanPrint rows prolog T → IsPrintableClause (table_of rows) prolog T c →
     IsContentTerm (style_of Prover prolog) problem T false (clause_raw T (clause_variable prolog) c) (Clause c)
 clause_term rows prolog problem T c can p =
     let st = style_of Prover prolog in
     let t = clause_raw T (clause_variable prolog) c in
-    let r = clause_read st refl T can.few can.reads c (length (clause_variables c)) p.over p.kinds p.few (numbered_upto c p.numbered) in
+    let r = clause_read st refl T can.few can.finds c (length (clause_variables c)) p.over p.kinds (λ s h e. (p.readable s h e).itself) p.few (numbered_upto c p.numbered) in
     let behind : Reading = record { symbols = T; variables = first_variables prolog (length (clause_variables c)); least = None; large = r.after } in
     let strays : list_any (is_stray_relation problem) (drop (length T) T) ≡ false = ap (list_any (is_stray_relation problem)) (drop_all (length T) T (omega arith)) in
     record {
@@ -101,12 +101,12 @@ shows_content formulas clauses prolog problem T (Clause c) l can p =
     let st = style_of Prover prolog in
     let v = clause_variable prolog in
     let t = clause_raw T v c in
-    let s = shows_item clauses t can.lawful (clauses_have_texts clauses prolog T c can.fixed can.frees can.few can.names p.over) in
+    let s = shows_item clauses t can.lawful (clause_has clauses can.fixed prolog can.frees T can.few c p.over (λ n h e. (p.readable n h e).named)) in
     let text : clause_bytes (table_of clauses) T v (renumbered c) ≡ text_of (table_of clauses) t = ap (clause_bytes (table_of clauses) T v) p.numbered ∙ clause_is clauses can.fixed T v c in
     record {
       tokens = s.tokens;
       tree = t;
       writes = subst (λ (b : List ℕ). Writes b s.tokens) (sym text) s.writes;
-      is_content = (s.item, stands st refl T can.few can.reads c p.over p.kinds);
+      is_content = (s.item, stands st refl T can.few can.finds c p.over p.kinds (λ n h e. (p.readable n h e).itself));
       is_read = clause_term clauses prolog problem T c can p;
     }

@@ -2,8 +2,10 @@ pub mod ClauseReading
 pub mod ClauseShapes
 pub mod ContentShown
 pub mod FormulaShown
+pub mod FormulaSymbols
 pub mod Joined
 pub mod LinesBack
+pub mod NamedClauses
 pub mod Numbered
 pub mod Skolems
 pub mod TidyWords

@@ -1,14 +1,19 @@
--- Names of the problem and of Skolem symbols may stand in clauses.
-use Rattle.std.proofs.Common.{◌≡◌, ℕ, zero, suc, ◌<◌, ◌^◌, ◌⊎◌, Bool, true, false, List, [], ◌∷◌, ◌++◌, length, Option, Some, None, inl, inr, refl, sym, ap, ◌∙◌, subst, arith}
+-- Symbols of formulas, and Skolem symbols, are readable in clauses.
+use Rattle.std.proofs.Common.{◌≡◌, ℕ, ◌<◌, ◌^◌, ◌⊎◌, Bool, true, false, List, [], ◌∷◌, Option, Some, None, slice_get, inl, inr, refl, sym, ap, ◌∙◌, subst, arith}
 use Rattle.std.specs.Prelude.{◌&&◌, ◌||◌, if◌then◌else◌, codes}
 use Rattle.std.specs.Str.{bytes_eq}
 use Rattle.std.specs.Fmt.{decimal}
 use Rattle.std.specs.List.{list_all}
+use Rattle.std.specs.Option.{option_map_or}
 use Rattle.std.specs.Char.{is_ascii_digit}
+use Rattle.std.proofs.lemmas.Bool.{and_from}
 use Rattle.std.proofs.lemmas.Bool.Decides.{nat_tests}
-use Rattle.std.proofs.lemmas.Fmt.{digits_decimal}
 use Rattle.fol_core.specs.SymbolTable.{Symbol, name_at, arity_at}
-use Rattle.ladr_formulas.specs.Formulas.{is_free_name, style_of}
+use Rattle.fol_core.specs.Bound.{uses_symbol}
+use Rattle.fol_core.specs.Fol.{Fol}
+use Rattle.fol_core.specs.RawTree.{RawTree}
+use Rattle.ladr_formulas.specs.Formulas.{Made, unread, formula_reading, is_free_name, style_of}
+use Rattle.ladr_formulas.specs.declared.styles.Style.{Style}
 use Rattle.ladr_formulas.specs.declared.styles.Mode.TheVariants.{Prover}
 use Rattle.ladr_lex.specs.Bytes.{is_ordinary}
 use Rattle.ladr_lex.specs.ClauseNames.{clause_operator, is_clause_name, is_clause_variable, is_numbered}
@@ -17,12 +22,16 @@ use Rattle.ladr_lex.specs.Operators.{OperatorRow, operator_of, is_prefix, if_pre
 use Rattle.ladr_lex.specs.declared.operators.Operator.{Operator}
 use Rattle.ladr_lex.specs.declared.operators.OperatorKind.{OperatorKind}
 use Rattle.ladr_lex.specs.declared.operators.OperatorKind.TheVariants.{Infix, InfixLeft, InfixRight, Prefix, PrefixParen, Postfix, PostfixParen}
-use Rattle.ladr_lex.proofs.Numerals.{own, numeral_decimal}
-use Rattle.ladr_print.specs.HasText.{CanStand, plain, before, behind, between, CanName, CanNameSymbols}
+use Rattle.ladr_print.specs.HasText.{CanStand, plain, before, behind, between, CanName, HasText}
 use Rattle.ladr_print.specs.Precedences.{is_infix}
-use Rattle.ladr_reader.specs.Table.{table_of}
-use Rattle.proof_print.specs.Names.{AreOfClauses, IsSkolemSymbol, AreSkolemSymbols}
-use Rattle.proof_print.specs.Rereadable.{ReadsAsItself}
+use Rattle.ladr_print.specs.FormulaText.{with_attribute}
+use Rattle.ladr_print.proofs.Printing.{text_has}
+use Rattle.ladr_reader.specs.Table.{OperatorTable, table_of}
+use Rattle.proof_lines.proofs.WideNumerals.{numeral_wide, digits_wide}
+use Rattle.proof_print.specs.Formulas.{IsReadFormula}
+use Rattle.proof_print.specs.Names.{AreOfClauses, IsSkolemSymbol}
+use Rattle.proof_print.specs.Rereadable.{ReadsAsItself, IsReadableSymbol, AreReadable}
+use Rattle.proof_print.proofs.FormulaSymbols.{Fits, formula_is}
 
 infix_after : (k : OperatorKind) → is_infix k ≡ true → is_prefix k ≡ false
 infix_after Infix h = refl
@@ -60,7 +69,7 @@ module _ (prolog : Bool) (formulas clauses : List OperatorRow) (are : AreOfClaus
   stand s n (behind o e h r k) = behind o (is s (Some o) e ∙ stays prolog s o h) h r k
   stand s n (between o e h k) = between o (is s (Some o) e ∙ stays prolog s o (infix_after o.kind h)) h k
 
-  pub named_stays : (s : List ℕ) (n : ℕ) → CanName (table_of formulas) s n → CanName (table_of clauses) s n
+  named_stays : (s : List ℕ) (n : ℕ) → CanName (table_of formulas) s n → CanName (table_of clauses) s n
   named_stays s n c = record { sort = c.sort; written = c.written; allowed = stand s n c.allowed }
 
   digit_ordinary : (b : ℕ) → is_ascii_digit b ≡ true → is_ordinary b ≡ true
@@ -86,29 +95,26 @@ module _ (prolog : Bool) (formulas clauses : List OperatorRow) (are : AreOfClaus
   or_left_true : (a b : Bool) → a ≡ true → (a || b) ≡ true
   or_left_true a b h = ap (λ (c : Bool). c || b) h
 
-  constant_named : (n arity : ℕ) → n < 2 ^ 64 → CanName (table_of clauses) (99 ∷ decimal n) arity
+  numbered_named : (letter n arity : ℕ) → is_ordinary letter ≡ true → (table_of clauses).word (letter ∷ decimal n) ≡ None → is_clause_name prolog (letter ∷ decimal n) ≡ true → n < 10 ^ 64 → CanName (table_of clauses) (letter ∷ decimal n) arity
+  numbered_named letter n arity o w c h =
+      let s = letter ∷ decimal n in
+      record {
+        sort = ordinary;
+        written = and_from (is_ordinary letter) (list_all is_ordinary (decimal n)) o (digits_ordinary (decimal n) (digits_wide n h));
+        allowed = plain w (ap if_prefix (are s) ∙ clause_named s c (operator_of formulas s));
+      }
+
+  constant_named : (n arity : ℕ) → n < 10 ^ 64 → CanName (table_of clauses) (99 ∷ decimal n) arity
   unfolding is_ordinary
   constant_named n arity h =
       let s = 99 ∷ decimal n in
-      let numbered : is_numbered 99 s ≡ true = numeral_decimal n h in
-      let c : is_clause_name prolog s ≡ true = or_left_true _ (is_numbered 102 s) (or_right_true (is_clause_variable prolog s) _ numbered) in
-      record {
-        sort = ordinary;
-        written = digits_ordinary (decimal n) (digits_decimal own n h);
-        allowed = plain refl (ap if_prefix (are s) ∙ clause_named s c (operator_of formulas s));
-      }
+      numbered_named 99 n arity refl refl (or_left_true _ (is_numbered 102 s) (or_right_true (is_clause_variable prolog s) _ (numeral_wide n h))) h
 
-  function_named : (n arity : ℕ) → n < 2 ^ 64 → CanName (table_of clauses) (102 ∷ decimal n) arity
+  function_named : (n arity : ℕ) → n < 10 ^ 64 → CanName (table_of clauses) (102 ∷ decimal n) arity
   unfolding is_ordinary
   function_named n arity h =
       let s = 102 ∷ decimal n in
-      let numbered : is_numbered 102 s ≡ true = numeral_decimal n h in
-      let c : is_clause_name prolog s ≡ true = or_right_true (is_clause_variable prolog s || is_numbered 99 s) _ numbered in
-      record {
-        sort = ordinary;
-        written = digits_ordinary (decimal n) (digits_decimal own n h);
-        allowed = plain refl (ap if_prefix (are s) ∙ clause_named s c (operator_of formulas s));
-      }
+      numbered_named 102 n arity refl refl (or_right_true (is_clause_variable prolog s || is_numbered 99 s) _ (numeral_wide n h)) h
 
   skolem_named : (x : Symbol) → IsSkolemSymbol x → CanName (table_of clauses) x.name x.arity
   skolem_named x k = subst (λ (y : Symbol). CanName (table_of clauses) y.name y.arity) (sym k.is) (by k.letter_is)
@@ -116,24 +122,6 @@ module _ (prolog : Bool) (formulas clauses : List OperatorRow) (are : AreOfClaus
       by : (k.letter ≡ 99) ⊎ (k.letter ≡ 102) → CanName (table_of clauses) (k.letter ∷ decimal k.number) k.arity
       by (inl e) = subst (λ (b : ℕ). CanName (table_of clauses) (b ∷ decimal k.number) k.arity) (sym e) (constant_named k.number k.arity k.short)
       by (inr e) = subst (λ (b : ℕ). CanName (table_of clauses) (b ∷ decimal k.number) k.arity) (sym e) (function_named k.number k.arity k.short)
-
-  -- a table, and symbols at its end
-  NamedAt : List Symbol → ℕ → Type 0
-  NamedAt table s = CanName (table_of clauses) (name_at table s) (arity_at table s)
-
-  all_named : (news : List Symbol) → AreSkolemSymbols news → (s : ℕ) → s < length news → CanName (table_of clauses) (name_at news s) (arity_at news s)
-  all_named [] k s h = absurd (omega arith)
-  all_named (x ∷ xs) k zero h = skolem_named x k.0
-  all_named (x ∷ xs) k (suc s) h = all_named xs k.1 s (omega (arith, h))
-
-  table_named : (table news : List Symbol) → CanNameSymbols (table_of formulas) table → AreSkolemSymbols news → (s : ℕ) → s < length (table ++ news) →
-      CanName (table_of clauses) (name_at (table ++ news) s) (arity_at (table ++ news) s)
-  table_named [] news c k s h = all_named news k s h
-  table_named (x ∷ xs) news c k zero h = named_stays x.name x.arity (c 0 (omega arith))
-  table_named (x ∷ xs) news c k (suc s) h = table_named xs news (λ i j. c (suc i) (omega (arith, j))) k s (omega (arith, h))
-
-  pub skolems_named : (table news : List Symbol) → CanNameSymbols (table_of formulas) table → AreSkolemSymbols news → CanNameSymbols (table_of clauses) (table ++ news)
-  skolems_named table news c k = table_named table news c k
 
 -- a Skolem symbol's name is read as itself
 letter_free : (prolog : Bool) (letter : ℕ) (ds : List ℕ) → (letter ≡ 99) ⊎ (letter ≡ 102) → is_free_name (style_of Prover prolog) (letter ∷ ds) ≡ false
@@ -146,10 +134,40 @@ no_attribute : (letter : ℕ) (ds : List ℕ) → (letter ≡ 99) ⊎ (letter �
 no_attribute letter ds (inl e) = ap (λ (b : ℕ). bytes_eq (b ∷ ds) (codes "#")) e
 no_attribute letter ds (inr e) = ap (λ (b : ℕ). bytes_eq (b ∷ ds) (codes "#")) e
 
-pub skolem_reads : (prolog : Bool) (x : Symbol) → IsSkolemSymbol x → ReadsAsItself (style_of Prover prolog) x
+skolem_reads : (prolog : Bool) (x : Symbol) → IsSkolemSymbol x → ReadsAsItself (style_of Prover prolog) x
 skolem_reads prolog x k =
     subst (ReadsAsItself (style_of Prover prolog)) (sym k.is) (record {
       no_attribute = no_attribute k.letter (decimal k.number) k.letter_is;
       no_variable = λ none. letter_free prolog k.letter (decimal k.number) k.letter_is;
       relation = λ e. absurd (cc);
     })
+
+-- what can have its name and is read as itself is readable under its number
+readable : (g : OperatorTable) (st : Style) (table : List Symbol) (s : ℕ) (x : Symbol) → slice_get table s ≡ Some x → CanName g x.name x.arity → ReadsAsItself st x → IsReadableSymbol g st table s
+readable g st table s x there can own = record {
+  named = subst (λ (o : Option Symbol). CanName g (option_map_or (λ (y : Symbol). y.name) o []) (option_map_or (λ (y : Symbol). y.arity) o 0)) (sym there) can;
+  itself = λ y e. let same : x ≡ y = (let i : Some x ≡ Some y = sym there ∙ e in cc) in subst (ReadsAsItself st) same own;
+}
+
+module _ (prolog : Bool) (formulas clauses : List OperatorRow) (are : AreOfClauses prolog formulas clauses) where
+  abbrev st : Style
+  st = style_of Prover prolog
+
+  pub skolem_readable : (table : List Symbol) (s : ℕ) (x : Symbol) → slice_get table s ≡ Some x → IsSkolemSymbol x → IsReadableSymbol (table_of clauses) st table s
+  skolem_readable table s x there k = readable (table_of clauses) st table s x there (skolem_named prolog formulas clauses are x k) (skolem_reads prolog x k)
+
+  -- a formula's term without its label
+  unlabelled : (label : Option RawTree) (t : RawTree) → HasText (table_of formulas) (with_attribute label t) → HasText (table_of formulas) t
+  unlabelled None t h = h
+  unlabelled (Some l) t h = h.1.0
+
+  pub formula_readable : (table : List Symbol) (f : Fol) (names : List (List ℕ)) (label : Option RawTree) → IsReadFormula formulas prolog table f names label
+      → AreReadable (table_of clauses) st table (λ s. uses_symbol s f)
+  formula_readable table f names label given = λ s h e.
+      let t = given.reads.tree in
+      let made = formula_reading st given.behind t in
+      let fits = subst (λ (m : Made Fol). Fits (table_of formulas) st table m.reading) (sym given.reads.made) (record { sound = given.among.clean; symbols = given.among.kept }) in
+      let same : made.tree ≡ f = ap (λ (m : Made Fol). m.tree) given.reads.made ∙ given.tree_is in
+      let has = unlabelled label t (text_has formulas given.reads.reads) in
+      let own = formula_is (table_of formulas) st table t [] (unread given.behind) has fits s (ap (uses_symbol s) same ∙ e) in
+      record { named = named_stays prolog formulas clauses are (name_at table s) (arity_at table s) own.named; itself = own.itself }

@@ -9,7 +9,7 @@ use Rattle.fol_core.specs.Literals.{ClauseTree, equality}
 use Rattle.fol_core.specs.RawTree.{RawTree}
 use Rattle.fol_core.specs.RawView.{raw_of}
 use Rattle.fol_core.specs.Renumbered.{clause_variables, renumbered}
-use Rattle.fol_core.specs.SymbolTable.{Symbol}
+use Rattle.fol_core.specs.SymbolTable.{Symbol, FindsEach}
 use Rattle.ladr_formulas.specs.Formulas.{style_of}
 use Rattle.ladr_formulas.specs.declared.styles.Mode.TheVariants.{Prover}
 use Rattle.ladr_formulas.specs.declared.styles.Style.{Style}
@@ -18,15 +18,15 @@ use Rattle.ladr_lex.specs.Cuts.{Piece, Cuts}
 use Rattle.ladr_lex.specs.Lexeme.{Lexeme}
 use Rattle.ladr_lex.specs.Operators.{OperatorRow, are_lawful}
 use Rattle.ladr_print.specs.ClauseText.{clause_raw}
-use Rattle.ladr_print.specs.HasText.{HasText, CanNameSymbols, IsClauseOver}
+use Rattle.ladr_print.specs.HasText.{HasText, IsClauseOver}
 use Rattle.ladr_print.specs.StatesAs.{KeepsFixed}
-use Rattle.ladr_reader.specs.Table.{table_of}
+use Rattle.ladr_reader.specs.Table.{OperatorTable, table_of}
 use Rattle.ladr_reader.specs.Worked.{lexemes_in}
 use Rattle.proof_lines.specs.ContentTokens.{LineTables, IsContent}
 use Rattle.proof_lines.specs.Faults.{IsLineRead}
 use Rattle.proof_lines.specs.Stated.{is_too_deep, line_made, line_misuse, IsContentOf}
 use Rattle.proof_print.specs.LineTexts.{formula_term, content_text, lines_text}
-use Rattle.proof_print.specs.Rereadable.{CanReadSymbols, IsClauseOfKinds}
+use Rattle.proof_print.specs.Rereadable.{AreReadable, clause_uses, IsClauseOfKinds}
 use Rattle.proof_words.specs.Written.{written_of, written_first, states_formula}
 use Rattle.words_print.specs.Sayable.{IsShort, IsSayable}
 
@@ -50,20 +50,22 @@ abbrev pub row_tables : List OperatorRow → List OperatorRow → LineTables
 row_tables formulas clauses =
     record { formulas = table_of formulas; clauses = table_of clauses }
 
--- with these operators of clauses and this style of variables all names, of symbols and of clauses'
--- variables, are read as what they name
+-- with these operators of clauses and this style of variables the names of clauses' variables are
+-- read as what they name, and each symbol of the table is found by its name
 pub record CanPrint (rows : List OperatorRow) (prolog : Bool) (table : List Symbol) : Type 0 where
   pub lawful : IsTrue (are_lawful rows)
   pub fixed : KeepsFixed rows
   pub frees : FreesVariables prolog rows
   pub few : length table ≤ equality
-  pub names : CanNameSymbols (table_of rows) table
-  pub reads : CanReadSymbols (style_of Prover prolog) table
+  pub finds : FindsEach table
 
--- the clause is one over the table, numbered, and not too deep for a line
-pub record IsPrintableClause (prolog : Bool) (table : List Symbol) (c : ClauseTree) : Type 0 where
+-- the clause is one over the table, whose symbols are readable with these operators, numbered, and
+-- not too deep for a line
+pub record IsPrintableClause (g : OperatorTable) (prolog : Bool) (table : List Symbol)
+    (c : ClauseTree) : Type 0 where
   pub over : IsClauseOver table c
   pub kinds : IsClauseOfKinds table c
+  pub readable : AreReadable g (style_of Prover prolog) table (clause_uses c)
   pub numbered : renumbered c ≡ c
   pub few : length (clause_variables c) ≤ 2 ^ 64
   pub shallow : is_too_deep false (clause_raw table (clause_variable prolog) c) ≡ false
@@ -74,7 +76,8 @@ IsPrintableContent g prolog problem table (Formula f label) =
     let t = formula_term table (fol_of f.shape) f.names (option_map raw_of label) in
     HasText g.formulas t
     × IsContentTerm (style_of Prover prolog) problem table true t (Formula f label)
-IsPrintableContent g prolog problem table (Clause c) = IsPrintableClause prolog table c
+IsPrintableContent g prolog problem table (Clause c) =
+    IsPrintableClause g.clauses prolog table c
 
 -- whether a content is a formula
 abbrev pub states_content : Content → Bool

@@ -1,11 +1,14 @@
 // What the texts are read as: the functions do nothing, and their contracts are the laws.
-ghost use Rattle.std.specs.Prelude.{◌≡◌, ℕ, Bool, true, false, IsTrue, List, Option, [], ◌∷◌, ◌++◌, codes};
+ghost use Rattle.std.specs.Prelude.{◌≡◌, ℕ, Bool, true, false, IsTrue, List, Option, Some, slice_get, [], ◌∷◌, ◌++◌, codes};
 ghost use Rattle.std.specs.Option.{option_map};
 ghost use Rattle.derivation.specs.declared.line.Content.{Content};
 ghost use Rattle.derivation.specs.declared.line.Content.TheVariants as content;
 ghost use Rattle.derivation.specs.declared.line.Line.{Line};
+ghost use Rattle.fol_core.specs.Bound.{uses_symbol};
+ghost use Rattle.fol_core.specs.Fol.{Fol};
 ghost use Rattle.fol_core.specs.FormulaView.{fol_of};
 ghost use Rattle.fol_core.specs.Literals.{literal, equality};
+ghost use Rattle.fol_core.specs.RawTree.{RawTree};
 ghost use Rattle.fol_core.specs.RawView.{raw_of};
 ghost use Rattle.fol_core.specs.SymbolTable.{Symbol};
 ghost use Rattle.fol_core.specs.declared.formula.Formula.{Formula};
@@ -14,13 +17,12 @@ ghost use Rattle.fol_core.specs.Tree.{var, app, none, more};
 ghost use Rattle.ladr_formulas.specs.Formulas.{style_of};
 ghost use Rattle.ladr_formulas.specs.declared.styles.Mode.TheVariants.{Prover};
 ghost use Rattle.ladr_lex.specs.Operators.{OperatorRow, are_lawful};
-ghost use Rattle.ladr_print.specs.HasText.{CanNameSymbols};
 ghost use Rattle.ladr_print.specs.StatesAs.{KeepsFixed};
 ghost use Rattle.ladr_reader.specs.Table.{table_of};
 ghost use Rattle.proof_print.specs.Formulas.{IsReadFormula};
 ghost use Rattle.proof_print.specs.LineTexts.{frame_text, head_text};
-ghost use Rattle.proof_print.specs.Names.{AreOfClauses, IsSkolemSymbol, AreSkolemSymbols};
-ghost use Rattle.proof_print.specs.Rereadable.{ReadsAsItself};
+ghost use Rattle.proof_print.specs.Names.{AreOfClauses, IsSkolemSymbol};
+ghost use Rattle.proof_print.specs.Rereadable.{IsReadableSymbol, AreReadable};
 ghost use Rattle.proof_print.specs.Worked.{clause_text};
 ghost use Rattle.proof_print.specs.Reread.{row_tables, IsCutInto, CanPrint, IsPrintableContent, ArePrintable, ReadsContent, ReadsLines};
 ghost use Rattle.proof_words.specs.Written.{Written};
@@ -57,15 +59,18 @@ pub fn lines_read_back()
         → ReadsLines (row_tables formulas clauses) prolog problem table ls }
 {}
 
-/// Names that texts of formulas take in are taken in by those of clauses, and so are the names of Skolem symbols, which are read
-/// as themselves: a table with Skolem symbols at its end can be named where the problem's can.
-pub fn skolem_symbols_are_named()
-    ensures named { (prolog : Bool) (formulas clauses : List OperatorRow)
-        (table news : List Symbol) → AreOfClauses prolog formulas clauses
-        → CanNameSymbols (table_of formulas) table → AreSkolemSymbols news
-        → CanNameSymbols (table_of clauses) (table ++ news) }
-    ensures read { (prolog : Bool) (x : Symbol) → IsSkolemSymbol x
-        → ReadsAsItself (style_of Prover prolog) x }
+/// Symbols of formulas that texts state, and Skolem symbols, are readable in the texts of clauses: they can have their names there,
+/// which are read as these symbols.
+pub fn symbols_are_readable()
+    ensures formulas { (prolog : Bool) (formulas clauses : List OperatorRow) (table : List Symbol)
+        (f : Fol) (names : List (List ℕ)) (label : Option RawTree)
+        → AreOfClauses prolog formulas clauses
+        → IsReadFormula formulas prolog table f names label
+        → AreReadable (table_of clauses) (style_of Prover prolog) table (λ s. uses_symbol s f) }
+    ensures skolems { (prolog : Bool) (formulas clauses : List OperatorRow) (table : List Symbol)
+        (s : ℕ) (x : Symbol) → AreOfClauses prolog formulas clauses → slice_get table s ≡ Some x
+        → IsSkolemSymbol x
+        → IsReadableSymbol (table_of clauses) (style_of Prover prolog) table s }
 {}
 
 /// Texts of a clause, of a frame and of a head.

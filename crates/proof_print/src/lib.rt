@@ -6,7 +6,7 @@ mod lines;
 mod texts;
 
 pub use laws::{
-    contents_read_back, formulas_are_printable, lines_read_back, skolem_symbols_are_named,
+    contents_read_back, formulas_are_printable, lines_read_back, symbols_are_readable,
     words_are_cut, worked_texts,
 };
 pub use texts::{Heads, frame_text, proof_bytes};

@@ -2,6 +2,7 @@
 ghost use Rattle.std.specs.Prelude.{List, [], IfOk, IfErr};
 ghost use Rattle.fol_core.specs.SymbolTable.{KeepsNumbers};
 ghost use Rattle.ladr_lex.specs.Cuts.{pieces_of};
+ghost use Rattle.proof_lines.specs.Strays.{AreNamesOf};
 ghost use Rattle.proof_text.specs.Blocks.{TextBlock};
 ghost use Rattle.proof_text.specs.Found.{IsBlockRead, AreBlocksRead};
 ghost use Rattle.proof_text.specs.Going.{reader_in, lines_of_all, IsLinesStop, OrMemory};
@@ -14,7 +15,7 @@ use derivation::{Derivation, Line};
 use fol_core::{Problem, Symbols};
 use ladr_lex::{Token, tokens_from};
 use ladr_problem::ReadError;
-use proof_lines::{LineFault, LineOperators, read_line};
+use proof_lines::{LineFault, LineOperators, ProblemNames, read_line};
 use std::alloc::Global;
 
 /// A line is refused that begins with the token of this number.
@@ -29,9 +30,11 @@ fn read_lines(
     alloc: Global,
     operators: &LineOperators,
     problem: &Problem,
+    names: &ProblemNames,
     symbols: &mut Symbols,
     tokens: &[Token],
 ) -> Result<Vec<Line>, LineStop>
+    requires { AreNamesOf problem.now.symbols names.now }
     ensures read { IfOk result (λ lines. HasLines (reader_in operators.now problem.now) symbols.old
         (pieces_of tokens.now) lines.items symbols.new []) }
     ensures stop { IfErr result (IsLinesStop (reader_in operators.now problem.now) symbols.old
@@ -41,7 +44,7 @@ fn read_lines(
     let mut lines = Vec::new(alloc);
     let mut at = 0;
     while at < tokens.len() {
-        match read_line(alloc, operators, problem, symbols, &tokens[at..]) {
+        match read_line(alloc, operators, problem, names, symbols, &tokens[at..]) {
             Ok(read) => {
                 if lines.push(read.line).is_err() {
                     return Err(LineStop {
@@ -62,11 +65,13 @@ fn read_block(
     alloc: Global,
     operators: &LineOperators,
     problem: &Problem,
+    names: &ProblemNames,
     symbols: &mut Symbols,
     bytes: &[u8],
     block: &BlockRead,
 ) -> Result<Derivation, ReadError>
-    requires { (b : TextBlock) × IsBlockRead b block.now }
+    requires block { (b : TextBlock) × IsBlockRead b block.now }
+    requires names { AreNamesOf problem.now.symbols names.now }
     ensures read { (b : TextBlock) → IsBlockRead b block.now → IfOk result (λ d. HasBlockLines
         (reader_in operators.now problem.now) symbols.old b d.lines.items symbols.new) }
     ensures refused { (b : TextBlock) → IsBlockRead b block.now → IfErr result (OrMemory
@@ -79,12 +84,45 @@ fn read_block(
         Ok(tokens) => tokens,
         Err(_) => return Err(ReadError::Memory),
     };
-    match read_lines(alloc, operators, problem, symbols, &tokens) {
+    match read_lines(alloc, operators, problem, names, symbols, &tokens) {
         Ok(lines) => Ok(Derivation { lines }),
         Err(LineStop { at, fault }) => {
             Err(refuse_line(alloc, bytes, block, &tokens[at..], fault))
         }
     }
+}
+
+// The proofs in blocks, one behind the other.
+fn read_each(
+    alloc: Global,
+    operators: &LineOperators,
+    problem: &Problem,
+    names: &ProblemNames,
+    symbols: &mut Symbols,
+    bytes: &[u8],
+    blocks: &[BlockRead],
+) -> Result<Vec<Derivation>, ReadError>
+    requires blocks { (bs : List TextBlock) × AreBlocksRead bs blocks.now }
+    requires names { AreNamesOf problem.now.symbols names.now }
+    ensures read { (bs : List TextBlock) → AreBlocksRead bs blocks.now → IfOk result (λ proofs.
+        HasProofs (reader_in operators.now problem.now) symbols.old bs
+        (lines_of_all proofs.items) symbols.new) }
+    ensures refused { (bs : List TextBlock) → AreBlocksRead bs blocks.now → IfErr result (OrMemory
+        (HasRefusedBlock (reader_in operators.now problem.now) symbols.old bytes.now bs)) }
+    ensures kept { KeepsNumbers symbols.old symbols.new }
+{
+    let mut proofs = Vec::new(alloc);
+    for block in blocks {
+        match read_block(alloc, operators, problem, names, symbols, bytes, block) {
+            Ok(proof) => {
+                if proofs.push(proof).is_err() {
+                    return Err(ReadError::Memory);
+                }
+            }
+            Err(error) => return Err(error),
+        }
+    }
+    Ok(proofs)
 }
 
 /// The proofs in blocks, and the symbols that their lines bring.
@@ -104,16 +142,8 @@ pub fn read_blocks(
         (HasRefusedBlock (reader_in operators.now problem.now) symbols.old bytes.now bs)) }
     ensures kept { KeepsNumbers symbols.old symbols.new }
 {
-    let mut proofs = Vec::new(alloc);
-    for block in blocks {
-        match read_block(alloc, operators, problem, symbols, bytes, block) {
-            Ok(proof) => {
-                if proofs.push(proof).is_err() {
-                    return Err(ReadError::Memory);
-                }
-            }
-            Err(error) => return Err(error),
-        }
+    match ProblemNames::of(alloc, &problem.symbols) {
+        Ok(names) => read_each(alloc, operators, problem, &names, symbols, bytes, blocks),
+        Err(_) => Err(ReadError::Memory),
     }
-    Ok(proofs)
 }

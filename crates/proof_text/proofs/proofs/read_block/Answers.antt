@@ -8,7 +8,7 @@ use Rattle.proof_text.proofs.proofs.read_block.Goals as goal
 
 pub tokens_from-requires : goal.tokens_from-requires
 tokens_from-requires c =
-    let placed : c.args.block.now.start + length c.args.block.now.bytes.items ≡ c.args.block.now.end = block_end c.requires.0 c.args.block.now c.requires.1 in
+    let placed : c.args.block.now.start + length c.args.block.now.bytes.items ≡ c.args.block.now.end = block_end c.requires.block.0 c.args.block.now c.requires.block.1 in
     let long : length c.deref.result.now ≡ length c.args.block.now.bytes.items = ap length c.deref.ensures.value in
     omega (arith, placed, long)
 

@@ -3,7 +3,7 @@ use Rattle.derivation.specs.declared.line.Derivation.{Derivation}
 use Rattle.proof_text.specs.Going.{reader_in, lines_of_all}
 use Rattle.proof_text.specs.Proofs.{HasProofs, no_block}
 use Rattle.proof_text.proofs.LinesRead.{HasBlockAt, block_under, next_proof, refused_under, all_proofs, keeps_on, pushed}
-use Rattle.proof_text.proofs.proofs.read_blocks.Goals as goal
+use Rattle.proof_text.proofs.proofs.read_each.Goals as goal
 
 pub loop-block-init : goal.loop-block-init
 loop-block-init c =
@@ -13,10 +13,10 @@ loop-block-init c =
       kept = λ n s h. h;
     }
 
-pub read_block-requires : goal.read_block-requires
-read_block-requires c =
-    let at : HasBlockAt c.requires.0 c.loop-block.block-index c.block-item.result =
-    block_under c.requires.0 c.args.blocks.now c.loop-block.block-index c.block-item.result c.requires.1 c.loop-block-test.true c.block-item.is in
+pub read_block-requires-clause-block : goal.read_block-requires-clause-block
+read_block-requires-clause-block c =
+    let at : HasBlockAt c.requires.blocks.0 c.loop-block.block-index c.block-item.result =
+    block_under c.requires.blocks.0 c.args.blocks.now c.loop-block.block-index c.block-item.result c.requires.blocks.1 c.loop-block-test.true c.block-item.is in
     (at.here, at.is)
 
 pub returns-in-Err-clause-refused : goal.returns-in-Err-clause-refused

@@ -5,7 +5,7 @@ use Rattle.proof_text.specs.Blocks.{TextBlock}
 use Rattle.proof_text.specs.Found.{AreBlocksRead}
 use Rattle.proof_text.specs.Going.{reader_in, lines_of_all}
 use Rattle.proof_text.specs.Proofs.{HasProofs}
-use Rattle.proof_text.proofs.proofs.read_blocks.Given as goal
+use Rattle.proof_text.proofs.proofs.read_each.Given as goal
 
 abbrev pub invariant-loop-block : goal.invariant-loop-block
 invariant-loop-block l = record {

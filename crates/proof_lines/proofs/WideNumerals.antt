@@ -51,3 +51,8 @@ numeral ds p =
 pub numeral_wide : (n : ℕ) → n < 10 ^ 64 → is_numeral (decimal n) ≡ true
 numeral_wide zero h = rw (decimal_digit 0 (omega arith)) refl
 numeral_wide (suc n) h = numeral (decimal (suc n)) (positive (suc (suc n)) (suc n) (omega arith) (omega arith) h)
+
+-- they are digits
+pub digits_wide : (n : ℕ) → n < 10 ^ 64 → list_all is_ascii_digit (decimal n) ≡ true
+digits_wide zero h = rw (decimal_digit 0 (omega arith)) refl
+digits_wide (suc n) h = (positive (suc (suc n)) (suc n) (omega arith) (omega arith) h).digits
