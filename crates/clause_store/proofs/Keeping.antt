@@ -97,7 +97,7 @@ module _ (keeps : ℕ → Bool) where
   is_line_stays ss rows ls (xx_resolved n a) ws content h k = inferred_stays ls (xx_inference n a) ws content h k
 
 -- the line of a number in two lists, one behind the other
-line_front : (xs ys : List LineTree) (m : ℕ) (l : LineTree) → line_at xs m ≡ Some l → line_at (xs ++ ys) m ≡ Some l
+pub line_front : (xs ys : List LineTree) (m : ℕ) (l : LineTree) → line_at xs m ≡ Some l → line_at (xs ++ ys) m ≡ Some l
 line_front [] ys m l e = cc
 line_front (x ∷ xs) ys m l e = by (λ d. line_front xs ys m l d) (x.number == m) e
   where
@@ -105,7 +105,7 @@ line_front (x ∷ xs) ys m l e = by (λ d. line_front xs ys m l d) (x.number == 
     by rest true e = e
     by rest false e = rest e
 
-line_back : (xs ys : List LineTree) (m : ℕ) → line_at xs m ≡ None → line_at (xs ++ ys) m ≡ line_at ys m
+pub line_back : (xs ys : List LineTree) (m : ℕ) → line_at xs m ≡ None → line_at (xs ++ ys) m ≡ line_at ys m
 line_back [] ys m e = refl
 line_back (x ∷ xs) ys m e = by (λ d. line_back xs ys m d) (x.number == m) e
   where
@@ -113,14 +113,14 @@ line_back (x ∷ xs) ys m e = by (λ d. line_back xs ys m d) (x.number == m) e
     by rest true e = cc
     by rest false e = rest e
 
-at_itself : (l : LineTree) (ls : List LineTree) → line_at (l ∷ ls) l.number ≡ Some l
+pub at_itself : (l : LineTree) (ls : List LineTree) → line_at (l ∷ ls) l.number ≡ Some l
 at_itself l ls = ap (λ b. if b then Some l else line_at ls l.number) (eq-eqb l.number l.number refl)
 
 -- the numbers of lines are below those above the last one
-abbrev AreUpTo : List LineTree → Option ℕ → Type 0
+abbrev pub AreUpTo : List LineTree → Option ℕ → Type 0
 AreUpTo ls last = (n : ℕ) (l : LineTree) → line_at ls n ≡ Some l → (m : ℕ) → IsAbove last m → n < m
 
-up_to_next : (ls : List LineTree) (last : Option ℕ) (l : LineTree) → AreUpTo ls last → IsAbove last l.number → AreUpTo (ls ++ l ∷ []) (Some l.number)
+pub up_to_next : (ls : List LineTree) (last : Option ℕ) (l : LineTree) → AreUpTo ls last → IsAbove last l.number → AreUpTo (ls ++ l ∷ []) (Some l.number)
 up_to_next ls last l up h n k e m i = by (line_at ls n) refl
   where
     one : (b : Bool) → (l.number == n) ≡ b → (if b then Some l else None) ≡ Some k → n < m
@@ -278,7 +278,7 @@ module _ (ss : List Said) (rows : List InputRow) (all : List LineTree) (n : ℕ)
       by rest false e = subst (λ x. AreLines ss rows x other (kept keeps ls)) (end false e ∙ append-nil (kept keeps earlier))
           (rest other is' (λ m i. still other (above l.number h.0) m i))
 
-nothing_up_to : AreUpTo [] None
+pub nothing_up_to : AreUpTo [] None
 nothing_up_to n l e m h = absurd (clash e)
   where
     clash : None ≡ Some l → ⊥
@@ -301,9 +301,9 @@ pub ancestors_are_lines : AncestorsDerive
 ancestors_are_lines ss rows all some n h a =
     subst (λ x. IsDerivation ss rows x) (sym (ap plain_trees a.lines ∙ kept_trees a.among all)) (kept_derivation ss rows (plain_trees all) n a.among a.ancestry h)
 
--- Those of the empty clause end with it.
-module _ (ss : List Said) (rows : List InputRow) (all : List LineTree) (n : ℕ) (keeps : ℕ → Bool) (ancestry : IsAncestry all n keeps) (lines : IsDerivation ss rows all) where
-  not_above : (m : ℕ) (ks : List ℕ) → IsWay (parents_in all) n ks m → m ≤ n
+-- A line rests on none that has a greater number.
+module _ (ss : List Said) (rows : List InputRow) (all : List LineTree) (n : ℕ) (lines : IsDerivation ss rows all) where
+  pub not_above : (m : ℕ) (ks : List ℕ) → IsWay (parents_in all) n ks m → m ≤ n
   not_above m [] e = omega (arith, e)
   not_above m (k ∷ ks) h = by (not_above k ks h.0) (line_at all k) refl h.1
     where
@@ -316,13 +316,15 @@ module _ (ss : List Said) (rows : List InputRow) (all : List LineTree) (n : ℕ)
           let lower = parents_lower ss rows [] None all nothing_up_to lines k l e m (ap (λ o. is_in m (option_map_or line_parents o [])) (sym e) ∙ i) in
           omega (arith, lower, rest)
 
+-- Those of the empty clause end with it.
+module _ (ss : List Said) (rows : List InputRow) (all : List LineTree) (n : ℕ) (keeps : ℕ → Bool) (ancestry : IsAncestry all n keeps) (lines : IsDerivation ss rows all) where
   -- none behind it is kept
   none_behind : (earlier : List LineTree) (last : Option ℕ) (ls : List LineTree) → AreLines ss rows earlier last ls → ((m : ℕ) → IsAbove last m → n < m) → kept keeps ls ≡ []
   none_behind earlier last [] h above = refl
   none_behind earlier last (l ∷ ls) h above = by (none_behind (earlier ++ l ∷ []) (Some l.number) ls h.2 (λ m i. omega (arith, above l.number h.0, i))) (keeps l.number) refl
     where
       by : kept keeps ls ≡ [] → (b : Bool) → keeps l.number ≡ b → (if b then l ∷ kept keeps ls else kept keeps ls) ≡ []
-      by rest true e = let way = ancestry.rests l.number e in absurd (omega (arith, not_above l.number way.0 way.1, above l.number h.0))
+      by rest true e = let way = ancestry.rests l.number e in absurd (omega (arith, not_above ss rows all n lines l.number way.0 way.1, above l.number h.0))
       by rest false e = rest
 
   ends_with : (ls : List LineTree) (l : LineTree) → ends_empty (ls ++ l ∷ []) ≡ is_empty_clause l.content

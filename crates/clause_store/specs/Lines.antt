@@ -1,6 +1,7 @@
 -- The lines that are kept, without what the code adds to them.
 use Rattle.std.specs.Prelude.{ℕ, zero, suc, ◌≡◌, if◌then◌else◌, List, [], ◌∷◌, map, Option, Some, None, slice_get}
 use Rattle.std.specs.Option.{option_map, option_and_then}
+use Rattle.fol_core.specs.Fol.{Fol}
 use Rattle.fol_core.specs.FormulaView.{fol_of}
 use Rattle.fol_core.specs.Literals.{ClauseTree}
 use Rattle.fol_core.specs.RawTree.{RawTree}
@@ -9,6 +10,7 @@ use Rattle.fol_core.specs.Tree.{Tree}
 use Rattle.fol_core.specs.declared.formula.Formula.{Formula}
 use Rattle.fol_core.specs.declared.problem.Input.{Input}
 use Rattle.fol_core.specs.declared.problem.Role.{Role}
+use Rattle.fol_core.specs.declared.raw.Raw.{Raw}
 use Rattle.derivation.specs.Lines.{ContentTree, formula, clause, LineTree, is_goal}
 use Rattle.derivation.specs.declared.line.Content.{Content}
 use Rattle.derivation.specs.declared.line.Content.TheVariants as content
@@ -20,9 +22,9 @@ use Rattle.clause_store.specs.declared.lines.StoredContent.TheVariants as stored
 use Rattle.clause_store.specs.declared.lines.StoredLine.{StoredLine}
 use Rattle.clause_store.specs.declared.stored.Stored.{Stored}
 
--- a formula with its label, or a clause
+-- a formula with the printed names of its variables and its label, or a clause
 pub data PlainContent : Type 0 where
-  plain_formula : Formula → Option RawTree → PlainContent
+  plain_formula : Fol → List (List ℕ) → Option RawTree → PlainContent
   plain_clause : ClauseTree → PlainContent
 
 -- a line with its words as they are written
@@ -34,8 +36,12 @@ pub record PlainLine : Type 0 where
 abbrev pub line_under : ℕ → PlainContent → Written → PlainLine
 line_under n content words = record { number = n; content = content; words = words }
 
+-- what the code has of a formula
+abbrev pub formula_content : Formula → Option Raw → PlainContent
+formula_content f label = plain_formula (fol_of f.shape) f.names (option_map raw_of label)
+
 abbrev pub stored_content : List Tree → StoredContent → PlainContent
-stored_content bank (stored.Formula f label) = plain_formula f (option_map raw_of label)
+stored_content bank (stored.Formula f label) = formula_content f label
 stored_content bank (stored.Clause c) = plain_clause (stored_clause bank c.literals.items)
 
 -- a line that is kept under a number
@@ -62,7 +68,7 @@ AreStoredIn bank (l ∷ ls) = IsContentIn bank l.content × AreStoredIn bank ls
 
 -- a line of a proof
 abbrev pub plain_content : Content → PlainContent
-plain_content (content.Formula f label) = plain_formula f (option_map raw_of label)
+plain_content (content.Formula f label) = formula_content f label
 plain_content (content.Clause c) = plain_clause c
 
 abbrev pub plain_line : Line → PlainLine
@@ -70,7 +76,7 @@ plain_line l = line_under l.number (plain_content l.content) (written_of l.just)
 
 -- what a line says in a derivation
 abbrev pub content_tree : PlainContent → ContentTree
-content_tree (plain_formula f label) = formula (fol_of f.shape)
+content_tree (plain_formula f names label) = formula f
 content_tree (plain_clause c) = clause c
 
 abbrev pub plain_tree : PlainLine → LineTree
@@ -89,10 +95,11 @@ abbrev pub stating_word : Role → WrittenFirst
 stating_word r = if is_goal r then as_goal else as_assumption
 
 -- the line of a problem's formula
+abbrev pub stating_line : ℕ → Role → PlainContent → PlainLine
+stating_line n role content = line_under n content (written (stating_word role) [])
+
 abbrev pub formula_line : ℕ → Input → PlainLine
-formula_line n i =
-    line_under n (plain_formula i.formula (option_map raw_of i.label))
-    (written (stating_word i.role) [])
+formula_line n i = stating_line n i.role (formula_content i.formula i.label)
 
 -- the lines of formulas, numbered from a number on
 abbrev pub formula_lines : ℕ → List Input → List PlainLine

@@ -9,7 +9,9 @@ mod parents;
 mod store;
 mod stored;
 
-pub use laws::{ancestors_derive, lines_say_the_same, worked};
+pub use copying::copy_just;
+pub use laws::{ancestors_are_one, ancestors_derive, lines_say_the_same, worked};
 pub use lines::{StoredContent, StoredLine};
+pub use parents::add_parents;
 pub use store::Store;
 pub use stored::{New, Stored};

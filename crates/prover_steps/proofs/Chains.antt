@@ -50,7 +50,7 @@ pub get_behind : (done : ClauseTree) (l : Lit) (c : ClauseTree) → slice_get (d
 get_behind [] l c = refl
 get_behind (k ∷ done) l c = get_behind done l c
 
-others_none : (test : ℕ → Bool) (c : ClauseTree) → ((k : ℕ) → test k ≡ false) → others test c ≡ c
+pub others_none : (test : ℕ → Bool) (c : ClauseTree) → ((k : ℕ) → test k ≡ false) → others test c ≡ c
 others_none test [] misses = refl
 others_none test (l ∷ c) misses =
     ap (λ b. if b then others (λ k. test (suc k)) c else l ∷ others (λ k. test (suc k)) c) (misses 0) ∙ ap (λ d. l ∷ d) (others_none (λ k. test (suc k)) c (λ k. misses (suc k)))

@@ -42,3 +42,8 @@ module _ {X A : Type 0} (P : A → Type 0) where
   pub all_flat_each : (f : X → List A) → ((x : X) → AllByRecursion P (f x)) → (xs : List X) → AllByRecursion P (flat_map f xs)
   all_flat_each f each [] = tt
   all_flat_each f each (x ∷ xs) = all_append P (f x) (flat_map f xs) (each x) (all_flat_each f each xs)
+
+module _ {X : Type 0} (P Q : X → Type 0) (each : (x : X) → P x → Q x) where
+  pub all_so : (xs : List X) → AllByRecursion P xs → AllByRecursion Q xs
+  all_so [] all = tt
+  all_so (x ∷ xs) all = (each x all.0, all_so xs all.1)

@@ -32,7 +32,7 @@ use Rattle.prover_steps.specs.TidyLaws.{HaveRule}
 use Rattle.prover_steps.proofs.Chains.{Leading, leading_more, leads_to}
 use Rattle.prover_steps.proofs.Copies.{copy_derived}
 use Rattle.prover_steps.proofs.LinesMore.{clause_there, clauses_there, clause_last, lines_more}
-use Rattle.prover_steps.proofs.Lists.{all_append, all_kept, all_mapped, all_flat, all_pass, all_both}
+use Rattle.prover_steps.proofs.Lists.{all_append, all_kept, all_mapped, all_flat, all_pass, all_both, all_so}
 use Rattle.prover_steps.proofs.Ordering.{order_leads}
 use Rattle.prover_steps.proofs.Picks.{HasPicked, picked_has}
 use Rattle.prover_steps.proofs.Rewrites.{rewriting_leads}
@@ -51,11 +51,6 @@ module _ (P : Held → Type 0) where
   put_all_has : (hs ks : List Held) → AllByRecursion P hs → AllByRecursion P ks → AllByRecursion P (put_all_in hs ks)
   put_all_has [] ks all more = more
   put_all_has (h ∷ hs) ks all more = put_has h (put_all_in hs ks) all.0 (put_all_has hs ks all.1 more)
-
-module _ {X : Type 0} (P Q : X → Type 0) (each : (x : X) → P x → Q x) where
-  all_so : (xs : List X) → AllByRecursion P xs → AllByRecursion Q xs
-  all_so [] all = tt
-  all_so (x ∷ xs) all = (each x all.0, all_so xs all.1)
 
 below_more : (n : ℕ) (ls : List LineTree) → AllByRecursion (λ l. l.number < n) ls → AllByRecursion (λ l. l.number < suc n) ls
 below_more n [] all = tt

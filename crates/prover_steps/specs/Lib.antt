@@ -1,7 +1,11 @@
 pub mod Clashing
 pub mod Concluded
 pub mod Conclusions
+pub mod Ending
 pub mod Equalities
+pub mod HeldOrder
+pub mod LineNumbers
+pub mod OrderLaws
 pub mod Picking
 pub mod Rewriting
 pub mod SearchLaws
@@ -11,6 +15,8 @@ pub mod Shortening
 pub mod Starting
 pub mod StepLaws
 pub mod StepsWorked
+pub mod StopLaws
+pub mod SubsumeLaws
 pub mod Subsuming
 pub mod TidyLaws
 pub mod TidyWorked

@@ -7,6 +7,8 @@ use Rattle.ladr_options.specs.Options.{start}
 use Rattle.proof_words.specs.Written.{satellite, by_copy, by_back_unit_del, by_hyper}
 use Rattle.prover_steps.specs.Clashing.{Held}
 use Rattle.prover_steps.specs.Conclusions.{rules_in_force}
+use Rattle.prover_steps.specs.Ending.{given_left, queue_left}
+use Rattle.prover_steps.specs.HeldOrder.{merged_held}
 use Rattle.prover_steps.specs.Picking.{has_positive, picked}
 use Rattle.prover_steps.specs.Searching.{Setting, Queued, SearchState, proved, clause_size, queued_back, works_back, after}
 
@@ -119,3 +121,25 @@ WorkedBack =
     (end.waiting ≡ held_as 6 first_clause ∷ [])
     × (end.usable ≡ [])
     × (end.queue ≡ queued_back by_back_unit_del (held_as 5 denied) ∷ [])
+
+-- clauses under 3 and 7 with those under 4, 8 and 9, and with none
+abbrev pub WorkedMerging : Type 0
+WorkedMerging =
+    let empty : ℕ → Held = λ n. held_as n [] in
+    (merged_held (empty 3 ∷ empty 7 ∷ []) (empty 4 ∷ empty 8 ∷ empty 9 ∷ [])
+    ≡ empty 3 ∷ empty 4 ∷ empty 7 ∷ empty 8 ∷ empty 9 ∷ [])
+    × (merged_held (empty 3 ∷ empty 7 ∷ []) [] ≡ empty 3 ∷ empty 7 ∷ [])
+    × (merged_held [] (empty 3 ∷ empty 7 ∷ []) ≡ empty 3 ∷ empty 7 ∷ [])
+
+-- Where five may be given and four kept: each of the three input clauses leaves the queue and waits,
+-- and fewer may be kept. Then one is given. At the end nothing is left.
+abbrev pub WorkedMeasures : Type 0
+WorkedMeasures =
+    let limits = record setting { options = record start { max_given = 5; max_kept = 4 } } in
+    (queue_left limits beginning ≡ 8)
+    × (queue_left limits (after limits 1 beginning) ≡ 7)
+    × (queue_left limits (after limits 3 beginning) ≡ 5)
+    × (given_left limits (after limits 3 beginning) ≡ 6)
+    × (given_left limits (after limits 4 beginning) ≡ 5)
+    × (queue_left limits (after limits 7 beginning) ≡ 0)
+    × (given_left limits (after limits 7 beginning) ≡ 0)

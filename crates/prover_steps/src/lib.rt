@@ -4,6 +4,8 @@
 mod laws;
 
 pub use laws::{
-    clauses_are_put_in_order, clauses_are_rewritten, conclusions_are_steps, orders_keep_variables,
-    searches_are_sound, searches_end_once, searches_start_well, steps_are_worked_out, worked,
+    clauses_are_put_in_order, clauses_are_rewritten, clauses_stay_in_order, conclusions_are_steps,
+    ends_have_reasons, lines_are_counted, orders_keep_variables, rewriting_stops,
+    searches_are_sound, searches_end, searches_end_once, searches_start_well,
+    searches_stay_in_order, steps_are_worked_out, steps_keep_order, subsumption_is_found, worked,
 };

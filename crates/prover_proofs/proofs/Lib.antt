@@ -1,0 +1,7 @@
+pub mod Growing
+pub mod Lasting
+pub mod Refuting
+pub mod Remaining
+pub mod Roles
+pub mod Saying
+pub mod Storing

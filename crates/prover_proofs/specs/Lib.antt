@@ -1,0 +1,4 @@
+pub mod Levels
+pub mod ProofLaws
+pub mod SearchLines
+pub mod Worked

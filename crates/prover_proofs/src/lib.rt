@@ -1,0 +1,11 @@
+//! The proofs of a search: the lines that an empty clause rests on, their levels and their sizes.
+#![tactic(auto)]
+
+mod found;
+mod laws;
+mod lines;
+mod measures;
+
+pub use found::Proof;
+pub use laws::{proofs_refute, state_lines_say, worked};
+pub use lines::{SearchLines, role_at};
