@@ -1,0 +1,5 @@
+pub mod Fits
+pub mod Passing
+pub mod Placing
+pub mod Redexes
+pub mod Smaller

@@ -1,0 +1,155 @@
+-- The first place at which a rule fits.
+use Rattle.std.proofs.Common.{◌≡◌, ℕ, zero, suc, ◌+◌, ◌-◌, ◌<◌, ◌≤◌, Bool, true, false, if◌then◌else◌, length, List, [], ◌∷◌, ◌++◌, Option, Some, None, get_or, take, drop, map, refl, sym, ap, subst, ◌∙◌, add-one, append-nil, append_assoc, arith}
+use Rattle.std.proofs.lemmas.List.{drop_all, take_all, take_rest}
+use Rattle.std.specs.List.{AllByRecursion}
+use Rattle.std.specs.Option.{option_map, option_map_or}
+use Rattle.held_clauses.proofs.Items.{drop_item}
+use Rattle.fol_core.specs.ClauseView.{literal_of}
+use Rattle.fol_core.specs.Literals.{literal, ClauseTree}
+use Rattle.fol_core.specs.TermView.{tree_of, tree_list}
+use Rattle.fol_core.specs.Tree.{Tree, Trees, more, app, trees_of}
+use Rattle.fol_core.specs.declared.clause.Literal.{Literal}
+use Rattle.fol_core.specs.declared.term.Term.{Term}
+use Rattle.demodulate.specs.Passes.{words_then}
+use Rattle.demodulate.specs.Steps.{step_around, step_at}
+use Rattle.derivation.specs.Later.{LaterWord, rewritten}
+use Rattle.derivation.specs.Places.{with_atom}
+use Rattle.prover_steps.specs.Clashing.{Held}
+use Rattle.prover_steps.specs.Rewriting.{RewriteStep, first_of, rewritten_by, step_at_top, widened, in_argument, first_step, step_in, atom_step, Simplified, simplified, then_word, clause_step, normal_form}
+
+-- by the rules from one on
+pub top_found : (rs : List Held) (i : ℕ) (r : Held) (t u : Tree) → i < length rs → r ≡ get_or rs i r → rewritten_by r t ≡ Some u → step_at_top (drop i rs) t ≡ Some (record { rule = r.number; path = []; result = u })
+top_found rs i r t u h is e =
+    ap (λ qs. step_at_top qs t) (drop_item rs i r h is) ∙ ap (λ o. option_map_or (λ v. Some (record { rule = r.number; path = []; result = v })) o (step_at_top (drop (i + 1) rs) t)) e
+
+pub top_behind : (rs : List Held) (i : ℕ) (r : Held) (t : Tree) → i < length rs → r ≡ get_or rs i r → rewritten_by r t ≡ None → step_at_top (drop i rs) t ≡ step_at_top (drop (i + 1) rs) t
+top_behind rs i r t h is e =
+    ap (λ qs. step_at_top qs t) (drop_item rs i r h is) ∙ ap (λ o. option_map_or (λ v. Some (record { rule = r.number; path = []; result = v })) o (step_at_top (drop (i + 1) rs) t)) e
+
+pub top_end : (rs : List Held) (i : ℕ) (t : Tree) → length rs ≤ i → step_at_top (drop i rs) t ≡ None
+top_end rs i t h = ap (λ qs. step_at_top qs t) (drop_all i rs h)
+
+-- each of the first elements is so
+all_more : {X : Type 0} (P : X → Type 0) (ts : List X) (i : ℕ) (t : X) → i < length ts → t ≡ get_or ts i t → AllByRecursion P (take i ts) → P t → AllByRecursion P (take (suc i) ts)
+all_more P [] i t h is all p = absurd (omega (arith, h))
+all_more P (u ∷ ts) zero t h is all p = (subst P is p, tt)
+all_more P (u ∷ ts) (suc i) t h is all p = (all.0, all_more P ts i t (omega (arith, h)) is all.1 p)
+
+-- no rule fits in the terms
+abbrev pub AreNormal : List Held → List Term → Type 0
+AreNormal rs ts = AllByRecursion (λ t. first_step rs (tree_of t) ≡ None) ts
+
+pub normal_more : (rs : List Held) (ts : List Term) (i : ℕ) (t : Term) → i < length ts → t ≡ get_or ts i t → AreNormal rs (take i ts) → first_step rs (tree_of t) ≡ None → AreNormal rs (take (i + 1) ts)
+normal_more rs ts i t h is all e =
+    let next : suc i ≡ i + 1 = omega arith in
+    subst (λ n. AreNormal rs (take n ts)) next (all_more (λ u. first_step rs (tree_of u) ≡ None) ts i t h is all e)
+
+-- a step of arguments
+abbrev arguments_step : ℕ → List ℕ → Trees → RewriteStep Trees
+arguments_step rule path ts = record { rule = rule; path = path; result = ts }
+
+step_there : (rs : List Held) (ts : List Term) (i k n : ℕ) (t : Term) (r : RewriteStep Tree) → i < length ts → t ≡ get_or ts i t → n ≡ i + k → AreNormal rs (take i ts) → first_step rs (tree_of t) ≡ Some r
+    → step_in rs k (trees_of (tree_list ts)) ≡ Some (arguments_step r.rule (n ∷ r.path) (trees_of (take i (tree_list ts) ++ r.result ∷ drop (suc i) (tree_list ts))))
+step_there rs [] i k n t r h is e all s = absurd (omega (arith, h))
+step_there rs (u ∷ ts) zero k n t r h is e all s =
+    let same : k ≡ n = omega (arith, e) in
+    ap (λ o. first_of (option_map (in_argument k (trees_of (tree_list ts))) o) (option_map (widened (more (tree_of u))) (step_in rs (suc k) (trees_of (tree_list ts))))) (ap (λ v. first_step rs (tree_of v)) (sym is) ∙ s)
+    ∙ ap (λ m. Some (arguments_step r.rule (m ∷ r.path) (more r.result (trees_of (tree_list ts))))) same
+step_there rs (u ∷ ts) (suc i) k n t r h is e all s =
+    ap (λ o. first_of (option_map (in_argument k (trees_of (tree_list ts))) o) (option_map (widened (more (tree_of u))) (step_in rs (suc k) (trees_of (tree_list ts))))) all.0
+    ∙ ap (option_map (widened (more (tree_of u)))) (step_there rs ts i (suc k) n t r (omega (arith, h)) is (omega (arith, e)) all.1 s)
+
+pub argument_step : (rs : List Held) (f : ℕ) (ts : List Term) (i : ℕ) (t : Term) (r : RewriteStep Tree) → i < length ts → t ≡ get_or ts i t → AreNormal rs (take i ts) → first_step rs (tree_of t) ≡ Some r
+    → Some (step_around f (tree_list ts) i r) ≡ option_map (widened (app f)) (step_in rs 1 (trees_of (tree_list ts)))
+argument_step rs f ts i t r h is all s = sym (ap (option_map (widened (app f))) (step_there rs ts i 1 (suc i) t r h is (omega arith) all s))
+
+none_in : (rs : List Held) (ts : List Term) (k : ℕ) → AreNormal rs ts → step_in rs k (trees_of (tree_list ts)) ≡ None
+none_in rs [] k all = refl
+none_in rs (t ∷ ts) k all =
+    ap (λ o. first_of (option_map (in_argument k (trees_of (tree_list ts))) o) (option_map (widened (more (tree_of t))) (step_in rs (suc k) (trees_of (tree_list ts))))) all.0
+    ∙ ap (option_map (widened (more (tree_of t)))) (none_in rs ts (suc k) all.1)
+
+pub no_argument_step : (rs : List Held) (f : ℕ) (ts : List Term) (i : ℕ) → length ts ≤ i → AreNormal rs (take i ts) → None ≡ option_map (widened (app f)) (step_in rs 1 (trees_of (tree_list ts)))
+no_argument_step rs f ts i h all = sym (ap (option_map (widened (app f))) (none_in rs ts 1 (subst (AreNormal rs) (take_all i ts h) all)))
+
+-- a term whose arguments have a step, or have none
+pub step_inside : (rs : List Held) (f : ℕ) (ts : Trees) (r : RewriteStep Tree) → Some r ≡ option_map (widened (app f)) (step_in rs 1 ts) → Some r ≡ first_step rs (app f ts)
+step_inside rs f ts r e = sym (ap (λ o. first_of o (step_at_top rs (app f ts))) (sym e))
+
+pub step_outside : (rs : List Held) (f : ℕ) (ts : Trees) → None ≡ option_map (widened (app f)) (step_in rs 1 ts) → step_at_top rs (app f ts) ≡ first_step rs (app f ts)
+step_outside rs f ts e = sym (ap (λ o. first_of o (step_at_top rs (app f ts))) (sym e))
+
+-- no rule fits in the literals
+abbrev pub AreNormalLiterals : List Held → List Literal → Type 0
+AreNormalLiterals rs ls = AllByRecursion (λ l. atom_step rs (tree_of l.atom) ≡ None) ls
+
+pub normal_literals_more : (rs : List Held) (ls : List Literal) (i : ℕ) (l : Literal) → i < length ls → l ≡ get_or ls i l → AreNormalLiterals rs (take i ls) → atom_step rs (tree_of l.atom) ≡ None → AreNormalLiterals rs (take (i + 1) ls)
+normal_literals_more rs ls i l h is all e =
+    let next : suc i ≡ i + 1 = omega arith in
+    subst (λ n. AreNormalLiterals rs (take n ls)) next (all_more (λ k. atom_step rs (tree_of k.atom) ≡ None) ls i l h is all e)
+
+clause_step_there : (rs : List Held) (ls : List Literal) (i a n : ℕ) (l : Literal) (r : RewriteStep Tree) → i < length ls → l ≡ get_or ls i l → n ≡ i + a → AreNormalLiterals rs (take i ls) → atom_step rs (tree_of l.atom) ≡ Some r
+    → clause_step rs a (map literal_of ls) ≡ Some (rewritten r.rule n r.path, with_atom (map literal_of ls) i r.result)
+clause_step_there rs [] i a n l r h is e all s = absurd (omega (arith, h))
+clause_step_there rs (k ∷ ls) zero a n l r h is e all s =
+    let same : a ≡ n = omega (arith, e) in
+    ap (λ o. option_map_or (λ q. Some (rewritten q.rule a q.path, literal k.positive q.result ∷ map literal_of ls)) o (option_map (λ q. (q.0, literal_of k ∷ q.1)) (clause_step rs (suc a) (map literal_of ls)))) (ap (λ m. atom_step rs (tree_of m.atom)) (sym is) ∙ s)
+    ∙ ap (λ m. Some (rewritten r.rule m r.path, literal k.positive r.result ∷ map literal_of ls)) same
+clause_step_there rs (k ∷ ls) (suc i) a n l r h is e all s =
+    ap (λ o. option_map_or (λ q. Some (rewritten q.rule a q.path, literal k.positive q.result ∷ map literal_of ls)) o (option_map (λ q. (q.0, literal_of k ∷ q.1)) (clause_step rs (suc a) (map literal_of ls)))) all.0
+    ∙ ap (option_map (λ q. (q.0, literal_of k ∷ q.1))) (clause_step_there rs ls i (suc a) n l r (omega (arith, h)) is (omega (arith, e)) all.1 s)
+
+pub literal_step : (rs : List Held) (ls : List Literal) (i : ℕ) (l : Literal) (r : RewriteStep Tree) → i < length ls → l ≡ get_or ls i l → AreNormalLiterals rs (take i ls) → atom_step rs (tree_of l.atom) ≡ Some r
+    → Some (step_at (map literal_of ls) i r) ≡ clause_step rs 0 (map literal_of ls)
+literal_step rs ls i l r h is all s = sym (clause_step_there rs ls i 0 i l r h is (omega arith) all s)
+
+none_in_clause : (rs : List Held) (ls : List Literal) (a : ℕ) → AreNormalLiterals rs ls → clause_step rs a (map literal_of ls) ≡ None
+none_in_clause rs [] a all = refl
+none_in_clause rs (k ∷ ls) a all =
+    ap (λ o. option_map_or (λ q. Some (rewritten q.rule a q.path, literal k.positive q.result ∷ map literal_of ls)) o (option_map (λ q. (q.0, literal_of k ∷ q.1)) (clause_step rs (suc a) (map literal_of ls)))) all.0
+    ∙ ap (option_map (λ q. (q.0, literal_of k ∷ q.1))) (none_in_clause rs ls (suc a) all.1)
+
+pub no_literal_step : (rs : List Held) (ls : List Literal) (i : ℕ) → length ls ≤ i → AreNormalLiterals rs (take i ls) → None ≡ clause_step rs 0 (map literal_of ls)
+no_literal_step rs ls i h all = sym (none_in_clause rs ls 0 (subst (AreNormalLiterals rs) (take_all i ls h) all))
+
+-- what is left of the steps
+module _ (too_large : ClauseTree → Bool) (rs : List Held) where
+  abbrev pub steps_left : ℕ → ClauseTree → List LaterWord → Simplified
+  steps_left k c ws = words_then ws (normal_form too_large rs k c)
+
+  abbrev one_step : ℕ → ClauseTree → Option (LaterWord × ClauseTree) → Simplified
+  one_step k c o = option_map_or (λ s. if too_large s.1 then simplified c [] else then_word s.0 (normal_form too_large rs k s.1)) o (simplified c [])
+
+  pub steps_end : (k : ℕ) (c : ClauseTree) (ws : List LaterWord) → k ≡ 0 → steps_left k c ws ≡ simplified c ws
+  steps_end zero c ws e = ap (simplified c) (append-nil ws)
+  steps_end (suc k) c ws e = cc
+
+  pub steps_none : (k : ℕ) (c : ClauseTree) (ws : List LaterWord) → None ≡ clause_step rs 0 c → steps_left k c ws ≡ simplified c ws
+  steps_none zero c ws e = ap (simplified c) (append-nil ws)
+  steps_none (suc k) c ws e = ap (λ o. words_then ws (one_step k c o)) (sym e) ∙ ap (simplified c) (append-nil ws)
+
+  pub steps_large : (k : ℕ) (c : ClauseTree) (ws : List LaterWord) (w : LaterWord) (d : ClauseTree) → Some (w, d) ≡ clause_step rs 0 c → too_large d ≡ true → steps_left k c ws ≡ simplified c ws
+  steps_large zero c ws w d e large = ap (simplified c) (append-nil ws)
+  steps_large (suc k) c ws w d e large =
+      ap (λ o. words_then ws (one_step k c o)) (sym e) ∙ ap (λ b. words_then ws (if b then simplified c [] else then_word w (normal_form too_large rs k d))) large ∙ ap (simplified c) (append-nil ws)
+
+  pub steps_on : (m k : ℕ) (c : ClauseTree) (ws : List LaterWord) (w : LaterWord) (d : ClauseTree) (vs : List LaterWord) → Some (w, d) ≡ clause_step rs 0 c → too_large d ≡ false → m ≡ suc k → vs ≡ ws ++ w ∷ []
+      → steps_left m c ws ≡ steps_left k d vs
+  steps_on m k c ws w d vs e small next words =
+      ap (λ n. steps_left n c ws) next ∙ ap (λ o. words_then ws (one_step k c o)) (sym e) ∙ ap (λ b. words_then ws (if b then simplified c [] else then_word w (normal_form too_large rs k d))) small
+      ∙ ap (simplified (normal_form too_large rs k d).clause) (sym (append_assoc ws (w ∷ []) (normal_form too_large rs k d).words)) ∙ ap (λ us. steps_left k d us) (sym words)
+
+-- a term between others
+pub between_is : (ts : List Term) (i : ℕ) (u : Tree) → (tree_list (take i ts) ++ u ∷ []) ++ tree_list (take (length ts - (i + 1)) (drop (i + 1) ts)) ≡ take i (tree_list ts) ++ u ∷ drop (suc i) (tree_list ts)
+between_is ts i u =
+    append_assoc (tree_list (take i ts)) (u ∷ []) (tree_list (take (length ts - (i + 1)) (drop (i + 1) ts)))
+    ∙ ap (λ us. tree_list (take i ts) ++ u ∷ tree_list us) (take_rest ts (i + 1)) ∙ halves ts i u
+  where
+    halves : (vs : List Term) (n : ℕ) (w : Tree) → tree_list (take n vs) ++ w ∷ tree_list (drop (n + 1) vs) ≡ take n (tree_list vs) ++ w ∷ drop (suc n) (tree_list vs)
+    halves [] zero w = refl
+    halves [] (suc n) w = rw add-one refl
+    halves (v ∷ vs) zero w = refl
+    halves (v ∷ vs) (suc n) w = rw add-one (ap (λ us. tree_of v ∷ us) (rw add-one at (halves vs n w)))
+
+abbrev pub step_with : ℕ → List ℕ → Tree → RewriteStep Tree
+step_with rule path t = record { rule = rule; path = path; result = t }

@@ -1,0 +1,7 @@
+-- No rule fits in the literals before.
+use Rattle.std.proofs.Common.{take}
+use Rattle.demodulate.proofs.Redexes.{AreNormalLiterals}
+use Rattle.demodulate.proofs.normal.first_in_clause.Given as goal
+
+abbrev pub invariant-loop-place : goal.invariant-loop-place
+invariant-loop-place l = AreNormalLiterals l.rules (take l.place l.literal-items)

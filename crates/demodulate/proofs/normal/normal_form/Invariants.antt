@@ -1,0 +1,9 @@
+-- The steps that are left come to the same.
+use Rattle.std.proofs.Common.{◌≡◌, ◌-◌, map, []}
+use Rattle.derivation.specs.View.{later_of}
+use Rattle.prover_steps.specs.Searching.{is_too_large}
+use Rattle.demodulate.proofs.Redexes.{steps_left}
+use Rattle.demodulate.proofs.normal.normal_form.Given as goal
+
+abbrev pub invariant-loop-step : goal.invariant-loop-step
+invariant-loop-step l = steps_left is_too_large l.rules (l.limit - l._step) l.clause (map later_of l.words.items) ≡ steps_left is_too_large l.rules l.limit l.fn.clause []

@@ -1,0 +1,79 @@
+// A clause rewritten step by step.
+ghost use Rattle.std.specs.Prelude.{◌≡◌, ◌<◌, IfOk, length};
+ghost use Rattle.std.specs.Option.{option_map};
+ghost use Rattle.demodulate.specs.Steps.{placed_step, IsPlaceIn, TakesAtom, tidied_of};
+ghost use Rattle.fol_core.specs.TermView.{tree_of};
+ghost use Rattle.prover_steps.specs.Rewriting.{clause_step, normal_form};
+ghost use Rattle.prover_steps.specs.Searching.{is_too_large};
+
+use crate::literals::exchange;
+use crate::rewriting::atom_step;
+use crate::step::{PlacedStep, Tidied};
+use derivation::{Later, Rewrite};
+use fol_core::{Clause, Term};
+use held_clauses::{Held, is_too_large};
+use std::alloc::{AllocError, Global};
+
+// The first step of a clause, with the place of its literal.
+#[tactic(auto, using(crate::proofs::Redexes::normal_literals_more, crate::proofs::Redexes::literal_step, crate::proofs::Redexes::no_literal_step))]
+fn first_in_clause(
+    alloc: Global,
+    rules: &[Held],
+    clause: &Clause,
+) -> Result<Option<PlacedStep>, AllocError>
+    ensures step { IfOk result (λ o. option_map (placed_step clause.now) o
+        ≡ clause_step rules.now 0 clause.now) }
+    ensures place { IfOk result (λ o. IsPlaceIn clause.now o) }
+{
+    for (place, literal) in clause.literals.iter().enumerate() {
+        if let Some(step) = atom_step(alloc, rules, &literal.atom)? {
+            return Ok(Some(PlacedStep { place, step }));
+        }
+    }
+    Ok(None)
+}
+
+// A step is taken, unless it makes the clause too large.
+#[tactic(auto, using(crate::proofs::Placing::with_atom_length, crate::proofs::Placing::with_atom_back))]
+fn take_step(clause: &mut Clause, place: usize, atom: Term) -> bool
+    requires { place < length clause.old }
+    ensures { TakesAtom clause.old place (tree_of atom) clause.new result }
+{
+    let old = exchange(clause, place, atom);
+    if is_too_large(clause) {
+        exchange(clause, place, old);
+        return false;
+    }
+    true
+}
+
+/// A clause after so many steps, or after as many as there are, or as don't make it too large; with their words.
+#[tactic(auto, using(crate::proofs::Redexes::steps_end, crate::proofs::Redexes::steps_none, crate::proofs::Redexes::steps_large, crate::proofs::Redexes::steps_on))]
+pub fn normal_form(
+    alloc: Global,
+    rules: &[Held],
+    limit: u32,
+    clause: Clause,
+) -> Result<Tidied, AllocError>
+    ensures { IfOk result (λ t. tidied_of t ≡ normal_form is_too_large rules.now limit clause) }
+{
+    let mut clause = clause;
+    let mut words = Vec::new(alloc);
+    for _step in 0..limit {
+        match first_in_clause(alloc, rules, &clause)? {
+            None => return Ok(Tidied { clause, words }),
+            Some(found) => {
+                let PlacedStep { place, step } = found;
+                if !take_step(&mut clause, place, step.result) {
+                    return Ok(Tidied { clause, words });
+                }
+                words.push(Later::Rewrite(Rewrite {
+                    rule: step.rule,
+                    literal: place as u64,
+                    path: step.path,
+                }))?;
+            }
+        }
+    }
+    Ok(Tidied { clause, words })
+}

@@ -1,0 +1,255 @@
+// A clause put in order: sides of equations exchanged, literals left out.
+ghost use Rattle.std.specs.Prelude.{◌≡◌, ◌<◌, [], IfOk, OnOk, length, map};
+ghost use Rattle.std.specs.List.{list_any};
+ghost use Rattle.demodulate.specs.Passes.{FlipsOn, PassGoesOn};
+ghost use Rattle.demodulate.specs.Steps.{tidied_of};
+ghost use Rattle.derivation.specs.Places.{same_sign};
+ghost use Rattle.derivation.specs.View.{later_of};
+ghost use Rattle.fol_core.specs.ClauseView.{literal_of};
+ghost use Rattle.held_clauses.specs.Holding.{lent};
+ghost use Rattle.held_clauses.specs.Order.{greater_of};
+ghost use Rattle.prover_steps.specs.Shortening.{is_turned, flips_from, left_out, same_literal, is_merged, is_false_equation, is_left_out, first_denying, is_denied, followed_by, put_in_order};
+
+use crate::fitting::denies;
+use crate::literals::{take_out, turn_at};
+use crate::step::Tidied;
+use derivation::Later;
+use fol_core::{Clause, Literal, Term};
+use held_clauses::{Held, has_same_sides, is_equation, is_greater, left_of, right_of};
+use std::alloc::{AllocError, Global};
+use substitutions::same;
+use term_order::Precedence;
+
+// Whether the right side of a literal's equation is greater.
+fn is_turned(alloc: Global, precedence: &Precedence, literal: &Literal) -> Result<bool, AllocError>
+    ensures { IfOk result (λ b. b ≡ is_turned (greater_of precedence.now)
+        (literal_of literal.now)) }
+{
+    if !is_equation(&literal.atom) {
+        return Ok(false);
+    }
+    let nothing = Term::Var(0);
+    is_greater(
+        alloc,
+        precedence,
+        right_of(&literal.atom, &nothing),
+        left_of(&literal.atom, &nothing),
+    )
+}
+
+// Exchanges the sides of the equation at a place, if the right one is greater.
+fn flip_at(
+    alloc: Global,
+    precedence: &Precedence,
+    clause: &mut Clause,
+    words: &mut Vec<Later>,
+    place: usize,
+) -> Result<(), AllocError>
+    requires { place < length clause.old }
+    ensures { OnOk result (FlipsOn (greater_of precedence.now) clause.old
+        (map later_of words.old.items) place clause.new (map later_of words.new.items)) }
+{
+    if is_turned(alloc, precedence, &clause.literals[place])? {
+        turn_at(clause, place);
+        words.push(Later::Flip(place as u64))?;
+    }
+    Ok(())
+}
+
+// Exchanges the sides of each equation whose right one is greater.
+#[tactic(auto, using(crate::proofs::Passing::flips_ended))]
+fn flip(alloc: Global, precedence: &Precedence, tidied: Tidied) -> Result<Tidied, AllocError>
+    ensures { IfOk result (λ t. tidied_of t ≡ followed_by (tidied_of tidied)
+        (flips_from (greater_of precedence.now) 0)) }
+{
+    let Tidied {
+        mut clause,
+        mut words,
+    } = tidied;
+    for place in 0..clause.len() {
+        flip_at(alloc, precedence, &mut clause, &mut words, place)?;
+    }
+    Ok(Tidied { clause, words })
+}
+
+// Whether two signs are one.
+fn same_sign(first: bool, second: bool) -> bool
+    ensures { result ≡ same_sign first second }
+{
+    first == second
+}
+
+// Whether two literals are one.
+fn is_same(literal: &Literal, other: &Literal) -> bool
+    ensures { result ≡ same_literal (literal_of literal.now) (literal_of other.now) }
+{
+    if !same_sign(literal.positive, other.positive) {
+        return false;
+    }
+    same(&literal.atom, &other.atom)
+}
+
+// Whether a literal stands among others.
+#[tactic(auto, using(held_clauses::proofs::LiteralTests::some_here, held_clauses::proofs::LiteralTests::some_behind, held_clauses::proofs::LiteralTests::some_end))]
+fn is_among(literal: &Literal, others: &[Literal]) -> bool
+    ensures { result ≡ list_any (same_literal (literal_of literal.now))
+        (map literal_of others.now) }
+{
+    for other in others {
+        if is_same(literal, other) {
+            return true;
+        }
+    }
+    false
+}
+
+// Leaves out the literal at a place if it stands before; the place of the next one.
+fn merge_at(clause: &mut Clause, words: &mut Vec<Later>, place: usize) -> Result<usize, AllocError>
+    requires { place < length clause.old }
+    ensures { IfOk result (PassGoesOn is_merged clause.old (map later_of words.old.items) place
+        clause.new (map later_of words.new.items)) }
+{
+    if is_among(&clause.literals[place], &clause.literals[..place]) {
+        take_out(clause, place);
+        words.push(Later::Merge(place as u64))?;
+        return Ok(place);
+    }
+    Ok(place + 1)
+}
+
+// Leaves out literals that stand before.
+#[tactic(auto, using(crate::proofs::Passing::pass_ended))]
+fn merge(tidied: Tidied) -> Result<Tidied, AllocError>
+    ensures { IfOk result (λ t. tidied_of t ≡ followed_by (tidied_of tidied)
+        (left_out is_merged [])) }
+{
+    let Tidied {
+        mut clause,
+        mut words,
+    } = tidied;
+    let mut place = 0;
+    while place < clause.len() {
+        place = merge_at(&mut clause, &mut words, place)?;
+    }
+    Ok(Tidied { clause, words })
+}
+
+// Whether a literal is an inequation with one term on both sides.
+fn is_false_equation(literal: &Literal) -> bool
+    ensures { result ≡ is_false_equation (literal_of literal.now) }
+{
+    !literal.positive && has_same_sides(&literal.atom)
+}
+
+// Leaves out the literal at a place if it is such a one; the place of the next one.
+fn leave_out_at(
+    clause: &mut Clause,
+    words: &mut Vec<Later>,
+    place: usize,
+) -> Result<usize, AllocError>
+    requires { place < length clause.old }
+    ensures { IfOk result (PassGoesOn is_left_out clause.old (map later_of words.old.items) place
+        clause.new (map later_of words.new.items)) }
+{
+    if is_false_equation(&clause.literals[place]) {
+        take_out(clause, place);
+        words.push(Later::Xx(place as u64))?;
+        return Ok(place);
+    }
+    Ok(place + 1)
+}
+
+// Leaves out such literals.
+#[tactic(auto, using(crate::proofs::Passing::pass_ended))]
+fn leave_out_false(tidied: Tidied) -> Result<Tidied, AllocError>
+    ensures { IfOk result (λ t. tidied_of t ≡ followed_by (tidied_of tidied)
+        (left_out is_left_out [])) }
+{
+    let Tidied {
+        mut clause,
+        mut words,
+    } = tidied;
+    let mut place = 0;
+    while place < clause.len() {
+        place = leave_out_at(&mut clause, &mut words, place)?;
+    }
+    Ok(Tidied { clause, words })
+}
+
+// The number of the first unit that denies a literal.
+#[tactic(auto, using(crate::proofs::Fits::denying_here, crate::proofs::Fits::denying_behind, crate::proofs::Fits::denying_end))]
+fn first_denying(
+    alloc: Global,
+    held: &[&Held],
+    literal: &Literal,
+) -> Result<Option<u64>, AllocError>
+    ensures { IfOk result (λ o. o ≡ first_denying (lent held.now) (literal_of literal.now)) }
+{
+    for unit in held {
+        if denies(alloc, unit, literal)? {
+            return Ok(Some(unit.number));
+        }
+    }
+    Ok(None)
+}
+
+// Leaves out the literal at a place if a unit denies it; the place of the next one.
+fn delete_at(
+    alloc: Global,
+    held: &[&Held],
+    clause: &mut Clause,
+    words: &mut Vec<Later>,
+    place: usize,
+) -> Result<usize, AllocError>
+    requires { place < length clause.old }
+    ensures { IfOk result (PassGoesOn (is_denied (lent held.now)) clause.old
+        (map later_of words.old.items) place clause.new (map later_of words.new.items)) }
+{
+    match first_denying(alloc, held, &clause.literals[place])? {
+        Some(number) => {
+            take_out(clause, place);
+            words.push(Later::UnitDel(place as u64, number))?;
+            Ok(place)
+        }
+        None => Ok(place + 1),
+    }
+}
+
+// Leaves out literals that units deny.
+#[tactic(auto, using(crate::proofs::Passing::pass_ended))]
+fn delete_by_units(alloc: Global, held: &[&Held], tidied: Tidied) -> Result<Tidied, AllocError>
+    ensures { IfOk result (λ t. tidied_of t ≡ followed_by (tidied_of tidied)
+        (left_out (is_denied (lent held.now)) [])) }
+{
+    let Tidied {
+        mut clause,
+        mut words,
+    } = tidied;
+    let mut place = 0;
+    while place < clause.len() {
+        place = delete_at(alloc, held, &mut clause, &mut words, place)?;
+    }
+    Ok(Tidied { clause, words })
+}
+
+/// A clause put in order by the order of terms, and by the units that are held if units may delete; its words come behind
+/// those that it has.
+pub fn put_in_order(
+    alloc: Global,
+    precedence: &Precedence,
+    units: bool,
+    held: &[&Held],
+    tidied: Tidied,
+) -> Result<Tidied, AllocError>
+    ensures { IfOk result (λ t. tidied_of t ≡ followed_by (tidied_of tidied)
+        (put_in_order (greater_of precedence.now) units (lent held.now))) }
+{
+    let flipped = flip(alloc, precedence, tidied)?;
+    let merged = merge(flipped)?;
+    let shortened = leave_out_false(merged)?;
+    if units {
+        Ok(delete_by_units(alloc, held, shortened)?)
+    } else {
+        Ok(shortened)
+    }
+}

@@ -1,0 +1,143 @@
+// The first step of rewriting: in the arguments, from the left, else of the whole, by the first rule that fits.
+ghost use Rattle.std.specs.Prelude.{◌≡◌, ◌<◌, ◌∷◌, ◌++◌, [], IfOk, OnOk, length};
+ghost use Rattle.std.specs.Option.{option_map};
+ghost use Rattle.demodulate.specs.Steps.{step_of, step_around};
+ghost use Rattle.fol_core.specs.TermView.{tree_of, tree_list};
+ghost use Rattle.fol_core.specs.Tree.{app, trees_of};
+ghost use Rattle.prover_steps.specs.Rewriting.{rewritten_by, step_at_top, widened, first_step, step_in, atom_step};
+
+use crate::step::Step;
+use fol_core::{Sym, Term, Terms};
+use held_clauses::{Held, first_atom, left_of, right_of};
+use std::alloc::{AllocError, Global};
+use term_matches::Matches;
+
+/// What a rule makes of a term that is an instance of its left side.
+pub fn rewritten_by(alloc: Global, rule: &Held, term: &Term) -> Result<Option<Term>, AllocError>
+    ensures { IfOk result (λ o. option_map tree_of o
+        ≡ rewritten_by rule.now (tree_of term.now)) }
+{
+    let nothing = Term::Var(0);
+    let atom = first_atom(&rule.clause, &nothing);
+    let mut values = Matches::new(alloc);
+    if values.match_onto(left_of(atom, &nothing), term)? {
+        Ok(Some(values.apply(alloc, right_of(atom, &nothing))?))
+    } else {
+        Ok(None)
+    }
+}
+
+// The step of the first rule that fits the term as a whole.
+#[tactic(auto, using(crate::proofs::Redexes::top_found, crate::proofs::Redexes::top_behind, crate::proofs::Redexes::top_end))]
+fn step_at_top(alloc: Global, rules: &[Held], term: &Term) -> Result<Option<Step>, AllocError>
+    ensures { IfOk result (λ o. option_map step_of o
+        ≡ step_at_top rules.now (tree_of term.now)) }
+{
+    for rule in rules {
+        if let Some(result) = rewritten_by(alloc, rule, term)? {
+            return Ok(Some(Step {
+                rule: rule.number,
+                path: Vec::new(alloc),
+                result,
+            }));
+        }
+    }
+    Ok(None)
+}
+
+// Copies of terms, at the end.
+fn push_copies(made: &mut Terms, alloc: Global, terms: &[Term]) -> Result<(), AllocError>
+    ensures { OnOk result (made.new ≡ made.old ++ tree_list terms.now) }
+{
+    for term in terms {
+        made.push(term.copy(alloc)?)?;
+    }
+    Ok(())
+}
+
+// Terms between others.
+fn between(alloc: Global, before: &[Term], new: Term, after: &[Term]) -> Result<Terms, AllocError>
+    ensures { IfOk result (λ made. made ≡ (tree_list before.now ++ tree_of new ∷ [])
+        ++ tree_list after.now) }
+{
+    let mut made = Terms::new(alloc);
+    push_copies(&mut made, alloc, before)?;
+    made.push(new)?;
+    push_copies(&mut made, alloc, after)?;
+    Ok(made)
+}
+
+// A step of an argument is one of the application.
+fn step_around(
+    alloc: Global,
+    head: Sym,
+    terms: &[Term],
+    place: usize,
+    step: Step,
+) -> Result<Step, AllocError>
+    requires { place < length terms.now }
+    ensures { IfOk result (λ s. step_of s ≡ step_around head.0 (tree_list terms.now) place
+        (step_of step)) }
+{
+    let Step {
+        rule,
+        mut path,
+        result,
+    } = step;
+    path.insert(0, place as u64 + 1)?;
+    let made = between(alloc, &terms[..place], result, &terms[place + 1..])?;
+    Ok(Step {
+        rule,
+        path,
+        result: Term::App(head, made),
+    })
+}
+
+/// The first step in arguments, as one of the application.
+#[cycle(first_step)]
+#[tactic(auto, using(crate::proofs::Redexes::normal_more, crate::proofs::Redexes::argument_step, crate::proofs::Redexes::no_argument_step))]
+pub fn step_within(
+    alloc: Global,
+    rules: &[Held],
+    head: Sym,
+    terms: &Terms,
+) -> Result<Option<Step>, AllocError>
+    ensures { IfOk result (λ o. option_map step_of o
+        ≡ option_map (widened (app head.0)) (step_in rules.now 1 (trees_of terms.now))) }
+{
+    for (i, term) in terms.items.iter().enumerate() {
+        if let Some(step) = first_step(alloc, rules, term)? {
+            return Ok(Some(step_around(alloc, head, terms.as_slice(), i, step)?));
+        }
+    }
+    Ok(None)
+}
+
+/// The first step of a term.
+#[cycle(first_step)]
+#[tactic(auto, using(crate::proofs::Redexes::step_inside, crate::proofs::Redexes::step_outside))]
+pub fn first_step(alloc: Global, rules: &[Held], term: &Term) -> Result<Option<Step>, AllocError>
+    ensures { IfOk result (λ o. option_map step_of o
+        ≡ first_step rules.now (tree_of term.now)) }
+{
+    match term {
+        Term::Var(_) => Ok(None),
+        Term::Elem(_) => Ok(None),
+        Term::App(f, terms) => match step_within(alloc, rules, *f, terms)? {
+            Some(step) => Ok(Some(step)),
+            None => step_at_top(alloc, rules, term),
+        },
+    }
+}
+
+/// The first step below an atom.
+pub fn atom_step(alloc: Global, rules: &[Held], atom: &Term) -> Result<Option<Step>, AllocError>
+    ensures { IfOk result (λ o. option_map step_of o
+        ≡ atom_step rules.now (tree_of atom.now)) }
+{
+    match atom {
+        Term::Var(_) => Ok(None),
+        Term::Elem(_) => Ok(None),
+        Term::App(f, terms) => step_within(alloc, rules, *f, terms),
+    }
+}

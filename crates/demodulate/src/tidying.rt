@@ -1,0 +1,42 @@
+// A clause rewritten and put in order.
+ghost use Rattle.std.specs.Prelude.{◌≡◌, false, IfOk};
+ghost use Rattle.demodulate.specs.Steps.{tidied_by, tidied_of};
+ghost use Rattle.held_clauses.specs.Holding.{lent};
+ghost use Rattle.held_clauses.specs.Order.{greater_of};
+ghost use Rattle.prover_steps.specs.Searching.{is_too_large};
+
+use crate::normal::normal_form;
+use crate::ordering::put_in_order;
+use crate::step::Tidied;
+use fol_core::{Clause, renumber};
+use held_clauses::Held;
+use ladr_options::Options;
+use std::alloc::{AllocError, Global};
+use term_order::Precedence;
+
+/// What rewriting by the rules makes of a clause, and then putting it in order, by the clauses that are held; the variables
+/// numbered at the end.
+pub fn tidy(
+    alloc: Global,
+    precedence: &Precedence,
+    options: &Options,
+    rules: &[Held],
+    held: &[&Held],
+    clause: Clause,
+) -> Result<Tidied, AllocError>
+    ensures tidied { IfOk result (λ t. tidied_of t ≡ tidied_by (greater_of precedence.now)
+        options.now rules.now (lent held.now) clause) }
+    ensures small { is_too_large clause ≡ false
+        → IfOk result (λ t. is_too_large t.clause ≡ false) }
+{
+    let rewritten = normal_form(alloc, rules, options.demod_step_limit, clause)?;
+    let Tidied { clause, words } = put_in_order(
+        alloc,
+        precedence,
+        options.unit_deletion,
+        held,
+        rewritten,
+    )?;
+    let clause = renumber(alloc, &clause)?;
+    Ok(Tidied { clause, words })
+}

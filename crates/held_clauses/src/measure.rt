@@ -1,0 +1,113 @@
+// How large clauses are: what is told needs no more than what the limits allow.
+ghost use Rattle.std.specs.Prelude.{◌≡◌, ◌<◌, ◌+◌, MatchOption, false, nat_lt};
+ghost use Rattle.fol_core.specs.TermView.{tree_of};
+ghost use Rattle.prover_steps.specs.Searching.{clause_size, clause_depth, is_too_large};
+ghost use Rattle.term_bank.specs.Bank.{size_of, term_depth};
+
+use fol_core::{Clause, Term};
+
+/// How many levels a clause may have.
+pub const MOST_LEVELS: u64 = 1000;
+
+/// How many symbols and variables it may have.
+pub const MOST_SYMBOLS: u64 = 1_000_000;
+
+// Whether a term has more levels.
+#[tactic(auto, using(crate::proofs::Measures::deeper_here, crate::proofs::Measures::deeper_behind, crate::proofs::Measures::deeper_end, crate::proofs::Measures::deeper_around))]
+fn is_deeper(term: &Term, levels: u64) -> bool
+    ensures { result ≡ nat_lt levels (term_depth (tree_of term.now)) }
+{
+    if levels == 0 {
+        return true;
+    }
+    match term {
+        Term::Var(_) => false,
+        Term::Elem(_) => false,
+        Term::App(_, terms) => {
+            for term in &terms.items {
+                if is_deeper(term, levels - 1) {
+                    return true;
+                }
+            }
+            false
+        }
+    }
+}
+
+// How many symbols and variables are left of a number behind those of a term.
+#[tactic(auto, using(crate::proofs::Measures::sizes_next, crate::proofs::Measures::sizes_end))]
+fn left_behind(term: &Term, room: u64) -> Option<u64>
+    ensures { MatchOption result (room < size_of (tree_of term.now))
+        (λ left. left + size_of (tree_of term.now) ≡ room) }
+{
+    if room == 0 {
+        return None;
+    }
+    let mut left = room - 1;
+    match term {
+        Term::Var(_) => Some(left),
+        Term::Elem(_) => Some(left),
+        Term::App(_, terms) => {
+            for term in &terms.items {
+                match left_behind(term, left) {
+                    Some(rest) => left = rest,
+                    None => return None,
+                }
+            }
+            Some(left)
+        }
+    }
+}
+
+// Whether a clause has more levels.
+#[tactic(auto, using(crate::proofs::Measures::clause_deeper_here, crate::proofs::Measures::clause_deeper_behind, crate::proofs::Measures::clause_deeper_end))]
+fn is_clause_deeper(clause: &Clause, levels: u64) -> bool
+    ensures { result ≡ nat_lt levels (clause_depth clause.now) }
+{
+    for literal in &clause.literals {
+        if is_deeper(&literal.atom, levels) {
+            return true;
+        }
+    }
+    false
+}
+
+// How many symbols and variables are left behind those of a clause.
+#[tactic(auto, using(crate::proofs::Measures::clause_sizes_next, crate::proofs::Measures::clause_sizes_end))]
+fn left_behind_clause(clause: &Clause, room: u64) -> Option<u64>
+    ensures { MatchOption result (room < clause_size clause.now)
+        (λ left. left + clause_size clause.now ≡ room) }
+{
+    let mut left = room;
+    for literal in &clause.literals {
+        match left_behind(&literal.atom, left) {
+            Some(rest) => left = rest,
+            None => return None,
+        }
+    }
+    Some(left)
+}
+
+/// Whether a clause is too large to be processed: the levels are counted first, and no further than to the limit.
+pub fn is_too_large(clause: &Clause) -> bool
+    ensures { result ≡ is_too_large clause.now }
+{
+    if is_clause_deeper(clause, MOST_LEVELS) {
+        return true;
+    }
+    match left_behind_clause(clause, MOST_SYMBOLS) {
+        Some(_) => false,
+        None => true,
+    }
+}
+
+/// How many symbols and variables a clause has that isn't too large.
+pub fn clause_size(clause: &Clause) -> u64
+    requires { is_too_large clause.now ≡ false }
+    ensures { result ≡ clause_size clause.now }
+{
+    match left_behind_clause(clause, MOST_SYMBOLS) {
+        Some(left) => MOST_SYMBOLS - left,
+        None => MOST_SYMBOLS,
+    }
+}

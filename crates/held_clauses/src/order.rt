@@ -1,0 +1,70 @@
+// Terms compared by the order that is chosen.
+ghost use Rattle.std.specs.Prelude.{◌≡◌, ◌<◌, IfOk, length};
+ghost use Rattle.fol_core.specs.TermView.{tree_of};
+ghost use Rattle.held_clauses.specs.Order.{greater_of, tells_greater};
+ghost use Rattle.term_bank.specs.Bank.{tree_at};
+
+use fol_core::Term;
+use ladr_options::Order;
+use std::alloc::{AllocError, Global};
+use term_bank::{Bank, TermId};
+use term_order::{Compared, Precedence, lpo_is_order, symbols_are_ordered};
+
+// How many symbols and variables a term may have that is compared by weight.
+const MOST_SYMBOLS: u64 = 1_000_000;
+
+// Whether the first term is greater, by how the two compare.
+fn tells_greater(compared: Compared) -> bool
+    ensures { result ≡ tells_greater compared }
+{
+    match compared {
+        Compared::Greater => true,
+        Compared::Less => false,
+        Compared::Same => false,
+        Compared::NotComparable => false,
+    }
+}
+
+// Whether the first of two terms of a bank is greater.
+fn is_greater_in(
+    precedence: &Precedence,
+    bank: &Bank,
+    s: TermId,
+    t: TermId,
+) -> Result<bool, AllocError>
+    requires s { s.0 < length bank.now }
+    requires t { t.0 < length bank.now }
+    ensures { IfOk result (λ b. b ≡ greater_of precedence.now (tree_at bank.now s.0)
+        (tree_at bank.now t.0)) }
+{
+    symbols_are_ordered();
+    lpo_is_order();
+    match precedence.order {
+        Order::Lpo => Ok(tells_greater(precedence.lpo(bank, s, t))),
+        Order::Kbo => {
+            if bank.size(s) > MOST_SYMBOLS {
+                return Err(AllocError);
+            }
+            if bank.size(t) > MOST_SYMBOLS {
+                return Err(AllocError);
+            }
+            Ok(tells_greater(precedence.kbo(bank, s, t)))
+        }
+    }
+}
+
+/// Whether the first term is greater. A term of more than 1,000,000 symbols, which no clause of a search has, has no room
+/// where terms are compared by weight.
+pub fn is_greater(
+    alloc: Global,
+    precedence: &Precedence,
+    s: &Term,
+    t: &Term,
+) -> Result<bool, AllocError>
+    ensures { IfOk result (λ b. b ≡ greater_of precedence.now (tree_of s.now) (tree_of t.now)) }
+{
+    let mut bank = Bank::new(alloc);
+    let first = bank.put(s)?;
+    let second = bank.put(t)?;
+    is_greater_in(precedence, &bank, first, second)
+}

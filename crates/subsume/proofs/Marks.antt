@@ -1,0 +1,52 @@
+-- The literals that aren't used, place by place.
+use Rattle.std.proofs.Common.{◌≡◌, ℕ, zero, suc, ◌<◌, Bool, true, false, if◌then◌else◌, length, List, [], ◌∷◌, ◌++◌, get_or, set, take, drop, replicate, refl, sym, ap, arith}
+use Rattle.fol_core.specs.Literals.{Lit, ClauseTree}
+use Rattle.subsume.specs.Unused.{unused}
+
+-- of the literals from a place on
+pub unused_here : (us : List Bool) (d : ClauseTree) (i : ℕ) (k : Lit) → i < length d → length us ≡ length d
+    → unused (drop i us) (drop i d) ≡ (if get_or us i false then unused (drop (suc i) us) (drop (suc i) d) else get_or d i k ∷ unused (drop (suc i) us) (drop (suc i) d))
+unused_here us [] i k h e = absurd (omega (arith, h))
+unused_here [] (l ∷ d) i k h e = cc
+unused_here (u ∷ us) (l ∷ d) zero k h e = refl
+unused_here (u ∷ us) (l ∷ d) (suc i) k h e = unused_here us d i k (omega (arith, h)) (omega (arith, e))
+
+-- of those before it, and itself
+pub unused_next : (us : List Bool) (d : ClauseTree) (i : ℕ) (k : Lit) → i < length d → length us ≡ length d
+    → unused (take (suc i) us) (take (suc i) d) ≡ unused (take i us) (take i d) ++ (if get_or us i false then [] else get_or d i k ∷ [])
+unused_next us [] i k h e = absurd (omega (arith, h))
+unused_next [] (l ∷ d) i k h e = cc
+unused_next (u ∷ us) (l ∷ d) zero k h e = refl
+unused_next (u ∷ us) (l ∷ d) (suc i) k h e = by u (unused_next us d i k (omega (arith, h)) (omega (arith, e)))
+  where
+    by : (b : Bool) → unused (take (suc i) us) (take (suc i) d) ≡ unused (take i us) (take i d) ++ (if get_or us i false then [] else get_or d i k ∷ [])
+        → (if b then unused (take (suc i) us) (take (suc i) d) else l ∷ unused (take (suc i) us) (take (suc i) d))
+        ≡ (if b then unused (take i us) (take i d) else l ∷ unused (take i us) (take i d)) ++ (if get_or us i false then [] else get_or d i k ∷ [])
+    by true same = same
+    by false same = ap (λ c. l ∷ c) same
+
+-- all but the one at a place that is marked now
+pub unused_marked : (us : List Bool) (d : ClauseTree) (i : ℕ) → i < length d → length us ≡ length d → unused (set us i true) d ≡ unused (take i us) (take i d) ++ unused (drop (suc i) us) (drop (suc i) d)
+unused_marked us [] i h e = absurd (omega (arith, h))
+unused_marked [] (l ∷ d) i h e = cc
+unused_marked (u ∷ us) (l ∷ d) zero h e = refl
+unused_marked (u ∷ us) (l ∷ d) (suc i) h e = by u (unused_marked us d i (omega (arith, h)) (omega (arith, e)))
+  where
+    by : (b : Bool) → unused (set us i true) d ≡ unused (take i us) (take i d) ++ unused (drop (suc i) us) (drop (suc i) d)
+        → (if b then unused (set us i true) d else l ∷ unused (set us i true) d)
+        ≡ (if b then unused (take i us) (take i d) else l ∷ unused (take i us) (take i d)) ++ unused (drop (suc i) us) (drop (suc i) d)
+    by true same = same
+    by false same = ap (λ c. l ∷ c) same
+
+-- a mark taken back
+pub mark_back : (us : List Bool) (i : ℕ) → get_or us i false ≡ false → set (set us i true) i false ≡ us
+mark_back [] i h = refl
+mark_back (u ∷ us) zero h = ap (λ b. b ∷ us) (sym h)
+mark_back (u ∷ us) (suc i) h = ap (λ vs. u ∷ vs) (mark_back us i h)
+
+-- where none is marked, all are left
+pub unused_all : (d : ClauseTree) (n : ℕ) → n ≡ length d → unused (replicate n false) d ≡ d
+unused_all [] zero e = refl
+unused_all [] (suc n) e = refl
+unused_all (l ∷ d) zero e = cc
+unused_all (l ∷ d) (suc n) e = ap (λ c. l ∷ c) (unused_all d n (omega (arith, e)))

@@ -1,0 +1,10 @@
+use Rattle.std.proofs.Common.{ap, sym, ◌∙◌, ◌&&◌, not}
+use Rattle.fol_core.specs.TermView.{tree_of}
+use Rattle.unifiers.specs.Matching.{same_tree}
+use Rattle.held_clauses.proofs.Sides.{same_is}
+use Rattle.subsume.proofs.tautologies.denies.Goals as goal
+
+pub returns : goal.returns
+returns c =
+    same_is c.same.result (tree_of c.args.literal.now.atom) (tree_of c.args.other.now.atom) c.same.ensures
+    ∙ sym (ap (λ b. not b && same_tree (tree_of c.args.literal.now.atom) (tree_of c.args.other.now.atom)) c.if-other.false)
