@@ -1,2 +1,5 @@
-pub mod Places
-pub mod Sums
+pub mod Finding
+pub mod Stated
+pub mod Symbols
+pub mod Weighed
+pub mod Weights

@@ -1,10 +1,10 @@
-// What clauses weigh, and in what order they are picked.
+// What clauses weigh.
 #![tactic(auto)]
 
-mod cycle;
 mod laws;
+mod patterns;
 mod rules;
 
-pub use cycle::{Cycle, Slot};
-pub use laws::worked;
-pub use rules::{HintWeight, MOST_WEIGHT, PatternWeight, Rules};
+pub use laws::{symbols_weigh, weights_follow, worked};
+pub use patterns::{MOST_WEIGHT, PatternWeight};
+pub use rules::{HintWeight, Rules};
