@@ -20,4 +20,5 @@ mod stating;
 
 pub use checking::check;
 pub use error::CheckError;
+pub use judging::{Judged, judge};
 pub use laws::no_countermodel;

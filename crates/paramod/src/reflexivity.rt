@@ -1,0 +1,68 @@
+// Resolution of a given clause's inequations with reflexivity.
+ghost use Rattle.std.specs.Prelude.{◌≡◌, ◌++◌, ◌∷◌, [], false, OnOk};
+ghost use Rattle.paramod.specs.Sites.{NeverReflects};
+ghost use Rattle.proof_words.specs.Written.{by_xx_res};
+ghost use Rattle.prover_steps.specs.Concluded.{inferred};
+ghost use Rattle.prover_steps.specs.Equalities.{reflexive_resolvents_of};
+ghost use Rattle.resolution.specs.View.{all_conclusions};
+
+use derivation::First;
+use fol_core::{Clause, Term};
+use held_clauses::{Held, is_equation, left_of, right_of};
+use resolution::{Conclusion, infer, may_meet};
+use std::alloc::{AllocError, Global};
+
+// Whether a literal may be an inequation whose sides may meet.
+fn may_reflect(clause: &Clause, a: u64) -> bool
+    ensures { result ≡ false → NeverReflects clause.now a }
+{
+    let literals = clause.as_slice();
+    if a >= literals.len() as u64 {
+        return false;
+    }
+    let literal = &literals[a as usize];
+    if literal.positive {
+        return false;
+    }
+    if !is_equation(&literal.atom) {
+        return false;
+    }
+    let nothing = Term::Var(0);
+    let left = left_of(&literal.atom, &nothing);
+    let right = right_of(&literal.atom, &nothing);
+    may_meet(left, right)
+}
+
+// What comes of one literal, if anything.
+fn add_at(alloc: Global, given: &Held, a: u64, made: &mut Vec<Conclusion>) -> Result<(), AllocError>
+    ensures { OnOk result (all_conclusions made.new.items ≡ all_conclusions made.old.items
+        ++ inferred (by_xx_res given.now.number a) (given.now.clause ∷ [])) }
+{
+    if !may_reflect(given.clause(), a) {
+        return Ok(());
+    }
+    let mut parents = Vec::new(alloc);
+    parents.push(given.clause().copy(alloc)?)?;
+    infer(
+        alloc,
+        First::XxRes(given.number(), a),
+        parents.as_slice(),
+        made,
+    )
+}
+
+/// Adds all that resolution with reflexivity makes of a given clause, in its order.
+#[tactic(auto, using(resolution::proofs::Going::place_added))]
+pub fn add_reflexive_resolvents(
+    alloc: Global,
+    given: &Held,
+    made: &mut Vec<Conclusion>,
+) -> Result<(), AllocError>
+    ensures { OnOk result (all_conclusions made.new.items ≡ all_conclusions made.old.items
+        ++ reflexive_resolvents_of given.now) }
+{
+    for a in 0..given.clause().len() as u64 {
+        add_at(alloc, given, a, made)?;
+    }
+    Ok(())
+}

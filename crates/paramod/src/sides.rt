@@ -1,0 +1,47 @@
+// The sides of equations, and what they may replace.
+ghost use Rattle.std.specs.Prelude.{◌≡◌, false, IfOk};
+ghost use Rattle.fol_core.specs.TermView.{tree_of};
+ghost use Rattle.held_clauses.specs.Order.{greater_of};
+ghost use Rattle.paramod.specs.Sites.{NeverReplaced};
+ghost use Rattle.prover_steps.specs.Equalities.{is_bare_variable, is_oriented};
+
+use fol_core::Term;
+use held_clauses::{is_equation, is_greater, left_of, right_of};
+use resolution::may_meet;
+use std::alloc::{AllocError, Global};
+use term_order::Precedence;
+
+/// Whether a term is a variable.
+pub fn is_bare_variable(term: &Term) -> bool
+    ensures { result ≡ is_bare_variable (tree_of term.now) }
+{
+    match term {
+        Term::Var(_) => true,
+        Term::Elem(_) => false,
+        Term::App(_, _) => false,
+    }
+}
+
+/// Whether a side may be put in for a term: no only where it is a variable, or never meets the side.
+pub fn may_be_replaced(side: &Term, term: &Term) -> bool
+    ensures { result ≡ false → NeverReplaced (tree_of side.now) (tree_of term.now) }
+{
+    match term {
+        Term::Var(_) => false,
+        Term::Elem(_) => may_meet(side, term),
+        Term::App(_, _) => may_meet(side, term),
+    }
+}
+
+/// Whether an atom is an equation whose left side is greater.
+pub fn is_oriented(alloc: Global, precedence: &Precedence, atom: &Term) -> Result<bool, AllocError>
+    ensures { IfOk result (λ b. b ≡ is_oriented (greater_of precedence.now) (tree_of atom.now)) }
+{
+    if !is_equation(atom) {
+        return Ok(false);
+    }
+    let nothing = Term::Var(0);
+    let left = left_of(atom, &nothing);
+    let right = right_of(atom, &nothing);
+    is_greater(alloc, precedence, left, right)
+}

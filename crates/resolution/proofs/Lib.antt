@@ -1,0 +1,9 @@
+pub mod AllWays
+pub mod Clashes
+pub mod Coming
+pub mod Failing
+pub mod Going
+pub mod Judgements
+pub mod Meetings
+pub mod Nucleated
+pub mod Standing

@@ -1,0 +1,5 @@
+pub mod Meeting
+pub mod Tries
+pub mod Trying
+pub mod View
+pub mod Ways

@@ -1,0 +1,48 @@
+// What the step of a word concludes of clauses.
+ghost use Rattle.std.specs.Prelude.{◌≡◌, ◌++◌, IfOk, OnOk, IsSome};
+ghost use Rattle.derivation.specs.Lines.{inference_of};
+ghost use Rattle.derivation.specs.View.{first_word_of};
+ghost use Rattle.proof_check.specs.Judged.{rule_by};
+ghost use Rattle.proof_words.specs.Written.{written_first};
+ghost use Rattle.prover_steps.specs.Concluded.{concluded, inferred};
+ghost use Rattle.resolution.specs.View.{all_conclusions};
+
+use crate::conclusion::Conclusion;
+use derivation::First;
+use fol_core::Clause;
+use proof_check::{Judged, judge};
+use std::alloc::{AllocError, Global};
+
+/// What the rule of a first word concludes of clauses, if it does.
+#[tactic(auto, using(crate::proofs::Judgements::judged_misplaced, crate::proofs::Judgements::judged_differs, crate::proofs::Judgements::judged_made))]
+pub fn conclude(
+    alloc: Global,
+    first: &First,
+    parents: &[Clause],
+) -> Result<Option<Clause>, AllocError>
+    ensures { IfOk result (λ o. o ≡ concluded (rule_by (first_word_of first.now)) parents.now) }
+{
+    match judge(alloc, first, parents)? {
+        Judged::Misplaced => Ok(None),
+        Judged::Differs => Ok(None),
+        Judged::Made(clause) => Ok(Some(clause)),
+    }
+}
+
+/// Adds what the step of a first word that has a rule makes of the clauses that it takes, if anything.
+#[tactic(auto, using(crate::proofs::Judgements::inferred_one, crate::proofs::Judgements::inferred_none))]
+pub fn infer(
+    alloc: Global,
+    first: First,
+    parents: &[Clause],
+    made: &mut Vec<Conclusion>,
+) -> Result<(), AllocError>
+    requires { IsSome (inference_of (first_word_of first)) }
+    ensures { OnOk result (all_conclusions made.new.items
+        ≡ all_conclusions made.old.items ++ inferred (written_first first) parents.now) }
+{
+    if let Some(clause) = conclude(alloc, &first, parents)? {
+        made.push(Conclusion { clause, first })?;
+    }
+    Ok(())
+}

@@ -1,0 +1,19 @@
+// Conclusions by resolution: of two clauses, of a nucleus with its satellites, of a nucleus with units; factors; and what the
+// step of any word concludes of clauses.
+#![tactic(auto)]
+
+mod binary;
+mod clashing;
+mod conclusion;
+mod factoring;
+mod inferring;
+mod meeting;
+mod nuclei;
+mod partners;
+
+pub use binary::{add_resolvent, add_resolvents, two_clauses};
+pub use conclusion::Conclusion;
+pub use factoring::add_factors;
+pub use inferring::{conclude, infer};
+pub use meeting::may_meet;
+pub use nuclei::{add_hyperresolvents, add_unit_resolvents};
