@@ -1,0 +1,9 @@
+pub mod Conflicts
+pub mod Going
+pub mod Lightest
+pub mod Merging
+pub mod Placing
+pub mod Settling
+pub mod Stepped
+pub mod Tests
+pub mod Turning

@@ -1,0 +1,5 @@
+pub mod Acting
+pub mod Guides
+pub mod Lists
+pub mod States
+pub mod Turns

@@ -1,0 +1,65 @@
+-- The states of the code.
+use Rattle.std.specs.Prelude.{[], map}
+use Rattle.derivation.specs.View.{later_of}
+use Rattle.derivation.specs.declared.line.Content.{Content}
+use Rattle.derivation.specs.declared.line.Content.TheVariants.{Formula, Clause}
+use Rattle.derivation.specs.declared.line.Line.{Line}
+use Rattle.fol_core.specs.Literals.{ClauseTree}
+use Rattle.given_clause.specs.declared.state.FoundProof as found
+use Rattle.given_clause.specs.declared.state.Queued as queued
+use Rattle.given_clause.specs.declared.state.Reason as why
+use Rattle.given_clause.specs.declared.state.Reason.TheVariants.{Proved, Spent, GaveAll, KeptAll, Filled}
+use Rattle.given_clause.specs.declared.state.Search.{Search}
+use Rattle.proof_words.specs.Written.{written_first}
+use Rattle.prover_steps.specs.Searching.{Queued, MadeLine, Reason, proved, spent, gave_all, kept_all, filled, FoundProof, SearchState}
+use Rattle.std.specs.Option.{option_map}
+
+abbrev pub queued_of : queued.Queued → Queued
+queued_of q = record {
+  clause = q.clause;
+  first = written_first q.first;
+  later = map later_of q.later.items;
+  input = q.input;
+  usable = q.usable;
+}
+
+-- a line's clause
+abbrev pub line_clause : Content → ClauseTree
+line_clause (Formula f label) = []
+line_clause (Clause c) = c
+
+abbrev pub made_line_of : Line → MadeLine
+made_line_of l = record {
+  number = l.number;
+  clause = line_clause l.content;
+  first = written_first l.just.first;
+  later = map later_of l.just.steps.items;
+}
+
+abbrev pub found_of : found.FoundProof → FoundProof
+found_of p = record { line = p.line; given = p.given }
+
+abbrev pub reason_of : why.Reason → Reason
+reason_of Proved = proved
+reason_of Spent = spent
+reason_of GaveAll = gave_all
+reason_of KeptAll = kept_all
+reason_of Filled = filled
+
+abbrev pub state_of : Search → SearchState
+state_of s = record {
+  waiting = s.waiting.items;
+  usable = s.usable.items;
+  rules = s.rules.items;
+  queue = map queued_of s.queue.items;
+  lines = map made_line_of s.lines.items;
+  next = s.next;
+  turn = s.turn;
+  given = s.given;
+  generated = s.generated;
+  kept = s.kept;
+  large = s.large;
+  symbols = s.symbols;
+  proofs = map found_of s.proofs.items;
+  ended = option_map reason_of s.ended;
+}

@@ -1,0 +1,48 @@
+-- The clauses that turns may pick.
+use Rattle.std.specs.Prelude.{ℕ, suc, ◌≡◌, ◌+◌, ◌<◌, nat_le, Bool, true, not, if◌then◌else◌, List, Option, Some, None, filter}
+use Rattle.std.specs.Borrow.{Bor}
+use Rattle.std.specs.Option.{option_map}
+use Rattle.fol_core.specs.Literals.{ClauseTree}
+use Rattle.given_clause.specs.declared.picking.Among.{Among}
+use Rattle.given_clause.specs.declared.picking.Among.TheVariants.{All, Hinted, WithPositive, WithoutPositive}
+use Rattle.prover_steps.specs.Clashing.{Held}
+use Rattle.given_clause.specs.declared.picking.Pick.{Pick}
+use Rattle.ladr_options.specs.declared.options.Options.{Options}
+use Rattle.prover_steps.specs.Picking.{Picked, has_positive, lightest, turn_at, turns_of}
+use Rattle.prover_steps.specs.Searching.{Setting}
+
+abbrev pub counts_among : Setting → Among → ClauseTree → Bool
+counts_among st All c = true
+counts_among st Hinted c = st.is_hinted c
+counts_among st WithPositive c = has_positive c
+counts_among st WithoutPositive c = not (has_positive c)
+
+-- the first of the lightest ones of some
+abbrev pub lightest_among : Setting → Among → List Held → Option Held
+lightest_among st a hs = lightest st.weight (filter (λ h. counts_among st a h.clause) hs)
+
+-- a clause with its weight, as lent; the best one so far, if there is one
+abbrev pub best_of : Bor Held × ℕ → Picked
+best_of p = (p.0.now, p.1)
+
+abbrev pub best_so_far : Option (Bor Held × ℕ) → Option Picked
+best_so_far best = option_map best_of best
+
+-- the lighter one of it and the next
+abbrev pub lighter_next : Option Picked → Picked → Picked
+lighter_next None p = p
+lighter_next (Some b) p = if nat_le b.1 p.1 then b else p
+
+abbrev pub best_next : Setting → Among → Option Picked → Held → Option Picked
+best_next st a best h =
+    if counts_among st a h.clause then Some (lighter_next best (h, st.weight h.clause)) else best
+
+-- so many turns from a place on are of one kind, and none of them but the last is the last of all
+abbrev pub IsRun : Options → ℕ → ℕ → Type 0
+IsRun o n d =
+    (0 < d) × ((m : ℕ) → m < d → (turn_at o (n + m) ≡ turn_at o n)
+    × (suc (n + m) ≡ turns_of o → suc m ≡ d))
+
+-- a clause with the place of the next turn, as lent
+abbrev pub pick_of : Pick → Picked
+pick_of p = (p.held.now, p.turn)

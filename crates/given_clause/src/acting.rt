@@ -1,0 +1,251 @@
+// What a clause that is kept does to others.
+ghost use Rattle.std.specs.Prelude.{◌≡◌, ◌++◌, [], ◌∷◌, not, ◌&&◌, IfOk, OnOk, map};
+ghost use Rattle.std.specs.List.{list_any};
+ghost use Rattle.std.specs.Option.{option_map};
+ghost use Rattle.derivation.specs.Later.{is_unit};
+ghost use Rattle.given_clause.specs.Acting.{acts_on, word_for, conflicts_with, first_in};
+ghost use Rattle.given_clause.specs.States.{queued_of, state_of};
+ghost use Rattle.held_clauses.specs.Holding.{lent};
+ghost use Rattle.prover_steps.specs.Clashing.{is_same_held};
+ghost use Rattle.prover_steps.specs.HeldOrder.{IsInOrder};
+ghost use Rattle.prover_steps.specs.Searching.{all_held, others_held, retires, puts_back, queued_back, unit_meets};
+ghost use Rattle.prover_steps.specs.Shortening.{denies};
+ghost use Rattle.resolution.specs.View.{conclusion_of};
+
+use crate::keeping::{add_proof, keep_line};
+use crate::lists::{leave_out, merged};
+use crate::state::{Queued, Search};
+use demodulate::{denies, rewrites_clause};
+use derivation::First;
+use fol_core::Clause;
+use held_clauses::Held;
+use prover_steps::clauses_stay_in_order;
+use resolution::{Conclusion, add_resolvent};
+use std::alloc::{AllocError, Global};
+use std::collections::VecDeque;
+use subsume::subsumes;
+
+/// It subsumes them, deletes a literal of them, or rewrites them.
+#[derive(Clone, Copy, Debug, PartialEq, Eq)]
+pub enum Act {
+    Subsumes,
+    Deletes,
+    Rewrites,
+}
+
+/// Whether a clause is a unit.
+pub fn is_unit(clause: &Clause) -> bool
+    ensures { result ≡ is_unit clause.now }
+{
+    clause.len() == 1
+}
+
+/// The clauses that wait and those in use, by their numbers.
+pub fn all_held(alloc: Global, search: &Search) -> Result<Vec<&Held>, AllocError>
+    requires { IsInOrder (state_of search.now) }
+    ensures { IfOk result (λ hs. lent hs.items ≡ all_held (state_of search.now)) }
+{
+    clauses_stay_in_order();
+    merged(alloc, search.waiting.as_slice(), search.usable.as_slice())
+}
+
+// Whether a unit denies a literal of a clause.
+#[tactic(auto, using(crate::proofs::Tests::literal_here, crate::proofs::Tests::literal_behind, crate::proofs::Tests::literal_end))]
+fn denies_some(alloc: Global, unit: &Held, clause: &Clause) -> Result<bool, AllocError>
+    ensures { IfOk result (λ b. b ≡ list_any (denies unit.now) clause.now) }
+{
+    for literal in clause.as_slice() {
+        if denies(alloc, unit, literal)? {
+            return Ok(true);
+        }
+    }
+    Ok(false)
+}
+
+// Whether a clause does so to another one.
+fn acts_on(alloc: Global, act: Act, held: &Held, clause: &Clause) -> Result<bool, AllocError>
+    ensures { IfOk result (λ b. b ≡ acts_on act held.now clause.now) }
+{
+    match act {
+        Act::Subsumes => subsumes(alloc, held.clause(), clause),
+        Act::Deletes => denies_some(alloc, held, clause),
+        Act::Rewrites => rewrites_clause(alloc, held, clause),
+    }
+}
+
+// Whether it does so to another clause that is held, and not to itself.
+fn acts_on_other(alloc: Global, act: Act, held: &Held, other: &Held) -> Result<bool, AllocError>
+    ensures { IfOk result (λ b. b ≡ (not (is_same_held held.now other.now)
+        && acts_on act held.now other.now.clause)) }
+{
+    if held.number() == other.number() {
+        return Ok(false);
+    }
+    acts_on(alloc, act, held, other.clause())
+}
+
+// Copies of the clauses that are held to which another one does so, it itself left out.
+fn others_held(
+    alloc: Global,
+    act: Act,
+    search: &Search,
+    held: &Held,
+) -> Result<Vec<Held>, AllocError>
+    requires { IsInOrder (state_of search.now) }
+    ensures { IfOk result (λ hs. hs.items ≡ others_held held.now (acts_on act held.now)
+        (state_of search.now)) }
+{
+    let all = all_held(alloc, search)?;
+    let mut others = Vec::new(alloc);
+    for other in &all {
+        if acts_on_other(alloc, act, held, other)? {
+            others.push(other.copy(alloc)?)?;
+        }
+    }
+    Ok(others)
+}
+
+// Clauses are retired.
+fn retire(gone: &[Held], search: &mut Search)
+    ensures { state_of search.new ≡ retires gone.now (state_of search.old) }
+{
+    leave_out(gone, &mut search.waiting);
+    leave_out(gone, &mut search.usable);
+    leave_out(gone, &mut search.rules);
+}
+
+// A clause that is put back, with the word for it.
+fn queued_back(alloc: Global, act: Act, held: Held) -> Result<Queued, AllocError>
+    ensures { IfOk result (λ q. queued_of q ≡ queued_back (word_for act) held) }
+{
+    let Held { number, clause } = held;
+    let first = match act {
+        Act::Subsumes => First::Copy(number),
+        Act::Deletes => First::BackUnitDel(number),
+        Act::Rewrites => First::BackRewrite(number),
+    };
+    Ok(Queued {
+        clause,
+        first,
+        later: Vec::new(alloc),
+        input: None,
+        usable: false,
+    })
+}
+
+// Clauses that are put back, in their order.
+fn all_queued_back(
+    alloc: Global,
+    act: Act,
+    mut gone: Vec<Held>,
+) -> Result<VecDeque<Queued>, AllocError>
+    ensures { IfOk result (λ qs. map queued_of qs.items
+        ≡ map (queued_back (word_for act)) gone.items) }
+{
+    let mut back = VecDeque::new(alloc);
+    while let Some(held) = gone.pop() {
+        back.push_front(queued_back(alloc, act, held)?)?;
+    }
+    Ok(back)
+}
+
+// Clauses are queued behind all others.
+fn queue_back(
+    alloc: Global,
+    act: Act,
+    gone: Vec<Held>,
+    search: &mut Search,
+) -> Result<(), AllocError>
+    ensures { OnOk result (state_of search.new ≡ record (state_of search.old) {
+      queue = (state_of search.old).queue ++ map (queued_back (word_for act)) gone.items;
+    }) }
+{
+    let mut back = all_queued_back(alloc, act, gone)?;
+    search.queue.append(&mut back)
+}
+
+/// Those that a clause subsumes are retired.
+pub fn subsume_back(alloc: Global, search: &mut Search, held: &Held) -> Result<(), AllocError>
+    requires { IsInOrder (state_of search.old) }
+    ensures { OnOk result (state_of search.new ≡ retires (others_held held.now
+        (acts_on Act.Subsumes held.now) (state_of search.old)) (state_of search.old)) }
+{
+    let gone = others_held(alloc, Act::Subsumes, search, held)?;
+    retire(gone.as_slice(), search);
+    Ok(())
+}
+
+/// Those from which it deletes a literal, or that it rewrites, are put back.
+pub fn put_back(alloc: Global, act: Act, search: &mut Search, held: &Held) -> Result<(), AllocError>
+    requires { IsInOrder (state_of search.old) }
+    ensures { OnOk result (state_of search.new ≡ puts_back (word_for act) (others_held held.now
+        (acts_on act held.now) (state_of search.old)) (state_of search.old)) }
+{
+    let gone = others_held(alloc, act, search, held)?;
+    retire(gone.as_slice(), search);
+    queue_back(alloc, act, gone, search)
+}
+
+// What a clause makes of another one, if that is a unit.
+fn conflict_with(alloc: Global, unit: &Held, held: &Held) -> Result<Option<Conclusion>, AllocError>
+    ensures { IfOk result (λ o. option_map conclusion_of o
+        ≡ first_in (conflicts_with (unit.now ∷ []) held.now)) }
+{
+    if !is_unit(unit.clause()) {
+        return Ok(None);
+    }
+    let mut made = Vec::new(alloc);
+    add_resolvent(alloc, held, 0, unit, 0, &mut made)?;
+    Ok(made.pop())
+}
+
+// What a clause makes of the first unit with which it makes something.
+#[tactic(auto, using(crate::proofs::Conflicts::conflict_here, crate::proofs::Conflicts::conflict_behind, crate::proofs::Conflicts::conflict_end))]
+fn first_conflict(
+    alloc: Global,
+    units: &[&Held],
+    held: &Held,
+) -> Result<Option<Conclusion>, AllocError>
+    ensures { IfOk result (λ o. option_map conclusion_of o
+        ≡ first_in (conflicts_with (lent units.now) held.now)) }
+{
+    for unit in units {
+        if let Some(conclusion) = conflict_with(alloc, unit, held)? {
+            return Ok(Some(conclusion));
+        }
+    }
+    Ok(None)
+}
+
+// What a clause makes of the first unit that is held with which it makes something.
+fn conflict(alloc: Global, search: &Search, held: &Held) -> Result<Option<Conclusion>, AllocError>
+    requires { IsInOrder (state_of search.now) }
+    ensures { IfOk result (λ o. option_map conclusion_of o
+        ≡ first_in (conflicts_with (all_held (state_of search.now)) held.now)) }
+{
+    let units = all_held(alloc, search)?;
+    first_conflict(alloc, units.as_slice(), held)
+}
+
+/// A unit gives a proof with the first unit that is opposite and unifies.
+pub fn meet_units(alloc: Global, search: &mut Search, held: &Held) -> Result<(), AllocError>
+    requires { IsInOrder (state_of search.old) }
+    ensures { OnOk result (state_of search.new ≡ unit_meets (state_of search.old) held.now) }
+{
+    if !is_unit(held.clause()) {
+        return Ok(());
+    }
+    let Some(Conclusion { clause, first }) = conflict(alloc, search, held)? else {
+        return Ok(());
+    };
+    let number = search.next;
+    let queued = Queued {
+        clause,
+        first,
+        later: Vec::new(alloc),
+        input: None,
+        usable: false,
+    };
+    keep_line(search, queued)?;
+    add_proof(search, number)
+}

@@ -1,0 +1,76 @@
+// A clause is given.
+ghost use Rattle.std.specs.Prelude.{◌≡◌, ◌++◌, IfOk, OnOk, map, filter, not};
+ghost use Rattle.given_clause.specs.Guides.{setting_of};
+ghost use Rattle.given_clause.specs.States.{queued_of, state_of};
+ghost use Rattle.prover_steps.specs.Searching.{queued_for, gives, given_next};
+ghost use Rattle.resolution.specs.View.{conclusion_of};
+
+use crate::guide::Guide;
+use crate::keeping::{counted, counted_on};
+use crate::lists::{leave_out_one, put_in};
+use crate::picking::picked;
+use crate::state::{Queued, Reason, Search};
+use conclusions::conclusions_of;
+use held_clauses::Held;
+use resolution::Conclusion;
+use std::alloc::{AllocError, Global};
+use std::collections::VecDeque;
+
+// Conclusions, queued in their order.
+fn queued_all(alloc: Global, mut new: Vec<Conclusion>) -> Result<VecDeque<Queued>, AllocError>
+    ensures { IfOk result (λ qs. map queued_of qs.items
+        ≡ map queued_for (map conclusion_of new.items)) }
+{
+    let mut queue = VecDeque::new(alloc);
+    while let Some(Conclusion { clause, first }) = new.pop() {
+        queue.push_front(Queued {
+            clause,
+            first,
+            later: Vec::new(alloc),
+            input: None,
+            usable: false,
+        })?;
+    }
+    Ok(queue)
+}
+
+// A clause is in use, and its conclusions are queued.
+fn give(
+    alloc: Global,
+    guide: &Guide<'_>,
+    search: &mut Search,
+    given: Held,
+) -> Result<(), AllocError>
+    ensures { OnOk result (state_of search.new ≡ gives (setting_of guide.now)
+        (state_of search.old) given) }
+{
+    let number = given.number();
+    put_in(given.copy(alloc)?, &mut search.usable)?;
+    let usable = search.usable.as_slice();
+    let new = conclusions_of(alloc, &guide.rules, &guide.precedence, usable, &given)?;
+    leave_out_one(number, &mut search.waiting);
+    search.given = counted(search.given, 1)?;
+    search.generated = counted_on(search.generated, new.len() as u64);
+    search.queue = queued_all(alloc, new)?;
+    Ok(())
+}
+
+/// Where the queue is empty: none waits, or as many as are allowed were given, or one is picked.
+pub fn give_next(alloc: Global, guide: &Guide<'_>, search: &mut Search) -> Result<(), AllocError>
+    ensures { OnOk result (state_of search.new ≡ given_next (setting_of guide.now)
+        (state_of search.old)) }
+{
+    let Some(pick) = picked(alloc, guide, search.waiting.as_slice(), search.turn)? else {
+        search.ended = Some(Reason::Spent);
+        return Ok(());
+    };
+    if u64::from(guide.options.max_given) <= search.given {
+        search.ended = Some(Reason::GaveAll);
+        return Ok(());
+    }
+    let turn = pick.turn;
+    let given = pick.held.copy(alloc)?;
+    give(alloc, guide, search, given)?;
+    search.turn = turn;
+    Ok(())
+}

@@ -1,0 +1,131 @@
+// Lines, proofs, and clauses that are kept.
+ghost use Rattle.std.specs.Prelude.{◌≡◌, ◌+◌, ◌++◌, ◌∷◌, [], suc, false, IfOk, OnOk, map};
+ghost use Rattle.derivation.specs.View.{later_of};
+ghost use Rattle.given_clause.specs.States.{queued_of, state_of};
+ghost use Rattle.proof_words.specs.Written.{written_first};
+ghost use Rattle.prover_steps.specs.Searching.{counted_on, is_unchanged, number_for, with_line, with_proof, held_for, keeps, is_too_large};
+
+use crate::lists::put_in;
+use crate::state::{FoundProof, Queued, Search};
+use derivation::{Content, First, Just, Later, Line};
+use fol_core::Clause;
+use held_clauses::{Held, clause_size};
+use std::alloc::{AllocError, Global};
+
+/// A number and so many more.
+pub fn counted(n: u64, more: u64) -> Result<u64, AllocError>
+    ensures { IfOk result (λ sum. sum ≡ n + more) }
+{
+    n.checked_add(more).ok_or(AllocError)
+}
+
+/// The same of a counter that stops at its end.
+pub fn counted_on(n: u64, more: u64) -> u64
+    ensures { result ≡ counted_on n more }
+{
+    n.saturating_add(more)
+}
+
+// A line under the next number.
+fn add_line(
+    search: &mut Search,
+    clause: Clause,
+    first: First,
+    later: Vec<Later>,
+) -> Result<(), AllocError>
+    ensures { OnOk result (state_of search.new ≡ record (state_of search.old) {
+      lines = (state_of search.old).lines ++ record {
+        number = search.old.next;
+        clause = clause;
+        first = written_first first;
+        later = map later_of later.items;
+      } ∷ [];
+      next = suc search.old.next;
+    }) }
+{
+    let number = search.next;
+    search.next = counted(number, 1)?;
+    let content = Content::Clause(clause);
+    let just = Just {
+        first,
+        steps: later,
+    };
+    search.lines.push(Line {
+        number,
+        content,
+        just,
+    })?;
+    Ok(())
+}
+
+// Whether an input clause was left as it was.
+fn is_unchanged(queued: &Queued) -> bool
+    ensures { result ≡ is_unchanged (queued_of queued.now) }
+{
+    queued.input.is_some() && queued.later.is_empty()
+}
+
+/// The number of a clause that was processed.
+pub fn number_for(search: &Search, queued: &Queued) -> u64
+    ensures { result ≡ number_for (state_of search.now) (queued_of queued.now) }
+{
+    match queued.input {
+        Some(number) if queued.later.is_empty() => number,
+        _ => search.next,
+    }
+}
+
+/// Its line, unless it has one.
+pub fn keep_line(search: &mut Search, queued: Queued) -> Result<(), AllocError>
+    ensures { OnOk result (state_of search.new ≡ with_line (state_of search.old)
+        (queued_of queued)) }
+{
+    if is_unchanged(&queued) {
+        return Ok(());
+    }
+    let Queued {
+        clause,
+        first,
+        later,
+        ..
+    } = queued;
+    add_line(search, clause, first, later)
+}
+
+/// A proof whose last line has this number.
+pub fn add_proof(search: &mut Search, line: u64) -> Result<(), AllocError>
+    ensures { OnOk result (state_of search.new ≡ with_proof line (state_of search.old)) }
+{
+    let given = search.given;
+    search.proofs.push(FoundProof { line, given })?;
+    Ok(())
+}
+
+/// A clause is kept: it waits, or is in use at once.
+pub fn keep(search: &mut Search, held: Held, usable: bool) -> Result<(), AllocError>
+    requires { is_too_large held.clause ≡ false }
+    ensures { OnOk result (state_of search.new ≡ keeps (state_of search.old) held usable) }
+{
+    search.kept = counted(search.kept, 1)?;
+    search.symbols = counted(search.symbols, clause_size(held.clause()))?;
+    if usable {
+        put_in(held, &mut search.usable)
+    } else {
+        put_in(held, &mut search.waiting)
+    }
+}
+
+/// A clause that was processed is kept under its number, with its line.
+pub fn keep_queued(alloc: Global, search: &mut Search, queued: Queued) -> Result<Held, AllocError>
+    requires { is_too_large queued.clause ≡ false }
+    ensures held { IfOk result (λ h. h ≡ held_for (state_of search.old) (queued_of queued)) }
+    ensures kept { OnOk result (state_of search.new ≡ keeps (with_line (state_of search.old)
+        (queued_of queued)) (held_for (state_of search.old) (queued_of queued)) queued.usable) }
+{
+    let number = number_for(search, &queued);
+    let held = Held::new(number, queued.clause.copy(alloc)?);
+    let usable = queued.usable;
+    keep_line(search, queued)?;
+    keep(search, held.copy(alloc)?, usable)?;
+    Ok(held)
+}

@@ -1,0 +1,256 @@
+// Which clause is given next.
+ghost use Rattle.std.specs.Prelude.{◌≡◌, ◌+◌, ◌==◌, if◌then◌else◌, IfOk};
+ghost use Rattle.std.specs.Option.{option_map};
+ghost use Rattle.given_clause.specs.Guides.{setting_of};
+ghost use Rattle.given_clause.specs.Turns.{counts_among, lightest_among, best_of, best_so_far, lighter_next, best_next, IsRun, pick_of};
+ghost use Rattle.prover_steps.specs.Picking.{has_positive, lightest, picked, picked_at, picked_from, turn_at, turns_of};
+
+use crate::guide::Guide;
+use fol_core::Clause;
+use held_clauses::Held;
+use ladr_options::Options;
+use std::alloc::{AllocError, Global};
+
+/// All clauses, those that match a hint, those with a positive literal, or those without.
+#[derive(Clone, Copy, Debug, PartialEq, Eq)]
+pub enum Among {
+    All,
+    Hinted,
+    WithPositive,
+    WithoutPositive,
+}
+
+/// A clause with the place of the next turn.
+#[derive(Clone, Copy)]
+pub struct Pick<'a> {
+    pub held: &'a Held,
+    pub turn: u64,
+}
+
+// Whether a clause has a positive literal.
+#[tactic(auto, using(crate::proofs::Tests::literal_here, crate::proofs::Tests::literal_behind, crate::proofs::Tests::literal_end))]
+fn has_positive(clause: &Clause) -> bool
+    ensures { result ≡ has_positive clause.now }
+{
+    for literal in clause.as_slice() {
+        if literal.positive {
+            return true;
+        }
+    }
+    false
+}
+
+// Whether a clause is one of those.
+fn counts_among(
+    alloc: Global,
+    guide: &Guide<'_>,
+    among: Among,
+    clause: &Clause,
+) -> Result<bool, AllocError>
+    ensures { IfOk result (λ b. b ≡ counts_among (setting_of guide.now) among clause.now) }
+{
+    match among {
+        Among::All => Ok(true),
+        Among::Hinted => guide.weights.is_hinted(alloc, clause),
+        Among::WithPositive => Ok(has_positive(clause)),
+        Among::WithoutPositive => Ok(!has_positive(clause)),
+    }
+}
+
+// The lighter one of the best clause so far and the next; of equal ones the first.
+fn lighter<'a>(best: Option<(&'a Held, u64)>, held: &'a Held, weight: u64) -> (&'a Held, u64)
+    ensures { best_of result ≡ lighter_next (best_so_far best.entry) (held.now, weight) }
+{
+    match best {
+        None => (held, weight),
+        Some((before, least)) => {
+            if least <= weight {
+                (before, least)
+            } else {
+                (held, weight)
+            }
+        }
+    }
+}
+
+// The best clause with the next one, if that is one of those.
+fn best_with<'a>(
+    alloc: Global,
+    guide: &Guide<'_>,
+    among: Among,
+    best: Option<(&'a Held, u64)>,
+    held: &'a Held,
+) -> Result<Option<(&'a Held, u64)>, AllocError>
+    ensures { IfOk result (λ o. best_so_far o
+        ≡ best_next (setting_of guide.now) among (best_so_far best.entry) held.now) }
+{
+    if !counts_among(alloc, guide, among, held.clause())? {
+        return Ok(best);
+    }
+    let weight = guide.weights.weight_of(alloc, held.clause())?;
+    Ok(Some(lighter(best, held, weight)))
+}
+
+// The first of the lightest ones of those.
+#[tactic(auto, using(crate::proofs::Lightest::best_more, crate::proofs::Lightest::best_all))]
+fn lightest_among<'a>(
+    alloc: Global,
+    guide: &Guide<'_>,
+    among: Among,
+    waiting: &'a [Held],
+) -> Result<Option<&'a Held>, AllocError>
+    ensures { IfOk result (λ o. option_map (λ h. h.now) o
+        ≡ lightest_among (setting_of guide.now) among waiting.now) }
+{
+    let mut best: Option<(&Held, u64)> = None;
+    for held in waiting {
+        best = best_with(alloc, guide, among, best, held)?;
+    }
+    match best {
+        None => Ok(None),
+        Some((held, _)) => Ok(Some(held)),
+    }
+}
+
+// The first of the lightest ones of all.
+fn lightest_of_all<'a>(
+    alloc: Global,
+    guide: &Guide<'_>,
+    waiting: &'a [Held],
+) -> Result<Option<&'a Held>, AllocError>
+    ensures { IfOk result (λ o. option_map (λ h. h.now) o
+        ≡ lightest (setting_of guide.now).weight waiting.now) }
+{
+    lightest_among(alloc, guide, Among::All, waiting)
+}
+
+// How many turns there are.
+fn turns_of(options: &Options) -> u64
+    ensures { result ≡ turns_of options.now }
+{
+    u64::from(options.age_part)
+        + (u64::from(options.weight_part)
+            + (u64::from(options.false_part) + u64::from(options.true_part)))
+}
+
+// The place behind the turns by age.
+fn behind_age(options: &Options) -> u64
+    ensures { result ≡ options.now.age_part }
+{
+    u64::from(options.age_part)
+}
+
+// The place behind those by weight.
+fn behind_weight(options: &Options) -> u64
+    ensures { result ≡ options.now.age_part + options.now.weight_part }
+{
+    u64::from(options.age_part) + u64::from(options.weight_part)
+}
+
+// The place behind those of clauses without a positive literal.
+fn behind_falsity(options: &Options) -> u64
+    ensures { result ≡ options.now.age_part + (options.now.weight_part + options.now.false_part) }
+{
+    u64::from(options.age_part) + (u64::from(options.weight_part) + u64::from(options.false_part))
+}
+
+// How many turns of one kind there are from a place on.
+fn run_from(options: &Options, n: u64) -> u64
+    ensures { IsRun options.now n result }
+{
+    let age = u64::from(options.age_part);
+    let weight = age + u64::from(options.weight_part);
+    let of_false = weight + u64::from(options.false_part);
+    let of_true = of_false + u64::from(options.true_part);
+    if n < age {
+        age - n
+    } else if n < weight {
+        weight - n
+    } else if n < of_false {
+        of_false - n
+    } else if n < of_true {
+        of_true - n
+    } else {
+        1
+    }
+}
+
+// The clause that a turn picks, if it has one.
+fn picked_at<'a>(
+    alloc: Global,
+    guide: &Guide<'_>,
+    waiting: &'a [Held],
+    n: u64,
+) -> Result<Option<&'a Held>, AllocError>
+    ensures { IfOk result (λ o. option_map (λ h. h.now) o
+        ≡ picked_at (setting_of guide.now).weight waiting.now (turn_at guide.now.options n)) }
+{
+    if n < behind_age(&guide.options) {
+        Ok(waiting.first())
+    } else if n < behind_weight(&guide.options) {
+        lightest_of_all(alloc, guide, waiting)
+    } else if n < behind_falsity(&guide.options) {
+        lightest_among(alloc, guide, Among::WithoutPositive, waiting)
+    } else {
+        lightest_among(alloc, guide, Among::WithPositive, waiting)
+    }
+}
+
+// The place behind a run of turns, the first one behind the last.
+fn place_behind(options: &Options, n: u64, run: u64) -> Result<u64, AllocError>
+    ensures { IfOk result (λ m. m ≡ (if n + run == turns_of options.now then 0 else n + run)) }
+{
+    let place = n.checked_add(run).ok_or(AllocError)?;
+    if place == turns_of(options) {
+        Ok(0)
+    } else {
+        Ok(place)
+    }
+}
+
+// Of the turns from a place on, once around, the first that has a clause: where one has none, those of its kind have none.
+fn picked_from<'a>(
+    alloc: Global,
+    guide: &Guide<'_>,
+    waiting: &'a [Held],
+    turn: u64,
+) -> Result<Option<Pick<'a>>, AllocError>
+    ensures { IfOk result (λ o. option_map pick_of o ≡ picked_from guide.now.options
+        (setting_of guide.now).weight waiting.now (turns_of guide.now.options) turn) }
+{
+    let mut left = turns_of(&guide.options);
+    let mut n = turn;
+    while left > 0 {
+        match picked_at(alloc, guide, waiting, n)? {
+            Some(held) => {
+                let turn = place_behind(&guide.options, n, 1)?;
+                return Ok(Some(Pick { held, turn }));
+            }
+            None => {
+                let run = run_from(&guide.options, n).min(left);
+                n = place_behind(&guide.options, n, run)?;
+                left -= run;
+            }
+        }
+    }
+    Ok(None)
+}
+
+/// The clause that is given next, with the place of the next turn; nothing where none waits.
+pub fn picked<'a>(
+    alloc: Global,
+    guide: &Guide<'_>,
+    waiting: &'a [Held],
+    turn: u64,
+) -> Result<Option<Pick<'a>>, AllocError>
+    ensures { IfOk result (λ o. option_map pick_of o ≡ picked guide.now.options
+        (setting_of guide.now).weight (setting_of guide.now).is_hinted waiting.now turn) }
+{
+    if let Some(held) = lightest_among(alloc, guide, Among::Hinted, waiting)? {
+        return Ok(Some(Pick { held, turn }));
+    }
+    if let Some(pick) = picked_from(alloc, guide, waiting, turn)? {
+        return Ok(Some(pick));
+    }
+    Ok(waiting.first().map(|held| Pick { held, turn }))
+}

@@ -1,0 +1,318 @@
+// Processing a clause of the queue.
+ghost use Rattle.std.specs.Prelude.{◌≡◌, ◌∷◌, [], false, IfOk, OnOk};
+ghost use Rattle.std.specs.List.{AllByRecursion, list_any};
+ghost use Rattle.std.specs.Option.{option_map};
+ghost use Rattle.given_clause.specs.Guides.{setting_of};
+ghost use Rattle.given_clause.specs.States.{queued_of, reason_of, state_of};
+ghost use Rattle.prover_steps.specs.HeldOrder.{IsInOrder, IsNoRuleIn, IsUnusedIn, input_numbers};
+ghost use Rattle.prover_steps.specs.Searching.{all_held, tidied, is_too_large, is_too_heavy, is_no_use, has_proofs, becomes_rule, limit_reached, deletes_back, rewrites_back, rules_back, works_back, after_kept, settled, processed, under_limits, counted_on, subsumes_back};
+ghost use Rattle.prover_steps.specs.Subsuming.{subsumes};
+
+use crate::acting::{Act, all_held, is_unit, meet_units, put_back, subsume_back};
+use crate::guide::Guide;
+use crate::keeping::{add_proof, counted_on, keep_line, keep_queued, number_for};
+use crate::lists::put_in;
+use crate::state::{Queued, Reason, Search};
+use demodulate::{Tidied, tidy};
+use fol_core::Clause;
+use held_clauses::{Held, is_too_large};
+use paramod::is_oriented;
+use prover_steps::steps_keep_order;
+use std::alloc::{AllocError, Global};
+use subsume::{is_tautology, subsumes};
+
+// A clause of the queue rewritten and put in order.
+fn tidied(
+    alloc: Global,
+    guide: &Guide<'_>,
+    search: &Search,
+    queued: Queued,
+) -> Result<Queued, AllocError>
+    requires { IsInOrder (state_of search.now) }
+    ensures tidied { IfOk result (λ q. queued_of q ≡ tidied (setting_of guide.now)
+        (state_of search.now) (queued_of queued)) }
+    ensures small { is_too_large queued.clause ≡ false
+        → IfOk result (λ q. is_too_large q.clause ≡ false) }
+{
+    let Queued {
+        clause,
+        first,
+        input,
+        usable,
+        ..
+    } = queued;
+    let held = all_held(alloc, search)?;
+    let Tidied { clause, words } = tidy(
+        alloc,
+        &guide.precedence,
+        &guide.options,
+        search.rules.as_slice(),
+        held.as_slice(),
+        clause,
+    )?;
+    Ok(Queued {
+        clause,
+        first,
+        later: words,
+        input,
+        usable,
+    })
+}
+
+// Whether one of some clauses subsumes another one.
+#[tactic(auto, using(crate::proofs::Tests::some_here, crate::proofs::Tests::some_behind, crate::proofs::Tests::some_end))]
+fn is_subsumed(alloc: Global, held: &[Held], clause: &Clause) -> Result<bool, AllocError>
+    ensures { IfOk result (λ b. b ≡ list_any (λ h. subsumes h.clause clause.now) held.now) }
+{
+    for one in held {
+        if subsumes(alloc, one.clause(), clause)? {
+            return Ok(true);
+        }
+    }
+    Ok(false)
+}
+
+// Whether one of the clauses that are held subsumes another one.
+#[tactic(auto, using(crate::proofs::Settling::some_held))]
+fn is_subsumed_by_held(alloc: Global, search: &Search, clause: &Clause) -> Result<bool, AllocError>
+    ensures { IfOk result (λ b. b ≡ list_any (λ h. subsumes h.clause clause.now)
+        (all_held (state_of search.now))) }
+{
+    if is_subsumed(alloc, search.waiting.as_slice(), clause)? {
+        return Ok(true);
+    }
+    is_subsumed(alloc, search.usable.as_slice(), clause)
+}
+
+// Whether a clause weighs too much and matches no hint.
+fn is_too_heavy(alloc: Global, guide: &Guide<'_>, clause: &Clause) -> Result<bool, AllocError>
+    ensures { IfOk result (λ b. b ≡ is_too_heavy (setting_of guide.now) clause.now) }
+{
+    if guide.weights.weight_of(alloc, clause)? <= u64::from(guide.options.max_weight) {
+        return Ok(false);
+    }
+    Ok(!guide.weights.is_hinted(alloc, clause)?)
+}
+
+// Whether a clause is of no use.
+fn is_no_use(
+    alloc: Global,
+    guide: &Guide<'_>,
+    search: &Search,
+    queued: &Queued,
+) -> Result<bool, AllocError>
+    ensures { IfOk result (λ b. b ≡ is_no_use (setting_of guide.now) (state_of search.now)
+        (queued_of queued.now)) }
+{
+    let clause = &queued.clause;
+    if is_tautology(clause) {
+        return Ok(true);
+    }
+    if is_subsumed_by_held(alloc, search, clause)? {
+        return Ok(true);
+    }
+    if queued.input.is_some() {
+        return Ok(false);
+    }
+    if guide.options.sos_limit as usize <= search.waiting.len() {
+        return Ok(true);
+    }
+    is_too_heavy(alloc, guide, clause)
+}
+
+// Whether there are as many proofs as were wanted.
+fn has_proofs(guide: &Guide<'_>, search: &Search) -> bool
+    ensures { result ≡ has_proofs (setting_of guide.now) (state_of search.now) }
+{
+    guide.options.max_proofs as usize <= search.proofs.len()
+}
+
+// Whether a clause is to be a rule.
+fn becomes_rule(alloc: Global, guide: &Guide<'_>, clause: &Clause) -> Result<bool, AllocError>
+    ensures { IfOk result (λ b. b ≡ becomes_rule (setting_of guide.now).greater clause.now) }
+{
+    match clause.as_slice() {
+        [literal] if literal.positive => is_oriented(alloc, &guide.precedence, &literal.atom),
+        _ => Ok(false),
+    }
+}
+
+// Those that a clause subsumes are retired, if they are to be.
+fn subsumed_back(
+    alloc: Global,
+    guide: &Guide<'_>,
+    search: &mut Search,
+    held: &Held,
+) -> Result<(), AllocError>
+    requires { IsInOrder (state_of search.old) }
+    ensures { OnOk result (state_of search.new ≡ subsumes_back (setting_of guide.now) held.now
+        (state_of search.old)) }
+{
+    if guide.options.back_subsume {
+        subsume_back(alloc, search, held)
+    } else {
+        Ok(())
+    }
+}
+
+// A unit puts back the clauses from which it deletes a literal.
+fn delete_back(
+    alloc: Global,
+    guide: &Guide<'_>,
+    search: &mut Search,
+    held: &Held,
+) -> Result<(), AllocError>
+    requires { IsInOrder (state_of search.old) }
+    ensures { OnOk result (state_of search.new ≡ deletes_back (setting_of guide.now) held.now
+        (state_of search.old)) }
+{
+    if is_unit(held.clause()) && guide.options.unit_deletion {
+        put_back(alloc, Act::Deletes, search, held)
+    } else {
+        Ok(())
+    }
+}
+
+// A clause becomes a rule, and puts back those that it rewrites.
+fn rules_back(
+    alloc: Global,
+    guide: &Guide<'_>,
+    search: &mut Search,
+    held: &Held,
+) -> Result<(), AllocError>
+    requires ordered { IsInOrder (state_of search.old) }
+    requires no_rule { IsNoRuleIn (state_of search.old) held.now.number }
+    ensures { OnOk result (state_of search.new ≡ rules_back (setting_of guide.now) held.now
+        (state_of search.old)) }
+{
+    steps_keep_order();
+    if !becomes_rule(alloc, guide, held.clause())? {
+        return Ok(());
+    }
+    put_in(held.copy(alloc)?, &mut search.rules)?;
+    if guide.options.back_demod {
+        put_back(alloc, Act::Rewrites, search, held)
+    } else {
+        Ok(())
+    }
+}
+
+// What a clause that is kept does to others, unless as many proofs are found as were wanted.
+fn work_back(
+    alloc: Global,
+    guide: &Guide<'_>,
+    search: &mut Search,
+    held: &Held,
+) -> Result<(), AllocError>
+    requires ordered { IsInOrder (state_of search.old) }
+    requires no_rule { IsNoRuleIn (state_of search.old) held.now.number }
+    ensures { OnOk result (state_of search.new ≡ works_back (setting_of guide.now) held.now
+        (state_of search.old)) }
+{
+    steps_keep_order();
+    if has_proofs(guide, search) {
+        return Ok(());
+    }
+    subsumed_back(alloc, guide, search, held)?;
+    delete_back(alloc, guide, search, held)?;
+    rules_back(alloc, guide, search, held)
+}
+
+// A clause that is kept meets the units, and then does what it does to others.
+fn after_kept(
+    alloc: Global,
+    guide: &Guide<'_>,
+    search: &mut Search,
+    held: &Held,
+) -> Result<(), AllocError>
+    requires ordered { IsInOrder (state_of search.old) }
+    requires no_rule { IsNoRuleIn (state_of search.old) held.now.number }
+    ensures { OnOk result (state_of search.new ≡ after_kept (setting_of guide.now)
+        (state_of search.old) held.now) }
+{
+    steps_keep_order();
+    meet_units(alloc, search, held)?;
+    work_back(alloc, guide, search, held)
+}
+
+// A clause that is rewritten and in order: the empty one is a proof, one of no use is dropped, any other one is kept.
+fn settle(
+    alloc: Global,
+    guide: &Guide<'_>,
+    search: &mut Search,
+    queued: Queued,
+) -> Result<(), AllocError>
+    requires ordered { IsInOrder (state_of search.old) }
+    requires unused { AllByRecursion (IsUnusedIn (state_of search.old))
+        (input_numbers (queued_of queued ∷ [])) }
+    requires small { is_too_large queued.clause ≡ false }
+    ensures { OnOk result (state_of search.new ≡ settled (setting_of guide.now)
+        (state_of search.old) (queued_of queued)) }
+{
+    steps_keep_order();
+    if queued.clause.len() == 0 {
+        let number = number_for(search, &queued);
+        keep_line(search, queued)?;
+        return add_proof(search, number);
+    }
+    if is_no_use(alloc, guide, search, &queued)? {
+        return Ok(());
+    }
+    let held = keep_queued(alloc, search, queued)?;
+    after_kept(alloc, guide, search, &held)
+}
+
+// Processing a clause that left the queue: one that is too large is counted and dropped.
+fn process(
+    alloc: Global,
+    guide: &Guide<'_>,
+    search: &mut Search,
+    queued: Queued,
+) -> Result<(), AllocError>
+    requires ordered { IsInOrder (state_of search.old) }
+    requires unused { AllByRecursion (IsUnusedIn (state_of search.old))
+        (input_numbers (queued_of queued ∷ [])) }
+    ensures { OnOk result (state_of search.new ≡ processed (setting_of guide.now)
+        (state_of search.old) (queued_of queued)) }
+{
+    if is_too_large(&queued.clause) {
+        search.large = counted_on(search.large, 1);
+        return Ok(());
+    }
+    let queued = tidied(alloc, guide, search, queued)?;
+    settle(alloc, guide, search, queued)
+}
+
+// The limit that is reached, if one is.
+fn limit_reached(guide: &Guide<'_>, search: &Search) -> Option<Reason>
+    ensures { option_map reason_of result ≡ limit_reached (setting_of guide.now)
+        (state_of search.now) }
+{
+    if has_proofs(guide, search) {
+        Some(Reason::Proved)
+    } else if u64::from(guide.options.max_kept) <= search.kept {
+        Some(Reason::KeptAll)
+    } else if u64::from(guide.options.max_megs) * 65_536 <= search.symbols {
+        Some(Reason::Filled)
+    } else {
+        None
+    }
+}
+
+/// Processes a clause that left the queue, and tests the limits.
+pub fn process_under_limits(
+    alloc: Global,
+    guide: &Guide<'_>,
+    search: &mut Search,
+    queued: Queued,
+) -> Result<(), AllocError>
+    requires ordered { IsInOrder (state_of search.old) }
+    requires unused { AllByRecursion (IsUnusedIn (state_of search.old))
+        (input_numbers (queued_of queued ∷ [])) }
+    ensures { OnOk result (state_of search.new ≡ under_limits (setting_of guide.now)
+        (processed (setting_of guide.now) (state_of search.old) (queued_of queued))) }
+{
+    process(alloc, guide, search, queued)?;
+    search.ended = limit_reached(guide, search);
+    Ok(())
+}

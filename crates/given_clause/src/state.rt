@@ -1,0 +1,54 @@
+// Where a search stands.
+use derivation::{First, Later, Line};
+use fol_core::Clause;
+use held_clauses::Held;
+use std::collections::VecDeque;
+
+/// A clause in the queue with its words. An input clause has its number, and whether it is to be used at once.
+#[derive(Drop)]
+pub struct Queued {
+    pub clause: Clause,
+    pub first: First,
+    pub later: Vec<Later>,
+    pub input: Option<u64>,
+    pub usable: bool,
+}
+
+/// Why a search ended: there are as many proofs as were wanted; none waits; as many clauses were given, or kept, as are
+/// allowed; or as many symbols were kept.
+#[derive(Clone, Copy, Debug, PartialEq, Eq)]
+pub enum Reason {
+    Proved,
+    Spent,
+    GaveAll,
+    KeptAll,
+    Filled,
+}
+
+/// A proof: the number of its last line, and how many clauses had been given by then.
+#[derive(Clone, Copy, Debug)]
+pub struct FoundProof {
+    pub line: u64,
+    pub given: u64,
+}
+
+/// The clauses that wait, those in use and the rules, by their numbers; the queue; the lines that were made, and the next number;
+/// the place of the next turn; how many clauses were given, concluded, kept and too large, and how many symbols kept; the proofs;
+/// and why the search ended, if it did.
+#[derive(Drop)]
+pub struct Search {
+    pub waiting: Vec<Held>,
+    pub usable: Vec<Held>,
+    pub rules: Vec<Held>,
+    pub queue: VecDeque<Queued>,
+    pub lines: Vec<Line>,
+    pub next: u64,
+    pub turn: u64,
+    pub given: u64,
+    pub generated: u64,
+    pub kept: u64,
+    pub large: u64,
+    pub symbols: u64,
+    pub proofs: Vec<FoundProof>,
+    pub ended: Option<Reason>,
+}

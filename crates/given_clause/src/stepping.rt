@@ -1,0 +1,30 @@
+// One step of a search.
+ghost use Rattle.std.specs.Prelude.{◌≡◌, OnOk};
+ghost use Rattle.given_clause.specs.Guides.{setting_of};
+ghost use Rattle.given_clause.specs.States.{state_of};
+ghost use Rattle.prover_steps.specs.HeldOrder.{IsInOrder};
+ghost use Rattle.prover_steps.specs.Searching.{next_state};
+
+use crate::giving::give_next;
+use crate::guide::Guide;
+use crate::processing::process_under_limits;
+use crate::state::Search;
+use prover_steps::steps_keep_order;
+use std::alloc::{AllocError, Global};
+
+/// A clause that is queued is processed, and the limits are tested; where none is, one is given. A search that has ended stays
+/// as it is.
+pub fn step(alloc: Global, guide: &Guide<'_>, search: &mut Search) -> Result<(), AllocError>
+    requires { IsInOrder (state_of search.old) }
+    ensures { OnOk result (state_of search.new ≡ next_state (setting_of guide.now)
+        (state_of search.old)) }
+{
+    steps_keep_order();
+    if search.ended.is_some() {
+        return Ok(());
+    }
+    match search.queue.pop_front() {
+        Some(queued) => process_under_limits(alloc, guide, search, queued),
+        None => give_next(alloc, guide, search),
+    }
+}

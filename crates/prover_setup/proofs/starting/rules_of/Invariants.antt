@@ -1,0 +1,8 @@
+-- The rules before.
+use Rattle.std.proofs.Common.{◌≡◌, take}
+use Rattle.fol_core.specs.Stated.{all_said}
+use Rattle.prover_setup.proofs.starting.rules_of.Given as goal
+use Rattle.prover_steps.specs.Starting.{rules_of}
+
+abbrev pub invariant-loop-i : goal.invariant-loop-i
+invariant-loop-i l = l.rules.items ≡ rules_of (all_said l.inputs) l.first (take l.i l.clauses)
