@@ -38,6 +38,10 @@ mace4_app =
     (number_option (codes "max_models") 109 1 2147483647))
     (number_option (codes "max_seconds") 116 0 2147483647)
 
+-- prover9 [-t S]
+unfoldable pub prover9_app : App
+prover9_app = taking (new_app (codes "prover9")) (number_option (codes "max_seconds") 116 0 2147483647)
+
 -- the program without its commands: the words come without its name, help and version are no words
 -- of it, and one of its commands has to be named
 unfoldable pub bare_app : App
@@ -54,9 +58,10 @@ bare_app = record {
 
 -- the program
 unfoldable pub ladr_app : App
-ladr_app = having (having (having bare_app check_app) clausetester_app) mace4_app
+ladr_app =
+    having (having (having (having bare_app check_app) clausetester_app) mace4_app) prover9_app
 
 -- what a proof opens to compute with the program's command
 unfoldable pub ladr_on_literals : ⊤
-unfolding number_option taking having check_app clausetester_app mace4_app bare_app ladr_app
+unfolding number_option taking having check_app clausetester_app mace4_app prover9_app bare_app ladr_app
 ladr_on_literals = tt

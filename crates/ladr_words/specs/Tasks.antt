@@ -8,7 +8,7 @@ use Rattle.clap.specs.Faults.{fault_of}
 use Rattle.clap.specs.ValueTests.{is_unsigned_in}
 use Rattle.ladr_words.specs.Commands.{ladr_app}
 use Rattle.ladr_words.specs.declared.task.Task.{Task}
-use Rattle.ladr_words.specs.declared.task.Task.TheVariants.{Check, Clausetester, Mace4}
+use Rattle.ladr_words.specs.declared.task.Task.TheVariants.{Check, Clausetester, Mace4, Prover9}
 use Rattle.ladr_words.specs.declared.task.ModelOptions.{ModelOptions}
 
 -- the number that a text writes in decimal digits, with a plus before them or not; it has at most
@@ -38,12 +38,17 @@ model_options rows = record {
   max_seconds = number_within (codes "max_seconds") 0 2147483647 rows;
 }
 
+-- the seconds of a search for proofs, where they are given
+abbrev pub prover_seconds : List Row → Option ℕ
+prover_seconds rows = number_within (codes "max_seconds") 0 2147483647 rows
+
 -- the task of a command's name and of what clap found of its arguments
 abbrev pub task_named : List ℕ → List Row → Option Task
 task_named name rows =
     if bytes_eq name (codes "check") then Some Check
     else (if bytes_eq name (codes "clausetester") then Some Clausetester
-    else (if bytes_eq name (codes "mace4") then Some (Mace4 (model_options rows)) else None))
+    else (if bytes_eq name (codes "mace4") then Some (Mace4 (model_options rows))
+    else (if bytes_eq name (codes "prover9") then Some (Prover9 (prover_seconds rows)) else None)))
 
 -- the task of the words: none where clap has an error for them
 unfoldable pub task_of : List (List ℕ) → Option Task
@@ -63,3 +68,4 @@ HasRanges Clausetester = Unit {0}
 HasRanges (Mace4 options) =
     IsFrom 1 200 options.start_size × IsFrom 1 200 options.end_size
     × IsFrom 1 2147483647 options.max_models × IsFrom 0 2147483647 options.max_seconds
+HasRanges (Prover9 max_seconds) = IsFrom 0 2147483647 max_seconds

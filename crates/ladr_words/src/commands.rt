@@ -2,7 +2,7 @@
 ghost use Rattle.std.specs.Prelude.{◌≡◌, IfOk, false};
 ghost use Rattle.clap.specs.Words.{rule_of, app_of, shape_of};
 ghost use Rattle.clap.specs.declared.builder.command.Command.TheViews.{out-Command};
-ghost use Rattle.ladr_words.specs.Commands.{number_option, bare_app, check_app, clausetester_app, mace4_app, ladr_app, taking, having};
+ghost use Rattle.ladr_words.specs.Commands.{number_option, bare_app, check_app, clausetester_app, mace4_app, prover9_app, ladr_app, taking, having};
 
 use clap::builder::ValueParser;
 use clap::{Arg, ArgAction, Command};
@@ -88,6 +88,16 @@ fn mace4<'a>(alloc: Global) -> Result<Command<'a>, AllocError>
     Ok(command)
 }
 
+#[tactic(auto, unfolding(crate::specs::Commands::prover9_app))]
+fn prover9<'a>(alloc: Global) -> Result<Command<'a>, AllocError>
+    ensures app { IfOk result (λ c. app_of c ≡ prover9_app) }
+    ensures local { IfOk result (λ c. (out-Command c).has_globals ≡ false) }
+{
+    let command = Command::new(alloc, "prover9");
+    let command = numbered(alloc, command, "max_seconds", 't', 0, 2_147_483_647)?;
+    Ok(command)
+}
+
 // The program without its commands: the words come without its name, and help and version are no words of it.
 #[tactic(auto, unfolding(crate::specs::Commands::bare_app))]
 fn bare<'a>(alloc: Global) -> Command<'a>
@@ -109,5 +119,6 @@ pub fn ladr<'a>(alloc: Global) -> Result<Command<'a>, AllocError>
     let command = having(bare(alloc), check(alloc))?;
     let command = having(command, clausetester(alloc))?;
     let command = having(command, mace4(alloc)?)?;
+    let command = having(command, prover9(alloc)?)?;
     Ok(command)
 }

@@ -11,6 +11,7 @@ pub enum Task {
     Check,
     Clausetester,
     Mace4 { options: ModelOptions },
+    Prover9 { max_seconds: Option<u64> },
 }
 
 /// What the words set of a search for models; what they leave out is the input's to set.

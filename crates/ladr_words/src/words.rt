@@ -5,7 +5,7 @@ ghost use Rattle.clap.specs.Words.{rows_of, found_of, kind_of, fault_of, subcomm
 ghost use Rattle.clap.specs.Simple.{subcommand_rows_of};
 ghost use Rattle.clap.specs.declared.error.kind.ErrorKind.TheVariants.{OutOfMemory};
 ghost use Rattle.ladr_words.specs.Commands.{ladr_app};
-ghost use Rattle.ladr_words.specs.Tasks.{task_of, task_named, number_given, number_within, within, model_options, IsFrom, HasRanges};
+ghost use Rattle.ladr_words.specs.Tasks.{task_of, task_named, number_given, number_within, within, model_options, prover_seconds, IsFrom, HasRanges};
 
 use crate::commands::ladr;
 use crate::task::{ModelOptions, Task, WordsError};
@@ -73,6 +73,9 @@ fn task_named(name: &str, matches: &ArgMatches) -> Option<Task>
         "mace4" => Some(Task::Mace4 {
             options: model_options(matches),
         }),
+        "prover9" => Some(Task::Prover9 {
+            max_seconds: prover_seconds(matches),
+        }),
         _ => None,
     }
 }
@@ -88,6 +91,14 @@ fn model_options(matches: &ArgMatches) -> ModelOptions
         max_models: number_within(matches, "max_models", 1, 2_147_483_647),
         max_seconds: number_within(matches, "max_seconds", 0, 2_147_483_647),
     }
+}
+
+// The seconds of a search for proofs.
+fn prover_seconds(matches: &ArgMatches) -> Option<u64>
+    ensures seconds { result ≡ prover_seconds (rows_of (found_of matches.now)) }
+    ensures ranges { HasRanges (Task.Prover9 result) }
+{
+    number_within(matches, "max_seconds", 0, 2_147_483_647)
 }
 
 // The number of an option, where it is given.

@@ -1,0 +1,4 @@
+mod Demodulators
+mod Files
+mod Formulas
+mod Weights
