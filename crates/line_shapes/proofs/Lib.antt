@@ -1,0 +1,4 @@
+mod Conclusions
+mod Search
+mod Several
+mod Words

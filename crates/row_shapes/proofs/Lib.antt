@@ -1,0 +1,11 @@
+mod Atoms
+mod Counts
+mod FileNames
+mod FileRows
+mod Fit
+mod Levels
+mod Lists
+mod Numbers
+mod Read
+mod Shapes
+mod Skolems
