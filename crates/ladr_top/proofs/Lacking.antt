@@ -8,7 +8,7 @@ use Rattle.ladr_intake.specs.declared.stops.Stop.{Stop}
 use Rattle.ladr_intake.specs.declared.stops.Stop.TheVariants as stops
 use Rattle.ladr_io.proofs.StreamLaws.{Gives-none, Takes-none}
 use Rattle.ladr_io.specs.Streams.{Inflow, Outflow}
-use Rattle.ladr_top.specs.Runs.{ShowsMace4}
+use Rattle.ladr_top.specs.Runs.{ShowsMace4, ShowsProver9}
 use Rattle.ladr_words.specs.declared.task.ModelOptions.{ModelOptions}
 
 -- memory was lacking before the command began
@@ -43,4 +43,17 @@ none_accepted from to = record {
   wrote = (Takes-none to).took;
   accepted = λ k small h. absurd (none_stands h.0 _ _ h.1.1.1);
   all_accepted = λ n small h. absurd (none_stands h.0 _ _ h.1.1.1);
+}
+
+-- nor does a refutation
+pub none_refuted : (from : Inflow) (to : Outflow) → ShowsProver9 from from to to
+none_refuted from to = record {
+  bytes = [];
+  taken = inl (Gives-none from);
+  written = [];
+  wrote = (Takes-none to).took;
+  shows = λ q asked. record {
+    proofs = λ before after lines e. absurd (none_stands [] _ 37 e);
+    proved = λ before after lines e. absurd (none_stands [] _ 37 e);
+  };
 }

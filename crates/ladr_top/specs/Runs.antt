@@ -1,12 +1,14 @@
 -- What a run amounts to.
-use Rattle.std.specs.Prelude.{◌≡◌}
+use Rattle.std.specs.Prelude.{ℕ, ◌≡◌, List, Option}
 use Rattle.std.specs.declared.result.Result.{Result}
+use Rattle.accepted_output.specs.Accepted.{WritesAccepted}
 use Rattle.ladr_check.specs.Checking.{Checks}
 use Rattle.ladr_check.specs.Offered.{offers, refuses_proofs}
 use Rattle.ladr_check.specs.declared.ends.CheckEnd.{CheckEnd}
 use Rattle.ladr_clausetester.specs.Testing.{Tests}
 use Rattle.ladr_clausetester.specs.declared.testing.Tested.{Tested}
 use Rattle.ladr_formulas.specs.declared.styles.Mode.TheVariants.{Tester, Mace}
+use Rattle.ladr_intake.specs.Input.{AreTaken}
 use Rattle.ladr_intake.specs.Posed.{poses, interprets}
 use Rattle.ladr_intake.specs.Refusals.{refuses, stop_of_cut}
 use Rattle.ladr_intake.specs.declared.stops.Stop.{Stop}
@@ -16,10 +18,13 @@ use Rattle.ladr_mace4.specs.Finding.{Searches}
 use Rattle.ladr_mace4.specs.Shown.{ShowsPosed}
 use Rattle.ladr_mace4.specs.declared.ends.SearchEnd.{SearchEnd}
 use Rattle.ladr_output.specs.Telling.{PieceTells}
+use Rattle.ladr_prover9.specs.Finding.{Refutes}
+use Rattle.ladr_prover9.specs.Shown.{ShowsAsked}
+use Rattle.ladr_prover9.specs.declared.ends.ProverEnd.{ProverEnd}
 use Rattle.ladr_top.specs.Causes.{cause_of, cause_by}
 use Rattle.ladr_top.specs.Words.{no_command_line}
 use Rattle.ladr_top.specs.declared.cause.Cause.{Cause}
-use Rattle.ladr_top.specs.declared.cause.Cause.TheVariants.{Words, Check, Clausetester, Mace4}
+use Rattle.ladr_top.specs.declared.cause.Cause.TheVariants.{Words, Check, Clausetester, Mace4, Prover9}
 use Rattle.ladr_words.specs.declared.task.ModelOptions.{ModelOptions}
 
 -- words that are no command: their line is printed, or what cut it off is the cause
@@ -47,3 +52,24 @@ RunsMace4 words from from' to to' t cause =
 -- what stands in the output of `mace4` with these words
 abbrev pub ShowsMace4 : ModelOptions → Inflow → Inflow → Outflow → Outflow → Type 0
 ShowsMace4 = ShowsPosed (poses Mace)
+
+-- or of `prover9`, with these seconds, if its words set a time
+abbrev pub RunsProver9 : Option ℕ → Inflow → Inflow → Outflow → Outflow → Times → Cause → Type 0
+RunsProver9 seconds from from' to to' t cause =
+    (r : Result ProverEnd Stop) × Refutes seconds from from' to to' t r
+    × (cause ≡ cause_by Prover9 r)
+
+-- Where `prover9` comes to an end of its own, and its output says that the problem is proved, a
+-- check of this output, whole as it is, accepts its proofs.
+pub record WritesChecked (from from' : Inflow) (to to' : Outflow) : Type 0 where
+  pub bytes : List ℕ
+  pub taken : AreTaken from from' bytes
+  pub written : WritesAccepted bytes to to'
+
+abbrev pub ChecksProver9 : Inflow → Inflow → Outflow → Outflow → Cause → Type 0
+ChecksProver9 from from' to to' cause =
+    (end : ProverEnd) → cause ≡ Prover9 end → WritesChecked from from' to to'
+
+-- what stands in the output of `prover9`
+abbrev pub ShowsProver9 : Inflow → Inflow → Outflow → Outflow → Type 0
+ShowsProver9 = ShowsAsked

@@ -7,6 +7,7 @@ pub use ladr_clausetester::Tested;
 use ladr_intake::Stop;
 pub use ladr_intake::{Limit, Place, Refused};
 pub use ladr_mace4::SearchEnd;
+pub use ladr_prover9::ProverEnd;
 
 /// Why a run ended: the words are no command, the input is refused, a read or a write failed, memory was lacking, or a command came to an
 /// end of its own.
@@ -20,6 +21,7 @@ pub enum Cause {
     Check(CheckEnd),
     Clausetester(Tested),
     Mace4(SearchEnd),
+    Prover9(ProverEnd),
 }
 
 /// The exit status of a run, and why it ended.
@@ -54,5 +56,6 @@ pub fn status(cause: &Cause) -> u8
         Cause::Check(end) => end.status(),
         Cause::Clausetester(_) => 0,
         Cause::Mace4(end) => end.status(),
+        Cause::Prover9(end) => end.status(),
     }
 }

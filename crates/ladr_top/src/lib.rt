@@ -6,5 +6,5 @@ mod limits;
 mod lines;
 mod running;
 
-pub use cause::{Cause, CheckEnd, Exit, Limit, Place, Refused, SearchEnd, Tested};
+pub use cause::{Cause, CheckEnd, Exit, Limit, Place, ProverEnd, Refused, SearchEnd, Tested};
 pub use running::run;

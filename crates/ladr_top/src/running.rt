@@ -1,17 +1,18 @@
 // The one call of the program.
-ghost use Rattle.std.specs.Prelude.{◌≡◌, ◌≢◌, false, None, Some, map};
+ghost use Rattle.std.specs.Prelude.{◌≡◌, ◌≢◌, ℕ, Option, false, None, Some, map};
 ghost use Rattle.std.specs.String.{string_bytes};
 ghost use Rattle.ladr_check.specs.Shown.{ShowsProofs};
 ghost use Rattle.ladr_top.specs.Causes.{cause_by, status_of};
 ghost use Rattle.ladr_top.specs.Limits.{AreLimits};
-ghost use Rattle.ladr_top.specs.Runs.{RefusesWords, RunsCheck, RunsClausetester, RunsMace4, ShowsMace4};
+ghost use Rattle.ladr_top.specs.Runs.{RefusesWords, RunsCheck, RunsClausetester, RunsMace4, RunsProver9, ShowsMace4, ShowsProver9, ChecksProver9};
 ghost use Rattle.ladr_words.specs.Tasks.{task_of};
 ghost use Rattle.ladr_words.specs.declared.task.ModelOptions.{ModelOptions};
-ghost use Rattle.ladr_words.specs.declared.task.Task.TheVariants.{Check, Clausetester, Mace4};
+ghost use Rattle.ladr_words.specs.declared.task.Task.TheVariants.{Check, Clausetester, Mace4, Prover9};
 
 use crate::cause::{Cause, Exit, cause_of, status};
 use crate::limits::limits_are_told;
 use crate::lines::no_command;
+use accepted_output::outputs_are_accepted;
 use fol_core::Interpretation;
 use ladr_check::{CheckEnd, check_text, checks_show};
 use ladr_clausetester::{Tested, clausetester};
@@ -19,6 +20,7 @@ use ladr_intake::{Stop, stop_by};
 use ladr_io::{Clock, Sink, Source};
 use ladr_mace4::{SearchEnd, mace4, searches_show};
 use ladr_output::piece;
+use ladr_prover9::{ProverEnd, proofs_show, prover9};
 use ladr_words::{Task, WordsError, task_of};
 use std::alloc::Global;
 
@@ -74,17 +76,41 @@ pub fn run<I: Interpretation, S: Source, K: Sink, C: Clock>(
         → ShowsMace4 o (S.inflow source.old) (S.inflow source.new) (K.outflow sink.old)
         (K.outflow sink.new) }
 
+    // Proofs of what the input states are searched for.
+    ensures prover9 { (t : Option ℕ) → task_of (map string_bytes words.now) ≡ Some (Prover9 t)
+        → RunsProver9 t (S.inflow source.old) (S.inflow source.new) (K.outflow sink.old)
+        (K.outflow sink.new) (C.times clock.new) result.cause }
+
+    // Where the banner of a proof stands in what was written, the text of a refutation of the input's problem stands there, cut off only
+    // where the output is, and no interpretation, finite or infinite, whose Skolem symbols pick witnesses makes each assumption true and
+    // each goal false; where the line stands that it is proved, such a text stands before it. So it is whatever became of the run.
+    ensures refutations { (t : Option ℕ) → task_of (map string_bytes words.now) ≡ Some (Prover9 t)
+        → ShowsProver9 (S.inflow source.old) (S.inflow source.new) (K.outflow sink.old)
+        (K.outflow sink.new) }
+
+    // Where the run came to an end of its own and this line stands, all that was written is a text of proofs as `check` reads them: it is
+    // read as the input's problem with these proofs and as nothing else, and a check of it accepts each.
+    ensures accepted { (t : Option ℕ) → task_of (map string_bytes words.now) ≡ Some (Prover9 t)
+        → ChecksProver9 (S.inflow source.old) (S.inflow source.new) (K.outflow sink.old)
+        (K.outflow sink.new) result.cause }
+
     // The clock isn't asked but for a search.
     ensures clock { ((o : ModelOptions) → task_of (map string_bytes words.now) ≢ Some (Mace4 o))
+        → ((t : Option ℕ) → task_of (map string_bytes words.now) ≢ Some (Prover9 t))
         → C.times clock.new ≡ C.times clock.old }
 {
     checks_show();
     searches_show();
+    proofs_show();
+    outputs_are_accepted();
     limits_are_told();
     match task_of(alloc, words) {
         Ok(Task::Check) => exit(checked(check_text(alloc, source, sink))),
         Ok(Task::Clausetester) => exit(tested(clausetester(alloc, source, sink))),
         Ok(Task::Mace4 { options }) => exit(searched(mace4(alloc, options, source, sink, clock))),
+        Ok(Task::Prover9 { max_seconds }) => {
+            exit(refuted(prover9(alloc, max_seconds, source, sink, clock)))
+        }
         Err(WordsError::NoCommand) => exit(refuse(alloc, sink)),
         Err(WordsError::Memory) => exit(Cause::Memory),
     }
@@ -113,6 +139,15 @@ fn searched(ended: Result<SearchEnd, Stop>) -> Cause
 {
     match ended {
         Ok(end) => Cause::Mace4(end),
+        Err(stop) => cause_of(stop),
+    }
+}
+
+fn refuted(ended: Result<ProverEnd, Stop>) -> Cause
+    ensures { result ≡ cause_by Cause.Prover9 ended }
+{
+    match ended {
+        Ok(end) => Cause::Prover9(end),
         Err(stop) => cause_of(stop),
     }
 }

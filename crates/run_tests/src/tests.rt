@@ -79,7 +79,7 @@ fn runs_end_as_told(rt: HostRuntime) -> Result<(), Fail> {
 
 #[test]
 fn each_failed_read_is_told(rt: HostRuntime) -> Result<(), Fail> {
-    for command in ["check", "clausetester", "mace4"] {
+    for command in ["check", "clausetester", "mace4", "prover9"] {
         for taken in 0..=INVOLUTION.len() as u64 {
             let (status, held) = outcome(rt.alloc(), command, INVOLUTION, taken + 1, 0, &[])?;
             assert_eq!(rt; status, 10, "{command} after {taken} bytes");
@@ -99,6 +99,7 @@ fn each_failed_write_leaves_a_front(rt: HostRuntime) -> Result<(), Fail> {
         ("check", PROVED, ACCEPTED),
         ("clausetester", INVOLUTION, REPORT),
         ("mace4 -n 3 -N 3 -m 10", INVOLUTIONS, ALL_OF_THREE),
+        ("prover9", CONTRADICTION, REFUTED),
     ] {
         for (taken, _) in output.iter().enumerate() {
             let write = taken as u64 + 1;
@@ -118,6 +119,11 @@ const ACCEPTED: &[u8] = b"% Proof 1 accepted.\n% Exit accepted 1.\n";
 
 const PROVED: &[u8] =
     b"% Input 35\nformulas(sos).\np.\n-p.\nend_of_list.\n\n============================== PROOF =================================\n1 p.  [assumption].\n2 -p.  [assumption].\n3 p.  [clausify(1)].\n4 -p.  [clausify(2)].\n5 $F.  [resolve(3,a,4,a)].\n============================== end of proof ==========================\n";
+
+const CONTRADICTION: &[u8] = b"formulas(sos).\np.\n-p.\nend_of_list.\n";
+
+const REFUTED: &[u8] =
+    b"% Input 35\nformulas(sos).\np.\n-p.\nend_of_list.\n\n============================== PROOF =================================\n% Proof 1.\n% Length of proof is 5.\n% Level of proof is 2.\n% Maximum clause weight is 1.\n% Given clauses 0.\n1 p.  [assumption].\n2 -p.  [assumption].\n3 p.  [clausify(1)].\n4 -p.  [clausify(2)].\n5 $F.  [copy(4),unit_del(a,3)].\n============================== end of proof ==========================\n% Given=0. Generated=0. Kept=1. Large=0. Proofs=1.\nTHEOREM PROVED\n% Exit max_proofs.\n";
 
 const UNPROVED: &[u8] =
     b"% Input 35\nformulas(sos).\np.\n-p.\nend_of_list.\n\n============================== PROOF =================================\n1 p.  [assumption].\n3 p.  [clausify(1)].\n5 $F.  [resolve(3,a,4,a)].\n============================== end of proof ==========================\n";
@@ -146,6 +152,8 @@ fn searches_end_as_told(rt: HostRuntime) -> Result<(), Fail> {
             b"% Domain size 3.\n% Domain size 3 exhausted.\n% Models=0.\n% Exit exhausted.\n",
         ),
         ("mace4", MOVED, 0, ONE_OF_TWO),
+        ("prover9", CONTRADICTION, 0, REFUTED),
+        ("check", REFUTED, 0, ACCEPTED),
         (
             "mace4 -n 5 -N 3",
             MOVED,
@@ -177,8 +185,11 @@ const BOTH_OF_TWO: &[u8] =
 
 const BEGUN: &[u8] = b"% Domain size 2.\n";
 
+const ECHOED: &[u8] = b"% Input 49\nformulas(assumptions).\nf(f(x)) = x.\nend_of_list.\n\n";
+
 // The clock is read as a size begins, and before each choice of a cell, two at size 2; a reading of
-// 1,000 is late behind a first one of 0. The last clock goes back.
+// 1,000 is late behind a first one of 0. The clock of the last search for models goes back. A search for proofs reads it as it begins,
+// and before it gives a clause.
 #[test]
 fn clocks_are_heeded(rt: HostRuntime) -> Result<(), Fail> {
     for (command, readings, status, front, rest) in [
@@ -216,6 +227,20 @@ fn clocks_are_heeded(rt: HostRuntime) -> Result<(), Fail> {
             8,
             BOTH_OF_TWO,
             b"% Domain size 2 exhausted.\n% Models=2.\n% Exit all_models.\n",
+        ),
+        (
+            "prover9 -t 1",
+            &[3, 1003],
+            4,
+            ECHOED,
+            b"% Given=0. Generated=0. Kept=1. Large=0. Proofs=0.\nSEARCH FAILED\n% Exit max_seconds 3 1003.\n",
+        ),
+        (
+            "prover9 -t 1",
+            &[3, 1002, 1003],
+            2,
+            ECHOED,
+            b"% Given=1. Generated=2. Kept=1. Large=0. Proofs=0.\nSEARCH FAILED\n% Exit sos_empty.\n",
         ),
     ] {
         let (ended, held) = outcome(rt.alloc(), command, INVOLUTIONS, 0, 0, readings)?;

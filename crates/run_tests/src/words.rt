@@ -31,6 +31,12 @@ fn reads_words(rt: HostRuntime) -> Result<(), Fail> {
     assert_eq!(rt; task_of(rt.alloc(), &line), Ok(Task::Check));
     let line = texts(rt.alloc(), &["clausetester"])?;
     assert_eq!(rt; task_of(rt.alloc(), &line), Ok(Task::Clausetester));
+    let line = texts(rt.alloc(), &["prover9", "-t", "5"])?;
+    let max_seconds = Some(5);
+    assert_eq!(rt;
+        task_of(rt.alloc(), &line),
+        Ok(Task::Prover9 { max_seconds })
+    );
     let line = texts(rt.alloc(), &["mace4", "-h"])?;
     assert_eq!(rt; task_of(rt.alloc(), &line), Err(WordsError::NoCommand));
     Ok(())

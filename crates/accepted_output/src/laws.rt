@@ -1,0 +1,29 @@
+// What a check makes of the output of a search for proofs: the function does nothing, and its contract is the law.
+ghost use Rattle.accepted_output.specs.Accepted.{OutputsAreAccepted};
+
+use ladr_models::formulas_state_themselves;
+use ladr_problem::{one_outcome, problems_are_proper};
+use ladr_prover9::quests_are_sound;
+use line_elements::lines_stay_in;
+use line_shapes::lines_are_fit;
+use printed_checks::printed_refutations_are_accepted;
+use printed_proofs::files_can_be_printed;
+use prover_proofs::proofs_refute;
+use row_shapes::{fit_rows_are_lines, rows_of_files_are_fit};
+
+/// A check accepts the whole output of a run that came to an end of its own and tells that the problem is proved.
+pub fn outputs_are_accepted()
+    ensures { OutputsAreAccepted }
+{
+    one_outcome();
+    problems_are_proper();
+    formulas_state_themselves();
+    quests_are_sound();
+    proofs_refute();
+    files_can_be_printed();
+    rows_of_files_are_fit();
+    fit_rows_are_lines();
+    lines_stay_in();
+    lines_are_fit();
+    printed_refutations_are_accepted();
+}

@@ -1,0 +1,17 @@
+pub mod Advancing
+pub mod Draining
+pub mod Elementless
+pub mod FileElements
+pub mod FileNames
+pub mod Knowing
+pub mod Leaving
+pub mod Numbered
+pub mod ProofTexts
+pub mod Reading
+pub mod Seeking
+pub mod Showing
+pub mod Sounding
+pub mod StandingProofs
+pub mod Steps
+pub mod Telling
+pub mod Unbroken

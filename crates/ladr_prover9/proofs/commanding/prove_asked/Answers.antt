@@ -1,0 +1,36 @@
+-- The frame is printed, then the proofs, and then the last lines.
+use Rattle.std.proofs.Common.{◌∙◌}
+use Rattle.given_clause.specs.States.{state_of}
+use Rattle.ladr_prover9.proofs.Steps.{start_text}
+use Rattle.ladr_prover9.proofs.Telling.{frame_cut, last_told, search_cut}
+use Rattle.ladr_prover9.proofs.commanding.prove_asked.Goals as goal
+use Rattle.ladr_prover9.specs.Askings.{quest_of}
+use Rattle.proof_print.specs.LineTexts.{frame_text}
+
+pub returns-in-Err : goal.returns-in-Err
+returns-in-Err g c =
+    frame_cut (quest_of c.args.asking.now) c.args.seconds (g.C.Clock.times c.args.clock.now) _ _ c.in-Err.cut c.requires.within c.requires.unread (c.in-Err.ensures.printed (frame_text c.args.asking.now.input.now) c.frame_text.ensures)
+
+pub search_proofs-requires-clause-sink : goal.search_proofs-requires-clause-sink
+search_proofs-requires-clause-sink g c = (c.in-Ok-piece.ensures.printed (frame_text c.args.asking.now.input.now) c.frame_text.ensures).same ∙ c.requires.sink
+
+pub ending-requires : goal.ending-requires
+ending-requires g c =
+    let q = quest_of c.args.asking.now in
+    let took = c.in-Ok-piece.ensures.printed (frame_text q.input) c.frame_text.ensures in
+    (c.in-Ok-search_proofs.ensures (frame_text q.input) (start_text q)).2.same ∙ took.same ∙ c.requires.sink
+
+pub returns-in-Ok-search_proofs : goal.returns-in-Ok-search_proofs
+returns-in-Ok-search_proofs g c =
+    let q = quest_of c.args.asking.now in
+    let t = state_of c.search_proofs.new.search in
+    let took = c.in-Ok-piece.ensures.printed (frame_text q.input) c.frame_text.ensures in
+    last_told q c.args.seconds (g.C.Clock.times c.search_proofs.new.clock) _ _ _ _ (frame_text q.input) c.in-Ok-search_proofs.end t c.ending.result c.requires.within took
+    (c.in-Ok-search_proofs.ensures (frame_text q.input) (start_text q)) (c.ending.ensures.printed _ c.closing_lines.ensures)
+
+pub returns : goal.returns
+returns g c =
+    let q = quest_of c.args.asking.now in
+    let t = state_of c.search_proofs.new.search in
+    let took = c.in-Ok-piece.ensures.printed (frame_text q.input) c.frame_text.ensures in
+    search_cut q c.args.seconds (g.C.Clock.times c.search_proofs.new.clock) _ _ _ (frame_text q.input) t c.in-Err-search_proofs.cut c.requires.within took (c.in-Err-search_proofs.ensures (frame_text q.input) (start_text q))

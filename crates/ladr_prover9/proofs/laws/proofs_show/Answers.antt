@@ -1,0 +1,13 @@
+-- Where proofs stand in an output they are refutations, and leave no countermodel.
+use Rattle.ladr_prover9.proofs.Knowing.{asked_none, show_by}
+use Rattle.ladr_prover9.proofs.Leaving.{asked_leaves}
+use Rattle.ladr_prover9.proofs.Numbered.{asked_numbered}
+use Rattle.ladr_prover9.proofs.laws.proofs_show.Goals as goal
+
+pub returns : goal.returns
+returns c =
+    let proper = c.problems_are_proper.ensures in
+    let order = c.axioms_are_in_order.ensures in
+    show_by c.one_outcome.ensures c.proofs_refute.ensures.found c.quests_are_sound.ensures (asked_numbered proper)
+    (λ bytes q asked lines within refute. asked_leaves proper c.lines_without_elements.ensures c.no_countermodel.ensures order.order order.new bytes q asked within.witnesses lines
+    (c.lines_name_no_elements.ensures.none _ _ _ (λ k. asked_none c.prover_names_no_element.ensures.formulas k bytes q asked) refute.0) refute)

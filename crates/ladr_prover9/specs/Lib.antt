@@ -1,0 +1,9 @@
+pub mod Askings
+pub mod Finding
+pub mod Lines
+pub mod ProofTexts
+pub mod Quests
+pub mod Shown
+pub mod Statuses
+pub mod Stepping
+pub mod Story

@@ -1,0 +1,180 @@
+// The command as a whole.
+ghost use Rattle.std.specs.Prelude.{◌≡◌, ◌<◌, ◌^◌, ℕ, [], Some, Err, IfOk, false, length};
+ghost use Rattle.clausify.specs.Input.{first_over};
+ghost use Rattle.fol_core.specs.Stated.{stated_of, IsWellFormed};
+ghost use Rattle.ladr_mace4.specs.Plans.{seconds_of};
+ghost use Rattle.ladr_intake.specs.Refusals.{clause_limit_line};
+ghost use Rattle.ladr_output.specs.Telling.{Tells, IsEnd};
+ghost use Rattle.ladr_prover9.specs.Askings.{quest_of, IsAskedFor, IsSoundQuest};
+ghost use Rattle.ladr_prover9.specs.Finding.{KeepsLimits, Proves, Proving, Refutes};
+ghost use Rattle.ladr_prover9.specs.Quests.{IsHad, quest_in, quest_with, quest_seconds};
+
+use crate::asking::Asking;
+use crate::ends::ProverEnd;
+use crate::laws::quests_are_sound;
+use crate::lines::closing_lines;
+use crate::searching::search_proofs;
+use crate::taking::{Taken, take_quest};
+use clausify::{ClauseError, clauses_of, own_table};
+use fol_core::{Clauses, Entry, Problem};
+use ladr_intake::{Stop, clause_limit, refuse, stop_by};
+use ladr_io::{Clock, Sink, Source};
+use ladr_lex::Ops;
+use ladr_options::{NO_LIMIT, Options};
+use ladr_output::{Cut, ending, piece};
+use ladr_problem::FileRead;
+use proof_lines::LineOperators;
+use proof_print::frame_text;
+use prover_setup::{guide_of, start_search};
+use std::alloc::Global;
+
+// The seconds of an input's options.
+fn seconds_of(options: &Options) -> Option<u64>
+    ensures { result ≡ seconds_of options.now }
+{
+    if options.max_seconds == NO_LIMIT {
+        None
+    } else {
+        Some(u64::from(options.max_seconds))
+    }
+}
+
+// What is asked of a search, with the clauses of the problem.
+fn asking_of<'a>(
+    alloc: Global,
+    input: &'a [u8],
+    problem: &'a Problem,
+    operators: Ops,
+) -> Result<Asking<'a>, ClauseError>
+    requires { IsWellFormed (stated_of problem.now) }
+    ensures quest { IfOk result (λ a. quest_of a ≡ quest_with input.now problem.now operators) }
+    ensures asked { IfOk result IsAskedFor }
+    ensures limit { (n : ℕ) → result ≡ Err (ClauseError.ClauseLimit n)
+        → first_over 1 (stated_of problem.now).formulas ≡ Some n }
+    ensures within { IfOk result (λ a. KeepsLimits (quest_of a)) }
+{
+    own_table();
+    let mut symbols = problem.symbols.copy(alloc)?;
+    let Clauses {
+        clauses,
+        skolem,
+        ..
+    } = clauses_of(alloc, problem, &mut symbols)?;
+    few_entries(&skolem);
+    let prolog = problem.options.prolog_style_variables;
+    let operators = LineOperators::of(alloc, operators, prolog)?;
+    Ok(Asking {
+        input,
+        problem,
+        operators,
+        symbols,
+        clauses,
+    })
+}
+
+// There are fewer Skolem symbols than a list can have.
+fn few_entries(entries: &[Entry])
+    ensures { length entries.now < 2 ^ 63 }
+{
+    let _many = entries.len();
+}
+
+// Searches for proofs behind the input in its frame, to the last line.
+fn prove_asked<K: Sink, C: Clock>(
+    alloc: Global,
+    asking: &Asking<'_>,
+    seconds: Option<u64>,
+    sink: &mut K,
+    clock: &mut C,
+) -> Result<ProverEnd, Cut>
+    requires asked { IsAskedFor asking.now }
+    requires sound { IsSoundQuest (quest_of asking.now) }
+    requires within { KeepsLimits (quest_of asking.now) }
+    requires unread { (C.times clock.old).count ≡ 0 }
+    requires sink { (K.outflow sink.old).over ≡ false }
+    ensures { Tells (Proving (quest_of asking.now) seconds (C.times clock.new))
+        (Proves (quest_of asking.now) seconds (C.times clock.new))
+        (K.outflow sink.old) (K.outflow sink.new) result }
+{
+    let problem = asking.problem;
+    let Ok(guide) = guide_of(alloc, problem, &asking.symbols, &asking.clauses) else {
+        return Err(Cut::Memory);
+    };
+    let Ok(mut search) = start_search(alloc, problem, &asking.clauses) else {
+        return Err(Cut::Memory);
+    };
+    match piece(frame_text(alloc, asking.input), sink) {
+        Ok(()) => {}
+        Err(cut) => return Err(cut),
+    }
+    match search_proofs(alloc, asking, &guide, seconds, &mut search, sink, clock) {
+        Ok(end) => ending(closing_lines(alloc, &search, end), end, sink),
+        Err(cut) => Err(cut),
+    }
+}
+
+// A formula has too many clauses.
+fn over_limit<K: Sink>(alloc: Global, formula: u64, sink: &mut K) -> Result<ProverEnd, Cut>
+    requires { (K.outflow sink.old).over ≡ false }
+    ensures { Tells (λ u. u ≡ []) (IsEnd (ProverEnd.ClauseLimit formula)
+        (clause_limit_line formula)) (K.outflow sink.old) (K.outflow sink.new) result }
+{
+    let end = ProverEnd::ClauseLimit { formula };
+    ending(clause_limit(alloc, formula), end, sink)
+}
+
+// Searches for proofs of what was read.
+fn prove<K: Sink, C: Clock>(
+    alloc: Global,
+    taken: Taken,
+    max_seconds: Option<u64>,
+    sink: &mut K,
+    clock: &mut C,
+) -> Result<ProverEnd, Cut>
+    requires well_formed { IsWellFormed (stated_of taken.read.problem) }
+    requires sound { IsSoundQuest (quest_in taken.bytes.items taken.read) }
+    requires unread { (C.times clock.old).count ≡ 0 }
+    requires sink { (K.outflow sink.old).over ≡ false }
+    ensures { let q = quest_in taken.bytes.items taken.read in
+        Tells (Proving q (quest_seconds max_seconds q) (C.times clock.new))
+        (Proves q (quest_seconds max_seconds q) (C.times clock.new))
+        (K.outflow sink.old) (K.outflow sink.new) result }
+{
+    let Taken { bytes, read } = taken;
+    let FileRead {
+        problem,
+        operators,
+        ..
+    } = read;
+    let seconds = max_seconds.or(seconds_of(&problem.options));
+    match asking_of(alloc, &bytes, &problem, operators) {
+        Ok(asking) => prove_asked(alloc, &asking, seconds, sink, clock),
+        Err(ClauseError::ClauseLimit { formula }) => over_limit(alloc, formula, sink),
+        Err(ClauseError::Memory) => Err(Cut::Memory),
+    }
+}
+
+/// Reads the input and searches for proofs of its problem, as the word and its options ask.
+pub fn prover9<S: Source, K: Sink, C: Clock>(
+    alloc: Global,
+    max_seconds: Option<u64>,
+    source: &mut S,
+    sink: &mut K,
+    clock: &mut C,
+) -> Result<ProverEnd, Stop>
+    requires unread { (C.times clock.old).count ≡ 0 }
+    requires source { (S.inflow source.old).over ≡ false }
+    requires sink { (K.outflow sink.old).over ≡ false }
+    ensures { (run : Refutes max_seconds (S.inflow source.old) (S.inflow source.new)
+        (K.outflow sink.old) (K.outflow sink.new) (C.times clock.new) result)
+        × IfOk result (λ _. IsHad run.bytes) }
+{
+    quests_are_sound();
+    match take_quest(alloc, source) {
+        Ok(taken) => match prove(alloc, taken, max_seconds, sink, clock) {
+            Ok(end) => Ok(end),
+            Err(cut) => Err(stop_by(cut)),
+        },
+        Err(why) => Err(refuse(alloc, why, sink)),
+    }
+}

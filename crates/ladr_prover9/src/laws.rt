@@ -1,0 +1,39 @@
+// What a run of the command amounts to: the functions do nothing, and their contracts are the laws.
+ghost use Rattle.std.specs.Prelude.{ℕ, List};
+ghost use Rattle.ladr_prover9.specs.Askings.{IsSoundQuest};
+ghost use Rattle.ladr_prover9.specs.Quests.{Quest, asks};
+ghost use Rattle.ladr_prover9.specs.Shown.{ProofsShow};
+
+use clausify::axioms_are_in_order;
+use derivation::lines_without_elements;
+use ladr_formulas::prover_names_no_element;
+use ladr_problem::{one_outcome, problems_are_proper};
+use line_elements::lines_name_no_elements;
+use problem_laws::{files_are_fit, orders_of_files_keep_variables, rows_are_of_formulas};
+use proof_check::no_countermodel;
+use prover_proofs::proofs_refute;
+
+/// The order of what a file asks for keeps variables, its clauses are rows of its formulas, and the lines of these say what they
+/// say.
+pub fn quests_are_sound()
+    ensures { (bytes : List ℕ) (q : Quest) → asks bytes q → IsSoundQuest q }
+{
+    files_are_fit();
+    rows_are_of_formulas();
+    orders_of_files_keep_variables();
+}
+
+/// Where a proof's banner stands in the output of a run, there stands the text of a refutation of the problem.
+pub fn proofs_show()
+    ensures { ProofsShow }
+{
+    one_outcome();
+    problems_are_proper();
+    prover_names_no_element();
+    quests_are_sound();
+    proofs_refute();
+    lines_name_no_elements();
+    lines_without_elements();
+    no_countermodel();
+    axioms_are_in_order();
+}
