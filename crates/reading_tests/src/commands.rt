@@ -5,8 +5,13 @@ use std::test::Fail;
 
 /// The command of an item.
 pub fn command(alloc: Global, text: &[u8]) -> Result<Command, Fail> {
-    let tokens = tokens(alloc, text).map_err(|_| "memory")?;
-    Ok(read_command(alloc, true, &tokens).map_err(|_| "not read")?)
+    let Ok(tokens) = tokens(alloc, text) else {
+        return Err(Fail::from("memory"));
+    };
+    match read_command(alloc, true, &tokens) {
+        Ok(command) => Ok(command),
+        Err(_) => Err(Fail::from("not read")),
+    }
 }
 
 #[test]

@@ -7,12 +7,20 @@ use std::test::Fail;
 
 // The interpretation of an item by the names of its symbols.
 fn by_name(alloc: Global, text: &[u8]) -> Result<ByName, Fail> {
-    let tokens = tokens(alloc, text).map_err(|_| "memory")?;
-    Ok(read_interpretation(alloc, &tokens).map_err(|_| "not read")?)
+    let Ok(tokens) = tokens(alloc, text) else {
+        return Err(Fail::from("memory"));
+    };
+    match read_interpretation(alloc, &tokens) {
+        Ok(read) => Ok(read),
+        Err(_) => Err(Fail::from("not read")),
+    }
 }
 
 fn named(alloc: Global, text: &[u8]) -> Result<Named, Fail> {
-    Ok(Named::new(alloc, by_name(alloc, text)?).map_err(|_| "none")?)
+    match Named::new(alloc, by_name(alloc, text)?) {
+        Ok(named) => Ok(named),
+        Err(_) => Err(Fail::from("none")),
+    }
 }
 
 // f with one argument.

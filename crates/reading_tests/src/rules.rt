@@ -9,8 +9,13 @@ use std::test::Fail;
 // The term of an item.
 fn item(alloc: Global, text: &[u8]) -> Result<Raw, Fail> {
     let ops = Ops::standard(alloc)?;
-    let tokens = tokens(alloc, text).map_err(|_| "memory")?;
-    Ok(read_term(alloc, &ops, &tokens).map_err(|_| "term")?)
+    let Ok(tokens) = tokens(alloc, text) else {
+        return Err(Fail::from("memory"));
+    };
+    match read_term(alloc, &ops, &tokens) {
+        Ok(raw) => Ok(raw),
+        Err(_) => Err(Fail::from("term")),
+    }
 }
 
 #[test]

@@ -1,14 +1,24 @@
 use derivation::First;
-use ladr_lex::tokens;
+use ladr_lex::{Token, tokens};
 use proof_words::{ContentKind, WordsFault, read_words};
+use std::alloc::Global;
 use std::test::Fail;
+
+// The tokens of a text, of which a proof knows nothing: so it works nothing out of it.
+fn cut(alloc: Global, text: &[u8]) -> Result<Vec<Token>, Fail> {
+    match tokens(alloc, text) {
+        Ok(tokens) => Ok(tokens),
+        Err(_) => Err(Fail::from("memory")),
+    }
+}
 
 // What stands behind the words is left.
 #[test]
 fn words_are_read(rt: HostRuntime) -> Result<(), Fail> {
-    let text = b"[hyper(4,a,5,b,c,6,a),flip(a)]. 8 p.";
-    let tokens = tokens(rt.alloc(), text).map_err(|_| "memory")?;
-    let (just, count) = read_words(rt.alloc(), ContentKind::Either, &tokens).map_err(|_| "words")?;
+    let tokens = cut(rt.alloc(), b"[hyper(4,a,5,b,c,6,a),flip(a)]. 8 p.")?;
+    let Ok((just, count)) = read_words(rt.alloc(), ContentKind::Either, &tokens) else {
+        return Err(Fail::from("words"));
+    };
     assert_eq!(rt; count, 24);
     assert!(rt; matches!(&just.first, First::Hyper(4, satellites) if satellites.len() == 2));
     assert_eq!(rt; just.steps.len(), 1);
@@ -17,7 +27,7 @@ fn words_are_read(rt: HostRuntime) -> Result<(), Fail> {
 
 #[test]
 fn the_first_bad_token_is_told(rt: HostRuntime) -> Result<(), Fail> {
-    let tokens = tokens(rt.alloc(), b"[copy(07)].").map_err(|_| "memory")?;
+    let tokens = cut(rt.alloc(), b"[copy(07)].")?;
     let read = read_words(rt.alloc(), ContentKind::Either, &tokens);
     assert!(rt; matches!(read, Err(WordsFault::Bad(3))));
     Ok(())

@@ -1,6 +1,0 @@
-// Printed texts, each call once with ample memory. Tests are proved with all that they stand on, so they have a crate of their
-// own.
-#![tactic(auto)]
-
-#[cfg(test)]
-mod texts;
