@@ -1,9 +1,9 @@
 -- Two elements exchanged that nothing names.
-use Rattle.std.proofs.Common.{◌≡◌, inl, inr, ℕ, suc, ◌+◌, ◌<◌, ◌≤◌, ◌==◌, ◌||◌, nat_lt, Bool, true, false, not, if◌then◌else◌, IsTrue, max, List, [], ◌∷◌, map, refl, sym, ap, ap₂, subst, ◌∙◌, arith}
-use Rattle.std.specs.List.{AllByRecursion, list_any}
+use Rattle.std.proofs.Common.{◌≡◌, inl, inr, ℕ, ◌<◌, ◌≤◌, ◌==◌, ◌||◌, nat_lt, Bool, not, if◌then◌else◌, List, [], ◌∷◌, map, refl, sym, ap, ap₂, ◌∙◌, arith}
+use Rattle.std.specs.List.{AllByRecursion}
 use Rattle.std.proofs.lemmas.Bool.{cases_lt, lt-ltb, ltb-true}
 use Rattle.std.proofs.lemmas.Bool.Decides.{nat_tests}
-use Rattle.fol_core.specs.Literals.{Lit, ClauseTree, equality, are_equal, is_true_atom, is_true_literal, is_true_clause, IsTrueClause, AreTrueClauses}
+use Rattle.fol_core.specs.Literals.{ClauseTree, equality, are_equal, is_true_atom, is_true_clause, IsTrueClause, AreTrueClauses}
 use Rattle.fol_core.specs.Meaning.{Meaning, AllWithin}
 use Rattle.fol_core.specs.Occurs.{above_elements, above_all_elements}
 use Rattle.fol_core.specs.Tree.{Tree, var, elem, app, Trees, none, more}
@@ -13,10 +13,9 @@ use Rattle.fol_core.specs.declared.symbols.Kind.TheVariants.{Function, Relation}
 use Rattle.mace_cells.proofs.Steps.{carried_itself}
 use Rattle.mace_cells.specs.Choices.{Decision, AgreesWith}
 use Rattle.mace_cells.specs.Solutions.{IsSolution, IsCarried}
-use Rattle.mace_cells.specs.World.{World, IsBound, Solves}
 use Rattle.mace_ground.specs.Cells.{Cell, value_at, value_of_kind}
 use Rattle.model_tables.specs.Size.{AllBelow}
-use Rattle.mace_cells.specs.Numbers.{above_each, above_decision, above_used}
+use Rattle.mace_cells.specs.Numbers.{above_each, above_used}
 use Rattle.cell_choice.specs.Numbers.{NamesBelow, LeastNumbersSuffice}
 
 abbrev pub other_of : ℕ → ℕ → ℕ → ℕ

@@ -1,6 +1,5 @@
 -- The shapes of cells.
-use Rattle.std.proofs.Common.{◌≡◌, inl, inr, ℕ, zero, suc, ◌+◌, ◌-◌, ◌*◌, ◌/◌, ◌%◌, ◌^◌, ◌<◌, ◌≤◌, nat_lt, Bool, if◌then◌else◌, max, List, [], ◌∷◌, ◌++◌, length, map, drop, get_or, refl, sym, ap, ◌∙◌, subst, append_assoc, arith}
-use Rattle.std.specs.List.{range_with_len}
+use Rattle.std.proofs.Common.{◌≡◌, inl, inr, ℕ, zero, suc, ◌+◌, ◌-◌, ◌*◌, ◌/◌, ◌%◌, ◌^◌, ◌<◌, Bool, if◌then◌else◌, max, List, [], ◌∷◌, ◌++◌, length, map, drop, get_or, refl, sym, ap, ◌∙◌, subst, append_assoc, arith}
 use Rattle.std.proofs.Math.Nat.{div-lt_iff_lt-mul, mul-div_cancel_left, one-le-pow, pow-succ'}
 use Rattle.std.proofs.Math.Seq.{drop-cons}
 use Rattle.std.proofs.lemmas.Bool.{cases_lt, lt-ltb, le-ltb}
@@ -10,7 +9,8 @@ use Rattle.mace_ground.specs.Cells.{Block, cell, cells_in, cell_at, digits}
 use Rattle.mace_ground.specs.Spans.{block_of}
 use Rattle.mace_ground.specs.declared.blocks.Block as code
 use Rattle.mace_cells.specs.Numbers.{above_each}
-use Rattle.cell_choice.specs.Shapes.{shape_of, block_shapes, cell_shapes, above_at}
+use Rattle.cell_choice.specs.Shapes.{shape_of, block_shapes, cell_shapes}
+use Rattle.fol_core.specs.declared.symbols.Kind.TheVariants.{Function}
 use Rattle.cell_choice.specs.declared.shape.Shape.{Shape}
 
 pub many_in_block : (n : ℕ) (b : Block) → length (block_shapes n b) ≡ n ^ b.arity
@@ -32,6 +32,10 @@ shape_at n (b ∷ bs) k d h = elim (cases_lt k (n ^ b.arity)) [
       get_or-append_right (block_shapes n b) (cell_shapes n bs) (n ^ b.arity) k d (many_in_block n b) after ∙ shape_at n bs (k - n ^ b.arity) d (omega (arith, h, after))
       ∙ ap (λ (t : Bool). shape_of (if t then cell b.kind b.symbol (digits n b.arity k) else cell_at n bs (k - n ^ b.arity))) (sym (le-ltb _ _ after))
 ]
+
+-- the index that some shapes give a cell by its number, 0 where there is none
+abbrev pub above_at : List Shape → ℕ → ℕ
+above_at shapes k = (get_or shapes k (record { kind = Function; above = 0 })).above
 
 pub index_is : (n : ℕ) (bs : List Block) (k : ℕ) → k < cells_in n bs → above_at (cell_shapes n bs) k ≡ above_each (cell_at n bs k).arguments
 index_is n bs k h = ap (λ (s : Shape). s.above) (shape_at n bs k _ h)

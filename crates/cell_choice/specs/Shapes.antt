@@ -1,28 +1,24 @@
 -- What the choice of a cell looks at.
 use Rattle.std.specs.Prelude.{ℕ, ◌^◌, List, [], ◌∷◌, ◌++◌, map}
-use Rattle.std.specs.List.{range_with_len, slice_index_or}
+use Rattle.std.specs.List.{range_with_len}
 use Rattle.mace_cells.specs.Numbers.{above_each}
 use Rattle.cell_choice.specs.declared.shape.Shape.{Shape}
-use Rattle.fol_core.specs.declared.symbols.Kind.TheVariants.{Function}
 use Rattle.mace_cells.specs.Trails.{Ranking}
 use Rattle.mace_cells.specs.World.{World, cell_of}
-use Rattle.mace_ground.specs.Cells.{Block, Cell, digits}
+use Rattle.mace_ground.specs.Cells.{Block, Cell, cell, digits}
 
+-- a cell's kind, and the least number above its arguments, which is its index
 abbrev pub shape_of : Cell → Shape
 shape_of c = record { kind = c.kind; above = above_each c.arguments }
-
--- the index that some shapes give a cell by its number, 0 where there is none
-abbrev pub above_at : List Shape → ℕ → ℕ
-above_at shapes k = (slice_index_or shapes k (record { kind = Function; above = 0 })).above
 
 -- the index that a world's cell has
 abbrev pub index_in : World → ℕ → ℕ
 index_in w k = above_each (cell_of w k).arguments
 
--- those of a symbol's cells, and of all cells by number
+-- the shapes of a symbol's cells, and of all cells by number
 abbrev pub block_shapes : ℕ → Block → List Shape
 block_shapes n b =
-    map (λ k. record { kind = b.kind; above = above_each (digits n b.arity k) })
+    map (λ k. shape_of (cell b.kind b.symbol (digits n b.arity k)))
     (range_with_len 0 (n ^ b.arity))
 
 abbrev pub cell_shapes : ℕ → List Block → List Shape

@@ -16,7 +16,7 @@ use Rattle.model_tables.specs.Size.{AllBelow, bound_of}
 use Rattle.model_tables.specs.TablesLaws.{tables_lawful}
 use Rattle.cell_search.specs.Finites.{finite_of, meaning_by_cells}
 use Rattle.cell_search.specs.Full.{IsFull, MakesTrue, HasNoSolution}
-use Rattle.cell_search.specs.Positions.{AreCrossed, IsLeast}
+use Rattle.cell_search.specs.Positions.{AreCrossed, IsLeast, IsLeft}
 use Rattle.cell_search.specs.Searchable.{HasAllCells}
 use Rattle.cell_search.specs.Losses.{decided_in, IsBoard}
 use Rattle.cell_search.proofs.Boarding.{agrees_all}
@@ -46,6 +46,9 @@ module _ (w : World) (t : Partial) (board : IsBoard w t) where
   pub least_refutes : (k v most : ℕ) (o : Option ℕ) → k < many_cells w → IsLeast t k v most o → IsNextValue w (decided_in w t.entries) (cell_of w k) v most o
   least_refutes k v most None within least = crossed_refutes k v (suc most) within least
   least_refutes k v most (Some u) within least = (least.0, least.1, crossed_refutes k v u within least.2)
+
+  pub least_left : (k v most u : ℕ) → IsLeast t k v most (Some u) → IsLeft t k u
+  least_left k v most u least = least.3
 
 -- nothing is decided yet
 pub board_at_first : (w : World) → 0 < w.size → IsBoard w (partial (many_cells w) (max w.size 2) (ranking_of w) [] [])

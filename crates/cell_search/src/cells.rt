@@ -253,8 +253,12 @@ fn least(trail: &Trail, cell: u32, from: u32, most: u8) -> Option<u8>
 }
 
 impl<'a> Board for Cells<'a> {
+    ghost use Rattle.cell_choice.specs.Choosing.{IsPicked};
+    ghost use Rattle.cell_choice.specs.Shapes.{index_in};
     ghost use Rattle.cell_search.specs.Finites.{finite_of, meaning_by_cells, AreTablesFor};
     ghost use Rattle.cell_search.specs.Losses.{decided_in};
+    ghost use Rattle.cell_search.specs.Positions.{IsLeft};
+    ghost use Rattle.mace_cells.specs.Numbers.{above_used};
     ghost use Rattle.mace_cells.specs.Trails.{HasTwoLeft, value_in};
     ghost use Rattle.mace_cells.specs.World.{cell_of};
     ghost use Rattle.model_tables.specs.Size.{bound_of};
@@ -269,7 +273,12 @@ impl<'a> Board for Cells<'a> {
     ghost is_open = { λ b k. (value_in b.table.entries k ≡ None)
         × HasTwoLeft b.table k (bound_of b.world.size (cell_of b.world k).kind) };
 
+    ghost is_picked = { λ b k. IsPicked (index_in b.world) b.table b.world.way
+        (above_used b.world.fixed (decided_in b.world b.table.entries)) k };
+
     ghost is_full = { λ b. AreTablesFor b.world (finite_of b.world b.table.entries) };
+
+    ghost is_left = { λ b k v. IsLeft b.table k v };
 
     fn status(&mut self) -> Status {
         if !self.start() {

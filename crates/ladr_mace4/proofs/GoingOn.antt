@@ -33,8 +33,7 @@ use Rattle.mace_cells.specs.Choices.{Choice, MayGoOn}
 use Rattle.mace_cells.specs.World.{World, Solves}
 use Rattle.mace_search.proofs.Completing.{by_number}
 use Rattle.mace_search.proofs.Next.{in_count, next_or_none}
-use Rattle.mace_search.specs.Models.{IsModel, IsNextModel}
-use Rattle.mace_search.specs.Plain.{tables_in}
+use Rattle.mace_search.specs.Models.{IsModel, IsNextModel, tables_in}
 use Rattle.mace_search.specs.Watch.{IsLate}
 use Rattle.model_tables.proofs.Kept.{expansion_isomorphic}
 use Rattle.model_tables.specs.Expansion.{IsExpansion}

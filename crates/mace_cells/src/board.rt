@@ -1,5 +1,5 @@
 // What a search asks of the board on which it decides the values of cells.
-ghost use Rattle.std.specs.Prelude.{ℕ, ◌≡◌, ◌<◌, ◌≤◌, List, ◌∷◌, length, max};
+ghost use Rattle.std.specs.Prelude.{ℕ, ◌≡◌, ◌<◌, ◌≤◌, List, ◌∷◌, Some, length, max};
 ghost use Rattle.fol_core.specs.Meaning.{Meaning};
 ghost use Rattle.mace_cells.specs.Boards.{IsAsSaid};
 ghost use Rattle.mace_cells.specs.Choices.{Decision, IsLatest};
@@ -26,13 +26,20 @@ pub trait Board {
 
     ghost is_open: { Self → ℕ → Type 0 };
 
+    // whether a cell is the one that the way of the search picks
+    ghost is_picked: { Self → ℕ → Type 0 };
+
     ghost is_full: { Self → Type 0 };
+
+    // whether a value isn't crossed off a cell
+    ghost is_left: { Self → ℕ → ℕ → Type 0 };
 
     fn status(&mut self) -> Status
         ensures world { world self.new ≡ world self.old }
         ensures decided { decided self.new ≡ decided self.old }
         ensures told { IsAsSaid (world self.old) (decided self.old) (found self.new) result }
         ensures open { (cell : ℕ) → result ≡ Status.Choose cell → is_open self.new cell }
+        ensures picked { (cell : ℕ) → result ≡ Status.Choose cell → is_picked self.new cell }
         ensures full { result ≡ Status.Settled → is_full self.new };
 
     fn most(&self, cell: u32) -> u8
@@ -45,8 +52,9 @@ pub trait Board {
 
     fn next_value(&self, cell: u32, from: u32, most: u8) -> Option<u8>
         requires { cell < many_cells (world self.now) }
-        ensures { IsNextValue (world self.now) (decided self.now)
-            (cell_of (world self.now) cell) from most result };
+        ensures next { IsNextValue (world self.now) (decided self.now)
+            (cell_of (world self.now) cell) from most result }
+        ensures left { (value : ℕ) → result ≡ Some value → is_left self.now cell value };
 
     fn decide(&mut self, cell: u32, value: u8)
         requires cell { cell < many_cells (world self.old) }

@@ -1,19 +1,17 @@
 -- The models of the problem that is worked out.
-use Rattle.std.proofs.Common.{◌≡◌, ◌≢◌, ℕ, zero, suc, ◌<◌, List, [], ◌∷◌, length, map, IsTrue, inl, inr, refl, sym, ap, ◌∙◌, subst, arith, rules}
+use Rattle.std.proofs.Common.{◌≡◌, ◌≢◌, ℕ, zero, suc, ◌<◌, [], ◌∷◌, IsTrue, inl, inr, refl, sym, ap, subst, arith, rules}
 use Rattle.std.specs.Prelude.{◌⊎◌, ◌==◌, nat_le}
 use Rattle.std.proofs.lemmas.Bool.{false≢true}
 use Rattle.std.proofs.lemmas.Bool.Decides.{nat_tests}
 use Rattle.fol_core.specs.Stated.{IsCountermodel}
-use Rattle.fol_core.specs.SymbolTable.{arity_at, kind_at}
 use Rattle.fol_core.specs.declared.symbols.Kind.TheVariants.{Function, Relation}
-use Rattle.mace_search.specs.Models.{IsModel, AreFirst, AreAll}
+use Rattle.mace_search.specs.Models.{IsModel, IsNextModel, NoneFrom}
 use Rattle.mace_search.specs.Worked.{spared, tables}
 use Rattle.model_tables.specs.Order.{table_number, table_count}
 use Rattle.model_tables.specs.Size.{AllBelow, IsInterpretation}
-use Rattle.model_tables.specs.Tables.{Finite, has, listed_value, listing, meaning_of}
+use Rattle.model_tables.specs.Tables.{Finite, listed_value, listing, meaning_of}
 use Rattle.model_tables.proofs.Orders.{number_in_count, shape_count}
-use Rattle.mace_search.proofs.Completing.{by_number}
-use Rattle.mace_search.proofs.Passing.{model_shape}
+use Rattle.mace_search.proofs.Completing.{by_number, model_shape}
 
 interpretation : (x y z : ℕ) → AllBelow 2 (x ∷ y ∷ z ∷ []) → IsInterpretation 2 spared (tables x y z)
 interpretation x y z h = (refl, ((refl, refl, (h.0, tt)), ((refl, refl, h.1), tt)))
@@ -63,18 +61,18 @@ first_model = (interpretation 0 0 1 (search rules), (λ h. h 1 refl refl, (false
 second_model : IsModel spared 2 (tables 1 1 0)
 second_model = (interpretation 1 1 0 (search rules), (λ h. h 0 refl refl, (false≢true, tt)))
 
-pub both_models : AreAll spared 2 (tables 0 0 1 ∷ tables 1 1 0 ∷ [])
-both_models = (
-  (
-    (first_model, omega arith, λ u m from before. none_other u m (λ e. omega (arith, e, before)) (λ e. omega (arith, e, before))),
-    ((second_model, omega arith, λ u m from before. none_other u m (λ e. omega (arith, e, from)) (λ e. omega (arith, e, before))), tt),
-  ),
-  λ u m from. none_other u m (λ e. omega (arith, e, from)) (λ e. omega (arith, e, from)),
-)
+pub first_next : IsNextModel spared 2 0 (tables 0 0 1)
+first_next = (first_model, omega arith, λ u m from before. none_other u m (λ e. omega (arith, e, before)) (λ e. omega (arith, e, before)))
 
--- with either of them left out
-pub left_out : ¬ AreFirst spared 2 0 (tables 1 1 0 ∷ []) × ¬ AreAll spared 2 (tables 0 0 1 ∷ [])
-left_out = (λ h. h.0.2 (tables 0 0 1) first_model (omega arith) (omega arith), λ h. h.1 (tables 1 1 0) second_model (omega arith))
+pub second_next : IsNextModel spared 2 2 (tables 1 1 0)
+second_next = (second_model, omega arith, λ u m from before. none_other u m (λ e. omega (arith, e, from)) (λ e. omega (arith, e, before)))
+
+pub none_behind : NoneFrom spared 2 7
+none_behind u m from = none_other u m (λ e. omega (arith, e, from)) (λ e. omega (arith, e, from))
+
+-- neither of them is left out
+pub left_out : ¬ IsNextModel spared 2 0 (tables 1 1 0) × ¬ NoneFrom spared 2 2
+left_out = (λ h. h.2 (tables 0 0 1) first_model (omega arith) (omega arith), λ h. h (tables 1 1 0) second_model (omega arith))
 
 -- one element
 single : ℕ → Finite
@@ -99,9 +97,9 @@ numbered : (y : ℕ) → table_number (single y) ≡ y
 unfolding single
 numbered y = omega arith
 
-pub none_single : AreAll spared 1 []
+pub none_single : NoneFrom spared 1 0
 unfolding single
-none_single = (tt, λ u m from. none u m)
+none_single = λ u m from. none u m
   where
     none : (u : Finite) → IsModel spared 1 u → ⊥
     none u m =

@@ -1,7 +1,7 @@
 -- The models of a size, in the order of their tables.
-use Rattle.std.specs.Prelude.{ℕ, suc, ◌<◌, ◌≤◌, List, [], ◌∷◌}
+use Rattle.std.specs.Prelude.{ℕ, ◌<◌, ◌≤◌}
 use Rattle.fol_core.specs.Stated.{Stated, IsCountermodel}
-use Rattle.model_tables.specs.Order.{table_number}
+use Rattle.model_tables.specs.Order.{first_tables, table_number, table_count}
 use Rattle.model_tables.specs.Size.{IsInterpretation}
 use Rattle.model_tables.specs.Tables.{Finite, meaning_of}
 
@@ -21,17 +21,6 @@ NoneBetween p n k j = (u : Finite) → IsModel p n u → k ≤ table_number u �
 abbrev pub IsNextModel : Stated → ℕ → ℕ → Finite → Type 0
 IsNextModel p n k t = IsModel p n t × (k ≤ table_number t) × NoneBetween p n k (table_number t)
 
--- these are models of size n in order, from number k on, and none is left out before the last of
--- them
-abbrev pub AreFirst : Stated → ℕ → ℕ → List Finite → Type 0
-AreFirst p n k [] = Unit {0}
-AreFirst p n k (t ∷ ts) = IsNextModel p n k t × AreFirst p n (suc (table_number t)) ts
-
--- the number behind the last of them
-abbrev pub number_behind : ℕ → List Finite → ℕ
-number_behind k [] = k
-number_behind k (t ∷ ts) = number_behind (suc (table_number t)) ts
-
--- these are all models of size n, in order
-abbrev pub AreAll : Stated → ℕ → List Finite → Type 0
-AreAll p n ts = AreFirst p n 0 ts × NoneFrom p n (number_behind 0 ts)
+-- how many tables of size n there are
+abbrev pub tables_in : ℕ → Stated → ℕ
+tables_in n p = table_count (first_tables n p)

@@ -1,5 +1,5 @@
--- A search worked out.
-use Rattle.std.specs.Prelude.{ℕ, [], ◌∷◌, None, codes}
+-- A problem, tables and readings worked out.
+use Rattle.std.specs.Prelude.{ℕ, [], ◌∷◌, codes}
 use Rattle.fol_core.specs.Fol.{atom, exists}
 use Rattle.fol_core.specs.Stated.{Stated, said, stated}
 use Rattle.fol_core.specs.SymbolTable.{symbol}
@@ -7,7 +7,6 @@ use Rattle.fol_core.specs.Tree.{var, app, none, more}
 use Rattle.fol_core.specs.declared.problem.Role.TheVariants.{Assumption, Goal}
 use Rattle.fol_core.specs.declared.symbols.Kind.TheVariants.{Function, Relation}
 use Rattle.ladr_io.specs.Times.{Times}
-use Rattle.mace_search.specs.Plain.{Search}
 use Rattle.model_tables.specs.Tables.{Finite, listing}
 
 -- `exists x p(x)` and the goal `p(a)`
@@ -21,11 +20,6 @@ spared =
 abbrev pub tables : ℕ → ℕ → ℕ → Finite
 tables x y z =
     record { top = 1; rows = listing Function (x ∷ []) ∷ listing Relation (y ∷ z ∷ []) ∷ [] }
-
--- the search among two elements, with no stop, when the tables with number k are the first still to
--- come
-abbrev pub seeking : ℕ → Finite → Search
-seeking k t = record { problem = spared; size = 2; tables = t; ahead = k; stop = None; late = None }
 
 -- so many readings of a clock, of which the first was 9, and the last two were these
 abbrev pub readings : ℕ → ℕ → ℕ → Times

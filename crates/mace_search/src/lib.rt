@@ -1,13 +1,8 @@
-// Searches for the models of a size.
+// The models of a size, and what a search for them answers.
 #![tactic(auto)]
 
 mod answer;
-mod check;
-mod find;
 mod laws;
-mod plain;
-mod sentence;
 
 pub use answer::Answer;
 pub use laws::{worked, worked_readings};
-pub use plain::PlainSearch;

@@ -1,56 +1,17 @@
 -- Lists of least witnesses, one value after the other.
-use Rattle.std.proofs.Common.{◌≡◌, inl, inr, Bool, true, false, MatchBool, Option, ℕ, zero, suc, ◌+◌, ◌*◌, ◌^◌, ◌<◌, ◌≤◌, List, [], ◌∷◌, ◌++◌, length, map, drop, get_or, replicate, set, slice_index, refl, sym, ap, ◌∙◌, subst, arith}
+use Rattle.std.proofs.Common.{◌≡◌, inl, inr, ℕ, zero, suc, ◌+◌, ◌*◌, ◌^◌, ◌<◌, List, [], ◌∷◌, ◌++◌, length, get_or, replicate, slice_index, refl, sym, ap, ◌∙◌, subst, arith}
 use Rattle.std.proofs.lemmas.Bool.{cases_lt}
 use Rattle.std.proofs.lemmas.Grind.{same_number_lists}
-use Rattle.std.proofs.lemmas.List.{drop_more, drop_all, length-replicate}
+use Rattle.std.proofs.lemmas.List.{length-replicate}
 use Rattle.std.proofs.Math.Nat.{pow-zero, pow-suc}
-use Rattle.fol_core.specs.EntryView.{skolem_axiom_of}
-use Rattle.fol_core.specs.Fol.{forall}
-use Rattle.fol_core.specs.FormulaView.{fol_of}
-use Rattle.fol_core.specs.Free.{closed_over}
 use Rattle.fol_core.specs.Truth.{Assignment}
-use Rattle.fol_core.specs.SkolemAxioms.{SkolemAxiom, IsClosedBody, AreInOrder}
-use Rattle.fol_core.specs.declared.clause.Entry.{Entry}
-use Rattle.fol_core.specs.declared.symbols.Kind.TheVariants.{Function}
+use Rattle.fol_core.specs.SkolemAxioms.{SkolemAxiom}
 use Rattle.model_tables.specs.Digits.{AreDigits, digits_count, digits_number}
-use Rattle.model_tables.specs.Expansion.{assigned, IsLeastWitness, AreLeastWitnesses, with_row, with_values, IsExpansion}
+use Rattle.model_tables.specs.Expansion.{assigned, IsLeastWitness, AreLeastWitnesses, with_values, IsExpansion}
 use Rattle.model_tables.specs.Size.{AllBelow}
-use Rattle.model_tables.specs.Tables.{Listing, Finite, listing, place_from}
-use Rattle.model_tables.specs.Variables.{room_of, HasRoomFor}
-use Rattle.model_tables.proofs.Elements.{same_room}
+use Rattle.model_tables.specs.Tables.{Finite, place_from}
 use Rattle.model_tables.proofs.Numbers.{number_below, number_same, digits_many, digits_at}
 use Rattle.model_tables.proofs.Setting.{bounds}
-use Rattle.model_tables.proofs.Stepped.{closed_room, inner_room}
-
--- room for a further row
-pub with_row_more : (rs : List Listing) (s : ℕ) (l : Listing) → length rs ≤ s → with_row (rs ++ listing Function [] ∷ []) s l ≡ with_row rs s l
-with_row_more [] zero l h = refl
-with_row_more [] (suc s) l h = refl
-with_row_more (r ∷ rs) zero l h = absurd (omega arith)
-with_row_more (r ∷ rs) (suc s) l h = ap (λ (ls : List Listing). r ∷ ls) (with_row_more rs s l (omega arith))
-
-pub with_row_there : (rs : List Listing) (s : ℕ) (l : Listing) → s < length rs → set rs s l ≡ with_row rs s l
-with_row_there [] s l h = absurd (omega arith)
-with_row_there (r ∷ rs) zero l h = refl
-with_row_there (r ∷ rs) (suc s) l h = ap (λ (ls : List Listing). r ∷ ls) (with_row_there rs s l (omega arith))
-
--- what has room for a Skolem symbol
-pub room_for : (e : Entry) (a b : List (Option ℕ)) → length a ≡ length b → HasRoomFor e b → HasRoomFor e a
-room_for e a b same h = (same_room e.variables.items a b same h.0, omega (arith, h.1), same_room e.bound.items a b same h.2, omega (arith, h.3))
-
-pub entry_room : (e : Entry) (slots : List (Option ℕ)) → room_of (closed_over e.variables.items (forall e.variable (closed_over e.bound.items (fol_of e.body)))) ≤ length slots → HasRoomFor e slots
-entry_room e slots h =
-    let inner = closed_over e.bound.items (fol_of e.body) in
-    let variable : room_of (forall e.variable inner) ≤ length slots = omega (arith, inner_room e.variables.items (forall e.variable inner)) in (
-      closed_room e.variables.items (forall e.variable inner) slots h,
-      omega arith,
-      closed_room e.bound.items (fol_of e.body) slots (omega arith),
-      omega (arith, inner_room e.bound.items (fol_of e.body)),
-    )
-
-pub either_way : (b : Bool) (P Q : Type 0) → (P → Q) → (Q → P) → MatchBool b P (¬ P) → MatchBool b Q (¬ Q)
-either_way true P Q f g h = f h
-either_way false P Q f g h = λ q. h (g q)
 
 get_or_before : (xs : List ℕ) (x i : ℕ) → i < length xs → get_or (xs ++ x ∷ []) i 0 ≡ get_or xs i 0
 get_or_before [] x i h = absurd (omega arith)
@@ -147,19 +108,3 @@ one_expansion [] t u v h k = h ∙ sym k
 one_expansion (w ∷ ws) t u v h k =
     let same = values_once t w h.0 k.0 h.1.0 k.1.0 in
     one_expansion ws (with_values t w.symbol h.0) u v h.1.1 (subst (λ (ns : List ℕ). IsExpansion (with_values t w.symbol ns) ws v) (sym same) k.1.1)
-
--- one entry after the other
-pub entry_closed : (es : List Entry) (i : ℕ) (e : Entry) → AreInOrder (map skolem_axiom_of es) → i < length es → e ≡ get_or es i e → IsClosedBody (skolem_axiom_of e)
-entry_closed [] i e h l is = absurd (omega arith)
-entry_closed (f ∷ es) zero e h l is = subst (λ (x : Entry). IsClosedBody (skolem_axiom_of x)) (sym is) h.0
-entry_closed (f ∷ es) (suc i) e h l is = entry_closed es i e h.3 (omega arith) is
-
-pub entry_next : (es : List Entry) (i : ℕ) (e : Entry) (t v u : Finite) → i < length es → e ≡ get_or es i e
-    → ((values : List ℕ) × (AreLeastWitnesses t (skolem_axiom_of e) values × (v ≡ with_values t e.symbol.0 values))) → IsExpansion v (map skolem_axiom_of (drop (i + 1) es)) u
-    → IsExpansion t (map skolem_axiom_of (drop i es)) u
-entry_next es i e t v u l is h rest =
-    let here : drop i es ≡ e ∷ drop (i + 1) es = drop_more es i e l ∙ ap (λ (x : Entry). x ∷ drop (i + 1) es) (sym is) in
-    subst (λ (xs : List Entry). IsExpansion t (map skolem_axiom_of xs) u) (sym here) (h.0, (h.1.0, subst (λ (x : Finite). IsExpansion x (map skolem_axiom_of (drop (i + 1) es)) u) h.1.1 rest))
-
-pub entries_end : (es : List Entry) (i : ℕ) (t : Finite) → length es ≤ i → IsExpansion t (map skolem_axiom_of (drop i es)) t
-entries_end es i t past = subst (λ (xs : List Entry). IsExpansion t (map skolem_axiom_of xs) t) (sym (drop_all i es past)) refl

@@ -1,5 +1,5 @@
 -- Numbers of lists of digits.
-use Rattle.std.proofs.Common.{◌≡◌, ℕ, zero, suc, ◌+◌, ◌*◌, ◌-◌, ◌/◌, ◌%◌, ◌<◌, ◌≤◌, List, [], ◌∷◌, length, set, get_or, drop, inl, inr, refl, sym, ap, ap₂, replicate, ◌∙◌, arith, subst}
+use Rattle.std.proofs.Common.{◌≡◌, ℕ, zero, suc, ◌+◌, ◌*◌, ◌-◌, ◌/◌, ◌%◌, ◌<◌, ◌≤◌, List, [], ◌∷◌, length, set, get_or, drop, inl, inr, refl, sym, ap, ap₂, ◌∙◌, arith}
 use Rattle.std.proofs.lemmas.Bool.{cases_lt}
 use Rattle.std.proofs.lemmas.List.{length-set, drop_all}
 use Rattle.std.proofs.Math.Nat.{mul-le-mul_right, div-add-mod, mod-lt}
@@ -53,19 +53,6 @@ digits_at (b ∷ bs) k h =
       | inr ge ↦ let more : b * c ≤ d * c = mul-le-mul_right c ge in absurd (omega arith)
     ]
 
--- P holds of all digits whose number is below k
-abbrev pub HoldsBefore : (List ℕ → Type 0) → List ℕ → ℕ → Type 0
-HoldsBefore P bs k = (ds : List ℕ) → AreDigits bs ds → digits_number bs ds < k → P ds
-
-pub before_more : (P : List ℕ → Type 0) (bs ds : List ℕ) (k : ℕ) → AreDigits bs ds → HoldsBefore P bs (digits_number bs ds) → P ds → k ≡ digits_number bs ds + 1 → HoldsBefore P bs k
-before_more P bs ds k d before here next es e less = elim (cases_lt (digits_number bs es) (digits_number bs ds)) [
-  | inl lt ↦ before es e lt
-  | inr ge ↦ subst P (number_same bs ds es d e (omega arith)) here
-]
-
-pub before_all : (P : List ℕ → Type 0) (bs ds : List ℕ) → AreDigits bs ds → HoldsBefore P bs (digits_number bs ds) → P ds → digits_count bs ≡ digits_number bs ds + 1 → (es : List ℕ) → AreDigits bs es → P es
-before_all P bs ds d before here last es e = before_more P bs ds (digits_count bs) d before here last es e (number_below bs es e)
-
 -- what a changed digit changes
 pub number_set : (bs ds : List ℕ) (i v : ℕ) → AreDigits bs ds → i < length ds
     → digits_number bs (set ds i v) + get_or ds i 0 * digits_count (drop (suc i) bs) ≡ digits_number bs ds + v * digits_count (drop (suc i) bs)
@@ -101,11 +88,6 @@ pub count_drop : (bs : List ℕ) (i : ℕ) → i < length bs → digits_count (d
 count_drop [] i l = absurd (omega arith)
 count_drop (b ∷ bs) zero l = refl
 count_drop (b ∷ bs) (suc i) l = count_drop bs i (omega arith)
-
-pub all_same : (n b i : ℕ) → i < n → get_or (replicate n b) i 0 ≡ b
-all_same zero b i l = absurd (omega arith)
-all_same (suc n) b zero l = refl
-all_same (suc n) b (suc i) l = all_same n b i (omega arith)
 
 -- one more at i, where what is behind it has run through
 pub step_up : (bs ds : List ℕ) (i n : ℕ) → AreDigits bs ds → i < length ds → digits_number bs ds + digits_count (drop (suc i) bs) ≡ n → digits_number bs (set ds i (get_or ds i 0 + 1)) ≡ n

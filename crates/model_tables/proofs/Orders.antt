@@ -1,5 +1,5 @@
 -- Tables of one size in their order.
-use Rattle.std.proofs.Common.{◌≡◌, ℕ, zero, suc, ◌+◌, ◌-◌, ◌*◌, ◌<◌, ◌≤◌, List, [], ◌∷◌, ◌++◌, length, get_or, replicate, refl, sym, ap, ap₂, ◌∙◌, arith}
+use Rattle.std.proofs.Common.{◌≡◌, ℕ, zero, suc, ◌+◌, ◌-◌, ◌*◌, ◌<◌, ◌≤◌, List, [], ◌∷◌, ◌++◌, length, replicate, refl, sym, ap, ap₂, ◌∙◌, arith}
 use Rattle.std.proofs.lemmas.List.{length-replicate}
 use Rattle.fol_core.specs.Fol.{Fol}
 use Rattle.fol_core.specs.Occurs.{occurs_in}
@@ -8,7 +8,7 @@ use Rattle.fol_core.specs.SymbolTable.{Symbol}
 use Rattle.fol_core.specs.declared.symbols.Kind.{Kind}
 use Rattle.fol_core.specs.declared.symbols.Kind.TheVariants.{Function, Relation}
 use Rattle.model_tables.specs.Digits.{AreDigits, digits_count, digits_number}
-use Rattle.model_tables.specs.Order.{bounds_of, cells_of, IsFilled, table_count, table_number, HaveSameCells, IsSameShape, zeros_for, first_tables, GoesOn, EachComesOnce}
+use Rattle.model_tables.specs.Order.{bounds_of, cells_of, IsFilled, table_count, table_number, HaveSameCells, IsSameShape, zeros_for, first_tables}
 use Rattle.model_tables.specs.Size.{bound_of, cells_for, AllBelow, AreListings, formulas_of, IsInterpretation}
 use Rattle.model_tables.specs.Tables.{Listing, listing, Finite}
 use Rattle.model_tables.proofs.Numbers.{number_below, number_same}
@@ -154,37 +154,3 @@ number_decides t u same ft fu e =
     let cells = number_same (bounds_of (t.top + 1) t.rows) (cells_of t.rows) (cells_of u.rows) ft there numbers in
     let tables : ℕ → List Listing → Finite = λ top rows. record { top = top; rows = rows } in
     ap₂ tables same.0 (cells_same t.rows u.rows same.1 cells)
-
--- the tables of a run, by their places
-run_at : (t : Finite) (us : List Finite) (k : ℕ) (d : Finite) → GoesOn t us → IsFilled t → k < suc (length us)
-    → IsSameShape t (get_or (t ∷ us) k d) × IsFilled (get_or (t ∷ us) k d) × (table_number (get_or (t ∷ us) k d) ≡ table_number t + k)
-run_at t us zero d h f l = (shape_itself t, f, omega arith)
-run_at t [] (suc k) d h f l = absurd (omega arith)
-run_at t (u ∷ us) (suc k) d h f l =
-    let rest = run_at u us k d h.1 h.0.1 (omega arith) in
-    (shape_joined t u (get_or (u ∷ us) k d) h.0.0 rest.0, rest.1, omega (arith, rest.2, h.0.2))
-
-run_many : (t : Finite) (us : List Finite) → GoesOn t us → table_count t ≡ table_number t + suc (length us)
-run_many t [] h = omega (arith, h)
-run_many t (u ∷ us) h = omega (arith, run_many u us h.1, shape_count t u h.0.0, h.0.2)
-
-pub each_once : (n : ℕ) (p : Stated) (ts : List Finite) → 1 ≤ n → GoesOn (first_tables n p) ts → EachComesOnce n p (first_tables n p ∷ ts)
-each_once n p ts one run = (each, once)
-  where
-    filled : IsFilled (first_tables n p)
-    filled = first_filled n p one
-
-    each : (t : Finite) → IsInterpretation n p t → (k : ℕ) × (k < suc (length ts)) × (get_or (first_tables n p ∷ ts) k (first_tables n p) ≡ t)
-    each t h =
-        let shape = interpretation_shape n p t h in
-        let less : table_number t < suc (length ts) =
-        omega (arith, run_many (first_tables n p) ts run, first_number n p, number_in_count t shape.1, shape_count (first_tables n p) t shape.0) in
-        let x = get_or (first_tables n p ∷ ts) (table_number t) (first_tables n p) in
-        let there = run_at (first_tables n p) ts (table_number t) (first_tables n p) run filled less in
-        (table_number t, less, number_decides x t (shape_joined x (first_tables n p) t (shape_turned (first_tables n p) x there.0) shape.0) there.1 shape.1 (omega (arith, there.2, first_number n p)))
-
-    once : (j k : ℕ) → j < suc (length ts) → k < suc (length ts) → get_or (first_tables n p ∷ ts) j (first_tables n p) ≡ get_or (first_tables n p ∷ ts) k (first_tables n p) → j ≡ k
-    once j k lj lk e =
-        let at_j = run_at (first_tables n p) ts j (first_tables n p) run filled lj in
-        let at_k = run_at (first_tables n p) ts k (first_tables n p) run filled lk in
-        omega (arith, at_j.2, at_k.2, ap table_number e)

@@ -43,16 +43,3 @@ formulas_of p = map (λ s. s.formula) p.formulas
 -- tables are an interpretation of size n over the symbols that stand in the formulas of a problem
 abbrev pub IsInterpretation : ℕ → Stated → Finite → Type 0
 IsInterpretation n p t = (t.top + 1 ≡ n) × AreListings n (formulas_of p) 0 p.symbols t.rows
-
--- which of the symbols stand in the formulas
-abbrev pub used_from : List Fol → ℕ → List Symbol → List Bool
-used_from fs k [] = []
-used_from fs k (s ∷ ss) = occurs_in k fs ∷ used_from fs (suc k) ss
-
--- how many cells there are
-abbrev pub cells_from : ℕ → List Fol → ℕ → List Symbol → ℕ
-cells_from n fs k [] = 0
-cells_from n fs k (s ∷ ss) = cells_for n s.arity (occurs_in k fs) + cells_from n fs (suc k) ss
-
-abbrev pub cell_count : ℕ → Stated → ℕ
-cell_count n p = cells_from n (formulas_of p) 0 p.symbols

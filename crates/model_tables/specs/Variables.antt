@@ -1,10 +1,8 @@
 -- Which variables have elements.
-use Rattle.std.specs.Prelude.{ℕ, ◌<◌, ◌≤◌, suc, ◌-◌, max, List, [], ◌∷◌, ◌++◌, length, replicate, Option, None, unwrap_or}
+use Rattle.std.specs.Prelude.{ℕ, ◌<◌, suc, ◌-◌, max, List, [], ◌∷◌, ◌++◌, length, replicate, Option, None, unwrap_or}
 use Rattle.std.specs.List.{slice_index_or}
 use Rattle.fol_core.specs.Fol.{Fol, verum, falsum, equal, atom, negation, conjunction, disjunction, implication, equivalence, forall, exists}
-use Rattle.fol_core.specs.FormulaView.{fol_of}
-use Rattle.fol_core.specs.Truth.{Assignment, with_var}
-use Rattle.fol_core.specs.declared.clause.Entry.{Entry}
+use Rattle.fol_core.specs.Truth.{Assignment}
 
 -- what the slot of a variable holds, None also where there is no slot
 abbrev pub slot : List (Option ℕ) → ℕ → Option ℕ
@@ -17,12 +15,6 @@ with_room slots n = slots ++ replicate (n - length slots) None
 -- the assignment that the slots give: a variable whose slot is empty or isn't there has 0
 abbrev pub assignment : List (Option ℕ) → Assignment
 assignment slots x = unwrap_or (slot slots x) 0
-
--- the assignment with the elements of these variables changed, one variable after the other
-abbrev pub with_vars : Assignment → List ℕ → List ℕ → Assignment
-with_vars e [] ns = e
-with_vars e (x ∷ xs) [] = e
-with_vars e (x ∷ xs) (n ∷ ns) = with_vars (with_var e x n) xs ns
 
 -- how many slots the quantifiers of a formula need
 abbrev pub room_of : Fol → ℕ
@@ -42,10 +34,3 @@ room_of (exists x f) = max (suc x) (room_of f)
 abbrev pub HasRoom : List ℕ → List (Option ℕ) → Type 0
 HasRoom [] slots = Unit {0}
 HasRoom (x ∷ xs) slots = (x < length slots) × HasRoom xs slots
-
--- there is room for what a Skolem symbol is to pick: its variables, the replaced one, and those
--- that are bound in its body
-abbrev pub HasRoomFor : Entry → List (Option ℕ) → Type 0
-HasRoomFor e slots =
-    HasRoom e.variables.items slots × (e.variable < length slots) × HasRoom e.bound.items slots
-    × (room_of (fol_of e.body) ≤ length slots)

@@ -1,6 +1,6 @@
 // Elements for variables.
 ghost use Rattle.std.specs.Prelude.{◌≡◌, ◌<◌, None, Some, [], length, slice_set, OnOk, OnErr};
-ghost use Rattle.model_tables.specs.Variables.{assignment, slot, with_room, with_vars, HasRoom};
+ghost use Rattle.model_tables.specs.Variables.{assignment, slot, with_room};
 
 use std::alloc::{AllocError, Global};
 use std::marker::Model;
@@ -72,18 +72,5 @@ impl Env {
         ensures { self.new ≡ slice_set self.old variable element }
     {
         self.slots[variable as usize] = element;
-    }
-
-    // Sets variables that there is room for, one after the other.
-    pub(crate) fn set_each(&mut self, variables: &[u64], elements: &[u32])
-        requires room { HasRoom variables.now self.old }
-        requires many { length elements.now ≡ length variables.now }
-        ensures room { length self.new ≡ length self.old }
-        ensures set { assignment self.new ≡ with_vars
-            (assignment self.old) variables.now elements.now }
-    {
-        for (place, variable) in variables.iter().enumerate() {
-            self.set(*variable, elements[place]);
-        }
     }
 }

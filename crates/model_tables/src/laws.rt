@@ -1,20 +1,14 @@
-// Laws of the order of tables: the functions do nothing, and their contracts are the laws.
-ghost use Rattle.std.specs.Prelude.{ℕ, ◌≡◌, [], ◌∷◌, ◌≤◌, List};
+// Laws of tables: the functions do nothing, and their contracts are the laws.
+ghost use Rattle.std.specs.Prelude.{ℕ, ◌≡◌, [], ◌∷◌};
 ghost use Rattle.fol_core.specs.Stated.{Stated, IsCountermodel};
 ghost use Rattle.fol_core.specs.declared.symbols.Kind.TheVariants.{Function};
 ghost use Rattle.model_tables.specs.Expansion.{IsExpansion, OneExpansion, ExpansionPicks, ExpansionKeeps, ExpansionSays};
 ghost use Rattle.model_tables.specs.ModelText.{model_text};
-ghost use Rattle.model_tables.specs.Order.{first_tables, GoesOn, EachComesOnce, table_count, table_number};
+ghost use Rattle.model_tables.specs.Order.{table_count, table_number};
 ghost use Rattle.model_tables.specs.Isomorphism.{IsIsomorphism};
-ghost use Rattle.model_tables.specs.Size.{IsInterpretation, cell_count};
+ghost use Rattle.model_tables.specs.Size.{IsInterpretation};
 ghost use Rattle.model_tables.specs.Tables.{Finite, listing, meaning_of};
 ghost use Rattle.model_tables.specs.Worked.{apart, tables, exchange, tables_text, group_symbols, group, group_text, one, single, seekers, expanded};
-
-/// From the first tables of a size to the last, one step after the other, every interpretation of the size comes just once.
-pub fn each_comes_once()
-    ensures { (n : ℕ) (p : Stated) (ts : List Finite) → 1 ≤ n → GoesOn (first_tables n p) ts
-        → EachComesOnce n p (first_tables n p ∷ ts) }
-{}
 
 /// Tables are isomorphic to themselves.
 pub fn is_isomorphic_to_itself()
@@ -26,8 +20,7 @@ pub fn is_isomorphic_to_itself()
 pub fn worked()
     ensures interpretation { IsInterpretation 3 apart (tables 0 1) }
     ensures countermodel { IsCountermodel (meaning_of (tables 0 1)) apart.formulas }
-    ensures place { (cell_count 3 apart ≡ 5) × (table_count (tables 0 1) ≡ 72)
-        × (table_number (tables 0 1) ≡ 9) }
+    ensures place { (table_count (tables 0 1) ≡ 72) × (table_number (tables 0 1) ≡ 9) }
     ensures text { model_text apart.symbols 7 (tables 0 1) ≡ tables_text }
     ensures operation { model_text group_symbols 1 group ≡ group_text }
     ensures isomorphism { IsIsomorphism 3 apart exchange (tables 0 1) (tables 1 0) }

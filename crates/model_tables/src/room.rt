@@ -1,12 +1,12 @@
 // How much room the variables of a formula need.
-ghost use Rattle.std.specs.Prelude.{◌≡◌, ◌<◌, ◌≤◌, suc, max, length, Some, OnOk, OnErr, MatchOption, ⊤};
-ghost use Rattle.fol_core.specs.Fol.{Fol, forall};
+ghost use Rattle.std.specs.Prelude.{◌≡◌, ◌≤◌, suc, max, length, Some, OnOk, OnErr, MatchOption, ⊤};
+ghost use Rattle.fol_core.specs.Fol.{Fol};
 ghost use Rattle.fol_core.specs.FormulaView.{fol_of};
 ghost use Rattle.fol_core.specs.Free.{closed_over};
-ghost use Rattle.model_tables.specs.Variables.{room_of, HasRoomFor};
+ghost use Rattle.model_tables.specs.Variables.{room_of};
 
 use crate::env::Env;
-use fol_core::{Entry, Formula, Shape};
+use fol_core::{Formula, Shape};
 use std::alloc::AllocError;
 
 /// Makes room for the closure of a formula, whose free variables these are; room that was there stays.
@@ -24,27 +24,6 @@ pub fn reserve_closure(
         None => Err(AllocError),
         Some(room) => env.reserve(room),
     }
-}
-
-/// Makes room for what a Skolem symbol is to pick.
-pub(crate) fn reserve_entry(env: &mut Env, entry: &Entry) -> Result<(), AllocError>
-    ensures { OnOk result (HasRoomFor entry.now env.new) }
-{
-    match entry_room(entry) {
-        None => Err(AllocError),
-        Some(room) => env.reserve(room),
-    }
-}
-
-// How many slots a Skolem symbol needs, if so many can be had.
-fn entry_room(entry: &Entry) -> Option<u64>
-    ensures { MatchOption result ⊤ (λ n. n ≡ room_of
-        (closed_over entry.now.variables.items
-        (forall entry.now.variable (closed_over entry.now.bound.items (fol_of entry.now.body))))) }
-{
-    let bound = closed_room(&entry.body, &entry.bound)?;
-    let body = greater(behind(entry.variable)?, bound)?;
-    behind_all(&entry.variables, body)
 }
 
 // How many slots a formula and these variables need, if so many can be had.

@@ -1,11 +1,8 @@
 // Finite interpretations given by tables.
-ghost use Rattle.std.specs.Prelude.{◌≡◌, ◌+◌, ◌-◌, ◌<◌, ◌==◌, [], max, length, slice_index, IfOk, OnOk};
-ghost use Rattle.fol_core.specs.declared.symbols.Kind.TheVariants.{Function};
-ghost use Rattle.model_tables.specs.Expansion.{with_row};
+ghost use Rattle.std.specs.Prelude.{◌≡◌, ◌+◌, ◌-◌, ◌<◌, ◌==◌, length, slice_index};
 ghost use Rattle.model_tables.specs.Tables.{listing, row_of, has, element, meaning_of};
 
 use fol_core::{Interpretation, Kind, Sym};
-use std::alloc::{AllocError, Global};
 use std::marker::Model;
 
 /// What a symbol is, and its values, the last argument running fastest.
@@ -28,20 +25,6 @@ impl Row {
         ensures { result ≡ listing kind values.items }
     {
         Row { kind, values }
-    }
-
-    // No entry.
-    fn none(alloc: Global) -> Row
-        ensures { result ≡ listing Function [] }
-    {
-        Row::new(Kind::Function, Vec::new(alloc))
-    }
-
-    fn copy(&self, alloc: Global) -> Result<Row, AllocError>
-        ensures { IfOk result (λ copy. copy ≡ self.now) }
-    {
-        let values = Vec::from_slice(alloc, &self.values)?;
-        Ok(Row::new(self.kind, values))
     }
 
     pub fn values(&self) -> &[u32]
@@ -94,30 +77,6 @@ impl Tables {
         ensures { result ≡ self.now.top + 1 }
     {
         self.size.max(1)
-    }
-
-    /// Equal tables.
-    pub fn copy(&self, alloc: Global) -> Result<Tables, AllocError>
-        ensures { IfOk result (λ copy. copy ≡ self.now) }
-    {
-        let mut rows = Vec::new(alloc);
-        for row in &self.rows {
-            rows.push(row.copy(alloc)?)?;
-        }
-        let size = self.size;
-        Ok(Tables { size, rows })
-    }
-
-    // Puts in a row for a symbol; symbols before it that had none have no entry.
-    pub(crate) fn put(&mut self, alloc: Global, symbol: Sym, row: Row) -> Result<(), AllocError>
-        ensures { OnOk result (self.new ≡ record
-            { top = self.old.top; rows = with_row self.old.rows symbol.0 row }) }
-    {
-        while self.rows.len() as u64 <= symbol.0 {
-            self.rows.push(Row::none(alloc))?;
-        }
-        self.rows[symbol.0 as usize] = row;
-        Ok(())
     }
 
     // The rows by symbol number.

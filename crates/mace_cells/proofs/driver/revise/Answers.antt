@@ -18,7 +18,7 @@ pub returns-in-None-clause-leaves : goal.returns-in-None-clause-leaves
 returns-in-None-clause-leaves g c =
     let same = rest_decided _ _ _ _ _ c.args.frame c.undo.ensures.world c.requires.standing.decided c.requires.latest c.undo.ensures.decided in
     no_further (g.B.Board.world c.args.board.now) (g.B.Board.world c.undo.new.self) (g.B.Board.decided c.undo.new.self) c.args.frames.now.list c.pop.new.self.list c.args.frame c.from.result c.from.ensures
-    c.undo.ensures.world same c.requires.latest c.in-None.ensures (ap (λ (s : Stacked Frame). s.list) c.pop.ensures)
+    c.undo.ensures.world same c.requires.latest c.in-None.ensures.next (ap (λ (s : Stacked Frame). s.list) c.pop.ensures)
 
 pub returns-in-Some-clause-leaves : goal.returns-in-Some-clause-leaves
 returns-in-Some-clause-leaves g c =
@@ -26,7 +26,7 @@ returns-in-Some-clause-leaves g c =
     let popped : c.pop.new.self.list ≡ rest_of c.args.frames.now.list = ap (λ (s : Stacked Frame). s.list) c.pop.ensures in
     let frame : Frame = record { cell = c.args.frame.cell; value = c.in-Some.value; most = c.args.frame.most } in
     further_value (g.B.Board.world c.args.board.now) (g.B.Board.world c.undo.new.self) (g.B.Board.decided c.undo.new.self) c.args.frames.now.list c.push.new.self.list c.args.frame c.in-Some.value c.from.result c.from.ensures
-    c.undo.ensures.world same c.requires.latest c.in-Some.ensures (ap (λ (s : Stacked Frame). s.list) c.push.ensures ∙ ap (λ (fs : List Frame). frame ∷ fs) popped)
+    c.undo.ensures.world same c.requires.latest c.in-Some.ensures.next (ap (λ (s : Stacked Frame). s.list) c.push.ensures ∙ ap (λ (fs : List Frame). frame ∷ fs) popped)
 
 pub decide-requires-clause-open : goal.decide-requires-clause-open
 decide-requires-clause-open g c =
@@ -39,5 +39,5 @@ pub returns-in-Some-clause-goes : goal.returns-in-Some-clause-goes
 returns-in-Some-clause-goes g c =
     let popped : c.pop.new.self.list ≡ rest_of c.args.frames.now.list = ap (λ (s : Stacked Frame). s.list) c.pop.ensures in
     let frame : Frame = record { cell = c.args.frame.cell; value = c.in-Some.value; most = c.args.frame.most } in
-    tries_value (g.B.Board.world c.args.board.now) c.args.frames.now.list c.push.new.self.list c.args.frame frame c.requires.latest (omega (arith, c.in-Some.ensures.0, c.from.ensures)) c.in-Some.ensures.1 refl refl
+    tries_value (g.B.Board.world c.args.board.now) c.args.frames.now.list c.push.new.self.list c.args.frame frame c.requires.latest (omega (arith, c.in-Some.ensures.next.0, c.from.ensures)) c.in-Some.ensures.next.1 refl refl
     (ap (λ (s : Stacked Frame). s.list) c.push.ensures ∙ ap (λ (fs : List Frame). frame ∷ fs) popped)

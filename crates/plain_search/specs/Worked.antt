@@ -1,0 +1,145 @@
+-- Closures, choices and searches worked out.
+use Rattle.std.specs.Prelude.{ℕ, Bool, true, false, List, [], ◌∷◌, Option}
+use Rattle.fol_core.specs.Literals.{ClauseTree, literal, equality}
+use Rattle.fol_core.specs.Tree.{Tree, var, elem, app, none, more}
+use Rattle.fol_core.specs.declared.symbols.Kind.TheVariants.{Function, Relation}
+use Rattle.mace_cells.specs.Choices.{Decision}
+use Rattle.mace_cells.specs.World.{World}
+use Rattle.mace_cells.specs.declared.way.Candidates.{Candidates}
+use Rattle.mace_cells.specs.declared.way.Candidates.TheVariants.{InUse}
+use Rattle.mace_cells.specs.declared.way.Measure.{Measure}
+use Rattle.mace_cells.specs.declared.way.Measure.TheVariants.{MostCrossed}
+use Rattle.mace_cells.specs.declared.way.Way.{Way}
+use Rattle.mace_ground.specs.Cells.{Cell, cell}
+use Rattle.plain_search.specs.Lefts.{ValuesLeft, all_left, with_left}
+use Rattle.plain_search.specs.Trying.{chosen, decide, leaves, listed, tried}
+
+-- two elements, a relation `p` and a function `f`, each of one argument
+abbrev pub world : List ClauseTree → World
+world clauses = record {
+  size = 2;
+  fixed = 2;
+  clauses = clauses;
+  blocks =
+      record { kind = Relation; symbol = 0; arity = 1 }
+      ∷ record { kind = Function; symbol = 1; arity = 1 } ∷ [];
+  way = record { candidates = InUse; measure = MostCrossed; least_numbers = true };
+}
+
+abbrev pub p : Tree → Tree
+p t = app 0 (more t none)
+
+abbrev pub f : Tree → Tree
+f t = app 1 (more t none)
+
+abbrev pub equal : Tree → Tree → Tree
+equal s t = app equality (more s (more t none))
+
+-- `p(0)`; `f(0) = 1`; and `-p(x) | p(f(x))`
+abbrev pub spreading : List ClauseTree
+spreading =
+    (literal true (p (elem 0)) ∷ []) ∷ (literal true (equal (f (elem 0)) (elem 1)) ∷ [])
+    ∷ (literal false (p (var 0)) ∷ literal true (p (f (var 0))) ∷ []) ∷ []
+
+-- `-p(1)`
+abbrev pub denial : ClauseTree
+denial = literal false (p (elem 1)) ∷ []
+
+-- `f(f(x)) = x` and `p(x)`
+abbrev pub turning : List ClauseTree
+turning =
+    (literal true (equal (f (f (var 0))) (var 0)) ∷ []) ∷ (literal true (p (var 0)) ∷ []) ∷ []
+
+-- `f(0) = 0`
+abbrev pub fixing : ClauseTree
+fixing = literal true (equal (f (elem 0)) (elem 0)) ∷ []
+
+abbrev pub p_at : ℕ → Cell
+p_at x = cell Relation 0 (x ∷ [])
+
+abbrev pub f_at : ℕ → Cell
+f_at x = cell Function 1 (x ∷ [])
+
+-- `f(0) != f(0) | p(0)`
+abbrev pub reflecting : List ClauseTree
+reflecting =
+    (literal false (equal (f (elem 0)) (f (elem 0))) ∷ literal true (p (elem 0)) ∷ []) ∷ []
+
+abbrev pub way : Candidates → Measure → Bool → Way
+way candidates measure least =
+    record { candidates = candidates; measure = measure; least_numbers = least }
+
+-- n elements and the function `f` alone, searched in a way; the clauses name no element
+abbrev pub mapping : ℕ → Way → List ClauseTree → World
+mapping n way clauses = record {
+  size = n;
+  fixed = 0;
+  clauses = clauses;
+  blocks = record { kind = Function; symbol = 1; arity = 1 } ∷ [];
+  way = way;
+}
+
+-- `f(f(x)) = x`
+abbrev pub involution : List ClauseTree
+involution = (literal true (equal (f (f (var 0))) (var 0)) ∷ []) ∷ []
+
+-- four elements and a constant `b`; the clauses name 0 and 1
+abbrev pub naming : List ClauseTree → World
+naming clauses = record {
+  size = 4;
+  fixed = 2;
+  clauses = clauses;
+  blocks = record { kind = Function; symbol = 2; arity = 0 } ∷ [];
+  way = way InUse MostCrossed true;
+}
+
+abbrev pub b : Tree
+b = app 2 none
+
+abbrev pub b_cell : Cell
+b_cell = cell Function 2 []
+
+-- `b != 0` and `b != 1`
+abbrev pub apart : List ClauseTree
+apart =
+    (literal false (equal b (elem 0)) ∷ []) ∷ (literal false (equal b (elem 1)) ∷ []) ∷ []
+
+-- `1 = b`
+abbrev pub turned : ClauseTree
+turned = literal true (equal (elem 1) b) ∷ []
+
+-- one element, a relation `q` and the constant `b`
+abbrev pub single : World
+single = record {
+  size = 1;
+  fixed = 0;
+  clauses = [];
+  blocks =
+      record { kind = Relation; symbol = 0; arity = 0 }
+      ∷ record { kind = Function; symbol = 2; arity = 0 } ∷ [];
+  way = way InUse MostCrossed true;
+}
+
+-- four elements: of `f` the value 3 is crossed off at 1 and at 2, and 2 and 3 are at 3
+abbrev pub crossed : World → ValuesLeft
+crossed w =
+    with_left (with_left (with_left (all_left w) (f_at 1) (0 ∷ 1 ∷ 2 ∷ [])) (f_at 2)
+    (0 ∷ 1 ∷ 2 ∷ [])) (f_at 3) (0 ∷ 1 ∷ [])
+
+-- a relation without arguments was decided to have this value
+abbrev pub decided : ℕ → List Decision
+decided v = decide (cell Relation 0 []) v ∷ []
+
+-- the cell of `f` that is chosen then in a way
+abbrev pub chosen_by : Candidates → Measure → List Decision → Option Cell
+chosen_by candidates measure ds =
+    let w : World = mapping 4 (way candidates measure false) [] in chosen w ds (crossed w)
+
+-- the values of `f(0)` that are tried then, by the least-number heuristic or not
+abbrev pub tried_by : Bool → List Decision → List ℕ
+tried_by least ds =
+    let w : World = mapping 4 (way InUse MostCrossed least) [] in tried w ds (crossed w) (f_at 0)
+
+-- the values of the cells in all that the search finds
+abbrev pub found_in : World → List (List (List ℕ))
+found_in w = listed w (leaves w)
