@@ -13,22 +13,12 @@ use Rattle.unifiers.specs.Matching.{matched}
 use Rattle.unifiers.specs.Unifier.{Unifies, solution, unifier_of}
 use Rattle.unifiers.proofs.Found.{most_general, none_there}
 use Rattle.unifiers.proofs.Matches.{match_makes, match_found}
-use Rattle.term_unifiers.specs.Solved.{HasNoMatch, IsUnified, HasNoUnifier}
+use Rattle.term_unifiers.specs.Solved.{IsUnified, HasNoUnifier}
 use Rattle.discrim_tree.specs.Laws.{InstancesAreMade, UnifiersAreOfTwo}
 use Rattle.discrim_tree.specs.Terms.{has_instance, apart_as, can_unify}
 
 made_found : (s t : Tree) (u : Substitution) → substitute u s ≡ t → true ≡ has_instance s t
 made_found s t u e = let found = match_found s t u e in sym (ap is_some found.1)
-
-pub instance_found : (s t : Tree) (bs : List Binding) → substitute (by_bindings bs) s ≡ t → true ≡ has_instance s t
-instance_found s t bs e = made_found s t (by_bindings bs) e
-
-pub no_instance : (s t : Tree) → HasNoMatch s t → false ≡ has_instance s t
-no_instance s t h = by (matched s t []) refl
-  where
-    by : (o : Option (List Binding)) → matched s t [] ≡ o → false ≡ is_some o
-    by None e = refl
-    by (Some bs) e = absurd (h (by_bindings bs) (match_makes s t bs e))
 
 pub instances_are_made : InstancesAreMade
 instances_are_made s t = (there (matched s t []) refl, λ h. sym (made_found s t h.0 h.1))
@@ -104,10 +94,6 @@ unifiers_are_of_two s t = (there (unifier_of (apart_as 0 s) (apart_as 1 t)) refl
         )
 
 -- what is found tells whether there is one
-pub instance_tells : (s t : Tree) (o : Option (List Binding)) → MatchOption o (HasNoMatch s t) (λ bs. substitute (by_bindings bs) s ≡ t) → is_some o ≡ has_instance s t
-instance_tells s t (Some bs) h = instance_found s t bs h
-instance_tells s t None h = no_instance s t h
-
 pub unifier_tells : (s t : Tree) (ls rs : List Tree) (c : ClauseTree) (o : Option ClauseTree) → ls ≡ substitute (interleaved 2 0) s ∷ [] → rs ≡ substitute (interleaved 2 1) t ∷ []
     → MatchOption o (HasNoUnifier (trees_of ls) (trees_of rs)) (λ d. IsUnified (trees_of ls) (trees_of rs) c d) → is_some o ≡ can_unify s t
 unifier_tells s t ls rs c (Some d) left right h = unifier_there s t ls rs c d left right h

@@ -4,22 +4,20 @@ use Rattle.std.specs.Coded.{Coded, code_by, coded×, coded_ℕ, coded_list}
 use Rattle.std.specs.List.{filter, list_any}
 use Rattle.fol_core.specs.Tree.{Tree}
 use Rattle.fol_core.specs.TreeCodes.{coded_tree}
-use Rattle.term_bank.specs.Bank.{IsAt}
 
--- the entry's number, its term's number in a bank, and the term
+-- the entry's number and its term
 pub record Indexed : Type 0 where
   pub number : ℕ
-  pub term : ℕ
   pub tree : Tree
 
-abbrev pub indexed : ℕ → ℕ → Tree → Indexed
-indexed number term tree = record { number = number; term = term; tree = tree }
+abbrev pub indexed : ℕ → Tree → Indexed
+indexed number tree = record { number = number; tree = tree }
 
 abbrev pub coded_entries : Coded (List Indexed)
 coded_entries =
     coded_list
-    (code_by (ℕ × (ℕ × Tree)) (coded× coded_ℕ (coded× coded_ℕ coded_tree))
-    (λ e. (e.number, (e.term, e.tree))) (λ p. indexed p.0 p.1.0 p.1.1) (λ _. refl))
+    (code_by (ℕ × Tree) (coded× coded_ℕ coded_tree)
+    (λ e. (e.number, e.tree)) (λ p. indexed p.0 p.1) (λ _. refl))
 
 -- the number is above that of no entry
 abbrev pub HaveNumbersAbove : ℕ → List Indexed → Type 0
@@ -47,8 +45,3 @@ without_entry n es = filter (λ e. not (e.number == n)) es
 -- the numbers of the entries whose terms pass a test, in their order
 abbrev pub numbers_found : (Tree → Bool) → List Indexed → List ℕ
 numbers_found test es = map (λ e. e.number) (filter (λ e. test e.tree) es)
-
--- the entries' terms are those of a bank
-abbrev pub HaveTerms : List Tree → List Indexed → Type 0
-HaveTerms bank [] = Unit {0}
-HaveTerms bank (e ∷ es) = IsAt bank e.term e.tree × HaveTerms bank es

@@ -1,5 +1,10 @@
 pub mod Entries
+pub mod Fitting
 pub mod Laws
+pub mod Nodes
+pub mod Paths
+pub mod Seeking
 pub mod Terms
 pub mod View
+pub mod Walks
 pub mod Worked

@@ -5,7 +5,7 @@ use Rattle.discrim_tree.specs.Entries.{Indexed, indexed}
 use Rattle.discrim_tree.specs.declared.entry.IndexEntry.{IndexEntry}
 
 abbrev pub indexed_of : IndexEntry → Indexed
-indexed_of e = indexed e.number e.term.0 (tree_of e.tree)
+indexed_of e = indexed e.number (tree_of e.tree)
 
 abbrev pub all_indexed : List IndexEntry → List Indexed
 all_indexed es = map indexed_of es

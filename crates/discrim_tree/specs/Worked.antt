@@ -1,5 +1,5 @@
 -- Retrievals worked out.
-use Rattle.std.specs.Prelude.{◌≡◌, List, [], ◌∷◌}
+use Rattle.std.specs.Prelude.{◌≡◌, List, [], ◌∷◌, Some, slice_get}
 use Rattle.fol_core.specs.Tree.{Tree, var, app, none, more}
 use Rattle.discrim_tree.specs.Entries.{Indexed, indexed, with_entry, without_entry, numbers_found}
 use Rattle.discrim_tree.specs.Terms.{has_instance, can_unify}
@@ -13,13 +13,14 @@ f s t = app 1 (more s (more t none))
 -- entries 2, 5 and 9: f(x,x), f(x,a) and f(a,y)
 abbrev three : List Indexed
 three =
-    indexed 2 10 (f (var 0) (var 0)) ∷ indexed 5 11 (f (var 0) a) ∷ indexed 9 12 (f a (var 1)) ∷ []
+    indexed 2 (f (var 0) (var 0)) ∷ indexed 5 (f (var 0) a) ∷ indexed 9 (f a (var 1)) ∷ []
 
 -- of f(x,y) only f(a,y) and others with variables of their own; a variable that stands twice has
 -- one term
 abbrev pub WorkedRetrievals : Type 0
 WorkedRetrievals =
     (numbers_found (λ s. has_instance s (f a a)) three ≡ 2 ∷ 5 ∷ 9 ∷ [])
+    × (slice_get (numbers_found (λ s. has_instance s (f a a)) three) 0 ≡ Some 2)
     × (numbers_found (λ s. has_instance s (f (f a a) a)) three ≡ 5 ∷ [])
     × (numbers_found (λ s. has_instance (f (var 3) (var 4)) s) three ≡ 2 ∷ 5 ∷ 9 ∷ [])
     × (numbers_found (λ s. has_instance (f (var 3) (var 3)) s) three ≡ 2 ∷ [])
@@ -28,6 +29,6 @@ WorkedRetrievals =
 -- an entry comes to its place, and one is taken out
 abbrev pub WorkedEntries : Type 0
 WorkedEntries =
-    (with_entry (indexed 5 11 (f (var 0) a))
-    (indexed 2 10 (f (var 0) (var 0)) ∷ indexed 9 12 (f a (var 1)) ∷ []) ≡ three)
-    × (without_entry 5 three ≡ indexed 2 10 (f (var 0) (var 0)) ∷ indexed 9 12 (f a (var 1)) ∷ [])
+    (with_entry (indexed 5 (f (var 0) a))
+    (indexed 2 (f (var 0) (var 0)) ∷ indexed 9 (f a (var 1)) ∷ []) ≡ three)
+    × (without_entry 5 three ≡ indexed 2 (f (var 0) (var 0)) ∷ indexed 9 (f a (var 1)) ∷ [])

@@ -7,16 +7,15 @@ ghost use Rattle.discrim_tree.specs.Terms.{has_instance, can_unify};
 
 use fol_core::{Clause, Term, Terms};
 use std::alloc::{AllocError, Global};
-use term_unifiers::{match_of, unify};
+use term_matches::is_instance;
+use term_unifiers::unify;
 
 /// Whether the second term is an instance of the first.
-#[tactic(auto, using(crate::proofs::Terms::instance_tells))]
 pub fn has_instance(alloc: Global, general: &Term, special: &Term) -> Result<bool, AllocError>
     ensures { IfOk result (λ found. found
         ≡ has_instance (tree_of general.now) (tree_of special.now)) }
 {
-    let found = match_of(alloc, general, special)?;
-    Ok(found.is_some())
+    is_instance(alloc, general, special)
 }
 
 // The number of a variable of a term by its place among two, or want of memory where it is no number of the machine.

@@ -1,11 +1,11 @@
 // An entry of an index.
+use crate::edge::Edge;
 use fol_core::Term;
-use term_bank::TermId;
 
-/// An entry: its number, and its term, with the number of that in a bank.
+/// An entry: a term under a number, and the term's path.
 #[derive(Drop)]
 pub struct IndexEntry {
     pub number: u64,
-    pub term: TermId,
     pub tree: Term,
+    pub path: Vec<Edge>,
 }

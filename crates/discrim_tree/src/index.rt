@@ -1,21 +1,25 @@
 // The index.
-ghost use Rattle.std.specs.Prelude.{◌≡◌, ◌<◌, [], false, length, nat_lt, IfOk, OnOk, OnErr};
-ghost use Rattle.std.specs.List.{filter};
-ghost use Rattle.term_bank.specs.Bank.{tree_at};
-ghost use Rattle.discrim_tree.specs.Entries.{indexed, has_number, with_entry, without_entry, numbers_found, HaveTerms, NumbersRise};
+ghost use Rattle.std.specs.Prelude.{◌≡◌, [], false, length, slice_get, IfOk, OnOk, OnErr};
+ghost use Rattle.fol_core.specs.TermView.{tree_of};
+ghost use Rattle.discrim_tree.specs.Entries.{indexed, has_number, with_entry, without_entry, numbers_found, NumbersRise};
 ghost use Rattle.discrim_tree.specs.Terms.{has_instance, can_unify};
 
-use crate::comparing::{can_unify, has_instance};
+use crate::edge::path_of;
 use crate::entry::IndexEntry;
+use crate::nodes::Nodes;
+use crate::seeking::{first, found, place_of};
+use crate::sought::Sought;
+use fol_core::Term;
 use std::alloc::{AllocError, Global};
 use std::marker::Model;
-use term_bank::{Bank, TermId};
 
-/// Terms of a bank under numbers; contracts see the entries by rising number, with their terms.
+/// Terms under numbers; contracts see the entries by rising number.
 #[derive(Drop)]
 pub struct Index {
     // By rising number.
     entries: Vec<IndexEntry>,
+    // Each entry's number stands at the end of its path; others may stand there too.
+    nodes: Nodes,
 }
 
 impl Model for Index {
@@ -30,14 +34,9 @@ impl Model for Index {
 
     ghost view = { λ a. all_indexed a.entries.items };
 
-    ghost invariant = { λ a. NumbersRise (all_indexed a.entries.items) };
-}
+    ghost use Rattle.discrim_tree.specs.Seeking.{AreReached};
 
-// How many entries have a number below this one.
-fn place_of(entries: &[IndexEntry], number: u64) -> usize
-    ensures { result ≡ length (filter (λ e. nat_lt e.number number) entries.now) }
-{
-    entries.iter().filter(|e| e.number < number).count()
+    ghost invariant = { λ a. NumbersRise (all_indexed a.entries.items) × AreReached a.nodes.items.items a.entries.items };
 }
 
 impl Index {
@@ -47,6 +46,7 @@ impl Index {
     {
         Index {
             entries: Vec::new(alloc),
+            nodes: Nodes::new(alloc),
         }
     }
 
@@ -58,23 +58,21 @@ impl Index {
         self.entries.len()
     }
 
-    /// A term of the bank under a number that no entry has.
+    /// A term under a number that no entry has.
     #[tactic(auto, using(crate::proofs::Placing::entry_placed, crate::proofs::Placing::numbers_rise_on))]
-    pub fn insert(&mut self, bank: &Bank, number: u64, t: TermId) -> Result<(), AllocError>
-        requires term { t.0 < length bank.now }
-        requires number { has_number number self.old ≡ false }
+    pub fn insert(&mut self, number: u64, term: &Term) -> Result<(), AllocError>
+        requires { has_number number self.old ≡ false }
         ensures ok { OnOk result (self.new
-            ≡ with_entry (indexed number t.0 (tree_at bank.now t.0)) self.old) }
+            ≡ with_entry (indexed number (tree_of term.now)) self.old) }
         ensures err { OnErr result (self.new ≡ self.old) }
     {
-        let tree = bank.plain(t)?;
-        let entry = IndexEntry {
-            number,
-            term: t,
-            tree,
-        };
+        let alloc = *self.entries.allocator();
+        let tree = term.copy(alloc)?;
+        let path = path_of(alloc, term)?;
         let place = place_of(&self.entries, number);
-        self.entries.insert(place, entry)?;
+        self.nodes.put(alloc, &path, number)?;
+        self.entries
+            .insert(place, IndexEntry { number, tree, path })?;
         Ok(())
     }
 
@@ -86,65 +84,65 @@ impl Index {
         let place = place_of(&self.entries, number);
         if place < self.entries.len() {
             if self.entries[place].number == number {
-                let _entry = self.entries.remove(place);
+                let entry = self.entries.remove(place);
+                self.nodes.take(&entry.path, number);
             }
         }
     }
 
     /// The numbers of the entries of which the term is an instance, rising.
-    #[tactic(auto, using(crate::proofs::Finding::found_next, crate::proofs::Finding::passed_next))]
-    pub fn generalizations(&self, bank: &Bank, t: TermId) -> Result<Vec<u64>, AllocError>
-        requires term { t.0 < length bank.now }
-        requires entries { HaveTerms bank.now self.now }
+    pub fn generalizations(&self, t: &Term) -> Result<Vec<u64>, AllocError>
         ensures { IfOk result (λ found. found.items
-            ≡ numbers_found (λ s. has_instance s (tree_at bank.now t.0)) self.now) }
+            ≡ numbers_found (λ s. has_instance s (tree_of t.now)) self.now) }
     {
-        let alloc = *self.entries.allocator();
-        let query = bank.plain(t)?;
-        let mut found = Vec::new(alloc);
-        for entry in &self.entries {
-            if has_instance(alloc, &entry.tree, &query)? {
-                found.push(entry.number)?;
-            }
-        }
-        Ok(found)
+        found(
+            *self.entries.allocator(),
+            &self.entries,
+            &self.nodes,
+            &Sought::Generalizations,
+            t,
+        )
+    }
+
+    /// The least number of an entry of which the term is an instance.
+    pub fn first_generalization(&self, t: &Term) -> Result<Option<u64>, AllocError>
+        ensures { IfOk result (λ found. found
+            ≡ slice_get (numbers_found (λ s. has_instance s (tree_of t.now)) self.now) 0) }
+    {
+        first(
+            *self.entries.allocator(),
+            &self.entries,
+            &self.nodes,
+            &Sought::Generalizations,
+            t,
+        )
     }
 
     /// The numbers of the entries that are instances of the term, rising.
-    #[tactic(auto, using(crate::proofs::Finding::found_next, crate::proofs::Finding::passed_next))]
-    pub fn instances(&self, bank: &Bank, t: TermId) -> Result<Vec<u64>, AllocError>
-        requires term { t.0 < length bank.now }
-        requires entries { HaveTerms bank.now self.now }
+    pub fn instances(&self, t: &Term) -> Result<Vec<u64>, AllocError>
         ensures { IfOk result (λ found. found.items
-            ≡ numbers_found (λ s. has_instance (tree_at bank.now t.0) s) self.now) }
+            ≡ numbers_found (λ s. has_instance (tree_of t.now) s) self.now) }
     {
-        let alloc = *self.entries.allocator();
-        let query = bank.plain(t)?;
-        let mut found = Vec::new(alloc);
-        for entry in &self.entries {
-            if has_instance(alloc, &query, &entry.tree)? {
-                found.push(entry.number)?;
-            }
-        }
-        Ok(found)
+        found(
+            *self.entries.allocator(),
+            &self.entries,
+            &self.nodes,
+            &Sought::Instances,
+            t,
+        )
     }
 
     /// The numbers of the entries that unify with the term, where each has variables of its own, rising.
-    #[tactic(auto, using(crate::proofs::Finding::found_next, crate::proofs::Finding::passed_next))]
-    pub fn unifiable(&self, bank: &Bank, t: TermId) -> Result<Vec<u64>, AllocError>
-        requires term { t.0 < length bank.now }
-        requires entries { HaveTerms bank.now self.now }
+    pub fn unifiable(&self, t: &Term) -> Result<Vec<u64>, AllocError>
         ensures { IfOk result (λ found. found.items
-            ≡ numbers_found (λ s. can_unify s (tree_at bank.now t.0)) self.now) }
+            ≡ numbers_found (λ s. can_unify s (tree_of t.now)) self.now) }
     {
-        let alloc = *self.entries.allocator();
-        let query = bank.plain(t)?;
-        let mut found = Vec::new(alloc);
-        for entry in &self.entries {
-            if can_unify(alloc, &entry.tree, &query)? {
-                found.push(entry.number)?;
-            }
-        }
-        Ok(found)
+        found(
+            *self.entries.allocator(),
+            &self.entries,
+            &self.nodes,
+            &Sought::Unifiable,
+            t,
+        )
     }
 }

@@ -2,9 +2,14 @@
 #![tactic(auto)]
 
 mod comparing;
+mod edge;
 mod entry;
 mod index;
 mod laws;
+mod nodes;
+mod seeking;
+mod sought;
+mod walk;
 
 pub use index::Index;
 pub use laws::{tests_are_exact, worked};

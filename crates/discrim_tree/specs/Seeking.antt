@@ -1,0 +1,66 @@
+-- What is sought in an index.
+use Rattle.std.specs.Prelude.{ℕ, ◌≡◌, Bool, true, false, ◌==◌, ◌&&◌, ◌≤◌, List, [], ◌∷◌, Option, Some}
+use Rattle.std.specs.List.{list_any}
+use Rattle.fol_core.specs.Tree.{Tree}
+use Rattle.fol_core.specs.TermView.{tree_of}
+use Rattle.discrim_tree.specs.Entries.{Indexed}
+use Rattle.discrim_tree.specs.Nodes.{IsIn, Holds, Reaches}
+use Rattle.discrim_tree.specs.Paths.{path_of}
+use Rattle.discrim_tree.specs.Terms.{has_instance, can_unify}
+use Rattle.discrim_tree.specs.Walks.{IsFound}
+use Rattle.discrim_tree.specs.declared.entry.IndexEntry.{IndexEntry}
+use Rattle.discrim_tree.specs.declared.nodes.Node.{Node}
+use Rattle.discrim_tree.specs.declared.sought.Sought.{Sought}
+use Rattle.discrim_tree.specs.declared.sought.Sought.TheVariants.{Generalizations, Instances, Unifiable}
+
+-- whether variables of the entries stand for other terms
+abbrev pub fits_below : Sought → Bool
+fits_below Generalizations = true
+fits_below Instances = false
+fits_below Unifiable = true
+
+-- whether variables of the term stand for other terms
+abbrev pub fits_above : Sought → Bool
+fits_above Generalizations = false
+fits_above Instances = true
+fits_above Unifiable = true
+
+-- whether an entry's term is sought with a term
+abbrev pub passes : Sought → Tree → Tree → Bool
+passes Generalizations t s = has_instance s t
+passes Instances t s = has_instance t s
+passes Unifiable t s = can_unify s t
+
+-- each entry's number stands at the end of its path
+abbrev pub AreReached : List Node → List IndexEntry → Type 0
+AreReached nodes [] = Unit {0}
+AreReached nodes (e ∷ es) =
+    Reaches nodes 0 e.path.items e.number × (e.path.items ≡ path_of (tree_of e.tree))
+    × AreReached nodes es
+
+-- whether a number is that of an entry that passes a test
+abbrev pub is_sought : (Tree → Bool) → List Indexed → ℕ → Bool
+is_sought test es n = list_any (λ e. (e.number == n) && test e.tree) es
+
+-- a number, if there is one, is no greater than this
+abbrev pub IsAtMost : Option ℕ → ℕ → Type 0
+IsAtMost best n = (m : ℕ) × (best ≡ Some m) × (m ≤ n)
+
+-- the least number so far that passes, where these numbers come to those before
+pub record Improves (p : ℕ → Bool) (numbers : List ℕ) (old new : Option ℕ) : Type 0 where
+  pub sound : ((m : ℕ) → old ≡ Some m → p m ≡ true) → (m : ℕ) → new ≡ Some m → p m ≡ true
+  pub keeps : (n : ℕ) → IsAtMost old n → IsAtMost new n
+  pub takes : (n : ℕ) → IsIn n numbers → p n ≡ true → IsAtMost new n
+
+-- the same, where the numbers at a node come to those before
+pub record ImprovesAt (p : ℕ → Bool) (nodes : List Node) (at : ℕ) (old new : Option ℕ) : Type 0
+  where
+    pub sound : ((m : ℕ) → old ≡ Some m → p m ≡ true) → (m : ℕ) → new ≡ Some m → p m ≡ true
+    pub keeps : (n : ℕ) → IsAtMost old n → IsAtMost new n
+    pub takes : (n : ℕ) → Holds nodes at n → p n ≡ true → IsAtMost new n
+
+-- the least number at the nodes of a walk that passes
+pub record IsLeast (p : ℕ → Bool) (nodes : List Node) (walk : List ℕ) (best : Option ℕ) : Type 0
+  where
+    pub sound : (m : ℕ) → best ≡ Some m → p m ≡ true
+    pub least : (n : ℕ) → IsFound nodes walk n → p n ≡ true → IsAtMost best n

@@ -1,0 +1,59 @@
+// The steps of a term's path.
+ghost use Rattle.std.specs.Prelude.{◌≡◌, IfOk, OnOk};
+ghost use Rattle.fol_core.specs.TermView.{tree_of};
+ghost use Rattle.discrim_tree.specs.Paths.{step_of, path_of, Continues};
+
+use fol_core::Term;
+use std::alloc::{AllocError, Global};
+
+/// A step: any variable, an element, or a symbol with the number of its arguments.
+#[derive(Clone, Copy, PartialEq, Eq, PartialOrd, Ord)]
+pub enum Edge {
+    Any,
+    Element(u32),
+    Symbol(u64, usize),
+}
+
+/// How many steps a path has at most.
+pub const LONGEST: usize = 64;
+
+/// The first step of a term.
+#[tactic(auto, using(crate::proofs::Paths::list_back))]
+pub fn step_of(t: &Term) -> Edge
+    ensures { result ≡ step_of (tree_of t.now) }
+{
+    match t {
+        Term::Var(_) => Edge::Any,
+        Term::Elem(k) => Edge::Element(*k),
+        Term::App(f, terms) => Edge::Symbol(f.0, terms.len()),
+    }
+}
+
+/// The steps of one more term, as far as a path goes.
+pub fn add_steps(path: &mut Vec<Edge>, t: &Term) -> Result<(), AllocError>
+    ensures { OnOk result (Continues path.old.items (tree_of t.now) path.new.items) }
+{
+    if path.len() >= LONGEST {
+        return Ok(());
+    }
+    path.push(step_of(t))?;
+    match t {
+        Term::Var(_) => Ok(()),
+        Term::Elem(_) => Ok(()),
+        Term::App(_, terms) => {
+            for term in &terms.items {
+                add_steps(path, term)?;
+            }
+            Ok(())
+        }
+    }
+}
+
+/// A term's path.
+pub fn path_of(alloc: Global, t: &Term) -> Result<Vec<Edge>, AllocError>
+    ensures { IfOk result (λ path. path.items ≡ path_of (tree_of t.now)) }
+{
+    let mut path = Vec::new(alloc);
+    add_steps(&mut path, t)?;
+    Ok(path)
+}

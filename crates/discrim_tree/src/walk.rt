@@ -1,0 +1,202 @@
+// Walks through a tree of paths: to the nodes of terms that fit a term.
+ghost use Rattle.std.specs.Prelude.{ℕ, ◌≡◌, ◌+◌, ◌<◌, ◌≤◌, IfOk, IsTrue, OnOk, length};
+ghost use Rattle.fol_core.specs.TermView.{tree_of};
+ghost use Rattle.discrim_tree.specs.declared.edge.Edge.TheVariants.{Any};
+ghost use Rattle.discrim_tree.specs.Nodes.{Holds};
+ghost use Rattle.discrim_tree.specs.Walks.{IsFrom, GoesOn, Follows, Skips, SkipsEach, Passes, Covers, arity};
+
+use crate::edge::{Edge, LONGEST, step_of};
+use crate::nodes::Nodes;
+use fol_core::Term;
+use std::alloc::{AllocError, Global};
+
+// How many terms follow a step.
+fn arity(edge: Edge) -> usize
+    ensures { result ≡ arity edge }
+{
+    match edge {
+        Edge::Any => 0,
+        Edge::Element(_) => 0,
+        Edge::Symbol(_, count) => count,
+    }
+}
+
+// How many terms are left after a step, or want of memory where that is no number of the machine.
+fn left(count: usize, edge: Edge) -> Result<usize, AllocError>
+    requires { 0 < count }
+    ensures { IfOk result (λ left. left + 1 ≡ count + arity edge) }
+{
+    match (count - 1).checked_add(arity(edge)) {
+        Some(left) => Ok(left),
+        None => Err(AllocError),
+    }
+}
+
+impl Nodes {
+    // Goes by a step from the nodes between two places.
+    fn follow(
+        &self,
+        walk: &mut Vec<usize>,
+        low: usize,
+        high: usize,
+        edge: Edge,
+    ) -> Result<(), AllocError>
+        requires { high ≤ length walk.old.items }
+        ensures goes_on { OnOk result (GoesOn walk.old.items walk.new.items) }
+        ensures longer { OnOk result (length walk.old.items ≤ length walk.new.items) }
+        ensures follows { OnOk result (Follows self.now.items.items low high edge walk.old.items walk.new.items) }
+    {
+        for i in low..high {
+            if let Some(k) = self.child(walk[i], edge) {
+                walk.push(k)?;
+            }
+        }
+        Ok(())
+    }
+
+    // Goes by the step of a variable, where variables fit other terms.
+    fn follow_any(
+        &self,
+        walk: &mut Vec<usize>,
+        below: bool,
+        low: usize,
+        high: usize,
+    ) -> Result<(), AllocError>
+        requires { high ≤ length walk.old.items }
+        ensures goes_on { OnOk result (GoesOn walk.old.items walk.new.items) }
+        ensures longer { OnOk result (length walk.old.items ≤ length walk.new.items) }
+        ensures follows { OnOk result (IsTrue below → Follows self.now.items.items low high Any walk.old.items walk.new.items) }
+    {
+        if below {
+            return self.follow(walk, low, high, Edge::Any);
+        }
+        Ok(())
+    }
+
+    // Whether a node has numbers.
+    fn has_numbers(&self, at: usize) -> bool
+        ensures { (n : ℕ) → Holds self.now.items.items at n → IsTrue result }
+    {
+        if at < self.items.len() {
+            return !self.items[at].numbers.is_empty();
+        }
+        false
+    }
+
+    // A node that has numbers comes into the walk.
+    fn keep(&self, walk: &mut Vec<usize>, at: usize) -> Result<(), AllocError>
+        ensures goes_on { OnOk result (GoesOn walk.old.items walk.new.items) }
+        ensures longer { OnOk result (length walk.old.items ≤ length walk.new.items) }
+        ensures kept { OnOk result ((n : ℕ) → Holds self.now.items.items at n → IsFrom (length walk.old.items) walk.new.items at) }
+    {
+        if self.has_numbers(at) {
+            walk.push(at)?;
+        }
+        Ok(())
+    }
+
+    // Goes to the nodes behind so many terms from a node, by no more steps than a number.
+    fn skip(
+        &self,
+        walk: &mut Vec<usize>,
+        at: usize,
+        count: usize,
+        depth: usize,
+    ) -> Result<(), AllocError>
+        requires { depth ≤ 64 }
+        ensures goes_on { OnOk result (GoesOn walk.old.items walk.new.items) }
+        ensures longer { OnOk result (length walk.old.items ≤ length walk.new.items) }
+        ensures skips { OnOk result (Skips self.now.items.items at count depth (length walk.old.items) walk.new.items) }
+    {
+        if count == 0 {
+            walk.push(at)?;
+            return Ok(());
+        }
+        self.keep(walk, at)?;
+        if depth == 0 {
+            return Ok(());
+        }
+        if at >= self.items.len() {
+            return Ok(());
+        }
+        for (edge, k) in &self.items[at].branches {
+            self.skip(walk, *k, left(count, *edge)?, depth - 1)?;
+        }
+        Ok(())
+    }
+
+    // Goes to the nodes behind one term from those between two places.
+    fn skip_each(&self, walk: &mut Vec<usize>, low: usize, high: usize) -> Result<(), AllocError>
+        requires { high ≤ length walk.old.items }
+        ensures goes_on { OnOk result (GoesOn walk.old.items walk.new.items) }
+        ensures longer { OnOk result (length walk.old.items ≤ length walk.new.items) }
+        ensures skips { OnOk result (SkipsEach self.now.items.items low high walk.old.items walk.new.items) }
+    {
+        for i in low..high {
+            let at = walk[i];
+            self.skip(walk, at, 1, LONGEST)?;
+        }
+        Ok(())
+    }
+
+    // Goes to the nodes behind the terms that fit a term, from those from a place on; they stand from the place on that
+    // is returned.
+    fn pass(
+        &self,
+        walk: &mut Vec<usize>,
+        below: bool,
+        above: bool,
+        low: usize,
+        t: &Term,
+    ) -> Result<usize, AllocError>
+        ensures goes_on { OnOk result (GoesOn walk.old.items walk.new.items) }
+        ensures longer { OnOk result (length walk.old.items ≤ length walk.new.items) }
+        ensures within { IfOk result (λ next. next ≤ length walk.new.items) }
+        ensures passes { IfOk result (λ next. Passes self.now.items.items below above (tree_of t.now) low walk.old.items next walk.new.items) }
+    {
+        let high = walk.len();
+        if low >= high {
+            return Ok(high);
+        }
+        match t {
+            Term::Var(_) => {
+                if above {
+                    self.skip_each(walk, low, high)?;
+                    return Ok(high);
+                }
+                self.follow(walk, low, high, Edge::Any)?;
+                Ok(high)
+            }
+            Term::Elem(_) => {
+                self.follow(walk, low, high, step_of(t))?;
+                self.follow_any(walk, below, low, high)?;
+                Ok(high)
+            }
+            Term::App(_, terms) => {
+                self.follow(walk, low, high, step_of(t))?;
+                let mut next = high;
+                for term in &terms.items {
+                    next = self.pass(walk, below, above, next, term)?;
+                }
+                self.follow_any(walk, below, low, high)?;
+                Ok(next)
+            }
+        }
+    }
+
+    /// The nodes to which the paths of the terms lead that fit a term, and others.
+    pub fn reached(
+        &self,
+        alloc: Global,
+        below: bool,
+        above: bool,
+        t: &Term,
+    ) -> Result<Vec<usize>, AllocError>
+        ensures { IfOk result (λ walk. Covers self.now.items.items below above (tree_of t.now) walk.items) }
+    {
+        let mut walk = Vec::new(alloc);
+        walk.push(0)?;
+        let _next = self.pass(&mut walk, below, above, 0, t)?;
+        Ok(walk)
+    }
+}
