@@ -1,3 +1,4 @@
+pub mod Denying
 pub mod Fits
 pub mod Passing
 pub mod Placing

@@ -1,9 +1,8 @@
 -- The first place at which a rule fits.
-use Rattle.std.proofs.Common.{◌≡◌, ℕ, zero, suc, ◌+◌, ◌-◌, ◌<◌, ◌≤◌, Bool, true, false, if◌then◌else◌, length, List, [], ◌∷◌, ◌++◌, Option, Some, None, get_or, take, drop, map, refl, sym, ap, subst, ◌∙◌, add-one, append-nil, append_assoc, arith}
-use Rattle.std.proofs.lemmas.List.{drop_all, take_all, take_rest}
-use Rattle.std.specs.List.{AllByRecursion}
+use Rattle.std.proofs.Common.{◌≡◌, ℕ, zero, suc, ◌+◌, ◌-◌, ◌<◌, ◌≤◌, Bool, true, false, if◌then◌else◌, is_some, length, List, [], ◌∷◌, ◌++◌, Option, Some, None, get_or, take, drop, map, refl, sym, ap, subst, ◌∙◌, add-one, append-nil, append_assoc, arith}
+use Rattle.std.proofs.lemmas.List.{take_all, take_rest}
+use Rattle.std.specs.List.{AllByRecursion, find}
 use Rattle.std.specs.Option.{option_map, option_map_or}
-use Rattle.held_clauses.proofs.Items.{drop_item}
 use Rattle.fol_core.specs.ClauseView.{literal_of}
 use Rattle.fol_core.specs.Literals.{literal, ClauseTree}
 use Rattle.fol_core.specs.TermView.{tree_of, tree_list}
@@ -17,17 +16,34 @@ use Rattle.derivation.specs.Places.{with_atom}
 use Rattle.prover_steps.specs.Clashing.{Held}
 use Rattle.prover_steps.specs.Rewriting.{RewriteStep, first_of, rewritten_by, step_at_top, widened, in_argument, first_step, step_in, atom_step, Simplified, simplified, then_word, clause_step, normal_form}
 
--- by the rules from one on
-pub top_found : (rs : List Held) (i : ℕ) (r : Held) (t u : Tree) → i < length rs → r ≡ get_or rs i r → rewritten_by r t ≡ Some u → step_at_top (drop i rs) t ≡ Some (record { rule = r.number; path = []; result = u })
-top_found rs i r t u h is e =
-    ap (λ qs. step_at_top qs t) (drop_item rs i r h is) ∙ ap (λ o. option_map_or (λ v. Some (record { rule = r.number; path = []; result = v })) o (step_at_top (drop (i + 1) rs) t)) e
+-- by the first rule that fits
+abbrev top_of : Tree → Held → Option (RewriteStep Tree) → Option (RewriteStep Tree)
+top_of t r o = option_map_or (λ u. Some (record { rule = r.number; path = []; result = u })) (rewritten_by r t) o
 
-pub top_behind : (rs : List Held) (i : ℕ) (r : Held) (t : Tree) → i < length rs → r ≡ get_or rs i r → rewritten_by r t ≡ None → step_at_top (drop i rs) t ≡ step_at_top (drop (i + 1) rs) t
-top_behind rs i r t h is e =
-    ap (λ qs. step_at_top qs t) (drop_item rs i r h is) ∙ ap (λ o. option_map_or (λ v. Some (record { rule = r.number; path = []; result = v })) o (step_at_top (drop (i + 1) rs) t)) e
+top_first : (rs : List Held) (t : Tree) → step_at_top rs t ≡ option_map_or (λ r. top_of t r None) (find (λ r. is_some (rewritten_by r t)) rs) None
+top_first [] t = refl
+top_first (r ∷ rs) t = by (rewritten_by r t) refl (top_first rs t)
+  where
+    by : (o : Option Tree) → rewritten_by r t ≡ o → step_at_top rs t ≡ option_map_or (λ q. top_of t q None) (find (λ q. is_some (rewritten_by q t)) rs) None
+        → top_of t r (step_at_top rs t) ≡ option_map_or (λ q. top_of t q None) (if is_some (rewritten_by r t) then Some r else find (λ q. is_some (rewritten_by q t)) rs) None
+    by None e rest =
+        ap (λ o. option_map_or (λ u. Some (record { rule = r.number; path = []; result = u })) o (step_at_top rs t)) e ∙ rest
+        ∙ sym (ap (λ o. option_map_or (λ q. top_of t q None) (if is_some o then Some r else find (λ q. is_some (rewritten_by q t)) rs) None) e)
+    by (Some u) e rest =
+        ap (λ o. option_map_or (λ v. Some (record { rule = r.number; path = []; result = v })) o (step_at_top rs t)) e
+        ∙ sym (ap (λ o. option_map_or (λ q. top_of t q None) (if is_some o then Some r else find (λ q. is_some (rewritten_by q t)) rs) None) e
+        ∙ ap (λ o. option_map_or (λ v. Some (record { rule = r.number; path = []; result = v })) o None) e)
 
-pub top_end : (rs : List Held) (i : ℕ) (t : Tree) → length rs ≤ i → step_at_top (drop i rs) t ≡ None
-top_end rs i t h = ap (λ qs. step_at_top qs t) (drop_all i rs h)
+pub top_found : (rs : List Held) (r : Held) (t u : Tree) → find (λ q. is_some (rewritten_by q t)) rs ≡ Some r → rewritten_by r t ≡ Some u → step_at_top rs t ≡ Some (record { rule = r.number; path = []; result = u })
+top_found rs r t u is e =
+    top_first rs t ∙ ap (λ o. option_map_or (λ q. top_of t q None) o None) is ∙ ap (λ o. option_map_or (λ v. Some (record { rule = r.number; path = []; result = v })) o None) e
+
+pub top_missed : (rs : List Held) (r : Held) (t : Tree) → find (λ q. is_some (rewritten_by q t)) rs ≡ Some r → rewritten_by r t ≡ None → step_at_top rs t ≡ None
+top_missed rs r t is e =
+    top_first rs t ∙ ap (λ o. option_map_or (λ q. top_of t q None) o None) is ∙ ap (λ o. option_map_or (λ v. Some (record { rule = r.number; path = []; result = v })) o None) e
+
+pub top_none : (rs : List Held) (t : Tree) → find (λ q. is_some (rewritten_by q t)) rs ≡ None → step_at_top rs t ≡ None
+top_none rs t is = top_first rs t ∙ ap (λ o. option_map_or (λ q. top_of t q None) o None) is
 
 -- each of the first elements is so
 all_more : {X : Type 0} (P : X → Type 0) (ts : List X) (i : ℕ) (t : X) → i < length ts → t ≡ get_or ts i t → AllByRecursion P (take i ts) → P t → AllByRecursion P (take (suc i) ts)

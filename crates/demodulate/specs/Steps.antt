@@ -1,5 +1,5 @@
 -- Steps of the code, and clauses with their words.
-use Rattle.std.specs.Prelude.{ℕ, suc, ◌≡◌, ◌<◌, Bool, true, false, ◌∷◌, ◌++◌, List, Option, Some, None, drop, length, map, take}
+use Rattle.std.specs.Prelude.{ℕ, suc, ◌≡◌, ◌<◌, Bool, true, false, ◌∷◌, ◌++◌, List, Option, Some, None, drop, length, map, min, take}
 use Rattle.fol_core.specs.Literals.{ClauseTree}
 use Rattle.fol_core.specs.Renumbered.{renumbered}
 use Rattle.fol_core.specs.TermView.{tree_of}
@@ -46,6 +46,12 @@ IsPlaceIn c (Some p) = p.place < length c
 abbrev pub TakesAtom : ClauseTree → ℕ → Tree → ClauseTree → Bool → Type 0
 TakesAtom old a t new true = (new ≡ with_atom old a t) × (is_too_large new ≡ false)
 TakesAtom old a t new false = (new ≡ old) × (is_too_large (with_atom old a t) ≡ true)
+
+-- the lesser of two numbers, if there are any
+abbrev pub lesser : Option ℕ → Option ℕ → Option ℕ
+lesser None o = o
+lesser (Some n) None = Some n
+lesser (Some n) (Some m) = Some (min n m)
 
 -- a clause rewritten by rules, and then put in order, its variables numbered at the end
 abbrev pub numbered_clause : Simplified → Simplified

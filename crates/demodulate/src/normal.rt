@@ -9,16 +9,17 @@ ghost use Rattle.prover_steps.specs.Searching.{is_too_large};
 use crate::literals::exchange;
 use crate::rewriting::atom_step;
 use crate::step::{PlacedStep, Tidied};
+use clause_index::Rules;
 use derivation::{Later, Rewrite};
 use fol_core::{Clause, Term};
-use held_clauses::{Held, is_too_large};
+use held_clauses::is_too_large;
 use std::alloc::{AllocError, Global};
 
 // The first step of a clause, with the place of its literal.
 #[tactic(auto, using(crate::proofs::Redexes::normal_literals_more, crate::proofs::Redexes::literal_step, crate::proofs::Redexes::no_literal_step))]
 fn first_in_clause(
     alloc: Global,
-    rules: &[Held],
+    rules: &Rules,
     clause: &Clause,
 ) -> Result<Option<PlacedStep>, AllocError>
     ensures step { IfOk result (λ o. option_map (placed_step clause.now) o
@@ -51,7 +52,7 @@ fn take_step(clause: &mut Clause, place: usize, atom: Term) -> bool
 #[tactic(auto, using(crate::proofs::Redexes::steps_end, crate::proofs::Redexes::steps_none, crate::proofs::Redexes::steps_large, crate::proofs::Redexes::steps_on))]
 pub fn normal_form(
     alloc: Global,
-    rules: &[Held],
+    rules: &Rules,
     limit: u32,
     clause: Clause,
 ) -> Result<Tidied, AllocError>

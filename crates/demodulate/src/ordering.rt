@@ -1,18 +1,21 @@
 // A clause put in order: sides of equations exchanged, literals left out.
 ghost use Rattle.std.specs.Prelude.{◌≡◌, ◌<◌, [], IfOk, OnOk, length, map};
 ghost use Rattle.std.specs.List.{list_any};
+ghost use Rattle.clause_index.specs.Sets.{all_in};
 ghost use Rattle.demodulate.specs.Passes.{FlipsOn, PassGoesOn};
-ghost use Rattle.demodulate.specs.Steps.{tidied_of};
+ghost use Rattle.demodulate.specs.Steps.{lesser, tidied_of};
 ghost use Rattle.derivation.specs.Places.{same_sign};
 ghost use Rattle.derivation.specs.View.{later_of};
 ghost use Rattle.fol_core.specs.ClauseView.{literal_of};
 ghost use Rattle.held_clauses.specs.Holding.{lent};
 ghost use Rattle.held_clauses.specs.Order.{greater_of};
+ghost use Rattle.prover_steps.specs.HeldOrder.{numbers_of, IsRising};
 ghost use Rattle.prover_steps.specs.Shortening.{is_turned, flips_from, left_out, same_literal, is_merged, is_false_equation, is_left_out, first_denying, is_denied, followed_by, put_in_order};
 
 use crate::fitting::denies;
 use crate::literals::{take_out, turn_at};
 use crate::step::Tidied;
+use clause_index::{HeldSet, HeldSets};
 use derivation::Later;
 use fol_core::{Clause, Literal, Term};
 use held_clauses::{Held, has_same_sides, is_equation, is_greater, left_of, right_of};
@@ -176,7 +179,7 @@ fn leave_out_false(tidied: Tidied) -> Result<Tidied, AllocError>
     Ok(Tidied { clause, words })
 }
 
-// The number of the first unit that denies a literal.
+// The number of the first of some units that denies a literal.
 #[tactic(auto, using(crate::proofs::Fits::denying_here, crate::proofs::Fits::denying_behind, crate::proofs::Fits::denying_end))]
 fn first_denying(
     alloc: Global,
@@ -193,19 +196,60 @@ fn first_denying(
     Ok(None)
 }
 
+// The number of the first unit of a set that denies a literal; the numbers of the set rise.
+#[tactic(auto, using(crate::proofs::Denying::denied_among))]
+fn first_denying_in(
+    alloc: Global,
+    set: &HeldSet,
+    literal: &Literal,
+) -> Result<Option<u64>, AllocError>
+    ensures first { IfOk result (λ o. o ≡ first_denying set.now (literal_of literal.now)) }
+    ensures rising { IsRising (numbers_of set.now) }
+{
+    let units = set.generalizing(!literal.positive, &literal.atom)?;
+    first_denying(alloc, units.as_slice(), literal)
+}
+
+// The lesser of two numbers, if there are any.
+fn lesser(first: Option<u64>, second: Option<u64>) -> Option<u64>
+    ensures { result ≡ lesser first second }
+{
+    match first {
+        None => second,
+        Some(n) => match second {
+            None => Some(n),
+            Some(m) => Some(n.min(m)),
+        },
+    }
+}
+
+// The number of the first unit of two sets that denies a literal.
+#[tactic(auto, using(crate::proofs::Denying::denied_by_either))]
+fn first_denying_of_all(
+    alloc: Global,
+    held: &HeldSets<'_>,
+    literal: &Literal,
+) -> Result<Option<u64>, AllocError>
+    ensures { IfOk result (λ o. o ≡ first_denying (all_in held.now) (literal_of literal.now)) }
+{
+    let waiting = first_denying_in(alloc, held.waiting, literal)?;
+    let usable = first_denying_in(alloc, held.usable, literal)?;
+    Ok(lesser(waiting, usable))
+}
+
 // Leaves out the literal at a place if a unit denies it; the place of the next one.
 fn delete_at(
     alloc: Global,
-    held: &[&Held],
+    held: &HeldSets<'_>,
     clause: &mut Clause,
     words: &mut Vec<Later>,
     place: usize,
 ) -> Result<usize, AllocError>
     requires { place < length clause.old }
-    ensures { IfOk result (PassGoesOn (is_denied (lent held.now)) clause.old
+    ensures { IfOk result (PassGoesOn (is_denied (all_in held.now)) clause.old
         (map later_of words.old.items) place clause.new (map later_of words.new.items)) }
 {
-    match first_denying(alloc, held, &clause.literals[place])? {
+    match first_denying_of_all(alloc, held, &clause.literals[place])? {
         Some(number) => {
             take_out(clause, place);
             words.push(Later::UnitDel(place as u64, number))?;
@@ -217,9 +261,9 @@ fn delete_at(
 
 // Leaves out literals that units deny.
 #[tactic(auto, using(crate::proofs::Passing::pass_ended))]
-fn delete_by_units(alloc: Global, held: &[&Held], tidied: Tidied) -> Result<Tidied, AllocError>
+fn delete_by_units(alloc: Global, held: &HeldSets<'_>, tidied: Tidied) -> Result<Tidied, AllocError>
     ensures { IfOk result (λ t. tidied_of t ≡ followed_by (tidied_of tidied)
-        (left_out (is_denied (lent held.now)) [])) }
+        (left_out (is_denied (all_in held.now)) [])) }
 {
     let Tidied {
         mut clause,
@@ -238,11 +282,11 @@ pub fn put_in_order(
     alloc: Global,
     precedence: &Precedence,
     units: bool,
-    held: &[&Held],
+    held: &HeldSets<'_>,
     tidied: Tidied,
 ) -> Result<Tidied, AllocError>
     ensures { IfOk result (λ t. tidied_of t ≡ followed_by (tidied_of tidied)
-        (put_in_order (greater_of precedence.now) units (lent held.now))) }
+        (put_in_order (greater_of precedence.now) units (all_in held.now))) }
 {
     let flipped = flip(alloc, precedence, tidied)?;
     let merged = merge(flipped)?;

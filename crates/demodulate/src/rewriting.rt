@@ -7,6 +7,7 @@ ghost use Rattle.fol_core.specs.Tree.{app, trees_of};
 ghost use Rattle.prover_steps.specs.Rewriting.{rewritten_by, step_at_top, widened, first_step, step_in, atom_step};
 
 use crate::step::Step;
+use clause_index::Rules;
 use fol_core::{Sym, Term, Terms};
 use held_clauses::{Held, first_atom, left_of, right_of};
 use std::alloc::{AllocError, Global};
@@ -28,21 +29,22 @@ pub fn rewritten_by(alloc: Global, rule: &Held, term: &Term) -> Result<Option<Te
 }
 
 // The step of the first rule that fits the term as a whole.
-#[tactic(auto, using(crate::proofs::Redexes::top_found, crate::proofs::Redexes::top_behind, crate::proofs::Redexes::top_end))]
-fn step_at_top(alloc: Global, rules: &[Held], term: &Term) -> Result<Option<Step>, AllocError>
+#[tactic(auto, using(crate::proofs::Redexes::top_found, crate::proofs::Redexes::top_missed, crate::proofs::Redexes::top_none))]
+fn step_at_top(alloc: Global, rules: &Rules, term: &Term) -> Result<Option<Step>, AllocError>
     ensures { IfOk result (λ o. option_map step_of o
         ≡ step_at_top rules.now (tree_of term.now)) }
 {
-    for rule in rules {
-        if let Some(result) = rewritten_by(alloc, rule, term)? {
-            return Ok(Some(Step {
-                rule: rule.number,
-                path: Vec::new(alloc),
-                result,
-            }));
-        }
+    let Some(rule) = rules.first_for(term)? else {
+        return Ok(None);
+    };
+    match rewritten_by(alloc, rule, term)? {
+        Some(result) => Ok(Some(Step {
+            rule: rule.number,
+            path: Vec::new(alloc),
+            result,
+        })),
+        None => Ok(None),
     }
-    Ok(None)
 }
 
 // Copies of terms, at the end.
@@ -98,7 +100,7 @@ fn step_around(
 #[tactic(auto, using(crate::proofs::Redexes::normal_more, crate::proofs::Redexes::argument_step, crate::proofs::Redexes::no_argument_step))]
 pub fn step_within(
     alloc: Global,
-    rules: &[Held],
+    rules: &Rules,
     head: Sym,
     terms: &Terms,
 ) -> Result<Option<Step>, AllocError>
@@ -116,7 +118,7 @@ pub fn step_within(
 /// The first step of a term.
 #[cycle(first_step)]
 #[tactic(auto, using(crate::proofs::Redexes::step_inside, crate::proofs::Redexes::step_outside))]
-pub fn first_step(alloc: Global, rules: &[Held], term: &Term) -> Result<Option<Step>, AllocError>
+pub fn first_step(alloc: Global, rules: &Rules, term: &Term) -> Result<Option<Step>, AllocError>
     ensures { IfOk result (λ o. option_map step_of o
         ≡ first_step rules.now (tree_of term.now)) }
 {
@@ -131,7 +133,7 @@ pub fn first_step(alloc: Global, rules: &[Held], term: &Term) -> Result<Option<S
 }
 
 /// The first step below an atom.
-pub fn atom_step(alloc: Global, rules: &[Held], atom: &Term) -> Result<Option<Step>, AllocError>
+pub fn atom_step(alloc: Global, rules: &Rules, atom: &Term) -> Result<Option<Step>, AllocError>
     ensures { IfOk result (λ o. option_map step_of o
         ≡ atom_step rules.now (tree_of atom.now)) }
 {

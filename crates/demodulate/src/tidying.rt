@@ -1,15 +1,15 @@
 // A clause rewritten and put in order.
 ghost use Rattle.std.specs.Prelude.{◌≡◌, false, IfOk};
+ghost use Rattle.clause_index.specs.Sets.{all_in};
 ghost use Rattle.demodulate.specs.Steps.{tidied_by, tidied_of};
-ghost use Rattle.held_clauses.specs.Holding.{lent};
 ghost use Rattle.held_clauses.specs.Order.{greater_of};
 ghost use Rattle.prover_steps.specs.Searching.{is_too_large};
 
 use crate::normal::normal_form;
 use crate::ordering::put_in_order;
 use crate::step::Tidied;
+use clause_index::{HeldSets, Rules};
 use fol_core::{Clause, renumber};
-use held_clauses::Held;
 use ladr_options::Options;
 use std::alloc::{AllocError, Global};
 use term_order::Precedence;
@@ -20,12 +20,12 @@ pub fn tidy(
     alloc: Global,
     precedence: &Precedence,
     options: &Options,
-    rules: &[Held],
-    held: &[&Held],
+    rules: &Rules,
+    held: &HeldSets<'_>,
     clause: Clause,
 ) -> Result<Tidied, AllocError>
     ensures tidied { IfOk result (λ t. tidied_of t ≡ tidied_by (greater_of precedence.now)
-        options.now rules.now (lent held.now) clause) }
+        options.now rules.now (all_in held.now) clause) }
     ensures small { is_too_large clause ≡ false
         → IfOk result (λ t. is_too_large t.clause ≡ false) }
 {

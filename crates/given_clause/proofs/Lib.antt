@@ -2,8 +2,9 @@ pub mod Conflicts
 pub mod Going
 pub mod Lightest
 pub mod Merging
-pub mod Placing
+pub mod Others
 pub mod Settling
 pub mod Stepped
+pub mod Subsumed
 pub mod Tests
 pub mod Turning

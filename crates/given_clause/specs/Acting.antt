@@ -1,8 +1,9 @@
 -- What a clause that is kept does to others.
-use Rattle.std.specs.Prelude.{ℕ, Bool, List, [], ◌∷◌, Option, Some, None, filter, flat_map}
+use Rattle.std.specs.Prelude.{ℕ, Bool, ◌&&◌, List, [], ◌∷◌, Option, Some, None, filter, flat_map}
 use Rattle.std.specs.List.{list_any}
+use Rattle.clause_index.specs.Entries.{begins_generally}
 use Rattle.derivation.specs.Later.{is_unit}
-use Rattle.fol_core.specs.Literals.{ClauseTree}
+use Rattle.fol_core.specs.Literals.{Lit, ClauseTree}
 use Rattle.given_clause.specs.declared.acting.Act.{Act}
 use Rattle.given_clause.specs.declared.acting.Act.TheVariants.{Subsumes, Deletes, Rewrites}
 use Rattle.proof_words.specs.Written.{WrittenFirst, satellite, by_resolve, by_copy, by_back_rewrite, by_back_unit_del}
@@ -22,6 +23,12 @@ abbrev pub word_for : Act → ℕ → WrittenFirst
 word_for Subsumes n = by_copy n
 word_for Deletes n = by_back_unit_del n
 word_for Rewrites n = by_back_rewrite n
+
+-- whether one of some clauses subsumes another that begins with a literal of which this one is an
+-- instance, or has none
+abbrev pub is_subsumed_from : List Held → ClauseTree → Lit → Bool
+is_subsumed_from hs c k =
+    list_any (λ h. begins_generally k.positive k.atom h && subsumes h.clause c) hs
 
 -- what a clause makes of units
 abbrev pub conflicts_with : List Held → Held → List Conclusion

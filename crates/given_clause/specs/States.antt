@@ -48,9 +48,9 @@ reason_of Filled = filled
 
 abbrev pub state_of : Search → SearchState
 state_of s = record {
-  waiting = s.waiting.items;
-  usable = s.usable.items;
-  rules = s.rules.items;
+  waiting = s.waiting;
+  usable = s.usable;
+  rules = s.rules;
   queue = map queued_of s.queue.items;
   lines = map made_line_of s.lines.items;
   next = s.next;

@@ -1,5 +1,5 @@
 // What a clause that is kept does to others.
-ghost use Rattle.std.specs.Prelude.{◌≡◌, ◌++◌, [], ◌∷◌, not, ◌&&◌, IfOk, OnOk, map};
+ghost use Rattle.std.specs.Prelude.{◌≡◌, ◌++◌, [], ◌∷◌, not, ◌&&◌, IfOk, OnOk, filter, map};
 ghost use Rattle.std.specs.List.{list_any};
 ghost use Rattle.std.specs.Option.{option_map};
 ghost use Rattle.derivation.specs.Later.{is_unit};
@@ -13,7 +13,7 @@ ghost use Rattle.prover_steps.specs.Shortening.{denies};
 ghost use Rattle.resolution.specs.View.{conclusion_of};
 
 use crate::keeping::{add_proof, keep_line};
-use crate::lists::{leave_out, merged};
+use crate::lists::merged;
 use crate::state::{Queued, Search};
 use demodulate::{denies, rewrites_clause};
 use derivation::First;
@@ -40,8 +40,8 @@ pub fn is_unit(clause: &Clause) -> bool
     clause.len() == 1
 }
 
-/// The clauses that wait and those in use, by their numbers.
-pub fn all_held(alloc: Global, search: &Search) -> Result<Vec<&Held>, AllocError>
+// The clauses that wait and those in use, by their numbers.
+fn all_held(alloc: Global, search: &Search) -> Result<Vec<&Held>, AllocError>
     requires { IsInOrder (state_of search.now) }
     ensures { IfOk result (λ hs. lent hs.items ≡ all_held (state_of search.now)) }
 {
@@ -84,7 +84,32 @@ fn acts_on_other(alloc: Global, act: Act, held: &Held, other: &Held) -> Result<b
     acts_on(alloc, act, held, other.clause())
 }
 
-// Copies of the clauses that are held to which another one does so, it itself left out.
+// Copies of the clauses of a list to which another one does so, it itself left out.
+fn others_in(alloc: Global, act: Act, list: &[Held], held: &Held) -> Result<Vec<Held>, AllocError>
+    ensures { IfOk result (λ hs. hs.items ≡ filter (λ d. not (is_same_held held.now d)
+        && acts_on act held.now d.clause) list.now) }
+{
+    let mut others = Vec::new(alloc);
+    for other in list {
+        if acts_on_other(alloc, act, held, other)? {
+            others.push(other.copy(alloc)?)?;
+        }
+    }
+    Ok(others)
+}
+
+// Copies of clauses that are lent.
+fn copies_of(alloc: Global, held: &[&Held]) -> Result<Vec<Held>, AllocError>
+    ensures { IfOk result (λ hs. hs.items ≡ lent held.now) }
+{
+    let mut copies = Vec::new(alloc);
+    for one in held {
+        copies.push(one.copy(alloc)?)?;
+    }
+    Ok(copies)
+}
+
+// Copies of the clauses that are held to which another one does so, by their numbers.
 fn others_held(
     alloc: Global,
     act: Act,
@@ -95,23 +120,19 @@ fn others_held(
     ensures { IfOk result (λ hs. hs.items ≡ others_held held.now (acts_on act held.now)
         (state_of search.now)) }
 {
-    let all = all_held(alloc, search)?;
-    let mut others = Vec::new(alloc);
-    for other in &all {
-        if acts_on_other(alloc, act, held, other)? {
-            others.push(other.copy(alloc)?)?;
-        }
-    }
-    Ok(others)
+    let waiting = others_in(alloc, act, search.waiting.as_slice(), held)?;
+    let usable = others_in(alloc, act, search.usable.as_slice(), held)?;
+    let others = merged(alloc, waiting.as_slice(), usable.as_slice())?;
+    copies_of(alloc, others.as_slice())
 }
 
 // Clauses are retired.
 fn retire(gone: &[Held], search: &mut Search)
     ensures { state_of search.new ≡ retires gone.now (state_of search.old) }
 {
-    leave_out(gone, &mut search.waiting);
-    leave_out(gone, &mut search.usable);
-    leave_out(gone, &mut search.rules);
+    search.waiting.leave_out(gone);
+    search.usable.leave_out(gone);
+    search.rules.leave_out(gone);
 }
 
 // A clause that is put back, with the word for it.

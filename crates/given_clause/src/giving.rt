@@ -2,16 +2,17 @@
 ghost use Rattle.std.specs.Prelude.{◌≡◌, ◌++◌, IfOk, OnOk, map, filter, not};
 ghost use Rattle.given_clause.specs.Guides.{setting_of};
 ghost use Rattle.given_clause.specs.States.{queued_of, state_of};
+ghost use Rattle.prover_steps.specs.HeldOrder.{numbers_of, IsInOrder, IsNoneOf};
 ghost use Rattle.prover_steps.specs.Searching.{queued_for, gives, given_next};
 ghost use Rattle.resolution.specs.View.{conclusion_of};
 
 use crate::guide::Guide;
 use crate::keeping::{counted, counted_on};
-use crate::lists::{leave_out_one, put_in};
 use crate::picking::picked;
 use crate::state::{Queued, Reason, Search};
 use conclusions::conclusions_of;
 use held_clauses::Held;
+use prover_steps::steps_keep_order;
 use resolution::Conclusion;
 use std::alloc::{AllocError, Global};
 use std::collections::VecDeque;
@@ -41,14 +42,15 @@ fn give(
     search: &mut Search,
     given: Held,
 ) -> Result<(), AllocError>
+    requires { IsNoneOf given.number (numbers_of search.old.usable) }
     ensures { OnOk result (state_of search.new ≡ gives (setting_of guide.now)
         (state_of search.old) given) }
 {
     let number = given.number();
-    put_in(given.copy(alloc)?, &mut search.usable)?;
+    search.usable.put_in(given.copy(alloc)?)?;
     let usable = search.usable.as_slice();
     let new = conclusions_of(alloc, &guide.rules, &guide.precedence, usable, &given)?;
-    leave_out_one(number, &mut search.waiting);
+    search.waiting.leave_out_one(number);
     search.given = counted(search.given, 1)?;
     search.generated = counted_on(search.generated, new.len() as u64);
     search.queue = queued_all(alloc, new)?;
@@ -57,9 +59,11 @@ fn give(
 
 /// Where the queue is empty: none waits, or as many as are allowed were given, or one is picked.
 pub fn give_next(alloc: Global, guide: &Guide<'_>, search: &mut Search) -> Result<(), AllocError>
+    requires { IsInOrder (state_of search.old) }
     ensures { OnOk result (state_of search.new ≡ given_next (setting_of guide.now)
         (state_of search.old)) }
 {
+    steps_keep_order();
     let Some(pick) = picked(alloc, guide, search.waiting.as_slice(), search.turn)? else {
         search.ended = Some(Reason::Spent);
         return Ok(());

@@ -1,15 +1,17 @@
 // Lines, proofs, and clauses that are kept.
 ghost use Rattle.std.specs.Prelude.{◌≡◌, ◌+◌, ◌++◌, ◌∷◌, [], suc, false, IfOk, OnOk, map};
+ghost use Rattle.std.specs.List.{AllByRecursion};
 ghost use Rattle.derivation.specs.View.{later_of};
 ghost use Rattle.given_clause.specs.States.{queued_of, state_of};
 ghost use Rattle.proof_words.specs.Written.{written_first};
+ghost use Rattle.prover_steps.specs.HeldOrder.{numbers_of, input_numbers, IsInOrder, IsNoneOf, IsUnusedIn};
 ghost use Rattle.prover_steps.specs.Searching.{counted_on, is_unchanged, number_for, with_line, with_proof, held_for, keeps, is_too_large};
 
-use crate::lists::put_in;
 use crate::state::{FoundProof, Queued, Search};
 use derivation::{Content, First, Just, Later, Line};
 use fol_core::Clause;
 use held_clauses::{Held, clause_size};
+use prover_steps::steps_keep_order;
 use std::alloc::{AllocError, Global};
 
 /// A number and so many more.
@@ -103,25 +105,31 @@ pub fn add_proof(search: &mut Search, line: u64) -> Result<(), AllocError>
 
 /// A clause is kept: it waits, or is in use at once.
 pub fn keep(search: &mut Search, held: Held, usable: bool) -> Result<(), AllocError>
-    requires { is_too_large held.clause ≡ false }
+    requires small { is_too_large held.clause ≡ false }
+    requires not_waiting { IsNoneOf held.number (numbers_of search.old.waiting) }
+    requires not_usable { IsNoneOf held.number (numbers_of search.old.usable) }
     ensures { OnOk result (state_of search.new ≡ keeps (state_of search.old) held usable) }
 {
     search.kept = counted(search.kept, 1)?;
     search.symbols = counted(search.symbols, clause_size(held.clause()))?;
     if usable {
-        put_in(held, &mut search.usable)
+        search.usable.put_in(held)
     } else {
-        put_in(held, &mut search.waiting)
+        search.waiting.put_in(held)
     }
 }
 
 /// A clause that was processed is kept under its number, with its line.
 pub fn keep_queued(alloc: Global, search: &mut Search, queued: Queued) -> Result<Held, AllocError>
-    requires { is_too_large queued.clause ≡ false }
+    requires small { is_too_large queued.clause ≡ false }
+    requires ordered { IsInOrder (state_of search.old) }
+    requires unused { AllByRecursion (IsUnusedIn (state_of search.old))
+        (input_numbers (queued_of queued ∷ [])) }
     ensures held { IfOk result (λ h. h ≡ held_for (state_of search.old) (queued_of queued)) }
     ensures kept { OnOk result (state_of search.new ≡ keeps (with_line (state_of search.old)
         (queued_of queued)) (held_for (state_of search.old) (queued_of queued)) queued.usable) }
 {
+    steps_keep_order();
     let number = number_for(search, &queued);
     let held = Held::new(number, queued.clause.copy(alloc)?);
     let usable = queued.usable;

@@ -2,19 +2,21 @@
 ghost use Rattle.std.specs.Prelude.{◌≡◌, ◌∷◌, [], false, IfOk, OnOk};
 ghost use Rattle.std.specs.List.{AllByRecursion, list_any};
 ghost use Rattle.std.specs.Option.{option_map};
+ghost use Rattle.fol_core.specs.ClauseView.{literal_of};
+ghost use Rattle.given_clause.specs.Acting.{is_subsumed_from};
 ghost use Rattle.given_clause.specs.Guides.{setting_of};
 ghost use Rattle.given_clause.specs.States.{queued_of, reason_of, state_of};
 ghost use Rattle.prover_steps.specs.HeldOrder.{IsInOrder, IsNoRuleIn, IsUnusedIn, input_numbers};
 ghost use Rattle.prover_steps.specs.Searching.{all_held, tidied, is_too_large, is_too_heavy, is_no_use, has_proofs, becomes_rule, limit_reached, deletes_back, rewrites_back, rules_back, works_back, after_kept, settled, processed, under_limits, counted_on, subsumes_back};
 ghost use Rattle.prover_steps.specs.Subsuming.{subsumes};
 
-use crate::acting::{Act, all_held, is_unit, meet_units, put_back, subsume_back};
+use crate::acting::{Act, is_unit, meet_units, put_back, subsume_back};
 use crate::guide::Guide;
 use crate::keeping::{add_proof, counted_on, keep_line, keep_queued, number_for};
-use crate::lists::put_in;
 use crate::state::{Queued, Reason, Search};
+use clause_index::{HeldSet, HeldSets};
 use demodulate::{Tidied, tidy};
-use fol_core::Clause;
+use fol_core::{Clause, Literal};
 use held_clauses::{Held, is_too_large};
 use paramod::is_oriented;
 use prover_steps::steps_keep_order;
@@ -28,7 +30,6 @@ fn tidied(
     search: &Search,
     queued: Queued,
 ) -> Result<Queued, AllocError>
-    requires { IsInOrder (state_of search.now) }
     ensures tidied { IfOk result (λ q. queued_of q ≡ tidied (setting_of guide.now)
         (state_of search.now) (queued_of queued)) }
     ensures small { is_too_large queued.clause ≡ false
@@ -41,13 +42,16 @@ fn tidied(
         usable,
         ..
     } = queued;
-    let held = all_held(alloc, search)?;
+    let held = HeldSets {
+        waiting: &search.waiting,
+        usable: &search.usable,
+    };
     let Tidied { clause, words } = tidy(
         alloc,
         &guide.precedence,
         &guide.options,
-        search.rules.as_slice(),
-        held.as_slice(),
+        &search.rules,
+        &held,
         clause,
     )?;
     Ok(Queued {
@@ -72,16 +76,68 @@ fn is_subsumed(alloc: Global, held: &[Held], clause: &Clause) -> Result<bool, Al
     Ok(false)
 }
 
+// The same of clauses that are lent.
+#[tactic(auto, using(crate::proofs::Tests::some_here, crate::proofs::Tests::some_behind, crate::proofs::Tests::some_end))]
+fn is_subsumed_by_lent(alloc: Global, held: &[&Held], clause: &Clause) -> Result<bool, AllocError>
+    ensures { IfOk result (λ b. b ≡ list_any (λ h. subsumes h.now.clause clause.now) held.now) }
+{
+    for one in held {
+        if subsumes(alloc, one.clause(), clause)? {
+            return Ok(true);
+        }
+    }
+    Ok(false)
+}
+
+// Whether one of a set does so that begins with a literal of which this one is an instance.
+fn is_subsumed_from(
+    alloc: Global,
+    set: &HeldSet,
+    literal: &Literal,
+    clause: &Clause,
+) -> Result<bool, AllocError>
+    ensures { IfOk result (λ b. b
+        ≡ is_subsumed_from set.now clause.now (literal_of literal.now)) }
+{
+    let held = set.generalizing(literal.positive, &literal.atom)?;
+    is_subsumed_by_lent(alloc, held.as_slice(), clause)
+}
+
+// Whether one does so from some literal of the clause.
+#[tactic(auto, using(crate::proofs::Tests::literal_here, crate::proofs::Tests::literal_behind, crate::proofs::Tests::literal_end))]
+fn is_subsumed_from_some(alloc: Global, set: &HeldSet, clause: &Clause) -> Result<bool, AllocError>
+    ensures { IfOk result (λ b. b
+        ≡ list_any (is_subsumed_from set.now clause.now) clause.now) }
+{
+    for literal in clause.as_slice() {
+        if is_subsumed_from(alloc, set, literal, clause)? {
+            return Ok(true);
+        }
+    }
+    Ok(false)
+}
+
+// Whether one of a set does so; one that subsumes a clause with literals begins with such a literal.
+#[tactic(auto, using(crate::proofs::Subsumed::from_some_literal))]
+fn is_subsumed_in(alloc: Global, set: &HeldSet, clause: &Clause) -> Result<bool, AllocError>
+    ensures { IfOk result (λ b. b ≡ list_any (λ h. subsumes h.clause clause.now) set.now) }
+{
+    if clause.len() == 0 {
+        return is_subsumed(alloc, set.as_slice(), clause);
+    }
+    is_subsumed_from_some(alloc, set, clause)
+}
+
 // Whether one of the clauses that are held subsumes another one.
 #[tactic(auto, using(crate::proofs::Settling::some_held))]
 fn is_subsumed_by_held(alloc: Global, search: &Search, clause: &Clause) -> Result<bool, AllocError>
     ensures { IfOk result (λ b. b ≡ list_any (λ h. subsumes h.clause clause.now)
         (all_held (state_of search.now))) }
 {
-    if is_subsumed(alloc, search.waiting.as_slice(), clause)? {
+    if is_subsumed_in(alloc, &search.waiting, clause)? {
         return Ok(true);
     }
-    is_subsumed(alloc, search.usable.as_slice(), clause)
+    is_subsumed_in(alloc, &search.usable, clause)
 }
 
 // Whether a clause weighs too much and matches no hint.
@@ -189,7 +245,7 @@ fn rules_back(
     if !becomes_rule(alloc, guide, held.clause())? {
         return Ok(());
     }
-    put_in(held.copy(alloc)?, &mut search.rules)?;
+    search.rules.put_in(held.copy(alloc)?)?;
     if guide.options.back_demod {
         put_back(alloc, Act::Rewrites, search, held)
     } else {

@@ -1,7 +1,7 @@
 // Where a search stands.
+use clause_index::{HeldSet, Rules};
 use derivation::{First, Later, Line};
 use fol_core::Clause;
-use held_clauses::Held;
 use std::collections::VecDeque;
 
 /// A clause in the queue with its words. An input clause has its number, and whether it is to be used at once.
@@ -37,9 +37,9 @@ pub struct FoundProof {
 /// and why the search ended, if it did.
 #[derive(Drop)]
 pub struct Search {
-    pub waiting: Vec<Held>,
-    pub usable: Vec<Held>,
-    pub rules: Vec<Held>,
+    pub waiting: HeldSet,
+    pub usable: HeldSet,
+    pub rules: Rules,
     pub queue: VecDeque<Queued>,
     pub lines: Vec<Line>,
     pub next: u64,

@@ -1,13 +1,15 @@
 -- The first clauses, in the queue and as rules.
-use Rattle.std.proofs.Common.{◌≡◌, ℕ, suc, ◌+◌, ◌<◌, refl, sym, ap, ap₂, ◌∙◌, List, [], ◌∷◌, ◌++◌, length, take, get_or, map, arith, append_assoc, add-one}
+use Rattle.std.proofs.Common.{◌≡◌, ℕ, suc, ◌+◌, ◌<◌, ◌≤◌, refl, sym, ap, ap₂, subst, ◌∙◌, List, [], ◌∷◌, ◌++◌, length, take, get_or, map, arith, append_assoc, add-one}
 use Rattle.std.proofs.Math.Seq.{take-suc}
 use Rattle.std.proofs.lemmas.List.{append-nil, length-take-le, map-append}
+use Rattle.std.specs.List.{AllByRecursion}
 use Rattle.derivation.specs.Lines.{InputRow}
 use Rattle.fol_core.specs.Literals.{ClauseTree}
 use Rattle.fol_core.specs.Stated.{Said}
 use Rattle.fol_core.specs.declared.problem.Role.{Role}
 use Rattle.fol_core.specs.declared.problem.Role.TheVariants.{Assumption, Usable, Demodulator, Goal}
 use Rattle.prover_steps.specs.Clashing.{Held}
+use Rattle.prover_steps.specs.HeldOrder.{numbers_of}
 use Rattle.prover_steps.specs.Searching.{Queued}
 use Rattle.prover_steps.specs.Starting.{role_of, held_rule, queued_input, queued_inputs, rules_of}
 
@@ -25,6 +27,17 @@ rules_end ss n m [] r e = let f : n ≡ m = omega (arith, e) in append-nil (held
 rules_end ss n m (k ∷ rows) r e =
     ap (λ (hs : List Held). held_rule (role_of ss k) n k ++ hs) (rules_end ss (suc n) m rows r (omega (arith, e)))
     ∙ sym (append_assoc (held_rule (role_of ss k) n k) (rules_of ss (suc n) rows) (held_rule (role_of ss r) m r))
+
+-- rules have the numbers of their rows
+rules_below : (ss : List Said) (n m : ℕ) (rows : List InputRow) → n + length rows ≤ m → AllByRecursion (λ k. k < m) (numbers_of (rules_of ss n rows))
+rules_below ss n m [] h = tt
+rules_below ss n m (r ∷ rows) h = by (role_of ss r) (rules_below ss (suc n) m rows (omega (arith, h)))
+  where
+    by : (role : Role) → AllByRecursion (λ k. k < m) (numbers_of (rules_of ss (suc n) rows)) → AllByRecursion (λ k. k < m) (numbers_of (held_rule role n r ++ rules_of ss (suc n) rows))
+    by Assumption rest = rest
+    by Usable rest = rest
+    by Demodulator rest = (omega (arith, h), rest)
+    by Goal rest = rest
 
 -- the number of a row's formula doesn't count once its role is known
 queued_same : (role : Role) (n : ℕ) (r : InputRow) → queued_input role n (0, r.1) ≡ queued_input role n r
@@ -48,6 +61,9 @@ module _ (ss : List Said) (first : ℕ) (rows : List InputRow) (i : ℕ) (r : In
       grown ∙ ap (λ (qs : List Queued). qs ++ queued_input role number (0, r.1)) h
       ∙ ap (λ (qs : List Queued). queued_inputs ss first (take i rows) ++ qs) (queued_same role number r ∙ ap (λ k. queued_input k number r) as_role)
       ∙ sym (ap (queued_inputs ss first) (take_next rows i r below is) ∙ queued_end ss first number (take i rows) r many)
+
+  pub rules_lower : (old : List Held) → old ≡ rules_of ss first (take i rows) → AllByRecursion (λ k. k < number) (numbers_of old)
+  rules_lower old h = subst (λ hs. AllByRecursion (λ k. k < number) (numbers_of hs)) (sym h) (rules_below ss first number (take i rows) (omega (arith, many)))
 
   pub rules_next : (old new : List Held) → new ≡ old ++ held_rule role number (0, r.1) → old ≡ rules_of ss first (take i rows) → new ≡ rules_of ss first (take (i + 1) rows)
   rules_next old new grown h =

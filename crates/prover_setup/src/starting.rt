@@ -1,10 +1,13 @@
 // Where a search begins.
-ghost use Rattle.std.specs.Prelude.{◌≡◌, ◌+◌, ◌++◌, ◌∷◌, [], ℕ, IfOk, OnOk, Some, map};
+ghost use Rattle.std.specs.Prelude.{◌≡◌, ◌+◌, ◌<◌, ◌++◌, ◌∷◌, [], ℕ, IfOk, OnOk, Some, map};
+ghost use Rattle.std.specs.List.{AllByRecursion};
 ghost use Rattle.fol_core.specs.Stated.{all_said};
 ghost use Rattle.given_clause.specs.States.{queued_of, state_of};
 ghost use Rattle.proof_words.specs.Written.{by_copy};
+ghost use Rattle.prover_steps.specs.HeldOrder.{numbers_of};
 ghost use Rattle.prover_steps.specs.Starting.{held_rule, queued_as, queued_input, queued_inputs, rules_of, start_state};
 
+use clause_index::{HeldSet, Rules};
 use derivation::First;
 use fol_core::{Clause, Input, Problem, Role};
 use given_clause::{Queued, Search};
@@ -66,16 +69,15 @@ fn add_rule(
     role: Role,
     number: u64,
     clause: &Clause,
-    rules: &mut Vec<Held>,
+    rules: &mut Rules,
 ) -> Result<(), AllocError>
-    ensures { OnOk result (rules.new.items ≡ rules.old.items
-        ++ held_rule role number (0, clause.now)) }
+    requires { AllByRecursion (λ n. n < number) (numbers_of rules.old) }
+    ensures { OnOk result (rules.new ≡ rules.old ++ held_rule role number (0, clause.now)) }
 {
     match role {
-        Role::Demodulator => rules.push(Held::new(number, clause.copy(alloc)?))?,
-        Role::Assumption | Role::Usable | Role::Goal => {}
+        Role::Demodulator => rules.put_in(Held::new(number, clause.copy(alloc)?)),
+        Role::Assumption | Role::Usable | Role::Goal => Ok(()),
     }
-    Ok(())
 }
 
 // The queue, of clauses that are numbered one by one from a number on.
@@ -103,11 +105,10 @@ fn rules_of(
     inputs: &[Input],
     first: u64,
     clauses: &[(u64, Clause)],
-) -> Result<Vec<Held>, AllocError>
-    ensures { IfOk result (λ rules. rules.items
-        ≡ rules_of (all_said inputs.now) first clauses.now) }
+) -> Result<Rules, AllocError>
+    ensures { IfOk result (λ rules. rules ≡ rules_of (all_said inputs.now) first clauses.now) }
 {
-    let mut rules = Vec::new(alloc);
+    let mut rules = Rules::new(alloc);
     for (i, row) in clauses.iter().enumerate() {
         let number = behind(first, i as u64)?;
         let role = role_at(inputs, row.0);
@@ -131,8 +132,8 @@ pub fn start_search(
     let queue = queued_inputs(alloc, inputs, first, clauses)?;
     let rules = rules_of(alloc, inputs, first, clauses)?;
     Ok(Search {
-        waiting: Vec::new(alloc),
-        usable: Vec::new(alloc),
+        waiting: HeldSet::new(alloc),
+        usable: HeldSet::new(alloc),
         rules,
         queue,
         lines: Vec::new(alloc),

@@ -1,5 +1,6 @@
 // Clauses simplified, one way after the other.
 use crate::making::{constant, equation, pair, related, related_deep, unit};
+use clause_index::{HeldSet, HeldSets, Rules};
 use demodulate::{Tidied, denies, normal_form, put_in_order, rewrites_clause, tidy};
 use fol_core::Term;
 use held_clauses::{Held, is_greater};
@@ -14,9 +15,9 @@ fn rule(alloc: Global) -> Result<Held, AllocError> {
     Ok(Held::new(4, unit(alloc, equation(alloc)?)?))
 }
 
-fn rules(alloc: Global) -> Result<Vec<Held>, AllocError> {
-    let mut rules = Vec::new(alloc);
-    rules.push(rule(alloc)?)?;
+fn rules(alloc: Global) -> Result<Rules, AllocError> {
+    let mut rules = Rules::new(alloc);
+    rules.put_in(rule(alloc)?)?;
     Ok(rules)
 }
 
@@ -43,7 +44,11 @@ fn rewrites(rt: HostRuntime) -> Result<(), Fail> {
 fn puts_in_order(rt: HostRuntime) -> Result<(), Fail> {
     let alloc = rt.alloc();
     let clause = pair(alloc, related_deep(alloc, 0)?, related_deep(alloc, 0)?)?;
-    let held: Vec<&Held> = Vec::new(alloc);
+    let none = HeldSet::new(alloc);
+    let held = HeldSets {
+        waiting: &none,
+        usable: &none,
+    };
     let words = Vec::new(alloc);
     let made = put_in_order(alloc, &order(alloc), true, &held, Tidied { clause, words })?;
     assert!(rt; made.clause.len() == 1);
@@ -54,7 +59,11 @@ fn puts_in_order(rt: HostRuntime) -> Result<(), Fail> {
 fn tidies(rt: HostRuntime) -> Result<(), Fail> {
     let alloc = rt.alloc();
     let rules = rules(alloc)?;
-    let held: Vec<&Held> = Vec::new(alloc);
+    let none = HeldSet::new(alloc);
+    let held = HeldSets {
+        waiting: &none,
+        usable: &none,
+    };
     let clause = pair(alloc, related_deep(alloc, 0)?, related_deep(alloc, 1)?)?;
     let made = tidy(
         alloc,
@@ -65,6 +74,26 @@ fn tidies(rt: HostRuntime) -> Result<(), Fail> {
         clause,
     )?;
     assert!(rt; made.words.len() == 2);
+    Ok(())
+}
+
+#[test]
+fn deletes_by_units(rt: HostRuntime) -> Result<(), Fail> {
+    let alloc = rt.alloc();
+    let denial = unit(alloc, related(alloc, false, Term::Var(0))?)?;
+    let mut waiting = HeldSet::new(alloc);
+    waiting.put_in(Held::new(6, denial))?;
+    let usable = HeldSet::new(alloc);
+    let held = HeldSets {
+        waiting: &waiting,
+        usable: &usable,
+    };
+    let clause = pair(alloc, related_deep(alloc, 0)?, related_deep(alloc, 1)?)?;
+    let words = Vec::new(alloc);
+    let made = put_in_order(alloc, &order(alloc), true, &held, Tidied { clause, words })?;
+    assert!(rt; made.clause.len() == 0);
+    waiting.leave_out_one(6);
+    assert!(rt; waiting.is_empty());
     Ok(())
 }
 

@@ -8,5 +8,5 @@ use Rattle.given_clause.proofs.acting.all_held.Goals as goal
 pub returns : goal.returns
 returns c =
     let s = state_of c.args.search.now in
-    let e : merged_held c.as_slice.result.now c.as_slice-2.result.now ≡ all_held s = ap₂ merged_held c.as_slice.ensures.value c.as_slice-2.ensures.value ∙ sym (c.clauses_stay_in_order.ensures.merged s c.requires) in
+    let e : merged_held c.as_slice.result.now c.as_slice-2.result.now ≡ all_held s = ap₂ merged_held c.as_slice.ensures.clauses c.as_slice-2.ensures.clauses ∙ sym (c.clauses_stay_in_order.ensures.merged s c.requires) in
     subst (λ ks. IfOk c.merged.result (λ hs. lent hs.items ≡ ks)) e c.merged.ensures

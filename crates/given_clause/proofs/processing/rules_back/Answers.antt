@@ -7,5 +7,5 @@ use Rattle.given_clause.proofs.processing.rules_back.Goals as goal
 pub put_back-requires : goal.put_back-requires
 put_back-requires c =
     let s = state_of c.args.search.now in
-    subst (λ rs. IsInOrder (record s { rules = rs })) (sym (c.in_ok-put_in.ensures ∙ ap (λ h. put_in h s.rules) c.in_ok-copy.ensures))
+    subst (λ rs. IsInOrder (record s { rules = rs })) (sym (c.in_ok-put_in.ensures.ok ∙ ap (λ h. put_in h s.rules) c.in_ok-copy.ensures))
     (c.steps_keep_order.ensures.rule s c.args.held.now c.requires.ordered c.requires.no_rule)

@@ -1,0 +1,5 @@
+pub mod Entries
+pub mod Gathering
+pub mod Places
+pub mod Removals
+pub mod Ruling

@@ -1,0 +1,18 @@
+use Rattle.std.proofs.Common.{sym, ap, ◌∙◌, is_some}
+use Rattle.std.specs.List.{find}
+use Rattle.clause_index.specs.Places.{with_number}
+use Rattle.fol_core.specs.TermView.{tree_of}
+use Rattle.prover_steps.specs.Rewriting.{rewritten_by}
+use Rattle.clause_index.proofs.Ruling.{rule_found, no_rule_found}
+use Rattle.clause_index.proofs.rules.Rules.first_for.Goals as goal
+
+pub returns-in-Some : goal.returns-in-Some
+returns-in-Some c =
+    c.with_number.ensures ∙ ap (with_number c.in-Some.number) c.as_slice.ensures.value
+    ∙ rule_found (tree_of c.args.term.now) c.self.inside.rules.items c.self.inside.lefts c.in-Some.number c.self.invariant (sym c.in_ok-number.ensures ∙ c.in-Some.is)
+    ∙ ap (find (λ r. is_some (rewritten_by r (tree_of c.args.term.now)))) c.self.view_is
+
+pub returns-in-None : goal.returns-in-None
+returns-in-None c =
+    sym (no_rule_found (tree_of c.args.term.now) c.self.inside.rules.items c.self.inside.lefts c.self.invariant (sym c.in_ok-number.ensures ∙ c.in-None.is))
+    ∙ ap (find (λ r. is_some (rewritten_by r (tree_of c.args.term.now)))) c.self.view_is

@@ -1,0 +1,23 @@
+use Rattle.std.proofs.Common.{sym, ap, ◌∙◌, subst}
+use Rattle.derivation.specs.Equations.{left_of}
+use Rattle.derivation.specs.Places.{atom_at}
+use Rattle.prover_steps.specs.HeldOrder.{numbers_of, IsNoneOf}
+use Rattle.clause_index.proofs.Ruling.{no_left, rule_put, rule_taken_back}
+use Rattle.clause_index.proofs.rules.Rules.put_in.Goals as goal
+
+pub insert-requires : goal.insert-requires
+insert-requires c =
+    no_left c.number-number.result c.args.rule c.self.inside.rules.items c.self.inside.lefts c.self.invariant c.number-number.ensures
+    (subst (λ rs. IsNoneOf c.args.rule.number (numbers_of rs)) (sym c.self.view_is) c.requires)
+
+pub invariant_of-self-in-Ok : goal.invariant_of-self-in-Ok
+invariant_of-self-in-Ok c =
+    rule_put c.number-number.result _ c.args.rule c.self.inside.rules.items c.self.inside.lefts c.insert.new.self c.self.invariant
+    (subst (λ rs. IsNoneOf c.args.rule.number (numbers_of rs)) (sym c.self.view_is) c.requires)
+    c.number-number.ensures (c.left_of-left.ensures ∙ ap left_of (c.first_atom.ensures ∙ ap (λ d. atom_at d 0) c.clause.ensures)) c.in_ok-insert.ensures.ok c.put_in.new.list.items c.in-Ok.ensures.ok
+
+pub invariant_of-self-in-Err : goal.invariant_of-self-in-Err
+invariant_of-self-in-Err c =
+    rule_taken_back c.number-number.result _ c.args.rule c.self.inside.rules.items c.self.inside.lefts c.insert.new.self c.self.invariant
+    (subst (λ rs. IsNoneOf c.args.rule.number (numbers_of rs)) (sym c.self.view_is) c.requires)
+    c.number-number.ensures (c.left_of-left.ensures ∙ ap left_of (c.first_atom.ensures ∙ ap (λ d. atom_at d 0) c.clause.ensures)) c.in_ok-insert.ensures.ok c.put_in.new.list.items c.remove.new.self c.in-Err.ensures.err c.remove.ensures

@@ -1,0 +1,121 @@
+// Rules, found by their left sides.
+ghost use Rattle.std.specs.Prelude.{◌≡◌, ◌==◌, not, [], IfOk, OnOk, OnErr, filter, is_some, length};
+ghost use Rattle.std.specs.List.{find};
+ghost use Rattle.std.specs.Option.{option_map};
+ghost use Rattle.clause_index.specs.Places.{with_number};
+ghost use Rattle.fol_core.specs.TermView.{tree_of};
+ghost use Rattle.prover_steps.specs.HeldOrder.{numbers_of, IsNoneOf, IsRising};
+ghost use Rattle.prover_steps.specs.Rewriting.{rewritten_by};
+ghost use Rattle.prover_steps.specs.Searching.{put_in, held_without};
+
+use crate::lists::{leave_out_one, put_in, with_number};
+use discrim_tree::Index;
+use fol_core::Term;
+use held_clauses::{Held, first_atom, left_of};
+use std::alloc::{AllocError, Global};
+use std::marker::Model;
+
+/// Rules by rising number, with an index of their left sides; contracts see the list of them.
+#[derive(Drop)]
+pub struct Rules {
+    rules: Vec<Held>,
+    lefts: Index,
+}
+
+impl Model for Rules {
+    ghost use Rattle.std.specs.Prelude.{List};
+    ghost use Rattle.std.specs.Coded.{coded_list};
+    ghost use Rattle.held_clauses.specs.Holding.{HeldClause, coded_held};
+
+    ghost Value = { List HeldClause };
+
+    ghost coded = { coded_list coded_held };
+
+    ghost use Rattle.clause_index.specs.Entries.{AreIndexed};
+
+    ghost view = { λ a. a.rules.items };
+
+    ghost invariant = { λ a. AreIndexed a.rules.items a.lefts };
+}
+
+impl Rules {
+    /// No rules.
+    pub fn new(alloc: Global) -> Rules
+        ensures { result ≡ [] }
+    {
+        Rules {
+            rules: Vec::new(alloc),
+            lefts: Index::new(alloc),
+        }
+    }
+
+    /// How many rules there are.
+    pub fn len(&self) -> usize
+        ensures { result ≡ length self.now }
+    {
+        self.rules.len()
+    }
+
+    /// The rules; their numbers rise.
+    pub fn as_slice(&self) -> &[Held]
+        ensures rules { result.now ≡ self.now }
+        ensures rising { IsRising (numbers_of self.now) }
+    {
+        self.rules.as_slice()
+    }
+
+    /// The rule with a number.
+    pub fn rule_of(&self, number: u64) -> Option<&Held>
+        ensures { option_map (λ r. r.now) result ≡ with_number number self.now }
+    {
+        with_number(number, self.rules.as_slice())
+    }
+
+    /// The first rule that fits the term as a whole.
+    pub fn first_for(&self, term: &Term) -> Result<Option<&Held>, AllocError>
+        ensures { IfOk result (λ o. option_map (λ r. r.now) o
+            ≡ find (λ r. is_some (rewritten_by r (tree_of term.now))) self.now) }
+    {
+        match self.lefts.first_generalization(term)? {
+            Some(number) => Ok(with_number(number, self.rules.as_slice())),
+            None => Ok(None),
+        }
+    }
+
+    /// Puts in a rule under a number that no other one has.
+    pub fn put_in(&mut self, rule: Held) -> Result<(), AllocError>
+        requires { IsNoneOf rule.number (numbers_of self.old) }
+        ensures ok { OnOk result (self.new ≡ put_in rule self.old) }
+        ensures err { OnErr result (self.new ≡ self.old) }
+    {
+        let number = rule.number();
+        let nothing = Term::Var(0);
+        let left = left_of(first_atom(rule.clause(), &nothing), &nothing);
+        self.lefts.insert(number, left)?;
+        match put_in(rule, &mut self.rules) {
+            Ok(()) => Ok(()),
+            Err(error) => {
+                self.lefts.remove(number);
+                Err(error)
+            }
+        }
+    }
+
+    /// Takes out the rule with a number, if there is one.
+    pub fn leave_out_one(&mut self, number: u64)
+        ensures { self.new ≡ filter (λ r. not (r.number == number)) self.old }
+    {
+        self.lefts.remove(number);
+        leave_out_one(number, &mut self.rules);
+    }
+
+    /// Takes out rules by their numbers.
+    #[tactic(auto, using(crate::proofs::Removals::none_gone, crate::proofs::Removals::next_gone))]
+    pub fn leave_out(&mut self, gone: &[Held])
+        ensures { self.new ≡ held_without gone.now self.old }
+    {
+        for held in gone {
+            self.leave_out_one(held.number());
+        }
+    }
+}

@@ -1,0 +1,18 @@
+use Rattle.std.proofs.Common.{List, sym, ap, ◌∙◌}
+use Rattle.std.specs.Option.{option_map}
+use Rattle.given_clause.specs.Guides.{setting_of}
+use Rattle.given_clause.specs.States.{state_of}
+use Rattle.given_clause.specs.Turns.{pick_of}
+use Rattle.prover_steps.specs.Clashing.{Held}
+use Rattle.prover_steps.specs.Picking.{picked}
+use Rattle.given_clause.proofs.Stepped.{not_in_use}
+use Rattle.given_clause.proofs.giving.give_next.Goals as goal
+
+pub give-requires : goal.give-requires
+give-requires c =
+    let st = setting_of c.args.guide.now in
+    let s = state_of c.args.search.now in
+    not_in_use s c.in_ok-given.given c.in-Some.pick.held.now c.requires
+    (c.steps_keep_order.ensures.picking st.options st.weight st.is_hinted s.waiting s.turn (pick_of c.in-Some.pick)
+    (sym (c.in_ok-pick.ensures ∙ ap (λ (ws : List Held). picked st.options st.weight st.is_hinted ws s.turn) c.as_slice.ensures.clauses) ∙ ap (option_map pick_of) c.in-Some.is))
+    c.in_ok-given.ensures
