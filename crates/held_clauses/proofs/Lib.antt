@@ -3,3 +3,4 @@ pub mod Items
 pub mod LiteralTests
 pub mod Measures
 pub mod Sides
+pub mod Variables

@@ -2,13 +2,16 @@
 ghost use Rattle.std.specs.Prelude.{◌≡◌, ◌<◌, IfOk, length};
 ghost use Rattle.fol_core.specs.TermView.{tree_of};
 ghost use Rattle.held_clauses.specs.Order.{greater_of, tells_greater};
+ghost use Rattle.held_clauses.specs.Variables.{has_each_of};
 ghost use Rattle.term_bank.specs.Bank.{tree_at};
 
 use fol_core::Term;
 use ladr_options::Order;
 use std::alloc::{AllocError, Global};
+use substitutions::same;
 use term_bank::{Bank, TermId};
 use term_order::{Compared, Precedence, lpo_is_order, symbols_are_ordered};
+use term_unifiers::has_variable;
 
 // How many symbols and variables a term may have that is compared by weight.
 const MOST_SYMBOLS: u64 = 1_000_000;
@@ -53,9 +56,27 @@ fn is_greater_in(
     }
 }
 
-/// Whether the first term is greater. A term of more than 1,000,000 symbols, which no clause of a search has, has no room
-/// where terms are compared by weight.
-pub fn is_greater(
+// Whether a term has each variable of another one.
+#[tactic(auto, using(crate::proofs::Variables::has_not, crate::proofs::Variables::has_next, crate::proofs::Variables::has_end))]
+fn has_each_of(s: &Term, t: &Term) -> bool
+    ensures { result ≡ has_each_of (tree_of s.now) (tree_of t.now) }
+{
+    match t {
+        Term::Var(x) => has_variable(s, *x),
+        Term::Elem(_) => true,
+        Term::App(_, terms) => {
+            for term in &terms.items {
+                if !has_each_of(s, term) {
+                    return false;
+                }
+            }
+            true
+        }
+    }
+}
+
+// Whether the first of two terms that are put into a bank is greater.
+fn is_greater_put(
     alloc: Global,
     precedence: &Precedence,
     s: &Term,
@@ -67,4 +88,32 @@ pub fn is_greater(
     let first = bank.put(s)?;
     let second = bank.put(t)?;
     is_greater_in(precedence, &bank, first, second)
+}
+
+/// Whether the first term is greater. What the variables of the two tell takes no memory. A term of more than 1,000,000
+/// symbols, which no clause of a search has, has no room where terms are compared by weight.
+pub fn is_greater(
+    alloc: Global,
+    precedence: &Precedence,
+    s: &Term,
+    t: &Term,
+) -> Result<bool, AllocError>
+    ensures { IfOk result (λ b. b ≡ greater_of precedence.now (tree_of s.now) (tree_of t.now)) }
+{
+    symbols_are_ordered();
+    lpo_is_order();
+    if same(s, t) {
+        return Ok(false);
+    }
+    match (s, t) {
+        (Term::Var(_), _) => Ok(false),
+        (Term::Elem(_), _) => Ok(false),
+        (Term::App(_, _), Term::Var(y)) => Ok(has_variable(s, *y)),
+        (Term::App(_, _), _) => {
+            if !has_each_of(s, t) {
+                return Ok(false);
+            }
+            is_greater_put(alloc, precedence, s, t)
+        }
+    }
 }

@@ -1,7 +1,7 @@
 -- What is found where a variable is bound, or isn't.
-use Rattle.std.proofs.Common.{◌≡◌, ℕ, ◌↔◌, Bool, true, false, IsTrue, List, [], ◌∷◌, ◌++◌, Some, None, refl, sym, ap, ◌∙◌, append_assoc, append-nil}
-use Rattle.fol_core.specs.Tree.{Tree}
-use Rattle.substitutions.specs.Bindings.{Binding}
+use Rattle.std.proofs.Common.{◌≡◌, ℕ, ◌↔◌, ◌==◌, Bool, true, false, if◌then◌else◌, IsTrue, List, [], ◌∷◌, ◌++◌, Option, Some, None, unwrap_or, refl, sym, ap, ◌∙◌, append_assoc, append-nil}
+use Rattle.fol_core.specs.Tree.{Tree, var}
+use Rattle.substitutions.specs.Bindings.{Binding, by_bindings}
 use Rattle.term_matches.specs.Matched.{StandInFront, MatchesOnto}
 use Rattle.term_unifiers.proofs.MatchSteps.{bound_same, bound_other}
 use Rattle.unifiers.specs.Matching.{bound_term, bound_to}
@@ -18,3 +18,15 @@ bind_same false bs x t u is same = record { is = bound_other bs x t u is (λ e. 
 
 pub bind_new : (bs cs : List Binding) (x : ℕ) (t : Tree) → bound_term bs x ≡ None → cs ≡ bs ++ (x, t) ∷ [] → MatchesOnto true (bound_to (bound_term bs x) x t bs) bs cs
 bind_new bs cs x t is e = record { is = ap (λ o. bound_to o x t bs) is ∙ ap Some (sym e); front = ((x, t) ∷ [], e) }
+
+-- a variable stands for the term that is given for it, or for itself
+pub bound_is : (bs : List Binding) (x : ℕ) (o : Option Tree) → bound_term bs x ≡ o → by_bindings bs x ≡ unwrap_or o (var x)
+bound_is bs x o e = first bs ∙ ap (λ p. unwrap_or p (var x)) e
+  where
+    first : (cs : List Binding) → by_bindings cs x ≡ unwrap_or (bound_term cs x) (var x)
+    first [] = refl
+    first (c ∷ cs) = by (x == c.0) (first cs)
+      where
+        by : (b : Bool) → by_bindings cs x ≡ unwrap_or (bound_term cs x) (var x) → (if b then c.1 else by_bindings cs x) ≡ unwrap_or (if b then Some c.1 else bound_term cs x) (var x)
+        by true rest = refl
+        by false rest = rest

@@ -8,14 +8,16 @@ ghost use Rattle.term_matches.specs.Matched.{MatchesOnto};
 ghost use Rattle.unifiers.specs.Matching.{bound_term, bound_to, matched};
 
 use fol_core::{Term, Terms};
+use smallvec::SmallVec;
 use std::alloc::{AllocError, Global};
 use std::marker::Model;
 use substitutions::same;
 
-/// Terms for variables, each of them a part of a term that is lent; contracts see the list of bindings.
+/// Terms for variables, each of them a part of a term that is lent; contracts see the list of bindings. Up to eight take
+/// no allocation: the places of these that are free have no term.
 #[derive(Drop)]
 pub struct Matches<'a> {
-    terms: Vec<(u64, &'a Term)>,
+    terms: SmallVec<(u64, Option<&'a Term>), 8>,
 }
 
 impl<'a> Model for Matches<'a> {
@@ -26,9 +28,11 @@ impl<'a> Model for Matches<'a> {
 
     ghost coded = { coded_bindings };
 
-    ghost use Rattle.term_matches.specs.Matched.{lent_binding};
+    ghost use Rattle.term_matches.specs.Matched.{lent_binding, HaveTerms};
 
     ghost view = { λ a. map lent_binding a.terms.items };
+
+    ghost invariant = { λ a. HaveTerms a.terms.items };
 }
 
 impl<'a> Matches<'a> {
@@ -37,7 +41,7 @@ impl<'a> Matches<'a> {
         ensures { result ≡ [] }
     {
         Matches {
-            terms: Vec::new(alloc),
+            terms: SmallVec::new(alloc),
         }
     }
 
@@ -59,9 +63,9 @@ impl<'a> Matches<'a> {
     pub fn given(&self, x: u64) -> Option<&'a Term>
         ensures { option_map (λ t. tree_of t.now) result ≡ bound_term self.now x }
     {
-        for (y, term) in &self.terms {
+        for (y, term) in self.terms.as_slice() {
             if x == *y {
-                return Some(*term);
+                return *term;
             }
         }
         None
@@ -71,12 +75,10 @@ impl<'a> Matches<'a> {
     fn value_of(&self, alloc: Global, x: u64) -> Result<Term, AllocError>
         ensures { IfOk result (λ t. tree_of t ≡ by_bindings self.now x) }
     {
-        for (y, term) in &self.terms {
-            if x == *y {
-                return term.copy(alloc);
-            }
+        match self.given(x) {
+            Some(term) => term.copy(alloc),
+            None => Ok(Term::Var(x)),
         }
-        Ok(Term::Var(x))
     }
 
     // A variable with a term.
@@ -88,7 +90,7 @@ impl<'a> Matches<'a> {
         match self.given(x) {
             Some(old) => Ok(same(old, term)),
             None => {
-                self.terms.push((x, term))?;
+                self.terms.push((x, Some(term)))?;
                 Ok(true)
             }
         }

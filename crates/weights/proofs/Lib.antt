@@ -1,3 +1,4 @@
+pub mod Counted
 pub mod Finding
 pub mod Stated
 pub mod Symbols

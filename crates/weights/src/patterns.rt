@@ -1,13 +1,15 @@
 // What terms weigh by rules.
-ghost use Rattle.std.specs.Prelude.{◌≡◌, [], IfOk, map};
+ghost use Rattle.std.specs.Prelude.{◌≡◌, ◌+◌, [], IfOk, map};
 ghost use Rattle.fol_core.specs.TermView.{tree_of};
 ghost use Rattle.fol_core.specs.Tree.{trees_of};
 ghost use Rattle.fol_core.specs.WeightView.{weight_of};
+ghost use Rattle.prover_steps.specs.Searching.{clause_size};
+ghost use Rattle.term_bank.specs.Bank.{size_of};
 ghost use Rattle.term_matches.specs.Matched.{MatchesOnto};
 ghost use Rattle.unifiers.specs.Matching.{matched, matched_all};
 ghost use Rattle.weights.specs.Known.{AreWeighedAs, IsWeighedAs, AreWeights};
 ghost use Rattle.weights.specs.Rows.{weight_row, lent_weights};
-ghost use Rattle.weights.specs.Weighing.{pattern_of, weight_among, pattern_weight, weight_by_rule, atoms_weight};
+ghost use Rattle.weights.specs.Weighing.{pattern_of, weight_among, pattern_weight, weight_by_rule, weight_within, atoms_weight};
 
 use fol_core::{Clause, Sym, Term, Terms, Weight};
 use std::alloc::{AllocError, Global};
@@ -168,7 +170,34 @@ fn weigh_all<'a>(
     Ok(sum)
 }
 
-/// What the atoms of a clause weigh together.
+// A weight with that of a term added, where each symbol and variable weighs 1.
+#[tactic(auto, using(crate::proofs::Counted::next_argument, crate::proofs::Counted::all_arguments))]
+fn with_symbols(before: u64, term: &Term) -> u64
+    ensures { result ≡ weight_within (before + size_of (tree_of term.now)) }
+{
+    let mut weight = before.saturating_add(1).min(MOST_WEIGHT);
+    if let Term::App(_, terms) = term {
+        for term in &terms.items {
+            weight = with_symbols(weight, term);
+        }
+    }
+    weight
+}
+
+// What the atoms of a clause weigh together so.
+#[tactic(auto, using(crate::proofs::Counted::next_literal, crate::proofs::Counted::all_literals))]
+fn symbols_weight(clause: &Clause) -> u64
+    ensures { result ≡ weight_within (clause_size clause.now) }
+{
+    let mut weight = 0;
+    for literal in &clause.literals {
+        weight = with_symbols(weight, &literal.atom);
+    }
+    weight
+}
+
+/// What the atoms of a clause weigh together. Where there are no rules they are counted, and nothing is remembered.
+#[tactic(auto, using(crate::proofs::Counted::without_rules))]
 pub fn atoms_weight(
     alloc: Global,
     rules: &[PatternWeight<'_>],
@@ -176,6 +205,9 @@ pub fn atoms_weight(
 ) -> Result<u64, AllocError>
     ensures { IfOk result (λ n. n ≡ atoms_weight (map weight_row rules.now) clause.now) }
 {
+    if rules.is_empty() {
+        return Ok(symbols_weight(clause));
+    }
     let mut sum = 0u64;
     for literal in &clause.literals {
         let mut known = Vec::new(alloc);

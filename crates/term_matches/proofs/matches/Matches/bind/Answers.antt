@@ -14,4 +14,4 @@ pub returns-in_ok-push-in-None : goal.returns-in_ok-push-in-None
 returns-in_ok-push-in-None c =
     bind_new c.args.self.now _ c.args.x (tree_of c.args.term.now)
     (sym c.given.ensures ∙ ap (option_map (λ t. tree_of t.now)) c.in-None.is)
-    (grind (arith, common_steps, c.in_ok-push-in-None.ensures.items, c.self.view_is))
+    (grind (arith, common_steps, c.in_ok-push-in-None.ensures.ok, c.self.view_is))
