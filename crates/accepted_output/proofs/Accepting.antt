@@ -1,5 +1,5 @@
 -- A check accepts what a run writes that has found proofs.
-use Rattle.std.proofs.Common.{◌≡◌, ℕ, ◌≤◌, ◌<◌, ◌^◌, Bool, true, false, length, List, [], ◌∷◌, ◌++◌, Option, refl, sym, ap, ◌∙◌, subst, append_assoc, arith}
+use Rattle.std.proofs.Common.{◌≡◌, inl, inr, append-nil, ℕ, ◌≤◌, ◌<◌, ◌^◌, Bool, true, false, length, List, [], ◌∷◌, ◌++◌, Option, refl, sym, ap, ◌∙◌, subst, append_assoc, arith}
 use Rattle.std.specs.Prelude.{IsTrue}
 use Rattle.std.proofs.lemmas.Bool.{true≢false, false≢true}
 use Rattle.std.proofs.lemmas.List.{append_cancel_left, length-map}
@@ -11,6 +11,9 @@ use Rattle.fol_core.specs.Stated.{Stated, stated_of}
 use Rattle.fol_core.specs.SymbolTable.{Symbol}
 use Rattle.ladr_formulas.specs.declared.styles.Mode.{Mode}
 use Rattle.ladr_formulas.specs.declared.styles.Mode.TheVariants.{Prover}
+use Rattle.ladr_intake.specs.Command.{MayStand}
+use Rattle.ladr_intake.specs.Refusals.{refuses}
+use Rattle.ladr_io.specs.Streams.{Inflow}
 use Rattle.ladr_io.specs.Times.{Times}
 use Rattle.ladr_lex.specs.Operators.{OperatorRow, are_lawful}
 use Rattle.ladr_lex.specs.declared.limits.TheConstants.{MOST_BYTES, MOST_SYMBOLS}
@@ -25,10 +28,10 @@ use Rattle.ladr_prover9.proofs.Reading.{stated_same, quest_same}
 use Rattle.ladr_prover9.proofs.Showing.{IsOwnEnd}
 use Rattle.ladr_prover9.proofs.StandingProofs.{first}
 use Rattle.ladr_prover9.specs.Askings.{IsSoundQuest}
-use Rattle.ladr_prover9.specs.Finding.{KeepsLimits, Proves}
+use Rattle.ladr_prover9.specs.Finding.{KeepsLimits, Proves, Proving}
 use Rattle.ladr_prover9.specs.Lines.{proved_line, closing_lines}
-use Rattle.ladr_prover9.specs.ProofTexts.{AreProofTexts}
-use Rattle.ladr_prover9.specs.Quests.{Quest, quest_by, quest_in, quest_seconds, asks, quest_lines}
+use Rattle.ladr_prover9.specs.ProofTexts.{AreProofTexts, IsStateText}
+use Rattle.ladr_prover9.specs.Quests.{Quest, quest_by, quest_in, quest_seconds, asks, quest_lines, IsHad}
 use Rattle.ladr_prover9.specs.Story.{ProofsCome}
 use Rattle.ladr_prover9.specs.declared.ends.ProverEnd.{ProverEnd}
 use Rattle.ladr_prover9.specs.declared.ends.ProverEnd.TheVariants.{MaxProofs, SosEmpty, MaxMegs, MaxSeconds, MaxGiven, MaxKept, ClauseLimit}
@@ -38,17 +41,19 @@ use Rattle.printed_checks.specs.Accepted.{HasFewClauses, AreAccepted}
 use Rattle.printed_proofs.specs.Files.{full_table, HasFewSymbols, IsClauseOfFile, CanPrintFile}
 use Rattle.printed_proofs.specs.Refutations.{AreCounted, lines_printed, ArePrintableRefutations, whole_text}
 use Rattle.proof_laws.specs.Printed.{PrintedProof, HoldsNoProof}
-use Rattle.proof_print.specs.LineTexts.{frame_text}
+use Rattle.proof_print.specs.LineTexts.{proof_banner, frame_text}
+use Rattle.proof_text.specs.Blocks.{nothing}
 use Rattle.proof_print.specs.Names.{AreOfClauses}
 use Rattle.prover_proofs.specs.ProofLaws.{FoundProofsRefute}
-use Rattle.prover_setup.specs.SearchInputs.{setting_in, rows_in}
+use Rattle.prover_setup.specs.SearchInputs.{setting_in, start_in, rows_in, IsReachedIn}
+use Rattle.prover_steps.specs.Ending.{StartIsWithinLimits, ReachedAreWithinLimits}
 use Rattle.prover_steps.specs.Searching.{FoundProof, SearchState, is_nil}
 use Rattle.row_shapes.specs.Rows.{IsFitRow, AreFitRows}
 use Rattle.accepted_output.proofs.Closing.{closing_none, none_told}
 use Rattle.accepted_output.proofs.Operators.{clause_rows, of_clauses, rows_lawful}
 use Rattle.accepted_output.proofs.Proofs.{ArePrinted, all_printed}
 use Rattle.accepted_output.proofs.Skolems.{witnesses_same}
-use Rattle.accepted_output.specs.Accepted.{AreAllAccepted, TellsProved, OutputsAreAccepted}
+use Rattle.accepted_output.specs.Accepted.{HasPrinted, AreAcceptedAs, AreAllAccepted, TellsProved, OutputsAreAccepted, HasPrintedSoFar, TellsProof, ProofsSoFarAreAccepted}
 
 -- a problem is no longer than a file may be
 short_file : (m : Mode) (bytes : List ℕ) (o : Outcome) (s : Sofar) → Says m bytes o → o ≡ problem s → length bytes ≤ MOST_BYTES
@@ -62,6 +67,14 @@ some_proof (p ∷ ps) e = omega arith
 none_printed : (q : Quest) (all : List PlainLine) (k : ℕ) (ps : List FoundProof) (text : List ℕ) → AreProofTexts q all k ps text → is_nil ps ≡ true → text ≡ []
 none_printed q all k [] text h e = h
 none_printed q all k (p ∷ ps) text h e = absurd (false≢true e)
+
+-- no banner stands in nothing
+no_banner : (before after : List ℕ) → [] ≡ before ++ (proof_banner ++ after) → ⊥
+no_banner [] after e = let same : 0 ≡ 61 = ap first e in absurd (omega (arith, same))
+no_banner (b ∷ before) after e = absurd cc
+
+none_written : (input text : List ℕ) → text ≡ [] → TellsProof input text → ⊥
+none_written input text e told = let same : 0 ≡ 37 = ap first (sym e ∙ told.3) in absurd (omega (arith, same))
 
 module _ (once : (m : Mode) (bytes : List ℕ) (o p : Outcome) → Says m bytes o → Says m bytes p → o ≡ p)
     (proper : (m : Mode) (bytes : List ℕ) (s : Sofar) → Says m bytes (problem s) → IsProper (stated_in s) s.settings.options)
@@ -112,7 +125,8 @@ module _ (once : (m : Mode) (bytes : List ℕ) (o p : Outcome) → Says m bytes 
     asked : asks bytes quest
     asked = (s, says, quest_same s f is_of bytes)
 
-    module _ (within : KeepsLimits quest) (seconds : Option ℕ) (times : Times) (end : ProverEnd) (mine : IsOwnEnd end) (t : SearchState) (front : List ℕ) (come : ProofsCome quest seconds times end t front) where
+    -- the text of a state, with what holds no proof behind it
+    module _ (within : KeepsLimits quest) (t : SearchState) (reached : IsReachedIn quest.search t) (front : List ℕ) (prints : IsStateText quest t front) (few_proofs : length t.proofs < 2 ^ 63) (tail : List ℕ) (tail_none : HoldsNoProof tail) where
       few : HasFewSymbols f
       few = few_symbols within
 
@@ -120,39 +134,39 @@ module _ (once : (m : Mode) (bytes : List ℕ) (o p : Outcome) → Says m bytes 
       can = printable bytes s f clauses says is_of lawful (of_clauses prolog f.operators) few
 
       printed : ArePrinted bytes f clauses (of_clauses prolog f.operators) can can.can.skolems.few (rows bytes s f says is_of few) fit_lines stay t
-          (made (setting_in quest.search) p.formulas (rows_in quest.search) t come.reached) t.proofs come.prints.proofs
+          (made (setting_in quest.search) p.formulas (rows_in quest.search) t reached) t.proofs prints.proofs
       printed =
           let is = sound bytes quest asked in
           all_printed bytes f clauses (of_clauses prolog f.operators) can can.can.skolems.few (rows bytes s f says is_of few) fit_lines stay t
-          (made (setting_in quest.search) p.formulas (rows_in quest.search) t come.reached) 1 t.proofs come.prints.proofs
-          (found quest.formulas p.formulas (rows_in quest.search) (setting_in quest.search) t is.say is.keeps is.rows come.reached) come.prints.are
+          (made (setting_in quest.search) p.formulas (rows_in quest.search) t reached) 1 t.proofs prints.proofs
+          (found quest.formulas p.formulas (rows_in quest.search) (setting_in quest.search) t is.say is.keeps is.rows reached) prints.are
 
       counted : AreCounted (lines_printed printed.proofs)
-      counted = (subst (λ (n : ℕ). n < 2 ^ 63) (sym (length-map printed.proofs (λ (q : PrintedProof). q.lines) ∙ printed.many)) come.counted, printed.counted)
+      counted = (subst (λ (n : ℕ). n < 2 ^ 63) (sym (length-map printed.proofs (λ (q : PrintedProof). q.lines) ∙ printed.many)) few_proofs, printed.counted)
 
       limits : HasFewClauses f (full_table f)
       limits = record { clauses = within.clauses; skolems = subst (λ (ws : List SkolemAxiom). length ws ≤ equality) (witnesses_same p) (let most = within.witnesses in omega (arith, most)) }
 
-      checked : 0 < length t.proofs → AreAccepted (whole_text bytes f clauses (full_table f) printed.proofs (closing_lines t end)) f (full_table f) printed.proofs
-      checked some = check bytes s f clauses (full_table f) printed.proofs (closing_lines t end) short says is_of
-          (record { can = can.can; printable = printed.printable; refute = printed.refute; counted = counted }) limits (closing_none t end mine) (subst (λ (n : ℕ). 0 < n) (sym printed.many) some)
+      checked : 0 < length t.proofs → AreAccepted (whole_text bytes f clauses (full_table f) printed.proofs tail) f (full_table f) printed.proofs
+      checked some = check bytes s f clauses (full_table f) printed.proofs tail short says is_of
+          (record { can = can.can; printable = printed.printable; refute = printed.refute; counted = counted }) limits tail_none (subst (λ (n : ℕ). 0 < n) (sym printed.many) some)
 
-      whole_is : front ++ closing_lines t end ≡ whole_text bytes f clauses (full_table f) printed.proofs (closing_lines t end)
+      whole_is : front ++ tail ≡ whole_text bytes f clauses (full_table f) printed.proofs tail
       whole_is =
-          ap (λ (u : List ℕ). u ++ closing_lines t end) come.prints.text_is ∙ append_assoc (frame_text bytes) come.prints.proofs (closing_lines t end)
-          ∙ ap (λ (u : List ℕ). frame_text bytes ++ (u ++ closing_lines t end)) (sym printed.is)
+          ap (λ (u : List ℕ). u ++ tail) prints.text_is ∙ append_assoc (frame_text bytes) prints.proofs tail
+          ∙ ap (λ (u : List ℕ). frame_text bytes ++ (u ++ tail)) (sym printed.is)
 
-      accepted : 0 < length t.proofs → (n : ℕ) × AreAllAccepted bytes (front ++ closing_lines t end) n
-      accepted some =
+      accepted_as : (Is : Quest → SearchState → List ℕ → Type 0) → Is quest t (front ++ tail) → 0 < length t.proofs → (n : ℕ) × AreAcceptedAs Is bytes (front ++ tail) n
+      accepted_as Is is some =
           let good = checked some in (
             length printed.proofs,
-            subst (λ (u : List ℕ). AreAllAccepted bytes u (length printed.proofs)) (sym whole_is)
+            subst (λ (u : List ℕ). AreAcceptedAs Is bytes u (length printed.proofs)) (sym whole_is)
                 (record {
                   file = f;
                   asked = asked;
                   asked_alone = λ q h. asks_once bytes quest q asked h;
                   state = t;
-                  printed = record { seconds = seconds; times = times; end = end; front = front; comes = come; text_is = sym whole_is };
+                  printed = subst (Is quest t) whole_is is;
                   many = sym printed.many;
                   proofs = printed.proofs;
                   found = printed.found;
@@ -161,6 +175,12 @@ module _ (once : (m : Mode) (bytes : List ℕ) (o p : Outcome) → Says m bytes 
                   outcome = good.outcome;
                 }),
           )
+
+    module _ (within : KeepsLimits quest) (seconds : Option ℕ) (times : Times) (end : ProverEnd) (mine : IsOwnEnd end) (t : SearchState) (front : List ℕ) (come : ProofsCome quest seconds times end t front) where
+      accepted : 0 < length t.proofs → (n : ℕ) × AreAllAccepted bytes (front ++ closing_lines t end) n
+      accepted some =
+          accepted_as within t come.reached front come.prints come.counted (closing_lines t end) (closing_none t end mine) HasPrinted
+          (record { seconds = seconds; times = times; end = end; front = front; comes = come; text_is = refl }) some
 
       told : TellsProved bytes (front ++ closing_lines t end) → is_nil t.proofs ≡ true → ⊥
       told h none =
@@ -176,6 +196,40 @@ module _ (once : (m : Mode) (bytes : List ℕ) (o p : Outcome) → Says m bytes 
           by : (b : Bool) → is_nil t.proofs ≡ b → (n : ℕ) × AreAllAccepted bytes (front ++ closing_lines t end) n
           by true e = absurd (told h e)
           by false e = accepted (some_proof t.proofs e)
+
+    -- before the end, in a state that is reached
+    module _ (within : KeepsLimits quest) (t : SearchState) (reached : IsReachedIn quest.search t) (text : List ℕ) (prints : IsStateText quest t text) (few_proofs : length t.proofs < 2 ^ 63) where
+      accepted_so_far : 0 < length t.proofs → (n : ℕ) × AreAcceptedAs HasPrintedSoFar bytes text n
+      accepted_so_far some =
+          subst (λ (u : List ℕ). (n : ℕ) × AreAcceptedAs HasPrintedSoFar bytes u n) (append-nil text)
+          (accepted_as within t reached text prints few_proofs [] (λ i. nothing) HasPrintedSoFar
+          (record { reached = reached; prints = subst (IsStateText quest t) (sym (append-nil text)) prints }) some)
+
+      told_none : TellsProof bytes text → is_nil t.proofs ≡ true → ⊥
+      told_none h none =
+          let empty = none_printed quest (quest_lines quest t) 1 t.proofs prints.proofs prints.are none in
+          no_banner h.0 h.1 (append_cancel_left (frame_text bytes) [] (h.0 ++ (proof_banner ++ h.1))
+          (ap (λ (u : List ℕ). frame_text bytes ++ u) (sym empty) ∙ sym prints.text_is ∙ h.3))
+
+      told_so_far : TellsProof bytes text → (n : ℕ) × AreAcceptedAs HasPrintedSoFar bytes text n
+      told_so_far h = by (is_nil t.proofs) refl
+        where
+          by : (b : Bool) → is_nil t.proofs ≡ b → (n : ℕ) × AreAcceptedAs HasPrintedSoFar bytes text n
+          by true e = absurd (told_none h e)
+          by false e = accepted_so_far (some_proof t.proofs e)
+
+    -- what stands while a run goes on
+    module _ (starts : StartIsWithinLimits) (keep : ReachedAreWithinLimits) (wanted : f.problem.options.max_proofs < 2 ^ 63) where
+      few_found : (t : SearchState) → IsReachedIn quest.search t → length t.proofs < 2 ^ 63
+      few_found t reached =
+          let st = setting_in quest.search in
+          let most = (keep st (start_in quest.search) t (starts st p.formulas (rows_in quest.search)) reached).proofs in
+          omega (arith, most, wanted)
+
+      goes_accepted : (seconds : Option ℕ) (times : Times) (text : List ℕ) → Proving quest seconds times text → TellsProof bytes text → (n : ℕ) × AreAcceptedAs HasPrintedSoFar bytes text n
+      goes_accepted seconds times text (inl h) told = absurd (none_written bytes text h.0 told)
+      goes_accepted seconds times text (inr (within, inl go)) told = told_so_far within go.state go.reached text go.prints (few_found go.state go.reached) told
+      goes_accepted seconds times text (inr (within, inr (end, (t, come)))) told = told_so_far within t come.reached text come.prints come.counted told
 
     -- the whole output of a run that comes to an end of its own
     comes_accepted : (seconds : Option ℕ) (times : Times) (end : ProverEnd) (text : List ℕ) → IsOwnEnd end
@@ -209,3 +263,21 @@ module _ (once : (m : Mode) (bytes : List ℕ) (o p : Outcome) → Says m bytes 
         accepted = proves_accepted bytes had.says f says had.is_had (quest_seconds word q) times end text
             (subst (λ (x : Quest). Proves x (quest_seconds word x) times end text) is comes.1.2);
       }
+
+  -- a run that goes on with these bytes
+  stands_accepted : StartIsWithinLimits → ReachedAreWithinLimits → (word : Option ℕ) (from from' : Inflow) (times : Times) (bytes : List ℕ) (had : IsHad bytes) → had.had.problem.options.max_proofs < 2 ^ 63 → (text : List ℕ)
+      → MayStand asks (refuses Prover) (times.count ≡ 0) (λ x. Proving x (quest_seconds word x) times) (λ x. Proves x (quest_seconds word x) times) from from' bytes text
+      → TellsProof bytes text → (n : ℕ) × AreAcceptedAs HasPrintedSoFar bytes text n
+  stands_accepted starts keep word from from' times bytes had wanted text (inl h) told = absurd (none_written bytes text h.0 told)
+  stands_accepted starts keep word from from' times bytes had wanted text (inr (read, (x, asked_x, goes))) told =
+      let q = quest_in bytes had.had in
+      let is = asks_once bytes x q asked_x (had.says, had.is_said, quest_same had.says had.had had.is_had bytes) in
+      goes_accepted bytes had.says had.had had.is_said had.is_had starts keep wanted (quest_seconds word q) times text
+      (subst (λ (y : Quest). Proving y (quest_seconds word y) times text) is goes) told
+
+  pub so_far_accepted : StartIsWithinLimits → ReachedAreWithinLimits → ProofsSoFarAreAccepted
+  so_far_accepted starts keep word from from' to to' times run had wanted = record {
+    written = run.tells.0;
+    wrote = run.tells.2.took;
+    accepted = stands_accepted starts keep word from from' times run.bytes had wanted run.tells.0 run.tells.1;
+  }

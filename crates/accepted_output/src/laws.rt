@@ -1,5 +1,5 @@
 // What a check makes of the output of a search for proofs: the function does nothing, and its contract is the law.
-ghost use Rattle.accepted_output.specs.Accepted.{OutputsAreAccepted};
+ghost use Rattle.accepted_output.specs.Accepted.{OutputsAreAccepted, ProofsSoFarAreAccepted};
 
 use ladr_models::formulas_state_themselves;
 use ladr_problem::{one_outcome, problems_are_proper};
@@ -9,17 +9,21 @@ use line_shapes::lines_are_fit;
 use printed_checks::printed_refutations_are_accepted;
 use printed_proofs::files_can_be_printed;
 use prover_proofs::proofs_refute;
+use prover_steps::ends_have_reasons;
 use row_shapes::{fit_rows_are_lines, rows_of_files_are_fit};
 
-/// A check accepts the whole output of a run that came to an end of its own and tells that the problem is proved.
+/// A check accepts the whole output of a run that came to an end of its own and tells that the problem is proved; and what a run
+/// wrote before memory was lacking, where a proof stands in it.
 pub fn outputs_are_accepted()
-    ensures { OutputsAreAccepted }
+    ensures accepted { OutputsAreAccepted }
+    ensures so_far { ProofsSoFarAreAccepted }
 {
     one_outcome();
     problems_are_proper();
     formulas_state_themselves();
     quests_are_sound();
     proofs_refute();
+    ends_have_reasons();
     files_can_be_printed();
     rows_of_files_are_fit();
     fit_rows_are_lines();

@@ -1,20 +1,23 @@
 // The command as a whole.
-ghost use Rattle.std.specs.Prelude.{◌≡◌, [], false};
+ghost use Rattle.std.specs.Prelude.{◌≡◌, [], IfErr, IfOk, false};
 ghost use Rattle.clausify.specs.Names.{HasNoSkolemRelation};
 ghost use Rattle.fol_core.specs.Stated.{stated_of, IsWellFormed};
 ghost use Rattle.fol_core.specs.SymbolTable.{KeepsNumbers};
-ghost use Rattle.ladr_check.specs.Checking.{Checks, IsChecked};
+ghost use Rattle.ladr_check.specs.Checking.{Checks, IsChecked, IsJudged};
 ghost use Rattle.ladr_check.specs.Offered.{offers, offered_by, refuses_proofs};
 ghost use Rattle.ladr_output.specs.Telling.{Tells};
+ghost use Rattle.proof_text.specs.Refused.{IsProofError};
 
 use crate::ends::CheckEnd;
 use crate::judging::judge_proofs;
 use crate::report::report;
 use crate::taking::take_proofs;
+use clausify::own_table;
 use ladr_intake::{Stop, refuse, stop_by};
 use ladr_io::{Sink, Source};
 use ladr_output::{Cut, ending};
-use proof_text::ProofRead;
+use ladr_problem::{ReadError, problems_are_proper};
+use proof_text::{ProofRead, read_proof};
 use std::alloc::Global;
 
 /// Reads the input and tells whether its proofs are accepted, or why it offers none that can be read.
@@ -34,6 +37,22 @@ pub fn check_text<S: Source, K: Sink>(
             Err(cut) => Err(stop_by(cut)),
         },
         Err(why) => Err(refuse(alloc, why, sink)),
+    }
+}
+
+/// Checks the proofs of a text that is held in memory, however long it is: how that ends, or why it offers none.
+pub fn check_bytes(alloc: Global, bytes: &[u8]) -> Result<CheckEnd, ReadError>
+    ensures end { IfOk result (IsJudged bytes.now) }
+    ensures refused { IfErr result (IsProofError bytes.now) }
+{
+    problems_are_proper();
+    own_table();
+    match read_proof(alloc, bytes) {
+        Ok(read) => match judge_proofs(alloc, read) {
+            Ok(over) => Ok(over.end),
+            Err(_) => Err(ReadError::Memory),
+        },
+        Err(error) => Err(error),
     }
 }
 

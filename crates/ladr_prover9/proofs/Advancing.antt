@@ -28,12 +28,19 @@ use Rattle.prover_steps.specs.Searching.{FoundProof, SearchState, next_state}
 pub in_order : StandsInOrder → ReachedAreInOrder → (x : SearchInput) (s : SearchState) → IsReachedIn x s → IsInOrder s
 in_order starts reached x s h = reached (setting_in x) (start_in x) s (starts x.stated.formulas (rows_in x)) h
 
+-- the lines of each state that is reached are counted
+pub counted_at : ReachedCountLines → (a : Asking) (t : SearchState) → IsAskedFor a → IsReachedIn (quest_of a).search t → CountsLinesFrom (suc (length a.problem.now.inputs.items + length a.clauses.items)) t
+counted_at law a t is h =
+    let x = (quest_of a).search in
+    subst (λ (n : ℕ). CountsLinesFrom n t) (ap₂ (λ (m k : ℕ). suc (m + k)) (length-map a.problem.now.inputs.items said_of) (ap (λ (rs : List InputRow). length rs) (sym is.clauses)))
+    (law (setting_in x) x.stated.formulas (rows_in x) t h)
+
+-- and those of the next one
 pub counted : ReachedCountLines → (a : Asking) (s t : SearchState) → IsAskedFor a → IsReachedIn (quest_of a).search s → t ≡ next_state (setting_in (quest_of a).search) s
     → CountsLinesFrom (suc (length a.problem.now.inputs.items + length a.clauses.items)) t
 counted law a s t is h e =
     let x = (quest_of a).search in
-    subst (λ (n : ℕ). CountsLinesFrom n t) (ap₂ (λ (m k : ℕ). suc (m + k)) (length-map a.problem.now.inputs.items said_of) (ap (λ (rs : List InputRow). length rs) (sym is.clauses)))
-    (law (setting_in x) x.stated.formulas (rows_in x) t (subst (λ (u : SearchState). IsReachedIn x u) (sym e) (reached_next x s h)))
+    counted_at law a t is (subst (λ (u : SearchState). IsReachedIn x u) (sym e) (reached_next x s h))
 
 -- what became of the text of a step
 pub advanced : (q : Quest) (s t : SearchState) (old new : Outflow) (text : Result (Vec ℕ) AllocError) (r : Result (Unit {0}) Cut) → t ≡ next_state (setting_in q.search) s → IfOk text (λ v. IsStepText q s t v.items)

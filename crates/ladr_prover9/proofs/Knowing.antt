@@ -1,5 +1,5 @@
 -- What is known of each quest that the bytes ask for.
-use Rattle.std.proofs.Common.{◌≡◌, ℕ, Bool, false, List, None, subst}
+use Rattle.std.proofs.Common.{◌≡◌, ℕ, Bool, false, List, subst}
 use Rattle.std.specs.List.{AllByRecursion}
 use Rattle.clause_store.specs.Lines.{PlainLine}
 use Rattle.clausify.specs.Input.{skolem_numbers}

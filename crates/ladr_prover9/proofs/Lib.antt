@@ -1,11 +1,14 @@
 pub mod Advancing
+pub mod Counted
 pub mod Draining
 pub mod Elementless
+pub mod Ending
 pub mod FileElements
 pub mod FileNames
 pub mod Knowing
 pub mod Leaving
 pub mod Numbered
+pub mod OneEnd
 pub mod ProofTexts
 pub mod Reading
 pub mod Seeking

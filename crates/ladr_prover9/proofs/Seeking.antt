@@ -1,5 +1,5 @@
 -- From the beginning of a search to a state.
-use Rattle.std.proofs.Common.{◌≡◌, ◌⊎◌, ◌<◌, ◌≤◌, ◌+◌, ◌^◌, length, ℕ, suc, inl, inr, Bool, true, false, not, nat_le, refl, sym, ap, ◌∙◌, subst, arith, Result, Ok, Err, None, Some, Option, is_some, List, [], ◌∷◌, ◌++◌, append_assoc, leb-false}
+use Rattle.std.proofs.Common.{◌≡◌, ◌⊎◌, ◌<◌, ◌≤◌, ◌^◌, length, ℕ, suc, inl, inr, Bool, true, false, not, nat_le, refl, sym, ap, ◌∙◌, subst, arith, Result, Ok, Err, None, Some, Option, is_some, List, [], ◌∷◌, ◌++◌, append_assoc, leb-false}
 use Rattle.std.specs.Prelude.{MatchOption}
 use Rattle.std.proofs.lemmas.Bool.{lt-leb, true≢false}
 use Rattle.std.proofs.lemmas.List.{append-nil}

@@ -1,5 +1,5 @@
 -- What stands in the output of a run shows proofs.
-use Rattle.std.proofs.Common.{◌≡◌, ◌⊎◌, inl, inr, ℕ, suc, Bool, true, false, if◌then◌else◌, length, List, [], ◌∷◌, ◌++◌, map, codes, Option, None, Result, Ok, Err, refl, sym, ap, ap₂, ◌∙◌, subst, append_assoc, append-nil, arith}
+use Rattle.std.proofs.Common.{◌≡◌, ◌⊎◌, inl, inr, ℕ, suc, Bool, true, false, if◌then◌else◌, length, List, [], ◌∷◌, ◌++◌, map, codes, Option, Result, Ok, Err, refl, sym, ap, ap₂, ◌∙◌, subst, append_assoc, append-nil, arith}
 use Rattle.std.proofs.lemmas.List.{append_cancel_left}
 use Rattle.std.specs.Fmt.{decimal}
 use Rattle.std.specs.List.{AllByRecursion}
@@ -19,13 +19,13 @@ use Rattle.ladr_output.specs.Standing.{AreWholeLines}
 use Rattle.ladr_output.specs.Telling.{as_line, Tells}
 use Rattle.ladr_output.specs.declared.cut.Cut.{Cut}
 use Rattle.ladr_output.specs.declared.cut.Cut.TheVariants.{WriteFault, Memory}
-use Rattle.ladr_problem.specs.File.{Says, Outcome, problem}
-use Rattle.ladr_problem.specs.Sofar.{Sofar}
+use Rattle.ladr_problem.specs.File.{Says, Outcome}
+use Rattle.ladr_prover9.proofs.OneEnd.{asks_once}
 use Rattle.ladr_prover9.proofs.StandingProofs.{first, IsInside, banner_outside, verdict_outside, IsNumbered, form_text, forms_text, IsGoodForm, BeginsForm, IsBehind, begins_or, InClosing, at_first, at_second, at_third, at_end, in_closing}
 use Rattle.ladr_prover9.specs.Finding.{KeepsLimits, Proves, Proving}
 use Rattle.ladr_prover9.specs.Lines.{counters_line, proved_line, failed_line, proved_or_failed, cause_line, closing_lines}
 use Rattle.ladr_prover9.specs.ProofTexts.{quest_text, head_of_proof, AreProofTexts}
-use Rattle.ladr_prover9.specs.Quests.{Quest, quest_by, asks, quest_lines, quest_seconds}
+use Rattle.ladr_prover9.specs.Quests.{Quest, asks, quest_lines, quest_seconds}
 use Rattle.ladr_prover9.specs.Shown.{AreRefutingLines, LeavesNone, ShowsRefutation, HasRefutation, ShowsRefutations, ProofsShow}
 use Rattle.ladr_prover9.specs.Story.{ProofsCome}
 use Rattle.ladr_prover9.specs.declared.ends.ProverEnd.{ProverEnd}
@@ -345,13 +345,6 @@ refusal_first (Misuse place why) = refl
 refusal_first (TooLarge byte what) = refl
 
 module _ (once : (m : Mode) (bytes : List ℕ) (o p : Outcome) → Says m bytes o → Says m bytes p → o ≡ p) (known : (bytes : List ℕ) (q : Quest) → asks bytes q → Known q) where
-  abbrev problem_of : Sofar → Outcome → Sofar
-  problem_of s (problem t) = t
-  problem_of s o = s
-
-  asks_once : (bytes : List ℕ) (x q : Quest) → asks bytes x → asks bytes q → x ≡ q
-  asks_once bytes x q a b = sym a.2 ∙ ap (λ (o : Outcome). quest_by bytes (problem_of a.0 o)) (once Prover bytes (problem a.0) (problem b.0) a.1 b.1) ∙ b.2
-
   module _ (word : Option ℕ) (times : Times) (a b : Inflow) (bytes : List ℕ) where
     abbrev Goes : List ℕ → Type 0
     Goes = MayStand asks (refuses Prover) (times.count ≡ 0) (λ q. Proving q (quest_seconds word q) times) (λ q. Proves q (quest_seconds word q) times) a b bytes
@@ -362,11 +355,11 @@ module _ (once : (m : Mode) (bytes : List ℕ) (o p : Outcome) → Says m bytes 
     goes_printed : (q : Quest) (asked : asks bytes q) (text : List ℕ) → Goes text → IsPrinted q (known bytes q asked) text
     goes_printed q asked text (inl h) = of_none (ap first h.0)
     goes_printed q asked text (inr (read, (x, says, goes))) =
-        going_printed q (known bytes q asked) (quest_seconds word q) times text (subst (λ (y : Quest). Proving y (quest_seconds word y) times text) (asks_once bytes x q says asked) goes)
+        going_printed q (known bytes q asked) (quest_seconds word q) times text (subst (λ (y : Quest). Proving y (quest_seconds word y) times text) (asks_once once bytes x q says asked) goes)
 
     end_printed : (q : Quest) (asked : asks bytes q) (e : End ProverEnd) (text : List ℕ) → Ends e text → IsPrinted q (known bytes q asked) text
     end_printed q asked (own e) text (read, (x, says, comes)) =
-        ends_printed q (known bytes q asked) (quest_seconds word q) times e text (subst (λ (y : Quest). Proves y (quest_seconds word y) times e text) (asks_once bytes x q says asked) comes)
+        ends_printed q (known bytes q asked) (quest_seconds word q) times e text (subst (λ (y : Quest). Proves y (quest_seconds word y) times e text) (asks_once once bytes x q says asked) comes)
     end_printed q asked (refused why) text h = of_refusal (ap first h.2 ∙ refusal_first why)
     end_printed q asked read_fault text h = of_refusal (ap first h.2)
 

@@ -1,6 +1,8 @@
 pub mod Askings
+pub mod Counting
 pub mod Finding
 pub mod Lines
+pub mod OneEnd
 pub mod ProofTexts
 pub mod Quests
 pub mod Shown

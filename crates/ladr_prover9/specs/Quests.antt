@@ -1,5 +1,5 @@
 -- What a run of `prover9` is about.
-use Rattle.std.specs.Prelude.{ℕ, suc, ◌≡◌, Option, List, [], ◌∷◌, ◌++◌, map}
+use Rattle.std.specs.Prelude.{ℕ, suc, ◌≡◌, Option, List, [], ◌∷◌, map}
 use Rattle.std.specs.Option.{option_or}
 use Rattle.clause_store.specs.Lines.{PlainContent, plain_formula, PlainLine, stating_line, formula_lines}
 use Rattle.fol_core.specs.declared.problem.Problem.{Problem}

@@ -6,11 +6,13 @@ ghost use Rattle.ladr_mace4.specs.Plans.{seconds_of};
 ghost use Rattle.ladr_intake.specs.Refusals.{clause_limit_line};
 ghost use Rattle.ladr_output.specs.Telling.{Tells, IsEnd};
 ghost use Rattle.ladr_prover9.specs.Askings.{quest_of, IsAskedFor, IsSoundQuest};
-ghost use Rattle.ladr_prover9.specs.Finding.{KeepsLimits, Proves, Proving, Refutes};
+ghost use Rattle.ladr_prover9.specs.Counting.{uncounted, ProvesCounted, RefutesCounted};
+ghost use Rattle.ladr_prover9.specs.Finding.{KeepsLimits, Proving, Refutes};
 ghost use Rattle.ladr_prover9.specs.Quests.{IsHad, quest_in, quest_with, quest_seconds};
 
 use crate::asking::Asking;
-use crate::ends::ProverEnd;
+use crate::counting::counted;
+use crate::ends::{ProverEnd, ProverOver};
 use crate::laws::quests_are_sound;
 use crate::lines::closing_lines;
 use crate::searching::search_proofs;
@@ -26,6 +28,7 @@ use ladr_problem::FileRead;
 use proof_lines::LineOperators;
 use proof_print::frame_text;
 use prover_setup::{guide_of, start_search};
+use prover_steps::lines_are_counted;
 use std::alloc::Global;
 
 // The seconds of an input's options.
@@ -86,16 +89,17 @@ fn prove_asked<K: Sink, C: Clock>(
     seconds: Option<u64>,
     sink: &mut K,
     clock: &mut C,
-) -> Result<ProverEnd, Cut>
+) -> Result<ProverOver, Cut>
     requires asked { IsAskedFor asking.now }
     requires sound { IsSoundQuest (quest_of asking.now) }
     requires within { KeepsLimits (quest_of asking.now) }
     requires unread { (C.times clock.old).count ≡ 0 }
     requires sink { (K.outflow sink.old).over ≡ false }
     ensures { Tells (Proving (quest_of asking.now) seconds (C.times clock.new))
-        (Proves (quest_of asking.now) seconds (C.times clock.new))
+        (ProvesCounted (quest_of asking.now) seconds (C.times clock.new))
         (K.outflow sink.old) (K.outflow sink.new) result }
 {
+    lines_are_counted();
     let problem = asking.problem;
     let Ok(guide) = guide_of(alloc, problem, &asking.symbols, &asking.clauses) else {
         return Err(Cut::Memory);
@@ -108,19 +112,29 @@ fn prove_asked<K: Sink, C: Clock>(
         Err(cut) => return Err(cut),
     }
     match search_proofs(alloc, asking, &guide, seconds, &mut search, sink, clock) {
-        Ok(end) => ending(closing_lines(alloc, &search, end), end, sink),
+        Ok(end) => match counted(alloc, asking, &search, end) {
+            Ok(over) => ending(closing_lines(alloc, &search, end), over, sink),
+            Err(_) => Err(Cut::Memory),
+        },
         Err(cut) => Err(cut),
     }
 }
 
 // A formula has too many clauses.
-fn over_limit<K: Sink>(alloc: Global, formula: u64, sink: &mut K) -> Result<ProverEnd, Cut>
+fn over_limit<K: Sink>(alloc: Global, formula: u64, sink: &mut K) -> Result<ProverOver, Cut>
     requires { (K.outflow sink.old).over ≡ false }
-    ensures { Tells (λ u. u ≡ []) (IsEnd (ProverEnd.ClauseLimit formula)
+    ensures { Tells (λ u. u ≡ []) (IsEnd (uncounted (ProverEnd.ClauseLimit formula))
         (clause_limit_line formula)) (K.outflow sink.old) (K.outflow sink.new) result }
 {
-    let end = ProverEnd::ClauseLimit { formula };
-    ending(clause_limit(alloc, formula), end, sink)
+    let over = ProverOver {
+        end: ProverEnd::ClauseLimit { formula },
+        given: 0,
+        kept: 0,
+        proofs: 0,
+        length: 0,
+        level: 0,
+    };
+    ending(clause_limit(alloc, formula), over, sink)
 }
 
 // Searches for proofs of what was read.
@@ -130,14 +144,14 @@ fn prove<K: Sink, C: Clock>(
     max_seconds: Option<u64>,
     sink: &mut K,
     clock: &mut C,
-) -> Result<ProverEnd, Cut>
+) -> Result<ProverOver, Cut>
     requires well_formed { IsWellFormed (stated_of taken.read.problem) }
     requires sound { IsSoundQuest (quest_in taken.bytes.items taken.read) }
     requires unread { (C.times clock.old).count ≡ 0 }
     requires sink { (K.outflow sink.old).over ≡ false }
     ensures { let q = quest_in taken.bytes.items taken.read in
         Tells (Proving q (quest_seconds max_seconds q) (C.times clock.new))
-        (Proves q (quest_seconds max_seconds q) (C.times clock.new))
+        (ProvesCounted q (quest_seconds max_seconds q) (C.times clock.new))
         (K.outflow sink.old) (K.outflow sink.new) result }
 {
     let Taken { bytes, read } = taken;
@@ -151,6 +165,32 @@ fn prove<K: Sink, C: Clock>(
         Ok(asking) => prove_asked(alloc, &asking, seconds, sink, clock),
         Err(ClauseError::ClauseLimit { formula }) => over_limit(alloc, formula, sink),
         Err(ClauseError::Memory) => Err(Cut::Memory),
+    }
+}
+
+/// Reads the input and searches for proofs of its problem, as the word and its options ask; answers how that ends, with what was
+/// counted.
+pub fn prove_counted<S: Source, K: Sink, C: Clock>(
+    alloc: Global,
+    max_seconds: Option<u64>,
+    source: &mut S,
+    sink: &mut K,
+    clock: &mut C,
+) -> Result<ProverOver, Stop>
+    requires unread { (C.times clock.old).count ≡ 0 }
+    requires source { (S.inflow source.old).over ≡ false }
+    requires sink { (K.outflow sink.old).over ≡ false }
+    ensures { (run : RefutesCounted max_seconds (S.inflow source.old) (S.inflow source.new)
+        (K.outflow sink.old) (K.outflow sink.new) (C.times clock.new) result)
+        × IfOk result (λ _. IsHad run.bytes) }
+{
+    quests_are_sound();
+    match take_quest(alloc, source) {
+        Ok(taken) => match prove(alloc, taken, max_seconds, sink, clock) {
+            Ok(over) => Ok(over),
+            Err(cut) => Err(stop_by(cut)),
+        },
+        Err(why) => Err(refuse(alloc, why, sink)),
     }
 }
 
@@ -169,12 +209,8 @@ pub fn prover9<S: Source, K: Sink, C: Clock>(
         (K.outflow sink.old) (K.outflow sink.new) (C.times clock.new) result)
         × IfOk result (λ _. IsHad run.bytes) }
 {
-    quests_are_sound();
-    match take_quest(alloc, source) {
-        Ok(taken) => match prove(alloc, taken, max_seconds, sink, clock) {
-            Ok(end) => Ok(end),
-            Err(cut) => Err(stop_by(cut)),
-        },
-        Err(why) => Err(refuse(alloc, why, sink)),
+    match prove_counted(alloc, max_seconds, source, sink, clock) {
+        Ok(over) => Ok(over.end),
+        Err(stop) => Err(stop),
     }
 }

@@ -21,6 +21,18 @@ pub enum ProverEnd {
     ClauseLimit { formula: u64 },
 }
 
+/// How a search ended, how many clauses were given and kept, how many proofs were found, and how many lines and levels the first
+/// of them has: all are 0 where nothing was searched, the last two also where there is no proof.
+#[derive(Clone, Copy)]
+pub struct ProverOver {
+    pub end: ProverEnd,
+    pub given: u64,
+    pub kept: u64,
+    pub proofs: u64,
+    pub length: u64,
+    pub level: u64,
+}
+
 impl ProverEnd {
     /// The exit status of a search that ended so.
     pub fn status(&self) -> u8

@@ -3,6 +3,7 @@
 
 mod asking;
 mod commanding;
+mod counting;
 mod ends;
 mod laws;
 mod lines;
@@ -10,6 +11,6 @@ mod printing;
 mod searching;
 mod taking;
 
-pub use commanding::prover9;
-pub use ends::ProverEnd;
-pub use laws::{proofs_show, quests_are_sound};
+pub use commanding::{prove_counted, prover9};
+pub use ends::{ProverEnd, ProverOver};
+pub use laws::{one_end, proofs_show, quests_are_sound};

@@ -1,17 +1,43 @@
 // The texts of proofs.
-ghost use Rattle.std.specs.Prelude.{◌+◌, suc, IfOk, length};
+ghost use Rattle.std.specs.Prelude.{◌≡◌, ◌+◌, suc, IfOk, length, map};
+ghost use Rattle.clause_store.specs.Ancestors.{AreAncestors};
+ghost use Rattle.clause_store.specs.Lines.{plain_line, plain_trees};
 ghost use Rattle.given_clause.specs.States.{found_of, state_of};
 ghost use Rattle.ladr_prover9.specs.Askings.{quest_of, IsAskedFor};
 ghost use Rattle.ladr_prover9.specs.ProofTexts.{IsProofText};
 ghost use Rattle.ladr_prover9.specs.Quests.{quest_lines};
+ghost use Rattle.prover_proofs.specs.Levels.{level_in, greatest_size};
 ghost use Rattle.prover_steps.specs.LineNumbers.{CountsLinesFrom};
 
 use crate::asking::Asking;
 use given_clause::{FoundProof, Search};
 use line_bounds::{heads_are_short, lines_are_bounded, lines_are_counted};
 use proof_print::{Heads, proof_bytes};
-use prover_proofs::SearchLines;
+use prover_proofs::{Proof, SearchLines};
 use std::alloc::{AllocError, Global};
+
+/// The proof whose last line has this number, with its level and its greatest size.
+pub fn proof_behind(
+    alloc: Global,
+    asking: &Asking<'_>,
+    search: &Search,
+    line: u64,
+) -> Result<Proof, AllocError>
+    requires asked { IsAskedFor asking.now }
+    requires counted { CountsLinesFrom (suc (length asking.now.problem.now.inputs.items
+        + length asking.now.clauses.items)) (state_of search.now) }
+    ensures lines { IfOk result (λ p. AreAncestors
+        (quest_lines (quest_of asking.now) (state_of search.now)) line
+        (map plain_line p.lines.items)) }
+    ensures level { IfOk result (λ p. p.level
+        ≡ level_in (plain_trees (map plain_line p.lines.items)) line) }
+    ensures size { IfOk result (λ p. p.size ≡ greatest_size (map plain_line p.lines.items)) }
+{
+    let mut all = SearchLines::new(alloc, asking.problem, &asking.clauses)?;
+    all.add_made(alloc, &search.lines)?;
+    let proof = all.proof(alloc, line)?;
+    Ok(proof)
+}
 
 /// The text of a proof by its number.
 pub fn proof_text(
@@ -28,9 +54,7 @@ pub fn proof_text(
         (quest_lines (quest_of asking.now) (state_of search.now)) number (found_of found)
         v.items) }
 {
-    let mut all = SearchLines::new(alloc, asking.problem, &asking.clauses)?;
-    all.add_made(alloc, &search.lines)?;
-    let proof = all.proof(alloc, found.line)?;
+    let proof = proof_behind(alloc, asking, search, found.line)?;
     let lines = proof.lines.as_slice();
     let heads = Heads {
         proof: number,

@@ -2,7 +2,8 @@
 use Rattle.std.proofs.Common.{◌∙◌}
 use Rattle.given_clause.specs.States.{state_of}
 use Rattle.ladr_prover9.proofs.Steps.{start_text}
-use Rattle.ladr_prover9.proofs.Telling.{frame_cut, last_told, search_cut}
+use Rattle.ladr_prover9.proofs.Advancing.{counted_at}
+use Rattle.ladr_prover9.proofs.Telling.{frame_cut, count_cut, last_told, search_cut}
 use Rattle.ladr_prover9.proofs.commanding.prove_asked.Goals as goal
 use Rattle.ladr_prover9.specs.Askings.{quest_of}
 use Rattle.proof_print.specs.LineTexts.{frame_text}
@@ -20,13 +21,25 @@ ending-requires g c =
     let took = c.in-Ok-piece.ensures.printed (frame_text q.input) c.frame_text.ensures in
     (c.in-Ok-search_proofs.ensures (frame_text q.input) (start_text q)).2.same ∙ took.same ∙ c.requires.sink
 
+pub counted-requires-clause-counted : goal.counted-requires-clause-counted
+counted-requires-clause-counted g c =
+    let q = quest_of c.args.asking.now in
+    counted_at c.lines_are_counted.ensures.reached c.args.asking.now (state_of c.search_proofs.new.search) c.requires.asked (c.in-Ok-search_proofs.ensures (frame_text q.input) (start_text q)).1.reached
+
+pub returns-in-Ok-counted : goal.returns-in-Ok-counted
+returns-in-Ok-counted g c =
+    let q = quest_of c.args.asking.now in
+    let t = state_of c.search_proofs.new.search in
+    let took = c.in-Ok-piece.ensures.printed (frame_text q.input) c.frame_text.ensures in
+    last_told q c.args.seconds (g.C.Clock.times c.search_proofs.new.clock) _ _ _ _ (frame_text q.input) c.in-Ok-search_proofs.end c.in-Ok-counted.over t c.ending.result c.requires.within c.in-Ok-counted.ensures.end c.in-Ok-counted.ensures.counts took
+    (c.in-Ok-search_proofs.ensures (frame_text q.input) (start_text q)) (c.ending.ensures.printed _ c.closing_lines.ensures)
+
 pub returns-in-Ok-search_proofs : goal.returns-in-Ok-search_proofs
 returns-in-Ok-search_proofs g c =
     let q = quest_of c.args.asking.now in
     let t = state_of c.search_proofs.new.search in
     let took = c.in-Ok-piece.ensures.printed (frame_text q.input) c.frame_text.ensures in
-    last_told q c.args.seconds (g.C.Clock.times c.search_proofs.new.clock) _ _ _ _ (frame_text q.input) c.in-Ok-search_proofs.end t c.ending.result c.requires.within took
-    (c.in-Ok-search_proofs.ensures (frame_text q.input) (start_text q)) (c.ending.ensures.printed _ c.closing_lines.ensures)
+    count_cut q c.args.seconds (g.C.Clock.times c.search_proofs.new.clock) _ _ _ (frame_text q.input) c.in-Ok-search_proofs.end t c.requires.within took (c.in-Ok-search_proofs.ensures (frame_text q.input) (start_text q))
 
 pub returns : goal.returns
 returns g c =

@@ -1,37 +1,9 @@
--- What the bytes ask for is searched, or there is no problem.
-use Rattle.std.proofs.Common.{◌≡◌, Ok, Err, refl}
-use Rattle.ladr_formulas.specs.declared.styles.Mode.TheVariants.{Prover}
-use Rattle.ladr_intake.proofs.Commands.{read_taken, own_runs, none_runs}
-use Rattle.ladr_intake.specs.Refusals.{refuses}
+-- The end of a run of which the numbers are told.
+use Rattle.ladr_prover9.proofs.Ending.{ends_alone, stops_alone}
 use Rattle.ladr_prover9.proofs.commanding.prover9.Goals as goal
-use Rattle.ladr_prover9.specs.Finding.{Proves, Proving}
-use Rattle.ladr_prover9.specs.Quests.{asks, quest_in, quest_seconds}
 
-pub prove-requires-clause-sound : goal.prove-requires-clause-sound
-prove-requires-clause-sound g c =
-    let taken = c.in-Ok.taken in
-    c.quests_are_sound.ensures taken.bytes.items (quest_in taken.bytes.items taken.read) c.in-Ok.ensures.asks
-
-pub returns-in-Ok-prove : goal.returns-in-Ok-prove
-returns-in-Ok-prove g c =
-    let taken = c.in-Ok.taken in
-    let is = c.in-Ok.ensures in
-    let told = c.in-Ok-prove.ensures in (
-      record {
-        bytes = taken.bytes.items;
-        taken = read_taken _ _ taken.bytes.items is.read;
-        tells = (told.0, (is.read, (quest_in taken.bytes.items taken.read, is.asks, told.1)), told.2);
-      },
-      record { says = is.had.0; is_said = is.had.1; had = taken.read; is_had = is.had.2 },
-    )
-
-pub returns-in-Err-prove : goal.returns-in-Err-prove
-returns-in-Err-prove g c =
-    let t = g.C.Clock.times c.prove.new.clock in
-    let taken = c.in-Ok.taken in
-    (own_runs asks (refuses Prover) (t.count ≡ 0) (λ q. Proving q (quest_seconds c.args.max_seconds q) t) (λ q. Proves q (quest_seconds c.args.max_seconds q) t) _ _ taken.bytes.items (quest_in taken.bytes.items taken.read) _ _ (Err c.in-Err-prove.cut) (Err c.stop_by.result) c.in-Ok.ensures.read c.in-Ok.ensures.asks c.stop_by.ensures c.in-Err-prove.ensures, tt)
+pub returns-in-Ok : goal.returns-in-Ok
+returns-in-Ok g c = (ends_alone _ _ _ _ _ _ c.in-Ok.over c.in-Ok.ensures.0, c.in-Ok.ensures.1)
 
 pub returns-in-Err : goal.returns-in-Err
-returns-in-Err g c =
-    let t = g.C.Clock.times c.args.clock.now in
-    (none_runs asks (refuses Prover) (t.count ≡ 0) (λ q. Proving q (quest_seconds c.args.max_seconds q) t) (λ q. Proves q (quest_seconds c.args.max_seconds q) t) _ _ c.in-Err.ensures.none.0 c.in-Err.why _ _ c.refuse.result c.requires.unread c.in-Err.ensures.none.1 c.refuse.ensures, tt)
+returns-in-Err g c = (stops_alone _ _ _ _ _ _ c.in-Err.stop c.in-Err.ensures.0, tt)

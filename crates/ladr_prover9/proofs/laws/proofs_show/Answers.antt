@@ -4,8 +4,8 @@ use Rattle.ladr_prover9.proofs.Leaving.{asked_leaves}
 use Rattle.ladr_prover9.proofs.Numbered.{asked_numbered}
 use Rattle.ladr_prover9.proofs.laws.proofs_show.Goals as goal
 
-pub returns : goal.returns
-returns c =
+pub returns-clause-show : goal.returns-clause-show
+returns-clause-show c =
     let proper = c.problems_are_proper.ensures in
     let order = c.axioms_are_in_order.ensures in
     show_by c.one_outcome.ensures c.proofs_refute.ensures.found c.quests_are_sound.ensures (asked_numbered proper)

@@ -1,12 +1,11 @@
--- The lines that the last one rests on, and their text.
+-- The text of the lines that the last one rests on.
 use Rattle.std.proofs.Common.{◌∙◌, ◌<◌, ◌^◌, refl, sym, ap, subst, List, map, length}
 use Rattle.std.proofs.lemmas.List.{length-map}
 use Rattle.std.specs.List.{AllByRecursion}
-use Rattle.clause_store.specs.Ancestors.{AreAncestors}
-use Rattle.clause_store.specs.Lines.{PlainLine, plain_line}
+use Rattle.clause_store.specs.Lines.{plain_line}
 use Rattle.derivation.specs.declared.line.Line.{Line}
 use Rattle.given_clause.specs.States.{found_of}
-use Rattle.ladr_prover9.proofs.ProofTexts.{lines_are, printed, head_by}
+use Rattle.ladr_prover9.proofs.ProofTexts.{printed, head_by}
 use Rattle.ladr_prover9.proofs.printing.proof_text.Goals as goal
 use Rattle.ladr_prover9.specs.Askings.{quest_of}
 use Rattle.line_bounds.specs.Bounds.{IsBoundedLine}
@@ -14,9 +13,6 @@ use Rattle.proof_laws.specs.Printed.{IsShortHead}
 use Rattle.proof_lines.specs.ContentTokens.{tables_of}
 use Rattle.proof_print.specs.LineTexts.{proof_bytes}
 use Rattle.proof_print.specs.declared.texts.Heads.{Heads}
-
-pub proof-requires : goal.proof-requires
-proof-requires c = (_, c.in_ok-add_made.ensures _ c.in_ok-all.ensures)
 
 pub returns : goal.returns
 returns c =
@@ -26,9 +22,7 @@ returns c =
     let head = head_by c.args.number (length c.as_slice-lines.result.now) c.in_ok-proof.proof.level c.in_ok-proof.proof.size c.args.found.given (found_of c.args.found) (map plain_line items) (ap (λ (ls : List Line). length ls) c.as_slice-lines.ensures.value ∙ sym (length-map items plain_line)) c.in_ok-proof.ensures.level c.in_ok-proof.ensures.size refl in
     record {
       lines = map plain_line items;
-      ancestors = subst (λ (ls : List PlainLine). AreAncestors ls c.args.found.line (map plain_line items))
-          (lines_are asking.problem.now.inputs.items _ asking.clauses.items _ c.args.search.now.lines.items _ c.deref.ensures.value c.requires.asked.clauses c.deref-2.ensures.value c.requires.counted.numbered)
-          (c.in_ok-proof.ensures.lines _ (c.in_ok-add_made.ensures _ c.in_ok-all.ensures));
+      ancestors = c.in_ok-proof.ensures.lines;
       text_is =
           c.in_ok-text.ensures
           ∙ ap (λ (ls : List Line). proof_bytes (tables_of asking.operators) asking.symbols asking.problem.now.options.prolog_style_variables heads ls) c.as_slice-lines.ensures.value
