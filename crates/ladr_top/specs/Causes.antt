@@ -12,7 +12,7 @@ use Rattle.ladr_mace4.specs.declared.ends.SearchEnd.{SearchEnd}
 use Rattle.ladr_prover9.specs.Statuses.{prover_status}
 use Rattle.ladr_prover9.specs.declared.ends.ProverEnd.{ProverEnd}
 use Rattle.ladr_top.specs.declared.cause.Cause.{Cause}
-use Rattle.ladr_top.specs.declared.cause.Cause.TheVariants.{Words, Refused, ReadFault, WriteFault, Memory, Check, Clausetester, Mace4, Prover9}
+use Rattle.ladr_top.specs.declared.cause.Cause.TheVariants.{Words, Refused, ReadFault, WriteFault, Memory, Check, Clausetester, Mace4, Made, Prover9}
 
 -- a command came to no end of its own
 abbrev pub cause_of : Stop → Cause
@@ -36,4 +36,5 @@ status_of Memory = 12
 status_of (Check end) = check_status end
 status_of (Clausetester end) = 0
 status_of (Mace4 end) = end_status end
+status_of Made = 0
 status_of (Prover9 end) = prover_status end

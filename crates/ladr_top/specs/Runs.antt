@@ -1,5 +1,5 @@
 -- What a run amounts to.
-use Rattle.std.specs.Prelude.{ℕ, ◌≡◌, List, Option}
+use Rattle.std.specs.Prelude.{ℕ, ◌≡◌, List, Option, Some, None}
 use Rattle.std.specs.declared.result.Result.{Result}
 use Rattle.accepted_output.specs.Accepted.{WritesAccepted}
 use Rattle.ladr_check.specs.Checking.{Checks}
@@ -17,19 +17,35 @@ use Rattle.ladr_io.specs.Times.{Times}
 use Rattle.ladr_mace4.specs.Finding.{Searches}
 use Rattle.ladr_mace4.specs.Shown.{ShowsPosed}
 use Rattle.ladr_mace4.specs.declared.ends.SearchEnd.{SearchEnd}
-use Rattle.ladr_output.specs.Telling.{PieceTells}
+use Rattle.ladr_made.specs.Making.{Makes}
+use Rattle.ladr_output.specs.Telling.{PieceTells, result_of_piece}
+use Rattle.ladr_output.specs.declared.cut.Cut.{Cut}
 use Rattle.ladr_prover9.specs.Finding.{Refutes}
 use Rattle.ladr_prover9.specs.Shown.{ShowsAsked}
 use Rattle.ladr_prover9.specs.declared.ends.ProverEnd.{ProverEnd}
 use Rattle.ladr_top.specs.Causes.{cause_of, cause_by}
 use Rattle.ladr_top.specs.Words.{no_command_line}
 use Rattle.ladr_top.specs.declared.cause.Cause.{Cause}
-use Rattle.ladr_top.specs.declared.cause.Cause.TheVariants.{Words, Check, Clausetester, Mace4, Prover9}
+use Rattle.ladr_top.specs.declared.cause.Cause.TheVariants.{Words, Check, Clausetester, Mace4, Made, Prover9}
 use Rattle.ladr_words.specs.declared.task.ModelOptions.{ModelOptions}
+use Rattle.ladr_words.specs.declared.task.Task.{Task}
+use Rattle.ladr_words.specs.declared.task.Task.TheVariants as task
 
 -- words that are no command: their line is printed, or what cut it off is the cause
 abbrev pub RefusesWords : Outflow → Outflow → Cause → Type 0
 RefusesWords = PieceTells Words (λ cut. cause_of (stop_of_cut cut)) no_command_line
+
+-- what words read nothing: those that are no command, and those that ask for a generated problem
+abbrev pub ReadNothing : Option Task → Type 0
+ReadNothing None = Unit {0}
+ReadNothing (Some (task.Made n)) = Unit {0}
+ReadNothing (Some t) = ⊥
+
+-- a problem of n steps is generated, and its summary is printed, or what cut it off is the cause
+abbrev pub RunsMade : ℕ → Outflow → Outflow → Cause → Type 0
+RunsMade n to to' cause =
+    (r : Result (Unit {0}) Cut) × Makes n to to' r
+    × (cause ≡ result_of_piece Made (λ cut. cause_of (stop_of_cut cut)) r)
 
 -- the input is a text of proofs
 abbrev pub RunsCheck : Inflow → Inflow → Outflow → Outflow → Cause → Type 0

@@ -21,6 +21,7 @@ pub enum Cause {
     Check(CheckEnd),
     Clausetester(Tested),
     Mace4(SearchEnd),
+    Made,
     Prover9(ProverEnd),
 }
 
@@ -56,6 +57,7 @@ pub fn status(cause: &Cause) -> u8
         Cause::Check(end) => end.status(),
         Cause::Clausetester(_) => 0,
         Cause::Mace4(end) => end.status(),
+        Cause::Made => 0,
         Cause::Prover9(end) => end.status(),
     }
 }

@@ -2,12 +2,14 @@
 ghost use Rattle.std.specs.Prelude.{◌≡◌, ◌≢◌, ℕ, Option, false, None, Some, map};
 ghost use Rattle.std.specs.String.{string_bytes};
 ghost use Rattle.ladr_check.specs.Shown.{ShowsProofs};
-ghost use Rattle.ladr_top.specs.Causes.{cause_by, status_of};
+ghost use Rattle.ladr_intake.specs.Refusals.{stop_of_cut};
+ghost use Rattle.ladr_output.specs.Telling.{result_of_piece};
+ghost use Rattle.ladr_top.specs.Causes.{cause_by, cause_of, status_of};
 ghost use Rattle.ladr_top.specs.Limits.{AreLimits};
-ghost use Rattle.ladr_top.specs.Runs.{RefusesWords, RunsCheck, RunsClausetester, RunsMace4, RunsProver9, ShowsMace4, ShowsProver9, ChecksProver9};
+ghost use Rattle.ladr_top.specs.Runs.{ReadNothing, RefusesWords, RunsCheck, RunsClausetester, RunsMace4, RunsMade, RunsProver9, ShowsMace4, ShowsProver9, ChecksProver9};
 ghost use Rattle.ladr_words.specs.Tasks.{task_of};
 ghost use Rattle.ladr_words.specs.declared.task.ModelOptions.{ModelOptions};
-ghost use Rattle.ladr_words.specs.declared.task.Task.TheVariants.{Check, Clausetester, Mace4, Prover9};
+ghost use Rattle.ladr_words.specs.declared.task.Task.TheVariants.{Check, Clausetester, Mace4, Made, Prover9};
 
 use crate::cause::{Cause, Exit, cause_of, status};
 use crate::limits::limits_are_told;
@@ -19,7 +21,8 @@ use ladr_clausetester::{Tested, clausetester};
 use ladr_intake::{Stop, stop_by};
 use ladr_io::{Clock, Sink, Source};
 use ladr_mace4::{SearchEnd, mace4, searches_show};
-use ladr_output::piece;
+use ladr_made::made;
+use ladr_output::{Cut, piece};
 use ladr_prover9::{ProverEnd, proofs_show, prover9};
 use ladr_words::{Task, WordsError, task_of};
 use std::alloc::Global;
@@ -42,10 +45,11 @@ pub fn run<I: Interpretation, S: Source, K: Sink, C: Clock>(
     // The limits that the other clauses name, by their numbers.
     ensures limits { AreLimits }
 
-    // Words that are no command are refused, and nothing is read.
+    // Words that are no command are refused, and nothing is read; nor is it for a generated problem.
     ensures words { task_of (map string_bytes words.now) ≡ None
         → RefusesWords (K.outflow sink.old) (K.outflow sink.new) result.cause }
-    ensures untouched { task_of (map string_bytes words.now) ≡ None → source.new ≡ source.old }
+    ensures untouched { ReadNothing (task_of (map string_bytes words.now))
+        → source.new ≡ source.old }
 
     // The proofs of the input are checked.
     ensures check { task_of (map string_bytes words.now) ≡ Some Check
@@ -75,6 +79,11 @@ pub fn run<I: Interpretation, S: Source, K: Sink, C: Clock>(
     ensures models { (o : ModelOptions) → task_of (map string_bytes words.now) ≡ Some (Mace4 o)
         → ShowsMace4 o (S.inflow source.old) (S.inflow source.new) (K.outflow sink.old)
         (K.outflow sink.new) }
+
+    // A problem is generated, with so many steps. Its summary tells what became of a search for its proofs, each of which a check
+    // accepts, and of a search for a model of it without its goal.
+    ensures made { (n : ℕ) → task_of (map string_bytes words.now) ≡ Some (Made n)
+        → RunsMade n (K.outflow sink.old) (K.outflow sink.new) result.cause }
 
     // Proofs of what the input states are searched for.
     ensures prover9 { (t : Option ℕ) → task_of (map string_bytes words.now) ≡ Some (Prover9 t)
@@ -108,6 +117,7 @@ pub fn run<I: Interpretation, S: Source, K: Sink, C: Clock>(
         Ok(Task::Check) => exit(checked(check_text(alloc, source, sink))),
         Ok(Task::Clausetester) => exit(tested(clausetester(alloc, source, sink))),
         Ok(Task::Mace4 { options }) => exit(searched(mace4(alloc, options, source, sink, clock))),
+        Ok(Task::Made { size }) => exit(generated(made(alloc, size, sink))),
         Ok(Task::Prover9 { max_seconds }) => {
             exit(refuted(prover9(alloc, max_seconds, source, sink, clock)))
         }
@@ -140,6 +150,15 @@ fn searched(ended: Result<SearchEnd, Stop>) -> Cause
     match ended {
         Ok(end) => Cause::Mace4(end),
         Err(stop) => cause_of(stop),
+    }
+}
+
+fn generated(ended: Result<(), Cut>) -> Cause
+    ensures { result ≡ result_of_piece Cause.Made (λ cut. cause_of (stop_of_cut cut)) ended }
+{
+    match ended {
+        Ok(()) => Cause::Made,
+        Err(cut) => cause_of(stop_by(cut)),
     }
 }
 

@@ -13,6 +13,14 @@ number_option name letter least most = record (new_rule name) {
   parser = Some (Unsigned least most);
 }
 
+-- an argument that has to be given, by its place alone: a number from least to most
+unfoldable pub needed_number : List ℕ → ℕ → ℕ → Rule
+needed_number name least most = record (new_rule name) {
+  action = Some Set;
+  parser = Some (Unsigned least most);
+  required = true;
+}
+
 -- the command with one more argument
 unfoldable pub taking : App → Rule → App
 taking command argument = with_rule command argument
@@ -38,6 +46,10 @@ mace4_app =
     (number_option (codes "max_models") 109 1 2147483647))
     (number_option (codes "max_seconds") 116 0 2147483647)
 
+-- made N
+unfoldable pub made_app : App
+made_app = taking (new_app (codes "made")) (needed_number (codes "size") 1 1000)
+
 -- prover9 [-t S]
 unfoldable pub prover9_app : App
 prover9_app = taking (new_app (codes "prover9")) (number_option (codes "max_seconds") 116 0 2147483647)
@@ -59,9 +71,11 @@ bare_app = record {
 -- the program
 unfoldable pub ladr_app : App
 ladr_app =
-    having (having (having (having bare_app check_app) clausetester_app) mace4_app) prover9_app
+    having
+    (having (having (having (having bare_app check_app) clausetester_app) mace4_app) made_app)
+    prover9_app
 
 -- what a proof opens to compute with the program's command
 unfoldable pub ladr_on_literals : ⊤
-unfolding number_option taking having check_app clausetester_app mace4_app prover9_app bare_app ladr_app
+unfolding number_option needed_number taking having check_app clausetester_app mace4_app made_app prover9_app bare_app ladr_app
 ladr_on_literals = tt

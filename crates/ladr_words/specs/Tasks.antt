@@ -1,5 +1,5 @@
 -- The task that words are.
-use Rattle.std.specs.Prelude.{ℕ, ◌==◌, ◌&&◌, ◌^◌, ◌-◌, ◌≤◌, if◌then◌else◌, nat_le, List, length, Option, Some, None, option_and_then, IfSome, codes}
+use Rattle.std.specs.Prelude.{ℕ, ◌==◌, ◌&&◌, ◌^◌, ◌-◌, ◌≤◌, if◌then◌else◌, nat_le, List, length, Option, Some, None, option_and_then, option_map, IfSome, codes}
 use Rattle.std.specs.Str.{bytes_eq}
 use Rattle.std.specs.Str.Parse.{digits_value, without_leading_plus}
 use Rattle.clap.specs.Walk.{Row, one_of}
@@ -8,7 +8,7 @@ use Rattle.clap.specs.Faults.{fault_of}
 use Rattle.clap.specs.ValueTests.{is_unsigned_in}
 use Rattle.ladr_words.specs.Commands.{ladr_app}
 use Rattle.ladr_words.specs.declared.task.Task.{Task}
-use Rattle.ladr_words.specs.declared.task.Task.TheVariants.{Check, Clausetester, Mace4, Prover9}
+use Rattle.ladr_words.specs.declared.task.Task.TheVariants.{Check, Clausetester, Mace4, Made, Prover9}
 use Rattle.ladr_words.specs.declared.task.ModelOptions.{ModelOptions}
 
 -- the number that a text writes in decimal digits, with a plus before them or not; it has at most
@@ -38,6 +38,10 @@ model_options rows = record {
   max_seconds = number_within (codes "max_seconds") 0 2147483647 rows;
 }
 
+-- the size of a generated problem
+abbrev pub made_size : List Row → Option ℕ
+made_size rows = number_within (codes "size") 1 1000 rows
+
 -- the seconds of a search for proofs, where they are given
 abbrev pub prover_seconds : List Row → Option ℕ
 prover_seconds rows = number_within (codes "max_seconds") 0 2147483647 rows
@@ -48,7 +52,8 @@ task_named name rows =
     if bytes_eq name (codes "check") then Some Check
     else (if bytes_eq name (codes "clausetester") then Some Clausetester
     else (if bytes_eq name (codes "mace4") then Some (Mace4 (model_options rows))
-    else (if bytes_eq name (codes "prover9") then Some (Prover9 (prover_seconds rows)) else None)))
+    else (if bytes_eq name (codes "made") then option_map Made (made_size rows)
+    else (if bytes_eq name (codes "prover9") then Some (Prover9 (prover_seconds rows)) else None))))
 
 -- the task of the words: none where clap has an error for them
 unfoldable pub task_of : List (List ℕ) → Option Task
@@ -68,4 +73,5 @@ HasRanges Clausetester = Unit {0}
 HasRanges (Mace4 options) =
     IsFrom 1 200 options.start_size × IsFrom 1 200 options.end_size
     × IsFrom 1 2147483647 options.max_models × IsFrom 0 2147483647 options.max_seconds
+HasRanges (Made size) = (1 ≤ size) × (size ≤ 1000)
 HasRanges (Prover9 max_seconds) = IsFrom 0 2147483647 max_seconds

@@ -2,7 +2,7 @@
 use Rattle.std.specs.Prelude.{ℕ, ◌≡◌, ◌≤◌, ◌≢◌, List, [], ◌∷◌, Option, Some, None, codes, slice_index}
 use Rattle.ladr_words.specs.Tasks.{task_of, number_written}
 use Rattle.ladr_words.specs.declared.task.Task.{Task}
-use Rattle.ladr_words.specs.declared.task.Task.TheVariants.{Check, Clausetester, Mace4, Prover9}
+use Rattle.ladr_words.specs.declared.task.Task.TheVariants.{Check, Clausetester, Mace4, Made, Prover9}
 
 abbrev pub searching : Option ℕ → Option ℕ → Option ℕ → Option ℕ → Option Task
 searching start_size end_size max_models max_seconds =
@@ -24,6 +24,7 @@ WorkedLines =
     × (task_of (codes "clausetester" ∷ []) ≡ Some Clausetester)
     × (task_of (codes "prover9" ∷ []) ≡ Some (Prover9 None))
     × (task_of (codes "prover9" ∷ codes "-t" ∷ codes "60" ∷ []) ≡ Some (Prover9 (Some 60)))
+    × (task_of (codes "made" ∷ codes "2" ∷ []) ≡ Some (Made 2))
     × (task_of (mace4 []) ≡ searching None None None None)
     × (task_of (mace4 (codes "-n" ∷ codes "3" ∷ codes "-N" ∷ codes "4" ∷ []))
     ≡ searching (Some 3) (Some 4) None None)
@@ -43,6 +44,10 @@ WorkedRefusals =
     × (task_of (codes "clausetester" ∷ codes "extra" ∷ []) ≡ None)
     × (task_of (codes "prover9" ∷ codes "extra" ∷ []) ≡ None)
     × (task_of (codes "prover9" ∷ codes "-n" ∷ codes "3" ∷ []) ≡ None)
+    × (task_of (codes "made" ∷ []) ≡ None)
+    × (task_of (codes "made" ∷ codes "0" ∷ []) ≡ None)
+    × (task_of (codes "made" ∷ codes "1001" ∷ []) ≡ None)
+    × (task_of (codes "made" ∷ codes "1" ∷ codes "2" ∷ []) ≡ None)
     × (task_of (mace4 (codes "--help" ∷ [])) ≡ None)
     × (task_of (mace4 (codes "-n" ∷ codes "0" ∷ [])) ≡ None)
     × (task_of (mace4 (codes "-n" ∷ codes "201" ∷ [])) ≡ None)

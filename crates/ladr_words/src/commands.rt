@@ -2,7 +2,7 @@
 ghost use Rattle.std.specs.Prelude.{◌≡◌, IfOk, false};
 ghost use Rattle.clap.specs.Words.{rule_of, app_of, shape_of};
 ghost use Rattle.clap.specs.declared.builder.command.Command.TheViews.{out-Command};
-ghost use Rattle.ladr_words.specs.Commands.{number_option, bare_app, check_app, clausetester_app, mace4_app, prover9_app, ladr_app, taking, having};
+ghost use Rattle.ladr_words.specs.Commands.{number_option, needed_number, bare_app, check_app, clausetester_app, mace4_app, made_app, prover9_app, ladr_app, taking, having};
 
 use clap::builder::ValueParser;
 use clap::{Arg, ArgAction, Command};
@@ -16,6 +16,18 @@ fn number_option<'a>(alloc: Global, name: &'a str, letter: char, least: u64, mos
 {
     Arg::new(alloc, name)
         .short(letter)
+        .action(ArgAction::Set)
+        .value_parser(ValueParser::unsigned(least, most))
+}
+
+// An argument that has to be given, by its place alone: a number from `least` to `most`.
+#[tactic(auto, unfolding(crate::specs::Commands::needed_number))]
+fn needed_number<'a>(alloc: Global, name: &'a str, least: u64, most: u64) -> Arg<'a>
+    ensures rule { rule_of result ≡ needed_number name.entry.now least most }
+    ensures local { result.global ≡ false }
+{
+    Arg::new(alloc, name)
+        .required(true)
         .action(ArgAction::Set)
         .value_parser(ValueParser::unsigned(least, most))
 }
@@ -88,6 +100,17 @@ fn mace4<'a>(alloc: Global) -> Result<Command<'a>, AllocError>
     Ok(command)
 }
 
+#[tactic(auto, unfolding(crate::specs::Commands::made_app))]
+fn made<'a>(alloc: Global) -> Result<Command<'a>, AllocError>
+    ensures app { IfOk result (λ c. app_of c ≡ made_app) }
+    ensures local { IfOk result (λ c. (out-Command c).has_globals ≡ false) }
+{
+    let command = Command::new(alloc, "made");
+    let size = needed_number(alloc, "size", 1, 1_000);
+    let command = taking(command, size)?;
+    Ok(command)
+}
+
 #[tactic(auto, unfolding(crate::specs::Commands::prover9_app))]
 fn prover9<'a>(alloc: Global) -> Result<Command<'a>, AllocError>
     ensures app { IfOk result (λ c. app_of c ≡ prover9_app) }
@@ -119,6 +142,7 @@ pub fn ladr<'a>(alloc: Global) -> Result<Command<'a>, AllocError>
     let command = having(bare(alloc), check(alloc))?;
     let command = having(command, clausetester(alloc))?;
     let command = having(command, mace4(alloc)?)?;
+    let command = having(command, made(alloc)?)?;
     let command = having(command, prover9(alloc)?)?;
     Ok(command)
 }

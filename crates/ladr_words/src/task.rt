@@ -11,6 +11,7 @@ pub enum Task {
     Check,
     Clausetester,
     Mace4 { options: ModelOptions },
+    Made { size: u64 },
     Prover9 { max_seconds: Option<u64> },
 }
 

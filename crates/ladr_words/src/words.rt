@@ -1,11 +1,11 @@
 // The task of a list of words.
-ghost use Rattle.std.specs.Prelude.{◌≡◌, ◌≢◌, [], map, Some, None, Err, IfOk, IfSome, option_and_then};
+ghost use Rattle.std.specs.Prelude.{◌≡◌, ◌≢◌, [], map, Some, None, Err, IfOk, IfSome, option_and_then, option_map};
 ghost use Rattle.std.specs.String.{string_bytes};
 ghost use Rattle.clap.specs.Words.{rows_of, found_of, kind_of, fault_of, subcommand_of};
 ghost use Rattle.clap.specs.Simple.{subcommand_rows_of};
 ghost use Rattle.clap.specs.declared.error.kind.ErrorKind.TheVariants.{OutOfMemory};
 ghost use Rattle.ladr_words.specs.Commands.{ladr_app};
-ghost use Rattle.ladr_words.specs.Tasks.{task_of, task_named, number_given, number_within, within, model_options, prover_seconds, IsFrom, HasRanges};
+ghost use Rattle.ladr_words.specs.Tasks.{task_of, task_named, number_given, number_within, within, model_options, prover_seconds, made_size, IsFrom, HasRanges};
 
 use crate::commands::ladr;
 use crate::task::{ModelOptions, Task, WordsError};
@@ -73,6 +73,7 @@ fn task_named(name: &str, matches: &ArgMatches) -> Option<Task>
         "mace4" => Some(Task::Mace4 {
             options: model_options(matches),
         }),
+        "made" => made(matches),
         "prover9" => Some(Task::Prover9 {
             max_seconds: prover_seconds(matches),
         }),
@@ -91,6 +92,15 @@ fn model_options(matches: &ArgMatches) -> ModelOptions
         max_models: number_within(matches, "max_models", 1, 2_147_483_647),
         max_seconds: number_within(matches, "max_seconds", 0, 2_147_483_647),
     }
+}
+
+// A generated problem of the size that is given.
+fn made(matches: &ArgMatches) -> Option<Task>
+    ensures task { result ≡ option_map Task.Made (made_size (rows_of (found_of matches.now))) }
+    ensures ranges { IfSome result HasRanges }
+{
+    let size = number_within(matches, "size", 1, 1_000)?;
+    Some(Task::Made { size })
 }
 
 // The seconds of a search for proofs.

@@ -60,6 +60,7 @@ fn runs_end_as_told(rt: HostRuntime) -> Result<(), Fail> {
             REPORT,
         ),
         ("clausetester", INVOLUTION, 1, 2, 11, b"l"),
+        ("made 2", INVOLUTION, 1, 0, 0, MADE_TWO),
         ("check", PROVED, 0, 0, 0, ACCEPTED),
         (
             "check",
@@ -127,6 +128,9 @@ const REFUTED: &[u8] =
 
 const UNPROVED: &[u8] =
     b"% Input 35\nformulas(sos).\np.\n-p.\nend_of_list.\n\n============================== PROOF =================================\n1 p.  [assumption].\n3 p.  [clausify(1)].\n5 $F.  [resolve(3,a,4,a)].\n============================== end of proof ==========================\n";
+
+const MADE_TWO: &[u8] =
+    b"% Made 2.\n% Prover9 status 0. Given=0. Kept=5. Length=15. Level=4.\n% Check accepted.\n% Mace4 status 0. Size=2.\n% Exit made.\n";
 
 const INVOLUTIONS: &[u8] = b"formulas(assumptions).\nf(f(x)) = x.\nend_of_list.\n";
 

@@ -1,10 +1,10 @@
-use Rattle.std.proofs.Common.{◌≡◌, ◌∙◌, Err, subst}
+use Rattle.std.proofs.Common.{◌≡◌, ◌∙◌, ℕ, [], Err, refl, subst}
 use Rattle.ladr_intake.specs.declared.stops.Stop.TheVariants as stops
 use Rattle.ladr_io.proofs.StreamLaws.{Takes-none}
 use Rattle.ladr_output.specs.declared.cut.Cut.TheVariants as cuts
 use Rattle.ladr_top.proofs.Checked.{checked_by, none_checked}
 use Rattle.ladr_top.proofs.Lacking.{lacking, none_shown, none_accepted, none_refuted}
-use Rattle.ladr_top.specs.Runs.{ShowsMace4}
+use Rattle.ladr_top.specs.Runs.{RunsMade, ShowsMace4}
 use Rattle.ladr_words.specs.Tasks.{HasRanges}
 use Rattle.ladr_top.proofs.running.run.Goals as goal
 use Rattle.ladr_words.specs.declared.task.ModelOptions.{ModelOptions}
@@ -38,6 +38,16 @@ returns-in-Ok-Mace4-clause-models g c = λ o e.
     subst (λ (words : ModelOptions). ShowsMace4 words (g.S.Source.inflow c.args.source.now) (g.S.Source.inflow c.mace4.new.source) (g.K.Sink.outflow c.args.sink.now) (g.K.Sink.outflow c.mace4.new.sink)) same
     (c.searches_show.ensures c.in-Ok-Mace4.options (subst HasRanges is c.in-Ok-Mace4.ensures.ranges) _ _ _ _ (g.C.Clock.times c.mace4.new.clock) c.mace4.result c.mace4.ensures)
 
+pub returns-in-Err-Memory-clause-made : goal.returns-in-Err-Memory-clause-made
+returns-in-Err-Memory-clause-made g c = λ n e. (Err cuts.Memory, ([], refl, Takes-none _), c.exit-in-Err-Memory.ensures.cause)
+
+pub returns-in-Ok-Made-clause-made : goal.returns-in-Ok-Made-clause-made
+returns-in-Ok-Made-clause-made g c = λ n e.
+    let task = c.in-Ok-Made.ensures.task in
+    let same : c.in-Ok-Made.size ≡ n = cc in
+    subst (λ (m : ℕ). RunsMade m (g.K.Sink.outflow c.args.sink.now) (g.K.Sink.outflow c.made.new.sink) c.exit-in-Ok-Made.result.cause) same
+    (c.made.result, c.made.ensures, c.exit-in-Ok-Made.ensures.cause ∙ c.generated.ensures)
+
 pub returns-in-Err-Memory-clause-prover9 : goal.returns-in-Err-Memory-clause-prover9
 returns-in-Err-Memory-clause-prover9 g c = λ t e. (Err stops.Memory, lacking _ _ _ _ _ _ _ c.requires.unread, c.exit-in-Err-Memory.ensures.cause)
 
@@ -45,11 +55,11 @@ pub returns-in-Err-Memory-clause-refutations : goal.returns-in-Err-Memory-clause
 returns-in-Err-Memory-clause-refutations g c = λ t e. none_refuted _ _
 
 pub returns-in-Ok-Prover9-clause-refutations : goal.returns-in-Ok-Prover9-clause-refutations
-returns-in-Ok-Prover9-clause-refutations g c = λ t e. c.proofs_show.ensures _ _ _ _ _ (g.C.Clock.times c.prover9.new.clock) c.prover9.result c.prover9.ensures.0
+returns-in-Ok-Prover9-clause-refutations g c = λ t e. c.proofs_show.ensures.show _ _ _ _ _ (g.C.Clock.times c.prover9.new.clock) c.prover9.result c.prover9.ensures.0
 
 pub returns-in-Ok-Prover9-clause-accepted : goal.returns-in-Ok-Prover9-clause-accepted
 returns-in-Ok-Prover9-clause-accepted g c = λ t e.
-    checked_by c.outputs_are_accepted.ensures c.in-Ok-Prover9.max_seconds _ _ _ _ (g.C.Clock.times c.prover9.new.clock) c.prover9.result _ c.prover9.ensures (c.exit-in-Ok-Prover9.ensures.cause ∙ c.refuted.ensures)
+    checked_by c.outputs_are_accepted.ensures.accepted c.in-Ok-Prover9.max_seconds _ _ _ _ (g.C.Clock.times c.prover9.new.clock) c.prover9.result _ c.prover9.ensures (c.exit-in-Ok-Prover9.ensures.cause ∙ c.refuted.ensures)
 
 pub returns-in-Err-Memory-clause-accepted : goal.returns-in-Err-Memory-clause-accepted
 returns-in-Err-Memory-clause-accepted g c = λ t e. none_checked _ _ _ _ _ c.exit-in-Err-Memory.ensures.cause

@@ -1,0 +1,4 @@
+mod Accepting
+mod Memory
+mod Sizes
+mod Summing
