@@ -276,8 +276,13 @@ module _ (once : (m : Mode) (bytes : List ℕ) (o p : Outcome) → Says m bytes 
       (subst (λ (y : Quest). Proving y (quest_seconds word y) times text) is goes) told
 
   pub so_far_accepted : StartIsWithinLimits → ReachedAreWithinLimits → ProofsSoFarAreAccepted
-  so_far_accepted starts keep word from from' to to' times run had wanted = record {
+  so_far_accepted starts keep word from from' to to' times run (inl had) = record {
     written = run.tells.0;
     wrote = run.tells.2.took;
-    accepted = stands_accepted starts keep word from from' times run.bytes had wanted run.tells.0 run.tells.1;
+    accepted = stands_accepted starts keep word from from' times run.bytes had (let few = had.wanted in omega (arith, few)) run.tells.0 run.tells.1;
+  }
+  so_far_accepted starts keep word from from' to to' times run (inr took) = record {
+    written = [];
+    wrote = took.took;
+    accepted = λ told. absurd (none_written run.bytes [] refl told);
   }

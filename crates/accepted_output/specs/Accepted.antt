@@ -1,5 +1,5 @@
 -- What a check makes of the output of a search for proofs.
-use Rattle.std.specs.Prelude.{◌≡◌, ◌<◌, ◌^◌, ℕ, List, [], ◌∷◌, ◌++◌, length, map, Option}
+use Rattle.std.specs.Prelude.{◌≡◌, ◌⊎◌, ℕ, List, [], ◌∷◌, ◌++◌, length, map, Option}
 use Rattle.std.specs.declared.result.Result.TheVariants.{Ok, Err}
 use Rattle.clause_store.specs.Ancestors.{AreAncestors}
 use Rattle.clause_store.specs.Lines.{PlainLine, plain_line}
@@ -9,7 +9,7 @@ use Rattle.ladr_check.specs.Outcomes.{ComesOut}
 use Rattle.ladr_check.specs.Shown.{OffersAlone}
 use Rattle.ladr_check.specs.declared.ends.CheckEnd.TheVariants.{Accepted}
 use Rattle.ladr_intake.specs.declared.stops.Stop.TheVariants.{Memory}
-use Rattle.ladr_io.specs.Streams.{Inflow, Outflow, AreLastHeld}
+use Rattle.ladr_io.specs.Streams.{Inflow, Outflow, AreLastHeld, Takes}
 use Rattle.ladr_io.specs.Times.{Times}
 use Rattle.ladr_output.specs.Standing.{AreWholeLines}
 use Rattle.ladr_problem.specs.declared.read.FileRead.{FileRead}
@@ -101,9 +101,9 @@ pub record WritesAcceptedSoFar (input : List ℕ) (to to' : Outflow) : Type 0 wh
   pub accepted :
       TellsProof input written → (n : ℕ) × AreAcceptedAs HasPrintedSoFar input written n
 
--- So it is of each run in which memory was lacking, where fewer proofs than 2 ^ 63 are wanted.
+-- So it is of each run in which memory was lacking.
 abbrev pub ProofsSoFarAreAccepted : Type 0
 ProofsSoFarAreAccepted =
     (word : Option ℕ) (from from' : Inflow) (to to' : Outflow) (times : Times)
-    (run : Refutes word from from' to to' times (Err Memory)) (is : IsHad run.bytes)
-    → is.had.problem.options.max_proofs < 2 ^ 63 → WritesAcceptedSoFar run.bytes to to'
+    (run : Refutes word from from' to to' times (Err Memory))
+    → IsHad run.bytes ⊎ Takes to to' [] → WritesAcceptedSoFar run.bytes to to'

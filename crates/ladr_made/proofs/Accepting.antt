@@ -19,6 +19,7 @@ use Rattle.ladr_prover9.proofs.Ending.{ends_alone}
 use Rattle.ladr_prover9.proofs.Showing.{counters}
 use Rattle.ladr_prover9.specs.Counting.{ComesCounted, ProvesCounted, RefutesCounted}
 use Rattle.ladr_prover9.specs.Lines.{counters_line, proved_line, failed_line, cause_line, closing_lines}
+use Rattle.ladr_prover9.specs.Nothing.{HasNothing}
 use Rattle.ladr_prover9.specs.Quests.{Quest, asks, quest_seconds, IsHad}
 use Rattle.ladr_prover9.specs.declared.ends.ProverOver.{ProverOver}
 use Rattle.proof_print.specs.LineTexts.{frame_text}
@@ -80,8 +81,9 @@ module _ (s s' : SourceState) (k k' : SinkState) (times : Times) (over : ProverO
       }
 
   -- a check accepts it, where there are proofs
-  pub accepted : OutputsAreAccepted → IsHad run.bytes → 0 < over.proofs → (n : ℕ) × AreAllAccepted s.left k'.held n
-  accepted law had some =
+  pub accepted : OutputsAreAccepted → IsHad run.bytes ⊎ HasNothing {E = ProverOver} (outflow_of k) (outflow_of k') (Ok over) → 0 < over.proofs → (n : ℕ) × AreAllAccepted s.left k'.held n
+  accepted law (inr nothing) some = absurd nothing
+  accepted law (inl had) some =
       let x = run.tells.1.1 in
       let writes = law None _ _ _ _ times over.end (ends_alone None _ _ _ _ times over run) had in
       let written_is : writes.written ≡ k'.held = sym (writes.wrote ∙ ap (λ (u : List ℕ). u ++ writes.written) empty) in

@@ -11,7 +11,8 @@ use Rattle.ladr_output.specs.Telling.{Tells}
 use Rattle.ladr_prover9.proofs.Telling.{proves_by}
 use Rattle.ladr_prover9.specs.Counting.{ProvesCounted, RefutesCounted}
 use Rattle.ladr_prover9.specs.Finding.{Proves, Proving, Refutes}
-use Rattle.ladr_prover9.specs.Quests.{Quest, asks, quest_seconds}
+use Rattle.ladr_prover9.specs.Nothing.{HasNothing}
+use Rattle.ladr_prover9.specs.Quests.{Quest, asks, quest_seconds, IsHad}
 use Rattle.ladr_prover9.specs.declared.ends.ProverEnd.{ProverEnd}
 use Rattle.ladr_prover9.specs.declared.ends.ProverOver.{ProverOver}
 
@@ -56,7 +57,7 @@ module _ (word : Option ℕ) (a b : Inflow) (c d : Outflow) (times : Times) wher
     tells = (let told = run.tells in (told.0, (told.1.0, (told.1.1.0, told.1.1.1, proves_so told.1.1.0 (quest_seconds word told.1.1.0) times over told.0 told.1.1.2)), told.2));
   }
 
-  told_so : (bytes : List ℕ) (stop : Stop) → Tells (Stood EndsCounted bytes) (By EndsCounted bytes) c d (end_of {E = ProverOver} (Err stop)) → Tells (Stood Ends bytes) (By Ends bytes) c d (end_of {E = ProverEnd} (Err stop))
+  pub told_so : (bytes : List ℕ) (stop : Stop) → Tells (Stood EndsCounted bytes) (By EndsCounted bytes) c d (end_of {E = ProverOver} (Err stop)) → Tells (Stood Ends bytes) (By Ends bytes) c d (end_of {E = ProverEnd} (Err stop))
   told_so bytes (stops.Refused why) told = told
   told_so bytes stops.ReadFault told = told
   told_so bytes stops.WriteFault told = record {
@@ -70,5 +71,21 @@ module _ (word : Option ℕ) (a b : Inflow) (c d : Outflow) (times : Times) wher
   }
   told_so bytes stops.Memory told = (told.0, stood_so bytes told.0 told.1, told.2)
 
-  pub stops_alone : (stop : Stop) → RefutesCounted word a b c d times (Err stop) → Refutes word a b c d times (Err stop)
+  abbrev pub stops_alone : (stop : Stop) → RefutesCounted word a b c d times (Err stop) → Refutes word a b c d times (Err stop)
   stops_alone stop run = record { bytes = run.bytes; taken = run.taken; tells = told_so run.bytes stop run.tells }
+
+-- what was had of the input, where a run comes to its end
+pub had_of : (bytes : List ℕ) → IsHad bytes ⊎ ⊥ → IsHad bytes
+had_of bytes (inl had) = had
+had_of bytes (inr none) = absurd none
+
+-- or what is known where it doesn't, whatever is told of ends
+none_so : (c d : Outflow) (stop : Stop) → HasNothing {E = ProverOver} c d (Err stop) → HasNothing {E = ProverEnd} c d (Err stop)
+none_so c d (stops.Refused why) h = h
+none_so c d stops.ReadFault h = h
+none_so c d stops.WriteFault h = h
+none_so c d stops.Memory h = h
+
+pub known_so : (c d : Outflow) (stop : Stop) (bytes : List ℕ) → IsHad bytes ⊎ HasNothing {E = ProverOver} c d (Err stop) → IsHad bytes ⊎ HasNothing {E = ProverEnd} c d (Err stop)
+known_so c d stop bytes (inl had) = inl had
+known_so c d stop bytes (inr none) = inr (none_so c d stop none)

@@ -7,6 +7,7 @@ pub mod FileElements
 pub mod FileNames
 pub mod Knowing
 pub mod Leaving
+pub mod Nothing
 pub mod Numbered
 pub mod OneEnd
 pub mod ProofTexts

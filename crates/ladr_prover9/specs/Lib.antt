@@ -2,6 +2,7 @@ pub mod Askings
 pub mod Counting
 pub mod Finding
 pub mod Lines
+pub mod Nothing
 pub mod OneEnd
 pub mod ProofTexts
 pub mod Quests

@@ -1,5 +1,5 @@
 -- What a run of `prover9` is about.
-use Rattle.std.specs.Prelude.{ℕ, suc, ◌≡◌, Option, List, [], ◌∷◌, map}
+use Rattle.std.specs.Prelude.{ℕ, suc, ◌≡◌, ◌<◌, ◌^◌, Option, List, [], ◌∷◌, map}
 use Rattle.std.specs.Option.{option_or}
 use Rattle.clause_store.specs.Lines.{PlainContent, plain_formula, PlainLine, stating_line, formula_lines}
 use Rattle.fol_core.specs.declared.problem.Problem.{Problem}
@@ -77,6 +77,7 @@ pub record IsHad (bytes : List ℕ) : Type 0 where
   pub is_said : Says Prover bytes (problem says)
   pub had : FileRead
   pub is_had : IsOf says had
+  pub wanted : had.problem.options.max_proofs < 2 ^ 32
 
 -- all lines of a state
 abbrev pub quest_lines : Quest → SearchState → List PlainLine

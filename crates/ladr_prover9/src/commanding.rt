@@ -1,5 +1,5 @@
 // The command as a whole.
-ghost use Rattle.std.specs.Prelude.{◌≡◌, ◌<◌, ◌^◌, ℕ, [], Some, Err, IfOk, false, length};
+ghost use Rattle.std.specs.Prelude.{◌≡◌, ◌⊎◌, ◌<◌, ◌^◌, ℕ, [], Some, Err, IfOk, false, length};
 ghost use Rattle.clausify.specs.Input.{first_over};
 ghost use Rattle.fol_core.specs.Stated.{stated_of, IsWellFormed};
 ghost use Rattle.ladr_mace4.specs.Plans.{seconds_of};
@@ -8,6 +8,7 @@ ghost use Rattle.ladr_output.specs.Telling.{Tells, IsEnd};
 ghost use Rattle.ladr_prover9.specs.Askings.{quest_of, IsAskedFor, IsSoundQuest};
 ghost use Rattle.ladr_prover9.specs.Counting.{uncounted, ProvesCounted, RefutesCounted};
 ghost use Rattle.ladr_prover9.specs.Finding.{KeepsLimits, Proving, Refutes};
+ghost use Rattle.ladr_prover9.specs.Nothing.{HasNothing};
 ghost use Rattle.ladr_prover9.specs.Quests.{IsHad, quest_in, quest_with, quest_seconds};
 
 use crate::asking::Asking;
@@ -182,7 +183,7 @@ pub fn prove_counted<S: Source, K: Sink, C: Clock>(
     requires sink { (K.outflow sink.old).over ≡ false }
     ensures { (run : RefutesCounted max_seconds (S.inflow source.old) (S.inflow source.new)
         (K.outflow sink.old) (K.outflow sink.new) (C.times clock.new) result)
-        × IfOk result (λ _. IsHad run.bytes) }
+        × (IsHad run.bytes ⊎ HasNothing (K.outflow sink.old) (K.outflow sink.new) result) }
 {
     quests_are_sound();
     match take_quest(alloc, source) {
@@ -207,7 +208,7 @@ pub fn prover9<S: Source, K: Sink, C: Clock>(
     requires sink { (K.outflow sink.old).over ≡ false }
     ensures { (run : Refutes max_seconds (S.inflow source.old) (S.inflow source.new)
         (K.outflow sink.old) (K.outflow sink.new) (C.times clock.new) result)
-        × IfOk result (λ _. IsHad run.bytes) }
+        × (IsHad run.bytes ⊎ HasNothing (K.outflow sink.old) (K.outflow sink.new) result) }
 {
     match prove_counted(alloc, max_seconds, source, sink, clock) {
         Ok(over) => Ok(over.end),

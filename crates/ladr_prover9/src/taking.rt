@@ -1,5 +1,5 @@
 // The input of a run.
-ghost use Rattle.std.specs.Prelude.{◌≡◌, ℕ, List, IfErr, IfOk, false};
+ghost use Rattle.std.specs.Prelude.{◌≡◌, ◌<◌, ◌^◌, ℕ, List, IfErr, IfOk, false};
 ghost use Rattle.fol_core.specs.Stated.{stated_of, IsWellFormed};
 ghost use Rattle.ladr_formulas.specs.declared.styles.Mode.TheVariants.{Prover};
 ghost use Rattle.ladr_intake.specs.Input.{IsAllRead};
@@ -30,13 +30,17 @@ pub fn take_quest<S: Source>(alloc: Global, source: &mut S) -> Result<Taken, NoI
     ensures asks { IfOk result (λ r. asks r.bytes.items (quest_in r.bytes.items r.read)) }
     ensures had { IfOk result (λ r. (s : Sofar) × Says Prover r.bytes.items (problem s)
         × IsOf s r.read) }
+    ensures wanted { IfOk result (λ r. r.read.problem.options.max_proofs < 2 ^ 32) }
     ensures well_formed { IfOk result (λ r. IsWellFormed (stated_of r.read.problem)) }
     ensures none { IfErr result (λ why. (bytes : List ℕ)
         × IsNoInput (refuses Prover) (S.inflow source.old) (S.inflow source.new) bytes why) }
 {
     match take_bytes(alloc, source) {
         Ok(bytes) => match read_problem(alloc, Mode::Prover, &bytes) {
-            Ok(read) => Ok(Taken { bytes, read }),
+            Ok(read) => {
+                let _wanted = read.problem.options.max_proofs;
+                Ok(Taken { bytes, read })
+            }
             Err(error) => Err(no_input(error)),
         },
         Err(why) => Err(why),

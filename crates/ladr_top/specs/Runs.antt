@@ -1,7 +1,7 @@
 -- What a run amounts to.
 use Rattle.std.specs.Prelude.{ℕ, ◌≡◌, List, Option, Some, None}
 use Rattle.std.specs.declared.result.Result.{Result}
-use Rattle.accepted_output.specs.Accepted.{WritesAccepted}
+use Rattle.accepted_output.specs.Accepted.{WritesAccepted, WritesAcceptedSoFar}
 use Rattle.ladr_check.specs.Checking.{Checks}
 use Rattle.ladr_check.specs.Offered.{offers, refuses_proofs}
 use Rattle.ladr_check.specs.declared.ends.CheckEnd.{CheckEnd}
@@ -26,7 +26,7 @@ use Rattle.ladr_prover9.specs.declared.ends.ProverEnd.{ProverEnd}
 use Rattle.ladr_top.specs.Causes.{cause_of, cause_by}
 use Rattle.ladr_top.specs.Words.{no_command_line}
 use Rattle.ladr_top.specs.declared.cause.Cause.{Cause}
-use Rattle.ladr_top.specs.declared.cause.Cause.TheVariants.{Words, Check, Clausetester, Mace4, Made, Prover9}
+use Rattle.ladr_top.specs.declared.cause.Cause.TheVariants.{Words, Memory, Check, Clausetester, Mace4, Made, Prover9}
 use Rattle.ladr_words.specs.declared.task.ModelOptions.{ModelOptions}
 use Rattle.ladr_words.specs.declared.task.Task.{Task}
 use Rattle.ladr_words.specs.declared.task.Task.TheVariants as task
@@ -85,6 +85,16 @@ pub record WritesChecked (from from' : Inflow) (to to' : Outflow) : Type 0 where
 abbrev pub ChecksProver9 : Inflow → Inflow → Outflow → Outflow → Cause → Type 0
 ChecksProver9 from from' to to' cause =
     (end : ProverEnd) → cause ≡ Prover9 end → WritesChecked from from' to to'
+
+-- Where memory was lacking, and a proof stands in what it wrote, a check of this, whole as it is,
+-- accepts its proofs.
+pub record WritesCheckedSoFar (from from' : Inflow) (to to' : Outflow) : Type 0 where
+  pub bytes : List ℕ
+  pub taken : AreTaken from from' bytes
+  pub written : WritesAcceptedSoFar bytes to to'
+
+abbrev pub ChecksSoFar : Inflow → Inflow → Outflow → Outflow → Cause → Type 0
+ChecksSoFar from from' to to' cause = cause ≡ Memory → WritesCheckedSoFar from from' to to'
 
 -- what stands in the output of `prover9`
 abbrev pub ShowsProver9 : Inflow → Inflow → Outflow → Outflow → Type 0

@@ -6,7 +6,7 @@ ghost use Rattle.ladr_intake.specs.Refusals.{stop_of_cut};
 ghost use Rattle.ladr_output.specs.Telling.{result_of_piece};
 ghost use Rattle.ladr_top.specs.Causes.{cause_by, cause_of, status_of};
 ghost use Rattle.ladr_top.specs.Limits.{AreLimits};
-ghost use Rattle.ladr_top.specs.Runs.{ReadNothing, RefusesWords, RunsCheck, RunsClausetester, RunsMace4, RunsMade, RunsProver9, ShowsMace4, ShowsProver9, ChecksProver9};
+ghost use Rattle.ladr_top.specs.Runs.{ReadNothing, RefusesWords, RunsCheck, RunsClausetester, RunsMace4, RunsMade, RunsProver9, ShowsMace4, ShowsProver9, ChecksProver9, ChecksSoFar};
 ghost use Rattle.ladr_words.specs.Tasks.{task_of};
 ghost use Rattle.ladr_words.specs.declared.task.ModelOptions.{ModelOptions};
 ghost use Rattle.ladr_words.specs.declared.task.Task.TheVariants.{Check, Clausetester, Mace4, Made, Prover9};
@@ -101,6 +101,11 @@ pub fn run<I: Interpretation, S: Source, K: Sink, C: Clock>(
     // read as the input's problem with these proofs and as nothing else, and a check of it accepts each.
     ensures accepted { (t : Option ℕ) → task_of (map string_bytes words.now) ≡ Some (Prover9 t)
         → ChecksProver9 (S.inflow source.old) (S.inflow source.new) (K.outflow sink.old)
+        (K.outflow sink.new) result.cause }
+
+    // So it is of what was written where memory was lacking, if a proof stands in it.
+    ensures accepted_so_far { (t : Option ℕ) → task_of (map string_bytes words.now) ≡ Some (Prover9 t)
+        → ChecksSoFar (S.inflow source.old) (S.inflow source.new) (K.outflow sink.old)
         (K.outflow sink.new) result.cause }
 
     // The clock isn't asked but for a search.

@@ -2,7 +2,7 @@ use Rattle.std.proofs.Common.{◌≡◌, ◌∙◌, ℕ, [], Err, refl, subst}
 use Rattle.ladr_intake.specs.declared.stops.Stop.TheVariants as stops
 use Rattle.ladr_io.proofs.StreamLaws.{Takes-none}
 use Rattle.ladr_output.specs.declared.cut.Cut.TheVariants as cuts
-use Rattle.ladr_top.proofs.Checked.{checked_by, none_checked}
+use Rattle.ladr_top.proofs.Checked.{checked_by, none_checked, so_far_by, none_so_far}
 use Rattle.ladr_top.proofs.Lacking.{lacking, none_shown, none_accepted, none_refuted}
 use Rattle.ladr_top.specs.Runs.{RunsMade, ShowsMace4}
 use Rattle.ladr_words.specs.Tasks.{HasRanges}
@@ -63,3 +63,10 @@ returns-in-Ok-Prover9-clause-accepted g c = λ t e.
 
 pub returns-in-Err-Memory-clause-accepted : goal.returns-in-Err-Memory-clause-accepted
 returns-in-Err-Memory-clause-accepted g c = λ t e. none_checked _ _ _ _ _ c.exit-in-Err-Memory.ensures.cause
+
+pub returns-in-Ok-Prover9-clause-accepted_so_far : goal.returns-in-Ok-Prover9-clause-accepted_so_far
+returns-in-Ok-Prover9-clause-accepted_so_far g c = λ t e.
+    so_far_by c.outputs_are_accepted.ensures.so_far c.in-Ok-Prover9.max_seconds _ _ _ _ (g.C.Clock.times c.prover9.new.clock) c.prover9.result _ c.prover9.ensures (c.exit-in-Ok-Prover9.ensures.cause ∙ c.refuted.ensures)
+
+pub returns-in-Err-Memory-clause-accepted_so_far : goal.returns-in-Err-Memory-clause-accepted_so_far
+returns-in-Err-Memory-clause-accepted_so_far g c = λ t e. none_so_far _ _ _
