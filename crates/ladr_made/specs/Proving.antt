@@ -42,7 +42,7 @@ pub record IsProvedBy (bytes : List ℕ) (p : Proved) : Type 0 where
   pub told : p ≡ proved_by over
   pub accepted : 0 < over.proofs → (n : ℕ) × AreAllAccepted bytes text n
 
--- so it is of bytes that aren't refused
+-- what is told of bytes: that they are refused, or what became of the search
 abbrev pub IsProved : List ℕ → Proved → Type 0
 IsProved bytes p =
     ((why : Refused) × refuses Prover bytes why × (p ≡ unproved)) ⊎ IsProvedBy bytes p
