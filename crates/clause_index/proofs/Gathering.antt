@@ -89,7 +89,7 @@ found_no_more hs ns i found within at before =
     before ∙ sym (found_next hs ns i within ∙ ap (λ o. filter_map (λ m. with_number m hs) (take i ns) ++ cons_option o []) (sym at) ∙ append-nil (filter_map (λ m. with_number m hs) (take i ns)))
 
 -- all of those that pass a test are found by their numbers
-behind_first : (h : Held) (hs : List Held) (ns : List ℕ) → AllByRecursion (λ n. h.number < n) ns → filter_map (λ n. with_number n (h ∷ hs)) ns ≡ filter_map (λ n. with_number n hs) ns
+pub behind_first : (h : Held) (hs : List Held) (ns : List ℕ) → AllByRecursion (λ n. h.number < n) ns → filter_map (λ n. with_number n (h ∷ hs)) ns ≡ filter_map (λ n. with_number n hs) ns
 behind_first h hs [] above = refl
 behind_first h hs (n ∷ ns) above =
     let more = above.0 in

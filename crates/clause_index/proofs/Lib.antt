@@ -1,5 +1,10 @@
+pub mod Candidates
 pub mod Entries
+pub mod Filed
+pub mod Filing
 pub mod Gathering
+pub mod Numbers
 pub mod Places
 pub mod Removals
 pub mod Ruling
+pub mod TermTests

@@ -1,3 +1,6 @@
 pub mod Entries
+pub mod Filing
+pub mod Finding
+pub mod Numbered
 pub mod Places
 pub mod Sets

@@ -1,26 +1,32 @@
-// Clauses that are held, found by their first literals.
-ghost use Rattle.std.specs.Prelude.{◌≡◌, ◌==◌, false, not, [], IfOk, OnOk, OnErr, filter, length};
-ghost use Rattle.clause_index.specs.Entries.{may_begin, begins_generally, entered, first_literals};
-ghost use Rattle.discrim_tree.specs.Entries.{has_number};
+// Clauses that are held, found by their literals and by the terms in them.
+ghost use Rattle.std.specs.Prelude.{◌≡◌, ◌==◌, not, [], IfOk, OnOk, OnErr, filter, length};
+ghost use Rattle.clause_index.specs.Entries.{begins_generally};
+ghost use Rattle.clause_index.specs.Filing.{AllOthersStay};
+ghost use Rattle.clause_index.specs.Finding.{has_atom_such, has_equation_such, has_inside_such, has_part_such};
+ghost use Rattle.discrim_tree.specs.Seeking.{passes};
+ghost use Rattle.discrim_tree.specs.Terms.{can_unify, has_instance};
 ghost use Rattle.fol_core.specs.TermView.{tree_of};
 ghost use Rattle.held_clauses.specs.Holding.{lent};
 ghost use Rattle.prover_steps.specs.HeldOrder.{numbers_of, IsNoneOf, IsRising};
 ghost use Rattle.prover_steps.specs.Searching.{put_in, held_without};
 
-use crate::lists::{all_with, leave_out_one, put_in};
-use discrim_tree::Index;
+use crate::finder::Finder;
+use crate::listed::Listed;
+use crate::lists::{all_with, with_number};
+use crate::parts::{Part, all_found};
+use discrim_tree::Sought;
 use fol_core::Term;
-use held_clauses::{Held, first_atom};
+use held_clauses::Held;
 use std::alloc::{AllocError, Global};
 use std::marker::Model;
 
-/// Clauses by rising number, with an index of the atoms of their first literals for each sign; a clause without literals
-/// stands in both, under a variable. Contracts see the list of clauses.
+/// Clauses by rising number, with an index of their first literals and another one of all their terms. Contracts see the list
+/// of clauses.
 #[derive(Drop)]
 pub struct HeldSet {
-    clauses: Vec<Held>,
-    positives: Index,
-    negatives: Index,
+    listed: Listed,
+    // Each clause's number stands under its terms; others may stand there too.
+    finder: Finder,
 }
 
 impl Model for HeldSet {
@@ -32,34 +38,22 @@ impl Model for HeldSet {
 
     ghost coded = { coded_list coded_held };
 
-    ghost use Rattle.clause_index.specs.Entries.{AreIndexedBySign};
+    ghost use Rattle.clause_index.specs.Filing.{AreFiled};
 
-    ghost view = { λ a. a.clauses.items };
+    ghost view = { λ a. a.listed };
 
-    ghost invariant = { λ a. AreIndexedBySign a.clauses.items a.positives a.negatives };
+    ghost invariant = { λ a. AreFiled a.finder a.listed };
 }
 
-// Whether the first literal of a clause has this sign, or it has none.
-fn may_begin(sign: bool, held: &Held) -> bool
-    ensures { result ≡ may_begin sign held.now }
+// The clause with a number is not to be found any more.
+#[tactic(auto, using(crate::proofs::Filed::number_there))]
+fn leave(alloc: Global, number: u64, list: &[Held], finder: &mut Finder)
+    requires { IsRising (numbers_of list.now) }
+    ensures { AllOthersStay number finder.old finder.new }
 {
-    match held.clause.as_slice() {
-        [] => true,
-        [first, ..] => first.positive == sign,
+    if let Some(held) = with_number(number, list) {
+        finder.leave(alloc, held);
     }
-}
-
-// Puts the clause in the index of one sign, if it belongs there.
-fn enter(sign: bool, held: &Held, index: &mut Index) -> Result<(), AllocError>
-    requires { has_number held.now.number index.old ≡ false }
-    ensures ok { OnOk result (index.new ≡ entered sign held.now index.old) }
-    ensures err { OnErr result (index.new ≡ index.old) }
-{
-    if !may_begin(sign, held) {
-        return Ok(());
-    }
-    let nothing = Term::Var(0);
-    index.insert(held.number, first_atom(&held.clause, &nothing))
 }
 
 impl HeldSet {
@@ -68,9 +62,8 @@ impl HeldSet {
         ensures { result ≡ [] }
     {
         HeldSet {
-            clauses: Vec::new(alloc),
-            positives: Index::new(alloc),
-            negatives: Index::new(alloc),
+            listed: Listed::new(alloc),
+            finder: Finder::new(alloc),
         }
     }
 
@@ -78,14 +71,14 @@ impl HeldSet {
     pub fn len(&self) -> usize
         ensures { result ≡ length self.now }
     {
-        self.clauses.len()
+        self.listed.len()
     }
 
     /// Whether there is none.
     pub fn is_empty(&self) -> bool
         ensures { result ≡ (length self.now == 0) }
     {
-        self.clauses.is_empty()
+        self.listed.is_empty()
     }
 
     /// The clauses; their numbers rise.
@@ -93,18 +86,7 @@ impl HeldSet {
         ensures clauses { result.now ≡ self.now }
         ensures rising { IsRising (numbers_of self.now) }
     {
-        self.clauses.as_slice()
-    }
-
-    // The index of a sign.
-    fn index(&self, sign: bool) -> &Index
-        ensures { result.now ≡ first_literals sign self.now }
-    {
-        if sign {
-            &self.positives
-        } else {
-            &self.negatives
-        }
+        self.listed.as_slice()
     }
 
     /// The clauses whose first literal has this sign and the atom as an instance of its own, and those without literals.
@@ -113,9 +95,65 @@ impl HeldSet {
             ≡ filter (begins_generally sign (tree_of atom.now)) self.now) }
         ensures rising { IsRising (numbers_of self.now) }
     {
-        let alloc = *self.clauses.allocator();
-        let numbers = self.index(sign).generalizations(atom)?;
-        all_with(alloc, numbers.as_slice(), self.clauses.as_slice())
+        self.listed.generalizing(sign, atom)
+    }
+
+    // The clauses that have a term that is sought.
+    fn found(&self, part: &Part, sought: &Sought, t: &Term) -> Result<Vec<&Held>, AllocError>
+        ensures found { IfOk result (λ hs. lent hs.items
+            ≡ filter (has_part_such part.now (passes sought.now (tree_of t.now))) self.now) }
+        ensures rising { IsRising (numbers_of self.now) }
+    {
+        let alloc = self.listed.allocator();
+        let list = self.listed.as_slice();
+        let numbers = self.finder.numbers(alloc, part, sought, t)?;
+        let held = all_with(alloc, numbers.as_slice(), list)?;
+        all_found(alloc, part, sought, t, held.as_slice())
+    }
+
+    /// The clauses some literal of which has this sign and an instance of the atom.
+    pub fn with_instance(&self, sign: bool, atom: &Term) -> Result<Vec<&Held>, AllocError>
+        ensures found { IfOk result (λ hs. lent hs.items
+            ≡ filter (has_atom_such (λ s. has_instance (tree_of atom.now) s) sign) self.now) }
+        ensures rising { IsRising (numbers_of self.now) }
+    {
+        self.found(&Part::Atoms(sign), &Sought::Instances, atom)
+    }
+
+    /// The clauses some literal of which has this sign and an atom that unifies with this one, variables apart.
+    pub fn with_unifiable(&self, sign: bool, atom: &Term) -> Result<Vec<&Held>, AllocError>
+        ensures found { IfOk result (λ hs. lent hs.items
+            ≡ filter (has_atom_such (λ s. can_unify (tree_of atom.now) s) sign) self.now) }
+        ensures rising { IsRising (numbers_of self.now) }
+    {
+        self.found(&Part::Atoms(sign), &Sought::Unifiable, atom)
+    }
+
+    /// The clauses with an instance of the term below an atom; variables there don't count.
+    pub fn with_instance_inside(&self, term: &Term) -> Result<Vec<&Held>, AllocError>
+        ensures found { IfOk result (λ hs. lent hs.items
+            ≡ filter (has_inside_such (λ s. has_instance (tree_of term.now) s)) self.now) }
+        ensures rising { IsRising (numbers_of self.now) }
+    {
+        self.found(&Part::Inside, &Sought::Instances, term)
+    }
+
+    /// The clauses with a term below an atom that unifies with this one, variables apart; variables there don't count.
+    pub fn with_unifiable_inside(&self, term: &Term) -> Result<Vec<&Held>, AllocError>
+        ensures found { IfOk result (λ hs. lent hs.items
+            ≡ filter (has_inside_such (λ s. can_unify (tree_of term.now) s)) self.now) }
+        ensures rising { IsRising (numbers_of self.now) }
+    {
+        self.found(&Part::Inside, &Sought::Unifiable, term)
+    }
+
+    /// The clauses with a positive equation a side of which unifies with the term, variables apart.
+    pub fn with_unifiable_side(&self, term: &Term) -> Result<Vec<&Held>, AllocError>
+        ensures found { IfOk result (λ hs. lent hs.items
+            ≡ filter (has_equation_such (λ s. can_unify s (tree_of term.now))) self.now) }
+        ensures rising { IsRising (numbers_of self.now) }
+    {
+        self.found(&Part::Sides, &Sought::Unifiable, term)
     }
 
     /// Puts in a clause under a number that no other one has.
@@ -124,29 +162,21 @@ impl HeldSet {
         ensures ok { OnOk result (self.new ≡ put_in held self.old) }
         ensures err { OnErr result (self.new ≡ self.old) }
     {
-        let number = held.number();
-        enter(true, &held, &mut self.positives)?;
-        if let Err(error) = enter(false, &held, &mut self.negatives) {
-            self.positives.remove(number);
+        let alloc = self.listed.allocator();
+        if let Err(error) = self.finder.enter(alloc, &held) {
+            self.finder.leave(alloc, &held);
             return Err(error);
         }
-        match put_in(held, &mut self.clauses) {
-            Ok(()) => Ok(()),
-            Err(error) => {
-                self.positives.remove(number);
-                self.negatives.remove(number);
-                Err(error)
-            }
-        }
+        self.listed.put_in(held)
     }
 
     /// Takes out the clause with a number, if there is one.
     pub fn leave_out_one(&mut self, number: u64)
         ensures { self.new ≡ filter (λ h. not (h.number == number)) self.old }
     {
-        self.positives.remove(number);
-        self.negatives.remove(number);
-        leave_out_one(number, &mut self.clauses);
+        let alloc = self.listed.allocator();
+        leave(alloc, number, self.listed.as_slice(), &mut self.finder);
+        self.listed.leave_out_one(number);
     }
 
     /// Takes out clauses by their numbers.

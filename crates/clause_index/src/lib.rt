@@ -1,9 +1,14 @@
 // Clauses that are held, found through indexes of terms.
 #![tactic(auto)]
 
+mod finder;
 mod held_set;
+mod listed;
 mod lists;
+mod numbered;
+mod parts;
 mod rules;
 
 pub use held_set::{HeldSet, HeldSets};
+pub use numbered::{add_numbers, all_numbered};
 pub use rules::Rules;

@@ -4,6 +4,7 @@ pub mod Laws
 pub mod Nodes
 pub mod Paths
 pub mod Seeking
+pub mod Sieves
 pub mod Terms
 pub mod View
 pub mod Walks

@@ -8,8 +8,11 @@ mod index;
 mod laws;
 mod nodes;
 mod seeking;
+mod sieve;
 mod sought;
 mod walk;
 
 pub use index::Index;
 pub use laws::{tests_are_exact, worked};
+pub use sieve::Sieve;
+pub use sought::Sought;

@@ -1,6 +1,9 @@
-use Rattle.clause_index.proofs.Gathering.{set_out}
+use Rattle.std.proofs.Common.{sym, subst}
+use Rattle.clause_index.specs.Filing.{AreFiled}
+use Rattle.clause_index.proofs.Filed.{one_gone}
 use Rattle.clause_index.proofs.held_set.HeldSet.leave_out_one.Goals as goal
 
 pub invariant_of-self : goal.invariant_of-self
 invariant_of-self c =
-    set_out c.args.number c.self.inside.clauses.items c.leave_out_one.new.list.items c.self.inside.positives c.remove.new.self c.self.inside.negatives c.remove-2.new.self c.self.invariant c.remove.ensures c.remove-2.ensures c.leave_out_one.ensures
+    subst (AreFiled c.leave.new.finder) (sym c.leave_out_one.ensures)
+    (one_gone c.args.number c.self.inside.finder c.leave.new.finder c.self.inside.listed c.leave.ensures c.self.invariant)

@@ -1,0 +1,11 @@
+use Rattle.std.proofs.Common.{ap₂, ◌∙◌}
+use Rattle.std.specs.List.{filter_map}
+use Rattle.clause_index.specs.Places.{with_number}
+use Rattle.clause_index.proofs.Numbers.{all_found}
+use Rattle.clause_index.proofs.numbered.all_numbered.Goals as goal
+
+pub returns : goal.returns
+returns c =
+    c.in_ok-found.ensures
+    ∙ ap₂ (λ ns hs. filter_map (λ n. with_number n hs) ns) c.as_slice.ensures.value c.as_slice-2.ensures.clauses
+    ∙ all_found _ c.args.numbers.items c.args.set.now c.put_in_order.ensures.rise c.as_slice-2.ensures.rising c.put_in_order.ensures.same

@@ -1,0 +1,156 @@
+// Clauses by rising number, found by their first literals.
+ghost use Rattle.std.specs.Prelude.{◌≡◌, ◌==◌, false, not, [], IfOk, OnOk, OnErr, filter, length};
+ghost use Rattle.clause_index.specs.Entries.{may_begin, begins_generally, entered, first_literals};
+ghost use Rattle.discrim_tree.specs.Entries.{has_number};
+ghost use Rattle.fol_core.specs.TermView.{tree_of};
+ghost use Rattle.held_clauses.specs.Holding.{lent};
+ghost use Rattle.prover_steps.specs.HeldOrder.{numbers_of, IsNoneOf, IsRising};
+ghost use Rattle.prover_steps.specs.Searching.{put_in};
+
+use crate::lists::{all_with, leave_out_one, put_in};
+use discrim_tree::Index;
+use fol_core::Term;
+use held_clauses::{Held, first_atom};
+use std::alloc::{AllocError, Global};
+use std::marker::Model;
+
+/// Clauses by rising number, with an index of the atoms of their first literals for each sign; a clause without literals
+/// stands in both, under a variable. Contracts see the list of clauses.
+#[derive(Drop)]
+pub struct Listed {
+    clauses: Vec<Held>,
+    positives: Index,
+    negatives: Index,
+}
+
+impl Model for Listed {
+    ghost use Rattle.std.specs.Prelude.{List};
+    ghost use Rattle.std.specs.Coded.{coded_list};
+    ghost use Rattle.held_clauses.specs.Holding.{HeldClause, coded_held};
+
+    ghost Value = { List HeldClause };
+
+    ghost coded = { coded_list coded_held };
+
+    ghost use Rattle.clause_index.specs.Entries.{AreIndexedBySign};
+
+    ghost view = { λ a. a.clauses.items };
+
+    ghost invariant = { λ a. AreIndexedBySign a.clauses.items a.positives a.negatives };
+}
+
+// Whether the first literal of a clause has this sign, or it has none.
+fn may_begin(sign: bool, held: &Held) -> bool
+    ensures { result ≡ may_begin sign held.now }
+{
+    match held.clause.as_slice() {
+        [] => true,
+        [first, ..] => first.positive == sign,
+    }
+}
+
+// Puts the clause in the index of one sign, if it belongs there.
+fn enter(sign: bool, held: &Held, index: &mut Index) -> Result<(), AllocError>
+    requires { has_number held.now.number index.old ≡ false }
+    ensures ok { OnOk result (index.new ≡ entered sign held.now index.old) }
+    ensures err { OnErr result (index.new ≡ index.old) }
+{
+    if !may_begin(sign, held) {
+        return Ok(());
+    }
+    let nothing = Term::Var(0);
+    index.insert(held.number, first_atom(&held.clause, &nothing))
+}
+
+impl Listed {
+    /// No clauses.
+    pub fn new(alloc: Global) -> Listed
+        ensures { result ≡ [] }
+    {
+        Listed {
+            clauses: Vec::new(alloc),
+            positives: Index::new(alloc),
+            negatives: Index::new(alloc),
+        }
+    }
+
+    /// What allocates.
+    pub fn allocator(&self) -> Global {
+        *self.clauses.allocator()
+    }
+
+    /// How many clauses there are.
+    pub fn len(&self) -> usize
+        ensures { result ≡ length self.now }
+    {
+        self.clauses.len()
+    }
+
+    /// Whether there is none.
+    pub fn is_empty(&self) -> bool
+        ensures { result ≡ (length self.now == 0) }
+    {
+        self.clauses.is_empty()
+    }
+
+    /// The clauses; their numbers rise.
+    pub fn as_slice(&self) -> &[Held]
+        ensures clauses { result.now ≡ self.now }
+        ensures rising { IsRising (numbers_of self.now) }
+    {
+        self.clauses.as_slice()
+    }
+
+    // The index of a sign.
+    fn index(&self, sign: bool) -> &Index
+        ensures { result.now ≡ first_literals sign self.now }
+    {
+        if sign {
+            &self.positives
+        } else {
+            &self.negatives
+        }
+    }
+
+    /// The clauses whose first literal has this sign and the atom as an instance of its own, and those without literals.
+    pub fn generalizing(&self, sign: bool, atom: &Term) -> Result<Vec<&Held>, AllocError>
+        ensures found { IfOk result (λ hs. lent hs.items
+            ≡ filter (begins_generally sign (tree_of atom.now)) self.now) }
+        ensures rising { IsRising (numbers_of self.now) }
+    {
+        let alloc = *self.clauses.allocator();
+        let numbers = self.index(sign).generalizations(atom)?;
+        all_with(alloc, numbers.as_slice(), self.clauses.as_slice())
+    }
+
+    /// Puts in a clause under a number that no other one has.
+    pub fn put_in(&mut self, held: Held) -> Result<(), AllocError>
+        requires { IsNoneOf held.number (numbers_of self.old) }
+        ensures ok { OnOk result (self.new ≡ put_in held self.old) }
+        ensures err { OnErr result (self.new ≡ self.old) }
+    {
+        let number = held.number();
+        enter(true, &held, &mut self.positives)?;
+        if let Err(error) = enter(false, &held, &mut self.negatives) {
+            self.positives.remove(number);
+            return Err(error);
+        }
+        match put_in(held, &mut self.clauses) {
+            Ok(()) => Ok(()),
+            Err(error) => {
+                self.positives.remove(number);
+                self.negatives.remove(number);
+                Err(error)
+            }
+        }
+    }
+
+    /// Takes out the clause with a number, if there is one.
+    pub fn leave_out_one(&mut self, number: u64)
+        ensures { self.new ≡ filter (λ h. not (h.number == number)) self.old }
+    {
+        self.positives.remove(number);
+        self.negatives.remove(number);
+        leave_out_one(number, &mut self.clauses);
+    }
+}

@@ -1,8 +1,0 @@
--- Those among the clauses so far.
-use Rattle.std.proofs.Common.{◌≡◌, not, ◌&&◌, filter, take}
-use Rattle.given_clause.specs.Acting.{acts_on}
-use Rattle.prover_steps.specs.Clashing.{is_same_held}
-use Rattle.given_clause.proofs.acting.others_in.Given as goal
-
-abbrev pub invariant-loop-other : goal.invariant-loop-other
-invariant-loop-other l = l.others.items ≡ filter (λ d. not (is_same_held l.held d) && acts_on l.act l.held d.clause) (take l.other-index l.list)

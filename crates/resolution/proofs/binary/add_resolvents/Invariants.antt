@@ -1,8 +1,0 @@
--- What the clauses so far give is made.
-use Rattle.std.proofs.Common.{◌≡◌, ◌++◌, flat_map, take}
-use Rattle.prover_steps.specs.Clashing.{resolvents_with}
-use Rattle.resolution.specs.View.{all_conclusions}
-use Rattle.resolution.proofs.binary.add_resolvents.Given as goal
-
-abbrev pub invariant-loop-other : goal.invariant-loop-other
-invariant-loop-other l = all_conclusions l.made.items ≡ all_conclusions l.fn.made.items ++ flat_map (resolvents_with l.given) (take l.other-index l.held)

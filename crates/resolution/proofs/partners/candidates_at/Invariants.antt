@@ -1,8 +1,0 @@
--- What is found stands for the literals of the clauses so far.
-use Rattle.std.proofs.Common.{map, take}
-use Rattle.resolution.specs.Trying.{partner_of, partners_by}
-use Rattle.resolution.specs.Ways.{StandFor}
-use Rattle.resolution.proofs.partners.candidates_at.Given as goal
-
-abbrev pub invariant-loop-h : goal.invariant-loop-h
-invariant-loop-h l = StandFor l.nucleus l.place (map partner_of l.candidates.items) (partners_by l.kind (take l.h-index l.held))
