@@ -1,3 +1,5 @@
+pub mod Alike
 pub mod Marks
+pub mod Pairs
 pub mod Pretests
 pub mod Ways

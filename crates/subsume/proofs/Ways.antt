@@ -1,6 +1,6 @@
 -- The ways to match a literal to one of others, place by place.
-use Rattle.std.proofs.Common.{◌≡◌, ℕ, suc, ◌+◌, ◌<◌, ◌≤◌, Bool, true, false, not, ◌==◌, ◌&&◌, ◌||◌, if◌then◌else◌, length, List, [], ◌∷◌, ◌++◌, None, slice_get, get_or, set, take, drop, replicate, refl, sym, ap, ap₂, subst, ◌∙◌, append_assoc, append-nil, arith}
-use Rattle.std.proofs.lemmas.List.{length-append, length-map, get_or-map, drop_all}
+use Rattle.std.proofs.Common.{◌≡◌, ℕ, zero, suc, ◌+◌, ◌<◌, ◌≤◌, Bool, true, false, not, ◌==◌, ◌&&◌, ◌||◌, if◌then◌else◌, length, List, [], ◌∷◌, ◌++◌, Some, None, slice_get, get_or, set, take, drop, replicate, refl, sym, ap, ap₂, subst, ◌∙◌, append_assoc, append-nil, arith}
+use Rattle.std.proofs.lemmas.List.{length-append, length-map, length-replicate, get_or-replicate, drop_all}
 use Rattle.std.specs.List.{list_any}
 use Rattle.std.specs.Option.{option_map_or}
 use Rattle.fol_core.specs.Literals.{Lit, ClauseTree}
@@ -11,8 +11,12 @@ use Rattle.prover_steps.specs.Clashing.{places_from}
 use Rattle.prover_steps.specs.Subsuming.{matched_literal, subsumes_with, subsumes}
 use Rattle.fol_core.specs.ClauseView.{literal_of}
 use Rattle.fol_core.specs.declared.clause.Literal.{Literal}
-use Rattle.subsume.specs.Unused.{literals_of, serves, unused, way}
-use Rattle.subsume.proofs.Marks.{unused_here, unused_next, unused_marked, unused_all}
+use Rattle.subsume.specs.Places.{literals_of, paired_literal, paired_at, literal_fits, is_taken, marked, completes, goes_on, serves}
+use Rattle.subsume.specs.Unused.{unused, way}
+use Rattle.term_matches.specs.Sides.{paired}
+use Rattle.subsume.proofs.Alike.{way_fits}
+use Rattle.subsume.proofs.Marks.{unused_here, unused_next, unused_marked, unused_all, marked_at, marks_more, marks_length}
+use Rattle.subsume.proofs.Pairs.{get_none}
 
 module _ (bs : List Binding) (l : Lit) (c : ClauseTree) where
   -- the ways by the literals from one on
@@ -55,7 +59,7 @@ module _ (bs : List Binding) (l : Lit) (c : ClauseTree) where
   pub ways_end : (us : List Bool) (d : ClauseTree) (i : ℕ) → length us ≡ length d → length d ≤ i → ways_from us d i ≡ false
   ways_end us d i e h = ap (ways (unused (take i us) (take i d))) (ap₂ unused (drop_all i us (omega (arith, e, h))) (drop_all i d h))
 
-  used_step : (us : List Bool) (d : ClauseTree) (i : ℕ) (k : Lit) → i < length d → length us ≡ length d → (b : Bool) → get_or us i false ≡ b
+  pub used_step : (us : List Bool) (d : ClauseTree) (i : ℕ) (k : Lit) → i < length d → length us ≡ length d → (b : Bool) → get_or us i false ≡ b
       → ways_from us d i ≡ (if b then ways_from us d (suc i) else (way bs l c (get_or d i k) (unused (set us i true) d) || ways_from us d (suc i)))
   used_step us d i k h e true is =
       ap (ways (unused (take i us) (take i d))) (unused_here us d i k h e ∙ ap (λ b. if b then unused (drop (suc i) us) (drop (suc i) d) else get_or d i k ∷ unused (drop (suc i) us) (drop (suc i) d)) is)
@@ -66,67 +70,109 @@ module _ (bs : List Binding) (l : Lit) (c : ClauseTree) where
       ∙ ap₂ (λ a b. a || b) (ap (way bs l c (get_or d i k)) (sym (unused_marked us d i h e)))
       (ap (λ f. ways f (unused (drop (suc i) us) (drop (suc i) d))) (sym (unused_next us d i k h e ∙ ap (λ b. unused (take i us) (take i d) ++ (if b then [] else get_or d i k ∷ [])) is)))
 
--- by the literals of the code
-module _ (bs : List Binding) (l : Literal) (c : ClauseTree) where
-  serves_step : (us : List Bool) (ks : List Literal) (i : ℕ) → i < length ks → length us ≡ length ks
-      → ways_from bs (literal_of l) c us (literals_of ks) i ≡ (serves bs l c us ks i || ways_from bs (literal_of l) c us (literals_of ks) (suc i))
-  serves_step us ks i h e = by (get_or us i false) refl
+-- one place more
+paired_more : (c d : ClauseTree) (ps : List ℕ) (a : ℕ) (l : Lit) → slice_get c (length ps) ≡ Some l → paired_at c d (ps ++ a ∷ []) ≡ paired_at c d ps ++ paired_literal l (slice_get d a)
+paired_more [] d ps a l h = cc
+paired_more (k ∷ c) d [] a l h = let same : k ≡ l = cc in append-nil (paired_literal k (slice_get d a)) ∙ ap (λ j. paired_literal j (slice_get d a)) same
+paired_more (k ∷ c) d (p ∷ ps) a l h =
+    ap (λ bs. paired_literal k (slice_get d p) ++ bs) (paired_more c d ps a l h) ∙ sym (append_assoc (paired_literal k (slice_get d p)) (paired_at c d ps) (paired_literal l (slice_get d a)))
+
+first_left : (c : ClauseTree) (n : ℕ) (l : Lit) → slice_get c n ≡ Some l → drop n c ≡ l ∷ drop (suc n) c
+first_left [] n l h = cc
+first_left (k ∷ c) zero l h = cc
+first_left (k ∷ c) (suc n) l h = first_left c n l h
+
+get_there : (d : ClauseTree) (a : ℕ) → a < length d → (k : Lit) × (slice_get d a ≡ Some k) × (get_or d a k ≡ k)
+get_there [] a h = absurd (omega (arith, h))
+get_there (k ∷ d) zero h = (k, refl, refl)
+get_there (k ∷ d) (suc a) h = get_there d a (omega (arith, h))
+
+-- the ways by places, from one on
+abbrev pub serves_from : ClauseTree → ClauseTree → List ℕ → ℕ → Bool
+serves_from c d ps i = list_any (serves c d ps) (places_from i (drop i d))
+
+serves_step : (c d : ClauseTree) (ps : List ℕ) (i : ℕ) → i < length d → serves_from c d ps i ≡ (serves c d ps i || serves_from c d ps (suc i))
+serves_step c d ps i h = let (k, there, is) = get_there d i h in ap (λ e. list_any (serves c d ps) (places_from i e)) (first_left d i k there)
+
+serves_end : (c d : ClauseTree) (ps : List ℕ) (i : ℕ) → length d ≤ i → serves_from c d ps i ≡ false
+serves_end c d ps i h = ap (λ e. list_any (serves c d ps) (places_from i e)) (drop_all i d h)
+
+module _ (c d : ClauseTree) (ps : List ℕ) (l : Lit) (next : slice_get c (length ps) ≡ Some l) where
+  even : length (marked d ps) ≡ length d
+  even = marks_length (replicate (length d) false) ps ∙ length-replicate (length d) false
+
+  -- a way by a place is one where the literal fits, and the others follow
+  way_goes_on : (a : ℕ) (k : Lit) → slice_get d a ≡ Some k → way (paired_at c d ps) l (drop (suc (length ps)) c) k (unused (set (marked d ps) a true) d) ≡ goes_on c d ps a
+  way_goes_on a k there =
+      way_fits (paired_at c d ps) l (drop (suc (length ps)) c) k (unused (set (marked d ps) a true) d)
+      ∙ ap₂ (λ b e. b && e)
+      (ap₂ (λ o p. literal_fits (paired_at c d ps ++ paired l.atom k.atom) o p) (sym next) (sym there) ∙ ap (λ bs. literal_fits bs (slice_get c (length ps)) (slice_get d a)) given)
+      (ap₂ (λ bs us. subsumes_with bs (drop (suc (length ps)) c) (unused us d)) given (sym (marks_more (replicate (length d) false) ps a))
+      ∙ ap (λ n. subsumes_with (paired_at c d (ps ++ a ∷ [])) (drop n c) (unused (marked d (ps ++ a ∷ [])) d)) (sym longer))
     where
-      same : length (literals_of ks) ≡ length ks
-      same = length-map ks literal_of
+      given : paired_at c d ps ++ paired l.atom k.atom ≡ paired_at c d (ps ++ a ∷ [])
+      given = sym (paired_more c d ps a l next ∙ ap (λ o. paired_at c d ps ++ paired_literal l o) there)
 
-      within : i < length (literals_of ks)
-      within = omega (arith, h, same)
+      longer : length (ps ++ a ∷ []) ≡ suc (length ps)
+      longer = length-append ps (a ∷ []) ∙ omega arith
 
-      even : length us ≡ length (literals_of ks)
-      even = omega (arith, e, same)
+  one_more : (i : ℕ) → i < length d → ways_from (paired_at c d ps) l (drop (suc (length ps)) c) (marked d ps) d i
+      ≡ (serves c d ps i || ways_from (paired_at c d ps) l (drop (suc (length ps)) c) (marked d ps) d (suc i))
+  one_more i h = let (k, there, is) = get_there d i h in by k there is (is_taken ps i) refl
+    where
+      taken : get_or (marked d ps) i false ≡ is_taken ps i
+      taken =
+          let long : length (replicate (length d) false) ≡ length d = length-replicate (length d) false in
+          marked_at (replicate (length d) false) ps i (omega (arith, long, h)) ∙ ap (λ b. b || is_taken ps i) (get_or-replicate (length d) i false false h)
 
-      at : get_or (literals_of ks) i (literal_of l) ≡ literal_of (get_or ks i l)
-      at = get_or-map literal_of ks i l (literal_of l) h
+      by : (k : Lit) → slice_get d i ≡ Some k → get_or d i k ≡ k → (b : Bool) → is_taken ps i ≡ b → ways_from (paired_at c d ps) l (drop (suc (length ps)) c) (marked d ps) d i
+          ≡ ((not b && goes_on c d ps i) || ways_from (paired_at c d ps) l (drop (suc (length ps)) c) (marked d ps) d (suc i))
+      by k there is true e = used_step (paired_at c d ps) l (drop (suc (length ps)) c) (marked d ps) d i k h even true (taken ∙ e)
+      by k there is false e =
+          used_step (paired_at c d ps) l (drop (suc (length ps)) c) (marked d ps) d i k h even false (taken ∙ e)
+          ∙ ap (λ b. b || ways_from (paired_at c d ps) l (drop (suc (length ps)) c) (marked d ps) d (suc i))
+          (ap (λ j. way (paired_at c d ps) l (drop (suc (length ps)) c) j (unused (set (marked d ps) i true) d)) is ∙ way_goes_on i k there)
 
-      by : (b : Bool) → get_or us i false ≡ b → ways_from bs (literal_of l) c us (literals_of ks) i
-          ≡ ((not (get_or us i false) && way bs (literal_of l) c (literal_of (get_or ks i l)) (unused (set us i true) (literals_of ks))) || ways_from bs (literal_of l) c us (literals_of ks) (suc i))
-      by true is =
-          used_step bs (literal_of l) c us (literals_of ks) i (literal_of l) within even true is
-          ∙ sym (ap (λ b. (not b && way bs (literal_of l) c (literal_of (get_or ks i l)) (unused (set us i true) (literals_of ks))) || ways_from bs (literal_of l) c us (literals_of ks) (suc i)) is)
-      by false is =
-          used_step bs (literal_of l) c us (literals_of ks) i (literal_of l) within even false is
-          ∙ ap (λ k. way bs (literal_of l) c k (unused (set us i true) (literals_of ks)) || ways_from bs (literal_of l) c us (literals_of ks) (suc i)) at
-          ∙ sym (ap (λ b. (not b && way bs (literal_of l) c (literal_of (get_or ks i l)) (unused (set us i true) (literals_of ks))) || ways_from bs (literal_of l) c us (literals_of ks) (suc i)) is)
+  ways_serve : (m i : ℕ) → i + m ≡ length d → ways_from (paired_at c d ps) l (drop (suc (length ps)) c) (marked d ps) d i ≡ serves_from c d ps i
+  ways_serve zero i e = ways_end (paired_at c d ps) l (drop (suc (length ps)) c) (marked d ps) d i even (omega (arith, e)) ∙ sym (serves_end c d ps i (omega (arith, e)))
+  ways_serve (suc m) i e =
+      one_more i (omega (arith, e)) ∙ ap (λ b. serves c d ps i || b) (ways_serve m (suc i) (omega (arith, e))) ∙ sym (serves_step c d ps i (omega (arith, e)))
 
-  pub ways_found : (us : List Bool) (ks : List Literal) (i : ℕ) → i < length ks → length us ≡ length ks → serves bs l c us ks i ≡ true → ways_from bs (literal_of l) c us (literals_of ks) i ≡ true
-  ways_found us ks i h e found = serves_step us ks i h e ∙ ap (λ b. b || ways_from bs (literal_of l) c us (literals_of ks) (suc i)) found
+  pub completes_serves : completes c d ps ≡ serves_from c d ps 0
+  completes_serves =
+      ap (λ e. subsumes_with (paired_at c d ps) e (unused (marked d ps) d)) (first_left c (length ps) l next)
+      ∙ ways_begin (paired_at c d ps) l (drop (suc (length ps)) c) (marked d ps) d ∙ ways_serve (length d) 0 (omega arith)
 
-  pub ways_behind : (us : List Bool) (ks : List Literal) (i : ℕ) → i < length ks → length us ≡ length ks → serves bs l c us ks i ≡ false
-      → ways_from bs (literal_of l) c us (literals_of ks) i ≡ ways_from bs (literal_of l) c us (literals_of ks) (i + 1)
-  ways_behind us ks i h e missed =
-      let next : suc i ≡ i + 1 = omega arith in
-      serves_step us ks i h e ∙ ap (λ b. b || ways_from bs (literal_of l) c us (literals_of ks) (suc i)) missed ∙ ap (ways_from bs (literal_of l) c us (literals_of ks)) next
+-- by the literals of the code
+pub all_placed : (ls ks : List Literal) (ps : List ℕ) → length ls ≤ length ps → completes (literals_of ls) (literals_of ks) ps ≡ true
+all_placed ls ks ps h =
+    let same : length (literals_of ls) ≡ length ls = length-map ls literal_of in
+    ap (λ e. subsumes_with (paired_at (literals_of ls) (literals_of ks) ps) e (unused (marked (literals_of ks) ps) (literals_of ks))) (drop_all (length ps) (literals_of ls) (omega (arith, same, h)))
 
-  pub ways_over : (us : List Bool) (ks : List Literal) (i : ℕ) → length us ≡ length ks → length ks ≤ i → ways_from bs (literal_of l) c us (literals_of ks) i ≡ false
-  ways_over us ks i e h =
-      let same : length (literals_of ks) ≡ length ks = length-map ks literal_of in ways_end bs (literal_of l) c us (literals_of ks) i (omega (arith, e, same)) (omega (arith, h, same))
+pub ways_begin_at : (ls ks : List Literal) (ps : List ℕ) → length ps < length ls → completes (literals_of ls) (literals_of ks) ps ≡ serves_from (literals_of ls) (literals_of ks) ps 0
+ways_begin_at ls ks ps h =
+    let same : length (literals_of ls) ≡ length ls = length-map ls literal_of in
+    let (l, there, is) = get_there (literals_of ls) (length ps) (omega (arith, same, h)) in completes_serves (literals_of ls) (literals_of ks) ps l there
 
-  -- where a place serves, and where none does
-  pub found_at : (ls rest : List Literal) (us vs : List Bool) (cs : List Binding) (ks : List Literal) (i : ℕ) → ls ≡ l ∷ rest → c ≡ literals_of rest → i < length ks → length us ≡ length ks → cs ≡ bs → vs ≡ us
-      → ways_from bs (literal_of l) c us (literals_of ks) 0 ≡ ways_from bs (literal_of l) c us (literals_of ks) i → (b : Bool) → b ≡ serves cs l c vs ks i → b ≡ true
-      → true ≡ subsumes_with bs (literals_of ls) (unused us (literals_of ks))
-  found_at ls rest us vs cs ks i split same h e binds marks decides b is served =
-      sym (ap (λ fs. subsumes_with bs (literals_of fs) (unused us (literals_of ks))) split
-      ∙ ap (λ d. subsumes_with bs (literal_of l ∷ d) (unused us (literals_of ks))) (sym same) ∙ ways_begin bs (literal_of l) c us (literals_of ks) ∙ decides
-      ∙ ways_found us ks i h e (ap₂ (λ ds ws. serves ds l c ws ks i) (sym binds) (sym marks) ∙ sym is ∙ served))
+serves_next : (ls ks : List Literal) (ps : List ℕ) (i : ℕ) → i < length ks
+    → serves_from (literals_of ls) (literals_of ks) ps i ≡ (serves (literals_of ls) (literals_of ks) ps i || serves_from (literals_of ls) (literals_of ks) ps (i + 1))
+serves_next ls ks ps i h =
+    let same : length (literals_of ks) ≡ length ks = length-map ks literal_of in
+    let next : suc i ≡ i + 1 = omega arith in
+    serves_step (literals_of ls) (literals_of ks) ps i (omega (arith, same, h)) ∙ ap (λ n. serves (literals_of ls) (literals_of ks) ps i || serves_from (literals_of ls) (literals_of ks) ps n) next
 
-  pub found_nowhere : (ls rest : List Literal) (us : List Bool) (ks : List Literal) (i : ℕ) → ls ≡ l ∷ rest → c ≡ literals_of rest → length ks ≤ i → length us ≡ length ks
-      → ways_from bs (literal_of l) c us (literals_of ks) 0 ≡ ways_from bs (literal_of l) c us (literals_of ks) i
-      → false ≡ subsumes_with bs (literals_of ls) (unused us (literals_of ks))
-  found_nowhere ls rest us ks i split same h e decides =
-      sym (ap (λ fs. subsumes_with bs (literals_of fs) (unused us (literals_of ks))) split
-      ∙ ap (λ d. subsumes_with bs (literal_of l ∷ d) (unused us (literals_of ks))) (sym same) ∙ ways_begin bs (literal_of l) c us (literals_of ks) ∙ decides
-      ∙ ways_over us ks i e h)
+pub ways_found : (ls ks : List Literal) (ps : List ℕ) (i : ℕ) → i < length ks → serves (literals_of ls) (literals_of ks) ps i ≡ true → serves_from (literals_of ls) (literals_of ks) ps i ≡ true
+ways_found ls ks ps i h e = serves_next ls ks ps i h ∙ ap (λ b. b || serves_from (literals_of ls) (literals_of ks) ps (i + 1)) e
 
--- with no bindings and no marks
-pub from_nothing : (bs : List Binding) (ks ls : List Literal) (us : List Bool) (n : ℕ) (c d : ClauseTree) → bs ≡ [] → literals_of ks ≡ c → literals_of ls ≡ d → us ≡ replicate n false → n ≡ length d
-    → subsumes_with bs (literals_of ks) (unused us (literals_of ls)) ≡ subsumes c d
-from_nothing bs ks ls us n c d none_bound first second none_used same =
-    ap (λ cs. subsumes_with cs (literals_of ks) (unused us (literals_of ls))) none_bound ∙ ap₂ (λ e f. subsumes_with [] e (unused us f)) first second
-    ∙ ap (λ vs. subsumes_with [] c (unused vs d)) none_used ∙ ap (subsumes_with [] c) (unused_all d n same)
+pub ways_behind : (ls ks : List Literal) (ps : List ℕ) (i : ℕ) → i < length ks → serves (literals_of ls) (literals_of ks) ps i ≡ false
+    → serves_from (literals_of ls) (literals_of ks) ps i ≡ serves_from (literals_of ls) (literals_of ks) ps (i + 1)
+ways_behind ls ks ps i h e = serves_next ls ks ps i h ∙ ap (λ b. b || serves_from (literals_of ls) (literals_of ks) ps (i + 1)) e
+
+pub ways_over : (ls ks : List Literal) (ps : List ℕ) (i : ℕ) → length ks ≤ i → serves_from (literals_of ls) (literals_of ks) ps i ≡ false
+ways_over ls ks ps i h =
+    let same : length (literals_of ks) ≡ length ks = length-map ks literal_of in serves_end (literals_of ls) (literals_of ks) ps i (omega (arith, same, h))
+
+-- where no literal has a place yet
+pub from_nothing : (ls ks : List Literal) (ps : List ℕ) (c d : ClauseTree) → literals_of ls ≡ c → literals_of ks ≡ d → ps ≡ [] → completes (literals_of ls) (literals_of ks) ps ≡ subsumes c d
+from_nothing ls ks ps c d first second none =
+    ap (completes (literals_of ls) (literals_of ks)) none ∙ ap₂ (λ e f. subsumes_with [] e (unused (replicate (length f) false) f)) first second ∙ ap (subsumes_with [] c) (unused_all d (length d) refl)

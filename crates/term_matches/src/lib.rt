@@ -2,5 +2,7 @@
 #![tactic(auto)]
 
 mod matches;
+mod sides;
 
 pub use matches::{Matches, is_instance};
+pub use sides::{are_instances, has_instance, standing_among, standing_for};

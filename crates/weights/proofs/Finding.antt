@@ -1,49 +1,73 @@
--- The first that fits, among what is left.
-use Rattle.std.proofs.Common.{◌≡◌, ℕ, ◌+◌, ◌<◌, ◌≤◌, ◌↔◌, Bool, true, false, if◌then◌else◌, IsTrue, List, [], ◌∷◌, map, drop, get_or, length, Option, Some, None, refl, sym, ap, ◌∙◌, subst}
-use Rattle.std.specs.Borrow.{Bor}
+-- The first rule that fits, among what is left.
+use Rattle.std.proofs.Common.{◌≡◌, ℕ, ◌+◌, ◌*◌, ◌<◌, ◌≤◌, ◌==◌, Bool, true, false, if◌then◌else◌, List, [], ◌∷◌, map, drop, get_or, length, Option, Some, None, is_some, refl, sym, ap, ap₂, ◌∙◌}
 use Rattle.std.specs.Option.{option_map_or}
-use Rattle.std.proofs.lemmas.Bool.{false_from_ne_true}
+use Rattle.std.proofs.lemmas.Bool.{false≢true}
 use Rattle.std.proofs.lemmas.List.{drop_more, drop_all}
-use Rattle.fol_core.specs.TermView.{tree_of}
-use Rattle.fol_core.specs.Tree.{Tree}
+use Rattle.std.proofs.lemmas.Option.{none-some}
+use Rattle.fol_core.specs.Tree.{Tree, app, Trees, trees_of}
+use Rattle.fol_core.specs.Weights.{WeightTree, number, of_variable, plus, times}
 use Rattle.fol_core.specs.WeightView.{weight_of}
-use Rattle.fol_core.specs.declared.term.Term.{Term}
 use Rattle.substitutions.specs.Bindings.{Binding}
-use Rattle.unifiers.specs.Matching.{matched, same_tree}
-use Rattle.unifiers.proofs.Matches.{tree_same, same_itself}
-use Rattle.weights.specs.Rows.{weight_row, lent_weights}
-use Rattle.weights.specs.Weighing.{Weighed, pattern_of, weight_among, pattern_weight, weight_by_rule}
+use Rattle.unifiers.specs.Matching.{bound_term, matched, matched_all}
+use Rattle.term_matches.specs.Sides.{paired_all, GivesAlike}
+use Rattle.term_matches.proofs.Fitting.{all_give}
+use Rattle.weights.specs.Parts.{parts_of, parts_weights, listed_weight, standing_weight}
+use Rattle.weights.specs.Rows.{weight_row}
+use Rattle.weights.specs.Weighing.{WeightRow, pattern_of, weight_within, term_weight}
+use Rattle.weights.specs.WeighingLaws.{weight_under, variable_weight, first_weight}
 use Rattle.weights.specs.declared.patterns.PatternWeight.{PatternWeight}
+use Rattle.weights.proofs.Items.{next}
+use Rattle.weights.proofs.Listed.{listed, bound_among}
 
-pub same_is : (b : Bool) (t u : Tree) → IsTrue b ↔ (t ≡ u) → same_tree t u ≡ b
-same_is true t u h = subst (λ v. IsTrue (same_tree t v)) (h.0 refl) (same_itself t)
-same_is false t u h = false_from_ne_true (same_tree t u) (λ e. let is = h.1 (tree_same t u e) in cc)
+-- a pattern weighs as much where its variables do
+under_same : (f g : ℕ → ℕ) → ((x : ℕ) → f x ≡ g x) → (w : WeightTree) → weight_under f w ≡ weight_under g w
+under_same f g h (number n) = refl
+under_same f g h (of_variable x) = h x
+under_same f g h (plus v w) = ap₂ (λ a b. weight_within (a + b)) (under_same f g h v) (under_same f g h w)
+under_same f g h (times v w) = ap₂ (λ a b. weight_within (a * b)) (under_same f g h v) (under_same f g h w)
 
-pub next : {X : Type 0} (xs : List X) (i : ℕ) (x : X) → i < length xs → x ≡ get_or xs i x → drop i xs ≡ x ∷ drop (i + 1) xs
-next xs i x h is = drop_more xs i x h ∙ ap (λ y. y ∷ drop (i + 1) xs) (sym is)
+-- where a pattern fits, what stands for a variable weighs what its term does
+variable_is : (rs : List WeightRow) (ss ts : Trees) (bs : List Binding) → GivesAlike bs (paired_all ss ts) → (x : ℕ) → variable_weight rs bs x ≡ standing_weight (parts_weights rs ts) ss ts x
+variable_is rs ss ts bs alike x = ap (λ o. option_map_or (term_weight rs) o 1) (alike x) ∙ by (bound_term (paired_all ss ts) x) refl
+  where
+    by : (o : Option Tree) → bound_term (paired_all ss ts) x ≡ o → option_map_or (term_weight rs) o 1 ≡ option_map_or (listed_weight (parts_weights rs ts) ts) o 1
+    by None e = refl
+    by (Some u) e = sym (listed (term_weight rs) (parts_of ts) u (bound_among ss ts u x e))
 
-pub known_here : (ks : List (Bor Term × ℕ)) (i : ℕ) (k : Bor Term × ℕ) (t : Tree) → i < length ks → k ≡ get_or ks i k → same_tree (tree_of k.0.now) t ≡ true → weight_among (lent_weights (drop i ks)) t ≡ k.1
-known_here ks i k t h is e =
-    ap (λ ls. weight_among (lent_weights ls) t) (next ks i k h is) ∙ ap (λ b. if b then k.1 else weight_among (lent_weights (drop (i + 1) ks)) t) e
+gives_alike : (p : WeightRow) (f : ℕ) (ts : Trees) (bs : List Binding) → matched (pattern_of p) (app f ts) [] ≡ Some bs → GivesAlike bs (paired_all p.arguments ts)
+gives_alike p f ts bs e = by (p.head == f) e
+  where
+    by : (b : Bool) → (if b then matched_all p.arguments ts [] else None) ≡ Some bs → GivesAlike bs (paired_all p.arguments ts)
+    by true e = all_give p.arguments ts bs e
+    by false e = absurd (none-some bs e)
 
-pub known_behind : (ks : List (Bor Term × ℕ)) (i : ℕ) (k : Bor Term × ℕ) (t : Tree) → i < length ks → k ≡ get_or ks i k → same_tree (tree_of k.0.now) t ≡ false
-    → weight_among (lent_weights (drop i ks)) t ≡ weight_among (lent_weights (drop (i + 1) ks)) t
-known_behind ks i k t h is e =
-    ap (λ ls. weight_among (lent_weights ls) t) (next ks i k h is) ∙ ap (λ b. if b then k.1 else weight_among (lent_weights (drop (i + 1) ks)) t) e
+module _ (rs : List WeightRow) (ps : List PatternWeight) (i : ℕ) (p : PatternWeight) (f : ℕ) (ts : Trees) (h : i < length ps) (is : p ≡ get_or ps i p) where
+  step : (o : Option (List Binding)) → matched (pattern_of (weight_row p)) (app f ts) [] ≡ o
+      → first_weight rs (map weight_row (drop i ps)) (app f ts)
+      ≡ option_map_or (λ bs. Some (weight_under (variable_weight rs bs) (weight_of p.weight.now))) o (first_weight rs (map weight_row (drop (i + 1) ps)) (app f ts))
+  step o e =
+      ap (λ qs. first_weight rs (map weight_row qs) (app f ts)) (next ps i p h is)
+      ∙ ap (λ m. option_map_or (λ bs. Some (weight_under (variable_weight rs bs) (weight_of p.weight.now))) m (first_weight rs (map weight_row (drop (i + 1) ps)) (app f ts))) e
 
-step : (ps : List PatternWeight) (i : ℕ) (p : PatternWeight) (ks : Weighed) (t : Tree) (o : Option (List Binding)) → i < length ps → p ≡ get_or ps i p → matched (pattern_of (weight_row p)) t [] ≡ o
-    → weight_by_rule (map weight_row (drop i ps)) ks t ≡ option_map_or (λ bs. Some (pattern_weight ks bs (weight_of p.weight.now))) o (weight_by_rule (map weight_row (drop (i + 1) ps)) ks t)
-step ps i p ks t o h is e =
-    ap (λ qs. weight_by_rule (map weight_row qs) ks t) (next ps i p h is)
-    ∙ ap (λ m. option_map_or (λ bs. Some (pattern_weight ks bs (weight_of p.weight.now))) m (weight_by_rule (map weight_row (drop (i + 1) ps)) ks t)) e
+  pub rule_fits : (ks : List ℕ) (n : ℕ) → ks ≡ parts_weights rs ts → is_some (matched (pattern_of (weight_row p)) (app f ts) []) ≡ true
+      → n ≡ weight_under (standing_weight ks (trees_of p.arguments.now) ts) (weight_of p.weight.now)
+      → first_weight rs (map weight_row (drop i ps)) (app f ts) ≡ Some n
+  rule_fits ks n known fits weighs = by (matched (pattern_of (weight_row p)) (app f ts) []) refl fits
+    where
+      by : (o : Option (List Binding)) → matched (pattern_of (weight_row p)) (app f ts) [] ≡ o → is_some o ≡ true → first_weight rs (map weight_row (drop i ps)) (app f ts) ≡ Some n
+      by None e s = absurd (false≢true s)
+      by (Some bs) e s =
+          step (Some bs) e
+          ∙ ap (λ m. Some m) (under_same (variable_weight rs bs) (standing_weight (parts_weights rs ts) (trees_of p.arguments.now) ts) (variable_is rs (trees_of p.arguments.now) ts bs (gives_alike (weight_row p) f ts bs e)) (weight_of p.weight.now)
+          ∙ ap (λ ls. weight_under (standing_weight ls (trees_of p.arguments.now) ts) (weight_of p.weight.now)) (sym known) ∙ sym weighs)
 
-pub rule_fits : (ps : List PatternWeight) (i : ℕ) (p : PatternWeight) (ks : Weighed) (t : Tree) (bs : List Binding) → i < length ps → p ≡ get_or ps i p → matched (pattern_of (weight_row p)) t [] ≡ Some bs
-    → weight_by_rule (map weight_row (drop i ps)) ks t ≡ Some (pattern_weight ks bs (weight_of p.weight.now))
-rule_fits ps i p ks t bs h is e = step ps i p ks t (Some bs) h is e
+  pub rule_fails : is_some (matched (pattern_of (weight_row p)) (app f ts) []) ≡ false
+      → first_weight rs (map weight_row (drop i ps)) (app f ts) ≡ first_weight rs (map weight_row (drop (i + 1) ps)) (app f ts)
+  rule_fails fits = by (matched (pattern_of (weight_row p)) (app f ts) []) refl fits
+    where
+      by : (o : Option (List Binding)) → matched (pattern_of (weight_row p)) (app f ts) [] ≡ o → is_some o ≡ false → first_weight rs (map weight_row (drop i ps)) (app f ts) ≡ first_weight rs (map weight_row (drop (i + 1) ps)) (app f ts)
+      by None e s = step None e
+      by (Some bs) e s = absurd (false≢true (sym s))
 
-pub rule_fails : (ps : List PatternWeight) (i : ℕ) (p : PatternWeight) (ks : Weighed) (t : Tree) → i < length ps → p ≡ get_or ps i p → matched (pattern_of (weight_row p)) t [] ≡ None
-    → weight_by_rule (map weight_row (drop i ps)) ks t ≡ weight_by_rule (map weight_row (drop (i + 1) ps)) ks t
-rule_fails ps i p ks t h is e = step ps i p ks t None h is e
-
-pub no_rule : (ps : List PatternWeight) (i : ℕ) (ks : Weighed) (t : Tree) → length ps ≤ i → weight_by_rule (map weight_row (drop i ps)) ks t ≡ None
-no_rule ps i ks t h = ap (λ qs. weight_by_rule (map weight_row qs) ks t) (drop_all i ps h)
+pub no_rule : (rs : List WeightRow) (ps : List PatternWeight) (i : ℕ) (t : Tree) → length ps ≤ i → first_weight rs (map weight_row (drop i ps)) t ≡ None
+no_rule rs ps i t h = ap (λ qs. first_weight rs (map weight_row qs) t) (drop_all i ps h)

@@ -1,5 +1,8 @@
 pub mod Counted
 pub mod Finding
+pub mod Hinted
+pub mod Items
+pub mod Listed
 pub mod Stated
 pub mod Symbols
 pub mod Weighed

@@ -5,20 +5,16 @@ use Rattle.std.specs.Str.{bytes_eq}
 use Rattle.std.proofs.lemmas.Bool.{eq-eqb, eqb-true, false_from_ne_true}
 use Rattle.std.specs.Option.{option_map_or}
 use Rattle.std.proofs.lemmas.List.{drop_all}
-use Rattle.fol_core.specs.Literals.{ClauseTree, equality}
+use Rattle.fol_core.specs.Literals.{equality}
 use Rattle.fol_core.specs.RuleView.{rule_of}
 use Rattle.fol_core.specs.SymbolTable.{Symbol, number_of}
 use Rattle.fol_core.specs.Tree.{trees_of}
 use Rattle.fol_core.specs.WeightView.{weight_of}
 use Rattle.fol_core.specs.declared.weights.WeightRule.{WeightRule}
 use Rattle.substitutions.proofs.Elements.{list_back}
-use Rattle.prover_steps.specs.Subsuming.{subsumes}
 use Rattle.weights.specs.Heads.{pattern_arity, head_of, rows_for}
-use Rattle.weights.specs.Hints.{first_hint}
-use Rattle.weights.specs.Rows.{hint_row}
 use Rattle.weights.specs.Weighing.{WeightRow}
-use Rattle.weights.specs.declared.rules.HintWeight.{HintWeight}
-use Rattle.weights.proofs.Finding.{next}
+use Rattle.weights.proofs.Items.{next}
 
 abbrev row_with : ℕ → WeightRule → WeightRow
 row_with f r = record { head = f; arguments = trees_of r.arguments; weight = weight_of r.weight }
@@ -39,23 +35,6 @@ rule_without table rs i r h is e = rule_step table rs i r None h is e
 
 pub no_rules : (table : List Symbol) (rs : List WeightRule) (i : ℕ) → length rs ≤ i → rows_for table (map rule_of (drop i rs)) ≡ []
 no_rules table rs i h = ap (λ qs. rows_for table (map rule_of qs)) (drop_all i rs h)
-
-hint_step : (hs : List HintWeight) (i : ℕ) (h : HintWeight) (c : ClauseTree) (b : Bool) → i < length hs → h ≡ get_or hs i h → subsumes c h.clause ≡ b
-    → first_hint (map hint_row (drop i hs)) c ≡ (if b then Some (hint_row h) else first_hint (map hint_row (drop (i + 1) hs)) c)
-hint_step hs i h c b lt is e =
-    ap (λ ks. first_hint (map hint_row ks) c) (next hs i h lt is)
-    ∙ ap (λ d. if d then Some (hint_row h) else first_hint (map hint_row (drop (i + 1) hs)) c) e
-
-pub hint_here : (hs : List HintWeight) (i : ℕ) (h : HintWeight) (c : ClauseTree) → i < length hs → h ≡ get_or hs i h → subsumes c h.clause ≡ true
-    → first_hint (map hint_row (drop i hs)) c ≡ Some (hint_row h)
-hint_here hs i h c lt is e = hint_step hs i h c true lt is e
-
-pub hint_behind : (hs : List HintWeight) (i : ℕ) (h : HintWeight) (c : ClauseTree) → i < length hs → h ≡ get_or hs i h → subsumes c h.clause ≡ false
-    → first_hint (map hint_row (drop i hs)) c ≡ first_hint (map hint_row (drop (i + 1) hs)) c
-hint_behind hs i h c lt is e = hint_step hs i h c false lt is e
-
-pub no_hint : (hs : List HintWeight) (i : ℕ) (c : ClauseTree) → length hs ≤ i → first_hint (map hint_row (drop i hs)) c ≡ None
-no_hint hs i c h = ap (λ ks. first_hint (map hint_row ks) c) (drop_all i hs h)
 
 arity_is : (r : WeightRule) → pattern_arity (rule_of r) ≡ length r.arguments
 arity_is r = ap length (list_back r.arguments)

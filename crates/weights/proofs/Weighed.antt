@@ -1,96 +1,99 @@
--- Terms are weighed one after the other.
-use Rattle.std.proofs.Common.{◌≡◌, ℕ, zero, suc, ◌+◌, ◌<◌, ◌≤◌, List, [], ◌∷◌, ◌++◌, map, take, get_or, length, min, unwrap_or, refl, sym, ap, ap₂, ◌∙◌, subst, arith}
-use Rattle.std.specs.Borrow.{Bor}
-use Rattle.std.proofs.lemmas.List.{take_more}
+-- Terms are weighed one after the other, and their weights listed.
+use Rattle.std.proofs.Common.{◌≡◌, ℕ, zero, suc, ◌+◌, ◌<◌, ◌≤◌, List, [], ◌∷◌, ◌++◌, map, take, drop, get_or, length, min, Option, None, Some, unwrap_or, refl, sym, ap, ap₂, ◌∙◌, append_assoc, arith}
+use Rattle.std.proofs.lemmas.List.{map-append, take_more, drop_all}
 use Rattle.fol_core.specs.ClauseView.{literal_of}
+use Rattle.fol_core.specs.Literals.{ClauseTree}
 use Rattle.fol_core.specs.TermView.{tree_of, tree_list}
-use Rattle.fol_core.specs.Tree.{Tree, var, elem, app, Trees, trees_of, nodes, nodes_of}
+use Rattle.fol_core.specs.Tree.{Tree, app, Trees, trees_of}
 use Rattle.fol_core.specs.declared.clause.Literal.{Literal}
 use Rattle.fol_core.specs.declared.term.Term.{Term}
-use Rattle.weights.specs.Known.{IsWeighed, AreWeights, IsWeighedThrough, AreWeighedThrough, IsWeighedAs, AreWeighedAs}
-use Rattle.weights.specs.Rows.{lent_weights}
-use Rattle.weights.specs.Weighing.{WeightRow, Weighed, weight_within, weight_by_rule, term_weight, sum_of_atoms, atoms_weight}
-use Rattle.weights.specs.WeighingLaws.{sum_of_weights}
-use Rattle.weights.proofs.Weights.{first_is, wider_all, rule_is, weights_follow, one_more_right, has_one_more, has_before}
+use Rattle.prover_steps.specs.Searching.{clause_size}
+use Rattle.term_bank.specs.Bank.{size_of}
+use Rattle.weights.specs.Parts.{below, parts, part_weights, parts_of, parts_weights, weights_below, IsWeighedAs, AreWeighedAs}
+use Rattle.weights.specs.Weighing.{WeightRow, weight_within, term_weight, sum_of_atoms, atoms_weight}
+use Rattle.weights.specs.WeighingLaws.{first_weight, sum_of_weights}
+use Rattle.weights.proofs.Items.{next}
+use Rattle.weights.proofs.Listed.{parts_from, parts_end}
+use Rattle.weights.proofs.Weights.{weights_follow}
 
--- an argument is no larger than all of them
-pub argument_nodes : (ts : List Term) (i : ℕ) (t : Term) → i < length ts → t ≡ get_or ts i t → nodes (tree_of t) ≤ nodes_of (trees_of (tree_list ts))
-argument_nodes [] i t h is = absurd (omega arith)
-argument_nodes (s ∷ ts) zero t h is = subst (λ u. nodes (tree_of u) ≤ nodes (tree_of s) + nodes_of (trees_of (tree_list ts))) (sym is) (omega arith)
-argument_nodes (s ∷ ts) (suc i) t h is = let rest = argument_nodes ts i t (omega arith) is in omega (arith, rest)
-
--- a term behind those whose weights are known
-pub lent_push : (ks : List (Bor Term × ℕ)) (t : Bor Term) (n : ℕ) → lent_weights (ks ++ (t, n) ∷ []) ≡ lent_weights ks ++ (tree_of t.now, n) ∷ []
-lent_push [] t n = refl
-lent_push (k ∷ ks) t n = ap (λ ls. (tree_of k.0.now, k.1) ∷ ls) (lent_push ks t n)
-
-pushed : (rs : List WeightRow) (t : Tree) (n : ℕ) (old mid : Weighed) → n ≡ term_weight rs t → AreWeights rs mid → IsWeighedThrough (mid ++ (t, n) ∷ []) t → ((u : Tree) → IsWeighed old u → IsWeighed mid u)
-    → IsWeighedAs rs t n old (mid ++ (t, n) ∷ [])
-pushed rs t n old mid is ok there before = record {
+-- a term's own weight, behind those below it
+pub own_weight : (rs : List WeightRow) (t : Tree) (n : ℕ) (old mid new : List ℕ) → n ≡ term_weight rs t → mid ≡ old ++ weights_below rs t → new ≡ mid ++ n ∷ [] → IsWeighedAs rs t n old new
+own_weight rs t n old mid new is listed pushed = record {
   weight = is;
-  right = one_more_right rs mid t n ok is;
-  there = there;
-  before = λ u h. has_before mid t u n (before u h);
+  listed =
+      pushed ∙ ap₂ (λ ks m. ks ++ m ∷ []) listed is ∙ append_assoc old (weights_below rs t) (term_weight rs t ∷ [])
+      ∙ ap (λ ks. old ++ ks) (sym (map-append (term_weight rs) (below t) (t ∷ [])));
 }
 
-leaf : (rs : List WeightRow) (t u : Tree) (n : ℕ) (old mid : Weighed) → t ≡ u → n ≡ term_weight rs u → mid ≡ old → AreWeights rs old → ((ks : Weighed) → IsWeighed ks u → IsWeighedThrough ks u) → IsWeighedAs rs t n old (mid ++ (t, n) ∷ [])
-leaf rs t u n old mid e is same ok by =
-    pushed rs t n old mid (is ∙ ap (term_weight rs) (sym e)) (subst (AreWeights rs) (sym same) ok)
-    (subst (IsWeighedThrough (mid ++ (t, n) ∷ [])) (sym e) (by (mid ++ (t, n) ∷ []) (subst (IsWeighed (mid ++ (t, n) ∷ [])) e (has_one_more mid t n))))
-    (λ v h. subst (λ ks. IsWeighed ks v) (sym same) h)
+-- what an application weighs, by a rule or by its arguments
+pub by_rule : (rs : List WeightRow) (f : ℕ) (ts : Trees) (n : ℕ) → first_weight rs rs (app f ts) ≡ Some n → n ≡ term_weight rs (app f ts)
+by_rule rs f ts n h = sym (weights_follow rs f ts ∙ ap (λ o. unwrap_or o (weight_within (1 + sum_of_weights rs ts))) h)
 
-pub variable_weighed : (rs : List WeightRow) (t : Tree) (x n : ℕ) (old mid : Weighed) → t ≡ var x → n ≡ 1 → mid ≡ old → AreWeights rs old → IsWeighedAs rs t n old (mid ++ (t, n) ∷ [])
-variable_weighed rs t x n old mid e one same ok = leaf rs t (var x) n old mid e (one ∙ sym (first_is (var x, 1) [])) same ok (λ ks h. h)
+one_more : (s m : ℕ) → s ≡ weight_within m → min (s + 1) 2147483647 ≡ weight_within (1 + m)
+one_more s m h = omega arith
 
-pub element_weighed : (rs : List WeightRow) (t : Tree) (k n : ℕ) (old mid : Weighed) → t ≡ elem k → n ≡ 1 → mid ≡ old → AreWeights rs old → IsWeighedAs rs t n old (mid ++ (t, n) ∷ [])
-element_weighed rs t k n old mid e one same ok = leaf rs t (elem k) n old mid e (one ∙ sym (first_is (elem k, 1) [])) same ok (λ ks h. h)
+pub by_arguments : (rs : List WeightRow) (f : ℕ) (ts : Trees) (s n : ℕ) → first_weight rs rs (app f ts) ≡ None → s ≡ weight_within (sum_of_weights rs ts) → n ≡ min (s + 1) 2147483647 → n ≡ term_weight rs (app f ts)
+by_arguments rs f ts s n h e is = is ∙ one_more s (sum_of_weights rs ts) e ∙ sym (weights_follow rs f ts ∙ ap (λ o. unwrap_or o (weight_within (1 + sum_of_weights rs ts))) h)
 
-one_more : (a b : ℕ) → a ≡ weight_within b → min (a + 1) 2147483647 ≡ weight_within (1 + b)
-one_more a b h = omega arith
+-- the weights behind those that were listed before
+pub behind : (ks ls ms : List ℕ) → ms ≡ ks ++ ls → drop (length ks) ms ≡ ls
+behind ks ls ms e = ap (drop (length ks)) e ∙ back ks
+  where
+    back : (js : List ℕ) → drop (length js) (js ++ ls) ≡ ls
+    back [] = refl
+    back (j ∷ js) = back js
 
-pub application_weighed : (rs : List WeightRow) (t : Tree) (f : ℕ) (ts : Trees) (s n : ℕ) (old mid : Weighed) → t ≡ app f ts → AreWeighedAs rs ts s old mid
-    → n ≡ unwrap_or (weight_by_rule rs mid t) (min (s + 1) 2147483647) → IsWeighedAs rs t n old (mid ++ (t, n) ∷ [])
-application_weighed rs t f ts s n old mid e are is =
-    pushed rs t n old mid
-    (is ∙ ap₂ (λ o m. unwrap_or o m) (ap (weight_by_rule rs mid) e ∙ rule_is rs rs mid f ts are.right are.there) (one_more s (sum_of_weights rs ts) are.weight) ∙ sym (weights_follow rs f ts) ∙ ap (term_weight rs) (sym e))
-    are.right
-    (subst (IsWeighedThrough (mid ++ (t, n) ∷ [])) (sym e) (subst (IsWeighed (mid ++ (t, n) ∷ [])) e (has_one_more mid t n), wider_all mid (mid ++ (t, n) ∷ []) (λ u h. has_before mid t u n h) ts are.there))
-    are.before
+-- what is to be listed from one term on
+abbrev pub listed_from : List WeightRow → List ℕ → List Term → ℕ → List ℕ
+listed_from rs ks ts i = ks ++ map (term_weight rs) (parts_from ts i)
 
-sum_more : (rs : List WeightRow) (ts : List Term) (t : Term) → sum_of_weights rs (trees_of (tree_list (ts ++ t ∷ []))) ≡ sum_of_weights rs (trees_of (tree_list ts)) + term_weight rs (tree_of t)
-sum_more rs [] t = omega arith
-sum_more rs (s ∷ ts) t = let rest = sum_more rs ts t in omega (arith, rest)
+pub listed_next : (rs : List WeightRow) (ts : List Term) (i : ℕ) (t : Term) (ks new : List ℕ) → i < length ts → t ≡ get_or ts i t → new ≡ ks ++ part_weights rs (tree_of t) → listed_from rs ks ts i ≡ listed_from rs new ts (i + 1)
+listed_next rs ts i t ks new h is e =
+    ap (λ us. ks ++ map (term_weight rs) (parts_of (trees_of (tree_list us)))) (next ts i t h is) ∙ ap (λ js. ks ++ js) (map-append (term_weight rs) (parts (tree_of t)) (parts_from ts (i + 1)))
+    ∙ sym (append_assoc ks (part_weights rs (tree_of t)) (map (term_weight rs) (parts_from ts (i + 1)))) ∙ ap (λ js. js ++ map (term_weight rs) (parts_from ts (i + 1))) (sym e)
 
-all_more : (ks : Weighed) (ts : List Term) (t : Term) → AreWeighedThrough ks (trees_of (tree_list ts)) → IsWeighedThrough ks (tree_of t) → AreWeighedThrough ks (trees_of (tree_list (ts ++ t ∷ [])))
-all_more ks [] t h k = (k, tt)
-all_more ks (s ∷ ts) t h k = (h.0, all_more ks ts t h.1 k)
+nothing_more : (ks : List ℕ) → ks ++ [] ≡ ks
+nothing_more [] = refl
+nothing_more (k ∷ ks) = ap (λ js. k ∷ js) (nothing_more ks)
 
-sums : (a b m n w : ℕ) → a ≡ weight_within b → m ≡ n → w ≡ min (min (m + a) 18446744073709551615) 2147483647 → w ≡ weight_within (b + n)
-sums a b m n w h k e = omega arith
+pub listed_end : (rs : List WeightRow) (ts : List Term) (i : ℕ) (ks : List ℕ) → length ts ≤ i → listed_from rs ks ts i ≡ ks
+listed_end rs ts i ks h = ap (λ ps. ks ++ map (term_weight rs) ps) (parts_end ts i h) ∙ nothing_more ks
 
--- one more of some terms
-pub one_more_weighed : (rs : List WeightRow) (ts : List Term) (t : Term) (s n w : ℕ) (old mid new : Weighed) → AreWeighedAs rs (trees_of (tree_list ts)) s old mid → IsWeighedAs rs (tree_of t) n mid new
-    → w ≡ min (min (n + s) 18446744073709551615) 2147483647 → AreWeighedAs rs (trees_of (tree_list (ts ++ t ∷ []))) w old new
-one_more_weighed rs ts t s n w old mid new are is e = record {
-  weight = sums s (sum_of_weights rs (trees_of (tree_list ts))) n (term_weight rs (tree_of t)) w are.weight is.weight e ∙ ap weight_within (sym (sum_more rs ts t));
-  right = is.right;
-  there = all_more new ts t (wider_all mid new is.before (trees_of (tree_list ts)) are.there) is.there;
-  before = λ u h. is.before u (are.before u h);
-}
+-- what the terms from one on weigh, with a sum so far
+abbrev pub sum_from : List WeightRow → ℕ → List Term → ℕ → ℕ
+sum_from rs s ts i = weight_within (s + sum_of_weights rs (trees_of (tree_list (drop i ts))))
 
-pub next_weighed : (rs : List WeightRow) (ts : List Term) (i : ℕ) (t : Term) (s n w : ℕ) (old mid new : Weighed) → i < length ts → t ≡ get_or ts i t → AreWeighedAs rs (trees_of (tree_list (take i ts))) s old mid → IsWeighedAs rs (tree_of t) n mid new
-    → w ≡ min (min (n + s) 18446744073709551615) 2147483647 → AreWeighedAs rs (trees_of (tree_list (take (i + 1) ts))) w old new
-next_weighed rs ts i t s n w old mid new lt at are is e =
-    subst (λ us. AreWeighedAs rs (trees_of (tree_list us)) w old new) (sym (take_more ts i t lt ∙ ap (λ u. take i ts ++ u ∷ []) (sym at)))
-    (one_more_weighed rs (take i ts) t s n w old mid new are is e)
+adds : (s n w rest : ℕ) → w ≡ min (min (n + s) 18446744073709551615) 2147483647 → weight_within (s + (n + rest)) ≡ weight_within (w + rest)
+adds s n w rest e = omega arith
 
+pub sum_next : (rs : List WeightRow) (ts : List Term) (i : ℕ) (t : Term) (s n w : ℕ) → i < length ts → t ≡ get_or ts i t → n ≡ term_weight rs (tree_of t) → w ≡ min (min (n + s) 18446744073709551615) 2147483647
+    → sum_from rs s ts i ≡ sum_from rs w ts (i + 1)
+sum_next rs ts i t s n w h is weighs e =
+    ap (λ us. weight_within (s + sum_of_weights rs (trees_of (tree_list us)))) (next ts i t h is) ∙ ap (λ m. weight_within (s + (m + sum_of_weights rs (trees_of (tree_list (drop (i + 1) ts)))))) (sym weighs)
+    ∙ adds s n w (sum_of_weights rs (trees_of (tree_list (drop (i + 1) ts)))) e
+
+kept : (s m : ℕ) → s ≤ 2147483647 → m ≡ 0 → weight_within (s + m) ≡ s
+kept s m h e = omega arith
+
+pub sum_end : (rs : List WeightRow) (ts : List Term) (i s : ℕ) → length ts ≤ i → s ≤ 2147483647 → sum_from rs s ts i ≡ s
+sum_end rs ts i s h most = kept s (sum_of_weights rs (trees_of (tree_list (drop i ts)))) most (ap (λ us. sum_of_weights rs (trees_of (tree_list us))) (drop_all i ts h))
+
+-- one literal more
 atoms_more : (rs : List WeightRow) (ls : List Literal) (l : Literal) → sum_of_atoms rs (map literal_of (ls ++ l ∷ [])) ≡ sum_of_atoms rs (map literal_of ls) + term_weight rs (tree_of l.atom)
 atoms_more rs [] l = omega arith
 atoms_more rs (k ∷ ls) l = let rest = atoms_more rs ls l in omega (arith, rest)
 
--- one more literal
+sums : (a b m n w : ℕ) → a ≡ weight_within b → m ≡ n → w ≡ min (min (m + a) 18446744073709551615) 2147483647 → w ≡ weight_within (b + n)
+sums a b m n w h k e = omega arith
+
 pub next_atom : (rs : List WeightRow) (ls : List Literal) (i : ℕ) (l : Literal) (s n w : ℕ) → i < length ls → l ≡ get_or ls i l → s ≡ atoms_weight rs (map literal_of (take i ls)) → n ≡ term_weight rs (tree_of l.atom)
     → w ≡ min (min (n + s) 18446744073709551615) 2147483647 → w ≡ atoms_weight rs (map literal_of (take (i + 1) ls))
 next_atom rs ls i l s n w lt at are is e =
     sums s (sum_of_atoms rs (map literal_of (take i ls))) n (term_weight rs (tree_of l.atom)) w are is e ∙ ap weight_within (sym (atoms_more rs (take i ls) l))
     ∙ ap (λ ks. atoms_weight rs (map literal_of ks)) (sym (take_more ls i l lt ∙ ap (λ k. take i ls ++ k ∷ []) (sym at)))
+
+-- an atom is no larger than its clause
+pub atom_size : (ls : List Literal) (i : ℕ) (l : Literal) → i < length ls → l ≡ get_or ls i l → size_of (tree_of l.atom) ≤ clause_size (map literal_of ls)
+atom_size [] i l h is = absurd (omega arith)
+atom_size (k ∷ ls) zero l h is = let same : size_of (tree_of l.atom) ≡ size_of (tree_of k.atom) = ap (λ j. size_of (tree_of j.atom)) is in omega (arith, same)
+atom_size (k ∷ ls) (suc i) l h is = let rest = atom_size ls i l (omega arith) is in omega (arith, rest)

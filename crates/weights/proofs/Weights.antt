@@ -59,7 +59,7 @@ mutual
   wider ks ls to (elem k) h = to (elem k) h
   wider ks ls to (app f ts) h = (to (app f ts) h.0, wider_all ks ls to ts h.1)
 
-  pub wider_all : (ks ls : Weighed) → ((u : Tree) → IsWeighed ks u → IsWeighed ls u) → (ts : Trees) → AreWeighedThrough ks ts → AreWeighedThrough ls ts
+  wider_all : (ks ls : Weighed) → ((u : Tree) → IsWeighed ks u → IsWeighed ls u) → (ts : Trees) → AreWeighedThrough ks ts → AreWeighedThrough ls ts
   wider_all ks ls to none h = tt
   wider_all ks ls to (more t ts) h = (wider ks ls to t h.0, wider_all ks ls to ts h.1)
 
@@ -133,7 +133,7 @@ pattern_is rs ks bs (of_variable x) ok h = bound_is rs ks bs x ok h
 pattern_is rs ks bs (plus v w) ok h = ap₂ (λ a b. weight_within (a + b)) (pattern_is rs ks bs v ok h) (pattern_is rs ks bs w ok h)
 pattern_is rs ks bs (times v w) ok h = ap₂ (λ a b. weight_within (a * b)) (pattern_is rs ks bs v ok h) (pattern_is rs ks bs w ok h)
 
-pub rule_is : (rs ps : List WeightRow) (ks : Weighed) (f : ℕ) (ts : Trees) → AreWeights rs ks → AreWeighedThrough ks ts → weight_by_rule ps ks (app f ts) ≡ first_weight rs ps (app f ts)
+rule_is : (rs ps : List WeightRow) (ks : Weighed) (f : ℕ) (ts : Trees) → AreWeights rs ks → AreWeighedThrough ks ts → weight_by_rule ps ks (app f ts) ≡ first_weight rs ps (app f ts)
 rule_is rs [] ks f ts ok there = refl
 rule_is rs (p ∷ ps) ks f ts ok there = go (rule_is rs ps ks f ts ok there) (matched (pattern_of p) (app f ts) []) refl
   where
@@ -158,13 +158,3 @@ weights_follow rs f ts =
     let ks = weighed_trees rs ts in
     first_is (app f ts, application_weight rs ks f ts) ks
     ∙ ap₂ (λ o n. unwrap_or o (weight_within (1 + n))) (rule_is rs rs ks f ts (all_right rs ts) (contains_all rs ts)) (sum_is rs ks ts (all_right rs ts) (contains_all rs ts))
-
--- a term, and then those in it, are put among others
-pub one_more_right : (rs : List WeightRow) (ks : Weighed) (t : Tree) (n : ℕ) → AreWeights rs ks → n ≡ term_weight rs t → AreWeights rs (ks ++ (t, n) ∷ [])
-one_more_right rs ks t n ok is = both_right rs ks ((t, n) ∷ []) ok (is, tt)
-
-pub has_one_more : (ks : Weighed) (t : Tree) (n : ℕ) → IsWeighed (ks ++ (t, n) ∷ []) t
-has_one_more ks t n = has_right ks ((t, n) ∷ []) t (inl refl)
-
-pub has_before : (ks : Weighed) (t u : Tree) (n : ℕ) → IsWeighed ks u → IsWeighed (ks ++ (t, n) ∷ []) u
-has_before ks t u n h = has_left ks ((t, n) ∷ []) u h

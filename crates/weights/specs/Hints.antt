@@ -1,6 +1,6 @@
 -- Hints, and what clauses weigh that match them.
-use Rattle.std.specs.Prelude.{ℕ, Bool, true, false, if◌then◌else◌, List, [], ◌∷◌, ◌++◌, Option, None, Some, is_some, unwrap_or}
-use Rattle.std.specs.Option.{option_and_then}
+use Rattle.std.specs.Prelude.{ℕ, Bool, true, false, if◌then◌else◌, List, [], ◌∷◌, ◌++◌, Option, None, Some, is_some, unwrap_or, slice_get, ◌+◌}
+use Rattle.std.specs.Option.{option_and_then, option_map}
 use Rattle.fol_core.specs.Fol.{Fol, equal, atom, negation, disjunction}
 use Rattle.fol_core.specs.Literals.{literal, ClauseTree}
 use Rattle.fol_core.specs.Tree.{app}
@@ -17,6 +17,16 @@ pub record HintRow : Type 0 where
 abbrev pub first_hint : List HintRow → ClauseTree → Option HintRow
 first_hint [] c = None
 first_hint (h ∷ hs) c = if subsumes c h.clause then Some h else first_hint hs c
+
+-- and its place, from 0
+abbrev pub hint_place : List HintRow → ClauseTree → Option ℕ
+hint_place [] c = None
+hint_place (h ∷ hs) c =
+    if subsumes c h.clause then Some 0 else option_map (λ n. n + 1) (hint_place hs c)
+
+-- the weight that the hint at a place gives
+abbrev pub weight_at : List HintRow → Option ℕ → Option ℕ
+weight_at hs o = option_and_then (λ n. option_and_then (λ h. h.weight) (slice_get hs n)) o
 
 abbrev pub is_hinted : List HintRow → ClauseTree → Bool
 is_hinted hs c = is_some (first_hint hs c)

@@ -1,8 +1,7 @@
 -- Terms whose weights are known.
-use Rattle.std.specs.Prelude.{ℕ, ◌≡◌, ◌⊎◌, List, [], ◌∷◌}
+use Rattle.std.specs.Prelude.{◌≡◌, ◌⊎◌, List, [], ◌∷◌}
 use Rattle.fol_core.specs.Tree.{Tree, var, elem, app, Trees, none, more}
-use Rattle.weights.specs.Weighing.{WeightRow, Weighed, weight_within, term_weight}
-use Rattle.weights.specs.WeighingLaws.{sum_of_weights}
+use Rattle.weights.specs.Weighing.{WeightRow, Weighed, term_weight}
 
 -- a term has its weight among them
 abbrev pub IsWeighed : Weighed → Tree → Type 0
@@ -24,19 +23,3 @@ abbrev mutual
 abbrev pub AreWeights : List WeightRow → Weighed → Type 0
 AreWeights rs [] = Unit {0}
 AreWeights rs (k ∷ ks) = (k.1 ≡ term_weight rs k.0) × AreWeights rs ks
-
--- A term weighs so much: it is now among those whose weights are known, with all terms in it and
--- those that were there before.
-pub record IsWeighedAs (rs : List WeightRow) (t : Tree) (n : ℕ) (old new : Weighed) : Type 0 where
-  pub weight : n ≡ term_weight rs t
-  pub right : AreWeights rs new
-  pub there : IsWeighedThrough new t
-  pub before : (u : Tree) → IsWeighed old u → IsWeighed new u
-
--- terms weigh so much together, and are there too
-pub record AreWeighedAs (rs : List WeightRow) (ts : Trees) (n : ℕ) (old new : Weighed) : Type 0
-  where
-    pub weight : n ≡ weight_within (sum_of_weights rs ts)
-    pub right : AreWeights rs new
-    pub there : AreWeighedThrough new ts
-    pub before : (u : Tree) → IsWeighed old u → IsWeighed new u

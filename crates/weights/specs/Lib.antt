@@ -1,6 +1,10 @@
 pub mod Heads
+pub mod HintCodes
+pub mod HintRows
 pub mod Hints
 pub mod Known
+pub mod Parts
+pub mod Rooms
 pub mod Rows
 pub mod Weighing
 pub mod WeighingLaws

@@ -1,10 +1,15 @@
 // What clauses weigh.
 #![tactic(auto)]
 
+mod hints;
 mod laws;
+mod parts;
 mod patterns;
+mod room;
 mod rules;
 
+pub use hints::Hints;
 pub use laws::{symbols_weigh, weights_follow, worked};
 pub use patterns::{MOST_WEIGHT, PatternWeight};
-pub use rules::{HintWeight, Rules};
+pub use room::Room;
+pub use rules::Rules;

@@ -1,20 +1,19 @@
 // What terms weigh by rules.
-ghost use Rattle.std.specs.Prelude.{◌≡◌, ◌+◌, [], IfOk, map};
+ghost use Rattle.std.specs.Prelude.{◌≡◌, ◌+◌, ◌≤◌, ◌++◌, [], is_some, length, map, vec_len, vec_capacity};
 ghost use Rattle.fol_core.specs.TermView.{tree_of};
-ghost use Rattle.fol_core.specs.Tree.{trees_of};
+ghost use Rattle.fol_core.specs.Tree.{app, trees_of};
 ghost use Rattle.fol_core.specs.WeightView.{weight_of};
 ghost use Rattle.prover_steps.specs.Searching.{clause_size};
-ghost use Rattle.term_bank.specs.Bank.{size_of};
-ghost use Rattle.term_matches.specs.Matched.{MatchesOnto};
-ghost use Rattle.unifiers.specs.Matching.{matched, matched_all};
-ghost use Rattle.weights.specs.Known.{AreWeighedAs, IsWeighedAs, AreWeights};
-ghost use Rattle.weights.specs.Rows.{weight_row, lent_weights};
-ghost use Rattle.weights.specs.Weighing.{pattern_of, weight_among, pattern_weight, weight_by_rule, weight_within, atoms_weight};
+ghost use Rattle.term_bank.specs.Bank.{size_of, sizes_of};
+ghost use Rattle.unifiers.specs.Matching.{matched};
+ghost use Rattle.weights.specs.Parts.{parts_weights, weights_below, standing_weight, AreWeighedAs, IsWeighedAs};
+ghost use Rattle.weights.specs.Rows.{weight_row};
+ghost use Rattle.weights.specs.Weighing.{pattern_of, term_weight, weight_within, atoms_weight};
+ghost use Rattle.weights.specs.WeighingLaws.{first_weight, weight_under};
 
+use crate::parts::listed_weight;
 use fol_core::{Clause, Sym, Term, Terms, Weight};
-use std::alloc::{AllocError, Global};
-use substitutions::same;
-use term_matches::Matches;
+use term_matches::{are_instances, standing_among};
 
 /// The greatest weight: sums and products stop at it.
 pub const MOST_WEIGHT: u64 = 2_147_483_647;
@@ -27,147 +26,135 @@ pub struct PatternWeight<'a> {
     pub weight: &'a Weight,
 }
 
-// Whether arguments are instances of others, one by one.
-fn arguments_match<'a>(
-    general: &Terms,
-    special: &'a Terms,
-    found: &mut Matches<'a>,
-) -> Result<bool, AllocError>
-    requires { found.old ≡ [] }
-    ensures { IfOk result (λ b. MatchesOnto b
-        (matched_all (trees_of general.now) (trees_of special.now) []) [] found.new) }
-{
-    for (i, argument) in general.items.iter().enumerate() {
-        if i >= special.items.len() {
-            return Ok(false);
-        }
-        if !found.match_onto(argument, &special.items[i])? {
-            return Ok(false);
-        }
-    }
-    if general.items.len() < special.items.len() {
-        return Ok(false);
-    }
-    Ok(true)
-}
-
 impl<'a> PatternWeight<'a> {
-    // Whether a term is an instance of the pattern, and what is bound then.
-    fn fits<'b>(&self, term: &'b Term, found: &mut Matches<'b>) -> Result<bool, AllocError>
-        requires { found.old ≡ [] }
-        ensures { IfOk result (λ b. MatchesOnto b
-            (matched (pattern_of (weight_row self.now)) (tree_of term.now) []) [] found.new) }
+    // Whether an application is an instance of the pattern.
+    fn fits(&self, head: Sym, terms: &Terms) -> bool
+        ensures { result ≡ is_some (matched (pattern_of (weight_row self.now))
+            (app head.0 (trees_of terms.now)) []) }
     {
-        match term {
-            Term::Var(_) => Ok(false),
-            Term::Elem(_) => Ok(false),
-            Term::App(f, terms) => {
-                if f.0 != self.head.0 {
-                    return Ok(false);
-                }
-                arguments_match(self.arguments, terms, found)
-            }
-        }
+        self.head.0 == head.0 && are_instances(self.arguments, terms)
     }
 }
 
-// What a term among others weighs.
-fn weight_among(known: &[(&Term, u64)], term: &Term) -> u64
-    ensures { result ≡ weight_among (lent_weights known.now) (tree_of term.now) }
-{
-    for (other, weight) in known {
-        if same(*other, term) {
-            return *weight;
-        }
-    }
-    1
-}
-
-// What a pattern weighs.
-fn pattern_weight(known: &[(&Term, u64)], found: &Matches<'_>, weight: &Weight) -> u64
-    ensures { result ≡ pattern_weight (lent_weights known.now) found.now (weight_of weight.now) }
+// What a pattern weighs, beside an instance of it in which the weights of all terms are listed.
+fn pattern_weight(weights: &[u64], arguments: &Terms, terms: &Terms, weight: &Weight) -> u64
+    requires { length weights.now ≡ sizes_of (trees_of terms.now) }
+    ensures { result ≡ weight_under (standing_weight weights.now (trees_of arguments.now)
+        (trees_of terms.now)) (weight_of weight.now) }
 {
     match weight {
         Weight::Number(n) => u64::from(*n),
-        Weight::Variable(x) => match found.given(*x) {
-            Some(term) => weight_among(known, term),
+        Weight::Variable(x) => match standing_among(arguments, terms, *x) {
+            Some(term) => listed_weight(weights, terms, term),
             None => 1,
         },
         Weight::Sum(v, w) => {
-            let v = pattern_weight(known, found, v.weight());
-            let w = pattern_weight(known, found, w.weight());
+            let v = pattern_weight(weights, arguments, terms, v.weight());
+            let w = pattern_weight(weights, arguments, terms, w.weight());
             v.saturating_add(w).min(MOST_WEIGHT)
         }
         Weight::Product(v, w) => {
-            let v = pattern_weight(known, found, v.weight());
-            let w = pattern_weight(known, found, w.weight());
+            let v = pattern_weight(weights, arguments, terms, v.weight());
+            let w = pattern_weight(weights, arguments, terms, w.weight());
             v.saturating_mul(w).min(MOST_WEIGHT)
         }
     }
 }
 
-// What the first rule says of which a term is an instance.
+// What the first rule says of which an application is an instance, the weights of all terms in its arguments being listed.
 #[tactic(auto, using(crate::proofs::Finding::rule_fits, crate::proofs::Finding::rule_fails, crate::proofs::Finding::no_rule))]
 fn weight_by_rule(
-    alloc: Global,
     rules: &[PatternWeight<'_>],
-    known: &[(&Term, u64)],
-    term: &Term,
-) -> Result<Option<u64>, AllocError>
-    ensures { IfOk result (λ o. o ≡ weight_by_rule (map weight_row rules.now)
-        (lent_weights known.now) (tree_of term.now)) }
+    weights: &[u64],
+    head: Sym,
+    terms: &Terms,
+) -> Option<u64>
+    requires { weights.now ≡ parts_weights (map weight_row rules.now) (trees_of terms.now) }
+    ensures { result ≡ first_weight (map weight_row rules.now) (map weight_row rules.now)
+        (app head.0 (trees_of terms.now)) }
 {
     for rule in rules {
-        let mut found = Matches::new(alloc);
-        if rule.fits(term, &mut found)? {
-            return Ok(Some(pattern_weight(known, &found, rule.weight)));
+        if rule.fits(head, terms) {
+            return Some(pattern_weight(weights, rule.arguments, terms, rule.weight));
         }
     }
-    Ok(None)
+    None
 }
 
-// What a term weighs; it is put among those whose weights are known, with all terms in it.
+// What a term weighs; the weights of the terms in it are listed, and its own behind them.
 #[cycle(weigh)]
-fn weigh<'a>(
-    alloc: Global,
-    rules: &[PatternWeight<'_>],
-    term: &'a Term,
-    known: &mut Vec<(&'a Term, u64)>,
-) -> Result<u64, AllocError>
-    requires { AreWeights (map weight_row rules.now) (lent_weights known.old.items) }
-    ensures { IfOk result (λ n. IsWeighedAs (map weight_row rules.now) (tree_of term.now) n
-        (lent_weights known.old.items) (lent_weights known.new.items)) }
+#[tactic(auto, using(crate::proofs::Weighed::own_weight))]
+fn weigh(rules: &[PatternWeight<'_>], term: &Term, weights: &mut Vec<u64>) -> u64
+    requires { vec_len weights.old + size_of (tree_of term.now) ≤ vec_capacity weights.old }
+    ensures weighed { IsWeighedAs (map weight_row rules.now) (tree_of term.now) result
+        weights.old.items weights.new.items }
+    ensures len { vec_len weights.new ≡ vec_len weights.old + size_of (tree_of term.now) }
+    ensures room { vec_capacity weights.new ≡ vec_capacity weights.old }
 {
-    let weight = match term {
+    let weight = weigh_below(rules, term, weights);
+    weights.push_reserved(weight);
+    weight
+}
+
+// What a term weighs; the weights of the terms below it are listed.
+#[cycle(weigh)]
+fn weigh_below(rules: &[PatternWeight<'_>], term: &Term, weights: &mut Vec<u64>) -> u64
+    requires { vec_len weights.old + size_of (tree_of term.now) ≤ vec_capacity weights.old }
+    ensures weight { result ≡ term_weight (map weight_row rules.now) (tree_of term.now) }
+    ensures listed { weights.new.items ≡ weights.old.items
+        ++ weights_below (map weight_row rules.now) (tree_of term.now) }
+    ensures len { vec_len weights.new + 1 ≡ vec_len weights.old + size_of (tree_of term.now) }
+    ensures room { vec_capacity weights.new ≡ vec_capacity weights.old }
+{
+    match term {
         Term::Var(_) => 1,
         Term::Elem(_) => 1,
-        Term::App(_, terms) => {
-            let sum = weigh_all(alloc, rules, terms, known)?;
-            weight_by_rule(alloc, rules, known, term)?.unwrap_or((sum + 1).min(MOST_WEIGHT))
-        }
-    };
-    known.push((term, weight))?;
-    Ok(weight)
+        Term::App(head, terms) => application_weight(rules, *head, terms, weights),
+    }
 }
 
-// What some terms weigh together; they are put there too.
+// What an application weighs; the weights of the terms in its arguments are listed.
 #[cycle(weigh)]
-fn weigh_all<'a>(
-    alloc: Global,
+#[tactic(auto, using(crate::proofs::Weighed::by_rule, crate::proofs::Weighed::by_arguments, crate::proofs::Weighed::behind))]
+fn application_weight(
     rules: &[PatternWeight<'_>],
-    terms: &'a Terms,
-    known: &mut Vec<(&'a Term, u64)>,
-) -> Result<u64, AllocError>
-    requires { AreWeights (map weight_row rules.now) (lent_weights known.old.items) }
-    ensures { IfOk result (λ n. AreWeighedAs (map weight_row rules.now) (trees_of terms.now) n
-        (lent_weights known.old.items) (lent_weights known.new.items)) }
+    head: Sym,
+    terms: &Terms,
+    weights: &mut Vec<u64>,
+) -> u64
+    requires { vec_len weights.old + sizes_of (trees_of terms.now) ≤ vec_capacity weights.old }
+    ensures weight { result ≡ term_weight (map weight_row rules.now)
+        (app head.0 (trees_of terms.now)) }
+    ensures listed { weights.new.items ≡ weights.old.items
+        ++ parts_weights (map weight_row rules.now) (trees_of terms.now) }
+    ensures len { vec_len weights.new ≡ vec_len weights.old + sizes_of (trees_of terms.now) }
+    ensures room { vec_capacity weights.new ≡ vec_capacity weights.old }
+{
+    let before = weights.len();
+    let sum = weigh_all(rules, terms, weights);
+    let (_, own) = weights.as_slice().split_at(before);
+    match weight_by_rule(rules, own, head, terms) {
+        Some(weight) => weight,
+        None => (sum + 1).min(MOST_WEIGHT),
+    }
+}
+
+// What some terms weigh together; the weights of the terms in them are listed.
+#[cycle(weigh)]
+#[tactic(auto, using(crate::proofs::Weighed::listed_next, crate::proofs::Weighed::listed_end, crate::proofs::Weighed::sum_next, crate::proofs::Weighed::sum_end, crate::proofs::Listed::sizes_step))]
+fn weigh_all(rules: &[PatternWeight<'_>], terms: &Terms, weights: &mut Vec<u64>) -> u64
+    requires { vec_len weights.old + sizes_of (trees_of terms.now) ≤ vec_capacity weights.old }
+    ensures weighed { AreWeighedAs (map weight_row rules.now) (trees_of terms.now) result
+        weights.old.items weights.new.items }
+    ensures len { vec_len weights.new ≡ vec_len weights.old + sizes_of (trees_of terms.now) }
+    ensures room { vec_capacity weights.new ≡ vec_capacity weights.old }
 {
     let mut sum = 0u64;
     for term in &terms.items {
-        let weight = weigh(alloc, rules, term, known)?;
+        let weight = weigh(rules, term, weights);
         sum = weight.saturating_add(sum).min(MOST_WEIGHT);
     }
-    Ok(sum)
+    sum
 }
 
 // A weight with that of a term added, where each symbol and variable weighs 1.
@@ -196,23 +183,22 @@ fn symbols_weight(clause: &Clause) -> u64
     weight
 }
 
-/// What the atoms of a clause weigh together. Where there are no rules they are counted, and nothing is remembered.
-#[tactic(auto, using(crate::proofs::Counted::without_rules))]
-pub fn atoms_weight(
-    alloc: Global,
-    rules: &[PatternWeight<'_>],
-    clause: &Clause,
-) -> Result<u64, AllocError>
-    ensures { IfOk result (λ n. n ≡ atoms_weight (map weight_row rules.now) clause.now) }
+/// What the atoms of a clause weigh together, with room for the weights of the terms of each. Where there are no rules
+/// symbols and variables are counted.
+#[tactic(auto, using(crate::proofs::Counted::without_rules, crate::proofs::Weighed::atom_size))]
+pub fn atoms_weight(rules: &[PatternWeight<'_>], clause: &Clause, weights: &mut Vec<u64>) -> u64
+    requires { clause_size clause.now ≤ vec_capacity weights.old }
+    ensures weight { result ≡ atoms_weight (map weight_row rules.now) clause.now }
+    ensures room { vec_capacity weights.new ≡ vec_capacity weights.old }
 {
     if rules.is_empty() {
-        return Ok(symbols_weight(clause));
+        return symbols_weight(clause);
     }
     let mut sum = 0u64;
     for literal in &clause.literals {
-        let mut known = Vec::new(alloc);
-        let weight = weigh(alloc, rules, &literal.atom, &mut known)?;
+        weights.clear();
+        let weight = weigh(rules, &literal.atom, weights);
         sum = weight.saturating_add(sum).min(MOST_WEIGHT);
     }
-    Ok(sum)
+    sum
 }

@@ -1,22 +1,22 @@
--- Each call has fewer literals left; the ways by the literals from here on decide, and nothing is bound or marked that wasn't.
-use Rattle.std.proofs.Common.{◌≡◌, ◌+◌, ◌*◌, length}
-use Rattle.fol_core.specs.ClauseView.{literal_of}
-use Rattle.subsume.specs.Unused.{literals_of}
-use Rattle.subsume.proofs.Ways.{ways_from}
+-- Each call has fewer literals left; the ways by the places from here on decide, and the places are those of the start.
+use Rattle.std.proofs.Common.{◌≡◌, ◌+◌, ◌*◌, ◌-◌, length, vec_len, vec_capacity}
+use Rattle.subsume.specs.Places.{literals_of}
+use Rattle.subsume.proofs.Ways.{serves_from}
 use Rattle.subsume.proofs.subsuming.+ways.Given as goal
 
-abbrev pub decreases-is_way : goal.decreases-is_way
-decreases-is_way l = 3 * length l.rest.now + 1
+abbrev pub decreases-goes_on : goal.decreases-goes_on
+decreases-goes_on l = 3 * (length l.literals.now - vec_len l.places.now) + 1
 
 abbrev pub decreases-serves : goal.decreases-serves
-decreases-serves l = 3 * length l.rest.now + 2
+decreases-serves l = 3 * (length l.literals.now - vec_len l.places.now) + 2
 
-abbrev pub decreases-subsumes_with : goal.decreases-subsumes_with
-decreases-subsumes_with l = 3 * length l.literals.now
+abbrev pub decreases-completes : goal.decreases-completes
+decreases-completes l = 3 * (length l.literals.now - vec_len l.places.now) + 3
 
-abbrev pub invariant-subsumes_with-loop-place : goal.invariant-subsumes_with-loop-place
-invariant-subsumes_with-loop-place l = record {
-  values : l.values ≡ l.fn.values;
-  marks : l.used.items ≡ l.fn.used.items;
-  decides : ways_from l.fn.values (literal_of l.literal) (literals_of l.rest) l.fn.used.items (literals_of l.others) 0 ≡ ways_from l.fn.values (literal_of l.literal) (literals_of l.rest) l.fn.used.items (literals_of l.others) l.place;
+abbrev pub invariant-completes-loop-place : goal.invariant-completes-loop-place
+invariant-completes-loop-place l = record {
+  places : l.places.items ≡ l.fn.places.items;
+  len : vec_len l.places ≡ vec_len l.fn.places;
+  room : vec_capacity l.places ≡ vec_capacity l.fn.places;
+  decides : serves_from (literals_of l.literals) (literals_of l.others) l.fn.places.items 0 ≡ serves_from (literals_of l.literals) (literals_of l.others) l.fn.places.items l.place;
 }

@@ -1,9 +1,11 @@
 -- The rules left decide.
 use Rattle.std.proofs.Common.{◌≡◌, drop, map}
-use Rattle.fol_core.specs.TermView.{tree_of}
-use Rattle.weights.specs.Rows.{weight_row, lent_weights}
-use Rattle.weights.specs.Weighing.{weight_by_rule}
+use Rattle.fol_core.specs.Tree.{app, trees_of}
+use Rattle.weights.specs.Rows.{weight_row}
+use Rattle.weights.specs.WeighingLaws.{first_weight}
 use Rattle.weights.proofs.patterns.weight_by_rule.Given as goal
 
 abbrev pub invariant-loop-rule : goal.invariant-loop-rule
-invariant-loop-rule l = weight_by_rule (map weight_row (drop l.rule-index l.rules)) (lent_weights l.known) (tree_of l.term) ≡ weight_by_rule (map weight_row l.rules) (lent_weights l.known) (tree_of l.term)
+invariant-loop-rule l =
+    first_weight (map weight_row l.rules) (map weight_row (drop l.rule-index l.rules)) (app l.head.0 (trees_of l.terms))
+    ≡ first_weight (map weight_row l.rules) (map weight_row l.rules) (app l.head.0 (trees_of l.terms))
