@@ -8,6 +8,7 @@ ghost use Rattle.prover_steps.specs.Equalities.{paramodulants_of, reflexive_reso
 ghost use Rattle.resolution.specs.View.{all_conclusions};
 
 use crate::rules::RulesInForce;
+use clause_index::HeldSet;
 use held_clauses::Held;
 use paramod::{add_paramodulants, add_reflexive_resolvents};
 use resolution::{
@@ -21,7 +22,7 @@ use term_order::Precedence;
 fn add_by_resolution(
     alloc: Global,
     rules: &RulesInForce,
-    held: &[Held],
+    held: &HeldSet,
     given: &Held,
     made: &mut Vec<Conclusion>,
 ) -> Result<(), AllocError>
@@ -43,7 +44,7 @@ fn add_by_resolution(
 fn add_binary(
     alloc: Global,
     set: bool,
-    held: &[Held],
+    held: &HeldSet,
     given: &Held,
     made: &mut Vec<Conclusion>,
 ) -> Result<(), AllocError>
@@ -61,7 +62,7 @@ fn add_binary(
 fn add_hyper(
     alloc: Global,
     set: bool,
-    held: &[Held],
+    held: &HeldSet,
     given: &Held,
     made: &mut Vec<Conclusion>,
 ) -> Result<(), AllocError>
@@ -79,7 +80,7 @@ fn add_hyper(
 fn add_units(
     alloc: Global,
     set: bool,
-    held: &[Held],
+    held: &HeldSet,
     given: &Held,
     made: &mut Vec<Conclusion>,
 ) -> Result<(), AllocError>
@@ -115,7 +116,7 @@ fn add_by_equations(
     alloc: Global,
     set: bool,
     precedence: &Precedence,
-    held: &[Held],
+    held: &HeldSet,
     given: &Held,
     made: &mut Vec<Conclusion>,
 ) -> Result<(), AllocError>
@@ -137,7 +138,7 @@ pub fn conclusions_of(
     alloc: Global,
     rules: &RulesInForce,
     precedence: &Precedence,
-    held: &[Held],
+    held: &HeldSet,
     given: &Held,
 ) -> Result<Vec<Conclusion>, AllocError>
     ensures { IfOk result (λ made. all_conclusions made.items ≡ conclusions_of (rules_set rules.now)

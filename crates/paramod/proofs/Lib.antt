@@ -1,3 +1,5 @@
 pub mod Missing
 pub mod Paths
 pub mod Taken
+pub mod Unpaired
+pub mod Walking

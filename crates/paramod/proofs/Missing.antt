@@ -1,17 +1,19 @@
 -- Why nothing comes of a place: the literal is no positive equation, the term is a variable, or nothing makes it the side.
-use Rattle.std.proofs.Common.{◌≡◌, ℕ, ◌<◌, ◌≤◌, length, get_or, map, Bool, true, false, not, ◌==◌, ◌&&◌, if◌then◌else◌, IsTrue, List, [], ◌∷◌, Some, unwrap_or, refl, sym, ap, ◌∙◌, subst}
+use Rattle.std.proofs.Common.{◌≡◌, ℕ, ◌<◌, ◌≤◌, length, get_or, map, Bool, true, false, not, ◌==◌, ◌&&◌, if◌then◌else◌, IsTrue, List, [], ◌∷◌, Option, Some, None, unwrap_or, refl, sym, ap, ◌∙◌, subst}
 use Rattle.std.proofs.lemmas.Bool.{and_parts, false≢true}
 use Rattle.fol_core.specs.ClauseView.{literal_of}
 use Rattle.fol_core.specs.Literals.{ClauseTree}
 use Rattle.fol_core.specs.TermView.{tree_of}
 use Rattle.fol_core.specs.declared.clause.Literal.{Literal}
 use Rattle.fol_core.specs.Substitutions.{Substitution, substitute}
+use Rattle.substitutions.specs.Apart.{Own, instances}
 use Rattle.fol_core.specs.Tree.{Tree, var, elem, app, none, more}
 use Rattle.derivation.specs.Equations.{is_equation, left_of, right_of, below, is_no_variable, term_below}
 use Rattle.derivation.specs.Lines.{paramodulated, para_inference, xx_resolved, xx_inference}
 use Rattle.derivation.specs.Places.{atom_at, has_literal}
-use Rattle.derivation.specs.Words.{side_of}
-use Rattle.derivation.proofs.Lawful.{para_parts}
+use Rattle.derivation.specs.Rule.{AreSame}
+use Rattle.derivation.specs.Words.{side_of, para_rule}
+use Rattle.derivation.proofs.Lawful.{ParaFits, para_parts}
 use Rattle.derivation.proofs.Naturality.{atom_of_put, atom_at_put, below_put}
 use Rattle.proof_words.specs.Written.{by_para, by_xx_res}
 use Rattle.prover_steps.specs.Clashing.{Held, places_of}
@@ -47,20 +49,34 @@ side_put s n t h = by (n == 1)
     by true = left_put s t h
     by false = right_put s t h
 
--- a term that is never replaced
-pub none_replaced : (s : SiteTree) (path : List ℕ) (t : Tree) → below (atom_into s) path ≡ Some t → NeverReplaced (replacing_side s) t → paramodulant_at s path ≡ []
-none_replaced s path t there never =
+-- a literal that is no positive equation, a path that isn't there, or a term that is never replaced
+pub none_beside : (s : SiteTree) (path : List ℕ)
+    → (IsTrue (has_literal true s.from.clause s.equation) → IsTrue (is_equation (atom_at s.from.clause s.equation)) → (t : Tree) → below (atom_into s) path ≡ Some t → NeverReplaced (replacing_side s) t)
+    → paramodulant_at s path ≡ []
+none_beside s path never =
     let c = s.from.clause in
     let d = s.into.clause in
     let a = s.equation in
     let b = s.literal in
     none_inferred (by_para s.from.number a s.side s.into.number b path) (para_inference s.from.number a s.side s.into.number b path) (c ∷ d ∷ []) refl
     (none_concluded (paramodulated s.from.number a s.side s.into.number b path) (para_inference s.from.number a s.side s.into.number b path) (c ∷ d ∷ []) refl
-    (λ fits own same.
-    let p = para_parts a s.side b path c d fits in
-    never (ap is_no_variable (sym there) ∙ p.there) (own 0) (own 1)
-    (sym (ap (side_of s.side) (atom_of_put (own 0) true c a p.positive) ∙ side_put (own 0) s.side (atom_at c a) p.equal) ∙ same.0
-    ∙ ap (λ u. term_below u path) (atom_at_put (own 1) d b p.place) ∙ ap (λ o. unwrap_or o (var 0)) (below_put (own 1) (atom_at d b) path t there))))
+    (λ fits own same. clashes own same (para_parts a s.side b path c d fits)))
+  where
+    clashes : (own : Own) → AreSame ((para_rule s.equation s.side s.literal path).pairs (instances own (s.from.clause ∷ s.into.clause ∷ []))) → ParaFits s.equation s.side s.literal path s.from.clause s.into.clause → ⊥
+    clashes own same p = by (below (atom_into s) path) refl p.there
+      where
+        by : (o : Option Tree) → below (atom_into s) path ≡ o → IsTrue (is_no_variable o) → ⊥
+        by None there is = absurd (false≢true is)
+        by (Some t) there is =
+            never p.positive p.equal t there is (own 0) (own 1)
+            (sym (ap (side_of s.side) (atom_of_put (own 0) true s.from.clause s.equation p.positive) ∙ side_put (own 0) s.side (atom_at s.from.clause s.equation) p.equal) ∙ same.0
+            ∙ ap (λ u. term_below u path) (atom_at_put (own 1) s.into.clause s.literal p.place) ∙ ap (λ o. unwrap_or o (var 0)) (below_put (own 1) (atom_at s.into.clause s.literal) path t there))
+
+pub none_replaced : (s : SiteTree) (path : List ℕ) (t : Tree) → below (atom_into s) path ≡ Some t → NeverReplaced (replacing_side s) t → paramodulant_at s path ≡ []
+none_replaced s path t there never = none_beside s path (λ positive equal u is. subst (NeverReplaced (replacing_side s)) (same u is) never)
+  where
+    same : (u : Tree) → below (atom_into s) path ≡ Some u → t ≡ u
+    same u is = let both : Some t ≡ Some u = sym there ∙ is in cc
 
 -- a literal that is no positive equation
 pub none_from : (s : SiteTree) (path : List ℕ) → has_literal true s.from.clause s.equation && is_equation (atom_at s.from.clause s.equation) ≡ false → paramodulant_at s path ≡ []

@@ -3,6 +3,7 @@
 
 mod adding;
 mod pairs;
+mod partners;
 mod reflexivity;
 mod sides;
 mod site;

@@ -1,18 +1,22 @@
 // Paramodulation between two clauses, by the equation, its side, the literal and the place.
-ghost use Rattle.std.specs.Prelude.{◌≡◌, ◌++◌, true, if◌then◌else◌, [], IfOk, OnOk};
+ghost use Rattle.std.specs.Prelude.{◌≡◌, ◌++◌, true, if◌then◌else◌, [], OnOk};
+ghost use Rattle.std.specs.List.{flat_map};
 ghost use Rattle.derivation.specs.Places.{atom_at, has_literal};
 ghost use Rattle.derivation.specs.Words.{side_of};
 ghost use Rattle.fol_core.specs.TermView.{tree_of};
+ghost use Rattle.held_clauses.specs.Holding.{lent};
 ghost use Rattle.held_clauses.specs.Order.{greater_of};
 ghost use Rattle.paramod.specs.Replacing.{site_of};
-ghost use Rattle.paramod.specs.Sites.{replacing_side, atom_into, paramodulants_in, paramodulants_by, takes_side, side_tried, literal_tried};
+ghost use Rattle.paramod.specs.Sites.{replacing_side, atom_into, paramodulants_in, paramodulants_by, side_tried, literal_tried};
 ghost use Rattle.prover_steps.specs.Clashing.{is_same_held};
 ghost use Rattle.prover_steps.specs.Equalities.{paramodulants_into, paramodulants_with, paramodulants_of};
 ghost use Rattle.resolution.specs.View.{all_conclusions};
 
 use crate::adding::{add_below, add_from};
-use crate::sides::{is_bare_variable, is_oriented};
+use crate::partners::partners;
+use crate::sides::{is_oriented, is_taken};
 use crate::site::Site;
+use clause_index::HeldSet;
 use fol_core::{Literal, Term};
 use held_clauses::{Held, is_equation, left_of, right_of};
 use resolution::Conclusion;
@@ -70,28 +74,6 @@ fn add_by(
         add_into(alloc, precedence, &site, &literal.atom, made)?;
     }
     Ok(())
-}
-
-// Whether a side of an equation is taken: no variable, and of an oriented one the left.
-#[tactic(auto, using(crate::proofs::Taken::side_bare, crate::proofs::Taken::side_first, crate::proofs::Taken::side_second))]
-fn is_taken(
-    alloc: Global,
-    precedence: &Precedence,
-    side: u64,
-    term: &Term,
-    atom: &Term,
-) -> Result<bool, AllocError>
-    requires { tree_of term.now ≡ side_of side (tree_of atom.now) }
-    ensures { IfOk result (λ b. b
-        ≡ takes_side (greater_of precedence.now) (tree_of atom.now) side) }
-{
-    if is_bare_variable(term) {
-        return Ok(false);
-    }
-    if side != 2 {
-        return Ok(true);
-    }
-    Ok(!is_oriented(alloc, precedence, atom)?)
 }
 
 // From a side of an equation, if it is taken.
@@ -210,19 +192,36 @@ fn add_with(
     Ok(())
 }
 
+// With each of some clauses.
+fn add_with_each(
+    alloc: Global,
+    precedence: &Precedence,
+    given: &Held,
+    others: &[&Held],
+    made: &mut Vec<Conclusion>,
+) -> Result<(), AllocError>
+    ensures { OnOk result (all_conclusions made.new.items ≡ all_conclusions made.old.items
+        ++ flat_map (paramodulants_with (greater_of precedence.now) given.now)
+        (lent others.now)) }
+{
+    for other in others {
+        add_with(alloc, precedence, given, other, made)?;
+    }
+    Ok(())
+}
+
 /// Adds all that paramodulation makes of a given clause and the clauses that are held, from it and into it, in its order.
 pub fn add_paramodulants(
     alloc: Global,
     precedence: &Precedence,
-    held: &[Held],
+    held: &HeldSet,
     given: &Held,
     made: &mut Vec<Conclusion>,
 ) -> Result<(), AllocError>
     ensures { OnOk result (all_conclusions made.new.items ≡ all_conclusions made.old.items
         ++ paramodulants_of (greater_of precedence.now) held.now given.now) }
 {
-    for other in held {
-        add_with(alloc, precedence, given, other, made)?;
-    }
+    let others = partners(alloc, precedence, held, given)?;
+    add_with_each(alloc, precedence, given, others.as_slice(), made)?;
     Ok(())
 }

@@ -1,8 +1,9 @@
 // The sides of equations, and what they may replace.
 ghost use Rattle.std.specs.Prelude.{◌≡◌, false, IfOk};
+ghost use Rattle.derivation.specs.Words.{side_of};
 ghost use Rattle.fol_core.specs.TermView.{tree_of};
 ghost use Rattle.held_clauses.specs.Order.{greater_of};
-ghost use Rattle.paramod.specs.Sites.{NeverReplaced};
+ghost use Rattle.paramod.specs.Sites.{NeverReplaced, takes_side};
 ghost use Rattle.prover_steps.specs.Equalities.{is_bare_variable, is_oriented};
 
 use fol_core::Term;
@@ -44,4 +45,26 @@ pub fn is_oriented(alloc: Global, precedence: &Precedence, atom: &Term) -> Resul
     let left = left_of(atom, &nothing);
     let right = right_of(atom, &nothing);
     is_greater(alloc, precedence, left, right)
+}
+
+/// Whether a side of an equation is taken: no variable, and of an oriented one the left.
+#[tactic(auto, using(crate::proofs::Taken::side_bare, crate::proofs::Taken::side_first, crate::proofs::Taken::side_second))]
+pub fn is_taken(
+    alloc: Global,
+    precedence: &Precedence,
+    side: u64,
+    term: &Term,
+    atom: &Term,
+) -> Result<bool, AllocError>
+    requires { tree_of term.now ≡ side_of side (tree_of atom.now) }
+    ensures { IfOk result (λ b. b
+        ≡ takes_side (greater_of precedence.now) (tree_of atom.now) side) }
+{
+    if is_bare_variable(term) {
+        return Ok(false);
+    }
+    if side != 2 {
+        return Ok(true);
+    }
+    Ok(!is_oriented(alloc, precedence, atom)?)
 }

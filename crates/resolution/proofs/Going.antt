@@ -2,8 +2,10 @@
 use Rattle.std.proofs.Common.{◌≡◌, ℕ, zero, suc, ◌+◌, ◌<◌, ◌≤◌, Bool, true, false, if◌then◌else◌, List, [], ◌∷◌, ◌++◌, length, get_or, map, filter, flat_map, take, refl, sym, ap, ap₂, ◌∙◌, arith, add-zero, append_assoc}
 use Rattle.std.proofs.lemmas.List.{take_all, take_more, append-nil}
 use Rattle.std.proofs.lemmas.Grind.{flat_map-append}
+use Rattle.std.specs.Borrow.{Bor}
 use Rattle.fol_core.specs.Literals.{ClauseTree}
-use Rattle.prover_steps.specs.Clashing.{places_from, places_of}
+use Rattle.held_clauses.specs.Holding.{lent}
+use Rattle.prover_steps.specs.Clashing.{Held, places_from, places_of}
 
 -- nothing is added
 pub nothing_added : {A : Type 0} (old more : List A) → more ≡ [] → old ≡ old ++ more
@@ -78,3 +80,13 @@ places_added f c i old made h was = flat_all f (places_of c) i old made (omega (
 pub place_kept : {A : Type 0} (test : ℕ → Bool) (f : ℕ → List A) (c : ClauseTree) (i : ℕ) (old made : List A) → length c ≤ i
     → made ≡ old ++ flat_map (λ k. if test k then f k else []) (take i (places_of c)) → made ≡ old ++ flat_map f (filter test (places_of c))
 place_kept test f c i old made h was = places_added (λ k. if test k then f k else []) c i old made h was ∙ ap (λ ys. old ++ ys) (sym (flat_kept test f (places_of c)))
+
+-- clauses that are lent
+pub lent_added : {A : Type 0} (f : Held → List A) (hs : List (Bor Held)) (i : ℕ) (h : Bor Held) (old made new : List A) → i < length hs → h ≡ get_or hs i h
+    → made ≡ old ++ flat_map f (lent (take i hs)) → new ≡ made ++ f h.now → new ≡ old ++ flat_map f (lent (take (i + 1) hs))
+lent_added f hs i h old made new lt is was e =
+    flat_added (λ (k : Bor Held). f k.now) hs i h old made new lt is (was ∙ ap (λ ys. old ++ ys) (flat_mapped f (λ (k : Bor Held). k.now) (take i hs))) e
+    ∙ ap (λ ys. old ++ ys) (sym (flat_mapped f (λ (k : Bor Held). k.now) (take (i + 1) hs)))
+
+pub lent_all : {A : Type 0} (f : Held → List A) (hs : List (Bor Held)) (i : ℕ) (old made : List A) → length hs ≤ i → made ≡ old ++ flat_map f (lent (take i hs)) → made ≡ old ++ flat_map f (lent hs)
+lent_all f hs i old made end was = was ∙ ap (λ ks. old ++ flat_map f (lent ks)) (take_all i hs end)

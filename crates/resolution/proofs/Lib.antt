@@ -3,7 +3,9 @@ pub mod Clashes
 pub mod Coming
 pub mod Failing
 pub mod Going
+pub mod Idle
 pub mod Judgements
 pub mod Meetings
 pub mod Nucleated
 pub mod Standing
+pub mod Unopposed

@@ -1,11 +1,13 @@
 -- Partners that stand for others.
 use Rattle.std.proofs.Common.{◌≡◌, ℕ, ◌+◌, ◌<◌, ◌≤◌, Bool, true, false, not, ◌||◌, if◌then◌else◌, List, [], ◌∷◌, ◌++◌, length, get_or, map, flat_map, take, refl, sym, ap, ◌∙◌, subst, arith, append_assoc}
+use Rattle.std.specs.Borrow.{Bor}
 use Rattle.std.specs.List.{list_any}
 use Rattle.std.proofs.lemmas.List.{take_all, take_more, append-nil, map-append, flat_map_more}
 use Rattle.std.proofs.lemmas.Grind.{flat_map-append}
 use Rattle.fol_core.specs.ClauseView.{literal_of}
 use Rattle.fol_core.specs.Literals.{ClauseTree}
 use Rattle.fol_core.specs.declared.clause.Literal.{Literal}
+use Rattle.held_clauses.specs.Holding.{lent}
 use Rattle.prover_steps.specs.Clashing.{Held, Partner, has_negative, places_of}
 use Rattle.resolution.specs.Meeting.{NeverClash}
 use Rattle.resolution.specs.Trying.{is_satellite, partners_in, partners_by}
@@ -57,10 +59,13 @@ module _ (c : ClauseTree) (k : ℕ) where
   partners_kept kind held = flat_kept (λ (h : Held). is_satellite kind h.clause) partners_in held
 
   -- one more clause
-  pub stand_held : (kind : ClashKind) (held : List Held) (i : ℕ) (h : Held) (mid new : List Partner) → i < length held → h ≡ get_or held i h
-      → StandFor c k mid (partners_by kind (take i held)) → StandFor c k new (mid ++ (if is_satellite kind h.clause then partners_in h else [])) → StandFor c k new (partners_by kind (take (i + 1) held))
-  stand_held kind held i h mid new lt is front behind =
-      let all : partners_by kind (take i held) ++ of_one kind h ≡ partners_by kind (take (i + 1) held) =
-      ap (λ ps. ps ++ of_one kind h) (partners_kept kind (take i held)) ∙ flat_map_more (of_one kind) [] (take i held) h
-      ∙ ap (flat_map (of_one kind)) (ap (λ x. take i held ++ x ∷ []) is ∙ sym (take_more held i h lt)) ∙ sym (partners_kept kind (take (i + 1) held)) in
-      subst (StandFor c k new) all (stand_then (partners_by kind (take i held)) mid new (of_one kind h) front behind)
+  pub stand_lent : (kind : ClashKind) (held : List (Bor Held)) (i : ℕ) (h : Bor Held) (mid new : List Partner) → i < length held → h ≡ get_or held i h
+      → StandFor c k mid (partners_by kind (lent (take i held))) → StandFor c k new (mid ++ (if is_satellite kind h.now.clause then partners_in h.now else []))
+      → StandFor c k new (partners_by kind (lent (take (i + 1) held)))
+  stand_lent kind held i h mid new lt is front behind =
+      let one : lent (take (i + 1) held) ≡ lent (take i held) ++ h.now ∷ [] =
+      ap lent (take_more held i h lt ∙ ap (λ x. take i held ++ x ∷ []) (sym is)) ∙ map-append (λ (b : Bor Held). b.now) (take i held) (h ∷ []) in
+      let all : partners_by kind (lent (take i held)) ++ of_one kind h.now ≡ partners_by kind (lent (take (i + 1) held)) =
+      ap (λ ps. ps ++ of_one kind h.now) (partners_kept kind (lent (take i held))) ∙ flat_map_more (of_one kind) [] (lent (take i held)) h.now
+      ∙ ap (flat_map (of_one kind)) (sym one) ∙ sym (partners_kept kind (lent (take (i + 1) held))) in
+      subst (StandFor c k new) all (stand_then (partners_by kind (lent (take i held))) mid new (of_one kind h.now) front behind)

@@ -1,4 +1,5 @@
 pub mod Meeting
+pub mod Opposing
 pub mod Tries
 pub mod Trying
 pub mod View

@@ -1,6 +1,8 @@
 // Binary resolution of a given clause with the clauses that are held.
 ghost use Rattle.std.specs.Prelude.{◌≡◌, ◌++◌, ◌∷◌, ◌||◌, [], not, true, IfOk, OnOk};
+ghost use Rattle.std.specs.List.{flat_map};
 ghost use Rattle.derivation.specs.Places.{has_literal};
+ghost use Rattle.held_clauses.specs.Holding.{lent};
 ghost use Rattle.proof_words.specs.Written.{satellite, by_resolve};
 ghost use Rattle.prover_steps.specs.Clashing.{is_same_held, resolvents_with, resolvents_of};
 ghost use Rattle.prover_steps.specs.Concluded.{inferred};
@@ -10,6 +12,8 @@ ghost use Rattle.resolution.specs.View.{all_conclusions};
 use crate::conclusion::Conclusion;
 use crate::inferring::infer;
 use crate::meeting::may_clash;
+use crate::opposing::opposing;
+use clause_index::HeldSet;
 use derivation::{First, Satellite};
 use fol_core::Clause;
 use held_clauses::Held;
@@ -128,19 +132,33 @@ fn resolve_with(
     Ok(())
 }
 
+// With each of some clauses.
+fn resolve_with_each(
+    alloc: Global,
+    others: &[&Held],
+    given: &Held,
+    made: &mut Vec<Conclusion>,
+) -> Result<(), AllocError>
+    ensures { OnOk result (all_conclusions made.new.items ≡ all_conclusions made.old.items
+        ++ flat_map (resolvents_with given.now) (lent others.now)) }
+{
+    for other in others {
+        resolve_with(alloc, given, other, made)?;
+    }
+    Ok(())
+}
+
 /// Adds all that binary resolution makes of a given clause and the clauses that are held, in its order.
-#[tactic(auto, using(crate::proofs::Going::flat_added, crate::proofs::Going::flat_all))]
 pub fn add_resolvents(
     alloc: Global,
-    held: &[Held],
+    held: &HeldSet,
     given: &Held,
     made: &mut Vec<Conclusion>,
 ) -> Result<(), AllocError>
     ensures { OnOk result (all_conclusions made.new.items ≡ all_conclusions made.old.items
         ++ resolvents_of held.now given.now) }
 {
-    for other in held {
-        resolve_with(alloc, given, other, made)?;
-    }
+    let others = opposing(alloc, held, given.clause())?;
+    resolve_with_each(alloc, others.as_slice(), given, made)?;
     Ok(())
 }

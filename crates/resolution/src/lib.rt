@@ -9,6 +9,7 @@ mod factoring;
 mod inferring;
 mod meeting;
 mod nuclei;
+mod opposing;
 mod partners;
 
 pub use binary::{add_resolvent, add_resolvents, two_clauses};

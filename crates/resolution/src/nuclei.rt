@@ -1,6 +1,7 @@
 // Hyperresolution, and resolution with units.
 ghost use Rattle.std.specs.Prelude.{◌≡◌, ◌++◌, ◌∷◌, [], ◌==◌, ℕ, List, not, false, nat_lt, if◌then◌else◌, IfOk, OnOk, filter, flat_map, length};
 ghost use Rattle.derivation.specs.Places.{has_literal};
+ghost use Rattle.held_clauses.specs.Holding.{lent};
 ghost use Rattle.proof_words.specs.Written.{by_hyper, by_ur};
 ghost use Rattle.prover_steps.specs.Clashing.{Partner, is_same_held, clashings, clashes_of, places_of, places_with, positive_partners, has_negative, hyperresolvents_of, unit_clashings, unit_resolvents_of};
 ghost use Rattle.resolution.specs.Trying.{partners_by, clashing_word, all_tried};
@@ -9,7 +10,9 @@ ghost use Rattle.resolution.specs.Ways.{StandForEach};
 
 use crate::clashing::{Nucleus, Taken, clash_on};
 use crate::conclusion::Conclusion;
+use crate::opposing::nuclei_with;
 use crate::partners::{ClashKind, Meetings, candidates_at, has_negative};
+use clause_index::HeldSet;
 use fol_core::Clause;
 use held_clauses::Held;
 use std::alloc::{AllocError, Global};
@@ -47,7 +50,7 @@ fn add_place<'a>(
     nucleus: &Clause,
     place: u64,
     wanted: bool,
-    held: &'a [Held],
+    held: &'a HeldSet,
     places: &mut Vec<Meetings<'a>>,
 ) -> Result<(), AllocError>
     ensures { OnOk result ((ks : List ℕ)
@@ -67,7 +70,7 @@ fn add_place<'a>(
 fn negative_places<'a>(
     alloc: Global,
     nucleus: &Clause,
-    held: &'a [Held],
+    held: &'a HeldSet,
 ) -> Result<Vec<Meetings<'a>>, AllocError>
     ensures { IfOk result (λ ms. StandForEach nucleus.now (all_tried ms.items)
         (places_with false nucleus.now) (partners_by ClashKind.Hyper held.now)) }
@@ -86,7 +89,7 @@ fn other_places<'a>(
     alloc: Global,
     nucleus: &Clause,
     left: u64,
-    held: &'a [Held],
+    held: &'a HeldSet,
 ) -> Result<Vec<Meetings<'a>>, AllocError>
     ensures { IfOk result (λ ms. StandForEach nucleus.now (all_tried ms.items)
         (filter (λ k. not (k == left)) (places_of nucleus.now))
@@ -138,7 +141,7 @@ fn add_clashes(
 // What becomes of a clause as a nucleus, if it has a negative literal.
 fn add_clashes_of(
     alloc: Global,
-    held: &[Held],
+    held: &HeldSet,
     given: &Held,
     nucleus: &Held,
     made: &mut Vec<Conclusion>,
@@ -157,27 +160,44 @@ fn add_clashes_of(
     Ok(())
 }
 
+// What becomes of each of some clauses as a nucleus.
+fn add_clashes_of_each(
+    alloc: Global,
+    held: &HeldSet,
+    given: &Held,
+    nuclei: &[&Held],
+    made: &mut Vec<Conclusion>,
+) -> Result<(), AllocError>
+    ensures { OnOk result (all_conclusions made.new.items ≡ all_conclusions made.old.items
+        ++ flat_map (λ n. if has_negative n.clause
+        then clashes_of by_hyper given.now n (clashings
+        (places_with false n.clause) (positive_partners held.now)) else []) (lent nuclei.now)) }
+{
+    for nucleus in nuclei {
+        add_clashes_of(alloc, held, given, nucleus, made)?;
+    }
+    Ok(())
+}
+
 /// Adds all that hyperresolution makes of the clauses that are held, where the given clause takes part, in its order.
-#[tactic(auto, using(crate::proofs::Going::flat_added))]
 pub fn add_hyperresolvents(
     alloc: Global,
-    held: &[Held],
+    held: &HeldSet,
     given: &Held,
     made: &mut Vec<Conclusion>,
 ) -> Result<(), AllocError>
     ensures { OnOk result (all_conclusions made.new.items ≡ all_conclusions made.old.items
         ++ hyperresolvents_of held.now given.now) }
 {
-    for nucleus in held {
-        add_clashes_of(alloc, held, given, nucleus, made)?;
-    }
+    let nuclei = nuclei_with(alloc, ClashKind::Hyper, held, given.number())?;
+    add_clashes_of_each(alloc, held, given, nuclei.as_slice(), made)?;
     Ok(())
 }
 
 // What becomes of a nucleus where one literal is left over.
 fn add_with_units(
     alloc: Global,
-    held: &[Held],
+    held: &HeldSet,
     given: &Held,
     nucleus: &Held,
     left: u64,
@@ -196,7 +216,7 @@ fn add_with_units(
 // What becomes of a clause as a nucleus, if it has two literals or more.
 fn add_unit_clashes_of(
     alloc: Global,
-    held: &[Held],
+    held: &HeldSet,
     given: &Held,
     nucleus: &Held,
     made: &mut Vec<Conclusion>,
@@ -216,19 +236,37 @@ fn add_unit_clashes_of(
     Ok(())
 }
 
+// What becomes of each of some clauses as a nucleus.
+fn add_unit_clashes_of_each(
+    alloc: Global,
+    held: &HeldSet,
+    given: &Held,
+    nuclei: &[&Held],
+    made: &mut Vec<Conclusion>,
+) -> Result<(), AllocError>
+    ensures { OnOk result (all_conclusions made.new.items ≡ all_conclusions made.old.items
+        ++ flat_map (λ n. if nat_lt 1 (length n.clause)
+        then flat_map (λ left. clashes_of by_ur given.now n
+        (unit_clashings held.now n.clause left)) (places_of n.clause)
+        else []) (lent nuclei.now)) }
+{
+    for nucleus in nuclei {
+        add_unit_clashes_of(alloc, held, given, nucleus, made)?;
+    }
+    Ok(())
+}
+
 /// Adds all that resolution with units makes of the clauses that are held, where the given clause takes part, in its order.
-#[tactic(auto, using(crate::proofs::Going::flat_added))]
 pub fn add_unit_resolvents(
     alloc: Global,
-    held: &[Held],
+    held: &HeldSet,
     given: &Held,
     made: &mut Vec<Conclusion>,
 ) -> Result<(), AllocError>
     ensures { OnOk result (all_conclusions made.new.items ≡ all_conclusions made.old.items
         ++ unit_resolvents_of held.now given.now) }
 {
-    for nucleus in held {
-        add_unit_clashes_of(alloc, held, given, nucleus, made)?;
-    }
+    let nuclei = nuclei_with(alloc, ClashKind::Units, held, given.number())?;
+    add_unit_clashes_of_each(alloc, held, given, nuclei.as_slice(), made)?;
     Ok(())
 }

@@ -1,11 +1,13 @@
 // Literals that are tried for the places of a nucleus.
 ghost use Rattle.std.specs.Prelude.{◌≡◌, ◌++◌, ◌∷◌, [], not, map, if◌then◌else◌, IfOk, OnOk};
 ghost use Rattle.std.specs.List.{list_any};
+ghost use Rattle.held_clauses.specs.Holding.{lent};
 ghost use Rattle.prover_steps.specs.Clashing.{has_negative};
 ghost use Rattle.resolution.specs.Trying.{is_satellite, partners_in, partners_by, partner_of};
 ghost use Rattle.resolution.specs.Ways.{StandFor};
 
 use crate::meeting::may_clash;
+use clause_index::HeldSet;
 use fol_core::{Clause, Literal};
 use held_clauses::Held;
 use std::alloc::{AllocError, Global};
@@ -109,20 +111,41 @@ fn add_held<'a>(
     Ok(())
 }
 
+// The literals of some clauses that may clash with the one at a place.
+fn candidates_among<'a>(
+    alloc: Global,
+    kind: ClashKind,
+    nucleus: &Clause,
+    place: u64,
+    held: &[&'a Held],
+) -> Result<Vec<Candidate<'a>>, AllocError>
+    ensures { IfOk result (λ cs. StandFor nucleus.now place (map partner_of cs.items)
+        (partners_by kind (lent held.now))) }
+{
+    let mut candidates = Vec::new(alloc);
+    for h in held {
+        add_held(kind, nucleus, place, h, &mut candidates)?;
+    }
+    Ok(candidates)
+}
+
 /// The literals that may clash with the one at a place.
 pub fn candidates_at<'a>(
     alloc: Global,
     kind: ClashKind,
     nucleus: &Clause,
     place: u64,
-    held: &'a [Held],
+    held: &'a HeldSet,
 ) -> Result<Vec<Candidate<'a>>, AllocError>
     ensures { IfOk result (λ cs. StandFor nucleus.now place (map partner_of cs.items)
         (partners_by kind held.now)) }
 {
-    let mut candidates = Vec::new(alloc);
-    for h in held {
-        add_held(kind, nucleus, place, h, &mut candidates)?;
+    let literals = nucleus.as_slice();
+    if place >= literals.len() as u64 {
+        return Ok(Vec::new(alloc));
     }
+    let literal = &literals[place as usize];
+    let found = held.with_unifiable(!literal.positive, &literal.atom)?;
+    let candidates = candidates_among(alloc, kind, nucleus, place, found.as_slice())?;
     Ok(candidates)
 }

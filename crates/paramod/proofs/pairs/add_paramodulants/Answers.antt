@@ -1,16 +1,17 @@
-use Rattle.std.proofs.Common.{arith}
+use Rattle.std.proofs.Common.{◌++◌, flat_map, ap, ◌∙◌}
+use Rattle.held_clauses.specs.Holding.{lent}
 use Rattle.held_clauses.specs.Order.{greater_of}
 use Rattle.prover_steps.specs.Equalities.{paramodulants_with}
 use Rattle.resolution.specs.View.{all_conclusions}
-use Rattle.resolution.proofs.Going.{flat_added, flat_all}
+use Rattle.paramod.proofs.Unpaired.{paramodulants_left}
 use Rattle.paramod.proofs.pairs.add_paramodulants.Goals as goal
-
-pub loop-other-preserved : goal.loop-other-preserved
-loop-other-preserved c =
-    flat_added (paramodulants_with (greater_of c.args.precedence.now) c.args.given.now) c.args.held.now c.loop-other.other-index c.other-item.result (all_conclusions c.args.made.now.items)
-    (all_conclusions c.loop-other.made.items) _ (omega arith) c.other-item.is c.loop-other.invariant c.in_ok-add_with.ensures
 
 pub returns : goal.returns
 returns c =
-    flat_all (paramodulants_with (greater_of c.args.precedence.now) c.args.given.now) c.args.held.now c.loop-other.other-index (all_conclusions c.args.made.now.items)
-    (all_conclusions c.loop-other.made.items) (omega arith) c.loop-other.invariant
+    let greater = greater_of c.args.precedence.now in
+    let g = c.args.given.now in
+    c.in_ok-add_with_each.ensures
+    ∙ ap (λ ns. all_conclusions c.args.made.now.items ++ ns)
+    (ap (λ ks. flat_map (paramodulants_with greater g) (lent ks)) c.as_slice.ensures.value
+    ∙ ap (flat_map (paramodulants_with greater g)) c.in_ok-others.ensures
+    ∙ paramodulants_left greater c.args.held.now g)

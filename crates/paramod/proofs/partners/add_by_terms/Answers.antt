@@ -1,0 +1,22 @@
+use Rattle.std.proofs.Common.{◌++◌, Bool, if◌then◌else◌, flat_map, ap, sym, ◌∙◌}
+use Rattle.fol_core.specs.TermView.{tree_of}
+use Rattle.fol_core.specs.Tree.{Tree}
+use Rattle.derivation.specs.Equations.{left_of}
+use Rattle.paramod.specs.Partners.{terms_in, terms_below, replacing}
+use Rattle.paramod.proofs.partners.add_by_terms.Goals as goal
+
+pub returns-then-not-branch : goal.returns-then-not-branch
+returns-then-not-branch c =
+    let hs = c.args.held.now in
+    let atom = tree_of c.args.literal.now.atom in
+    let old = c.args.numbers.now.items in
+    c.in_ok-add_below.ensures
+    ∙ ap (λ (b : Bool). old ++ flat_map (replacing hs) (if b then terms_in (left_of atom) else terms_below atom)) (sym (sym c.in_ok-is_oriented.ensures ∙ c.if-not-branch.true))
+
+pub returns : goal.returns
+returns c =
+    let hs = c.args.held.now in
+    let atom = tree_of c.args.literal.now.atom in
+    let old = c.args.numbers.now.items in
+    c.in_ok-add_inside.ensures ∙ ap (λ (t : Tree). old ++ flat_map (replacing hs) (terms_in t)) c.left_of-larger.ensures
+    ∙ ap (λ (b : Bool). old ++ flat_map (replacing hs) (if b then terms_in (left_of atom) else terms_below atom)) (sym (sym c.in_ok-is_oriented.ensures ∙ c.if-not-branch.false))

@@ -1,0 +1,17 @@
+use Rattle.std.proofs.Common.{arith}
+use Rattle.fol_core.specs.ClauseView.{literal_of}
+use Rattle.fol_core.specs.declared.clause.Literal.{Literal}
+use Rattle.held_clauses.specs.Order.{greater_of}
+use Rattle.paramod.specs.Partners.{by_terms}
+use Rattle.resolution.proofs.Going.{flat_added, flat_all}
+use Rattle.paramod.proofs.partners.add_by_terms_each.Goals as goal
+
+pub loop-literal-preserved : goal.loop-literal-preserved
+loop-literal-preserved c =
+    flat_added (λ (k : Literal). by_terms (greater_of c.args.precedence.now) c.args.held.now (literal_of k)) c.args.literals.now c.loop-literal.literal-index c.literal-item.result c.args.numbers.now.items
+    c.loop-literal.numbers.items _ (omega arith) c.literal-item.is c.loop-literal.invariant c.in_ok-add_by_terms.ensures
+
+pub returns : goal.returns
+returns c =
+    flat_all (λ (k : Literal). by_terms (greater_of c.args.precedence.now) c.args.held.now (literal_of k)) c.args.literals.now c.loop-literal.literal-index c.args.numbers.now.items
+    c.loop-literal.numbers.items (omega arith) c.loop-literal.invariant
