@@ -12,7 +12,7 @@ use Rattle.proof_words.specs.Written.{satellite, by_resolve}
 use Rattle.prover_steps.specs.Concluded.{inferred}
 
 -- one after the other
-conflicts_next : (u : Held) (us : List Held) (h : Held) → conflicts_with (u ∷ us) h ≡ conflicts_with (u ∷ []) h ++ conflicts_with us h
+pub conflicts_next : (u : Held) (us : List Held) (h : Held) → conflicts_with (u ∷ us) h ≡ conflicts_with (u ∷ []) h ++ conflicts_with us h
 conflicts_next u us h = by (is_unit u.clause)
   where
     tell : Held → List Conclusion

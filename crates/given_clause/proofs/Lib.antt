@@ -2,6 +2,8 @@ pub mod Conflicts
 pub mod Going
 pub mod Lightest
 pub mod Merging
+pub mod Narrowed
+pub mod Noting
 pub mod Others
 pub mod Settling
 pub mod Stepped

@@ -6,13 +6,17 @@ use Rattle.std.proofs.lemmas.Bool.{leb-true, leb-false, le-leb, lt-leb}
 use Rattle.std.proofs.lemmas.List.{take_all, append-nil}
 use Rattle.std.proofs.lemmas.List.Elements.{filter-append}
 use Rattle.fol_core.specs.Literals.{ClauseTree}
+use Rattle.given_clause.specs.Noted.{note_of, AreNoted}
 use Rattle.given_clause.specs.Turns.{counts_among, lightest_among, best_so_far, lighter_next, best_next}
 use Rattle.given_clause.specs.declared.picking.Among.{Among}
-use Rattle.given_clause.specs.declared.picking.Among.TheVariants.{All}
+use Rattle.given_clause.specs.declared.picking.Among.TheVariants.{All, Hinted, WithPositive, WithoutPositive}
+use Rattle.given_clause.specs.declared.waiting.Note.{Note}
+use Rattle.given_clause.specs.declared.waiting.Waiting.{Waiting}
 use Rattle.prover_steps.specs.Clashing.{Held}
 use Rattle.prover_steps.specs.Picking.{Picked, lighter, lightest}
 use Rattle.prover_steps.specs.Searching.{Setting}
 use Rattle.given_clause.proofs.Going.{take_next}
+use Rattle.given_clause.proofs.Noting.{noted_at}
 
 module _ (weight : ClauseTree → ℕ) where
   -- with its weight
@@ -75,11 +79,21 @@ module _ (weight : ClauseTree → ℕ) where
 abbrev pub best_in : Setting → Among → List Held → Option Picked
 best_in st a hs = option_map (weighed st.weight) (lightest_among st a hs)
 
-pub best_more : (st : Setting) (a : Among) (hs : List Held) (i : ℕ) (h : Held) (old new : Option Picked) → i < length hs → h ≡ get_or hs i h
-    → old ≡ best_in st a (take i hs) → new ≡ best_next st a old h → new ≡ best_in st a (take (i + 1) hs)
-best_more st a hs i h old new within is was e =
-    e ∙ ap (λ o. best_next st a o h) was
-    ∙ sym (ap (best_in st a) (take_next hs i h within is) ∙ lightest_kept st.weight (λ k. counts_among st a k.clause) (take i hs) h)
+-- by the note of the next one
+by_note : (st : Setting) (a : Among) (best : Option Picked) (h : Held)
+    → best_next a best h (note_of st h) ≡ (if counts_among st a h.clause then Some (lighter_next best (weighed st.weight h)) else best)
+by_note st All best h = refl
+by_note st Hinted best h = refl
+by_note st WithPositive best h = refl
+by_note st WithoutPositive best h = refl
+
+pub best_more : (st : Setting) (a : Among) (w : Waiting) (i : ℕ) (h : Held) (n : Note) (old new : Option Picked) → i < length w.held → h ≡ get_or w.held i h → AreNoted st w → n ≡ get_or w.notes.items i n
+    → old ≡ best_in st a (take i w.held) → new ≡ best_next a old h n → new ≡ best_in st a (take (i + 1) w.held)
+best_more st a w i h n old new within is noted at was e =
+    e ∙ ap (λ o. best_next a o h n) was
+    ∙ ap (best_next a (best_in st a (take i w.held)) h) (noted_at st w.held i h n within is (at ∙ ap (λ ns. get_or ns i n) noted))
+    ∙ by_note st a (best_in st a (take i w.held)) h
+    ∙ sym (ap (best_in st a) (take_next w.held i h within is) ∙ lightest_kept st.weight (λ k. counts_among st a k.clause) (take i w.held) h)
 
 unweighed : (weight : ClauseTree → ℕ) (best : Option (Bor Held × ℕ)) (o : Option Held) → best_so_far best ≡ option_map (weighed weight) o → option_map (λ p. p.0.now) best ≡ o
 unweighed weight None None e = refl

@@ -13,7 +13,7 @@ use Rattle.prover_steps.specs.Subsuming.{matched_literal, literal_matches, subsu
 use Rattle.substitutions.specs.Bindings.{Binding}
 use Rattle.unifiers.specs.Matching.{matched}
 
-false_is : false ≡ true → {A : Type 0} → A
+pub false_is : false ≡ true → {A : Type 0} → A
 false_is e = cc
 
 -- tests of lists
@@ -47,7 +47,7 @@ any_never : {X : Type 0} (xs : List X) → list_any (λ (x : X). false) xs ≡ f
 any_never [] = refl
 any_never (x ∷ xs) = any_never xs
 
-any_so : {X : Type 0} (p q : X → Bool) → ((x : X) → p x ≡ true → q x ≡ true) → (xs : List X) → list_any p xs ≡ true → list_any q xs ≡ true
+pub any_so : {X : Type 0} (p q : X → Bool) → ((x : X) → p x ≡ true → q x ≡ true) → (xs : List X) → list_any p xs ≡ true → list_any q xs ≡ true
 any_so p q each [] e = e
 any_so p q each (x ∷ xs) e = by (p x) refl e (any_so p q each xs)
   where
@@ -77,7 +77,7 @@ some_there test (l ∷ d) (suc a) k there h = ap (λ b. test l || b) (some_there
     or_true false = refl
 
 -- the first literal of a clause that subsumes another matches one of its literals
-first_matches : (l : Lit) (c d : ClauseTree) → subsumes (l ∷ c) d ≡ true → list_any (λ k. is_some (matched_literal l k [])) d ≡ true
+pub first_matches : (l : Lit) (c d : ClauseTree) → subsumes (l ∷ c) d ≡ true → list_any (λ k. is_some (matched_literal l k [])) d ≡ true
 first_matches l c d e = some_place at each (places_of d) e
   where
     way : ℕ → Option (List Binding) → Bool

@@ -5,13 +5,13 @@ use Rattle.given_clause.specs.declared.guide.Guide.{Guide}
 use Rattle.held_clauses.specs.Order.{greater_of}
 use Rattle.prover_steps.specs.Searching.{Setting}
 use Rattle.weights.specs.Hints.{is_hinted, clause_weight}
-use Rattle.weights.specs.Rows.{weight_row, hint_row}
+use Rattle.weights.specs.Rows.{weight_row}
 
 abbrev pub setting_of : Guide → Setting
 setting_of g = record {
   rules = rules_set g.rules;
   greater = greater_of g.precedence;
-  weight = clause_weight (map weight_row g.weights.patterns.items) (map hint_row g.weights.hints.items);
-  is_hinted = is_hinted (map hint_row g.weights.hints.items);
+  weight = clause_weight (map weight_row g.weights.patterns.items) g.weights.hints;
+  is_hinted = is_hinted g.weights.hints;
   options = g.options;
 }

@@ -48,7 +48,7 @@ reason_of Filled = filled
 
 abbrev pub state_of : Search → SearchState
 state_of s = record {
-  waiting = s.waiting;
+  waiting = s.waiting.held;
   usable = s.usable;
   rules = s.rules;
   queue = map queued_of s.queue.items;

@@ -5,9 +5,10 @@ use Rattle.std.specs.Option.{option_map}
 use Rattle.fol_core.specs.Literals.{ClauseTree}
 use Rattle.given_clause.specs.declared.picking.Among.{Among}
 use Rattle.given_clause.specs.declared.picking.Among.TheVariants.{All, Hinted, WithPositive, WithoutPositive}
-use Rattle.prover_steps.specs.Clashing.{Held}
 use Rattle.given_clause.specs.declared.picking.Pick.{Pick}
+use Rattle.given_clause.specs.declared.waiting.Note.{Note}
 use Rattle.ladr_options.specs.declared.options.Options.{Options}
+use Rattle.prover_steps.specs.Clashing.{Held}
 use Rattle.prover_steps.specs.Picking.{Picked, has_positive, lightest, turn_at, turns_of}
 use Rattle.prover_steps.specs.Searching.{Setting}
 
@@ -33,9 +34,16 @@ abbrev pub lighter_next : Option Picked → Picked → Picked
 lighter_next None p = p
 lighter_next (Some b) p = if nat_le b.1 p.1 then b else p
 
-abbrev pub best_next : Setting → Among → Option Picked → Held → Option Picked
-best_next st a best h =
-    if counts_among st a h.clause then Some (lighter_next best (h, st.weight h.clause)) else best
+-- whether a clause is one of some by its note, and the best one so far with it
+abbrev pub is_noted_among : Among → Note → Bool
+is_noted_among All n = true
+is_noted_among Hinted n = n.hinted
+is_noted_among WithPositive n = n.positive
+is_noted_among WithoutPositive n = not n.positive
+
+abbrev pub best_next : Among → Option Picked → Held → Note → Option Picked
+best_next a best h n =
+    if is_noted_among a n then Some (lighter_next best (h, n.weight)) else best
 
 -- so many turns from a place on are of one kind, and none of them but the last is the last of all
 abbrev pub IsRun : Options → ℕ → ℕ → Type 0

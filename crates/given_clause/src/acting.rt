@@ -1,36 +1,45 @@
 // What a clause that is kept does to others.
-ghost use Rattle.std.specs.Prelude.{◌≡◌, ◌++◌, [], ◌∷◌, not, ◌&&◌, IfOk, OnOk, filter, map};
+ghost use Rattle.std.specs.Prelude.{◌≡◌, ◌++◌, [], ◌∷◌, true, not, ◌&&◌, IfOk, OnOk, filter, map};
 ghost use Rattle.std.specs.List.{list_any};
 ghost use Rattle.std.specs.Option.{option_map};
 ghost use Rattle.derivation.specs.Later.{is_unit};
-ghost use Rattle.given_clause.specs.Acting.{acts_on, word_for, conflicts_with, first_in};
+ghost use Rattle.derivation.specs.Places.{has_literal};
+ghost use Rattle.given_clause.specs.Acting.{acts_on, may_act, may_subsume, may_conflict, word_for, conflicts_with, first_in};
+ghost use Rattle.given_clause.specs.Noted.{StayNoted};
 ghost use Rattle.given_clause.specs.States.{queued_of, state_of};
 ghost use Rattle.held_clauses.specs.Holding.{lent};
 ghost use Rattle.prover_steps.specs.Clashing.{is_same_held};
 ghost use Rattle.prover_steps.specs.HeldOrder.{IsInOrder};
-ghost use Rattle.prover_steps.specs.Searching.{all_held, others_held, retires, puts_back, queued_back, unit_meets};
+ghost use Rattle.prover_steps.specs.Searching.{Setting, all_held, others_held, retires, puts_back, queued_back, unit_meets};
 ghost use Rattle.prover_steps.specs.Shortening.{denies};
+ghost use Rattle.prover_steps.specs.Subsuming.{subsumes};
 ghost use Rattle.resolution.specs.View.{conclusion_of};
 
 use crate::keeping::{add_proof, keep_line};
 use crate::lists::merged;
 use crate::state::{Queued, Search};
+use clause_index::HeldSet;
 use demodulate::{denies, rewrites_clause};
 use derivation::First;
-use fol_core::Clause;
-use held_clauses::Held;
-use prover_steps::clauses_stay_in_order;
+use fol_core::{Clause, Term};
+use held_clauses::{Held, first_atom, left_of};
 use resolution::{Conclusion, add_resolvent};
 use std::alloc::{AllocError, Global};
 use std::collections::VecDeque;
-use subsume::subsumes;
+use subsume::{Places, subsumes};
 
-/// It subsumes them, deletes a literal of them, or rewrites them.
+/// It deletes a literal of a clause, or rewrites it: the clause is put back.
+#[derive(Clone, Copy, Debug, PartialEq, Eq)]
+pub enum Back {
+    Deletes,
+    Rewrites,
+}
+
+/// It subsumes a clause, or puts it back.
 #[derive(Clone, Copy, Debug, PartialEq, Eq)]
 pub enum Act {
     Subsumes,
-    Deletes,
-    Rewrites,
+    PutsBack(Back),
 }
 
 /// Whether a clause is a unit.
@@ -40,13 +49,16 @@ pub fn is_unit(clause: &Clause) -> bool
     clause.len() == 1
 }
 
-// The clauses that wait and those in use, by their numbers.
-fn all_held(alloc: Global, search: &Search) -> Result<Vec<&Held>, AllocError>
-    requires { IsInOrder (state_of search.now) }
-    ensures { IfOk result (λ hs. lent hs.items ≡ all_held (state_of search.now)) }
+/// Whether a clause subsumes another one, in room that is made for it.
+pub fn is_subsumed_by(
+    places: &mut Places,
+    clause: &Clause,
+    other: &Clause,
+) -> Result<bool, AllocError>
+    ensures { IfOk result (λ b. b ≡ subsumes clause.now other.now) }
 {
-    clauses_stay_in_order();
-    merged(alloc, search.waiting.as_slice(), search.usable.as_slice())
+    places.reserve(clause.len())?;
+    Ok(subsumes(places, clause, other))
 }
 
 // Whether a unit denies a literal of a clause.
@@ -67,9 +79,9 @@ fn acts_on(alloc: Global, act: Act, held: &Held, clause: &Clause) -> Result<bool
     ensures { IfOk result (λ b. b ≡ acts_on act held.now clause.now) }
 {
     match act {
-        Act::Subsumes => subsumes(alloc, held.clause(), clause),
-        Act::Deletes => denies_some(alloc, held, clause),
-        Act::Rewrites => rewrites_clause(alloc, held, clause),
+        Act::Subsumes => is_subsumed_by(&mut Places::new(alloc), held.clause(), clause),
+        Act::PutsBack(Back::Deletes) => denies_some(alloc, held, clause),
+        Act::PutsBack(Back::Rewrites) => rewrites_clause(alloc, held, clause),
     }
 }
 
@@ -84,18 +96,102 @@ fn acts_on_other(alloc: Global, act: Act, held: &Held, other: &Held) -> Result<b
     acts_on(alloc, act, held, other.clause())
 }
 
-// Copies of the clauses of a list to which another one does so, it itself left out.
-fn others_in(alloc: Global, act: Act, list: &[Held], held: &Held) -> Result<Vec<Held>, AllocError>
-    ensures { IfOk result (λ hs. hs.items ≡ filter (λ d. not (is_same_held held.now d)
-        && acts_on act held.now d.clause) list.now) }
+// All clauses of a list.
+fn all_of(alloc: Global, list: &[Held]) -> Result<Vec<&Held>, AllocError>
+    ensures { IfOk result (λ hs. lent hs.items ≡ list.now) }
+{
+    let mut all = Vec::new(alloc);
+    for held in list {
+        all.push(held)?;
+    }
+    Ok(all)
+}
+
+// Whether the first literal of a clause is positive; of one without literals it isn't.
+fn begins_positive(clause: &Clause) -> bool
+    ensures { result ≡ has_literal true clause.now 0 }
+{
+    match clause.as_slice() {
+        [] => false,
+        [first, ..] => first.positive,
+    }
+}
+
+// The clauses of a set that a clause may subsume: those with an instance of its first literal.
+fn near_subsumed<'a>(
+    alloc: Global,
+    set: &'a HeldSet,
+    clause: &Clause,
+) -> Result<Vec<&'a Held>, AllocError>
+    ensures { IfOk result (λ hs. lent hs.items ≡ filter (may_subsume clause.now) set.now) }
+{
+    match clause.as_slice() {
+        [] => all_of(alloc, set.as_slice()),
+        [first, ..] => set.with_instance(first.positive, &first.atom),
+    }
+}
+
+// The clauses of a set that a clause may put back: those with a literal of the other sign that is an instance of its first
+// one, or with an instance of the left side of its equation.
+fn near_put_back<'a>(back: Back, set: &'a HeldSet, held: &Held) -> Result<Vec<&'a Held>, AllocError>
+    ensures { IfOk result (λ hs. lent hs.items
+        ≡ filter (may_act (Act.PutsBack back) held.now) set.now) }
+{
+    let clause = held.clause();
+    let nothing = Term::Var(0);
+    let atom = first_atom(clause, &nothing);
+    match back {
+        Back::Deletes => set.with_instance(!begins_positive(clause), atom),
+        Back::Rewrites => set.with_instance_inside(left_of(atom, &nothing)),
+    }
+}
+
+// The clauses of a set to which a clause may do so.
+fn near<'a>(
+    alloc: Global,
+    act: Act,
+    set: &'a HeldSet,
+    held: &Held,
+) -> Result<Vec<&'a Held>, AllocError>
+    ensures { IfOk result (λ hs. lent hs.items ≡ filter (may_act act held.now) set.now) }
+{
+    match act {
+        Act::Subsumes => near_subsumed(alloc, set, held.clause()),
+        Act::PutsBack(back) => near_put_back(back, set, held),
+    }
+}
+
+// The clauses of a list to which another one does so, it itself left out.
+fn others_among<'a>(
+    alloc: Global,
+    act: Act,
+    list: &[&'a Held],
+    held: &Held,
+) -> Result<Vec<&'a Held>, AllocError>
+    ensures { IfOk result (λ hs. lent hs.items ≡ filter (λ d. not (is_same_held held.now d)
+        && acts_on act held.now d.clause) (lent list.now)) }
 {
     let mut others = Vec::new(alloc);
     for other in list {
         if acts_on_other(alloc, act, held, other)? {
-            others.push(other.copy(alloc)?)?;
+            others.push(*other)?;
         }
     }
     Ok(others)
+}
+
+// Those of a set.
+fn others_in<'a>(
+    alloc: Global,
+    act: Act,
+    set: &'a HeldSet,
+    held: &Held,
+) -> Result<Vec<&'a Held>, AllocError>
+    ensures { IfOk result (λ hs. lent hs.items ≡ filter (λ d. not (is_same_held held.now d)
+        && acts_on act held.now d.clause) set.now) }
+{
+    let near = near(alloc, act, set, held)?;
+    others_among(alloc, act, near.as_slice(), held)
 }
 
 // Copies of clauses that are lent.
@@ -120,15 +216,16 @@ fn others_held(
     ensures { IfOk result (λ hs. hs.items ≡ others_held held.now (acts_on act held.now)
         (state_of search.now)) }
 {
-    let waiting = others_in(alloc, act, search.waiting.as_slice(), held)?;
-    let usable = others_in(alloc, act, search.usable.as_slice(), held)?;
+    let waiting = others_in(alloc, act, &search.waiting.held, held)?;
+    let usable = others_in(alloc, act, &search.usable, held)?;
     let others = merged(alloc, waiting.as_slice(), usable.as_slice())?;
     copies_of(alloc, others.as_slice())
 }
 
 // Clauses are retired.
 fn retire(gone: &[Held], search: &mut Search)
-    ensures { state_of search.new ≡ retires gone.now (state_of search.old) }
+    ensures noted { (st : Setting) → StayNoted st search.old.waiting search.new.waiting }
+    ensures state { state_of search.new ≡ retires gone.now (state_of search.old) }
 {
     search.waiting.leave_out(gone);
     search.usable.leave_out(gone);
@@ -136,14 +233,13 @@ fn retire(gone: &[Held], search: &mut Search)
 }
 
 // A clause that is put back, with the word for it.
-fn queued_back(alloc: Global, act: Act, held: Held) -> Result<Queued, AllocError>
-    ensures { IfOk result (λ q. queued_of q ≡ queued_back (word_for act) held) }
+fn queued_back(alloc: Global, back: Back, held: Held) -> Result<Queued, AllocError>
+    ensures { IfOk result (λ q. queued_of q ≡ queued_back (word_for back) held) }
 {
     let Held { number, clause } = held;
-    let first = match act {
-        Act::Subsumes => First::Copy(number),
-        Act::Deletes => First::BackUnitDel(number),
-        Act::Rewrites => First::BackRewrite(number),
+    let first = match back {
+        Back::Deletes => First::BackUnitDel(number),
+        Back::Rewrites => First::BackRewrite(number),
     };
     Ok(Queued {
         clause,
@@ -157,38 +253,41 @@ fn queued_back(alloc: Global, act: Act, held: Held) -> Result<Queued, AllocError
 // Clauses that are put back, in their order.
 fn all_queued_back(
     alloc: Global,
-    act: Act,
+    back: Back,
     mut gone: Vec<Held>,
 ) -> Result<VecDeque<Queued>, AllocError>
     ensures { IfOk result (λ qs. map queued_of qs.items
-        ≡ map (queued_back (word_for act)) gone.items) }
+        ≡ map (queued_back (word_for back)) gone.items) }
 {
-    let mut back = VecDeque::new(alloc);
+    let mut queue = VecDeque::new(alloc);
     while let Some(held) = gone.pop() {
-        back.push_front(queued_back(alloc, act, held)?)?;
+        queue.push_front(queued_back(alloc, back, held)?)?;
     }
-    Ok(back)
+    Ok(queue)
 }
 
 // Clauses are queued behind all others.
 fn queue_back(
     alloc: Global,
-    act: Act,
+    back: Back,
     gone: Vec<Held>,
     search: &mut Search,
 ) -> Result<(), AllocError>
-    ensures { OnOk result (state_of search.new ≡ record (state_of search.old) {
-      queue = (state_of search.old).queue ++ map (queued_back (word_for act)) gone.items;
+    ensures waiting { OnOk result (search.new.waiting ≡ search.old.waiting) }
+    ensures state { OnOk result (state_of search.new ≡ record (state_of search.old) {
+      queue = (state_of search.old).queue ++ map (queued_back (word_for back)) gone.items;
     }) }
 {
-    let mut back = all_queued_back(alloc, act, gone)?;
-    search.queue.append(&mut back)
+    let mut queue = all_queued_back(alloc, back, gone)?;
+    search.queue.append(&mut queue)
 }
 
 /// Those that a clause subsumes are retired.
 pub fn subsume_back(alloc: Global, search: &mut Search, held: &Held) -> Result<(), AllocError>
     requires { IsInOrder (state_of search.old) }
-    ensures { OnOk result (state_of search.new ≡ retires (others_held held.now
+    ensures noted { OnOk result
+        ((st : Setting) → StayNoted st search.old.waiting search.new.waiting) }
+    ensures state { OnOk result (state_of search.new ≡ retires (others_held held.now
         (acts_on Act.Subsumes held.now) (state_of search.old)) (state_of search.old)) }
 {
     let gone = others_held(alloc, Act::Subsumes, search, held)?;
@@ -197,14 +296,22 @@ pub fn subsume_back(alloc: Global, search: &mut Search, held: &Held) -> Result<(
 }
 
 /// Those from which it deletes a literal, or that it rewrites, are put back.
-pub fn put_back(alloc: Global, act: Act, search: &mut Search, held: &Held) -> Result<(), AllocError>
+pub fn put_back(
+    alloc: Global,
+    back: Back,
+    search: &mut Search,
+    held: &Held,
+) -> Result<(), AllocError>
     requires { IsInOrder (state_of search.old) }
-    ensures { OnOk result (state_of search.new ≡ puts_back (word_for act) (others_held held.now
-        (acts_on act held.now) (state_of search.old)) (state_of search.old)) }
+    ensures noted { OnOk result
+        ((st : Setting) → StayNoted st search.old.waiting search.new.waiting) }
+    ensures state { OnOk result (state_of search.new ≡ puts_back (word_for back)
+        (others_held held.now (acts_on (Act.PutsBack back) held.now) (state_of search.old))
+        (state_of search.old)) }
 {
-    let gone = others_held(alloc, act, search, held)?;
+    let gone = others_held(alloc, Act::PutsBack(back), search, held)?;
     retire(gone.as_slice(), search);
-    queue_back(alloc, act, gone, search)
+    queue_back(alloc, back, gone, search)
 }
 
 // What a clause makes of another one, if that is a unit.
@@ -238,20 +345,32 @@ fn first_conflict(
     Ok(None)
 }
 
+// The clauses of a set with a literal that may meet the first one of a clause.
+fn opposing<'a>(set: &'a HeldSet, held: &Held) -> Result<Vec<&'a Held>, AllocError>
+    ensures { IfOk result (λ hs. lent hs.items ≡ filter (may_conflict held.now) set.now) }
+{
+    let clause = held.clause();
+    let nothing = Term::Var(0);
+    set.with_unifiable(!begins_positive(clause), first_atom(clause, &nothing))
+}
+
 // What a clause makes of the first unit that is held with which it makes something.
 fn conflict(alloc: Global, search: &Search, held: &Held) -> Result<Option<Conclusion>, AllocError>
     requires { IsInOrder (state_of search.now) }
     ensures { IfOk result (λ o. option_map conclusion_of o
         ≡ first_in (conflicts_with (all_held (state_of search.now)) held.now)) }
 {
-    let units = all_held(alloc, search)?;
+    let waiting = opposing(&search.waiting.held, held)?;
+    let usable = opposing(&search.usable, held)?;
+    let units = merged(alloc, waiting.as_slice(), usable.as_slice())?;
     first_conflict(alloc, units.as_slice(), held)
 }
 
 /// A unit gives a proof with the first unit that is opposite and unifies.
 pub fn meet_units(alloc: Global, search: &mut Search, held: &Held) -> Result<(), AllocError>
     requires { IsInOrder (state_of search.old) }
-    ensures { OnOk result (state_of search.new ≡ unit_meets (state_of search.old) held.now) }
+    ensures waiting { OnOk result (search.new.waiting ≡ search.old.waiting) }
+    ensures state { OnOk result (state_of search.new ≡ unit_meets (state_of search.old) held.now) }
 {
     if !is_unit(held.clause()) {
         return Ok(());

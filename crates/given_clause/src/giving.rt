@@ -1,9 +1,10 @@
 // A clause is given.
 ghost use Rattle.std.specs.Prelude.{◌≡◌, ◌++◌, IfOk, OnOk, map, filter, not};
 ghost use Rattle.given_clause.specs.Guides.{setting_of};
+ghost use Rattle.given_clause.specs.Noted.{AreNoted, StayNoted};
 ghost use Rattle.given_clause.specs.States.{queued_of, state_of};
 ghost use Rattle.prover_steps.specs.HeldOrder.{numbers_of, IsInOrder, IsNoneOf};
-ghost use Rattle.prover_steps.specs.Searching.{queued_for, gives, given_next};
+ghost use Rattle.prover_steps.specs.Searching.{Setting, queued_for, gives, given_next};
 ghost use Rattle.resolution.specs.View.{conclusion_of};
 
 use crate::guide::Guide;
@@ -43,12 +44,14 @@ fn give(
     given: Held,
 ) -> Result<(), AllocError>
     requires { IsNoneOf given.number (numbers_of search.old.usable) }
-    ensures { OnOk result (state_of search.new ≡ gives (setting_of guide.now)
+    ensures noted { OnOk result
+        ((st : Setting) → StayNoted st search.old.waiting search.new.waiting) }
+    ensures state { OnOk result (state_of search.new ≡ gives (setting_of guide.now)
         (state_of search.old) given) }
 {
     let number = given.number();
     search.usable.put_in(given.copy(alloc)?)?;
-    let usable = search.usable.as_slice();
+    let usable = &search.usable;
     let new = conclusions_of(alloc, &guide.rules, &guide.precedence, usable, &given)?;
     search.waiting.leave_out_one(number);
     search.given = counted(search.given, 1)?;
@@ -59,12 +62,14 @@ fn give(
 
 /// Where the queue is empty: none waits, or as many as are allowed were given, or one is picked.
 pub fn give_next(alloc: Global, guide: &Guide<'_>, search: &mut Search) -> Result<(), AllocError>
-    requires { IsInOrder (state_of search.old) }
-    ensures { OnOk result (state_of search.new ≡ given_next (setting_of guide.now)
+    requires ordered { IsInOrder (state_of search.old) }
+    requires noted { AreNoted (setting_of guide.now) search.old.waiting }
+    ensures noted { OnOk result (AreNoted (setting_of guide.now) search.new.waiting) }
+    ensures state { OnOk result (state_of search.new ≡ given_next (setting_of guide.now)
         (state_of search.old)) }
 {
     steps_keep_order();
-    let Some(pick) = picked(alloc, guide, search.waiting.as_slice(), search.turn)? else {
+    let Some(pick) = picked(guide, &search.waiting, search.turn)? else {
         search.ended = Some(Reason::Spent);
         return Ok(());
     };

@@ -1,8 +1,15 @@
 // What guides a search.
+ghost use Rattle.std.specs.Prelude.{◌≡◌, ◌≤◌, false, IfOk};
+ghost use Rattle.given_clause.specs.Guides.{setting_of};
+ghost use Rattle.prover_steps.specs.Searching.{clause_size, is_too_large};
+
 use conclusions::RulesInForce;
+use fol_core::Clause;
+use held_clauses::clause_size;
 use ladr_options::Options;
+use std::alloc::{AllocError, Global};
 use term_order::Precedence;
-use weights::Rules;
+use weights::{Room, Rules};
 
 /// The rules in force, the order of terms, the rules of weights with the hints, and the options.
 #[derive(Drop)]
@@ -11,4 +18,34 @@ pub struct Guide<'a> {
     pub precedence: Precedence,
     pub weights: Rules<'a>,
     pub options: Options,
+}
+
+// Room for a clause to be weighed.
+fn room_for(alloc: Global, clause: &Clause) -> Result<Room, AllocError>
+    requires { is_too_large clause.now ≡ false }
+    ensures { IfOk result (λ room. clause_size clause.now ≤ room) }
+{
+    let mut room = Room::new(alloc);
+    room.reserve(clause_size(clause))?;
+    Ok(room)
+}
+
+impl Guide<'_> {
+    /// What a clause weighs.
+    pub fn weight_of(&self, alloc: Global, clause: &Clause) -> Result<u64, AllocError>
+        requires { is_too_large clause.now ≡ false }
+        ensures { IfOk result (λ n. n ≡ (setting_of self.now).weight clause.now) }
+    {
+        let mut room = room_for(alloc, clause)?;
+        Ok(self.weights.weight_of(&mut room, clause))
+    }
+
+    /// Whether a clause matches a hint.
+    pub fn is_hinted(&self, alloc: Global, clause: &Clause) -> Result<bool, AllocError>
+        requires { is_too_large clause.now ≡ false }
+        ensures { IfOk result (λ b. b ≡ (setting_of self.now).is_hinted clause.now) }
+    {
+        let mut room = room_for(alloc, clause)?;
+        Ok(self.weights.is_hinted(&mut room, clause))
+    }
 }

@@ -2,11 +2,14 @@
 ghost use Rattle.std.specs.Prelude.{◌≡◌, ◌+◌, ◌++◌, ◌∷◌, [], suc, false, IfOk, OnOk, map};
 ghost use Rattle.std.specs.List.{AllByRecursion};
 ghost use Rattle.derivation.specs.View.{later_of};
+ghost use Rattle.given_clause.specs.Guides.{setting_of};
+ghost use Rattle.given_clause.specs.Noted.{AreNoted};
 ghost use Rattle.given_clause.specs.States.{queued_of, state_of};
 ghost use Rattle.proof_words.specs.Written.{written_first};
 ghost use Rattle.prover_steps.specs.HeldOrder.{numbers_of, input_numbers, IsInOrder, IsNoneOf, IsUnusedIn};
 ghost use Rattle.prover_steps.specs.Searching.{counted_on, is_unchanged, number_for, with_line, with_proof, held_for, keeps, is_too_large};
 
+use crate::guide::Guide;
 use crate::state::{FoundProof, Queued, Search};
 use derivation::{Content, First, Just, Later, Line};
 use fol_core::Clause;
@@ -35,7 +38,8 @@ fn add_line(
     first: First,
     later: Vec<Later>,
 ) -> Result<(), AllocError>
-    ensures { OnOk result (state_of search.new ≡ record (state_of search.old) {
+    ensures waiting { OnOk result (search.new.waiting ≡ search.old.waiting) }
+    ensures state { OnOk result (state_of search.new ≡ record (state_of search.old) {
       lines = (state_of search.old).lines ++ record {
         number = search.old.next;
         clause = clause;
@@ -79,7 +83,8 @@ pub fn number_for(search: &Search, queued: &Queued) -> u64
 
 /// Its line, unless it has one.
 pub fn keep_line(search: &mut Search, queued: Queued) -> Result<(), AllocError>
-    ensures { OnOk result (state_of search.new ≡ with_line (state_of search.old)
+    ensures waiting { OnOk result (search.new.waiting ≡ search.old.waiting) }
+    ensures state { OnOk result (state_of search.new ≡ with_line (state_of search.old)
         (queued_of queued)) }
 {
     if is_unchanged(&queued) {
@@ -96,7 +101,8 @@ pub fn keep_line(search: &mut Search, queued: Queued) -> Result<(), AllocError>
 
 /// A proof whose last line has this number.
 pub fn add_proof(search: &mut Search, line: u64) -> Result<(), AllocError>
-    ensures { OnOk result (state_of search.new ≡ with_proof line (state_of search.old)) }
+    ensures waiting { OnOk result (search.new.waiting ≡ search.old.waiting) }
+    ensures state { OnOk result (state_of search.new ≡ with_proof line (state_of search.old)) }
 {
     let given = search.given;
     search.proofs.push(FoundProof { line, given })?;
@@ -104,27 +110,42 @@ pub fn add_proof(search: &mut Search, line: u64) -> Result<(), AllocError>
 }
 
 /// A clause is kept: it waits, or is in use at once.
-pub fn keep(search: &mut Search, held: Held, usable: bool) -> Result<(), AllocError>
+pub fn keep(
+    alloc: Global,
+    guide: &Guide<'_>,
+    search: &mut Search,
+    held: Held,
+    usable: bool,
+) -> Result<(), AllocError>
     requires small { is_too_large held.clause ≡ false }
-    requires not_waiting { IsNoneOf held.number (numbers_of search.old.waiting) }
+    requires not_waiting { IsNoneOf held.number (numbers_of search.old.waiting.held) }
     requires not_usable { IsNoneOf held.number (numbers_of search.old.usable) }
-    ensures { OnOk result (state_of search.new ≡ keeps (state_of search.old) held usable) }
+    requires noted { AreNoted (setting_of guide.now) search.old.waiting }
+    ensures noted { OnOk result (AreNoted (setting_of guide.now) search.new.waiting) }
+    ensures state { OnOk result (state_of search.new ≡ keeps (state_of search.old) held usable) }
 {
     search.kept = counted(search.kept, 1)?;
     search.symbols = counted(search.symbols, clause_size(held.clause()))?;
     if usable {
         search.usable.put_in(held)
     } else {
-        search.waiting.put_in(held)
+        search.waiting.put_in(alloc, guide, held)
     }
 }
 
 /// A clause that was processed is kept under its number, with its line.
-pub fn keep_queued(alloc: Global, search: &mut Search, queued: Queued) -> Result<Held, AllocError>
+pub fn keep_queued(
+    alloc: Global,
+    guide: &Guide<'_>,
+    search: &mut Search,
+    queued: Queued,
+) -> Result<Held, AllocError>
     requires small { is_too_large queued.clause ≡ false }
     requires ordered { IsInOrder (state_of search.old) }
     requires unused { AllByRecursion (IsUnusedIn (state_of search.old))
         (input_numbers (queued_of queued ∷ [])) }
+    requires noted { AreNoted (setting_of guide.now) search.old.waiting }
+    ensures noted { OnOk result (AreNoted (setting_of guide.now) search.new.waiting) }
     ensures held { IfOk result (λ h. h ≡ held_for (state_of search.old) (queued_of queued)) }
     ensures kept { OnOk result (state_of search.new ≡ keeps (with_line (state_of search.old)
         (queued_of queued)) (held_for (state_of search.old) (queued_of queued)) queued.usable) }
@@ -134,6 +155,6 @@ pub fn keep_queued(alloc: Global, search: &mut Search, queued: Queued) -> Result
     let held = Held::new(number, queued.clause.copy(alloc)?);
     let usable = queued.usable;
     keep_line(search, queued)?;
-    keep(search, held.copy(alloc)?, usable)?;
+    keep(alloc, guide, search, held.copy(alloc)?, usable)?;
     Ok(held)
 }

@@ -10,9 +10,11 @@ mod picking;
 mod processing;
 mod state;
 mod stepping;
+mod waiting;
 
-pub use acting::Act;
+pub use acting::{Act, Back};
 pub use guide::Guide;
 pub use picking::{Among, Pick};
 pub use state::{FoundProof, Queued, Reason, Search};
 pub use stepping::step;
+pub use waiting::{Note, Waiting};

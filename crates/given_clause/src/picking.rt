@@ -2,14 +2,15 @@
 ghost use Rattle.std.specs.Prelude.{◌≡◌, ◌+◌, ◌==◌, if◌then◌else◌, IfOk};
 ghost use Rattle.std.specs.Option.{option_map};
 ghost use Rattle.given_clause.specs.Guides.{setting_of};
-ghost use Rattle.given_clause.specs.Turns.{counts_among, lightest_among, best_of, best_so_far, lighter_next, best_next, IsRun, pick_of};
-ghost use Rattle.prover_steps.specs.Picking.{has_positive, lightest, picked, picked_at, picked_from, turn_at, turns_of};
+ghost use Rattle.given_clause.specs.Noted.{AreNoted};
+ghost use Rattle.given_clause.specs.Turns.{is_noted_among, lightest_among, best_of, best_so_far, lighter_next, best_next, IsRun, pick_of};
+ghost use Rattle.prover_steps.specs.Picking.{lightest, picked, picked_at, picked_from, turn_at, turns_of};
 
 use crate::guide::Guide;
-use fol_core::Clause;
+use crate::waiting::{Note, Waiting};
 use held_clauses::Held;
 use ladr_options::Options;
-use std::alloc::{AllocError, Global};
+use std::alloc::AllocError;
 
 /// All clauses, those that match a hint, those with a positive literal, or those without.
 #[derive(Clone, Copy, Debug, PartialEq, Eq)]
@@ -27,33 +28,15 @@ pub struct Pick<'a> {
     pub turn: u64,
 }
 
-// Whether a clause has a positive literal.
-#[tactic(auto, using(crate::proofs::Tests::literal_here, crate::proofs::Tests::literal_behind, crate::proofs::Tests::literal_end))]
-fn has_positive(clause: &Clause) -> bool
-    ensures { result ≡ has_positive clause.now }
-{
-    for literal in clause.as_slice() {
-        if literal.positive {
-            return true;
-        }
-    }
-    false
-}
-
-// Whether a clause is one of those.
-fn counts_among(
-    alloc: Global,
-    guide: &Guide<'_>,
-    among: Among,
-    clause: &Clause,
-) -> Result<bool, AllocError>
-    ensures { IfOk result (λ b. b ≡ counts_among (setting_of guide.now) among clause.now) }
+// Whether a note is of one of those.
+fn is_among(among: Among, note: &Note) -> bool
+    ensures { result ≡ is_noted_among among note.now }
 {
     match among {
-        Among::All => Ok(true),
-        Among::Hinted => guide.weights.is_hinted(alloc, clause),
-        Among::WithPositive => Ok(has_positive(clause)),
-        Among::WithoutPositive => Ok(!has_positive(clause)),
+        Among::All => true,
+        Among::Hinted => note.hinted,
+        Among::WithPositive => note.positive,
+        Among::WithoutPositive => !note.positive,
     }
 }
 
@@ -73,55 +56,44 @@ fn lighter<'a>(best: Option<(&'a Held, u64)>, held: &'a Held, weight: u64) -> (&
     }
 }
 
-// The best clause with the next one, if that is one of those.
+// The best clause with the next one, if that is one of those by its note.
 fn best_with<'a>(
-    alloc: Global,
-    guide: &Guide<'_>,
     among: Among,
     best: Option<(&'a Held, u64)>,
     held: &'a Held,
-) -> Result<Option<(&'a Held, u64)>, AllocError>
-    ensures { IfOk result (λ o. best_so_far o
-        ≡ best_next (setting_of guide.now) among (best_so_far best.entry) held.now) }
+    note: &Note,
+) -> Option<(&'a Held, u64)>
+    ensures { best_so_far result ≡ best_next among (best_so_far best.entry) held.now note.now }
 {
-    if !counts_among(alloc, guide, among, held.clause())? {
-        return Ok(best);
+    if !is_among(among, note) {
+        return best;
     }
-    let weight = guide.weights.weight_of(alloc, held.clause())?;
-    Ok(Some(lighter(best, held, weight)))
+    Some(lighter(best, held, note.weight))
 }
 
-// The first of the lightest ones of those.
-#[tactic(auto, using(crate::proofs::Lightest::best_more, crate::proofs::Lightest::best_all))]
-fn lightest_among<'a>(
-    alloc: Global,
-    guide: &Guide<'_>,
-    among: Among,
-    waiting: &'a [Held],
-) -> Result<Option<&'a Held>, AllocError>
-    ensures { IfOk result (λ o. option_map (λ h. h.now) o
-        ≡ lightest_among (setting_of guide.now) among waiting.now) }
+// The first of the lightest ones of those, by their notes.
+fn lightest_among<'a>(guide: &Guide<'_>, among: Among, waiting: &'a Waiting) -> Option<&'a Held>
+    requires { AreNoted (setting_of guide.now) waiting.now }
+    ensures { option_map (λ h. h.now) result
+        ≡ lightest_among (setting_of guide.now) among waiting.now.held }
 {
     let mut best: Option<(&Held, u64)> = None;
-    for held in waiting {
-        best = best_with(alloc, guide, among, best, held)?;
+    for (place, held) in waiting.held.as_slice().iter().enumerate() {
+        best = best_with(among, best, held, &waiting.notes[place]);
     }
     match best {
-        None => Ok(None),
-        Some((held, _)) => Ok(Some(held)),
+        None => None,
+        Some((held, _)) => Some(held),
     }
 }
 
 // The first of the lightest ones of all.
-fn lightest_of_all<'a>(
-    alloc: Global,
-    guide: &Guide<'_>,
-    waiting: &'a [Held],
-) -> Result<Option<&'a Held>, AllocError>
-    ensures { IfOk result (λ o. option_map (λ h. h.now) o
-        ≡ lightest (setting_of guide.now).weight waiting.now) }
+fn lightest_of_all<'a>(guide: &Guide<'_>, waiting: &'a Waiting) -> Option<&'a Held>
+    requires { AreNoted (setting_of guide.now) waiting.now }
+    ensures { option_map (λ h. h.now) result
+        ≡ lightest (setting_of guide.now).weight waiting.now.held }
 {
-    lightest_among(alloc, guide, Among::All, waiting)
+    lightest_among(guide, Among::All, waiting)
 }
 
 // How many turns there are.
@@ -176,23 +148,19 @@ fn run_from(options: &Options, n: u64) -> u64
 }
 
 // The clause that a turn picks, if it has one.
-fn picked_at<'a>(
-    alloc: Global,
-    guide: &Guide<'_>,
-    waiting: &'a [Held],
-    n: u64,
-) -> Result<Option<&'a Held>, AllocError>
-    ensures { IfOk result (λ o. option_map (λ h. h.now) o
-        ≡ picked_at (setting_of guide.now).weight waiting.now (turn_at guide.now.options n)) }
+fn picked_at<'a>(guide: &Guide<'_>, waiting: &'a Waiting, n: u64) -> Option<&'a Held>
+    requires { AreNoted (setting_of guide.now) waiting.now }
+    ensures { option_map (λ h. h.now) result
+        ≡ picked_at (setting_of guide.now).weight waiting.now.held (turn_at guide.now.options n) }
 {
     if n < behind_age(&guide.options) {
-        Ok(waiting.first())
+        waiting.held.as_slice().first()
     } else if n < behind_weight(&guide.options) {
-        lightest_of_all(alloc, guide, waiting)
+        lightest_of_all(guide, waiting)
     } else if n < behind_falsity(&guide.options) {
-        lightest_among(alloc, guide, Among::WithoutPositive, waiting)
+        lightest_among(guide, Among::WithoutPositive, waiting)
     } else {
-        lightest_among(alloc, guide, Among::WithPositive, waiting)
+        lightest_among(guide, Among::WithPositive, waiting)
     }
 }
 
@@ -210,18 +178,18 @@ fn place_behind(options: &Options, n: u64, run: u64) -> Result<u64, AllocError>
 
 // Of the turns from a place on, once around, the first that has a clause: where one has none, those of its kind have none.
 fn picked_from<'a>(
-    alloc: Global,
     guide: &Guide<'_>,
-    waiting: &'a [Held],
+    waiting: &'a Waiting,
     turn: u64,
 ) -> Result<Option<Pick<'a>>, AllocError>
+    requires { AreNoted (setting_of guide.now) waiting.now }
     ensures { IfOk result (λ o. option_map pick_of o ≡ picked_from guide.now.options
-        (setting_of guide.now).weight waiting.now (turns_of guide.now.options) turn) }
+        (setting_of guide.now).weight waiting.now.held (turns_of guide.now.options) turn) }
 {
     let mut left = turns_of(&guide.options);
     let mut n = turn;
     while left > 0 {
-        match picked_at(alloc, guide, waiting, n)? {
+        match picked_at(guide, waiting, n) {
             Some(held) => {
                 let turn = place_behind(&guide.options, n, 1)?;
                 return Ok(Some(Pick { held, turn }));
@@ -238,19 +206,25 @@ fn picked_from<'a>(
 
 /// The clause that is given next, with the place of the next turn; nothing where none waits.
 pub fn picked<'a>(
-    alloc: Global,
     guide: &Guide<'_>,
-    waiting: &'a [Held],
+    waiting: &'a Waiting,
     turn: u64,
 ) -> Result<Option<Pick<'a>>, AllocError>
+    requires { AreNoted (setting_of guide.now) waiting.now }
     ensures { IfOk result (λ o. option_map pick_of o ≡ picked guide.now.options
-        (setting_of guide.now).weight (setting_of guide.now).is_hinted waiting.now turn) }
+        (setting_of guide.now).weight (setting_of guide.now).is_hinted waiting.now.held turn) }
 {
-    if let Some(held) = lightest_among(alloc, guide, Among::Hinted, waiting)? {
+    if let Some(held) = lightest_among(guide, Among::Hinted, waiting) {
         return Ok(Some(Pick { held, turn }));
     }
-    if let Some(pick) = picked_from(alloc, guide, waiting, turn)? {
+    if let Some(pick) = picked_from(guide, waiting, turn)? {
         return Ok(Some(pick));
     }
-    Ok(waiting.first().map(|held| Pick { held, turn }))
+    Ok(
+        waiting
+            .held
+            .as_slice()
+            .first()
+            .map(|held| Pick { held, turn }),
+    )
 }

@@ -5,12 +5,13 @@ ghost use Rattle.std.specs.Option.{option_map};
 ghost use Rattle.fol_core.specs.ClauseView.{literal_of};
 ghost use Rattle.given_clause.specs.Acting.{is_subsumed_from};
 ghost use Rattle.given_clause.specs.Guides.{setting_of};
+ghost use Rattle.given_clause.specs.Noted.{AreNoted, StayNoted};
 ghost use Rattle.given_clause.specs.States.{queued_of, reason_of, state_of};
 ghost use Rattle.prover_steps.specs.HeldOrder.{IsInOrder, IsNoRuleIn, IsUnusedIn, input_numbers};
 ghost use Rattle.prover_steps.specs.Searching.{all_held, tidied, is_too_large, is_too_heavy, is_no_use, has_proofs, becomes_rule, limit_reached, deletes_back, rewrites_back, rules_back, works_back, after_kept, settled, processed, under_limits, counted_on, subsumes_back};
 ghost use Rattle.prover_steps.specs.Subsuming.{subsumes};
 
-use crate::acting::{Act, is_unit, meet_units, put_back, subsume_back};
+use crate::acting::{Back, is_subsumed_by, is_unit, meet_units, put_back, subsume_back};
 use crate::guide::Guide;
 use crate::keeping::{add_proof, counted_on, keep_line, keep_queued, number_for};
 use crate::state::{Queued, Reason, Search};
@@ -21,7 +22,7 @@ use held_clauses::{Held, is_too_large};
 use paramod::is_oriented;
 use prover_steps::steps_keep_order;
 use std::alloc::{AllocError, Global};
-use subsume::{is_tautology, subsumes};
+use subsume::{Places, is_tautology};
 
 // A clause of the queue rewritten and put in order.
 fn tidied(
@@ -43,7 +44,7 @@ fn tidied(
         ..
     } = queued;
     let held = HeldSets {
-        waiting: &search.waiting,
+        waiting: &search.waiting.held,
         usable: &search.usable,
     };
     let Tidied { clause, words } = tidy(
@@ -68,8 +69,9 @@ fn tidied(
 fn is_subsumed(alloc: Global, held: &[Held], clause: &Clause) -> Result<bool, AllocError>
     ensures { IfOk result (λ b. b ≡ list_any (λ h. subsumes h.clause clause.now) held.now) }
 {
+    let mut places = Places::new(alloc);
     for one in held {
-        if subsumes(alloc, one.clause(), clause)? {
+        if is_subsumed_by(&mut places, one.clause(), clause)? {
             return Ok(true);
         }
     }
@@ -81,8 +83,9 @@ fn is_subsumed(alloc: Global, held: &[Held], clause: &Clause) -> Result<bool, Al
 fn is_subsumed_by_lent(alloc: Global, held: &[&Held], clause: &Clause) -> Result<bool, AllocError>
     ensures { IfOk result (λ b. b ≡ list_any (λ h. subsumes h.now.clause clause.now) held.now) }
 {
+    let mut places = Places::new(alloc);
     for one in held {
-        if subsumes(alloc, one.clause(), clause)? {
+        if is_subsumed_by(&mut places, one.clause(), clause)? {
             return Ok(true);
         }
     }
@@ -134,7 +137,7 @@ fn is_subsumed_by_held(alloc: Global, search: &Search, clause: &Clause) -> Resul
     ensures { IfOk result (λ b. b ≡ list_any (λ h. subsumes h.clause clause.now)
         (all_held (state_of search.now))) }
 {
-    if is_subsumed_in(alloc, &search.waiting, clause)? {
+    if is_subsumed_in(alloc, &search.waiting.held, clause)? {
         return Ok(true);
     }
     is_subsumed_in(alloc, &search.usable, clause)
@@ -142,12 +145,13 @@ fn is_subsumed_by_held(alloc: Global, search: &Search, clause: &Clause) -> Resul
 
 // Whether a clause weighs too much and matches no hint.
 fn is_too_heavy(alloc: Global, guide: &Guide<'_>, clause: &Clause) -> Result<bool, AllocError>
+    requires { is_too_large clause.now ≡ false }
     ensures { IfOk result (λ b. b ≡ is_too_heavy (setting_of guide.now) clause.now) }
 {
-    if guide.weights.weight_of(alloc, clause)? <= u64::from(guide.options.max_weight) {
+    if guide.weight_of(alloc, clause)? <= u64::from(guide.options.max_weight) {
         return Ok(false);
     }
-    Ok(!guide.weights.is_hinted(alloc, clause)?)
+    Ok(!guide.is_hinted(alloc, clause)?)
 }
 
 // Whether a clause is of no use.
@@ -157,6 +161,7 @@ fn is_no_use(
     search: &Search,
     queued: &Queued,
 ) -> Result<bool, AllocError>
+    requires { is_too_large queued.now.clause ≡ false }
     ensures { IfOk result (λ b. b ≡ is_no_use (setting_of guide.now) (state_of search.now)
         (queued_of queued.now)) }
 {
@@ -201,7 +206,9 @@ fn subsumed_back(
     held: &Held,
 ) -> Result<(), AllocError>
     requires { IsInOrder (state_of search.old) }
-    ensures { OnOk result (state_of search.new ≡ subsumes_back (setting_of guide.now) held.now
+    ensures noted { OnOk result (StayNoted (setting_of guide.now) search.old.waiting
+        search.new.waiting) }
+    ensures state { OnOk result (state_of search.new ≡ subsumes_back (setting_of guide.now) held.now
         (state_of search.old)) }
 {
     if guide.options.back_subsume {
@@ -219,11 +226,13 @@ fn delete_back(
     held: &Held,
 ) -> Result<(), AllocError>
     requires { IsInOrder (state_of search.old) }
-    ensures { OnOk result (state_of search.new ≡ deletes_back (setting_of guide.now) held.now
+    ensures noted { OnOk result (StayNoted (setting_of guide.now) search.old.waiting
+        search.new.waiting) }
+    ensures state { OnOk result (state_of search.new ≡ deletes_back (setting_of guide.now) held.now
         (state_of search.old)) }
 {
     if is_unit(held.clause()) && guide.options.unit_deletion {
-        put_back(alloc, Act::Deletes, search, held)
+        put_back(alloc, Back::Deletes, search, held)
     } else {
         Ok(())
     }
@@ -238,7 +247,9 @@ fn rules_back(
 ) -> Result<(), AllocError>
     requires ordered { IsInOrder (state_of search.old) }
     requires no_rule { IsNoRuleIn (state_of search.old) held.now.number }
-    ensures { OnOk result (state_of search.new ≡ rules_back (setting_of guide.now) held.now
+    ensures noted { OnOk result (StayNoted (setting_of guide.now) search.old.waiting
+        search.new.waiting) }
+    ensures state { OnOk result (state_of search.new ≡ rules_back (setting_of guide.now) held.now
         (state_of search.old)) }
 {
     steps_keep_order();
@@ -247,7 +258,7 @@ fn rules_back(
     }
     search.rules.put_in(held.copy(alloc)?)?;
     if guide.options.back_demod {
-        put_back(alloc, Act::Rewrites, search, held)
+        put_back(alloc, Back::Rewrites, search, held)
     } else {
         Ok(())
     }
@@ -262,7 +273,9 @@ fn work_back(
 ) -> Result<(), AllocError>
     requires ordered { IsInOrder (state_of search.old) }
     requires no_rule { IsNoRuleIn (state_of search.old) held.now.number }
-    ensures { OnOk result (state_of search.new ≡ works_back (setting_of guide.now) held.now
+    ensures noted { OnOk result (StayNoted (setting_of guide.now) search.old.waiting
+        search.new.waiting) }
+    ensures state { OnOk result (state_of search.new ≡ works_back (setting_of guide.now) held.now
         (state_of search.old)) }
 {
     steps_keep_order();
@@ -283,7 +296,9 @@ fn after_kept(
 ) -> Result<(), AllocError>
     requires ordered { IsInOrder (state_of search.old) }
     requires no_rule { IsNoRuleIn (state_of search.old) held.now.number }
-    ensures { OnOk result (state_of search.new ≡ after_kept (setting_of guide.now)
+    ensures noted { OnOk result (StayNoted (setting_of guide.now) search.old.waiting
+        search.new.waiting) }
+    ensures state { OnOk result (state_of search.new ≡ after_kept (setting_of guide.now)
         (state_of search.old) held.now) }
 {
     steps_keep_order();
@@ -302,7 +317,9 @@ fn settle(
     requires unused { AllByRecursion (IsUnusedIn (state_of search.old))
         (input_numbers (queued_of queued ∷ [])) }
     requires small { is_too_large queued.clause ≡ false }
-    ensures { OnOk result (state_of search.new ≡ settled (setting_of guide.now)
+    requires noted { AreNoted (setting_of guide.now) search.old.waiting }
+    ensures noted { OnOk result (AreNoted (setting_of guide.now) search.new.waiting) }
+    ensures state { OnOk result (state_of search.new ≡ settled (setting_of guide.now)
         (state_of search.old) (queued_of queued)) }
 {
     steps_keep_order();
@@ -314,7 +331,7 @@ fn settle(
     if is_no_use(alloc, guide, search, &queued)? {
         return Ok(());
     }
-    let held = keep_queued(alloc, search, queued)?;
+    let held = keep_queued(alloc, guide, search, queued)?;
     after_kept(alloc, guide, search, &held)
 }
 
@@ -328,7 +345,9 @@ fn process(
     requires ordered { IsInOrder (state_of search.old) }
     requires unused { AllByRecursion (IsUnusedIn (state_of search.old))
         (input_numbers (queued_of queued ∷ [])) }
-    ensures { OnOk result (state_of search.new ≡ processed (setting_of guide.now)
+    requires noted { AreNoted (setting_of guide.now) search.old.waiting }
+    ensures noted { OnOk result (AreNoted (setting_of guide.now) search.new.waiting) }
+    ensures state { OnOk result (state_of search.new ≡ processed (setting_of guide.now)
         (state_of search.old) (queued_of queued)) }
 {
     if is_too_large(&queued.clause) {
@@ -365,7 +384,9 @@ pub fn process_under_limits(
     requires ordered { IsInOrder (state_of search.old) }
     requires unused { AllByRecursion (IsUnusedIn (state_of search.old))
         (input_numbers (queued_of queued ∷ [])) }
-    ensures { OnOk result (state_of search.new ≡ under_limits (setting_of guide.now)
+    requires noted { AreNoted (setting_of guide.now) search.old.waiting }
+    ensures noted { OnOk result (AreNoted (setting_of guide.now) search.new.waiting) }
+    ensures state { OnOk result (state_of search.new ≡ under_limits (setting_of guide.now)
         (processed (setting_of guide.now) (state_of search.old) (queued_of queued))) }
 {
     process(alloc, guide, search, queued)?;

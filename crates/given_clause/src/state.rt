@@ -1,4 +1,5 @@
 // Where a search stands.
+use crate::waiting::Waiting;
 use clause_index::{HeldSet, Rules};
 use derivation::{First, Later, Line};
 use fol_core::Clause;
@@ -37,7 +38,7 @@ pub struct FoundProof {
 /// and why the search ended, if it did.
 #[derive(Drop)]
 pub struct Search {
-    pub waiting: HeldSet,
+    pub waiting: Waiting,
     pub usable: HeldSet,
     pub rules: Rules,
     pub queue: VecDeque<Queued>,

@@ -1,6 +1,7 @@
 // One step of a search.
 ghost use Rattle.std.specs.Prelude.{◌≡◌, OnOk};
 ghost use Rattle.given_clause.specs.Guides.{setting_of};
+ghost use Rattle.given_clause.specs.Noted.{AreNoted};
 ghost use Rattle.given_clause.specs.States.{state_of};
 ghost use Rattle.prover_steps.specs.HeldOrder.{IsInOrder};
 ghost use Rattle.prover_steps.specs.Searching.{next_state};
@@ -13,10 +14,12 @@ use prover_steps::steps_keep_order;
 use std::alloc::{AllocError, Global};
 
 /// A clause that is queued is processed, and the limits are tested; where none is, one is given. A search that has ended stays
-/// as it is.
+/// as it is. The notes of the clauses that wait are the guide's, and stay so.
 pub fn step(alloc: Global, guide: &Guide<'_>, search: &mut Search) -> Result<(), AllocError>
-    requires { IsInOrder (state_of search.old) }
-    ensures { OnOk result (state_of search.new ≡ next_state (setting_of guide.now)
+    requires ordered { IsInOrder (state_of search.old) }
+    requires noted { AreNoted (setting_of guide.now) search.old.waiting }
+    ensures noted { OnOk result (AreNoted (setting_of guide.now) search.new.waiting) }
+    ensures state { OnOk result (state_of search.new ≡ next_state (setting_of guide.now)
         (state_of search.old)) }
 {
     steps_keep_order();

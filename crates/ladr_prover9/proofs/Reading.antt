@@ -19,7 +19,7 @@ use Rattle.ladr_prover9.specs.Quests.{Quest, listed_lines, listed_hint, search_b
 use Rattle.proof_lines.specs.ContentTokens.{line_tables}
 use Rattle.prover_setup.specs.SearchInputs.{SearchInput, input_in}
 use Rattle.weights.specs.Hints.{HintRow}
-use Rattle.weights.specs.Rows.{row_of_hint}
+use Rattle.weights.specs.HintRows.{row_of_hint}
 
 lines_same : (n : ℕ) (is : List Input) → listed_lines n (map input_of is) ≡ formula_lines n is
 lines_same n [] = refl

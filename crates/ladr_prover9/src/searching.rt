@@ -1,6 +1,7 @@
 // The search for proofs, step by step.
 ghost use Rattle.std.specs.Prelude.{◌≡◌, ◌≤◌, ◌<◌, ◌^◌, ◌++◌, length, ℕ, List, [], Option, false, IsTrue, ◌↔◌, MatchOption, OnOk, None, suc};
 ghost use Rattle.given_clause.specs.Guides.{setting_of};
+ghost use Rattle.given_clause.specs.Noted.{AreNoted};
 ghost use Rattle.given_clause.specs.States.{reason_of, state_of};
 ghost use Rattle.ladr_io.specs.Times.{Times};
 ghost use Rattle.ladr_mace4.specs.Watching.{HasBegun, HasRead, IsWatched};
@@ -39,8 +40,10 @@ fn advance<K: Sink>(
     requires reached { IsReachedIn (quest_of asking.now).search (state_of search.old) }
     requires going { (state_of search.old).ended ≡ None }
     requires queued { HasQueue (state_of search.old) }
+    requires noted { AreNoted (setting_of guide.now) search.old.waiting }
     requires sink { (K.outflow sink.old).over ≡ false }
-    ensures { AdvancesTo (quest_of asking.now) (state_of search.old) (state_of search.new)
+    ensures noted { OnOk result (AreNoted (setting_of guide.now) search.new.waiting) }
+    ensures advances { AdvancesTo (quest_of asking.now) (state_of search.old) (state_of search.new)
         (K.outflow sink.old) (K.outflow sink.new) result }
 {
     searches_stay_in_order();
@@ -72,7 +75,9 @@ fn drain<K: Sink>(
     requires sound { IsSoundQuest (quest_of asking.now) }
     requires guided { setting_of guide.now ≡ setting_in (quest_of asking.now).search }
     requires reached { IsReachedIn (quest_of asking.now).search (state_of search.old) }
+    requires noted { AreNoted (setting_of guide.now) search.old.waiting }
     requires sink { (K.outflow sink.old).over ≡ false }
+    ensures noted { OnOk result (AreNoted (setting_of guide.now) search.new.waiting) }
     ensures quiet { OnOk result (IsQuiet (state_of search.new)) }
     ensures left { OnOk result
         (given_left (setting_in (quest_of asking.now).search) (state_of search.new)
@@ -166,6 +171,7 @@ pub fn search_proofs<K: Sink, C: Clock>(
     requires sound { IsSoundQuest (quest_of asking.now) }
     requires guided { setting_of guide.now ≡ setting_in (quest_of asking.now).search }
     requires start { state_of search.old ≡ start_in (quest_of asking.now).search }
+    requires noted { AreNoted (setting_of guide.now) search.old.waiting }
     requires unread { (C.times clock.old).count ≡ 0 }
     requires sink { (K.outflow sink.old).over ≡ false }
     ensures { (text : List ℕ)

@@ -20,7 +20,7 @@ use Rattle.term_order.specs.Precedences.{stands_above, weight_at}
 use Rattle.term_order.specs.declared.precedence.SymbolRow.{SymbolRow}
 use Rattle.weights.specs.Heads.{rows_for}
 use Rattle.weights.specs.Hints.{HintRow, is_hinted, clause_weight}
-use Rattle.weights.specs.Rows.{row_of_hint}
+use Rattle.weights.specs.HintRows.{row_of_hint}
 
 -- the options; the symbols and the formulas; hints, rules of weights, the weights of names and the
 -- names that are listed in their order

@@ -2,15 +2,17 @@
 ghost use Rattle.std.specs.Prelude.{◌≡◌, ◌+◌, ◌<◌, ◌++◌, ◌∷◌, [], ℕ, IfOk, OnOk, Some, map};
 ghost use Rattle.std.specs.List.{AllByRecursion};
 ghost use Rattle.fol_core.specs.Stated.{all_said};
+ghost use Rattle.given_clause.specs.Noted.{AreNoted};
 ghost use Rattle.given_clause.specs.States.{queued_of, state_of};
 ghost use Rattle.proof_words.specs.Written.{by_copy};
 ghost use Rattle.prover_steps.specs.HeldOrder.{numbers_of};
+ghost use Rattle.prover_steps.specs.Searching.{Setting};
 ghost use Rattle.prover_steps.specs.Starting.{held_rule, queued_as, queued_input, queued_inputs, rules_of, start_state};
 
 use clause_index::{HeldSet, Rules};
 use derivation::First;
 use fol_core::{Clause, Input, Problem, Role};
-use given_clause::{Queued, Search};
+use given_clause::{Queued, Search, Waiting};
 use held_clauses::Held;
 use prover_proofs::role_at;
 use std::alloc::{AllocError, Global};
@@ -123,8 +125,9 @@ pub fn start_search(
     problem: &Problem,
     clauses: &[(u64, Clause)],
 ) -> Result<Search, AllocError>
-    ensures { IfOk result (λ s. state_of s
+    ensures state { IfOk result (λ s. state_of s
         ≡ start_state (all_said problem.now.inputs.items) clauses.now) }
+    ensures noted { IfOk result (λ s. (st : Setting) → AreNoted st s.waiting) }
 {
     let inputs = problem.inputs.as_slice();
     let first = behind(inputs.len() as u64, 1)?;
@@ -132,7 +135,7 @@ pub fn start_search(
     let queue = queued_inputs(alloc, inputs, first, clauses)?;
     let rules = rules_of(alloc, inputs, first, clauses)?;
     Ok(Search {
-        waiting: HeldSet::new(alloc),
+        waiting: Waiting::new(alloc),
         usable: HeldSet::new(alloc),
         rules,
         queue,

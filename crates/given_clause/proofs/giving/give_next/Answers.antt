@@ -12,7 +12,7 @@ pub give-requires : goal.give-requires
 give-requires c =
     let st = setting_of c.args.guide.now in
     let s = state_of c.args.search.now in
-    not_in_use s c.in_ok-given.given c.in-Some.pick.held.now c.requires
+    not_in_use s c.in_ok-given.given c.in-Some.pick.held.now c.requires.ordered
     (c.steps_keep_order.ensures.picking st.options st.weight st.is_hinted s.waiting s.turn (pick_of c.in-Some.pick)
-    (sym (c.in_ok-pick.ensures ∙ ap (λ (ws : List Held). picked st.options st.weight st.is_hinted ws s.turn) c.as_slice.ensures.clauses) ∙ ap (option_map pick_of) c.in-Some.is))
+    (sym c.in_ok-pick.ensures ∙ ap (option_map pick_of) c.in-Some.is))
     c.in_ok-given.ensures

@@ -5,5 +5,5 @@ use Rattle.given_clause.specs.Turns.{best_so_far}
 use Rattle.given_clause.proofs.Lightest.{best_in}
 use Rattle.given_clause.proofs.picking.lightest_among.Given as goal
 
-abbrev pub invariant-loop-held : goal.invariant-loop-held
-invariant-loop-held l = best_so_far l.best ≡ best_in (setting_of l.guide) l.among (take l.held-index l.waiting)
+abbrev pub invariant-loop-place : goal.invariant-loop-place
+invariant-loop-place l = best_so_far l.best ≡ best_in (setting_of l.guide) l.among (take l.place l.waiting.held)

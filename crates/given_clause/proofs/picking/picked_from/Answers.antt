@@ -9,7 +9,7 @@ use Rattle.given_clause.proofs.picking.picked_from.Goals as goal
 pub loop-left-preserved : goal.loop-left-preserved
 loop-left-preserved c =
     c.loop-left.invariant
-    ∙ run_passed c.args.guide.now.options (setting_of c.args.guide.now).weight c.args.waiting.now c.run_from.result c.min-run.result c.loop-left.left c.loop-left.n c.in_ok-n-in-None.n
+    ∙ run_passed c.args.guide.now.options (setting_of c.args.guide.now).weight c.args.waiting.now.held c.run_from.result c.min-run.result c.loop-left.left c.loop-left.n c.in_ok-n-in-None.n
     c.run_from.ensures c.loop-left-test.true c.min-run.ensures
-    (sym c.in_ok-held.ensures ∙ ap (option_map (λ (h : Bor Held). h.now)) c.in-None.is)
+    (sym c.picked_at.ensures ∙ ap (option_map (λ (h : Bor Held). h.now)) c.in-None.is)
     c.in_ok-n-in-None.ensures

@@ -6,8 +6,8 @@ use Rattle.given_clause.proofs.picking.picked_from.Given as goal
 
 abbrev pub invariant-loop-left : goal.invariant-loop-left
 invariant-loop-left l =
-    picked_from l.guide.options (setting_of l.guide).weight l.waiting (turns_of l.guide.options) l.fn.turn
-    ≡ picked_from l.guide.options (setting_of l.guide).weight l.waiting l.left l.n
+    picked_from l.guide.options (setting_of l.guide).weight l.waiting.held (turns_of l.guide.options) l.fn.turn
+    ≡ picked_from l.guide.options (setting_of l.guide).weight l.waiting.held l.left l.n
 
 abbrev pub decreases-loop-left : goal.decreases-loop-left
 decreases-loop-left l = l.left

@@ -5,4 +5,4 @@ use Rattle.given_clause.proofs.processing.after_kept.Goals as goal
 
 pub work_back-requires-clause-ordered : goal.work_back-requires-clause-ordered
 work_back-requires-clause-ordered c =
-    subst IsInOrder (sym c.in_ok-meet_units.ensures) ((c.steps_keep_order.ensures.meeting (state_of c.args.search.now) c.args.held.now).order c.requires.ordered)
+    subst IsInOrder (sym c.in_ok-meet_units.ensures.state) ((c.steps_keep_order.ensures.meeting (state_of c.args.search.now) c.args.held.now).order c.requires.ordered)

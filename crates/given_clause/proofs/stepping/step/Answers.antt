@@ -6,4 +6,4 @@ use Rattle.given_clause.proofs.stepping.step.Goals as goal
 pub process_under_limits-requires-clause-unused : goal.process_under_limits-requires-clause-unused
 process_under_limits-requires-clause-unused c =
     (c.steps_keep_order.ensures.queue (state_of c.args.search.now) (queued_of c.in-Some.queued) (map queued_of c.pop_front.new.self.items)
-    (ap (map queued_of) (c.pop_front.ensures.items ∙ ap (λ o. option_to_list o ++ c.pop_front.new.self.items) c.in-Some.is)) c.requires).1
+    (ap (map queued_of) (c.pop_front.ensures.items ∙ ap (λ o. option_to_list o ++ c.pop_front.new.self.items) c.in-Some.is)) c.requires.ordered).1

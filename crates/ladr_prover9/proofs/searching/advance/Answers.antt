@@ -12,18 +12,18 @@ use Rattle.ladr_prover9.specs.Quests.{quest_lines}
 use Rattle.ladr_prover9.specs.Stepping.{IsStepText}
 use Rattle.prover_steps.specs.Searching.{Setting, next_state}
 
-pub step-requires : goal.step-requires
-step-requires g c = in_order c.searches_stay_in_order.ensures.start c.searches_stay_in_order.ensures.reached (quest_of c.args.asking.now).search (state_of c.args.search.now) c.requires.reached
+pub step-requires-clause-ordered : goal.step-requires-clause-ordered
+step-requires-clause-ordered g c = in_order c.searches_stay_in_order.ensures.start c.searches_stay_in_order.ensures.reached (quest_of c.args.asking.now).search (state_of c.args.search.now) c.requires.reached
 
 pub proof_text-requires-clause-counted : goal.proof_text-requires-clause-counted
 proof_text-requires-clause-counted g c =
     counted c.lines_are_counted.ensures.reached c.args.asking.now (state_of c.args.search.now) _ c.requires.asked c.requires.reached
-    (c.in-Ok.ensures ∙ ap (λ (st : Setting). next_state st (state_of c.args.search.now)) c.requires.guided)
+    (c.in-Ok.ensures.state ∙ ap (λ (st : Setting). next_state st (state_of c.args.search.now)) c.requires.guided)
 
-pub returns-then-len-before : goal.returns-then-len-before
-returns-then-len-before g c =
+pub returns-then-len-before-clause-advances : goal.returns-then-len-before-clause-advances
+returns-then-len-before-clause-advances g c =
     let s = state_of c.args.search.now in
-    let next = c.in-Ok.ensures ∙ ap (λ (st : Setting). next_state st s) c.requires.guided in (
+    let next = c.in-Ok.ensures.state ∙ ap (λ (st : Setting). next_state st s) c.requires.guided in (
       next,
       (
         [],
@@ -42,12 +42,12 @@ returns-then-len-before g c =
       ),
     )
 
-pub returns : goal.returns
-returns g c =
+pub returns-clause-advances : goal.returns-clause-advances
+returns-clause-advances g c =
     let s = state_of c.args.search.now in
     let t = state_of c.step.new.search in
     let q = quest_of c.args.asking.now in
-    let next = c.in-Ok.ensures ∙ ap (λ (st : Setting). next_state st s) c.requires.guided in
+    let next = c.in-Ok.ensures.state ∙ ap (λ (st : Setting). next_state st s) c.requires.guided in
     let count : c.len-before.result ≡ length s.proofs = omega (arith, c.len-before.ensures, c.args.search.now.proofs.ok.0, length-map c.args.search.now.proofs.items found_of) in
     let longer : c.len-before.result < length c.step.new.search.proofs.items = omega (arith, c.if-len-before.false, c.len.ensures, c.step.new.search.proofs.ok.0) in
     advanced q s t _ _ c.proof_text.result c.piece.result next

@@ -61,8 +61,8 @@ returns-in-Some-ring g c =
     comes_here q c.args.seconds times now u _ _ c.in-Some-ring.end c.proofs_are_counted.ensures searched
     (subst (λ (s : Option ℕ). EndsIn (setting_in q.search) s u now c.in-Some-ring.end) c.loop-cut.invariant.seconds (subst (λ (st : Setting). EndsIn st c.loop-cut.watch.seconds u now c.in-Some-ring.end) c.requires.guided c.in-Some-ring.ensures.late))
 
-pub step-requires : goal.step-requires
-step-requires g c =
+pub step-requires-clause-ordered : goal.step-requires-clause-ordered
+step-requires-clause-ordered g c =
     let q = quest_of c.args.asking.now in
     let times = g.C.Clock.times c.loop-cut.clock in
     let t = state_of c.loop-cut.search in
@@ -84,10 +84,11 @@ loop-cut-preserved g c =
     let going : u.ended ≡ None = search rules in
     record {
       searched = given_on q c.args.seconds times c.ends_have_reasons.ensures.picking c.ancestors_are_one.ensures.stay c.searches_start_well.ensures c.searches_are_sound.ensures c.requires.sound now u (state_of c.step.new.search) _ _ searched going (queue_empty u c.in-Ok.ensures.quiet going)
-          (c.in-Ok-step.ensures ∙ ap (λ (st : Setting). next_state st u) c.requires.guided) early rings;
+          (c.in-Ok-step.ensures.state ∙ ap (λ (st : Setting). next_state st u) c.requires.guided) early rings;
       seconds = ensured.same ∙ c.loop-cut.invariant.seconds;
       watched = ensured.late;
       begun = ensured.begun;
+      noted = c.in-Ok-step.ensures.noted;
     }
 
 pub returns-in-Err-step : goal.returns-in-Err-step

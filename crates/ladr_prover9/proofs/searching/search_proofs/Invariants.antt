@@ -1,5 +1,7 @@
 -- The search has gone on since, and the clock is watched; each round leaves fewer clauses to be given.
 use Rattle.std.proofs.Common.{◌≡◌}
+use Rattle.given_clause.specs.Guides.{setting_of}
+use Rattle.given_clause.specs.Noted.{AreNoted}
 use Rattle.given_clause.specs.States.{state_of}
 use Rattle.ladr_mace4.specs.Watching.{HasBegun, IsWatched}
 use Rattle.ladr_prover9.proofs.Seeking.{IsSearchedTo}
@@ -14,6 +16,7 @@ invariant-loop-cut g l = record {
   seconds : l.watch.seconds ≡ l.fn.seconds;
   watched : IsWatched l.watch (g.C.Clock.times l.clock);
   begun : HasBegun l.watch (g.C.Clock.times l.clock);
+  noted : AreNoted (setting_of l.guide) l.search.waiting;
 }
 
 abbrev pub decreases-loop-cut : goal.decreases-loop-cut
