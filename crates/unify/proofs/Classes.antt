@@ -45,7 +45,7 @@ goes_on a b c g h = record {
 pub goes_nowhere : (a : Workspace) → WorkGoesOn a a
 goes_nowhere a = record { bound = ([], sym (nothing_more a.bound.items)); links = ([], sym (nothing_more a.links.items)); kept = refl; vars = refl; nodes = refl; reach = refl; spare = refl }
 
-link_ends : (bank : List Tree) (ps fs : List Spot) (ks : List Link) (k : Link) → AreLinks bank ps fs ks → In k ks → (gs : List Spot) × IsLink bank ps gs k
+pub link_ends : (bank : List Tree) (ps fs : List Spot) (ks : List Link) (k : Link) → AreLinks bank ps fs ks → In k ks → (gs : List Spot) × IsLink bank ps gs k
 link_ends bank ps fs [] k l i = absurd i
 link_ends bank ps fs (j ∷ ks) k l (inl e) = (fs, subst (IsLink bank ps fs) (sym e) l.0)
 link_ends bank ps fs (j ∷ ks) k l (inr i) = link_ends bank ps (fs ++ j.from ∷ []) ks k l.1 i

@@ -4,9 +4,11 @@ pub mod Classes
 pub mod Closing
 pub mod Lists
 pub mod Pairs
+pub mod Rooming
 pub mod Seen
 pub mod Solutions
 pub mod Spreads
+pub mod Staying
 pub mod Stays
 pub mod Walks
 pub mod Whole

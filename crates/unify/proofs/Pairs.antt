@@ -118,7 +118,7 @@ one_goes a b x q s = record {
   spare = s.spare;
 }
 
-bound_work : (bank : List Tree) (a b : Workspace) (x : ℕ) (q : Spot) → OneBound a b x q → (c : MayBind bank a x q) → has_variable x (substitute (resolved bank a.bound.items) (spot_tree bank q)) ≡ false → IsWork bank c.ps c.xs b
+pub bound_work : (bank : List Tree) (a b : Workspace) (x : ℕ) (q : Spot) → OneBound a b x q → (c : MayBind bank a x q) → has_variable x (substitute (resolved bank a.bound.items) (spot_tree bank q)) ≡ false → IsWork bank c.ps c.xs b
 bound_work bank a b x q s c apart =
     let new : Bound = record { variable = x; to = q } in
     let w = c.work in
@@ -230,35 +230,36 @@ link_room bank w p q c =
     let le = one_more (froms w.links.items) c.ps p (froms_differ bank c.ps [] w.links.items c.work.links) (λ z i. froms_in bank c.ps [] w.links.items z c.work.links i) c.left_end.unlinked c.left in
     omega (arith, le, froms_length w.links.items, c.work.nodes)
 
-pub linked_joined : (bank : List Tree) (a b : Workspace) (p q : Spot) → OneLinked a b p q → CanLink bank a p q → ¬ (p ≡ q) → IsJoined bank a b as_high (spot_tree bank p) (spot_tree bank q)
-linked_joined bank a b p q s c other =
+pub linked_work : (bank : List Tree) (a b : Workspace) (p q : Spot) → OneLinked a b p q → (c : CanLink bank a p q) → ¬ (p ≡ q) → IsWork bank c.join.ps c.join.xs b
+linked_work bank a b p q s c other =
     let new : Link = record { from = p; to = q } in
     let j = c.join in
     let w = j.work in
     record {
-      works = record {
-        ps = j.ps;
-        xs = j.xs;
-        work = record {
-          parts = subst (λ l. TakePart bank l j.ps j.xs) (sym s.bound) w.parts;
-          bindings = subst (AreBindings bank) (sym s.bound) w.bindings;
-          links = subst (AreLinks bank j.ps []) (sym s.links)
-              (links_end bank j.ps [] a.links.items new w.links
-              (record {
-                from_in = j.left;
-                to_in = j.right;
-                fresh = j.left_end.unlinked;
-                onward = λ i. elim (in_cases q (froms a.links.items) (p ∷ []) i) [ inl k ↦ j.right_end.unlinked k | inr k ↦ other (sym (in_last q p k)) ];
-                no_from = c.left;
-                no_to = c.right;
-              }));
-          kept = subst (AllSpots bank) (sym s.kept) w.kept;
-          kept_free = λ x h i. w.kept_free x (subst (λ l. IsShownIn bank l x) s.kept h) (subst (λ l. In x (bound_variables l)) s.bound i);
-          vars = subst (λ n. length j.xs ≤ n) (sym s.vars) w.vars;
-          nodes = subst (λ n. length j.ps ≤ n) (sym s.nodes) w.nodes;
-          reach = subst (λ n. length j.ps ≤ n) (sym s.reach) w.reach;
-        };
-      };
+      parts = subst (λ l. TakePart bank l j.ps j.xs) (sym s.bound) w.parts;
+      bindings = subst (AreBindings bank) (sym s.bound) w.bindings;
+      links = subst (AreLinks bank j.ps []) (sym s.links)
+          (links_end bank j.ps [] a.links.items new w.links
+          (record {
+            from_in = j.left;
+            to_in = j.right;
+            fresh = j.left_end.unlinked;
+            onward = λ i. elim (in_cases q (froms a.links.items) (p ∷ []) i) [ inl k ↦ j.right_end.unlinked k | inr k ↦ other (sym (in_last q p k)) ];
+            no_from = c.left;
+            no_to = c.right;
+          }));
+      kept = subst (AllSpots bank) (sym s.kept) w.kept;
+      kept_free = λ x h i. w.kept_free x (subst (λ l. IsShownIn bank l x) s.kept h) (subst (λ l. In x (bound_variables l)) s.bound i);
+      vars = subst (λ n. length j.xs ≤ n) (sym s.vars) w.vars;
+      nodes = subst (λ n. length j.ps ≤ n) (sym s.nodes) w.nodes;
+      reach = subst (λ n. length j.ps ≤ n) (sym s.reach) w.reach;
+    }
+
+pub linked_joined : (bank : List Tree) (a b : Workspace) (p q : Spot) → OneLinked a b p q → CanLink bank a p q → ¬ (p ≡ q) → IsJoined bank a b as_high (spot_tree bank p) (spot_tree bank q)
+linked_joined bank a b p q s c other =
+    let new : Link = record { from = p; to = q } in
+    record {
+      works = record { ps = c.join.ps; xs = c.join.xs; work = linked_work bank a b p q s c other };
       every = λ u f e. record {
         leaving = subst (Leaving u bank) (sym s.kept) f.leaving;
         meets = subst (Meets u bank) (sym s.bound) f.meets;

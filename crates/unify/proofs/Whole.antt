@@ -1,16 +1,16 @@
 -- Terms made the same from bindings on, and left as they were where that doesn't go.
-use Rattle.std.proofs.Common.{◌≡◌, ℕ, ◌≤◌, Bool, true, false, IsTrue, List, [], ◌∷◌, ◌++◌, take, length, vec_capacity, refl, sym, ap, ◌∙◌, subst, arith}
+use Rattle.std.proofs.Common.{◌≡◌, inl, inr, ℕ, ◌≤◌, Bool, true, false, IsTrue, List, [], ◌∷◌, ◌++◌, take, length, vec_capacity, refl, sym, ap, ◌∙◌, subst, arith}
 use Rattle.std.proofs.lemmas.Bool.{eq-eqb, both_ways}
 use Rattle.fol_core.specs.Substitutions.{Substitution, substitute}
 use Rattle.fol_core.specs.Tree.{Tree, var}
 use Rattle.substitutions.specs.Occurring.{has_variable}
 use Rattle.substitutions.proofs.Composing.{substitute_variables, substitute_alike}
 use Rattle.unify.specs.Bindings.{Meets, bound_variables, resolved, AreBindings}
-use Rattle.unify.specs.Endings.{CanBegin, EndsAs}
+use Rattle.unify.specs.Endings.{CanBegin, HasWorkRoom, EndsAs}
 use Rattle.unify.specs.Opens.{CanUnite, AreMade, IsMadeSame}
-use Rattle.unify.specs.Rooms.{TakePart, HasBindingRoom}
+use Rattle.unify.specs.Rooms.{TakePart, HasBindingRoom, RoomStays}
 use Rattle.unify.specs.Spots.{spot_tree, In}
-use Rattle.unify.specs.Steps.{AreLinks, IsShownIn, Leaving, AllSpots, WorkGoesOn, CanReach, IsReach}
+use Rattle.unify.specs.Steps.{AreLinks, IsShownIn, Leaving, AllSpots, IsWork, TermsStay, WorkGoesOn, CanReach, IsReach}
 use Rattle.unify.specs.Unified.{IsUnited, LeavesAlone, IsMatched}
 use Rattle.unify.specs.Value.{BindingsValue}
 use Rattle.unify.specs.declared.spot.Bound.{Bound}
@@ -49,14 +49,29 @@ can_unite bank a b s t c e = record {
   unlinked = e.links;
 }
 
-pub ended : (bank : List Tree) (a b w : Workspace) (s t : Spot) → Unlinked a b → WorkGoesOn b w → AreMade bank b w (spot_tree bank s) (spot_tree bank t) → EndsAs bank a w s t true
-ended bank a b w s t e g m = record {
+begin_work : (bank : List Tree) (a b : Workspace) (s t : Spot) (ps : List Spot) (xs : List ℕ) → CanBegin bank a s t → Unlinked a b → HasWorkRoom bank a ps xs s t → IsWork bank ps xs b
+begin_work bank a b s t ps xs c e h = record {
+  parts = subst (λ l. TakePart bank l ps xs) (sym e.bound) h.parts;
+  bindings = subst (AreBindings bank) (sym e.bound) c.bindings;
+  links = subst (AreLinks bank ps []) (sym e.links) tt;
+  kept = subst (AllSpots bank) (sym e.kept) c.kept;
+  kept_free = λ x k i. c.kept_free x (subst (λ l. IsShownIn bank l x) e.kept k) (subst (λ l. In x (bound_variables l)) e.bound i);
+  vars = subst (λ n. length xs ≤ n) (sym e.vars) h.vars;
+  nodes = subst (λ n. length ps ≤ n) (sym e.nodes) h.nodes;
+  reach = subst (λ n. length ps ≤ n) (sym e.reach) h.reach;
+}
+
+pub ended : (bank : List Tree) (a b w : Workspace) (s t : Spot) → CanBegin bank a s t → Unlinked a b → WorkGoesOn b w → AreMade bank b w (spot_tree bank s) (spot_tree bank t) → TermsStay bank b w s t true → EndsAs bank a w s t true
+ended bank a b w s t c e g m stay = record {
   ends = record {
     bindings = m.works.work.bindings;
     extends = (g.bound.0, g.bound.1 ∙ ap (λ l. l ++ g.bound.0) e.bound);
     kept_free = λ x h. m.works.work.kept_free x (subst (λ l. IsShownIn bank l x) (sym (g.kept ∙ e.kept)) h);
     equal = m.equal;
     every = λ u l k. m.every u (subst (Leaving u bank) (sym e.kept) l) (subst (Meets u bank) (sym e.bound) k);
+    stays = λ ps xs h.
+        let k = stay ps xs (begin_work bank a b s t ps xs c e h) h.left h.right in
+        (k.work.parts, λ d i. elim (k.within d i) [ inl j ↦ inl (subst (In d) e.bound j) | inr j ↦ inr j ]);
   };
   vars = g.vars ∙ e.vars;
   nodes = g.nodes ∙ e.nodes;
@@ -207,3 +222,29 @@ pub matched_at : (bank : List Tree) (w x y : Workspace) (nodes : ℕ) (v : Bindi
     → IsReach bank w.bound.items t x.kept.items → EndsAs bank x y s t made → IsMatched bank v.bound y.bound.items (spot_tree bank s) (spot_tree bank t) made
 matched_at bank w x y nodes v s t made is sb are free r h =
     matched bank v.bound x y s t made are (items_same x w sb ∙ is.bound) free (subst (λ l. IsReach bank l t x.kept.items) is.bound r) h
+
+-- there is room still for what took part
+room_kept : (bank : List Tree) (bs : List Bound) (vars nodes : ℕ) (a b : Workspace) (s t : Spot) (made : Bool) → a.bound.items ≡ bs → vars ≤ vec_capacity a.bound → nodes ≤ vec_capacity a.links → nodes ≤ vec_capacity a.reached
+    → EndsAs bank a b s t made → RoomStays bank bs b.bound.items vars nodes s t
+room_kept bank bs vars nodes a b s t true e le lf lg h = λ room.
+    let few = room.few_parts in
+    let named = room.few_names in
+    let k = h.ends.stays room.parts room.names (record {
+      parts = subst (λ l. TakePart bank l room.parts room.names) (sym e) room.take_part;
+      left = room.left;
+      right = room.right;
+      vars = omega (arith, named, le);
+      nodes = omega (arith, few, lf);
+      reach = omega (arith, few, lg);
+    }) in
+    (k.0, λ d i. elim (k.1 d i) [ inl j ↦ inl (subst (In d) e j) | inr j ↦ inr j ])
+room_kept bank bs vars nodes a b s t false e le lf lg h = λ room.
+    (subst (λ l. TakePart bank l room.parts room.names) (sym (h.ends.same ∙ e)) room.take_part, λ d i. inl (subst (In d) (h.ends.same ∙ e) i))
+
+pub room_kept_at : (bank : List Tree) (w x y : Workspace) (nodes : ℕ) (v : BindingsValue) (s t : Spot) (made : Bool) → IsSeen w nodes v → nodes ≤ vec_capacity w.links → nodes ≤ vec_capacity w.reached
+    → x.bound ≡ w.bound → x.links ≡ w.links → x.reached ≡ w.reached → EndsAs bank x y s t made → RoomStays bank v.bound y.bound.items v.vars v.nodes s t
+room_kept_at bank w x y nodes v s t made is le lf sb sl sr h =
+    let vars : v.vars ≤ vec_capacity x.bound = (let e = vec_same x w sb in omega (arith, e, is.vars)) in
+    let links : v.nodes ≤ vec_capacity x.links = subst (λ l. v.nodes ≤ vec_capacity l) (sym sl) (subst (λ n. n ≤ vec_capacity w.links) is.nodes_are le) in
+    let reached : v.nodes ≤ vec_capacity x.reached = subst (λ l. v.nodes ≤ vec_capacity l) (sym sr) (subst (λ n. n ≤ vec_capacity w.reached) is.nodes_are lf) in
+    room_kept bank v.bound v.vars v.nodes x y s t made (items_same x w sb ∙ is.bound) vars links reached h

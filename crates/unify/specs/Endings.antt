@@ -3,7 +3,7 @@ use Rattle.std.specs.Prelude.{ℕ, ◌≡◌, ◌≤◌, Bool, true, false, List
 use Rattle.fol_core.specs.Substitutions.{Substitution, substitute}
 use Rattle.fol_core.specs.Tree.{Tree}
 use Rattle.unify.specs.Bindings.{Meets, AreBindings, bound_variables}
-use Rattle.unify.specs.Rooms.{TakePart}
+use Rattle.unify.specs.Rooms.{TakePart, BindWithin}
 use Rattle.unify.specs.Spots.{spot_tree, In}
 use Rattle.unify.specs.Steps.{AllSpots, IsShownIn, Leaving}
 use Rattle.unify.specs.Unified.{BindsMore}
@@ -24,6 +24,16 @@ pub record CanBegin (bank : List Tree) (w : Workspace) (s t : Spot) : Type 0 whe
   pub nodes : length ps ≤ vec_capacity w.links
   pub reach : length ps ≤ vec_capacity w.reached
 
+-- nodes and variables take part, two terms among them, and there is room for so many
+pub record HasWorkRoom (bank : List Tree) (w : Workspace) (ps : List Spot) (xs : List ℕ)
+    (s t : Spot) : Type 0 where
+  pub parts : TakePart bank w.bound.items ps xs
+  pub left : In s ps
+  pub right : In t ps
+  pub vars : length xs ≤ vec_capacity w.bound
+  pub nodes : length ps ≤ vec_capacity w.links
+  pub reach : length ps ≤ vec_capacity w.reached
+
 pub record Ended (bank : List Tree) (old new : Workspace) (s t : Spot) : Type 0 where
   pub bindings : AreBindings bank new.bound.items
   pub extends : BindsMore old.bound.items new.bound.items
@@ -34,6 +44,8 @@ pub record Ended (bank : List Tree) (old new : Workspace) (s t : Spot) : Type 0 
   pub every : (u : Substitution) → Leaving u bank old.kept.items → Meets u bank old.bound.items
       → substitute u (spot_tree bank s) ≡ substitute u (spot_tree bank t)
       → Meets u bank new.bound.items
+  pub stays : (ps : List Spot) (xs : List ℕ) → HasWorkRoom bank old ps xs s t
+      → TakePart bank new.bound.items ps xs × BindWithin ps old.bound.items new.bound.items
 
 pub record Undone (bank : List Tree) (old new : Workspace) (s t : Spot) : Type 0 where
   pub same : new.bound.items ≡ old.bound.items

@@ -1,10 +1,10 @@
 -- How many nodes and variables take part.
-use Rattle.std.specs.Prelude.{ℕ, ◌≤◌, ◌<◌, ◌≡◌, List, [], ◌∷◌, length}
+use Rattle.std.specs.Prelude.{ℕ, zero, suc, ◌+◌, ◌*◌, ◌≤◌, ◌<◌, ◌≡◌, ◌⊎◌, List, [], ◌∷◌, ◌++◌, length, map}
 use Rattle.fol_core.specs.Tree.{Tree, var, elem, app, list_of}
 use Rattle.term_bank.specs.Bank.{tree_at}
 use Rattle.term_bank.specs.declared.id.TermId.{TermId}
-use Rattle.unify.specs.Bindings.{IsSpot, bound_variables}
-use Rattle.unify.specs.Spots.{spot_tree, In}
+use Rattle.unify.specs.Bindings.{IsSpot, AreSpots, bound_variables}
+use Rattle.unify.specs.Spots.{spot_tree, spot, In}
 use Rattle.unify.specs.declared.spot.Bound.{Bound}
 use Rattle.unify.specs.declared.spot.Spot.{Spot}
 
@@ -42,3 +42,52 @@ pub record HasBindingRoom (bank : List Tree) (bs : List Bound) (vars nodes : ℕ
   pub right : In t parts
   pub few_parts : length parts ≤ nodes
   pub few_names : length names ≤ vars
+
+-- each binding is an old one, or to one of these nodes
+abbrev pub BindWithin : List Spot → List Bound → List Bound → Type 0
+BindWithin ps old new = (b : Bound) → In b new → In b old ⊎ In b.to ps
+
+-- Where there is room for two terms, all that takes part does so with the new bindings too, which
+-- are to nodes of it: so there is room for terms of it still.
+abbrev pub RoomStays : List Tree → List Bound → List Bound → ℕ → ℕ → Spot → Spot → Type 0
+RoomStays bank old new vars nodes s t =
+    (room : HasBindingRoom bank old vars nodes s t)
+    → TakePart bank new room.parts room.names × BindWithin room.parts old new
+
+-- the first terms of a bank, in a context, and in some contexts
+abbrev pub terms_in : ℕ → ℕ → List Spot
+terms_in c zero = []
+terms_in c (suc n) = spot (record { 0 = n }) c ∷ terms_in c n
+
+abbrev pub terms_in_all : List ℕ → ℕ → List Spot
+terms_in_all [] n = []
+terms_in_all (c ∷ cs) n = terms_in c n ++ terms_in_all cs n
+
+-- what is bound stands in one of these contexts
+abbrev pub AreBoundWithin : List ℕ → List Bound → Type 0
+AreBoundWithin cs [] = Unit {0}
+AreBoundWithin cs (b ∷ bs) = In b.to.context cs × AreBoundWithin cs bs
+
+-- Room for all terms of a bank in each context that occurs is enough: for so many nodes and
+-- variables, and for the variables that are bound.
+pub record FitsInContexts (bank : List Tree) (bs : List Bound) (cs : List ℕ) (s t : Spot) : Type 0
+  where
+    pub spots : (p : Spot) → In p.context cs → p.term.0 < length bank → IsSpot bank p
+    pub bound : AreBoundWithin cs bs
+    pub targets : AreSpots bank bs
+    pub left : IsSpot bank s × In s.context cs
+    pub right : IsSpot bank t × In t.context cs
+
+abbrev pub BanksHaveRoom : Type 0
+BanksHaveRoom =
+    (bank : List Tree) (bs : List Bound) (cs : List ℕ) (vars nodes : ℕ) (s t : Spot)
+    → FitsInContexts bank bs cs s t → length cs * length bank ≤ nodes
+    → length cs * length bank + length bs ≤ vars → HasBindingRoom bank bs vars nodes s t
+
+-- And then what is bound stands in these contexts again.
+abbrev pub ContextsStay : Type 0
+ContextsStay =
+    (bank : List Tree) (old new : List Bound) (cs : List ℕ) (vars nodes : ℕ) (s t : Spot)
+    → FitsInContexts bank old cs s t → length cs * length bank ≤ nodes
+    → length cs * length bank + length old ≤ vars → RoomStays bank old new vars nodes s t
+    → AreBoundWithin cs new

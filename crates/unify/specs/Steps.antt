@@ -5,7 +5,7 @@ use Rattle.fol_core.specs.Tree.{Tree, var, nodes}
 use Rattle.substitutions.specs.Occurring.{has_variable}
 use Rattle.unifiers.specs.Matching.{same_tree}
 use Rattle.unify.specs.Bindings.{Meets, IsSpot, bound_variables, resolved, AreBindings, PointsOn}
-use Rattle.unify.specs.Rooms.{TakePart}
+use Rattle.unify.specs.Rooms.{TakePart, BindWithin}
 use Rattle.unify.specs.Spots.{spot_tree, In}
 use Rattle.unify.specs.Unified.{BindsMore}
 use Rattle.unify.specs.declared.spot.Bound.{Bound}
@@ -101,6 +101,25 @@ pub record WorksAt (bank : List Tree) (w : Workspace) (p q : Spot) : Type 0 wher
   pub work : IsWork bank ps xs w
   pub left : In p ps
   pub right : In q ps
+
+-- what takes part in work does so when more is bound, to nodes of it
+pub record StaysWork (bank : List Tree) (ps : List Spot) (xs : List ℕ) (old new : Workspace)
+    : Type 0 where
+  pub work : IsWork bank ps xs new
+  pub within : BindWithin ps old.bound.items new.bound.items
+
+-- whatever takes part, a variable and a term among it, or two terms
+abbrev pub VariableStays : List Tree → Workspace → Workspace → ℕ → Spot → Bool → Type 0
+VariableStays bank old new x q false = Unit {0}
+VariableStays bank old new x q true =
+    (ps : List Spot) (xs : List ℕ) → IsWork bank ps xs old → In x xs → In q ps
+    → StaysWork bank ps xs old new
+
+abbrev pub TermsStay : List Tree → Workspace → Workspace → Spot → Spot → Bool → Type 0
+TermsStay bank old new p q false = Unit {0}
+TermsStay bank old new p q true =
+    (ps : List Spot) (xs : List ℕ) → IsWork bank ps xs old → In p ps → In q ps
+    → StaysWork bank ps xs old new
 
 -- more is bound and linked, and what is kept and the room stay
 pub record WorkGoesOn (old new : Workspace) : Type 0 where

@@ -4,7 +4,7 @@ ghost use Rattle.fol_core.specs.Substitutions.{substitute};
 ghost use Rattle.substitutions.specs.Occurring.{has_variable};
 ghost use Rattle.term_bank.specs.Bank.{IsAt, Grows};
 ghost use Rattle.unify.specs.Bindings.{AreBindings, IsSpot, bound_variables, resolved};
-ghost use Rattle.unify.specs.Rooms.{HasBindingRoom};
+ghost use Rattle.unify.specs.Rooms.{HasBindingRoom, RoomStays};
 ghost use Rattle.unify.specs.Spots.{spot_tree, spot, In};
 ghost use Rattle.unify.specs.Unified.{IsUnited, IsMatched};
 
@@ -16,8 +16,8 @@ use std::alloc::{AllocError, Global};
 use std::marker::Model;
 use term_bank::{Bank, TermId};
 
-/// Terms that are bound to variables, the oldest first, and room for more. Contracts see the list, and for how many
-/// variables and nodes there is room.
+/// Terms that are bound to variables, the oldest first, and room for more. Contracts see the list,
+/// and for how many variables and nodes there is room.
 #[derive(Drop)]
 pub struct Bindings {
     work: Workspace,
@@ -57,7 +57,8 @@ impl Bindings {
         }
     }
 
-    /// Makes room for so many variables, those that are bound among them, and for so many nodes in contexts.
+    /// Makes room for so many variables, those that are bound among them, and for so many nodes in
+    /// contexts.
     pub fn reserve(&mut self, vars: u64, nodes: u64) -> Result<(), AllocError>
         ensures bound { self.new.bound ≡ self.old.bound }
         ensures vars { OnOk result (vars ≤ self.new.vars) }
@@ -98,8 +99,10 @@ impl Bindings {
         self.work.bound.truncate(mark as usize);
     }
 
-    /// Whether some substitution meets the bindings and makes the terms, in their contexts, the same; then the new
-    /// bindings say what is common to all that do.
+    /// Whether some substitution meets the bindings and makes the terms, in their contexts, the same;
+    /// then the new bindings say what is common to all that do. The room (`reserve`) has to be for
+    /// all variables and nodes, in their contexts, that take part: the terms' own, those that
+    /// bindings lead to, and the variables that are bound. The new bindings ask for no more.
     pub fn unify(&mut self, bank: &Bank, s: TermId, i: u64, t: TermId, j: u64) -> bool
         requires bindings { AreBindings bank.now self.old.bound }
         requires room { HasBindingRoom bank.now self.old.bound self.old.vars self.old.nodes
@@ -107,6 +110,8 @@ impl Bindings {
             (spot t j) }
         ensures united { IsUnited bank.now self.old.bound self.new.bound
             (spot_tree bank.now (spot s i)) (spot_tree bank.now (spot t j)) result }
+        ensures stays { RoomStays bank.now self.old.bound self.new.bound self.old.vars
+            self.old.nodes (spot s i) (spot t j) }
         ensures room { (self.new.vars ≡ self.old.vars) × (self.new.nodes ≡ self.old.nodes) }
     {
         self.work.kept.clear();
@@ -121,8 +126,9 @@ impl Bindings {
         unite_or_undo(bank, &mut self.work, left, right)
     }
 
-    /// Whether some substitution meets the bindings, leaves the second term alone, and makes it of the first one; then the
-    /// new bindings say what is common to all that do.
+    /// Whether some substitution meets the bindings, leaves the second term alone, and makes it of
+    /// the first one; then the new bindings say what is common to all that do. No variable of the
+    /// second term may be bound. The room is as for `unify`.
     pub fn match_onto(
         &mut self,
         bank: &Bank,
@@ -138,6 +144,8 @@ impl Bindings {
             → ¬ In x (bound_variables self.old.bound) }
         ensures matched { IsMatched bank.now self.old.bound self.new.bound
             (spot_tree bank.now (spot general i)) (spot_tree bank.now (spot special j)) result }
+        ensures stays { RoomStays bank.now self.old.bound self.new.bound self.old.vars
+            self.old.nodes (spot general i) (spot special j) }
         ensures room { (self.new.vars ≡ self.old.vars) × (self.new.nodes ≡ self.old.nodes) }
     {
         let left = Spot {
@@ -152,8 +160,8 @@ impl Bindings {
         unite_or_undo(bank, &mut self.work, left, right)
     }
 
-    /// The number of what a term, in its context, becomes with what is bound to its variables, and to the variables of that
-    /// in turn.
+    /// The number of what a term, in its context, becomes with what is bound to its variables, and to
+    /// the variables of that in turn.
     pub fn instance(&self, bank: &mut Bank, t: TermId, i: u64) -> Result<TermId, AllocError>
         requires bindings { AreBindings bank.old self.now.bound }
         requires spot { IsSpot bank.old (spot t i) }

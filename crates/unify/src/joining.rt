@@ -2,7 +2,7 @@
 ghost use Rattle.fol_core.specs.Tree.{var};
 ghost use Rattle.unify.specs.Joins.{MayBind, MayBindOther, CanJoinVariable, CanLink, CanJoin};
 ghost use Rattle.unify.specs.Spots.{spot_tree};
-ghost use Rattle.unify.specs.Steps.{WorksAt, WorkGoesOn, Joins, as_high, walked, linked};
+ghost use Rattle.unify.specs.Steps.{WorksAt, WorkGoesOn, Joins, VariableStays, TermsStay, as_high, walked, linked};
 ghost use Rattle.std.specs.Prelude.{◌≡◌, true};
 
 use crate::looking::{same, shows, variable_of};
@@ -17,6 +17,7 @@ fn bind(bank: &Bank, work: &mut Workspace, variable: u64, to: Spot) -> bool
     ensures goes { WorkGoesOn work.old work.new }
     ensures joins { Joins bank.now work.old work.new as_high (var variable) (spot_tree bank.now to)
         result }
+    ensures stays { VariableStays bank.now work.old work.new variable to result }
 {
     reach(bank, &work.bound, &mut work.reached, to);
     if shows(bank, &work.reached, variable) {
@@ -32,6 +33,7 @@ fn bind_free(bank: &Bank, work: &mut Workspace, variable: u64, to: Spot) -> bool
     ensures goes { WorkGoesOn work.old work.new }
     ensures joins { Joins bank.now work.old work.new as_high (var variable) (spot_tree bank.now to)
         result }
+    ensures stays { VariableStays bank.now work.old work.new variable to result }
 {
     if shows(bank, &work.kept, variable) {
         return false;
@@ -45,6 +47,7 @@ fn join_variable(bank: &Bank, work: &mut Workspace, variable: u64, spot: Spot, t
     ensures goes { WorkGoesOn work.old work.new }
     ensures joins { Joins bank.now work.old work.new as_high (spot_tree bank.now spot)
         (spot_tree bank.now to) result }
+    ensures stays { TermsStay bank.now work.old work.new spot to result }
 {
     match variable_of(bank, to) {
         Some(other) => {
@@ -66,6 +69,7 @@ fn link(bank: &Bank, work: &mut Workspace, from: Spot, to: Spot)
     ensures goes { WorkGoesOn work.old work.new }
     ensures joins { Joins bank.now work.old work.new as_high (spot_tree bank.now from)
         (spot_tree bank.now to) true }
+    ensures stays { TermsStay bank.now work.old work.new from to true }
 {
     if !same(from, to) {
         work.links.push_reserved(Link { from, to });
@@ -79,6 +83,7 @@ fn join(bank: &Bank, work: &mut Workspace, p: Spot, q: Spot) -> bool
     ensures goes { WorkGoesOn work.old work.new }
     ensures joins { Joins bank.now work.old work.new as_high (spot_tree bank.now p)
         (spot_tree bank.now q) result }
+    ensures stays { TermsStay bank.now work.old work.new p q result }
 {
     match variable_of(bank, p) {
         Some(x) => join_variable(bank, work, x, p, q),
@@ -106,6 +111,7 @@ pub fn merge(bank: &Bank, work: &mut Workspace, s: Spot, t: Spot) -> bool
     ensures goes { WorkGoesOn work.old work.new }
     ensures joins { Joins bank.now work.old work.new as_high (spot_tree bank.now s)
         (spot_tree bank.now t) result }
+    ensures stays { TermsStay bank.now work.old work.new s t result }
 {
     let p = stand(bank, work, s);
     let q = stand(bank, work, t);

@@ -13,5 +13,5 @@ mod uniting;
 mod walking;
 
 pub use bindings::Bindings;
-pub use laws::{bindings_stay, resolved_is_most_general};
+pub use laws::{banks_have_room, bindings_stay, resolved_is_most_general};
 pub use spot::{Bound, Spot};

@@ -2,7 +2,7 @@
 ghost use Rattle.std.specs.Prelude.{◌≡◌};
 ghost use Rattle.unify.specs.Opens.{AreOpen, IsLinkOf, CanUnite, IsMadeSame};
 ghost use Rattle.unify.specs.Spots.{spot_tree};
-ghost use Rattle.unify.specs.Steps.{WorkGoesOn, Joins};
+ghost use Rattle.unify.specs.Steps.{WorkGoesOn, Joins, TermsStay};
 ghost use Rattle.unify.specs.Opens.{one_higher};
 
 use crate::joining::merge;
@@ -21,6 +21,7 @@ fn open_each(
     ensures goes { WorkGoesOn work.old work.new }
     ensures joins { Joins bank.now work.old work.new one_higher (spot_tree bank.now link.from)
         (spot_tree bank.now link.to) result }
+    ensures stays { TermsStay bank.now work.old work.new link.from link.to result }
 {
     for k in 0..left.len() {
         let s = Spot {
@@ -44,6 +45,7 @@ fn open(bank: &Bank, work: &mut Workspace, link: Link) -> bool
     ensures goes { WorkGoesOn work.old work.new }
     ensures joins { Joins bank.now work.old work.new one_higher (spot_tree bank.now link.from)
         (spot_tree bank.now link.to) result }
+    ensures stays { TermsStay bank.now work.old work.new link.from link.to result }
 {
     match (bank.node(link.from.term), bank.node(link.to.term)) {
         (Node::Elem(k), Node::Elem(n)) => k == n,
@@ -70,6 +72,7 @@ pub fn unite(bank: &Bank, work: &mut Workspace, s: Spot, t: Spot) -> bool
     ensures goes { WorkGoesOn work.old work.new }
     ensures made { IsMadeSame bank.now work.old work.new (spot_tree bank.now s)
         (spot_tree bank.now t) result }
+    ensures stays { TermsStay bank.now work.old work.new s t result }
 {
     if !merge(bank, work, s, t) {
         return false;

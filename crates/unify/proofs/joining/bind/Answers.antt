@@ -2,6 +2,7 @@
 use Rattle.std.proofs.Common.{◌<◌, length, vec_capacity, arith, refl}
 use Rattle.std.proofs.lemmas.Bool.{false≢true}
 use Rattle.unify.proofs.Pairs.{same_goes, never_bound, bound_room, bound_joined}
+use Rattle.unify.proofs.Staying.{bound_stays}
 use Rattle.unify.proofs.joining.bind.Goals as goal
 
 pub returns-then-shows-clause-goes : goal.returns-then-shows-clause-goes
@@ -18,5 +19,11 @@ push_reserved-requires c =
 pub returns-clause-joins : goal.returns-clause-joins
 returns-clause-joins c =
     bound_joined c.args.bank.now c.args.work.now _ c.args.variable c.args.to c.reach.new.reached.items
+    (record { bound = c.push_reserved.ensures.items; links = refl; kept = refl; vars = c.push_reserved.ensures.capacity; nodes = refl; reach = c.reach.ensures.room; spare = refl })
+    c.requires c.reach.ensures.reach (λ h. false≢true (c.if-shows.ensures.1 h))
+
+pub returns-clause-stays : goal.returns-clause-stays
+returns-clause-stays c =
+    bound_stays c.args.bank.now c.args.work.now _ c.args.variable c.args.to c.reach.new.reached.items
     (record { bound = c.push_reserved.ensures.items; links = refl; kept = refl; vars = c.push_reserved.ensures.capacity; nodes = refl; reach = c.reach.ensures.room; spare = refl })
     c.requires c.reach.ensures.reach (λ h. false≢true (c.if-shows.ensures.1 h))

@@ -3,6 +3,7 @@ use Rattle.std.proofs.Common.{◌<◌, ◌∙◌, length, vec_capacity, arith, r
 use Rattle.std.proofs.lemmas.Bool.{false≢true}
 use Rattle.unify.proofs.Pairs.{link_room, linked_joined}
 use Rattle.unify.proofs.Walks.{spot_iff}
+use Rattle.unify.proofs.Staying.{linked_stays}
 use Rattle.unify.proofs.joining.link.Goals as goal
 
 pub push_reserved-requires : goal.push_reserved-requires
@@ -13,5 +14,11 @@ push_reserved-requires c =
 pub returns-then-not-same-clause-joins : goal.returns-then-not-same-clause-joins
 returns-then-not-same-clause-joins c =
     linked_joined c.args.bank.now c.args.work.now _ c.args.from c.args.to
+    (record { bound = refl; links = c.push_reserved.ensures.items; kept = refl; vars = refl; nodes = c.push_reserved.ensures.capacity; reach = refl; spare = refl })
+    c.requires (λ e. false≢true (c.if-not-same.ensures ∙ (spot_iff c.args.from c.args.to).1 e))
+
+pub returns-then-not-same-clause-stays : goal.returns-then-not-same-clause-stays
+returns-then-not-same-clause-stays c =
+    linked_stays c.args.bank.now c.args.work.now _ c.args.from c.args.to
     (record { bound = refl; links = c.push_reserved.ensures.items; kept = refl; vars = refl; nodes = c.push_reserved.ensures.capacity; reach = refl; spare = refl })
     c.requires (λ e. false≢true (c.if-not-same.ensures ∙ (spot_iff c.args.from c.args.to).1 e))

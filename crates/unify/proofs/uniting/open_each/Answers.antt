@@ -3,6 +3,7 @@ use Rattle.std.proofs.Common.{◌<◌, ◌≤◌, length, arith}
 use Rattle.term_bank.specs.declared.id.TermId.{TermId}
 use Rattle.unify.proofs.Classes.{works_at, argument_equal, each_more, all_opened, goes_on}
 use Rattle.unify.proofs.Pairs.{meets_before, alike_before}
+use Rattle.unify.proofs.Staying.{opened_stays}
 use Rattle.unify.proofs.uniting.open_each.Goals as goal
 
 pub merge-requires : goal.merge-requires
@@ -25,6 +26,7 @@ loop-k-preserved c =
     record {
       works = j.works;
       goes = goes_on c.args.work.now c.loop-k.work c.merge.new.work c.loop-k.invariant.goes c.merge.ensures.goes;
+      stays = opened_stays c.args.bank.now c.args.work.now c.loop-k.work c.merge.new.work c.args.link c.args.left.now c.args.right.now c.loop-k.k zero zero c.requires lt c.loop-k.invariant.stays c.if-not-merge.ensures.stays;
       every = λ u f e. j.every u (c.loop-k.invariant.every u f e) (argument_equal c.args.bank.now c.args.work.now c.args.link c.args.left.now c.args.right.now c.loop-k.k zero zero u c.requires lt e);
       alike = λ n u m l.
           each_more n u c.args.bank.now c.args.link.from.context c.args.link.to.context c.loop-k.k c.args.left.now c.args.right.now zero zero lt c.requires.even

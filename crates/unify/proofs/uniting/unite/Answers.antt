@@ -3,6 +3,7 @@ use Rattle.std.proofs.Common.{◌<◌, ◌≤◌, ◌+◌, length, arith}
 use Rattle.unify.specs.Spots.{spot_tree}
 use Rattle.unify.proofs.Classes.{IsSettled, link_there, goes_on, joined_at, joined_on, settled_on, begin_fulfils, are_made, longer_links}
 use Rattle.unify.proofs.Closing.{done_next}
+use Rattle.unify.proofs.Staying.{linked_on}
 use Rattle.unify.proofs.uniting.unite.Goals as goal
 
 pub open-requires : goal.open-requires
@@ -29,6 +30,7 @@ loop-done-preserved c =
     record {
       joined = joined_on c.args.bank.now c.args.work.now c.loop-done.work c.open.new.work (spot_tree c.args.bank.now c.args.s) (spot_tree c.args.bank.now c.args.t) c.index-link.result.now g there c.loop-done.invariant.joined j;
       goes = goes_on c.args.work.now c.loop-done.work c.open.new.work c.loop-done.invariant.goes g;
+      stays = linked_on c.args.bank.now c.args.work.now c.loop-done.work c.open.new.work c.args.s c.args.t c.index-link.result.now there c.loop-done.invariant.stays c.if-not-open.ensures.stays;
       settled = done_next (IsSettled c.args.bank.now c.loop-done.work) (IsSettled c.args.bank.now c.open.new.work) c.loop-done.work.links.items c.open.new.work.links.items g.links.0 c.loop-done.done c.index-link.result.now
           c.loop-done.invariant.settled lt c.index-link.ensures g.links.1 (λ k s. settled_on c.args.bank.now c.loop-done.work c.open.new.work k g s) (λ n u m l. j.alike n u m l);
       within = within;

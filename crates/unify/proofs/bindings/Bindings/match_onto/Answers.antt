@@ -1,6 +1,6 @@
 -- The variables of the second term are kept.
 use Rattle.std.proofs.Common.{refl}
-use Rattle.unify.proofs.Whole.{is_seen, look_at, begin_at, matched_at}
+use Rattle.unify.proofs.Whole.{is_seen, look_at, begin_at, matched_at, room_kept_at}
 use Rattle.unify.proofs.bindings.Bindings.match_onto.Goals as goal
 
 pub reach-requires : goal.reach-requires
@@ -17,3 +17,8 @@ pub returns-clause-matched : goal.returns-clause-matched
 returns-clause-matched c =
     matched_at c.args.bank.now c.self.inside.work _ c.unite_or_undo.new.work c.self.inside.nodes c.args.self.now _ _ c.unite_or_undo.result
     (is_seen c.self.inside.work c.self.inside.nodes _ c.args.self.now c.self.view_is refl refl refl) refl c.requires.bindings c.requires.unbound c.reach.ensures.reach c.unite_or_undo.ensures
+
+pub returns-clause-stays : goal.returns-clause-stays
+returns-clause-stays c =
+    room_kept_at c.args.bank.now c.self.inside.work _ c.unite_or_undo.new.work c.self.inside.nodes c.args.self.now _ _ c.unite_or_undo.result
+    (is_seen c.self.inside.work c.self.inside.nodes _ c.args.self.now c.self.view_is refl refl refl) c.self.invariant.links c.self.invariant.reached refl refl refl c.unite_or_undo.ensures
