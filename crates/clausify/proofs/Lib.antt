@@ -4,7 +4,7 @@ mod Claims
 mod Clauses
 mod Closures
 mod Crossing
-mod Denials
+mod Fronting
 mod FormSets
 mod FreeNames
 mod Fresh
@@ -17,3 +17,4 @@ mod Rows
 mod Scopes
 mod Sets
 mod SkolemLemmas
+mod Substituting

@@ -28,10 +28,17 @@ is_taken Goal = false
 abbrev pub form : Said → Fol
 form s = nnf_of (is_taken s.role) (closure_of s.formula)
 
+-- the forms of what is said
+abbrev pub forms : List Said → List Fol
+forms ss = map form ss
+
 -- how many arguments each Skolem symbol has
+abbrev pub arities_in : List Fol → List ℕ
+arities_in [] = []
+arities_in (f ∷ fs) = arities 0 f ++ arities_in fs
+
 abbrev pub all_arities : List Said → List ℕ
-all_arities [] = []
-all_arities (s ∷ ss) = arities 0 (form s) ++ all_arities ss
+all_arities ss = arities_in (forms ss)
 
 -- the Skolem symbols of what is said in the words of a table
 abbrev pub skolems : List Symbol → List Said → List Symbol
@@ -41,19 +48,25 @@ skolems input ss = skolem_symbols input 0 0 (all_arities ss)
 abbrev pub ClauseRow : Type 0
 ClauseRow = ℕ × ClauseTree
 
--- the clauses of the formulas, of which the first has number n and its first Skolem symbol stands
+-- the clauses of forms, of which the first is that of formula n and its first Skolem symbol stands
 -- at place k
+abbrev pub rows_in : List ℕ → ℕ → ℕ → List Fol → List ClauseRow
+rows_in symbols n k [] = []
+rows_in symbols n k (f ∷ fs) =
+    map (λ c. (n, renumbered c)) (clauses_in symbols k [] var f)
+    ++ rows_in symbols (n + 1) (k + somes f) fs
+
 abbrev pub rows_from : List ℕ → ℕ → ℕ → List Said → List ClauseRow
-rows_from symbols n k [] = []
-rows_from symbols n k (s ∷ ss) =
-    map (λ c. (n, renumbered c)) (clauses_in symbols k [] var (form s))
-    ++ rows_from symbols (n + 1) (k + somes (form s)) ss
+rows_from symbols n k ss = rows_in symbols n k (forms ss)
 
 -- and their witnesses
+abbrev pub axioms_in : List ℕ → ℕ → List Fol → List SkolemAxiom
+axioms_in symbols k [] = []
+axioms_in symbols k (f ∷ fs) =
+    skolem_axioms symbols k [] var f ++ axioms_in symbols (k + somes f) fs
+
 abbrev pub axioms_from : List ℕ → ℕ → List Said → List SkolemAxiom
-axioms_from symbols k [] = []
-axioms_from symbols k (s ∷ ss) =
-    skolem_axioms symbols k [] var (form s) ++ axioms_from symbols (k + somes (form s)) ss
+axioms_from symbols k ss = axioms_in symbols k (forms ss)
 
 abbrev pub all_rows : List ℕ → List Said → List ClauseRow
 all_rows symbols ss = rows_from symbols 1 0 ss

@@ -2,6 +2,7 @@ pub mod Behind
 pub mod Capped
 pub mod Clausal
 pub mod Forms
+pub mod Fronts
 pub mod Input
 pub mod Laws
 pub mod Made

@@ -6,13 +6,11 @@ ghost use Rattle.fol_core.specs.FormulaView.{fol_of};
 ghost use Rattle.fol_core.specs.Literals.{literal};
 ghost use Rattle.fol_core.specs.TermView.{tree_of};
 ghost use Rattle.clausify.specs.Clausal.{with_each, distributed, literal_clauses};
-ghost use Rattle.clausify.specs.Forms.{nnf_of};
 ghost use Rattle.clausify.specs.Made.{clauses_at, Works, BeginsWork};
-ghost use Rattle.clausify.specs.Skolem.{skolem_term};
+ghost use Rattle.clausify.specs.Skolem.{skolem_term, substitute_in};
 ghost use Rattle.clausify.specs.View.{substitution_kept};
 
-use crate::form::form;
-use crate::substitution::{substitute, substitute_all};
+use crate::substitution::{rows_of, substitute, substitute_all, substitute_in};
 use fol_core::{Clause, EQ, Entry, Literal, Shape, Sub, Sym, Term, Terms};
 use std::alloc::{AllocError, Global};
 
@@ -101,13 +99,15 @@ fn literal(
         Shape::True => constant(alloc, positive),
         Shape::False => constant(alloc, !positive),
         Shape::Eq(s, t) => {
+            let rows = rows_of(alloc, terms)?;
             let mut sides = Terms::new(alloc);
-            sides.push(substitute(alloc, s, terms)?)?;
-            sides.push(substitute(alloc, t, terms)?)?;
+            sides.push(substitute(alloc, s, &rows)?)?;
+            sides.push(substitute(alloc, t, &rows)?)?;
             unit(alloc, positive, Term::App(EQ, sides))
         }
         Shape::Atom(r, arguments) => {
-            let arguments = substitute_all(alloc, arguments, terms)?;
+            let rows = rows_of(alloc, terms)?;
+            let arguments = substitute_all(alloc, arguments, &rows)?;
             unit(alloc, positive, Term::App(*r, arguments))
         }
         _ => Ok(Vec::new(alloc)),
@@ -133,6 +133,15 @@ fn symbol_at(symbols: &[u64], place: usize) -> Sym
         Some(symbol) => Sym(*symbol),
         None => Sym(0),
     }
+}
+
+/// A formula with the Skolem terms put in for the existential variables around.
+pub fn body_of(alloc: Global, shape: &Shape, work: &Work) -> Result<Shape, AllocError>
+    ensures { IfOk result (λ f. fol_of f
+        ≡ substitute_in (substitution_kept work.now.terms.items) (fol_of shape.now)) }
+{
+    let rows = rows_of(alloc, &work.terms)?;
+    substitute_in(alloc, shape, &rows)
 }
 
 // Notes the Skolem symbol of an existential variable, in whose body further ones are bound around a formula, and puts its term
@@ -163,24 +172,33 @@ pub fn begin(
     Ok(())
 }
 
-/// The clauses of a formula's negation normal form where the sign is true, and of its denial's where it is false.
+/// The clauses of a negation normal form.
 #[cycle(clausal)]
 pub fn clauses(
     alloc: Global,
     symbols: &[u64],
     shape: &Shape,
-    sign: bool,
     work: &mut Work,
 ) -> Result<Vec<Clause>, AllocError>
     ensures clauses { IfOk result (λ all. all.items
-        ≡ clauses_at symbols.now work.old (nnf_of sign (fol_of shape.now))) }
-    ensures works { OnOk result (Works symbols.now work.old work.new
-        (nnf_of sign (fol_of shape.now))) }
+        ≡ clauses_at symbols.now work.old (fol_of shape.now)) }
+    ensures works { OnOk result (Works symbols.now work.old work.new (fol_of shape.now)) }
 {
-    if sign {
-        plain(alloc, symbols, shape, work)
-    } else {
-        denied(alloc, symbols, shape, work)
+    match shape {
+        Shape::Not(f) => literal(alloc, false, &f.shape, &work.terms),
+        Shape::And(f, g) => {
+            let left = part(alloc, symbols, f, work)?;
+            let right = part(alloc, symbols, g, work)?;
+            joined(left, right)
+        }
+        Shape::Or(f, g) => {
+            let left = part(alloc, symbols, f, work)?;
+            let right = part(alloc, symbols, g, work)?;
+            distributed(alloc, &left, &right)
+        }
+        Shape::All(x, f) => under_every(alloc, symbols, *x, f, work),
+        Shape::Exists(x, f) => under_some(alloc, symbols, *x, f, work),
+        _ => literal(alloc, true, shape, &work.terms),
     }
 }
 
@@ -190,14 +208,12 @@ fn part(
     alloc: Global,
     symbols: &[u64],
     sub: &Sub,
-    sign: bool,
     work: &mut Work,
 ) -> Result<Vec<Clause>, AllocError>
-    ensures clauses { IfOk result (λ all. all.items
-        ≡ clauses_at symbols.now work.old (nnf_of sign sub.now)) }
-    ensures works { OnOk result (Works symbols.now work.old work.new (nnf_of sign sub.now)) }
+    ensures clauses { IfOk result (λ all. all.items ≡ clauses_at symbols.now work.old sub.now) }
+    ensures works { OnOk result (Works symbols.now work.old work.new sub.now) }
 {
-    clauses(alloc, symbols, &sub.shape, sign, work)
+    clauses(alloc, symbols, &sub.shape, work)
 }
 
 // Those of a part under a universal variable.
@@ -207,16 +223,14 @@ fn under_every(
     symbols: &[u64],
     x: u64,
     sub: &Sub,
-    sign: bool,
     work: &mut Work,
 ) -> Result<Vec<Clause>, AllocError>
     ensures clauses { IfOk result (λ all. all.items
-        ≡ clauses_at symbols.now work.old (forall x (nnf_of sign sub.now))) }
-    ensures works { OnOk result (Works symbols.now work.old work.new
-        (forall x (nnf_of sign sub.now))) }
+        ≡ clauses_at symbols.now work.old (forall x sub.now)) }
+    ensures works { OnOk result (Works symbols.now work.old work.new (forall x sub.now)) }
 {
     work.scope.push(x)?;
-    let found = part(alloc, symbols, sub, sign, work)?;
+    let found = part(alloc, symbols, sub, work)?;
     work.scope.pop();
     Ok(found)
 }
@@ -228,111 +242,15 @@ fn under_some(
     symbols: &[u64],
     x: u64,
     sub: &Sub,
-    sign: bool,
     work: &mut Work,
 ) -> Result<Vec<Clause>, AllocError>
     ensures clauses { IfOk result (λ all. all.items
-        ≡ clauses_at symbols.now work.old (exists x (nnf_of sign sub.now))) }
-    ensures works { OnOk result (Works symbols.now work.old work.new
-        (exists x (nnf_of sign sub.now))) }
+        ≡ clauses_at symbols.now work.old (exists x sub.now)) }
+    ensures works { OnOk result (Works symbols.now work.old work.new (exists x sub.now)) }
 {
-    let body = form(alloc, &sub.shape, sign, &work.terms)?;
+    let body = body_of(alloc, &sub.shape, work)?;
     begin(alloc, symbols, x, Vec::new(alloc), body, work)?;
-    let found = part(alloc, symbols, sub, sign, work)?;
+    let found = part(alloc, symbols, sub, work)?;
     work.terms.pop();
     Ok(found)
-}
-
-// The clauses of a formula's negation normal form.
-#[cycle(clausal)]
-fn plain(
-    alloc: Global,
-    symbols: &[u64],
-    shape: &Shape,
-    work: &mut Work,
-) -> Result<Vec<Clause>, AllocError>
-    ensures clauses { IfOk result (λ all. all.items
-        ≡ clauses_at symbols.now work.old (nnf_of true (fol_of shape.now))) }
-    ensures works { OnOk result (Works symbols.now work.old work.new
-        (nnf_of true (fol_of shape.now))) }
-{
-    match shape {
-        Shape::True | Shape::False | Shape::Eq(_, _) | Shape::Atom(_, _) => {
-            literal(alloc, true, shape, &work.terms)
-        }
-        Shape::Not(f) => part(alloc, symbols, f, false, work),
-        Shape::And(f, g) => {
-            let left = part(alloc, symbols, f, true, work)?;
-            let right = part(alloc, symbols, g, true, work)?;
-            joined(left, right)
-        }
-        Shape::Or(f, g) => {
-            let left = part(alloc, symbols, f, true, work)?;
-            let right = part(alloc, symbols, g, true, work)?;
-            distributed(alloc, &left, &right)
-        }
-        Shape::If(f, g) => {
-            let left = part(alloc, symbols, f, false, work)?;
-            let right = part(alloc, symbols, g, true, work)?;
-            distributed(alloc, &left, &right)
-        }
-        Shape::Iff(f, g) => {
-            let left = part(alloc, symbols, f, false, work)?;
-            let right = part(alloc, symbols, g, true, work)?;
-            let forth = distributed(alloc, &left, &right)?;
-            let left = part(alloc, symbols, g, false, work)?;
-            let right = part(alloc, symbols, f, true, work)?;
-            let back = distributed(alloc, &left, &right)?;
-            joined(forth, back)
-        }
-        Shape::All(x, f) => under_every(alloc, symbols, *x, f, true, work),
-        Shape::Exists(x, f) => under_some(alloc, symbols, *x, f, true, work),
-    }
-}
-
-// The clauses of the negation normal form of a formula's denial.
-#[cycle(clausal)]
-fn denied(
-    alloc: Global,
-    symbols: &[u64],
-    shape: &Shape,
-    work: &mut Work,
-) -> Result<Vec<Clause>, AllocError>
-    ensures clauses { IfOk result (λ all. all.items
-        ≡ clauses_at symbols.now work.old (nnf_of false (fol_of shape.now))) }
-    ensures works { OnOk result (Works symbols.now work.old work.new
-        (nnf_of false (fol_of shape.now))) }
-{
-    match shape {
-        Shape::True | Shape::False | Shape::Eq(_, _) | Shape::Atom(_, _) => {
-            literal(alloc, false, shape, &work.terms)
-        }
-        Shape::Not(f) => part(alloc, symbols, f, true, work),
-        Shape::And(f, g) => {
-            let left = part(alloc, symbols, f, false, work)?;
-            let right = part(alloc, symbols, g, false, work)?;
-            distributed(alloc, &left, &right)
-        }
-        Shape::Or(f, g) => {
-            let left = part(alloc, symbols, f, false, work)?;
-            let right = part(alloc, symbols, g, false, work)?;
-            joined(left, right)
-        }
-        Shape::If(f, g) => {
-            let left = part(alloc, symbols, f, true, work)?;
-            let right = part(alloc, symbols, g, false, work)?;
-            joined(left, right)
-        }
-        Shape::Iff(f, g) => {
-            let left = part(alloc, symbols, f, true, work)?;
-            let right = part(alloc, symbols, g, true, work)?;
-            let some_one = distributed(alloc, &left, &right)?;
-            let left = part(alloc, symbols, f, false, work)?;
-            let right = part(alloc, symbols, g, false, work)?;
-            let not_both = distributed(alloc, &left, &right)?;
-            joined(some_one, not_both)
-        }
-        Shape::All(x, f) => under_some(alloc, symbols, *x, f, false, work),
-        Shape::Exists(x, f) => under_every(alloc, symbols, *x, f, false, work),
-    }
 }

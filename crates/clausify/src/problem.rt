@@ -15,6 +15,7 @@ use crate::error::ClauseError;
 use crate::inputs::all_clauses;
 use crate::laws::{clauses_follow, clauses_suffice};
 use crate::limit::first_over;
+use crate::normal::all_normal;
 use crate::seen::symbols_and_numeral;
 use crate::skolem::enter_all;
 use fol_core::{Clauses, Problem, Symbols};
@@ -46,9 +47,10 @@ fn made(alloc: Global, problem: &Problem, symbols: &mut Symbols) -> Result<Claus
     ensures table { OnOk result (symbols.new ≡ with_skolems symbols.old (stated_of problem.now)) }
     ensures kept { KeepsNumbers symbols.old symbols.new }
 {
-    let arities = all_arities(alloc, &problem.inputs)?;
+    let normals = all_normal(alloc, &problem.inputs)?;
+    let arities = all_arities(alloc, &normals)?;
     let numbers = enter_all(alloc, &problem.symbols, &arities, symbols)?;
-    let (clauses, skolem) = all_clauses(alloc, &numbers, &problem.inputs)?;
+    let (clauses, skolem) = all_clauses(alloc, &numbers, &normals)?;
     let (symbols, numeral) = symbols_and_numeral(alloc, problem)?;
     Ok(Clauses {
         clauses,

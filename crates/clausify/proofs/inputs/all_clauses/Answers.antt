@@ -1,22 +1,22 @@
 use Rattle.std.proofs.Common.{◌+◌, ◌++◌, ap, ◌∙◌, length, map, drop}
 use Rattle.fol_core.specs.EntryView.{skolem_axiom_of}
-use Rattle.fol_core.specs.Stated.{all_said}
-use Rattle.clausify.specs.Input.{rows_from, axioms_from}
+use Rattle.clausify.specs.Fronts.{normal_of}
+use Rattle.clausify.specs.Input.{rows_in, axioms_in}
 use Rattle.clausify.proofs.Rows.{rows_next, axioms_next}
 use Rattle.clausify.proofs.inputs.all_clauses.Goals as goal
 
 pub loop-place-preserved : goal.loop-place-preserved
 loop-place-preserved c =
     let symbols = c.args.symbols.now in
-    let inputs = c.args.inputs.now in
+    let normals = c.args.normals.now in
     let place = c.loop-place.place in
     let before = length c.loop-place.entries.items in
     let after = length c.in_ok-entries.entries.items in
     record {
-      rows = ap (λ rs. rs ++ rows_from symbols ((place + 1) + 1) after (all_said (drop (place + 1) inputs))) c.in_ok-entries.ensures.rows
-          ∙ rows_next symbols c.loop-place.rows.items inputs place before after c.index-inputs-place.result c.loop-place-test.true c.index-inputs-place.is c.in_ok-entries.ensures.count
+      rows = ap (λ rs. rs ++ rows_in symbols ((place + 1) + 1) after (map normal_of (drop (place + 1) normals))) c.in_ok-entries.ensures.rows
+          ∙ rows_next symbols c.loop-place.rows.items normals place before after c.index-normals-place.result c.loop-place-test.true c.index-normals-place.is c.in_ok-entries.ensures.count
           ∙ c.loop-place.invariant.rows;
-      witnesses = ap (λ ws. ws ++ axioms_from symbols after (all_said (drop (place + 1) inputs))) c.in_ok-entries.ensures.entries
-          ∙ axioms_next symbols (map skolem_axiom_of c.loop-place.entries.items) inputs place before after c.index-inputs-place.result c.loop-place-test.true c.index-inputs-place.is c.in_ok-entries.ensures.count
+      witnesses = ap (λ ws. ws ++ axioms_in symbols after (map normal_of (drop (place + 1) normals))) c.in_ok-entries.ensures.entries
+          ∙ axioms_next symbols (map skolem_axiom_of c.loop-place.entries.items) normals place before after c.index-normals-place.result c.loop-place-test.true c.index-normals-place.is c.in_ok-entries.ensures.count
           ∙ c.loop-place.invariant.witnesses;
     }

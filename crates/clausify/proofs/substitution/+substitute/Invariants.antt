@@ -2,8 +2,8 @@
 use Rattle.std.proofs.Common.{◌≡◌, take, map}
 use Rattle.fol_core.specs.TermView.{tree_of}
 use Rattle.fol_core.specs.Substitutions.{substitute}
-use Rattle.clausify.specs.View.{substitution_kept}
+use Rattle.clausify.specs.View.{put_by}
 use Rattle.clausify.proofs.substitution.+substitute.Given as goal
 
 abbrev pub invariant-loop-term : goal.invariant-loop-term
-invariant-loop-term l = l.made ≡ map (λ t. substitute (substitution_kept l.values) (tree_of t)) (take l.term-index l.term-items)
+invariant-loop-term l = l.made ≡ map (λ t. substitute (put_by l.rows) (tree_of t)) (take l.term-index l.term-items)

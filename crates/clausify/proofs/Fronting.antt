@@ -1,12 +1,10 @@
--- The denial of a closure: a Skolem constant for each free variable.
-use Rattle.std.proofs.Common.{◌≡◌, ◌<◌, ◌≤◌, ℕ, ◌+◌, false, List, [], ◌∷◌, ◌++◌, length, drop, get_or, map, refl, sym, ap, ◌∙◌, arith, add-one, drop-cons, append_assoc, slice_index, subst}
+-- A form behind existential quantifiers: a Skolem constant for each of their variables.
+use Rattle.std.proofs.Common.{◌≡◌, ◌<◌, ◌≤◌, ℕ, ◌+◌, List, [], ◌∷◌, ◌++◌, length, drop, get_or, map, refl, sym, ap, ◌∙◌, arith, add-one, drop-cons, append_assoc, slice_index, subst}
 use Rattle.std.proofs.lemmas.List.{drop_all}
 use Rattle.fol_core.specs.EntryView.{skolem_axiom_of, some_over}
 use Rattle.fol_core.specs.Fol.{Fol, exists}
-use Rattle.fol_core.specs.Free.{closed_over}
 use Rattle.fol_core.specs.Substitutions.{Substitution, with_term}
 use Rattle.clausify.specs.Clausal.{clauses_in}
-use Rattle.clausify.specs.Forms.{nnf_of}
 use Rattle.clausify.specs.Made.{axioms_at, BeginsWork, LeadsWork}
 use Rattle.clausify.specs.Skolem.{substitute_in, skolem_axioms, skolem_term}
 use Rattle.clausify.specs.View.{substitution_kept}
@@ -15,10 +13,10 @@ use Rattle.clausify.specs.declared.clausal.Work.{Work}
 front : (xs : List ℕ) (i : ℕ) → i < length xs → drop i xs ≡ get_or xs i 0 ∷ drop (i + 1) xs
 front xs i lt = rw (add-one, drop-cons xs i 0) refl
 
--- the denial of a formula under universal quantifiers is its denial under existential ones
-pub denied_closed : (values : Substitution) (xs : List ℕ) (f : Fol) → some_over xs (substitute_in values (nnf_of false f)) ≡ substitute_in values (nnf_of false (closed_over xs f))
-denied_closed values [] f = refl
-denied_closed values (x ∷ xs) f = ap (exists x) (denied_closed values xs f)
+-- terms are put in behind existential quantifiers
+pub put_behind : (values : Substitution) (xs : List ℕ) (f : Fol) → some_over xs (substitute_in values f) ≡ substitute_in values (some_over xs f)
+put_behind values [] f = refl
+put_behind values (x ∷ xs) f = ap (exists x) (put_behind values xs f)
 
 abbrev put_at : List ℕ → Work → ℕ → Substitution
 put_at symbols a x = with_term (substitution_kept a.terms.items) x (skolem_term (slice_index symbols (length a.entries.items)) a.scope.items)
@@ -50,15 +48,15 @@ leads_through symbols a b c f g h p q = (p.0 ∙ q.0, p.1 ∙ q.1, p.2 ∙ q.2)
 
 -- one more variable
 pub leads_next : (symbols : List ℕ) (start a b : Work) (xs : List ℕ) (f g : Fol) (i : ℕ) → i < length xs
-    → LeadsWork symbols start a g (nnf_of false (closed_over (drop i xs) f))
-    → BeginsWork symbols a b (get_or xs i 0) (substitute_in (substitution_kept a.terms.items) (nnf_of false (closed_over (drop (i + 1) xs) f)))
-    → LeadsWork symbols start b g (nnf_of false (closed_over (drop (i + 1) xs) f))
+    → LeadsWork symbols start a g (some_over (drop i xs) f)
+    → BeginsWork symbols a b (get_or xs i 0) (substitute_in (substitution_kept a.terms.items) (some_over (drop (i + 1) xs) f))
+    → LeadsWork symbols start b g (some_over (drop (i + 1) xs) f)
 leads_next symbols start a b xs f g i lt before begun =
-    let rest = nnf_of false (closed_over (drop (i + 1) xs) f) in
-    let there : LeadsWork symbols start a g (exists (get_or xs i 0) rest) = subst (λ ys. LeadsWork symbols start a g (nnf_of false (closed_over ys f))) (front xs i lt) before in
+    let rest = some_over (drop (i + 1) xs) f in
+    let there : LeadsWork symbols start a g (exists (get_or xs i 0) rest) = subst (λ ys. LeadsWork symbols start a g (some_over ys f)) (front xs i lt) before in
     leads_through symbols start a b g (exists (get_or xs i 0) rest) rest there (leads_some symbols a b (get_or xs i 0) rest begun)
 
 -- and none
 pub leads_end : (symbols : List ℕ) (start a : Work) (xs : List ℕ) (f g : Fol) (i : ℕ) → length xs ≤ i
-    → LeadsWork symbols start a g (nnf_of false (closed_over (drop i xs) f)) → LeadsWork symbols start a g (nnf_of false f)
-leads_end symbols start a xs f g i end before = subst (λ ys. LeadsWork symbols start a g (nnf_of false (closed_over ys f))) (drop_all i xs end) before
+    → LeadsWork symbols start a g (some_over (drop i xs) f) → LeadsWork symbols start a g f
+leads_end symbols start a xs f g i end before = subst (λ ys. LeadsWork symbols start a g (some_over ys f)) (drop_all i xs end) before
