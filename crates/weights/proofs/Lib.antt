@@ -1,6 +1,7 @@
 pub mod Counted
 pub mod Finding
 pub mod Hinted
+pub mod Indexed
 pub mod Items
 pub mod Listed
 pub mod Stated

@@ -1,8 +1,6 @@
 -- The terms in terms, one after the other.
-use Rattle.std.proofs.Common.{◌≡◌, ℕ, zero, suc, ◌+◌, ◌<◌, ◌≤◌, ◌==◌, ◌||◌, ◌↔◌, IsTrue, Bool, true, false, if◌then◌else◌, List, [], ◌∷◌, ◌++◌, length, get_or, drop, map, Option, Some, None, refl, sym, ap, ap₂, subst, ◌∙◌, arith}
-use Rattle.std.specs.List.{list_any}
-use Rattle.std.specs.Option.{option_map_or}
-use Rattle.std.proofs.lemmas.Bool.{false≢true, false_from_ne_true}
+use Rattle.std.proofs.Common.{◌≡◌, ℕ, suc, ◌+◌, ◌<◌, ◌≤◌, ◌==◌, ◌||◌, ◌↔◌, IsTrue, Bool, true, false, if◌then◌else◌, List, [], ◌∷◌, ◌++◌, length, get_or, drop, map, Some, None, refl, sym, ap, ap₂, subst, ◌∙◌, arith}
+use Rattle.std.proofs.lemmas.Bool.{false_from_ne_true}
 use Rattle.std.proofs.lemmas.List.{drop_all, length-append, length-map}
 use Rattle.std.proofs.lemmas.Option.{none-some, same_Some}
 use Rattle.fol_core.specs.TermView.{tree_of, tree_list}
@@ -13,7 +11,7 @@ use Rattle.term_bank.specs.Bank.{size_of, sizes_of}
 use Rattle.term_matches.specs.Sides.{paired, paired_all}
 use Rattle.unifiers.specs.Matching.{same_tree, bound_term}
 use Rattle.unifiers.proofs.Matches.{tree_same, same_itself}
-use Rattle.weights.specs.Parts.{parts, parts_of, stands_among, place_among, listed_weight}
+use Rattle.weights.specs.Parts.{parts, parts_of, stands_among, place_among}
 use Rattle.weights.proofs.Items.{next}
 
 mutual

@@ -1,7 +1,9 @@
 pub mod Heads
 pub mod HintCodes
+pub mod HintIndex
 pub mod HintRows
 pub mod Hints
+pub mod HintsIndexed
 pub mod Known
 pub mod Parts
 pub mod Rooms

@@ -1,6 +1,7 @@
 // What clauses weigh.
 #![tactic(auto)]
 
+mod hint_index;
 mod hints;
 mod laws;
 mod parts;
