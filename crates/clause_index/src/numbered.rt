@@ -1,11 +1,12 @@
 // Clauses of a set by several numbers.
 ghost use Rattle.std.specs.Prelude.{◌≡◌, ◌++◌, IfOk, OnOk, filter};
 ghost use Rattle.clause_index.specs.Numbered.{is_numbered};
-ghost use Rattle.held_clauses.specs.Holding.{HeldClause, lent};
-ghost use Rattle.prover_steps.specs.HeldOrder.{numbers_of, IsRising};
+ghost use Rattle.held_clauses.specs.Holding.{lent};
+ghost use Rattle.prover_steps.specs.HeldOrder.{numbers_of};
 
 use crate::held_set::HeldSet;
 use crate::lists::all_with;
+use discrim_tree::put_in_order;
 use held_clauses::Held;
 use std::alloc::{AllocError, Global};
 
@@ -17,16 +18,6 @@ pub fn add_numbers(found: &[&Held], numbers: &mut Vec<u64>) -> Result<(), AllocE
         numbers.push(held.number())?;
     }
     Ok(())
-}
-
-// Numbers rise, each once.
-fn put_in_order(numbers: &mut Vec<u64>)
-    ensures rise { IsRising numbers.new.items }
-    ensures same { (h : HeldClause) → is_numbered numbers.new.items h
-        ≡ is_numbered numbers.old.items h }
-{
-    numbers.sort_unstable();
-    numbers.dedup();
 }
 
 /// The clauses of a set that have one of these numbers, by rising number.

@@ -1,10 +1,9 @@
 // Rules, found by their left sides.
-ghost use Rattle.std.specs.Prelude.{◌≡◌, ◌==◌, not, [], IfOk, OnOk, OnErr, filter, is_some, length};
+ghost use Rattle.std.specs.Prelude.{◌≡◌, ◌==◌, not, [], IfOk, OnOk, OnErr, filter, is_some};
 ghost use Rattle.std.specs.List.{find};
 ghost use Rattle.std.specs.Option.{option_map};
-ghost use Rattle.clause_index.specs.Places.{with_number};
 ghost use Rattle.fol_core.specs.TermView.{tree_of};
-ghost use Rattle.prover_steps.specs.HeldOrder.{numbers_of, IsNoneOf, IsRising};
+ghost use Rattle.prover_steps.specs.HeldOrder.{numbers_of, IsNoneOf};
 ghost use Rattle.prover_steps.specs.Rewriting.{rewritten_by};
 ghost use Rattle.prover_steps.specs.Searching.{put_in, held_without};
 
@@ -47,28 +46,6 @@ impl Rules {
             rules: Vec::new(alloc),
             lefts: Index::new(alloc),
         }
-    }
-
-    /// How many rules there are.
-    pub fn len(&self) -> usize
-        ensures { result ≡ length self.now }
-    {
-        self.rules.len()
-    }
-
-    /// The rules; their numbers rise.
-    pub fn as_slice(&self) -> &[Held]
-        ensures rules { result.now ≡ self.now }
-        ensures rising { IsRising (numbers_of self.now) }
-    {
-        self.rules.as_slice()
-    }
-
-    /// The rule with a number.
-    pub fn rule_of(&self, number: u64) -> Option<&Held>
-        ensures { option_map (λ r. r.now) result ≡ with_number number self.now }
-    {
-        with_number(number, self.rules.as_slice())
     }
 
     /// The first rule that fits the term as a whole.

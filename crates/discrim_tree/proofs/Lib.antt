@@ -1,5 +1,6 @@
 pub mod Finding
 pub mod Fitted
+pub mod Meetings
 pub mod NodeSteps
 pub mod Ordered
 pub mod Paths

@@ -1,6 +1,7 @@
 pub mod Entries
 pub mod Fitting
 pub mod Laws
+pub mod Meeting
 pub mod Nodes
 pub mod Paths
 pub mod Seeking

@@ -1,22 +1,13 @@
-// Whether a term is an instance of another, and whether two terms unify.
+// Whether two terms unify.
 ghost use Rattle.std.specs.Prelude.{◌≡◌, ◌+◌, ◌*◌, [], IfOk};
 ghost use Rattle.fol_core.specs.Substitutions.{substitute};
 ghost use Rattle.fol_core.specs.TermView.{tree_of};
 ghost use Rattle.substitutions.specs.Apart.{interleaved};
-ghost use Rattle.discrim_tree.specs.Terms.{has_instance, can_unify};
+ghost use Rattle.discrim_tree.specs.Terms.{can_unify};
 
 use fol_core::{Clause, Term, Terms};
 use std::alloc::{AllocError, Global};
-use term_matches::is_instance;
 use term_unifiers::unify;
-
-/// Whether the second term is an instance of the first.
-pub fn has_instance(alloc: Global, general: &Term, special: &Term) -> Result<bool, AllocError>
-    ensures { IfOk result (λ found. found
-        ≡ has_instance (tree_of general.now) (tree_of special.now)) }
-{
-    is_instance(alloc, general, special)
-}
 
 // The number of a variable of a term by its place among two, or want of memory where it is no number of the machine.
 fn number_apart(x: u64, place: u64) -> Result<u64, AllocError>

@@ -1,5 +1,5 @@
 // The index.
-ghost use Rattle.std.specs.Prelude.{◌≡◌, [], false, length, slice_get, IfOk, OnOk, OnErr};
+ghost use Rattle.std.specs.Prelude.{◌≡◌, [], false, slice_get, IfOk, OnOk, OnErr};
 ghost use Rattle.fol_core.specs.TermView.{tree_of};
 ghost use Rattle.discrim_tree.specs.Entries.{indexed, has_number, with_entry, without_entry, numbers_found, NumbersRise};
 ghost use Rattle.discrim_tree.specs.Terms.{has_instance, can_unify};
@@ -50,14 +50,6 @@ impl Index {
         }
     }
 
-    /// How many entries there are; no number stands twice.
-    pub fn len(&self) -> usize
-        ensures len { result ≡ length self.now }
-        ensures rise { NumbersRise self.now }
-    {
-        self.entries.len()
-    }
-
     /// A term under a number that no entry has.
     #[tactic(auto, using(crate::proofs::Placing::entry_placed, crate::proofs::Placing::numbers_rise_on))]
     pub fn insert(&mut self, number: u64, term: &Term) -> Result<(), AllocError>
@@ -92,8 +84,9 @@ impl Index {
 
     /// The numbers of the entries of which the term is an instance, rising.
     pub fn generalizations(&self, t: &Term) -> Result<Vec<u64>, AllocError>
-        ensures { IfOk result (λ found. found.items
+        ensures found { IfOk result (λ found. found.items
             ≡ numbers_found (λ s. has_instance s (tree_of t.now)) self.now) }
+        ensures rise { NumbersRise self.now }
     {
         found(
             *self.entries.allocator(),
@@ -120,8 +113,9 @@ impl Index {
 
     /// The numbers of the entries that are instances of the term, rising.
     pub fn instances(&self, t: &Term) -> Result<Vec<u64>, AllocError>
-        ensures { IfOk result (λ found. found.items
+        ensures found { IfOk result (λ found. found.items
             ≡ numbers_found (λ s. has_instance (tree_of t.now) s) self.now) }
+        ensures rise { NumbersRise self.now }
     {
         found(
             *self.entries.allocator(),
@@ -134,8 +128,9 @@ impl Index {
 
     /// The numbers of the entries that unify with the term, where each has variables of its own, rising.
     pub fn unifiable(&self, t: &Term) -> Result<Vec<u64>, AllocError>
-        ensures { IfOk result (λ found. found.items
+        ensures found { IfOk result (λ found. found.items
             ≡ numbers_found (λ s. can_unify s (tree_of t.now)) self.now) }
+        ensures rise { NumbersRise self.now }
     {
         found(
             *self.entries.allocator(),

@@ -6,6 +6,7 @@ mod edge;
 mod entry;
 mod index;
 mod laws;
+mod meeting;
 mod nodes;
 mod seeking;
 mod sieve;
@@ -14,5 +15,7 @@ mod walk;
 
 pub use index::Index;
 pub use laws::{tests_are_exact, worked};
+pub use meeting::may_meet;
+pub use seeking::put_in_order;
 pub use sieve::Sieve;
 pub use sought::Sought;

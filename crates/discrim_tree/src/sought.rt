@@ -3,9 +3,11 @@ ghost use Rattle.std.specs.Prelude.{◌≡◌, IfOk};
 ghost use Rattle.fol_core.specs.TermView.{tree_of};
 ghost use Rattle.discrim_tree.specs.Seeking.{fits_below, fits_above, passes};
 
-use crate::comparing::{can_unify, has_instance};
+use crate::comparing::can_unify;
+use crate::meeting::may_meet;
 use fol_core::Term;
 use std::alloc::{AllocError, Global};
+use term_matches::is_instance;
 
 /// Which terms are sought: those of which a term is an instance, its instances, or those that unify with it.
 #[derive(Drop)]
@@ -39,13 +41,19 @@ impl Sought {
     }
 
     /// Whether a term of the index is sought.
+    #[tactic(auto, using(crate::proofs::Meetings::never_unify))]
     pub fn passes(&self, alloc: Global, t: &Term, s: &Term) -> Result<bool, AllocError>
         ensures { IfOk result (λ b. b ≡ passes self.now (tree_of t.now) (tree_of s.now)) }
     {
         match self {
-            Sought::Generalizations => has_instance(alloc, s, t),
-            Sought::Instances => has_instance(alloc, t, s),
-            Sought::Unifiable => can_unify(alloc, s, t),
+            Sought::Generalizations => is_instance(alloc, s, t),
+            Sought::Instances => is_instance(alloc, t, s),
+            Sought::Unifiable => {
+                if !may_meet(s, t) {
+                    return Ok(false);
+                }
+                can_unify(alloc, s, t)
+            }
         }
     }
 }

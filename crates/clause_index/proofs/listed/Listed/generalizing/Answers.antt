@@ -12,6 +12,6 @@ pub returns-clause-found : goal.returns-clause-found
 returns-clause-found c =
     subst (λ (ks : List Held). IfOk c.all_with.result (λ hs. lent hs.items ≡ ks))
     (ap₂ (λ (ks : List Held) ns. filter_map (λ n. with_number n ks) ns) c.as_slice-2.ensures.value c.as_slice.ensures.value
-    ∙ general_found c.args.sign (tree_of c.args.atom.now) c.self.inside.clauses.items c.index.result.now c.in_ok-numbers.numbers.items c.self.invariant.rising (c.index.ensures ∙ ap (first_literals c.args.sign) (sym c.self.view_is)) c.in_ok-numbers.ensures
+    ∙ general_found c.args.sign (tree_of c.args.atom.now) c.self.inside.clauses.items c.index.result.now c.in_ok-numbers.numbers.items c.self.invariant.rising (c.index.ensures ∙ ap (first_literals c.args.sign) (sym c.self.view_is)) c.in_ok-numbers.ensures.found
     ∙ ap (filter (begins_generally c.args.sign (tree_of c.args.atom.now))) c.self.view_is)
     c.all_with.ensures
