@@ -1,5 +1,5 @@
 // Bindings that make of terms others, found from the left.
-ghost use Rattle.std.specs.Prelude.{◌≡◌, ◌≤◌, [], ◌∷◌, ◌++◌, IfOk, OnOk, OnErr, length, take, is_some};
+ghost use Rattle.std.specs.Prelude.{◌≡◌, [], IfOk, is_some};
 ghost use Rattle.std.specs.Option.{option_map};
 ghost use Rattle.fol_core.specs.Substitutions.{substitute};
 ghost use Rattle.fol_core.specs.TermView.{tree_of};
@@ -43,20 +43,6 @@ impl<'a> Matches<'a> {
         Matches {
             terms: SmallVec::new(alloc),
         }
-    }
-
-    /// How many bindings there are.
-    pub fn len(&self) -> usize
-        ensures { result ≡ length self.now }
-    {
-        self.terms.len()
-    }
-
-    /// The first bindings stay, the others are taken out.
-    pub fn truncate(&mut self, len: usize)
-        ensures { self.new ≡ take len self.old }
-    {
-        self.terms.truncate(len);
     }
 
     /// The term that is given for a variable.
