@@ -4,13 +4,8 @@ ghost use Rattle.fol_core.specs.TermView.{tree_of};
 ghost use Rattle.prover_steps.specs.Searching.{clause_size, clause_depth, is_too_large};
 ghost use Rattle.term_bank.specs.Bank.{size_of, term_depth};
 
+use clause_limits::{MOST_LEVELS, MOST_SYMBOLS};
 use fol_core::{Clause, Term};
-
-/// How many levels a clause may have.
-pub const MOST_LEVELS: u64 = 1000;
-
-/// How many symbols and variables it may have.
-pub const MOST_SYMBOLS: u64 = 1_000_000;
 
 // Whether a term has more levels.
 #[tactic(auto, using(crate::proofs::Measures::deeper_here, crate::proofs::Measures::deeper_behind, crate::proofs::Measures::deeper_end, crate::proofs::Measures::deeper_around))]

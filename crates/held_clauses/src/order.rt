@@ -5,6 +5,7 @@ ghost use Rattle.held_clauses.specs.Order.{greater_of, tells_greater};
 ghost use Rattle.held_clauses.specs.Variables.{has_each_of};
 ghost use Rattle.term_bank.specs.Bank.{tree_at};
 
+use clause_limits::MOST_SYMBOLS;
 use fol_core::Term;
 use ladr_options::Order;
 use std::alloc::{AllocError, Global};
@@ -12,9 +13,6 @@ use substitutions::same;
 use term_bank::{Bank, TermId};
 use term_order::{Compared, Precedence, lpo_is_order, symbols_are_ordered};
 use term_unifiers::has_variable;
-
-// How many symbols and variables a term may have that is compared by weight.
-const MOST_SYMBOLS: u64 = 1_000_000;
 
 // Whether the first term is greater, by how the two compare.
 fn tells_greater(compared: Compared) -> bool

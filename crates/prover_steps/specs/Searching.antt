@@ -1,7 +1,8 @@
 -- Where the prover's search stands, and how it goes on.
-use Rattle.std.specs.Prelude.{ℕ, zero, suc, ◌≡◌, Bool, true, false, not, ◌+◌, ◌*◌, ◌==◌, nat_lt, nat_le, max, min, ◌&&◌, ◌||◌, if◌then◌else◌, length, List, [], ◌∷◌, ◌++◌, map, filter, flat_map, Option, Some, None, is_some, unwrap_or}
+use Rattle.std.specs.Prelude.{ℕ, zero, suc, ◌≡◌, Bool, true, false, not, ◌+◌, ◌*◌, ◌==◌, nat_lt, nat_le, min, ◌&&◌, ◌||◌, if◌then◌else◌, length, List, [], ◌∷◌, ◌++◌, map, filter, flat_map, Option, Some, None, is_some, unwrap_or}
 use Rattle.std.specs.Option.{option_map_or}
 use Rattle.std.specs.List.{list_any}
+pub use Rattle.clause_limits.specs.Sizes.{clause_size, clause_depth, is_too_large}
 use Rattle.fol_core.specs.Literals.{Lit, ClauseTree}
 use Rattle.fol_core.specs.Renumbered.{renumbered}
 use Rattle.fol_core.specs.Tree.{Tree}
@@ -18,21 +19,7 @@ use Rattle.prover_steps.specs.Picking.{Picked, picked}
 use Rattle.prover_steps.specs.Rewriting.{Simplified, normal_form}
 use Rattle.prover_steps.specs.Shortening.{followed_by, put_in_order, denies}
 use Rattle.prover_steps.specs.Subsuming.{subsumes, rewrites_clause}
-use Rattle.term_bank.specs.Bank.{size_of, term_depth}
 use Rattle.unifiers.specs.Matching.{same_tree}
-
--- how many symbols and variables a clause has, and how many levels
-abbrev pub clause_size : ClauseTree → ℕ
-clause_size [] = 0
-clause_size (l ∷ c) = size_of l.atom + clause_size c
-
-abbrev pub clause_depth : ClauseTree → ℕ
-clause_depth [] = 0
-clause_depth (l ∷ c) = max (term_depth l.atom) (clause_depth c)
-
--- a clause that is too large to be processed
-abbrev pub is_too_large : ClauseTree → Bool
-is_too_large c = nat_lt 1000 (clause_depth c) || nat_lt 1000000 (clause_size c)
 
 -- a literal that is true in every interpretation, alone or with its denial in the clause
 abbrev pub is_reflexive : Lit → Bool
