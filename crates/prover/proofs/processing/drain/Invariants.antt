@@ -1,0 +1,16 @@
+-- The clauses before are processed, and gave no proof; each leaves fewer.
+use Rattle.given_clause.specs.Guides.{setting_of}
+use Rattle.given_clause.specs.Noted.{AreNoted}
+use Rattle.given_clause.specs.States.{state_of}
+use Rattle.prover.proofs.Draining.{IsDrainedTo}
+use Rattle.prover.proofs.processing.drain.Given as goal
+use Rattle.prover_steps.specs.Ending.{queue_left}
+
+abbrev pub invariant-loop-search : goal.invariant-loop-search
+invariant-loop-search l = record {
+  drained : IsDrainedTo (setting_of l.guide) (state_of l.fn.search) (state_of l.search);
+  noted : AreNoted (setting_of l.guide) l.search.waiting;
+}
+
+abbrev pub decreases-loop-search : goal.decreases-loop-search
+decreases-loop-search l = queue_left (setting_of l.guide) (state_of l.search)
