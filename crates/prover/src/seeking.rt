@@ -79,7 +79,8 @@ pub fn seek<C: Clock>(
     ensures seconds { watch.new.seconds ≡ watch.old.seconds }
     ensures noted { OnOk result (AreNoted (setting_of guide.now) search.new.waiting) }
     ensures begun { HasBegun watch.new (C.times clock.new) }
-    ensures watched { (n : ℕ) → result ≡ Ok (Answer.Proof n) → IsWatched watch.new (C.times clock.new) }
+    ensures watched { (n : ℕ) → result ≡ Ok (Answer.Proof n)
+        → IsWatched watch.new (C.times clock.new) }
     ensures runs { RunsTo (setting_of guide.now) watch.old.seconds 0 (state_of search.old)
         (state_of search.new) (C.times clock.old) (C.times clock.new) result }
 {
