@@ -13,7 +13,9 @@ use Rattle.unifiers.specs.Matching.{matched}
 use Rattle.unifiers.specs.Unifier.{Unifies, solution, unifier_of}
 use Rattle.unifiers.proofs.Found.{most_general, none_there}
 use Rattle.unifiers.proofs.Matches.{match_makes, match_found}
+use Rattle.term_unifiers.specs.Formed.{formed_clause}
 use Rattle.term_unifiers.specs.Solved.{IsUnified, HasNoUnifier}
+use Rattle.term_unifiers.specs.declared.forming.Formed.{Formed}
 use Rattle.discrim_tree.specs.Laws.{InstancesAreMade, UnifiersAreOfTwo}
 use Rattle.discrim_tree.specs.Terms.{has_instance, apart_as, can_unify}
 
@@ -94,7 +96,7 @@ unifiers_are_of_two s t = (there (unifier_of (apart_as 0 s) (apart_as 1 t)) refl
         )
 
 -- what is found tells whether there is one
-pub unifier_tells : (s t : Tree) (ls rs : List Tree) (c : ClauseTree) (o : Option ClauseTree) → ls ≡ substitute (interleaved 2 0) s ∷ [] → rs ≡ substitute (interleaved 2 1) t ∷ []
-    → MatchOption o (HasNoUnifier (trees_of ls) (trees_of rs)) (λ d. IsUnified (trees_of ls) (trees_of rs) c d) → is_some o ≡ can_unify s t
-unifier_tells s t ls rs c (Some d) left right h = unifier_there s t ls rs c d left right h
+pub unifier_tells : (s t : Tree) (ls rs : List Tree) (c : ClauseTree) (o : Option Formed) → ls ≡ substitute (interleaved 2 0) s ∷ [] → rs ≡ substitute (interleaved 2 1) t ∷ []
+    → MatchOption o (HasNoUnifier (trees_of ls) (trees_of rs)) (λ f. IsUnified (trees_of ls) (trees_of rs) c (formed_clause f)) → is_some o ≡ can_unify s t
+unifier_tells s t ls rs c (Some f) left right h = unifier_there s t ls rs c (formed_clause f) left right h
 unifier_tells s t ls rs c None left right h = no_unifier s t ls rs left right h

@@ -40,7 +40,6 @@ pub fn renamed(alloc: Global, term: &Term, place: u64) -> Result<Term, AllocErro
 }
 
 /// Whether two terms, with variables of their own each, have a unifier.
-#[tactic(auto, using(crate::proofs::Terms::unifier_tells))]
 pub fn can_unify(alloc: Global, s: &Term, t: &Term) -> Result<bool, AllocError>
     ensures { IfOk result (λ found. found ≡ can_unify (tree_of s.now) (tree_of t.now)) }
 {

@@ -1,6 +1,12 @@
 -- What becomes of a clause that is processed, case by case.
-use Rattle.std.proofs.Common.{◌≡◌, Bool, true, false, ◌||◌, nat_lt, if◌then◌else◌, List, [], ◌∷◌, length, refl, sym, ap, ◌∙◌, subst}
+use Rattle.std.proofs.Common.{◌≡◌, ℕ, Bool, true, false, ◌||◌, nat_lt, if◌then◌else◌, List, [], ◌∷◌, length, refl, sym, ap, ◌∙◌, subst}
 use Rattle.std.specs.List.{AllByRecursion, list_any}
+use Rattle.clause_limits.proofs.Numbered.{numbered_as_large}
+use Rattle.derivation.specs.declared.words.First.{First}
+use Rattle.fol_core.specs.Literals.{ClauseTree}
+use Rattle.given_clause.specs.States.{entry_of}
+use Rattle.given_clause.specs.declared.state.QueueEntry.{QueueEntry}
+use Rattle.given_clause.specs.declared.state.QueueEntry.TheVariants.{Large}
 use Rattle.prover_steps.specs.Clashing.{Held}
 use Rattle.prover_steps.specs.HeldOrder.{IsInOrder, IsNoRuleIn, IsUnusedIn, input_numbers}
 use Rattle.prover_steps.specs.OrderLaws.{LineGivesUnused, KeepingKeepsOrder}
@@ -42,6 +48,12 @@ settles_kept st s q e f =
 -- one that isn't too large is tidied
 pub processes_small : (st : Setting) (s : SearchState) (q : Queued) → is_too_large q.clause ≡ false → processed st s q ≡ settled st s (tidied st s q)
 processes_small st s q e = ap (λ (b : Bool). if b then record s { large = counted_on s.large 1 } else settled st s (tidied st s q)) e
+
+-- one that isn't built is counted
+pub processes_large : (st : Setting) (s : SearchState) (e : QueueEntry) (c : ClauseTree) (f : First) (n : ℕ) → e ≡ Large c f → is_too_large c ≡ true → n ≡ counted_on s.large 1 → record s { large = n } ≡ processed st s (entry_of e)
+processes_large st s e c f n is large counted =
+    ap (λ k. record s { large = k }) counted
+    ∙ sym (ap (λ x. processed st s (entry_of x)) is ∙ ap (λ (b : Bool). if b then record s { large = counted_on s.large 1 } else settled st s (tidied st s (entry_of (Large c f)))) (numbered_as_large c ∙ large))
 
 -- a clause that is kept stands in order, and is no rule
 pub kept_in_order : LineGivesUnused → KeepingKeepsOrder → (s t : SearchState) (q : Queued) (h : Held) → IsInOrder s → AllByRecursion (IsUnusedIn s) (input_numbers (q ∷ [])) → h ≡ held_for s q

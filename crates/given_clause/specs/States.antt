@@ -5,13 +5,16 @@ use Rattle.derivation.specs.declared.line.Content.{Content}
 use Rattle.derivation.specs.declared.line.Content.TheVariants.{Formula, Clause}
 use Rattle.derivation.specs.declared.line.Line.{Line}
 use Rattle.fol_core.specs.Literals.{ClauseTree}
+use Rattle.fol_core.specs.Renumbered.{renumbered}
 use Rattle.given_clause.specs.declared.state.FoundProof as found
+use Rattle.given_clause.specs.declared.state.QueueEntry.{QueueEntry}
+use Rattle.given_clause.specs.declared.state.QueueEntry.TheVariants.{Built, Large}
 use Rattle.given_clause.specs.declared.state.Queued as queued
 use Rattle.given_clause.specs.declared.state.Reason as why
 use Rattle.given_clause.specs.declared.state.Reason.TheVariants.{Proved, Spent, GaveAll, KeptAll, Filled}
 use Rattle.given_clause.specs.declared.state.Search.{Search}
 use Rattle.proof_words.specs.Written.{written_first}
-use Rattle.prover_steps.specs.Searching.{Queued, MadeLine, Reason, proved, spent, gave_all, kept_all, filled, FoundProof, SearchState}
+use Rattle.prover_steps.specs.Searching.{Queued, queued_for, MadeLine, Reason, proved, spent, gave_all, kept_all, filled, FoundProof, SearchState}
 use Rattle.std.specs.Option.{option_map}
 
 abbrev pub queued_of : queued.Queued → Queued
@@ -22,6 +25,11 @@ queued_of q = record {
   input = q.input;
   usable = q.usable;
 }
+
+-- a conclusion that isn't built is queued as any other one
+abbrev pub entry_of : QueueEntry → Queued
+entry_of (Built q) = queued_of q
+entry_of (Large c f) = queued_for (record { clause = renumbered c; first = written_first f })
 
 -- a line's clause
 abbrev pub line_clause : Content → ClauseTree
@@ -51,7 +59,7 @@ state_of s = record {
   waiting = s.waiting.held;
   usable = s.usable;
   rules = s.rules;
-  queue = map queued_of s.queue.items;
+  queue = map entry_of s.queue.items;
   lines = map made_line_of s.lines.items;
   next = s.next;
   turn = s.turn;

@@ -6,7 +6,7 @@ ghost use Rattle.derivation.specs.Later.{is_unit};
 ghost use Rattle.derivation.specs.Places.{has_literal};
 ghost use Rattle.given_clause.specs.Acting.{acts_on, may_act, may_subsume, may_conflict, word_for, conflicts_with, first_in};
 ghost use Rattle.given_clause.specs.Noted.{StayNoted};
-ghost use Rattle.given_clause.specs.States.{queued_of, state_of};
+ghost use Rattle.given_clause.specs.States.{entry_of, state_of};
 ghost use Rattle.held_clauses.specs.Holding.{lent};
 ghost use Rattle.prover_steps.specs.Clashing.{is_same_held};
 ghost use Rattle.prover_steps.specs.HeldOrder.{IsInOrder};
@@ -17,7 +17,7 @@ ghost use Rattle.resolution.specs.View.{conclusion_of};
 
 use crate::keeping::{add_proof, keep_line};
 use crate::lists::merged;
-use crate::state::{Queued, Search};
+use crate::state::{QueueEntry, Queued, Search};
 use clause_index::HeldSet;
 use demodulate::{denies, rewrites_clause};
 use derivation::First;
@@ -233,21 +233,21 @@ fn retire(gone: &[Held], search: &mut Search)
 }
 
 // A clause that is put back, with the word for it.
-fn queued_back(alloc: Global, back: Back, held: Held) -> Result<Queued, AllocError>
-    ensures { IfOk result (λ q. queued_of q ≡ queued_back (word_for back) held) }
+fn queued_back(alloc: Global, back: Back, held: Held) -> Result<QueueEntry, AllocError>
+    ensures { IfOk result (λ q. entry_of q ≡ queued_back (word_for back) held) }
 {
     let Held { number, clause } = held;
     let first = match back {
         Back::Deletes => First::BackUnitDel(number),
         Back::Rewrites => First::BackRewrite(number),
     };
-    Ok(Queued {
+    Ok(QueueEntry::Built(Queued {
         clause,
         first,
         later: Vec::new(alloc),
         input: None,
         usable: false,
-    })
+    }))
 }
 
 // Clauses that are put back, in their order.
@@ -255,8 +255,8 @@ fn all_queued_back(
     alloc: Global,
     back: Back,
     mut gone: Vec<Held>,
-) -> Result<VecDeque<Queued>, AllocError>
-    ensures { IfOk result (λ qs. map queued_of qs.items
+) -> Result<VecDeque<QueueEntry>, AllocError>
+    ensures { IfOk result (λ qs. map entry_of qs.items
         ≡ map (queued_back (word_for back)) gone.items) }
 {
     let mut queue = VecDeque::new(alloc);
@@ -380,7 +380,7 @@ pub fn meet_units(alloc: Global, search: &mut Search, held: &Held) -> Result<(),
     };
     let number = search.next;
     let queued = Queued {
-        clause,
+        clause: clause.numbered(alloc)?,
         first,
         later: Vec::new(alloc),
         input: None,

@@ -2,7 +2,7 @@
 ghost use Rattle.std.specs.Prelude.{◌≡◌, ◌++◌, IfOk, OnOk, map, filter, not};
 ghost use Rattle.given_clause.specs.Guides.{setting_of};
 ghost use Rattle.given_clause.specs.Noted.{AreNoted, StayNoted};
-ghost use Rattle.given_clause.specs.States.{queued_of, state_of};
+ghost use Rattle.given_clause.specs.States.{entry_of, state_of};
 ghost use Rattle.prover_steps.specs.HeldOrder.{numbers_of, IsInOrder, IsNoneOf};
 ghost use Rattle.prover_steps.specs.Searching.{Setting, queued_for, gives, given_next};
 ghost use Rattle.resolution.specs.View.{conclusion_of};
@@ -10,28 +10,39 @@ ghost use Rattle.resolution.specs.View.{conclusion_of};
 use crate::guide::Guide;
 use crate::keeping::{counted, counted_on};
 use crate::picking::picked;
-use crate::state::{Queued, Reason, Search};
+use crate::state::{QueueEntry, Queued, Reason, Search};
 use conclusions::conclusions_of;
 use held_clauses::Held;
 use prover_steps::steps_keep_order;
-use resolution::Conclusion;
+use resolution::{Concluded, Conclusion};
 use std::alloc::{AllocError, Global};
 use std::collections::VecDeque;
 
-// Conclusions, queued in their order.
-fn queued_all(alloc: Global, mut new: Vec<Conclusion>) -> Result<VecDeque<Queued>, AllocError>
-    ensures { IfOk result (λ qs. map queued_of qs.items
-        ≡ map queued_for (map conclusion_of new.items)) }
+// A conclusion as it is queued.
+fn queued(alloc: Global, conclusion: Conclusion) -> QueueEntry
+    ensures { entry_of result ≡ queued_for (conclusion_of conclusion) }
 {
-    let mut queue = VecDeque::new(alloc);
-    while let Some(Conclusion { clause, first }) = new.pop() {
-        queue.push_front(Queued {
+    let Conclusion { clause, first } = conclusion;
+    match clause {
+        Concluded::Numbered(clause) => QueueEntry::Built(Queued {
             clause,
             first,
             later: Vec::new(alloc),
             input: None,
             usable: false,
-        })?;
+        }),
+        Concluded::Large(clause) => QueueEntry::Large(clause, first),
+    }
+}
+
+// Conclusions, queued in their order.
+fn queued_all(alloc: Global, mut new: Vec<Conclusion>) -> Result<VecDeque<QueueEntry>, AllocError>
+    ensures { IfOk result (λ qs. map entry_of qs.items
+        ≡ map queued_for (map conclusion_of new.items)) }
+{
+    let mut queue = VecDeque::new(alloc);
+    while let Some(conclusion) = new.pop() {
+        queue.push_front(queued(alloc, conclusion))?;
     }
     Ok(queue)
 }

@@ -15,6 +15,6 @@ mod waiting;
 pub use acting::{Act, Back};
 pub use guide::Guide;
 pub use picking::{Among, Pick};
-pub use state::{FoundProof, Queued, Reason, Search};
+pub use state::{FoundProof, QueueEntry, Queued, Reason, Search};
 pub use stepping::step;
 pub use waiting::{Note, Waiting};

@@ -6,7 +6,7 @@ ghost use Rattle.fol_core.specs.ClauseView.{literal_of};
 ghost use Rattle.given_clause.specs.Acting.{is_subsumed_from};
 ghost use Rattle.given_clause.specs.Guides.{setting_of};
 ghost use Rattle.given_clause.specs.Noted.{AreNoted, StayNoted};
-ghost use Rattle.given_clause.specs.States.{queued_of, reason_of, state_of};
+ghost use Rattle.given_clause.specs.States.{entry_of, queued_of, reason_of, state_of};
 ghost use Rattle.prover_steps.specs.HeldOrder.{IsInOrder, IsNoRuleIn, IsUnusedIn, input_numbers};
 ghost use Rattle.prover_steps.specs.Searching.{all_held, tidied, is_too_large, is_too_heavy, is_no_use, has_proofs, becomes_rule, limit_reached, deletes_back, rewrites_back, rules_back, works_back, after_kept, settled, processed, under_limits, counted_on, subsumes_back};
 ghost use Rattle.prover_steps.specs.Subsuming.{subsumes};
@@ -14,7 +14,7 @@ ghost use Rattle.prover_steps.specs.Subsuming.{subsumes};
 use crate::acting::{Back, is_subsumed_by, is_unit, meet_units, put_back, subsume_back};
 use crate::guide::Guide;
 use crate::keeping::{add_proof, counted_on, keep_line, keep_queued, number_for};
-use crate::state::{Queued, Reason, Search};
+use crate::state::{QueueEntry, Queued, Reason, Search};
 use clause_index::{HeldSet, HeldSets};
 use demodulate::{Tidied, tidy};
 use fol_core::{Clause, Literal};
@@ -335,8 +335,8 @@ fn settle(
     after_kept(alloc, guide, search, &held)
 }
 
-// Processing a clause that left the queue: one that is too large is counted and dropped.
-fn process(
+// Processing a clause with its words: one that is too large is counted and dropped.
+fn process_built(
     alloc: Global,
     guide: &Guide<'_>,
     search: &mut Search,
@@ -358,6 +358,31 @@ fn process(
     settle(alloc, guide, search, queued)
 }
 
+// Processing what left the queue. What isn't built is too large.
+fn process(
+    alloc: Global,
+    guide: &Guide<'_>,
+    search: &mut Search,
+    entry: QueueEntry,
+) -> Result<(), AllocError>
+    requires ordered { IsInOrder (state_of search.old) }
+    requires unused { AllByRecursion (IsUnusedIn (state_of search.old))
+        (input_numbers (entry_of entry ∷ [])) }
+    requires noted { AreNoted (setting_of guide.now) search.old.waiting }
+    ensures noted { OnOk result (AreNoted (setting_of guide.now) search.new.waiting) }
+    ensures state { OnOk result (state_of search.new ≡ processed (setting_of guide.now)
+        (state_of search.old) (entry_of entry)) }
+{
+    match entry {
+        QueueEntry::Built(queued) => process_built(alloc, guide, search, queued),
+        QueueEntry::Large(clause, _) => {
+            clause.exceeds_limits();
+            search.large = counted_on(search.large, 1);
+            Ok(())
+        }
+    }
+}
+
 // The limit that is reached, if one is.
 fn limit_reached(guide: &Guide<'_>, search: &Search) -> Option<Reason>
     ensures { option_map reason_of result ≡ limit_reached (setting_of guide.now)
@@ -374,22 +399,22 @@ fn limit_reached(guide: &Guide<'_>, search: &Search) -> Option<Reason>
     }
 }
 
-/// Processes a clause that left the queue, and tests the limits.
+/// Processes what left the queue, and tests the limits.
 pub fn process_under_limits(
     alloc: Global,
     guide: &Guide<'_>,
     search: &mut Search,
-    queued: Queued,
+    entry: QueueEntry,
 ) -> Result<(), AllocError>
     requires ordered { IsInOrder (state_of search.old) }
     requires unused { AllByRecursion (IsUnusedIn (state_of search.old))
-        (input_numbers (queued_of queued ∷ [])) }
+        (input_numbers (entry_of entry ∷ [])) }
     requires noted { AreNoted (setting_of guide.now) search.old.waiting }
     ensures noted { OnOk result (AreNoted (setting_of guide.now) search.new.waiting) }
     ensures state { OnOk result (state_of search.new ≡ under_limits (setting_of guide.now)
-        (processed (setting_of guide.now) (state_of search.old) (queued_of queued))) }
+        (processed (setting_of guide.now) (state_of search.old) (entry_of entry))) }
 {
-    process(alloc, guide, search, queued)?;
+    process(alloc, guide, search, entry)?;
     search.ended = limit_reached(guide, search);
     Ok(())
 }

@@ -4,6 +4,7 @@ use clause_index::{HeldSet, Rules};
 use derivation::{First, Later, Line};
 use fol_core::Clause;
 use std::collections::VecDeque;
+use term_unifiers::LargeClause;
 
 /// A clause in the queue with its words. An input clause has its number, and whether it is to be used at once.
 #[derive(Drop)]
@@ -13,6 +14,13 @@ pub struct Queued {
     pub later: Vec<Later>,
     pub input: Option<u64>,
     pub usable: bool,
+}
+
+/// What the queue holds: a clause with its words, or a conclusion that is too large to be built, with its first word.
+#[derive(Drop)]
+pub enum QueueEntry {
+    Built(Queued),
+    Large(LargeClause, First),
 }
 
 /// Why a search ended: there are as many proofs as were wanted; none waits; as many clauses were given, or kept, as are
@@ -41,7 +49,7 @@ pub struct Search {
     pub waiting: Waiting,
     pub usable: HeldSet,
     pub rules: Rules,
-    pub queue: VecDeque<Queued>,
+    pub queue: VecDeque<QueueEntry>,
     pub lines: Vec<Line>,
     pub next: u64,
     pub turn: u64,

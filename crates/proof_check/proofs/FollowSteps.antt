@@ -12,7 +12,7 @@ use Rattle.substitutions.specs.Paths.{replaced}
 use Rattle.derivation.specs.Places.{has_literal, has_place, atom_at, others, with_atom, are_opposite}
 use Rattle.term_unifiers.specs.Solved.{HasNoMatch}
 use Rattle.proof_check.specs.Judged.{LeadsAs}
-use Rattle.proof_check.specs.declared.judging.Judged.TheVariants.{Misplaced, Differs, Made}
+use Rattle.proof_check.specs.declared.following.Followed.TheVariants.{Misplaced, Differs, Made}
 
 got : (ls : List Literal) (i : ℕ) (d : Literal) → i < length ls → slice_get (map literal_of ls) i ≡ Some (literal_of (get_or ls i d))
 got [] i d h = absurd (omega arith)

@@ -5,15 +5,18 @@ use Rattle.std.proofs.lemmas.Bool.{and_left, and_right, and_from}
 use Rattle.std.proofs.lemmas.List.{drop_all, take_all, take_more}
 use Rattle.std.proofs.lemmas.List.Folds.{list_all-append}
 use Rattle.fol_core.specs.Literals.{ClauseTree}
+use Rattle.fol_core.specs.Renumbered.{renumbered}
 use Rattle.derivation.specs.Later.{LaterWord, later_parents}
 use Rattle.derivation.specs.Lines.{FirstWord, ContentTree, LineTree, clause_at, AreClauses, IsClause, After}
 use Rattle.derivation.specs.Refused.{Fails, are_there, all_parents}
+use Rattle.derivation.specs.Rule.{Concludes}
 use Rattle.derivation.specs.View.{later_of}
 use Rattle.derivation.specs.declared.words.Later.{Later}
 use Rattle.derivation.specs.declared.words.Satellite.{Satellite}
 use Rattle.proof_check.specs.Judged.{inference_by, LeadsAs, JudgedAs, rule_by, parents_by}
 use Rattle.proof_check.specs.Found.{AfterAs, InferredAs}
-use Rattle.proof_check.specs.declared.judging.Judged.TheVariants.{Misplaced, Differs, Made}
+use Rattle.proof_check.specs.declared.following.Followed.TheVariants.{Misplaced, Differs, Made}
+use Rattle.proof_check.specs.declared.judging.Judged.TheVariants.{Unfit, Apart, Numbered, Large}
 
 -- the words from one on
 abbrev pub words_from : List Later → ℕ → List LaterWord
@@ -109,14 +112,18 @@ module _ (ls : List LineTree) (w : FirstWord) (ws : List LaterWord) (content : C
   all_there cs are e = split ∙ and_from (are_there ls (parents_by w)) (are_there ls (flat_map later_parents ws)) (there_of (parents_by w) cs are) e
 
   -- what the rule and the words come to
-  pub rule_misplaced : (cs : List ClauseTree) → AreClauses ls (parents_by w) cs → IsTrue (are_there ls (all_parents (inference_by w) ws)) → JudgedAs (rule_by w) cs Misplaced → InferredAs ls w ws content (Some 6)
+  pub rule_misplaced : (cs : List ClauseTree) → AreClauses ls (parents_by w) cs → IsTrue (are_there ls (all_parents (inference_by w) ws)) → JudgedAs (rule_by w) cs Unfit → InferredAs ls w ws content (Some 6)
   rule_misplaced cs are there judged = inr (there, (cs, are, inl (refl, judged)))
 
-  pub rule_differs : (cs : List ClauseTree) → AreClauses ls (parents_by w) cs → IsTrue (are_there ls (all_parents (inference_by w) ws)) → JudgedAs (rule_by w) cs Differs → InferredAs ls w ws content (Some 7)
+  pub rule_differs : (cs : List ClauseTree) → AreClauses ls (parents_by w) cs → IsTrue (are_there ls (all_parents (inference_by w) ws)) → JudgedAs (rule_by w) cs Apart → InferredAs ls w ws content (Some 7)
   rule_differs cs are there judged = inr (there, (cs, are, inr (inl (refl, judged.0, judged.1))))
 
-  pub rule_after : (cs : List ClauseTree) (c : ClauseTree) (o : Option ℕ) → AreClauses ls (parents_by w) cs → IsTrue (are_there ls (all_parents (inference_by w) ws)) → JudgedAs (rule_by w) cs (Made c)
+  pub rule_after : (cs : List ClauseTree) (c : ClauseTree) (o : Option ℕ) → AreClauses ls (parents_by w) cs → IsTrue (are_there ls (all_parents (inference_by w) ws)) → JudgedAs (rule_by w) cs (Numbered c)
       → AfterAs ls ws c content o → InferredAs ls w ws content o
   rule_after cs c None are there judged after = (cs, c, are, judged.0, judged.1, after)
   rule_after cs c (Some row) are there judged (inl fails) = inr (there, (cs, are, inr (inr (judged.0, (c, judged.1, fails)))))
   rule_after cs c (Some row) are there judged (inr missing) = inl (missing.0, split ∙ and_right (are_there ls (parents_by w)) (are_there ls (flat_map later_parents ws)) missing.1)
+
+  pub rule_after_large : (cs : List ClauseTree) (c d : ClauseTree) (o : Option ℕ) → AreClauses ls (parents_by w) cs → IsTrue (are_there ls (all_parents (inference_by w) ws)) → JudgedAs (rule_by w) cs (Large c)
+      → d ≡ renumbered c → AfterAs ls ws d content o → InferredAs ls w ws content o
+  rule_after_large cs c d o are there judged is after = rule_after cs d o are there (judged.0, subst (Concludes (rule_by w) cs) (sym is) judged.1) after

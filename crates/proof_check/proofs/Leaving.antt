@@ -1,5 +1,5 @@
 -- What an accepted proof leaves.
-use Rattle.std.proofs.Common.{ℕ, List, length, Result, Ok, Err, subst}
+use Rattle.std.proofs.Common.{List, length, Result, Ok, Err, subst}
 use Rattle.std.specs.Prelude.{OnOk}
 use Rattle.clausify.specs.Input.{ClauseRow, skolem_numbers}
 use Rattle.derivation.specs.Lines.{LineTree, IsRefutation}

@@ -10,7 +10,7 @@ ghost use Rattle.proof_check.specs.Found.{AfterAs, InferredAs};
 ghost use Rattle.proof_check.specs.Reached.{AreRising};
 
 use crate::earlier::{are_there, copied_clauses};
-use crate::following::follow;
+use crate::following::{Followed, follow};
 use crate::judging::{Judged, judge};
 use derivation::{Content, First, Just, Later, Line, Satellite};
 use fol_core::{Clause, renumber};
@@ -80,9 +80,9 @@ fn after(
             return Ok(Some(3));
         };
         match follow(alloc, word, &clause, parents.as_slice())? {
-            Judged::Misplaced => return Ok(Some(6)),
-            Judged::Differs => return Ok(Some(7)),
-            Judged::Made(next) => clause = next,
+            Followed::Misplaced => return Ok(Some(6)),
+            Followed::Differs => return Ok(Some(7)),
+            Followed::Made(next) => clause = next,
         }
     }
     if is_clause(alloc, content, &clause)? {
@@ -147,7 +147,7 @@ fn parent_numbers(alloc: Global, first: &First) -> Result<Vec<u64>, AllocError>
 }
 
 // A rule on its parents and the words behind it.
-#[tactic(auto, using(crate::proofs::InferSteps::rule_misplaced, crate::proofs::InferSteps::rule_differs, crate::proofs::InferSteps::rule_after))]
+#[tactic(auto, using(crate::proofs::InferSteps::rule_misplaced, crate::proofs::InferSteps::rule_differs, crate::proofs::InferSteps::rule_after, crate::proofs::InferSteps::rule_after_large))]
 fn rule_and_words(
     alloc: Global,
     earlier: &[Line],
@@ -165,9 +165,13 @@ fn rule_and_words(
         (map later_of just.now.steps.items) (content_of content.now)) }
 {
     match judge(alloc, &just.first, parents)? {
-        Judged::Misplaced => Ok(Some(6)),
-        Judged::Differs => Ok(Some(7)),
-        Judged::Made(clause) => after(alloc, earlier, just.steps.as_slice(), clause, content),
+        Judged::Unfit => Ok(Some(6)),
+        Judged::Apart => Ok(Some(7)),
+        Judged::Numbered(clause) => after(alloc, earlier, just.steps.as_slice(), clause, content),
+        Judged::Large(large) => {
+            let clause = large.numbered(alloc)?;
+            after(alloc, earlier, just.steps.as_slice(), clause, content)
+        }
     }
 }
 

@@ -10,14 +10,16 @@ use crate::fitting::fits;
 use derivation::First;
 use fol_core::{Clause, renumber};
 use std::alloc::{AllocError, Global};
-use term_unifiers::unify;
+use term_unifiers::{Formed, LargeClause, unify};
 
-/// A literal, path or side isn't there or isn't taken; what has to be equal isn't; or the clause that the step makes.
+/// A literal, path or side isn't there or isn't taken; what has to be equal isn't; or the clause that the step makes, numbered, or
+/// too large to be built.
 #[derive(Drop)]
 pub enum Judged {
-    Misplaced,
-    Differs,
-    Made(Clause),
+    Unfit,
+    Apart,
+    Numbered(Clause),
+    Large(LargeClause),
 }
 
 // The conclusion from what is pending.
@@ -38,9 +40,12 @@ fn conclude(
         rights,
         rest,
     } = waiting;
-    match unify(alloc, lefts, rights, rest)? {
-        None => Ok(Judged::Differs),
-        Some(clause) => Ok(Judged::Made(renumber(alloc, &clause)?)),
+    let Some(formed) = unify(alloc, lefts, rights, rest)? else {
+        return Ok(Judged::Apart);
+    };
+    match formed {
+        Formed::Plain(clause) => Ok(Judged::Numbered(renumber(alloc, &clause)?)),
+        Formed::Large(clause) => Ok(Judged::Large(clause)),
     }
 }
 
@@ -50,7 +55,7 @@ pub fn judge(alloc: Global, first: &First, parents: &[Clause]) -> Result<Judged,
     ensures { IfOk result (JudgedAs (rule_by (first_word_of first.now)) parents.now) }
 {
     if !fits(alloc, first, parents)? {
-        return Ok(Judged::Misplaced);
+        return Ok(Judged::Unfit);
     }
     let apart = renamed_apart(alloc, parents)?;
     let waiting = build(alloc, first, apart.as_slice())?;

@@ -2,8 +2,8 @@
 use Rattle.std.proofs.Common.{◌≡◌, ◌<◌, ◌≤◌, ℕ, zero, suc, Bool, false, ◌==◌, inl, inr, refl, sym, ap, ◌∙◌, subst, Option, Some, None, is_some, if◌then◌else◌, List, [], ◌∷◌, ◌++◌, length, map, append_assoc}
 use Rattle.std.proofs.lemmas.Bool.{true≢false}
 use Rattle.std.proofs.lemmas.List.{append-nil}
-use Rattle.given_clause.specs.States.{queued_of}
-use Rattle.given_clause.specs.declared.state.Queued as code
+use Rattle.given_clause.specs.States.{entry_of}
+use Rattle.given_clause.specs.declared.state.QueueEntry.{QueueEntry}
 use Rattle.prover.specs.Answers.{HasQueue, IsQuiet, FindsNone, FindsNext}
 use Rattle.prover_proofs.proofs.Growing.{given_same, gives_next, queue_grown}
 use Rattle.prover_steps.specs.Ending.{QueueFalls, queue_left, given_left}
@@ -39,9 +39,9 @@ pub finds_next_then : (st : Setting) (s t u : SearchState) (n : ℕ) → FindsNo
 finds_next_then st s t u n h k = record { before = k.before; goes = finds_none_then st s t k.before h k.goes; next = k.next; found = k.found }
 
 -- a clause is queued
-pub queue_here : (qs : List code.Queued) (n : ℕ) (b : Bool) → b ≡ (n == 0) → n ≡ length qs → b ≡ false → (x : Queued) × ((xs : List Queued) × (map queued_of qs ≡ x ∷ xs))
+pub queue_here : (qs : List QueueEntry) (n : ℕ) (b : Bool) → b ≡ (n == 0) → n ≡ length qs → b ≡ false → (x : Queued) × ((xs : List Queued) × (map entry_of qs ≡ x ∷ xs))
 queue_here [] n b e count empty = absurd (true≢false (sym (ap (λ (m : ℕ). m == 0) count) ∙ sym e ∙ empty))
-queue_here (q ∷ qs) n b e count empty = (queued_of q, (map queued_of qs, refl))
+queue_here (q ∷ qs) n b e count empty = (entry_of q, (map entry_of qs, refl))
 
 -- where one is and the search goes on, it isn't quiet
 pub is_busy : (t : SearchState) → t.ended ≡ None → HasQueue t → IsQuiet t → ⊥

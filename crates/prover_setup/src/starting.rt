@@ -3,7 +3,7 @@ ghost use Rattle.std.specs.Prelude.{◌≡◌, ◌+◌, ◌<◌, ◌++◌, ◌�
 ghost use Rattle.std.specs.List.{AllByRecursion};
 ghost use Rattle.fol_core.specs.Stated.{all_said};
 ghost use Rattle.given_clause.specs.Noted.{AreNoted};
-ghost use Rattle.given_clause.specs.States.{queued_of, state_of};
+ghost use Rattle.given_clause.specs.States.{entry_of, state_of};
 ghost use Rattle.proof_words.specs.Written.{by_copy};
 ghost use Rattle.prover_steps.specs.HeldOrder.{numbers_of};
 ghost use Rattle.prover_steps.specs.Searching.{Setting};
@@ -12,7 +12,7 @@ ghost use Rattle.prover_steps.specs.Starting.{held_rule, queued_as, queued_input
 use clause_index::{HeldSet, Rules};
 use derivation::First;
 use fol_core::{Clause, Input, Problem, Role};
-use given_clause::{Queued, Search, Waiting};
+use given_clause::{QueueEntry, Queued, Search, Waiting};
 use held_clauses::Held;
 use prover_proofs::role_at;
 use std::alloc::{AllocError, Global};
@@ -31,18 +31,18 @@ fn push(
     usable: bool,
     number: u64,
     clause: &Clause,
-    queue: &mut VecDeque<Queued>,
+    queue: &mut VecDeque<QueueEntry>,
 ) -> Result<(), AllocError>
-    ensures { OnOk result (map queued_of queue.new.items ≡ map queued_of queue.old.items
+    ensures { OnOk result (map entry_of queue.new.items ≡ map entry_of queue.old.items
         ++ queued_as usable number (0, clause.now) ∷ []) }
 {
-    queue.push_back(Queued {
+    queue.push_back(QueueEntry::Built(Queued {
         clause: clause.copy(alloc)?,
         first: First::Copy(number),
         later: Vec::new(alloc),
         input: Some(number),
         usable,
-    })?;
+    }))?;
     Ok(())
 }
 
@@ -52,9 +52,9 @@ fn queue_input(
     role: Role,
     number: u64,
     clause: &Clause,
-    queue: &mut VecDeque<Queued>,
+    queue: &mut VecDeque<QueueEntry>,
 ) -> Result<(), AllocError>
-    ensures { OnOk result (map queued_of queue.new.items ≡ map queued_of queue.old.items
+    ensures { OnOk result (map entry_of queue.new.items ≡ map entry_of queue.old.items
         ++ queued_input role number (0, clause.now)) }
 {
     match role {
@@ -88,8 +88,8 @@ fn queued_inputs(
     inputs: &[Input],
     first: u64,
     clauses: &[(u64, Clause)],
-) -> Result<VecDeque<Queued>, AllocError>
-    ensures { IfOk result (λ q. map queued_of q.items
+) -> Result<VecDeque<QueueEntry>, AllocError>
+    ensures { IfOk result (λ q. map entry_of q.items
         ≡ queued_inputs (all_said inputs.now) first clauses.now) }
 {
     let mut queue = VecDeque::new(alloc);

@@ -13,7 +13,8 @@ use Rattle.proof_check.specs.Judged.{rule_by}
 use Rattle.proof_words.specs.Written.{written_first}
 use Rattle.prover_steps.specs.Concluded.{Conclusion, concluded, conclusion_by, inferred, left_under, unifying}
 use Rattle.resolution.proofs.Failing.{works, none_concluded}
-use Rattle.resolution.specs.View.{conclusion_of, all_conclusions}
+use Rattle.resolution.specs.View.{clause_of, conclusion_of, all_conclusions}
+use Rattle.resolution.specs.declared.conclusion.Concluded.{Concluded}
 use Rattle.resolution.specs.declared.conclusion.Conclusion as declared
 
 -- the rule of a word is that of one that has an inference
@@ -35,12 +36,12 @@ has_rule (clausified n) = record { word = copied n; by = _; has = refl; is = ref
 has_rule (denied n) = record { word = copied n; by = _; has = refl; is = refl }
 
 -- it doesn't fit
-pub judged_misplaced : (w : FirstWord) (cs : List ClauseTree) → (rule_by w).fits cs ≡ false → None ≡ concluded (rule_by w) cs
-judged_misplaced w cs misfit = sym (ap (λ b. if b then option_map (left_under (rule_by w) cs) (unifying (rule_by w) cs) else None) misfit)
+pub judged_unfit : (w : FirstWord) (cs : List ClauseTree) → (rule_by w).fits cs ≡ false → None ≡ concluded (rule_by w) cs
+judged_unfit w cs misfit = sym (ap (λ b. if b then option_map (left_under (rule_by w) cs) (unifying (rule_by w) cs) else None) misfit)
 
 -- nothing unifies
-pub judged_differs : (w : FirstWord) (cs : List ClauseTree) → IsTrue ((rule_by w).fits cs) × ((own : Own) → UnifiesFamily (rule_by w) cs own → ⊥) → None ≡ concluded (rule_by w) cs
-judged_differs w cs h =
+pub judged_apart : (w : FirstWord) (cs : List ClauseTree) → IsTrue ((rule_by w).fits cs) × ((own : Own) → UnifiesFamily (rule_by w) cs own → ⊥) → None ≡ concluded (rule_by w) cs
+judged_apart w cs h =
     let r = has_rule w in
     subst (λ s. ((own : Own) → UnifiesFamily s cs own → ⊥) → None ≡ concluded s cs) r.is (λ none. sym (none_concluded r.word r.by cs r.has (λ fits own same. none own same))) h.1
 
@@ -67,10 +68,10 @@ inferred_by Goal cs o has is = cc
 inferred_by (Clausify n) cs o has is = cc
 inferred_by (Deny n) cs o has is = cc
 
-pub inferred_one : (f : First) (cs : List ClauseTree) (c : ClauseTree) (old new : List declared.Conclusion) → IsSome (inference_of (first_word_of f)) → Some c ≡ concluded (rule_by (first_word_of f)) cs
+pub inferred_one : (f : First) (cs : List ClauseTree) (c : Concluded) (old new : List declared.Conclusion) → IsSome (inference_of (first_word_of f)) → Some (clause_of c) ≡ concluded (rule_by (first_word_of f)) cs
     → new ≡ old ++ record { clause = c; first = f } ∷ [] → all_conclusions new ≡ all_conclusions old ++ inferred (written_first f) cs
 inferred_one f cs c old new has is was =
-    ap all_conclusions was ∙ map-append conclusion_of old (record { clause = c; first = f } ∷ []) ∙ ap (λ ns. all_conclusions old ++ ns) (sym (inferred_by f cs (Some c) has is))
+    ap all_conclusions was ∙ map-append conclusion_of old (record { clause = c; first = f } ∷ []) ∙ ap (λ ns. all_conclusions old ++ ns) (sym (inferred_by f cs (Some (clause_of c)) has is))
 
 pub inferred_none : (f : First) (cs : List ClauseTree) (old : List Conclusion) → IsSome (inference_of (first_word_of f)) → None ≡ concluded (rule_by (first_word_of f)) cs → old ≡ old ++ inferred (written_first f) cs
 inferred_none f cs old has is = sym (append-nil old) ∙ ap (λ ns. old ++ ns) (sym (inferred_by f cs None has is))

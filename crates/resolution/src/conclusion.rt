@@ -1,10 +1,34 @@
 // A conclusion.
+ghost use Rattle.std.specs.Prelude.{◌≡◌, IfOk};
+ghost use Rattle.resolution.specs.View.{clause_of};
+
 use derivation::First;
 use fol_core::Clause;
+use std::alloc::{AllocError, Global};
+use term_unifiers::LargeClause;
+
+/// The clause of a conclusion: with its variables numbered, or too large to be built.
+#[derive(Drop)]
+pub enum Concluded {
+    Numbered(Clause),
+    Large(LargeClause),
+}
+
+impl Concluded {
+    /// The clause with its variables numbered.
+    pub fn numbered(self, alloc: Global) -> Result<Clause, AllocError>
+        ensures { IfOk result (λ c. c ≡ clause_of self) }
+    {
+        match self {
+            Concluded::Numbered(clause) => Ok(clause),
+            Concluded::Large(clause) => clause.numbered(alloc),
+        }
+    }
+}
 
 /// A clause that is concluded, with the first word of its line.
 #[derive(Drop)]
 pub struct Conclusion {
-    pub clause: Clause,
+    pub clause: Concluded,
     pub first: First,
 }

@@ -1,31 +1,34 @@
 // What the step of a word concludes of clauses.
 ghost use Rattle.std.specs.Prelude.{◌≡◌, ◌++◌, IfOk, OnOk, IsSome};
+ghost use Rattle.std.specs.Option.{option_map};
 ghost use Rattle.derivation.specs.Lines.{inference_of};
 ghost use Rattle.derivation.specs.View.{first_word_of};
 ghost use Rattle.proof_check.specs.Judged.{rule_by};
 ghost use Rattle.proof_words.specs.Written.{written_first};
 ghost use Rattle.prover_steps.specs.Concluded.{concluded, inferred};
-ghost use Rattle.resolution.specs.View.{all_conclusions};
+ghost use Rattle.resolution.specs.View.{clause_of, all_conclusions};
 
-use crate::conclusion::Conclusion;
+use crate::conclusion::{Concluded, Conclusion};
 use derivation::First;
 use fol_core::Clause;
 use proof_check::{Judged, judge};
 use std::alloc::{AllocError, Global};
 
 /// What the rule of a first word concludes of clauses, if it does.
-#[tactic(auto, using(crate::proofs::Judgements::judged_misplaced, crate::proofs::Judgements::judged_differs, crate::proofs::Judgements::judged_made))]
+#[tactic(auto, using(crate::proofs::Judgements::judged_unfit, crate::proofs::Judgements::judged_apart, crate::proofs::Judgements::judged_made))]
 pub fn conclude(
     alloc: Global,
     first: &First,
     parents: &[Clause],
-) -> Result<Option<Clause>, AllocError>
-    ensures { IfOk result (λ o. o ≡ concluded (rule_by (first_word_of first.now)) parents.now) }
+) -> Result<Option<Concluded>, AllocError>
+    ensures { IfOk result (λ o. option_map clause_of o
+        ≡ concluded (rule_by (first_word_of first.now)) parents.now) }
 {
     match judge(alloc, first, parents)? {
-        Judged::Misplaced => Ok(None),
-        Judged::Differs => Ok(None),
-        Judged::Made(clause) => Ok(Some(clause)),
+        Judged::Unfit => Ok(None),
+        Judged::Apart => Ok(None),
+        Judged::Numbered(clause) => Ok(Some(Concluded::Numbered(clause))),
+        Judged::Large(clause) => Ok(Some(Concluded::Large(clause))),
     }
 }
 

@@ -13,7 +13,7 @@ mod opposing;
 mod partners;
 
 pub use binary::{add_resolvent, add_resolvents, two_clauses};
-pub use conclusion::Conclusion;
+pub use conclusion::{Concluded, Conclusion};
 pub use factoring::add_factors;
 pub use inferring::{conclude, infer};
 pub use meeting::may_meet;

@@ -1,9 +1,10 @@
 -- Numbers of terms in a bank that grows.
-use Rattle.std.proofs.Common.{◌≡◌, ℕ, suc, ◌+◌, ◌<◌, ◌≤◌, List, [], ◌∷◌, ◌++◌, map, take, length, get_or, refl, sym, ap, ap₂, ◌∙◌, subst, arith, add-one}
+use Rattle.std.proofs.Common.{◌≡◌, ℕ, ◌+◌, ◌<◌, Bool, List, [], ◌∷◌, ◌++◌, map, take, length, get_or, refl, sym, ap, ap₂, ◌∙◌, arith, add-one}
 use Rattle.std.proofs.Math.Seq.{take-suc}
 use Rattle.std.proofs.lemmas.List.{map-append, length-map, length-take-le}
+use Rattle.clause_limits.specs.Sizes.{is_too_large}
 use Rattle.fol_core.specs.ClauseView.{literal_of}
-use Rattle.fol_core.specs.Literals.{Lit, literal}
+use Rattle.fol_core.specs.Literals.{Lit, literal, ClauseTree}
 use Rattle.fol_core.specs.TermView.{tree_of}
 use Rattle.fol_core.specs.Tree.{Tree}
 use Rattle.fol_core.specs.declared.clause.Literal.{Literal}
@@ -72,3 +73,16 @@ with_next bank ls ids i l d h k is = sym (
   where
     even : length (map literal_of (take i ls)) ≡ length (trees_at bank (take i ids))
     even = length-map (take i ls) literal_of ∙ length-take-le i ls (omega arith) ∙ sym (length-take-le i ids (omega arith)) ∙ sym (length-map (take i ids) (λ (j : TermId). tree_at bank j.0))
+
+-- the atoms that were put in
+pub atoms_with : (c : ClauseTree) (ts : List Tree) → length ts ≡ length c → atoms_of (with_atoms c ts) ≡ ts
+atoms_with [] [] e = refl
+atoms_with [] (t ∷ ts) e = absurd (omega arith)
+atoms_with (l ∷ c) [] e = absurd (omega arith)
+atoms_with (l ∷ c) (t ∷ ts) e = ap (λ (us : List Tree). t ∷ us) (atoms_with c ts (omega arith))
+
+-- so the clause is as large as they tell
+pub told_large : (bank : List Tree) (frame : ClauseTree) (ids ks : List TermId) (b : Bool) → ks ≡ ids → length ids ≡ length frame
+    → ((c : ClauseTree) → atoms_of c ≡ trees_at bank ks → b ≡ is_too_large c) → is_too_large (with_atoms frame (trees_at bank ids)) ≡ b
+told_large bank frame ids ks b same each tells =
+    sym (tells (with_atoms frame (trees_at bank ids)) (atoms_with frame (trees_at bank ids) (length-map ids (λ (j : TermId). tree_at bank j.0) ∙ each) ∙ ap (trees_at bank) (sym same)))

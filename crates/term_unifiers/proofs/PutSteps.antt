@@ -1,19 +1,18 @@
 -- A term put in for a variable in the terms of a bank, one after the other.
-use Rattle.std.proofs.Common.{◌≡◌, inl, inr, ℕ, suc, ◌+◌, ◌<◌, ◌≤◌, ◌==◌, Bool, true, false, if◌then◌else◌, List, [], ◌∷◌, ◌++◌, map, take, length, get_or, set, slice_index_or, Option, Some, None, refl, sym, ap, ap₂, ◌∙◌, subst, arith}
+use Rattle.std.proofs.Common.{◌≡◌, inl, inr, ℕ, ◌+◌, ◌<◌, ◌≤◌, ◌==◌, true, false, if◌then◌else◌, List, [], ◌∷◌, ◌++◌, map, take, length, set, slice_index_or, Option, Some, None, refl, sym, ap, ◌∙◌, subst, arith}
 use Rattle.std.proofs.lemmas.Bool.{eq-eqb, eqb-true, false≢true, cases_Bool}
 use Rattle.std.proofs.lemmas.List.{get_or-set_same, get_or-set_other, map-append, length-set}
-use Rattle.fol_core.specs.Substitutions.{Substitution, substitute, substitute_all}
-use Rattle.fol_core.specs.Tree.{Tree, var, elem, app, Trees, trees_of}
+use Rattle.fol_core.specs.Substitutions.{Substitution, substitute}
+use Rattle.fol_core.specs.Tree.{Tree, var, app, trees_of}
 use Rattle.substitutions.specs.Occurring.{has_variable}
 use Rattle.unifiers.specs.Unifier.{only}
 use Rattle.unifiers.proofs.Differences.{no_cycle}
 use Rattle.term_bank.specs.Bank.{tree_at, IsAt, Grows}
-use Rattle.term_bank.specs.Cells.{AreNumbersBelow, numbers}
 use Rattle.term_bank.specs.declared.id.TermId.{TermId}
-use Rattle.term_bank.proofs.Building.{grows_refl, grows_on, grows_at, grows_length, below_more}
+use Rattle.term_bank.proofs.Building.{grows_refl, grows_on, grows_at, grows_length}
 use Rattle.term_unifiers.specs.Numbered.{trees_at, AreIn, AreAt, replacing, AreImages, IsPut, ArePut}
 use Rattle.term_unifiers.specs.declared.putting.Replacement.{Replacement}
-use Rattle.term_unifiers.proofs.Numbers.{at_grows, in_grows, all_grows, all_next, take_next}
+use Rattle.term_unifiers.proofs.Numbers.{at_grows, all_grows, all_next, take_next}
 use Rattle.term_unifiers.proofs.PairSteps.{each_argument}
 use Rattle.term_unifiers.proofs.SolveSteps.{only_stays, proper_of}
 

@@ -1,7 +1,7 @@
 -- Terms of a bank in lists, by number.
 use Rattle.std.specs.Prelude.{ℕ, Bool, true, false, ◌≡◌, ◌≤◌, ◌<◌, List, [], ◌∷◌, Option, Some, None, length, map}
 use Rattle.std.specs.List.{slice_index_or}
-use Rattle.fol_core.specs.Literals.{Lit, literal, ClauseTree}
+use Rattle.fol_core.specs.Literals.{literal, ClauseTree}
 use Rattle.fol_core.specs.Substitutions.{Substitution, substitute}
 use Rattle.fol_core.specs.Tree.{Tree}
 use Rattle.substitutions.specs.Occurring.{has_variable}

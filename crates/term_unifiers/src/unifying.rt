@@ -1,12 +1,14 @@
 // Most general unifiers: one variable after the other is put in, in the pairs that are left and in a clause.
-ghost use Rattle.std.specs.Prelude.{◌≡◌, ◌<◌, IfOk, MatchOption, length};
+ghost use Rattle.std.specs.Prelude.{◌≡◌, ◌<◌, IfOk, IfSome, MatchOption, length};
 ghost use Rattle.fol_core.specs.Tree.{var, trees_of};
 ghost use Rattle.term_bank.specs.Bank.{tree_at};
+ghost use Rattle.term_unifiers.specs.Formed.{formed_clause, IsBuiltWithin};
 ghost use Rattle.term_unifiers.specs.Numbered.{AreIn, IsPutThrough};
 ghost use Rattle.term_unifiers.specs.Solved.{IsUnified, HasNoUnifier};
 
 use crate::comparing::{Differing, reduce};
-use crate::numbering::{numbers_of, numbers_of_atoms, with_atoms};
+use crate::forming::{Formed, form};
+use crate::numbering::{numbers_of, numbers_of_atoms};
 use crate::putting::{Replacement, put_each, put_in};
 use fol_core::{Clause, Terms};
 use std::alloc::{AllocError, Global};
@@ -41,15 +43,17 @@ fn put_through(
     Ok(true)
 }
 
-/// The clause under a most general unifier of terms, each and each, if they have one.
+/// The clause under a most general unifier of terms, each and each, if they have one: built exactly where it isn't too large.
 pub fn unify(
     alloc: Global,
     lefts: Terms,
     rights: Terms,
     rest: Clause,
-) -> Result<Option<Clause>, AllocError>
-    ensures { IfOk result (λ o. MatchOption o (HasNoUnifier (trees_of lefts) (trees_of rights))
-        (λ c. IsUnified (trees_of lefts) (trees_of rights) rest c)) }
+) -> Result<Option<Formed>, AllocError>
+    ensures unified { IfOk result (λ o. MatchOption o
+        (HasNoUnifier (trees_of lefts) (trees_of rights))
+        (λ f. IsUnified (trees_of lefts) (trees_of rights) rest (formed_clause f))) }
+    ensures built { IfOk result (λ o. IfSome o IsBuiltWithin) }
 {
     if lefts.len() != rights.len() {
         return Ok(None);
@@ -61,7 +65,7 @@ pub fn unify(
     loop {
         match reduce(&bank, &mut left_ids, &mut right_ids)? {
             Differing::Same => {
-                return Ok(Some(with_atoms(alloc, &bank, &rest, atoms.as_slice())?));
+                return Ok(Some(form(alloc, bank, rest, atoms)?));
             }
             Differing::Clash => return Ok(None),
             Differing::Bind(replacement) => {

@@ -1,5 +1,5 @@
 -- The last pair is the bank's, and what is left of the pairs before a variable.
-use Rattle.std.proofs.Common.{◌≡◌, ◌∷◌, [], ◌++◌, sym, subst, length, List}
+use Rattle.std.proofs.Common.{◌∷◌, [], ◌++◌, sym, subst, length, List}
 use Rattle.term_bank.specs.declared.id.TermId.{TermId}
 use Rattle.term_unifiers.specs.Numbered.{trees_at, AreIn}
 use Rattle.term_unifiers.specs.Pairs.{BindsAt, Compared}

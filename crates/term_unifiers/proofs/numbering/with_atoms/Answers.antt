@@ -2,7 +2,7 @@
 use Rattle.std.proofs.Common.{◌≡◌, ◌<◌, ◌∙◌, ◌∷◌, [], ◌++◌, ap, ap₂, sym, arith, length}
 use Rattle.std.proofs.lemmas.List.{length-map}
 use Rattle.fol_core.specs.ClauseView.{literal_of}
-use Rattle.fol_core.specs.Literals.{literal, Lit, ClauseTree}
+use Rattle.fol_core.specs.Literals.{literal, ClauseTree}
 use Rattle.term_bank.proofs.Building.{below_at}
 use Rattle.term_unifiers.proofs.Numbers.{with_next}
 use Rattle.term_unifiers.proofs.numbering.with_atoms.Goals as goal

@@ -1,11 +1,10 @@
 -- What is remembered is right, and an argument has a smaller number.
-use Rattle.std.proofs.Common.{◌≡◌, ◌<◌, ◌≤◌, ◌∙◌, refl, ap, sym, subst, arith, length, List, take, map, slice_index_or, Some, None}
+use Rattle.std.proofs.Common.{◌≡◌, ◌<◌, ◌∙◌, refl, sym, subst, arith, take, slice_index_or, None}
 use Rattle.std.proofs.lemmas.List.{get_or_default, take_all}
 use Rattle.std.proofs.lemmas.Result.{IfOk-weaker}
 use Rattle.fol_core.specs.Tree.{app, trees_of}
-use Rattle.term_bank.specs.Bank.{tree_at, IsAt}
+use Rattle.term_bank.specs.Bank.{IsAt}
 use Rattle.term_bank.specs.Cells.{AreNumbersBelow, numbers}
-use Rattle.term_bank.specs.declared.id.TermId.{TermId}
 use Rattle.term_bank.proofs.Building.{below_at}
 use Rattle.term_unifiers.specs.Numbered.{trees_at, ArePut}
 use Rattle.term_unifiers.proofs.PutSteps.{next_term, next_remembered, put_next, put_application, put_known, put_remembered}

@@ -1,5 +1,5 @@
 -- One term more.
-use Rattle.std.proofs.Common.{◌<◌, ◌≡◌, arith, length, slice_index_or}
+use Rattle.std.proofs.Common.{arith, length}
 use Rattle.term_bank.proofs.Building.{below_at}
 use Rattle.term_unifiers.proofs.PutSteps.{put_next}
 use Rattle.term_unifiers.proofs.putting.put_each.Goals as goal

@@ -1,16 +1,16 @@
 -- The rounds go on where a variable is put in, and end where nothing is left.
-use Rattle.std.proofs.Common.{◌≡◌, ◌∙◌, true, sym, ap, subst, length}
-use Rattle.fol_core.specs.TermView.{tree_list}
+use Rattle.std.proofs.Common.{◌≡◌, ◌∙◌, true, refl, sym, ap, subst, length}
 use Rattle.substitutions.specs.Occurring.{has_variable}
 use Rattle.term_bank.specs.Bank.{tree_at}
+use Rattle.term_unifiers.specs.Formed.{formed_clause}
 use Rattle.term_unifiers.specs.Numbered.{trees_at, AreAt, HavePut, IsPutThrough, atoms_of, with_atoms}
 use Rattle.term_unifiers.specs.Pairs.{BindsAt, Reduced}
 use Rattle.term_unifiers.proofs.Numbers.{all_grows}
 use Rattle.term_unifiers.proofs.SolveSteps.{going_at, going_many, going_bind, going_done, going_never, going_cycle, going_smaller, uneven}
 use Rattle.term_unifiers.proofs.unifying.unify.Goals as goal
 
-pub returns-then-len : goal.returns-then-len
-returns-then-len c = uneven c.args.lefts c.args.rights (λ h. c.if-len.true (c.len.ensures ∙ h ∙ sym c.len-2.ensures))
+pub returns-then-len-clause-unified : goal.returns-then-len-clause-unified
+returns-then-len-clause-unified c = uneven c.args.lefts c.args.rights (λ h. c.if-len.true (c.len.ensures ∙ h ∙ sym c.len-2.ensures))
 
 pub loop-atoms-init : goal.loop-atoms-init
 loop-atoms-init c =
@@ -29,25 +29,26 @@ loop-atoms-init c =
       lefts = lefts.within;
       rights = rights.within;
       atoms = atoms.within;
+      rest = refl;
     }
 
-pub with_atoms-requires-clause-each : goal.with_atoms-requires-clause-each
-with_atoms-requires-clause-each c =
-    ap length c.as_slice-in-Same.ensures.value
-    ∙ going_many c.args.lefts c.args.rights c.args.rest (trees_at c.loop-atoms.bank c.loop-atoms.left_ids.items) (trees_at c.loop-atoms.bank c.loop-atoms.right_ids.items) c.loop-atoms.bank c.loop-atoms.atoms.items c.loop-atoms.invariant.going
+pub form-requires-clause-each : goal.form-requires-clause-each
+form-requires-clause-each c =
+    going_many c.args.lefts c.args.rights c.args.rest (trees_at c.loop-atoms.bank c.loop-atoms.left_ids.items) (trees_at c.loop-atoms.bank c.loop-atoms.right_ids.items) c.loop-atoms.bank c.loop-atoms.atoms.items c.loop-atoms.invariant.going
+    ∙ ap length (sym c.loop-atoms.invariant.rest)
 
-pub returns-in-Same : goal.returns-in-Same
-returns-in-Same c =
+pub returns-in-Same-clause-unified : goal.returns-in-Same-clause-unified
+returns-in-Same-clause-unified c =
     let bank = c.loop-atoms.bank in
     let ls = trees_at bank c.loop-atoms.left_ids.items in
     let rs = trees_at bank c.loop-atoms.right_ids.items in
     let cs = trees_at bank c.loop-atoms.atoms.items in
-    going_done c.args.lefts c.args.rights c.args.rest c.in_ok-with_atoms-in-Same.field-0 ls rs cs c.loop-atoms.invariant.going
+    going_done c.args.lefts c.args.rights c.args.rest (formed_clause c.in_ok-form-in-Same.field-0) ls rs cs c.loop-atoms.invariant.going
     (subst (λ d. Reduced bank d c.loop-atoms.left_ids.items c.loop-atoms.right_ids.items c.reduce.new.lefts.items c.reduce.new.rights.items) c.in-Same.is c.in_ok-reduce.ensures.reduced)
-    (c.in_ok-with_atoms-in-Same.ensures ∙ ap (λ ids. with_atoms c.args.rest (trees_at bank ids)) c.as_slice-in-Same.ensures.value)
+    (c.in_ok-form-in-Same.ensures.clause ∙ ap (λ r. with_atoms r cs) c.loop-atoms.invariant.rest)
 
-pub returns-in-Clash : goal.returns-in-Clash
-returns-in-Clash c =
+pub returns-in-Clash-clause-unified : goal.returns-in-Clash-clause-unified
+returns-in-Clash-clause-unified c =
     let bank = c.loop-atoms.bank in
     let ls = trees_at bank c.loop-atoms.left_ids.items in
     let rs = trees_at bank c.loop-atoms.right_ids.items in
@@ -55,8 +56,8 @@ returns-in-Clash c =
     going_never c.args.lefts c.args.rights (atoms_of c.args.rest) ls rs cs c.loop-atoms.invariant.going
     (subst (λ d. Reduced bank d c.loop-atoms.left_ids.items c.loop-atoms.right_ids.items c.reduce.new.lefts.items c.reduce.new.rights.items) c.in-Clash.is c.in_ok-reduce.ensures.reduced)
 
-pub returns-then-not-branch : goal.returns-then-not-branch
-returns-then-not-branch c =
+pub returns-then-not-branch-clause-unified : goal.returns-then-not-branch-clause-unified
+returns-then-not-branch-clause-unified c =
     let bank = c.loop-atoms.bank in
     let ls = trees_at bank c.loop-atoms.left_ids.items in
     let rs = trees_at bank c.loop-atoms.right_ids.items in
@@ -106,4 +107,5 @@ loop-atoms-preserved c =
       lefts = put.lefts.within;
       rights = put.rights.within;
       atoms = put.atoms.within;
+      rest = c.loop-atoms.invariant.rest;
     }

@@ -1,4 +1,5 @@
 -- The rounds keep what solves the pairs, and each does away with a variable.
+use Rattle.std.proofs.Common.{◌≡◌}
 use Rattle.term_unifiers.specs.Numbered.{trees_at, AreIn, atoms_of}
 use Rattle.term_unifiers.proofs.SolveSteps.{Going, left_of}
 use Rattle.term_unifiers.proofs.unifying.unify.Given as goal
@@ -12,4 +13,5 @@ invariant-loop-atoms l = record {
   lefts : AreIn l.bank l.left_ids.items;
   rights : AreIn l.bank l.right_ids.items;
   atoms : AreIn l.bank l.atoms.items;
+  rest : l.rest ≡ l.fn.rest;
 }
