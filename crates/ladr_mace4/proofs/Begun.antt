@@ -7,7 +7,7 @@ use Rattle.ladr_io.specs.Times.{Times}
 use Rattle.ladr_mace4.specs.Lines.{size_line, skipped_line}
 use Rattle.ladr_mace4.specs.Rooms.{IsBegun}
 use Rattle.ladr_mace4.specs.Story.{between, opened, skipped, SizeGoes, SizeEnds, Stops}
-use Rattle.ladr_mace4.specs.Watching.{IsInTime, HasRead}
+use Rattle.search_clock.specs.Watching.{IsInTime, HasRead}
 use Rattle.ladr_mace4.specs.declared.ends.SearchEnd.{SearchEnd}
 use Rattle.ladr_mace4.specs.declared.ends.Step.{Step}
 use Rattle.ladr_mace4.specs.declared.ends.Step.TheVariants.{Over, Ends}

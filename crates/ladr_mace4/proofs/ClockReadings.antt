@@ -8,7 +8,7 @@ use Rattle.fol_core.specs.Stated.{Stated}
 use Rattle.ladr_mace4.specs.Finding.{Comes, Sought}
 use Rattle.ladr_mace4.specs.Fronts.{times_after}
 use Rattle.ladr_mace4.specs.Story.{Now, Stops, SearchComes}
-use Rattle.ladr_mace4.specs.Watching.{time_to_stop, IsInTime, HasRead}
+use Rattle.search_clock.specs.Watching.{time_to_stop, IsInTime, HasRead}
 use Rattle.ladr_mace4.specs.declared.ends.SearchEnd.{SearchEnd}
 use Rattle.ladr_mace4.specs.declared.ends.SearchEnd.TheVariants.{MaxModels, Exhausted, AllModels, MaxMegs, MaxSeconds, GroundLimit, ClauseLimit}
 use Rattle.ladr_mace4.specs.declared.plan.Plan.{Plan}

@@ -8,7 +8,7 @@ use Rattle.ladr_io.specs.Streams.{Outflow, Takes}
 use Rattle.ladr_io.specs.Times.{Times}
 use Rattle.ladr_mace4.specs.Plans.{size_behind}
 use Rattle.ladr_mace4.specs.Story.{Size, between, HasEnded, HaveEnded, models_in, models_in_all, readings_in, readings_in_all, size_text, sizes_text, SizeGoes, SizeEnds, AllIsSearched, Stops, SearchGoes, SearchComes}
-use Rattle.ladr_mace4.specs.Watching.{IsInTime, HasRead}
+use Rattle.search_clock.specs.Watching.{IsInTime, HasRead}
 use Rattle.ladr_mace4.specs.declared.ends.SearchEnd.{SearchEnd}
 use Rattle.ladr_mace4.specs.declared.ends.SearchEnd.TheVariants.{MaxModels, Exhausted, AllModels, MaxMegs, MaxSeconds, GroundLimit, ClauseLimit}
 use Rattle.ladr_mace4.specs.declared.ends.SearchOver.{SearchOver}

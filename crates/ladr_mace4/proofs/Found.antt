@@ -20,7 +20,7 @@ use Rattle.ladr_mace4.specs.ItemTexts.{IsPrinted}
 use Rattle.ladr_mace4.specs.Rooms.{HasRoomForGround, IsBegun}
 use Rattle.ladr_mace4.specs.Skolems.{all_symbols, all_axioms}
 use Rattle.ladr_mace4.specs.Story.{inside, searched, models_text, GoesTo, HasCourse, SizeGoes, SizeEnds}
-use Rattle.ladr_mace4.specs.Watching.{time_to_stop, IsInTime, HasRead}
+use Rattle.search_clock.specs.Watching.{time_to_stop, IsInTime, HasRead}
 use Rattle.ladr_mace4.specs.declared.ends.SearchEnd.TheVariants.{MaxModels, MaxSeconds}
 use Rattle.ladr_mace4.specs.declared.ends.Step.{Step}
 use Rattle.ladr_mace4.specs.declared.ends.Step.TheVariants.{Over, Ends}

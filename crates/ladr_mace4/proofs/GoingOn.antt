@@ -24,7 +24,7 @@ use Rattle.ladr_mace4.specs.Plans.{size_behind}
 use Rattle.ladr_mace4.specs.Rooms.{refused_cells, most_cells, HasRoomForGround, IsCrowded, IsBegun}
 use Rattle.ladr_mace4.specs.Skolems.{all_symbols, all_axioms}
 use Rattle.ladr_mace4.specs.Story.{Size, skipped, searched, Now, between, opened, inside, models_in, models_in_all, models_text, size_text, sizes_text, HasEnded, HaveEnded, IsAtSize, Stops, GoesTo, HasCourse, readings_in_all, text_by, models_by, readings_by, readings_by_end, SearchGoes, SearchComes}
-use Rattle.ladr_mace4.specs.Watching.{time_to_stop, IsInTime, HasRead}
+use Rattle.search_clock.specs.Watching.{time_to_stop, IsInTime, HasRead}
 use Rattle.ladr_mace4.specs.declared.ends.SearchEnd.{SearchEnd}
 use Rattle.ladr_mace4.specs.declared.ends.SearchEnd.TheVariants.{MaxModels, Exhausted, AllModels, MaxMegs, MaxSeconds, GroundLimit, ClauseLimit}
 use Rattle.ladr_mace4.specs.declared.plan.Plan.{Plan}

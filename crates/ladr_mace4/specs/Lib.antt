@@ -9,5 +9,4 @@ pub mod Shown
 pub mod Skolems
 pub mod Statuses
 pub mod Story
-pub mod Watching
 pub mod Worked

@@ -5,6 +5,7 @@ use Rattle.ladr_intake.specs.Refusals.{clause_limit_line}
 use Rattle.ladr_mace4.specs.declared.ends.SearchEnd.{SearchEnd}
 use Rattle.ladr_mace4.specs.declared.ends.SearchEnd.TheVariants.{MaxModels, Exhausted, AllModels, MaxMegs, MaxSeconds, GroundLimit, ClauseLimit}
 use Rattle.ladr_output.specs.Telling.{as_line}
+use Rattle.search_clock.specs.Lines.{exit_line, seconds_line}
 
 -- a size begins; it is skipped; it is searched to its end
 abbrev pub size_line : ℕ → List ℕ
@@ -16,17 +17,9 @@ skipped_line n = as_line (codes "% Domain size " ++ decimal n ++ codes " skipped
 abbrev pub exhausted_line : ℕ → List ℕ
 exhausted_line n = as_line (codes "% Domain size " ++ decimal n ++ codes " exhausted.")
 
--- how many models were printed, and why the search ended
+-- how many models were printed
 abbrev pub models_line : ℕ → List ℕ
 models_line k = as_line (codes "% Models=" ++ decimal k ++ codes ".")
-
-abbrev pub exit_line : List ℕ → List ℕ
-exit_line reason = as_line (codes "% Exit " ++ reason ++ codes ".")
-
--- the clock's first reading and its last
-abbrev pub seconds_line : ℕ → ℕ → List ℕ
-seconds_line first last =
-    as_line (codes "% Exit max_seconds " ++ decimal first ++ codes " " ++ decimal last ++ codes ".")
 
 -- a size has too many cells by far
 abbrev pub ground_limit_line : ℕ → List ℕ

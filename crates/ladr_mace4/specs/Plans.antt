@@ -9,6 +9,7 @@ use Rattle.mace_cells.specs.declared.way.Candidates.TheVariants.{All, LeastIndex
 use Rattle.mace_cells.specs.declared.way.Measure.{Measure}
 use Rattle.mace_cells.specs.declared.way.Measure.TheVariants.{First, MostCrossed}
 use Rattle.mace_cells.specs.declared.way.Way.{Way}
+use Rattle.search_clock.specs.Watching.{seconds_of}
 
 -- The one size that an input asks for by `domain_size`, if it isn't 0; a word for the first or for
 -- the last size cancels it.
@@ -16,10 +17,6 @@ abbrev pub only_size : ModelOptions → Options → Option ℕ
 only_size words o =
     if is_some words.start_size || is_some words.end_size || o.domain_size == 0 then None
     else Some o.domain_size
-
--- the seconds of an input, where 4,294,967,295 stands for no clock
-abbrev pub seconds_of : Options → Option ℕ
-seconds_of o = if o.max_seconds == 4294967295 then None else Some o.max_seconds
 
 -- how cells are chosen by an input's `selection_order`, `selection_measure` and `lnh`
 abbrev pub candidates_of : ℕ → Candidates

@@ -10,7 +10,7 @@ use Rattle.ladr_mace4.specs.Models.{AreShown}
 use Rattle.ladr_mace4.specs.Plans.{size_behind}
 use Rattle.ladr_mace4.specs.Rooms.{HasRoomForGround, IsCrowded, IsBegun}
 use Rattle.ladr_mace4.specs.Skolems.{all_symbols}
-use Rattle.ladr_mace4.specs.Watching.{time_to_stop, IsInTime, HasRead}
+use Rattle.search_clock.specs.Watching.{time_to_stop, IsInTime, HasRead}
 use Rattle.ladr_mace4.specs.declared.ends.SearchEnd.{SearchEnd}
 use Rattle.ladr_mace4.specs.declared.ends.SearchEnd.TheVariants.{MaxModels, Exhausted, AllModels, MaxMegs, MaxSeconds, GroundLimit, ClauseLimit}
 use Rattle.ladr_mace4.specs.declared.ends.Step.{Step}

@@ -4,17 +4,17 @@ ghost use Rattle.ladr_cells.specs.Worlds.{ground_size};
 ghost use Rattle.ladr_mace4.specs.Lines.{size_line};
 ghost use Rattle.ladr_mace4.specs.Rooms.{HasRoomForGround, IsCrowded};
 ghost use Rattle.ladr_mace4.specs.Story.{Stops, opened};
-ghost use Rattle.ladr_mace4.specs.Watching.{IsWatched, IsLookedAt, HasBegun};
+ghost use Rattle.search_clock.specs.Watching.{IsWatched, IsLookedAt, HasBegun};
 ghost use Rattle.ladr_output.specs.Telling.{IsPiece};
 
 use crate::asked::Asked;
 use crate::ends::SearchEnd;
 use crate::plan::Plan;
 use crate::printing::{SearchItem, print_item};
-use crate::watch::Watch;
 use ladr_io::{Clock, Sink};
 use ladr_output::Cut;
 use model_tables::MOST_CELLS;
+use search_clock::Watch;
 use std::alloc::Global;
 
 // As many cells and ground literals as a meg has.

@@ -12,10 +12,8 @@ mod plan;
 mod printing;
 mod search;
 mod sizes;
-mod watch;
 
 pub use ends::SearchEnd;
 pub use laws::{searches_show, worked};
 pub use plan::Plan;
 pub use search::mace4;
-pub use watch::Watch;

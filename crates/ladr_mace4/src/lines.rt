@@ -1,11 +1,13 @@
 // The lines of a search for models.
 ghost use Rattle.std.specs.Prelude.{◌≡◌, ◌++◌, OnOk, IfOk, codes};
 ghost use Rattle.std.specs.Fmt.{decimal};
-ghost use Rattle.ladr_mace4.specs.Lines.{size_line, skipped_line, exhausted_line, models_line, seconds_line, ground_limit_line, last_lines, end_text};
+ghost use Rattle.ladr_mace4.specs.Lines.{size_line, skipped_line, exhausted_line, models_line, ground_limit_line, last_lines, end_text};
+ghost use Rattle.search_clock.specs.Lines.{seconds_line};
 
 use crate::ends::SearchEnd;
 use ladr_intake::clause_limit;
 use ladr_output::{decimal, text};
+use search_clock::{exit_line, seconds_line};
 use std::alloc::{AllocError, Global};
 
 // The size that a line is about.
@@ -71,31 +73,8 @@ fn last_lines(alloc: Global, k: u64, reason: &[u8]) -> Result<Vec<u8>, AllocErro
 {
     let mut out = Vec::new(alloc);
     models(&mut out, k)?;
-    text(&mut out, b"% Exit ")?;
-    text(&mut out, reason)?;
-    text(&mut out, b".\n")?;
+    exit_line(&mut out, reason)?;
     Ok(out)
-}
-
-// The clock's first reading.
-fn first_reading(out: &mut Vec<u8>, first: u64) -> Result<(), AllocError>
-    ensures { OnOk result (out.new.items ≡ out.old.items
-        ++ (codes "% Exit max_seconds " ++ decimal first)) }
-{
-    text(out, b"% Exit max_seconds ")?;
-    decimal(out, first)?;
-    Ok(())
-}
-
-// The clock's first reading and its last.
-fn seconds(out: &mut Vec<u8>, first: u64, last: u64) -> Result<(), AllocError>
-    ensures { OnOk result (out.new.items ≡ out.old.items ++ seconds_line first last) }
-{
-    first_reading(out, first)?;
-    text(out, b" ")?;
-    decimal(out, last)?;
-    text(out, b".\n")?;
-    Ok(())
 }
 
 // Those of a search whose time is over.
@@ -104,7 +83,7 @@ fn time_is_over(alloc: Global, k: u64, first: u64, last: u64) -> Result<Vec<u8>,
 {
     let mut out = Vec::new(alloc);
     models(&mut out, k)?;
-    seconds(&mut out, first, last)?;
+    seconds_line(&mut out, first, last)?;
     Ok(out)
 }
 

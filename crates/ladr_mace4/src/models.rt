@@ -7,7 +7,7 @@ ghost use Rattle.ladr_mace4.specs.Rooms.{HasRoomForGround, IsBegun};
 ghost use Rattle.ladr_mace4.specs.ItemTexts.{IsPrinted};
 ghost use Rattle.ladr_mace4.specs.Skolems.{all_symbols};
 ghost use Rattle.ladr_mace4.specs.Story.{SizeGoes, SizeEnds};
-ghost use Rattle.ladr_mace4.specs.Watching.{IsWatched, HasBegun, HasRead};
+ghost use Rattle.search_clock.specs.Watching.{IsWatched, HasBegun, HasRead};
 ghost use Rattle.ladr_output.specs.Telling.{IsPiece, Tells};
 ghost use Rattle.model_tables.specs.ModelText.{model_text};
 
@@ -15,13 +15,13 @@ use crate::asked::Asked;
 use crate::ends::{SearchEnd, Step};
 use crate::plan::Plan;
 use crate::printing::{SearchItem, print_item};
-use crate::watch::Watch;
 use cell_search::CellSearch;
 use clausify::{axioms_are_in_order, skolems_stand_behind};
 use ladr_cells::{isomorphisms_are_carried, solutions_are_models};
 use ladr_io::{Clock, Sink};
 use ladr_output::Cut;
 use mace_search::Answer;
+use search_clock::Watch;
 use std::alloc::Global;
 
 /// Prints the models of a size, behind its line and k models before them, and that it is exhausted,

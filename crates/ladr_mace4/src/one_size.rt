@@ -3,7 +3,7 @@ ghost use Rattle.std.specs.Prelude.{◌≡◌, ◌<◌, ◌≤◌, ℕ, false, I
 ghost use Rattle.fol_core.specs.Occurs.{size_needed};
 ghost use Rattle.ladr_mace4.specs.Lines.{skipped_line};
 ghost use Rattle.ladr_mace4.specs.Story.{SizeGoes, SizeEnds};
-ghost use Rattle.ladr_mace4.specs.Watching.{IsWatched, HasRead};
+ghost use Rattle.search_clock.specs.Watching.{IsWatched, HasRead};
 ghost use Rattle.ladr_output.specs.Telling.{IsPiece, Tells};
 ghost use Rattle.model_tables.specs.Size.{formulas_of};
 
@@ -13,9 +13,9 @@ use crate::ends::Step;
 use crate::models::models;
 use crate::plan::Plan;
 use crate::printing::{SearchItem, print_item};
-use crate::watch::Watch;
 use ladr_io::{Clock, Sink};
 use ladr_output::Cut;
+use search_clock::Watch;
 use std::alloc::Global;
 
 /// Skips a size that lacks an element which the formulas name, or prints its models behind k

@@ -1,12 +1,13 @@
 // What is asked of a search for models.
 ghost use Rattle.std.specs.Prelude.{◌≡◌, ◌≤◌, IfSome, unwrap_or};
 ghost use Rattle.ladr_options.specs.Ranges.{AreInRange, IsSize};
-ghost use Rattle.ladr_mace4.specs.Plans.{plan_of, only_size, seconds_of, way_of};
+ghost use Rattle.ladr_mace4.specs.Plans.{plan_of, only_size, way_of};
 ghost use Rattle.ladr_words.specs.Tasks.{HasRanges, IsFrom};
 
-use ladr_options::{NO_LIMIT, Options};
+use ladr_options::Options;
 use ladr_words::{ModelOptions, Task};
 use mace_cells::{Candidates, Measure, Way};
+use search_clock::seconds_of;
 
 /// What is asked of a search.
 #[derive(Clone, Copy, Debug, PartialEq, Eq)]
@@ -92,16 +93,5 @@ fn size_or(given: Option<u64>, other: u32) -> u32
     match given {
         Some(size) => size as u32,
         None => other,
-    }
-}
-
-// The seconds of the input.
-fn seconds_of(options: &Options) -> Option<u64>
-    ensures { result ≡ seconds_of options.now }
-{
-    if options.max_seconds == NO_LIMIT {
-        None
-    } else {
-        Some(u64::from(options.max_seconds))
     }
 }

@@ -8,10 +8,10 @@ use crate::asked::Asked;
 use crate::ends::{SearchEnd, SearchOver, Step};
 use crate::one_size::one_size;
 use crate::plan::Plan;
-use crate::watch::Watch;
 use ladr_io::{Clock, Sink};
 use ladr_output::Cut;
 use model_tables::size_needed;
+use search_clock::Watch;
 use std::alloc::Global;
 
 /// Searches the sizes from the first to the last, step by step, for models, and prints how each one

@@ -27,7 +27,6 @@ use Rattle.ladr_lex.specs.Numeral.{limited_number_of}
 use Rattle.ladr_lex.specs.declared.limits.TheConstants.{MOST_LEVELS, MOST_SYMBOLS}
 use Rattle.ladr_lex.specs.declared.misuse.Misuse.{Misuse}
 use Rattle.ladr_lex.specs.declared.misuse.Misuse.TheVariants.{QuantifierInTerm, UnfitNumeral, UnfitRule, UnfitAttribute, TwoKinds}
-use Rattle.ladr_mace4.proofs.Names.{name_unbroken}
 use Rattle.ladr_problem.proofs.Good.{problem_before}
 use Rattle.ladr_problem.proofs.Named.{HaveNames, names_parts, cut_named, AllHaveNames, items_named}
 use Rattle.ladr_problem.specs.Adding.{FileItem, command, within, IsItemRead, after_item, after_term, after_formula, after_list, after_rule, after_kbo, added_kbo, unshaped, formula_made, style_in, with_settings, with_listed, with_formula, least_misuse}
@@ -51,6 +50,7 @@ use Rattle.ladr_settings.specs.declared.lists.OpenList.{OpenList}
 use Rattle.ladr_settings.specs.declared.lists.OpenList.TheVariants.{Formulas, Weights, KboWeights, OtherFormulas, OtherRules}
 use Rattle.ladr_settings.specs.declared.settings.Settings.{Settings}
 use Rattle.prover_steps.proofs.Lists.{all_append}
+use Rattle.ladr_prover9.proofs.Names.{name_unbroken}
 use Rattle.ladr_prover9.proofs.Unbroken.{IsFlat, HasFlatNames, HaveFlatNames, HasFlatLabel}
 
 -- a term that is read of tokens

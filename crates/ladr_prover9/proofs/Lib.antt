@@ -1,12 +1,11 @@
-pub mod Advancing
 pub mod Counted
-pub mod Draining
 pub mod Elementless
 pub mod Ending
 pub mod FileElements
 pub mod FileNames
 pub mod Knowing
 pub mod Leaving
+pub mod Names
 pub mod Nothing
 pub mod Numbered
 pub mod OneEnd

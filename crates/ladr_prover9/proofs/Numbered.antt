@@ -16,7 +16,6 @@ use Rattle.fol_core.specs.declared.problem.Role.TheVariants.{Assumption, Usable,
 use Rattle.ladr_formulas.specs.declared.styles.Mode.{Mode}
 use Rattle.ladr_formulas.specs.declared.styles.Mode.TheVariants.{Prover}
 use Rattle.ladr_lex.specs.ClauseNames.{clause_variable}
-use Rattle.ladr_mace4.proofs.Names.{name_unbroken}
 use Rattle.ladr_output.proofs.Standing.{unbroken_append, decimal_unbroken, AreGlyphs, decimal_glyphs}
 use Rattle.ladr_print.specs.TermText.{name_in}
 use Rattle.ladr_problem.specs.File.{Says, problem}
@@ -24,6 +23,7 @@ use Rattle.ladr_problem.specs.Names.{is_name, are_named}
 use Rattle.ladr_problem.specs.Proper.{IsProper}
 use Rattle.ladr_problem.specs.Sofar.{Sofar, Listed, stated_in}
 use Rattle.ladr_prover9.proofs.FileNames.{IsFlatListed, says_flat}
+use Rattle.ladr_prover9.proofs.Names.{name_unbroken}
 use Rattle.ladr_prover9.proofs.StandingProofs.{first, IsNumbered}
 use Rattle.ladr_prover9.proofs.Unbroken.{IsFlat, HasFlatLabel, HasFlatSymbols, text_flat, formula_flat, clause_flat, labelled_flat, words_flat}
 use Rattle.ladr_prover9.specs.ProofTexts.{plain_content_text, plain_text, quest_text}

@@ -7,7 +7,7 @@ use Rattle.ladr_formulas.specs.declared.styles.Mode.TheVariants.{Prover}
 use Rattle.ladr_intake.specs.Refusals.{clause_limit_line}
 use Rattle.ladr_io.specs.Streams.{Takes}
 use Rattle.ladr_io.specs.Times.{Times}
-use Rattle.ladr_mace4.specs.Watching.{time_to_stop}
+use Rattle.search_clock.specs.Watching.{time_to_stop}
 use Rattle.ladr_problem.specs.File.{Says, Outcome, problem}
 use Rattle.ladr_problem.specs.Sofar.{Sofar}
 use Rattle.ladr_prover9.specs.Finding.{over_limit, KeepsLimits, Proves}
@@ -15,7 +15,6 @@ use Rattle.ladr_prover9.specs.Lines.{closing_lines}
 use Rattle.ladr_prover9.specs.OneEnd.{AsksAreOne, IsUntimed, EndIsOne, RunsEndAlike}
 use Rattle.ladr_prover9.specs.ProofTexts.{proof_text, head_of_proof, IsProofText, AreProofTexts, IsStateText}
 use Rattle.ladr_prover9.specs.Quests.{Quest, quest_by, asks, quest_lines, quest_seconds}
-use Rattle.ladr_prover9.specs.Stepping.{end_for}
 use Rattle.ladr_prover9.specs.Story.{EndsIn, ProofsCome}
 use Rattle.ladr_prover9.specs.declared.ends.ProverEnd.{ProverEnd}
 use Rattle.ladr_prover9.specs.declared.ends.ProverEnd.TheVariants.{MaxProofs, SosEmpty, MaxMegs, MaxSeconds, MaxGiven, MaxKept, ClauseLimit}
@@ -43,6 +42,14 @@ module _ (one : AncestorsAreOne) (q : Quest) (all : List PlainLine) where
 state_once : AncestorsAreOne → (q : Quest) (t : SearchState) (text other : List ℕ) → IsStateText q t text → IsStateText q t other → text ≡ other
 state_once one q t text other a b =
     a.text_is ∙ ap (λ (u : List ℕ). frame_text q.input ++ u) (proofs_once one q (quest_lines q t) 1 t.proofs a.proofs b.proofs a.are b.are) ∙ sym b.text_is
+
+-- how a search ends for its own reason
+abbrev end_for : Reason → ProverEnd
+end_for proved = MaxProofs
+end_for spent = SosEmpty
+end_for gave_all = MaxGiven
+end_for kept_all = MaxKept
+end_for filled = MaxMegs
 
 -- a state has ended for a reason, and this is the end for it
 abbrev HasEnded : SearchState → ProverEnd → Type 0

@@ -1,191 +1,241 @@
--- From the beginning of a search to a state.
-use Rattle.std.proofs.Common.{◌≡◌, ◌⊎◌, ◌<◌, ◌≤◌, ◌^◌, length, ℕ, suc, inl, inr, Bool, true, false, not, nat_le, refl, sym, ap, ◌∙◌, subst, arith, Result, Ok, Err, None, Some, Option, is_some, List, [], ◌∷◌, ◌++◌, append_assoc, leb-false}
-use Rattle.std.specs.Prelude.{MatchOption}
-use Rattle.std.proofs.lemmas.Bool.{lt-leb, true≢false}
-use Rattle.std.proofs.lemmas.List.{append-nil}
+-- From one answer of a prover to the next.
+use Rattle.std.proofs.Common.{◌≡◌, ◌⊎◌, ◌<◌, ◌^◌, ◌+◌, length, ℕ, suc, inl, inr, refl, sym, ap, ap₂, ◌∙◌, subst, arith, Result, Ok, Err, None, Some, Option, List, [], ◌∷◌, ◌++◌, append_assoc, length-append}
+use Rattle.std.specs.Prelude.{IfOk, OnErr}
+use Rattle.std.specs.Global.{Vec}
+use Rattle.std.specs.declared.alloc.AllocError.{AllocError}
+use Rattle.std.proofs.lemmas.List.{append-nil, length-map}
 use Rattle.clause_store.specs.Laws.{AncestorsStay}
+use Rattle.derivation.specs.Lines.{InputRow}
+use Rattle.fol_core.specs.Stated.{said_of}
 use Rattle.ladr_io.proofs.StreamLaws.{Takes-none, Takes-append}
 use Rattle.ladr_io.specs.Streams.{Outflow, Takes}
-use Rattle.ladr_io.specs.Times.{Times, later}
-use Rattle.ladr_mace4.specs.Watching.{time_to_stop, HasRead, IsInTime, IsLookedAt, IsWatchedBy, IsWatched}
-use Rattle.ladr_mace4.specs.declared.watch.Watch.{Watch}
-use Rattle.ladr_output.proofs.Tellings.{told_behind}
-use Rattle.ladr_output.specs.Telling.{Tells}
+use Rattle.ladr_io.specs.Times.{Times}
+use Rattle.ladr_output.specs.Telling.{IsPiece, Tells}
 use Rattle.ladr_output.specs.declared.cut.Cut.{Cut}
 use Rattle.ladr_output.specs.declared.cut.Cut.TheVariants.{WriteFault, Memory}
-use Rattle.ladr_prover9.proofs.Draining.{may_stand}
-use Rattle.ladr_prover9.proofs.Steps.{reached_next, start_text, give_text}
-use Rattle.ladr_prover9.specs.Askings.{IsSoundQuest, IsGoing, IsQuiet, RingsFor}
-use Rattle.ladr_prover9.specs.ProofTexts.{IsStateText}
-use Rattle.ladr_prover9.specs.Quests.{Quest}
-use Rattle.ladr_prover9.specs.Stepping.{end_for}
-use Rattle.ladr_prover9.specs.Story.{HasRung, IsAtGiving, EndsIn, ProofsGo, ProofsCome}
+use Rattle.ladr_prover9.proofs.Steps.{step_text}
+use Rattle.ladr_prover9.specs.Askings.{quest_of, end_for, HasProof, IsAskedFor, IsSoundQuest}
+use Rattle.ladr_prover9.specs.ProofTexts.{IsProofText, IsStateText}
+use Rattle.ladr_prover9.specs.Quests.{Quest, quest_lines}
+use Rattle.ladr_prover9.specs.Story.{HasRung, EndsIn, ProofsGo, ProofsCome}
+use Rattle.ladr_prover9.specs.declared.asking.Asking.{Asking}
 use Rattle.ladr_prover9.specs.declared.ends.ProverEnd.{ProverEnd}
-use Rattle.mace_search.specs.Watch.{IsLate}
-use Rattle.proof_print.specs.LineTexts.{frame_text}
-use Rattle.prover_proofs.proofs.Growing.{given_same, gives_next, picked_given, none_picked, all_given}
-use Rattle.prover_setup.specs.SearchInputs.{setting_in, start_in, IsReachedIn}
-use Rattle.prover_steps.specs.Clashing.{Held}
-use Rattle.prover_steps.specs.Ending.{IsReason, GivingFalls, PicksWhereOneWaits, given_left}
-use Rattle.prover_steps.specs.Picking.{Picked, picked}
+use Rattle.ladr_prover9.specs.declared.ends.ProverEnd.TheVariants as over
+use Rattle.prover.proofs.Finding.{found_given}
+use Rattle.prover.proofs.Going.{reaches_next, reaches_then, reached_lines}
+use Rattle.prover.proofs.Readings.{reads_behind, reads_from_none}
+use Rattle.prover.specs.Answers.{IsAtGiving, EndsWithout, FindsNone, FindsNext, ReadsOn, LacksMemory, RunsTo, readings_first}
+use Rattle.prover.specs.Provers.{watch_of, IsNew}
+use Rattle.prover.specs.declared.answer.Answer.{Answer}
+use Rattle.prover.specs.declared.answer.Answer.TheVariants.{Proof, Proofs, SosEmpty, MaxGiven, MaxKept, MaxMegs, MaxSeconds}
+use Rattle.prover.specs.declared.standing.Prover.{Prover}
+use Rattle.prover_setup.specs.SearchInputs.{SearchInput, setting_in, rows_in, start_in, IsReachedIn}
+use Rattle.prover_steps.specs.Ending.{IsReason, IsWithinLimits, StartIsWithinLimits, ReachedAreWithinLimits}
+use Rattle.prover_steps.specs.LineNumbers.{CountsLinesFrom, ReachedCountLines}
 use Rattle.prover_steps.specs.SearchLaws.{ReachedAreSound}
-use Rattle.prover_steps.specs.Searching.{Setting, Reason, proved, spent, gave_all, kept_all, filled, SearchState, is_nil, given_next, next_state}
+use Rattle.prover_steps.specs.Searching.{Reason, FoundProof, SearchState}
 use Rattle.prover_steps.specs.Starting.{StartsWell}
+use Rattle.search_clock.specs.Watching.{IsInTime, HasRead, HasBegun, IsWatchedBy, IsWatched}
+use Rattle.search_clock.specs.declared.watch.Watch.{Watch}
+
+-- the lines of each state that is reached are counted
+pub counted_at : ReachedCountLines → (a : Asking) (t : SearchState) → IsAskedFor a → IsReachedIn (quest_of a).search t → CountsLinesFrom (suc (length a.problem.now.inputs.items + length a.clauses.items)) t
+counted_at law a t is h =
+    let x = (quest_of a).search in
+    subst (λ (n : ℕ). CountsLinesFrom n t) (ap₂ (λ (m k : ℕ). suc (m + k)) (length-map a.problem.now.inputs.items said_of) (ap (λ (rs : List InputRow). length rs) (sym is.clauses)))
+    (law (setting_in x) x.stated.formulas (rows_in x) t h)
+
+-- a state that is reached is within the limits
+pub within : StartIsWithinLimits → ReachedAreWithinLimits → (q : Quest) (t : SearchState) → IsReachedIn q.search t → IsWithinLimits (setting_in q.search) t
+within start limits q t r = limits (setting_in q.search) (start_in q.search) t (start (setting_in q.search) q.search.stated.formulas (rows_in q.search)) r
+
+-- the clock was read for the state so far: not yet where the search begins
+abbrev HasReadFor : Quest → Option ℕ → Watch → SearchState → Times → Type 0
+HasReadFor q seconds w t times =
+    ((t ≡ start_in q.search) × (w.first ≡ None) × (times.count ≡ 0))
+    ⊎ (HasBegun w times × HasRead seconds (suc t.given) times)
+
+-- a clock that was not read yet is watched
+new_by : (seconds first : Option ℕ) (times : Times) → first ≡ None → times.count ≡ 0 → IsWatchedBy seconds first times
+new_by None first times e h = h
+new_by (Some s) None times e h = h
+new_by (Some s) (Some f) times e h = absurd cc
+
+pub new_watched : (w : Watch) (times : Times) → w.first ≡ None → times.count ≡ 0 → IsWatched w times
+new_watched w times e h = new_by w.seconds w.first times e h
+
+-- the search goes on behind a proof alone
+pub only_proof : (answer : Answer) → end_for answer ≡ None → (n : ℕ) × (answer ≡ Proof n)
+only_proof (Proof n) e = (n, refl)
+only_proof Proofs e = absurd cc
+only_proof SosEmpty e = absurd cc
+only_proof MaxGiven e = absurd cc
+only_proof MaxKept e = absurd cc
+only_proof MaxMegs e = absurd cc
+only_proof (MaxSeconds first last) e = absurd cc
+
+-- a new prover, by the time that it has
+pub new_again : (x : SearchInput) (seconds : Option ℕ) (p : Prover) → IsNew x seconds p → IsNew x (watch_of p).seconds p
+new_again x seconds p h = record { going = h.going; fit = h.fit; setting = h.setting; state = h.state; time = refl; unread = h.unread }
+
+-- how a piece went
+abbrev pub went : Result (Unit {0}) Cut
+went = Ok tt
+
+abbrev pub cut_by : Cut → Result (Unit {0}) Cut
+cut_by why = Err why
 
 -- it is in this state by now, and the sink took the text since
-pub record IsSearchedTo (q : Quest) (seconds : Option ℕ) (times : Times) (t : SearchState) (a b : Outflow) : Type 0 where
+pub record IsSearchedTo (q : Quest) (seconds : Option ℕ) (w : Watch) (times : Times) (t : SearchState) (a b : Outflow) : Type 0 where
+  pub time : w.seconds ≡ seconds
   pub same : b.over ≡ a.over
-  pub goes : (text : List ℕ) → IsStateText q (start_in q.search) text → (more : List ℕ) × IsGoing q seconds times t (text ++ more) × Takes a b more
-
--- the first look at the clock finds it early
-first_by : (seconds first : Option ℕ) (o : Option ℕ) (t t' : Times) → t.count ≡ 0 → IsLookedAt seconds t t' → MatchOption o (IsWatchedBy seconds first t') (λ last. IsLate (time_to_stop seconds t') t' last) → IsWatchedBy seconds first t'
-first_by seconds first None t t' e looks h = h
-first_by None first (Some last) t t' e looks h = absurd h
-first_by (Some s) first (Some last) t t' e looks h = let count : t'.count ≡ (later t t'.last).count = ap (λ (x : Times). x.count) looks in absurd (omega (arith, count, e, h.0))
-
-pub first_look : (w : Watch) (seconds : Option ℕ) (o : Option ℕ) (t t' : Times) → w.seconds ≡ seconds → t.count ≡ 0 → IsLookedAt seconds t t' → MatchOption o (IsWatched w t') (λ last. IsLate (time_to_stop w.seconds t') t' last) → IsWatched w t'
-first_look w seconds o t t' e none looks h = first_by w.seconds w.first o t t' none (subst (λ (s : Option ℕ). IsLookedAt s t t') (sym e) looks) h
+  pub reached : IsReachedIn q.search t
+  pub reads : HasReadFor q seconds w t times
+  pub prints : (text : List ℕ) → IsStateText q (start_in q.search) text → (more : List ℕ) × IsStateText q t (text ++ more) × Takes a b more
 
 -- as a search begins
-pub begins : (q : Quest) (seconds : Option ℕ) (times : Times) (s : SearchState) (a : Outflow) → s ≡ start_in q.search → IsInTime seconds times → HasRead seconds 1 times → IsSearchedTo q seconds times s a a
-begins q seconds times s a e early reads = subst (λ (u : SearchState). IsSearchedTo q seconds times u a a) (sym e) (record {
+pub begins : (q : Quest) (seconds : Option ℕ) (w : Watch) (times : Times) (t : SearchState) (a : Outflow) → w.seconds ≡ seconds → w.first ≡ None → t ≡ start_in q.search → times.count ≡ 0 → IsSearchedTo q seconds w times t a a
+begins q seconds w times t a time first start unread = record {
+  time = time;
   same = refl;
-  goes = λ text h. ([], record { reached = (0, refl); in_time = early; reads = reads; prints = subst (λ (u : List ℕ). IsStateText q (start_in q.search) u) (sym (append-nil text)) h }, Takes-none a);
-})
+  reached = (0, sym start);
+  reads = inl (start, first, unread);
+  prints = λ text h. ([], subst (λ (u : SearchState). IsStateText q u (text ++ [])) (sym start) (subst (λ (u : List ℕ). IsStateText q (start_in q.search) u) (sym (append-nil text)) h), Takes-none a);
+}
 
--- a search that is quiet and has not ended has nothing queued
-pub queue_empty : (s : SearchState) → IsQuiet s → s.ended ≡ None → s.queue ≡ []
-queue_empty s (inl h) e = absurd (true≢false (sym h ∙ ap is_some e))
-queue_empty s (inr h) e = h
-
--- the ends that a state has a reason for
-pub ends_for : (r : Reason) (st : Setting) (seconds : Option ℕ) (t : SearchState) (times : Times) → t.ended ≡ Some r → IsReason st t r → IsInTime seconds times → HasRead seconds (suc t.given) times → EndsIn st seconds t times (end_for r)
-ends_for proved st seconds t times e true_of i h = record { ended = e; holds = true_of; in_time = i; reads = h }
-ends_for spent st seconds t times e true_of i h = record { ended = e; holds = true_of; in_time = i; reads = h }
-ends_for gave_all st seconds t times e true_of i h = record { ended = e; holds = true_of; in_time = i; reads = h }
-ends_for kept_all st seconds t times e true_of i h = record { ended = e; holds = true_of; in_time = i; reads = h }
-ends_for filled st seconds t times e true_of i h = record { ended = e; holds = true_of; in_time = i; reads = h }
-
--- how many are given by the next state
-module _ (picks : PicksWhereOneWaits) (st : Setting) (u : SearchState) (going : u.ended ≡ None) (queue : u.queue ≡ []) where
-  abbrev pick : Option Picked
-  pick = picked st.options st.weight st.is_hinted u.waiting u.turn
-
-  some_pick : is_some pick ≡ not (is_nil u.waiting)
-  some_pick = picks st.options st.weight st.is_hinted u.waiting u.turn
-
-  none_waits : (hs : List Held) → false ≡ not (is_nil hs) → hs ≡ []
-  none_waits [] e = refl
-  none_waits (h ∷ hs) e = absurd (true≢false (sym e))
-
-  one_more : IsAtGiving st u → (given_next st u).given ≡ suc u.given
-  one_more h = by pick refl
-    where
-      by : (o : Option Picked) → pick ≡ o → (given_next st u).given ≡ suc u.given
-      by None e = absurd (h.waiting (none_waits u.waiting (sym (ap is_some e) ∙ some_pick)))
-      by (Some p) e = picked_given st u p e (lt-leb st.options.max_given u.given h.below)
-
-  none_more : (IsAtGiving st u → ⊥) → (given_next st u).given ≡ u.given
-  none_more never = by pick refl (nat_le st.options.max_given u.given) refl
-    where
-      by : (o : Option Picked) → pick ≡ o → (b : Bool) → nat_le st.options.max_given u.given ≡ b → (given_next st u).given ≡ u.given
-      by None e b f = ap (λ (v : SearchState). v.given) (none_picked st u e)
-      by (Some p) e true f = ap (λ (v : SearchState). v.given) (all_given st u p e f)
-      by (Some p) e false f = absurd (never (record {
-        going = going;
-        queue = queue;
-        waiting = λ w. true≢false (sym (ap is_some e) ∙ some_pick ∙ ap (λ (hs : List Held). not (is_nil hs)) w);
-        below = leb-false st.options.max_given u.given f;
-      }))
-
-  -- the clock was read so often by then
-  given_reads : (seconds : Option ℕ) (times : Times) → RingsFor st seconds u times → HasRead seconds (suc (given_next st u).given) times
-  given_reads seconds times (inl h) = subst (λ (n : ℕ). HasRead seconds (suc n) times) (sym (one_more h.0)) h.1
-  given_reads seconds times (inr h) = subst (λ (n : ℕ). HasRead seconds (suc n) times) (sym (none_more h.0)) h.1
-
--- each round leaves fewer to be given
-pub round_falls : GivingFalls → (st : Setting) (t u v : SearchState) → given_left st u ≤ given_left st t → u.ended ≡ None → u.queue ≡ [] → v ≡ next_state st u → given_left st v < given_left st t
-round_falls falls st t u v h going queue e = omega (arith, h, subst (λ (w : SearchState). given_left st w < given_left st u) (sym e) (falls st u going queue))
-
-module _ (q : Quest) (seconds : Option ℕ) (times : Times) where
+module _ (stay : AncestorsStay) (starts : StartsWell) (sound : ReachedAreSound) (q : Quest) (is : IsSoundQuest q) (seconds : Option ℕ) (w : Watch) (times : Times) (s : SearchState) (a b : Outflow) (h : IsSearchedTo q seconds w times s a b) where
   abbrev Goes : Times → List ℕ → List ℕ → Type 0
   Goes now text more = ProofsGo q seconds now (text ++ more)
 
   abbrev Comes : Times → SearchState → List ℕ → ProverEnd → List ℕ → Type 0
   Comes now t text end more = ProofsCome q seconds now end t (text ++ more)
 
-  abbrev IsDrained : SearchState → SearchState → Outflow → Outflow → Result (Unit {0}) Cut → Type 0
-  IsDrained t u b c r = (text : List ℕ) → IsGoing q seconds times t text → Tells {E = Unit {0}} (Goes times text) (λ _ more. IsGoing q seconds times u (text ++ more)) b c r
+  -- so often the clock was read by a later state
+  read_by : (more all count : ℕ) (t : SearchState) (now : Times) → all ≡ more + readings_first w → count ≡ more + suc t.given → ReadsOn seconds all s t times now → HasRead seconds count now
+  read_by more all count t now e f k = by h.reads
+    where
+      by : HasReadFor q seconds w s times → HasRead seconds count now
+      by (inl x) = reads_from_none w seconds more all count s t times now x.1 e f x.2 (ap (λ (u : SearchState). u.given) x.0) k
+      by (inr x) = reads_behind w seconds more all count s t times now h.time e f x.0 x.1 k
 
-  -- where it is
-  pub going_here : (t : SearchState) (a b : Outflow) → IsSearchedTo q seconds times t a b → (text : List ℕ) × IsGoing q seconds times t text
-  going_here t a b h = let g = h.goes (frame_text q.input) (start_text q) in (frame_text q.input ++ g.0, g.1)
+  read_here : (t : SearchState) (now : Times) → ReadsOn seconds (readings_first w) s t times now → HasRead seconds (suc t.given) now
+  read_here t now k = read_by 0 (readings_first w) (suc t.given) t now (omega arith) (omega arith) k
 
-  -- the queue is drained
-  pub drained : (t u : SearchState) (a b c : Outflow) → IsSearchedTo q seconds times t a b → IsDrained t u b c (Ok tt) → IsSearchedTo q seconds times u a c
-  drained t u a b c h told = record {
-    same = let here = going_here t a b h in (told here.0 here.1).2.same ∙ h.same;
-    goes = λ text is.
-        let g = h.goes text is in
-        let k = told (text ++ g.0) g.1 in
-        (g.0 ++ k.0, subst (λ (v : List ℕ). IsGoing q seconds times u v) (append_assoc text g.0 k.0) k.1, Takes-append a b c g.0 k.0 g.2 k.2);
-  }
+  read_once_more : (t : SearchState) (now : Times) → ReadsOn seconds (suc (readings_first w)) s t times now → HasRead seconds (suc (suc t.given)) now
+  read_once_more t now k = read_by 1 (suc (readings_first w)) (suc (suc t.given)) t now (omega arith) (omega arith) k
 
-  meant_on : (u : SearchState) (text front w : List ℕ) → Goes times (text ++ front) w ⊎ (Unit {0} × IsGoing q seconds times u ((text ++ front) ++ w)) → Goes times text (front ++ w)
-  meant_on u text front w (inl h) = subst (λ (v : List ℕ). ProofsGo q seconds times v) (append_assoc text front w) h
-  meant_on u text front w (inr h) = subst (λ (v : List ℕ). ProofsGo q seconds times v) (append_assoc text front w) (may_stand q seconds times u ((text ++ front) ++ w) h.1)
+  reached_by : (t : SearchState) → FindsNone (setting_in q.search) s t → IsReachedIn q.search t
+  reached_by t k = reaches_then (setting_in q.search) (start_in q.search) s t h.reached k.reached
 
-  -- the output is cut off by then
-  pub cut_off : (t u v : SearchState) (a b c : Outflow) (why : Cut) → IsSearchedTo q seconds times t a b → IsDrained t u b c (Err why) → (text : List ℕ) → IsStateText q (start_in q.search) text → Tells {E = ProverEnd} (Goes times text) (Comes times v text) a c (Err why)
-  cut_off t u v a b c WriteFault h told text is =
-      let g = h.goes text is in
-      let k = told (text ++ g.0) g.1 in
-      told_behind (Goes times text) (Comes times v text) a b c g.0 (Err WriteFault) g.2 (record {
-        before = k.before;
-        piece = k.piece;
-        middle = k.middle;
-        stood = meant_on u text g.0 k.before (inl k.stood);
-        meant = inl (meant_on u text g.0 (k.before ++ k.piece) k.meant);
-        took = k.took;
-        front = k.front;
-      })
-  cut_off t u v a b c Memory h told text is =
-      let g = h.goes text is in
-      let k = told (text ++ g.0) g.1 in
-      (g.0 ++ k.0, meant_on u text g.0 k.0 (inl k.1), Takes-append a b c g.0 k.0 g.2 k.2)
+  -- the text of a later state with no more proofs
+  prints_by : (t : SearchState) → FindsNone (setting_in q.search) s t → (text : List ℕ) → IsStateText q s text → IsStateText q t text
+  prints_by t k text printed =
+      let lines = reached_lines (setting_in q.search) s t k.reached in
+      subst (λ (u : List ℕ). IsStateText q t u) (append-nil text) (step_text stay starts sound q is s t lines.0 text [] lines.1 h.reached (reached_by t k) (inl (k.same, refl)) printed)
+
+  goes_on : (now : Times) (t : SearchState) → FindsNone (setting_in q.search) s t → IsInTime seconds now → HasRung q.search seconds t now → (text : List ℕ) → IsStateText q s text → ProofsGo q seconds now text
+  goes_on now t k early rung text printed = record { state = t; reached = reached_by t k; in_time = early; reads = rung; prints = prints_by t k text printed }
+
+  goes_by : (now : Times) (t : SearchState) → FindsNone (setting_in q.search) s t → IsInTime seconds now → HasRung q.search seconds t now → (text : List ℕ) → IsStateText q (start_in q.search) text → (more : List ℕ) × Goes now text more × Takes a b more
+  goes_by now t k early rung text began = let g = h.prints text began in (g.0, goes_on now t k early rung (text ++ g.0) g.1, g.2)
+
+  -- memory is lacking
+  pub lacking : (now : Times) (v : SearchState) → LacksMemory (setting_in q.search) seconds (readings_first w) s times now → (text : List ℕ) → IsStateText q (start_in q.search) text → Tells {E = ProverEnd} (Goes now text) (Comes now v text) a b (Err Memory)
+  lacking now v k text began = goes_by now k.state k.goes k.in_time (by k.reads) text began
+    where
+      by : ReadsOn seconds (readings_first w) s k.state times now ⊎ (IsAtGiving (setting_in q.search) k.state × ReadsOn seconds (suc (readings_first w)) s k.state times now) → HasRung q.search seconds k.state now
+      by (inl x) = inr (inl (read_here k.state now x))
+      by (inr x) = inr (inr (x.0, read_once_more k.state now x.1))
 
   -- the search ends
-  pub comes_here : (now : Times) (u : SearchState) (a c : Outflow) (end : ProverEnd) → length u.proofs < 2 ^ 63 → IsSearchedTo q seconds times u a c → EndsIn (setting_in q.search) seconds u now end → (text : List ℕ) → IsStateText q (start_in q.search) text → Tells {E = ProverEnd} (Goes now text) (Comes now u text) a c (Ok end)
-  comes_here now u a c end few h ends text is = let g = h.goes text is in (g.0, record { reached = g.1.reached; ends = ends; prints = g.1.prints; counted = few }, g.2)
+  comes_by : (now : Times) (t : SearchState) (end : ProverEnd) → length t.proofs < 2 ^ 63 → FindsNone (setting_in q.search) s t → EndsIn (setting_in q.search) seconds t now end → (text : List ℕ) → IsStateText q (start_in q.search) text → Tells {E = ProverEnd} (Goes now text) (Comes now t text) a b (Ok end)
+  comes_by now t end few k ends text began = let g = h.prints text began in (g.0, record { reached = reached_by t k; ends = ends; prints = prints_by t k (text ++ g.0) g.1; counted = few }, g.2)
 
-  rung : (now : Times) (u : SearchState) → RingsFor (setting_in q.search) seconds u now → HasRung q.search seconds u now
-  rung now u (inl h) = inr (inr h)
-  rung now u (inr h) = inr (inl h.1)
+  module _ (start : StartIsWithinLimits) (limits : ReachedAreWithinLimits) where
+    for_reason : (r : Reason) (t : SearchState) → EndsWithout (setting_in q.search) s t r → IsReason (setting_in q.search) t r
+    for_reason r t k = (within start limits q t (reached_by t k.goes)).reason r k.ended
 
-  -- memory is lacking for the step
-  pub lacking : (now : Times) (u v : SearchState) (a c : Outflow) → IsSearchedTo q seconds times u a c → IsInTime seconds now → RingsFor (setting_in q.search) seconds u now → (text : List ℕ) → IsStateText q (start_in q.search) text → Tells {E = ProverEnd} (Goes now text) (Comes now v text) a c (Err Memory)
-  lacking now u v a c h i rings text is = let g = h.goes text is in (g.0, record { state = u; reached = g.1.reached; in_time = i; reads = rung now u rings; prints = g.1.prints }, g.2)
+    abbrev Ended : Times → SearchState → ProverEnd → Type 0
+    Ended now t end = (text : List ℕ) → IsStateText q (start_in q.search) text → Tells {E = ProverEnd} (Goes now text) (Comes now t text) a b (Ok end)
 
-  -- a clause is given, or the search ends with this step
-  pub given_on : PicksWhereOneWaits → AncestorsStay → StartsWell → ReachedAreSound → IsSoundQuest q → (now : Times) (u v : SearchState) (a c : Outflow) → IsSearchedTo q seconds times u a c → u.ended ≡ None → u.queue ≡ [] → v ≡ next_state (setting_in q.search) u → IsInTime seconds now → RingsFor (setting_in q.search) seconds u now
-      → IsSearchedTo q seconds now v a c
-  given_on picks stay starts sound is now u v a c h going queue e i rings = subst (λ (w : SearchState). IsSearchedTo q seconds now w a c) (sym next) (record {
-    same = h.same;
-    goes = λ text began.
-        let g = h.goes text began in (
-          g.0,
-          record {
-            reached = reached g.1.reached;
-            in_time = i;
-            reads = given_reads picks (setting_in q.search) u going queue seconds now rings;
-            prints = give_text stay starts sound q is u (given_next (setting_in q.search) u) (text ++ g.0) (given_same (setting_in q.search) u).0 (given_same (setting_in q.search) u).1 g.1.reached (reached g.1.reached) g.1.prints;
-          },
-          g.2,
-        );
-  })
-    where
-      next : v ≡ given_next (setting_in q.search) u
-      next = e ∙ gives_next (setting_in q.search) u going queue
+    pub comes : (now : Times) (t : SearchState) (answer : Answer) (end : ProverEnd) → length t.proofs < 2 ^ 63 → RunsTo (setting_in q.search) seconds (readings_first w) s t times now (Ok answer) → end_for answer ≡ Some end → (text : List ℕ) → IsStateText q (start_in q.search) text
+        → Tells {E = ProverEnd} (Goes now text) (Comes now t text) a b (Ok end)
+    comes now t (Proof n) end few k e = absurd cc
+    comes now t Proofs end few k e = let f : over.MaxProofs ≡ end = cc in subst (λ (x : ProverEnd). Ended now t x) f (comes_by now t over.MaxProofs few k.0.goes (record { ended = k.0.ended; holds = for_reason _ t k.0; in_time = k.1.0; reads = read_here t now k.1.1 }))
+    comes now t SosEmpty end few k e = let f : over.SosEmpty ≡ end = cc in subst (λ (x : ProverEnd). Ended now t x) f (comes_by now t over.SosEmpty few k.0.goes (record { ended = k.0.ended; holds = for_reason _ t k.0; in_time = k.1.0; reads = read_here t now k.1.1 }))
+    comes now t MaxGiven end few k e = let f : over.MaxGiven ≡ end = cc in subst (λ (x : ProverEnd). Ended now t x) f (comes_by now t over.MaxGiven few k.0.goes (record { ended = k.0.ended; holds = for_reason _ t k.0; in_time = k.1.0; reads = read_here t now k.1.1 }))
+    comes now t MaxKept end few k e = let f : over.MaxKept ≡ end = cc in subst (λ (x : ProverEnd). Ended now t x) f (comes_by now t over.MaxKept few k.0.goes (record { ended = k.0.ended; holds = for_reason _ t k.0; in_time = k.1.0; reads = read_here t now k.1.1 }))
+    comes now t MaxMegs end few k e = let f : over.MaxMegs ≡ end = cc in subst (λ (x : ProverEnd). Ended now t x) f (comes_by now t over.MaxMegs few k.0.goes (record { ended = k.0.ended; holds = for_reason _ t k.0; in_time = k.1.0; reads = read_here t now k.1.1 }))
+    comes now t (MaxSeconds first last) end few k e = let f : over.MaxSeconds first last ≡ end = cc in subst (λ (x : ProverEnd). Ended now t x) f (comes_by now t (over.MaxSeconds first last) few k.0.0 (record { at_giving = k.0.1; late = k.1.0; first_is = k.1.1; reads = read_once_more t now k.1.2 }))
 
-      reached : IsReachedIn q.search u → IsReachedIn q.search (given_next (setting_in q.search) u)
-      reached r = subst (λ (w : SearchState). IsReachedIn q.search w) (gives_next (setting_in q.search) u going queue) (reached_next q.search u r)
+  -- one more proof
+  module _ (now : Times) (t : SearchState) (n : ℕ) (k : FindsNext (setting_in q.search) s t n) (early : IsInTime seconds now) (reads : ReadsOn seconds (readings_first w) s t times now) where
+    pub reached_next : IsReachedIn q.search t
+    reached_next = reaches_next (setting_in q.search) (start_in q.search) k.before t (reached_by k.before k.goes) k.next
+
+    pub found : t.proofs ≡ s.proofs ++ k.found.0 ∷ []
+    found = k.found.1 ∙ ap (λ (ps : List FoundProof). ps ++ k.found.0 ∷ []) k.goes.same
+
+    pub has_proof : HasProof t
+    has_proof = (s.proofs, (k.found.0, found))
+
+    pub many : length t.proofs ≡ suc (length s.proofs)
+    many = ap length found ∙ (let e : length (s.proofs ++ k.found.0 ∷ []) ≡ suc (length s.proofs) = omega (arith, length-append s.proofs (k.found.0 ∷ [])) in e)
+
+    rung : HasRung q.search seconds t now
+    rung = inr (inl (read_here t now reads))
+
+    -- the state before is read for as often
+    rung_before : HasRung q.search seconds k.before now
+    rung_before = inr (inl (subst (λ (m : ℕ). HasRead seconds (suc m) now) (found_given (setting_in q.search) k.before t n k.next k.found) (read_here t now reads)))
+
+    -- its text behind the others
+    abbrev IsLast : List ℕ → Type 0
+    IsLast u = IsProofText q (quest_lines q t) (suc (length s.proofs)) k.found.0 u
+
+    prints_next : (u : List ℕ) → IsLast u → (text front : List ℕ) → IsStateText q s (text ++ front) → IsStateText q t (text ++ (front ++ u))
+    prints_next u last text front printed =
+        let lines = reached_lines (setting_in q.search) s t (reaches_next (setting_in q.search) s k.before t k.goes.reached k.next) in
+        subst (λ (v : List ℕ). IsStateText q t v) (append_assoc text front u)
+        (step_text stay starts sound q is s t lines.0 (text ++ front) u lines.1 h.reached reached_next (inr (record { proof = k.found.0; found = found; is_text = last })) printed)
+
+    pub printed : (v : Watch) (u : List ℕ) (c : Outflow) → v.seconds ≡ seconds → HasBegun v now → IsLast u → IsPiece {T = Unit {0}} u b c (Ok tt) → IsSearchedTo q seconds v now t a c
+    printed v u c time begun last took = record {
+      time = time;
+      same = took.same ∙ h.same;
+      reached = reached_next;
+      reads = inr (begun, read_here t now reads);
+      prints = λ text began. let g = h.prints text began in (g.0 ++ u, prints_next u last text g.0 g.1, Takes-append a b c g.0 u g.2 took);
+    }
+
+    -- it is cut off
+    pub cut_off : (v : SearchState) (u : List ℕ) (c : Outflow) → IsLast u → IsPiece {T = Unit {0}} u b c (Err WriteFault) → (text : List ℕ) → IsStateText q (start_in q.search) text → Tells {E = ProverEnd} (Goes now text) (Comes now v text) a c (Err WriteFault)
+    cut_off v u c last took text began =
+        let g = h.prints text began in
+        record {
+          before = g.0;
+          piece = u;
+          middle = b;
+          stood = goes_on now k.before k.goes early rung_before (text ++ g.0) g.1;
+          meant = inl (record { state = t; reached = reached_next; in_time = early; reads = rung; prints = prints_next u last text g.0 g.1 });
+          took = g.2;
+          front = took;
+        }
+
+    -- memory is lacking for it
+    pub lacking_text : (v : SearchState) (c : Outflow) → Takes b c [] → (text : List ℕ) → IsStateText q (start_in q.search) text → Tells {E = ProverEnd} (Goes now text) (Comes now v text) a c (Err Memory)
+    lacking_text v c took text began =
+        let f = goes_by now k.before k.goes early rung_before text began in
+        (f.0, f.1, subst (λ (u : List ℕ). Takes a c u) (append-nil f.0) (Takes-append a b c f.0 [] f.2 took))
+
+    -- so it is cut off
+    pub stopped : (v : SearchState) (text : Result (Vec ℕ) AllocError) (c : Outflow) (why : Cut) → IfOk text (λ x. IsLast x.items) → OnErr text (cut_by why ≡ cut_by Memory) → ((u : List ℕ) → IfOk text (λ x. x.items ≡ u) → IsPiece {T = Unit {0}} u b c (Err why)) → (front : List ℕ) → IsStateText q (start_in q.search) front
+        → Tells {E = ProverEnd} (Goes now front) (Comes now v front) a c (Err why)
+    stopped v (Ok x) c WriteFault last lacks took front began = cut_off v x.items c last (took x.items refl) front began
+    stopped v (Ok x) c Memory last lacks took front began = lacking_text v c (took x.items refl) front began
+    stopped v (Err e) c Memory last lacks took front began = lacking_text v c (took [] tt) front began
+    stopped v (Err e) c WriteFault last lacks took front began = absurd cc
+
+    pub shown : (v : Watch) (text : Result (Vec ℕ) AllocError) (c : Outflow) → v.seconds ≡ seconds → HasBegun v now → IfOk text (λ x. IsLast x.items) → OnErr text (went ≡ cut_by Memory) → ((u : List ℕ) → IfOk text (λ x. x.items ≡ u) → IsPiece {T = Unit {0}} u b c (Ok tt)) → IsSearchedTo q seconds v now t a c
+    shown v (Ok x) c time begun last none took = printed v x.items c time begun last (took x.items refl)
+    shown v (Err e) c time begun last none took = absurd cc

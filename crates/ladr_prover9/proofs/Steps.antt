@@ -1,5 +1,5 @@
 -- Texts of states, from one to the next.
-use Rattle.std.proofs.Common.{◌≡◌, ℕ, zero, suc, ◌+◌, inl, inr, refl, sym, ap, ◌∙◌, subst, List, [], ◌∷◌, ◌++◌, length, arith, append_assoc}
+use Rattle.std.proofs.Common.{◌≡◌, ◌⊎◌, ℕ, suc, ◌+◌, inl, inr, refl, sym, ap, ◌∙◌, subst, List, [], ◌∷◌, ◌++◌, length, arith, append_assoc}
 use Rattle.std.specs.List.{AllByRecursion}
 use Rattle.std.proofs.lemmas.List.{append-nil}
 use Rattle.clause_store.specs.Laws.{AncestorsStay}
@@ -7,21 +7,22 @@ use Rattle.clause_store.specs.Lines.{PlainLine}
 use Rattle.ladr_prover9.specs.Askings.{IsSoundQuest}
 use Rattle.ladr_prover9.specs.ProofTexts.{IsProofText, AreProofTexts, IsStateText}
 use Rattle.ladr_prover9.specs.Quests.{Quest, quest_lines}
-use Rattle.ladr_prover9.specs.Stepping.{IsStepText}
 use Rattle.proof_print.specs.LineTexts.{frame_text}
 use Rattle.prover_proofs.proofs.Lasting.{same_ancestors}
-use Rattle.prover_setup.specs.SearchInputs.{SearchInput, setting_in, rows_in, start_in, IsReachedIn}
+use Rattle.prover_setup.specs.SearchInputs.{setting_in, rows_in, start_in, IsReachedIn}
 use Rattle.prover_steps.specs.SearchLaws.{all_lines, EndsEmpty, IsSoundState, ReachedAreSound}
-use Rattle.prover_steps.specs.Searching.{Setting, MadeLine, FoundProof, SearchState, next_state, after}
+use Rattle.prover_steps.specs.Searching.{MadeLine, FoundProof, SearchState}
 use Rattle.prover_steps.specs.Starting.{problem_lines, StartsWell}
 
--- one step more
-after_end : (st : Setting) (k : ℕ) (s : SearchState) → after st (suc k) s ≡ next_state st (after st k s)
-after_end st zero s = refl
-after_end st (suc k) s = after_end st k (next_state st s)
+-- a proof is found behind those of an earlier state, and this is its text
+pub record IsFoundBehind (q : Quest) (s t : SearchState) (text : List ℕ) : Type 0 where
+  pub proof : FoundProof
+  pub found : t.proofs ≡ s.proofs ++ proof ∷ []
+  pub is_text : IsProofText q (quest_lines q t) (suc (length s.proofs)) proof text
 
-pub reached_next : (x : SearchInput) (s : SearchState) → IsReachedIn x s → IsReachedIn x (next_state (setting_in x) s)
-reached_next x s h = (suc h.0, after_end (setting_in x) h.0 (start_in x) ∙ ap (next_state (setting_in x)) h.1)
+-- between two states no proof is found, or one, which is printed
+abbrev pub IsStepText : Quest → SearchState → SearchState → List ℕ → Type 0
+IsStepText q s t text = ((t.proofs ≡ s.proofs) × (text ≡ [])) ⊎ IsFoundBehind q s t text
 
 -- the text where a search begins
 pub start_text : (q : Quest) → IsStateText q (start_in q.search) (frame_text q.input)
@@ -76,8 +77,3 @@ module _ (stay : AncestorsStay) (starts : StartsWell) (sound : ReachedAreSound) 
     where
       count : suc (length s.proofs) ≡ 1 + length s.proofs
       count = omega arith
-
-  -- giving a clause prints nothing
-  pub give_text : (s t : SearchState) (text : List ℕ) → t.lines ≡ s.lines → t.proofs ≡ s.proofs → IsReachedIn q.search s → IsReachedIn q.search t → IsStateText q s text → IsStateText q t text
-  give_text s t text lines proofs r r' h =
-      subst (λ (u : List ℕ). IsStateText q t u) (append-nil text) (step_text s t [] text [] (lines ∙ sym (append-nil s.lines)) r r' (inl (proofs, refl)) h)

@@ -4,7 +4,7 @@ use Rattle.std.proofs.lemmas.List.{append-nil}
 use Rattle.ladr_io.proofs.StreamLaws.{Takes-none, Takes-append}
 use Rattle.ladr_io.specs.Streams.{Outflow, Takes}
 use Rattle.ladr_io.specs.Times.{Times}
-use Rattle.ladr_mace4.specs.Watching.{IsInTime}
+use Rattle.search_clock.specs.Watching.{IsInTime}
 use Rattle.ladr_output.proofs.Tellings.{told_behind, ended_by, cut_by}
 use Rattle.ladr_output.specs.Telling.{IsPiece, Tells, IsEnd}
 use Rattle.ladr_output.specs.declared.cut.Cut.{Cut}

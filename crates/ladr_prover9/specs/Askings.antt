@@ -1,17 +1,17 @@
 -- What the code has of a run.
-use Rattle.std.specs.Prelude.{◌≡◌, ◌⊎◌, ℕ, suc, true, List, [], ◌∷◌, Option, is_some}
+use Rattle.std.specs.Prelude.{◌≡◌, List, [], ◌∷◌, ◌++◌, Option, Some, None}
 use Rattle.clause_store.specs.Lines.{formula_lines}
-use Rattle.ladr_io.specs.Times.{Times}
-use Rattle.ladr_mace4.specs.Watching.{IsInTime, HasRead}
-use Rattle.ladr_prover9.specs.ProofTexts.{IsStateText}
 use Rattle.ladr_prover9.specs.Quests.{Quest}
-use Rattle.ladr_prover9.specs.Story.{IsAtGiving}
 use Rattle.ladr_prover9.specs.declared.asking.Asking.{Asking}
+use Rattle.ladr_prover9.specs.declared.ends.ProverEnd.{ProverEnd}
+use Rattle.ladr_prover9.specs.declared.ends.ProverEnd.TheVariants as over
 use Rattle.proof_lines.specs.ContentTokens.{tables_of}
+use Rattle.prover.specs.declared.answer.Answer.{Answer}
+use Rattle.prover.specs.declared.answer.Answer.TheVariants.{Proof, Proofs, SosEmpty, MaxGiven, MaxKept, MaxMegs, MaxSeconds}
 use Rattle.prover_proofs.specs.ProofLaws.{SayWhatIsSaid}
-use Rattle.prover_setup.specs.SearchInputs.{input_in, symbols_in, rows_in, greater_in, IsReachedIn}
+use Rattle.prover_setup.specs.SearchInputs.{input_in, symbols_in, rows_in, greater_in}
 use Rattle.prover_steps.specs.SearchLaws.{KeepsVariables}
-use Rattle.prover_steps.specs.Searching.{Setting, Queued, SearchState}
+use Rattle.prover_steps.specs.Searching.{FoundProof, SearchState}
 use Rattle.prover_steps.specs.Starting.{AreRowsOf}
 
 abbrev pub quest_of : Asking → Quest
@@ -34,24 +34,16 @@ pub record IsSoundQuest (q : Quest) : Type 0 where
   pub rows : AreRowsOf q.search.stated.formulas (rows_in q.search)
   pub say : SayWhatIsSaid q.formulas q.search.stated.formulas
 
--- a search is in a state, in time, with this text so far
-pub record IsGoing (q : Quest) (seconds : Option ℕ) (times : Times) (t : SearchState)
-    (text : List ℕ) : Type 0 where
-  pub reached : IsReachedIn q.search t
-  pub in_time : IsInTime seconds times
-  pub reads : HasRead seconds (suc t.given) times
-  pub prints : IsStateText q t text
+-- a proof is found
+abbrev pub HasProof : SearchState → Type 0
+HasProof t = (ps : List FoundProof) × ((p : FoundProof) × (t.proofs ≡ ps ++ p ∷ []))
 
--- a clause is queued
-abbrev pub HasQueue : SearchState → Type 0
-HasQueue t = (q : Queued) × ((qs : List Queued) × (t.queue ≡ q ∷ qs))
-
--- no clause is queued, or the search has ended
-abbrev pub IsQuiet : SearchState → Type 0
-IsQuiet t = (is_some t.ended ≡ true) ⊎ (t.queue ≡ [])
-
--- the clock was read once more where a clause is to be given next, and else not
-abbrev pub RingsFor : Setting → Option ℕ → SearchState → Times → Type 0
-RingsFor st seconds t times =
-    (IsAtGiving st t × HasRead seconds (suc (suc t.given)) times)
-    ⊎ ((IsAtGiving st t → ⊥) × HasRead seconds (suc t.given) times)
+-- the answers that end a search
+abbrev pub end_for : Answer → Option ProverEnd
+end_for (Proof n) = None
+end_for Proofs = Some over.MaxProofs
+end_for SosEmpty = Some over.SosEmpty
+end_for MaxGiven = Some over.MaxGiven
+end_for MaxKept = Some over.MaxKept
+end_for MaxMegs = Some over.MaxMegs
+end_for (MaxSeconds first last) = Some (over.MaxSeconds first last)

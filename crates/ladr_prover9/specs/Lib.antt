@@ -8,5 +8,4 @@ pub mod ProofTexts
 pub mod Quests
 pub mod Shown
 pub mod Statuses
-pub mod Stepping
 pub mod Story

@@ -2,11 +2,11 @@
 use Rattle.std.specs.Prelude.{ℕ, if◌then◌else◌, length, List, ◌++◌, codes}
 use Rattle.std.specs.Fmt.{decimal}
 use Rattle.ladr_intake.specs.Refusals.{clause_limit_line}
-use Rattle.ladr_mace4.specs.Lines.{exit_line, seconds_line}
 use Rattle.ladr_output.specs.Telling.{as_line}
 use Rattle.ladr_prover9.specs.declared.ends.ProverEnd.{ProverEnd}
 use Rattle.ladr_prover9.specs.declared.ends.ProverEnd.TheVariants.{MaxProofs, SosEmpty, MaxMegs, MaxSeconds, MaxGiven, MaxKept, ClauseLimit}
 use Rattle.prover_steps.specs.Searching.{SearchState, is_nil}
+use Rattle.search_clock.specs.Lines.{exit_line, seconds_line}
 
 -- how many clauses were given, concluded, kept and too large, and how many proofs were found
 abbrev pub counters_line : SearchState → List ℕ

@@ -6,7 +6,6 @@ use Rattle.fol_core.specs.declared.problem.Problem.{Problem}
 use Rattle.fol_core.specs.declared.problem.Role.{Role}
 use Rattle.ladr_formulas.specs.declared.styles.Mode.TheVariants.{Prover}
 use Rattle.ladr_lex.specs.Operators.{OperatorRow}
-use Rattle.ladr_mace4.specs.Plans.{seconds_of}
 use Rattle.ladr_problem.specs.File.{Says, problem}
 use Rattle.ladr_problem.specs.Sofar.{Sofar, Listed, stated_in}
 use Rattle.ladr_problem.specs.Whole.{IsOf}
@@ -15,6 +14,7 @@ use Rattle.proof_lines.specs.ContentTokens.{LineTables, line_tables}
 use Rattle.prover_proofs.specs.SearchLines.{stated_lines, lines_at}
 use Rattle.prover_setup.specs.SearchInputs.{SearchInput, input_in, rows_in}
 use Rattle.prover_steps.specs.Searching.{SearchState}
+use Rattle.search_clock.specs.Watching.{seconds_of}
 use Rattle.weights.specs.Hints.{HintRow, hint_clause}
 
 -- the bytes of an input, what a search is made of, the lines of its formulas, and the operators of

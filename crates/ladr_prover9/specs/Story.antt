@@ -1,22 +1,16 @@
 -- How a search for proofs goes, and where it ends.
-use Rattle.std.specs.Prelude.{ℕ, suc, ◌≡◌, ◌≢◌, ◌<◌, ◌^◌, ◌⊎◌, length, List, [], Option, Some, None}
+use Rattle.std.specs.Prelude.{ℕ, suc, ◌≡◌, ◌<◌, ◌^◌, ◌⊎◌, length, List, Option, Some}
 use Rattle.ladr_io.specs.Times.{Times}
-use Rattle.ladr_mace4.specs.Watching.{time_to_stop, IsInTime, HasRead}
+use Rattle.search_clock.specs.Watching.{time_to_stop, IsInTime, HasRead}
 use Rattle.ladr_prover9.specs.ProofTexts.{IsStateText}
 use Rattle.ladr_prover9.specs.Quests.{Quest}
 use Rattle.ladr_prover9.specs.declared.ends.ProverEnd.{ProverEnd}
 use Rattle.ladr_prover9.specs.declared.ends.ProverEnd.TheVariants.{MaxProofs, SosEmpty, MaxMegs, MaxSeconds, MaxGiven, MaxKept, ClauseLimit}
 use Rattle.mace_search.specs.Watch.{IsLate}
+use Rattle.prover.specs.Answers.{IsAtGiving}
 use Rattle.prover_setup.specs.SearchInputs.{SearchInput, setting_in, start_in, IsReachedIn}
 use Rattle.prover_steps.specs.Ending.{IsReason}
 use Rattle.prover_steps.specs.Searching.{Setting, Reason, proved, spent, gave_all, kept_all, filled, SearchState}
-
--- a clause is to be given next: none is queued, one waits, and more may be given
-pub record IsAtGiving (st : Setting) (t : SearchState) : Type 0 where
-  pub going : t.ended ≡ None
-  pub queue : t.queue ≡ []
-  pub waiting : t.waiting ≢ []
-  pub below : t.given < st.options.max_given
 
 -- The clock is read once before a search begins, and then before each clause is given: so often by
 -- this state, or once more where a clause is to be given next. Before it begins it isn't read.

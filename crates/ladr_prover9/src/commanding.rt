@@ -2,7 +2,6 @@
 ghost use Rattle.std.specs.Prelude.{◌≡◌, ◌⊎◌, ◌<◌, ◌^◌, ℕ, [], Some, Err, IfOk, false, length};
 ghost use Rattle.clausify.specs.Input.{first_over};
 ghost use Rattle.fol_core.specs.Stated.{stated_of, IsWellFormed};
-ghost use Rattle.ladr_mace4.specs.Plans.{seconds_of};
 ghost use Rattle.ladr_intake.specs.Refusals.{clause_limit_line};
 ghost use Rattle.ladr_output.specs.Telling.{Tells, IsEnd};
 ghost use Rattle.ladr_prover9.specs.Askings.{quest_of, IsAskedFor, IsSoundQuest};
@@ -10,6 +9,7 @@ ghost use Rattle.ladr_prover9.specs.Counting.{uncounted, ProvesCounted, RefutesC
 ghost use Rattle.ladr_prover9.specs.Finding.{KeepsLimits, Proving, Refutes};
 ghost use Rattle.ladr_prover9.specs.Nothing.{HasNothing};
 ghost use Rattle.ladr_prover9.specs.Quests.{IsHad, quest_in, quest_with, quest_seconds};
+ghost use Rattle.prover.specs.Provers.{IsNew};
 
 use crate::asking::Asking;
 use crate::counting::counted;
@@ -23,25 +23,14 @@ use fol_core::{Clauses, Entry, Problem};
 use ladr_intake::{Stop, clause_limit, refuse, stop_by};
 use ladr_io::{Clock, Sink, Source};
 use ladr_lex::Ops;
-use ladr_options::{NO_LIMIT, Options};
 use ladr_output::{Cut, ending, piece};
 use ladr_problem::FileRead;
 use proof_lines::LineOperators;
 use proof_print::frame_text;
-use prover_setup::{guide_of, start_search};
+use prover::Prover;
 use prover_steps::lines_are_counted;
-use std::alloc::Global;
-
-// The seconds of an input's options.
-fn seconds_of(options: &Options) -> Option<u64>
-    ensures { result ≡ seconds_of options.now }
-{
-    if options.max_seconds == NO_LIMIT {
-        None
-    } else {
-        Some(u64::from(options.max_seconds))
-    }
-}
+use search_clock::seconds_of;
+use std::alloc::{AllocError, Global};
 
 // What is asked of a search, with the clauses of the problem.
 fn asking_of<'a>(
@@ -83,6 +72,19 @@ fn few_entries(entries: &[Entry])
     let _many = entries.len();
 }
 
+// The prover for what is asked.
+fn prover_of<'a>(
+    alloc: Global,
+    asking: &Asking<'a>,
+    seconds: Option<u64>,
+) -> Result<Prover<'a>, AllocError>
+    requires asked { IsAskedFor asking.now }
+    ensures { IfOk result (IsNew (quest_of asking.now).search seconds) }
+{
+    let problem = asking.problem;
+    Prover::new(alloc, problem, &asking.symbols, &asking.clauses, seconds)
+}
+
 // Searches for proofs behind the input in its frame, to the last line.
 fn prove_asked<K: Sink, C: Clock>(
     alloc: Global,
@@ -101,20 +103,16 @@ fn prove_asked<K: Sink, C: Clock>(
         (K.outflow sink.old) (K.outflow sink.new) result }
 {
     lines_are_counted();
-    let problem = asking.problem;
-    let Ok(guide) = guide_of(alloc, problem, &asking.symbols, &asking.clauses) else {
-        return Err(Cut::Memory);
-    };
-    let Ok(mut search) = start_search(alloc, problem, &asking.clauses) else {
+    let Ok(mut prover) = prover_of(alloc, asking, seconds) else {
         return Err(Cut::Memory);
     };
     match piece(frame_text(alloc, asking.input), sink) {
         Ok(()) => {}
         Err(cut) => return Err(cut),
     }
-    match search_proofs(alloc, asking, &guide, seconds, &mut search, sink, clock) {
-        Ok(end) => match counted(alloc, asking, &search, end) {
-            Ok(over) => ending(closing_lines(alloc, &search, end), over, sink),
+    match search_proofs(alloc, asking, &mut prover, sink, clock) {
+        Ok(end) => match counted(alloc, asking, &prover, end) {
+            Ok(over) => ending(closing_lines(alloc, &prover, end), over, sink),
             Err(_) => Err(Cut::Memory),
         },
         Err(cut) => Err(cut),

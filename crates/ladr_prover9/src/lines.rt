@@ -1,82 +1,48 @@
 // The lines behind the proofs.
-ghost use Rattle.std.specs.Prelude.{◌≡◌, ◌++◌, IfOk, OnOk, codes, length};
-ghost use Rattle.std.specs.Fmt.{decimal};
-ghost use Rattle.given_clause.specs.States.{state_of};
-ghost use Rattle.ladr_mace4.specs.Lines.{exit_line, seconds_line};
+ghost use Rattle.std.specs.Prelude.{◌≡◌, ◌++◌, IfOk, OnOk};
 ghost use Rattle.ladr_prover9.specs.Lines.{counters_line, proved_or_failed, cause_line, closing_lines};
+ghost use Rattle.prover.specs.Answers.{counters_of};
+ghost use Rattle.prover.specs.Provers.{state_at};
+ghost use Rattle.prover_steps.specs.Searching.{SearchState};
 
 use crate::ends::ProverEnd;
-use given_clause::Search;
 use ladr_intake::clause_limit;
 use ladr_output::{decimal, text};
+use prover::{Counters, Prover};
+use search_clock::{exit_line, seconds_line};
 use std::alloc::{AllocError, Global};
 
-// How many proofs were found.
-fn proof_count(search: &Search) -> u64
-    ensures { result ≡ length (state_of search.now).proofs }
-{
-    search.proofs.as_slice().len() as u64
-}
-
 // The counters.
-fn counters(alloc: Global, search: &Search) -> Result<Vec<u8>, AllocError>
-    ensures { IfOk result (λ v. v.items ≡ counters_line (state_of search.now)) }
+fn counters_line(alloc: Global, counters: Counters) -> Result<Vec<u8>, AllocError>
+    ensures { (t : SearchState) → counters ≡ counters_of t
+        → IfOk result (λ v. v.items ≡ counters_line t) }
 {
     let mut out = Vec::new(alloc);
     text(&mut out, b"% Given=")?;
-    decimal(&mut out, search.given)?;
+    decimal(&mut out, counters.given)?;
     text(&mut out, b". Generated=")?;
-    decimal(&mut out, search.generated)?;
+    decimal(&mut out, counters.generated)?;
     text(&mut out, b". Kept=")?;
-    decimal(&mut out, search.kept)?;
+    decimal(&mut out, counters.kept)?;
     text(&mut out, b". Large=")?;
-    decimal(&mut out, search.large)?;
+    decimal(&mut out, counters.large)?;
     text(&mut out, b". Proofs=")?;
-    decimal(&mut out, proof_count(search))?;
+    decimal(&mut out, counters.proofs)?;
     text(&mut out, b".")?;
     text(&mut out, b"\n")?;
     Ok(out)
 }
 
 // Whether there are proofs.
-fn verdict(out: &mut Vec<u8>, search: &Search) -> Result<(), AllocError>
-    ensures { OnOk result (out.new.items ≡ out.old.items ++ proved_or_failed (state_of search.now)) }
+fn verdict(out: &mut Vec<u8>, prover: &Prover<'_>) -> Result<(), AllocError>
+    ensures { OnOk result (out.new.items ≡ out.old.items
+        ++ proved_or_failed (state_at prover.now)) }
 {
-    if search.proofs.is_empty() {
+    if prover.proofs().is_empty() {
         text(out, b"SEARCH FAILED\n")
     } else {
         text(out, b"THEOREM PROVED\n")
     }
-}
-
-// The clock's first reading.
-fn first_reading(out: &mut Vec<u8>, first: u64) -> Result<(), AllocError>
-    ensures { OnOk result (out.new.items ≡ out.old.items
-        ++ (codes "% Exit max_seconds " ++ decimal first)) }
-{
-    text(out, b"% Exit max_seconds ")?;
-    decimal(out, first)?;
-    Ok(())
-}
-
-// The clock's first reading and its last.
-fn seconds(out: &mut Vec<u8>, first: u64, last: u64) -> Result<(), AllocError>
-    ensures { OnOk result (out.new.items ≡ out.old.items ++ seconds_line first last) }
-{
-    first_reading(out, first)?;
-    text(out, b" ")?;
-    decimal(out, last)?;
-    text(out, b".\n")?;
-    Ok(())
-}
-
-// Why the search ended.
-fn exit(out: &mut Vec<u8>, reason: &[u8]) -> Result<(), AllocError>
-    ensures { OnOk result (out.new.items ≡ out.old.items ++ exit_line reason.now) }
-{
-    text(out, b"% Exit ")?;
-    text(out, reason)?;
-    text(out, b".\n")
 }
 
 fn limit(alloc: Global, out: &mut Vec<u8>, formula: u64) -> Result<(), AllocError>
@@ -91,22 +57,26 @@ fn cause(alloc: Global, out: &mut Vec<u8>, end: ProverEnd) -> Result<(), AllocEr
     ensures { OnOk result (out.new.items ≡ out.old.items ++ cause_line end) }
 {
     match end {
-        ProverEnd::MaxProofs => exit(out, b"max_proofs"),
-        ProverEnd::SosEmpty => exit(out, b"sos_empty"),
-        ProverEnd::MaxMegs => exit(out, b"max_megs"),
-        ProverEnd::MaxSeconds { first, last } => seconds(out, first, last),
-        ProverEnd::MaxGiven => exit(out, b"max_given"),
-        ProverEnd::MaxKept => exit(out, b"max_kept"),
+        ProverEnd::MaxProofs => exit_line(out, b"max_proofs"),
+        ProverEnd::SosEmpty => exit_line(out, b"sos_empty"),
+        ProverEnd::MaxMegs => exit_line(out, b"max_megs"),
+        ProverEnd::MaxSeconds { first, last } => seconds_line(out, first, last),
+        ProverEnd::MaxGiven => exit_line(out, b"max_given"),
+        ProverEnd::MaxKept => exit_line(out, b"max_kept"),
         ProverEnd::ClauseLimit { formula } => limit(alloc, out, formula),
     }
 }
 
 /// The lines behind the proofs of a search that ended so.
-pub fn closing_lines(alloc: Global, search: &Search, end: ProverEnd) -> Result<Vec<u8>, AllocError>
-    ensures { IfOk result (λ v. v.items ≡ closing_lines (state_of search.now) end) }
+pub fn closing_lines(
+    alloc: Global,
+    prover: &Prover<'_>,
+    end: ProverEnd,
+) -> Result<Vec<u8>, AllocError>
+    ensures { IfOk result (λ v. v.items ≡ closing_lines (state_at prover.now) end) }
 {
-    let mut out = counters(alloc, search)?;
-    verdict(&mut out, search)?;
+    let mut out = counters_line(alloc, prover.counters())?;
+    verdict(&mut out, prover)?;
     cause(alloc, &mut out, end)?;
     Ok(out)
 }

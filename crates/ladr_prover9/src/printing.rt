@@ -2,17 +2,19 @@
 ghost use Rattle.std.specs.Prelude.{◌≡◌, ◌+◌, suc, IfOk, length, map};
 ghost use Rattle.clause_store.specs.Ancestors.{AreAncestors};
 ghost use Rattle.clause_store.specs.Lines.{plain_line, plain_trees};
-ghost use Rattle.given_clause.specs.States.{found_of, state_of};
+ghost use Rattle.given_clause.specs.States.{found_of};
 ghost use Rattle.ladr_prover9.specs.Askings.{quest_of, IsAskedFor};
 ghost use Rattle.ladr_prover9.specs.ProofTexts.{IsProofText};
 ghost use Rattle.ladr_prover9.specs.Quests.{quest_lines};
+ghost use Rattle.prover.specs.Provers.{state_at};
 ghost use Rattle.prover_proofs.specs.Levels.{level_in, greatest_size};
 ghost use Rattle.prover_steps.specs.LineNumbers.{CountsLinesFrom};
 
 use crate::asking::Asking;
-use given_clause::{FoundProof, Search};
+use given_clause::FoundProof;
 use line_bounds::{heads_are_short, lines_are_bounded, lines_are_counted};
 use proof_print::{Heads, proof_bytes};
+use prover::Prover;
 use prover_proofs::{Proof, SearchLines};
 use std::alloc::{AllocError, Global};
 
@@ -20,21 +22,21 @@ use std::alloc::{AllocError, Global};
 pub fn proof_behind(
     alloc: Global,
     asking: &Asking<'_>,
-    search: &Search,
+    prover: &Prover<'_>,
     line: u64,
 ) -> Result<Proof, AllocError>
     requires asked { IsAskedFor asking.now }
     requires counted { CountsLinesFrom (suc (length asking.now.problem.now.inputs.items
-        + length asking.now.clauses.items)) (state_of search.now) }
+        + length asking.now.clauses.items)) (state_at prover.now) }
     ensures lines { IfOk result (λ p. AreAncestors
-        (quest_lines (quest_of asking.now) (state_of search.now)) line
+        (quest_lines (quest_of asking.now) (state_at prover.now)) line
         (map plain_line p.lines.items)) }
     ensures level { IfOk result (λ p. p.level
         ≡ level_in (plain_trees (map plain_line p.lines.items)) line) }
     ensures size { IfOk result (λ p. p.size ≡ greatest_size (map plain_line p.lines.items)) }
 {
     let mut all = SearchLines::new(alloc, asking.problem, &asking.clauses)?;
-    all.add_made(alloc, &search.lines)?;
+    all.add_made(alloc, prover.lines())?;
     let proof = all.proof(alloc, line)?;
     Ok(proof)
 }
@@ -43,18 +45,18 @@ pub fn proof_behind(
 pub fn proof_text(
     alloc: Global,
     asking: &Asking<'_>,
-    search: &Search,
+    prover: &Prover<'_>,
     number: u64,
     found: FoundProof,
 ) -> Result<Vec<u8>, AllocError>
     requires asked { IsAskedFor asking.now }
     requires counted { CountsLinesFrom (suc (length asking.now.problem.now.inputs.items
-        + length asking.now.clauses.items)) (state_of search.now) }
+        + length asking.now.clauses.items)) (state_at prover.now) }
     ensures { IfOk result (λ v. IsProofText (quest_of asking.now)
-        (quest_lines (quest_of asking.now) (state_of search.now)) number (found_of found)
+        (quest_lines (quest_of asking.now) (state_at prover.now)) number (found_of found)
         v.items) }
 {
-    let proof = proof_behind(alloc, asking, search, found.line)?;
+    let proof = proof_behind(alloc, asking, prover, found.line)?;
     let lines = proof.lines.as_slice();
     let heads = Heads {
         proof: number,

@@ -2,11 +2,12 @@ use Rattle.std.proofs.Common.{◌≡◌, ℕ, suc, ◌+◌, [], Option, refl, sy
 use Rattle.cell_search.specs.Courses.{Course}
 use Rattle.cell_search.specs.Finites.{tables_over}
 use Rattle.ladr_io.proofs.StreamLaws.{Takes-none}
-use Rattle.ladr_mace4.proofs.Clocks.{in_time, early_at, watched_on, late_on, read_on}
+use Rattle.ladr_mace4.proofs.Clocks.{watched_on, late_on, read_on}
+use Rattle.search_clock.proofs.Clocks.{in_time, early_at}
 use Rattle.ladr_mace4.proofs.Found.{line_alone, at_end, at_model, at_last, at_late, nothing_yet, further, printed_model, none_gone, gone_before, given_one, gone_more, gone_over, gone_late}
 use Rattle.ladr_mace4.proofs.Known.{facts_of}
 use Rattle.ladr_mace4.specs.Skolems.{all_symbols}
-use Rattle.ladr_mace4.specs.Watching.{time_to_stop}
+use Rattle.search_clock.specs.Watching.{time_to_stop}
 use Rattle.mace_search.specs.Watch.{IsEarly}
 use Rattle.ladr_mace4.proofs.models.models.Goals as goal
 

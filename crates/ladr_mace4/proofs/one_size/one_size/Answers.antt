@@ -1,9 +1,9 @@
 use Rattle.std.proofs.Common.{◌<◌, sym, subst, arith}
 use Rattle.fol_core.specs.Occurs.{size_needed}
 use Rattle.ladr_mace4.proofs.Begun.{at_skipped, at_line, at_beginning, behind_line}
-use Rattle.ladr_mace4.proofs.Clocks.{in_time, looked_on}
+use Rattle.search_clock.proofs.Clocks.{in_time, looked_on}
 use Rattle.ladr_mace4.specs.Rooms.{IsBegun}
-use Rattle.ladr_mace4.specs.Watching.{IsInTime, HasRead}
+use Rattle.search_clock.specs.Watching.{IsInTime, HasRead}
 use Rattle.model_tables.specs.Size.{formulas_of}
 use Rattle.ladr_mace4.proofs.one_size.one_size.Goals as goal
 

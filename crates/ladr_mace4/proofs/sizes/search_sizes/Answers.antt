@@ -1,5 +1,5 @@
 use Rattle.std.proofs.Common.{◌<◌, [], ◌∷◌, ◌++◌, Ok, Err, ap, refl, rules, ◌∙◌, arith}
-use Rattle.ladr_mace4.proofs.Clocks.{in_time, unread}
+use Rattle.search_clock.proofs.Clocks.{in_time, unread}
 use Rattle.ladr_mace4.proofs.Ended.{none_ended, told_at, cut_in, ends_in, more_in, ends_behind}
 use Rattle.ladr_mace4.specs.Story.{models_in_all}
 use Rattle.ladr_mace4.proofs.sizes.search_sizes.Goals as goal

@@ -2,7 +2,7 @@
 use Rattle.std.proofs.Common.{◌≡◌, ◌+◌, ◌-◌, ◌<◌, ◌≤◌, List, false}
 use Rattle.ladr_mace4.proofs.Ended.{Ended}
 use Rattle.ladr_mace4.specs.Story.{Size}
-use Rattle.ladr_mace4.specs.Watching.{IsWatched}
+use Rattle.search_clock.specs.Watching.{IsWatched}
 use Rattle.ladr_mace4.proofs.sizes.search_sizes.Given as goal
 
 abbrev pub invariant-loop-n : goal.invariant-loop-n

@@ -1,105 +1,144 @@
--- The queue is drained, the clock is looked at where a clause is to be given, and a step is taken.
-use Rattle.std.proofs.Common.{◌≡◌, None, Some, Option, ℕ, suc, sym, ap, subst, ◌∙◌, rules}
-use Rattle.std.specs.Option.{option_map}
-use Rattle.given_clause.specs.States.{reason_of, state_of}
-use Rattle.ladr_mace4.proofs.Clocks.{in_time}
-use Rattle.ladr_mace4.specs.Watching.{HasRead}
-use Rattle.ladr_prover9.proofs.Advancing.{in_order}
-use Rattle.ladr_prover9.proofs.Seeking.{queue_empty, ends_for, going_here, drained, cut_off, comes_here, lacking, given_on}
+-- Answer by answer.
+use Rattle.std.proofs.Common.{◌∙◌, ℕ, Option, Ok, sym, ap, arith, subst, refl, rules}
+use Rattle.ladr_prover9.proofs.Seeking.{counted_at, within, new_watched, only_proof, begins, lacking, comes, reached_next, has_proof, found, many, stopped, shown}
 use Rattle.ladr_prover9.proofs.searching.search_proofs.Goals as goal
-use Rattle.ladr_prover9.specs.Askings.{quest_of, RingsFor}
-use Rattle.ladr_prover9.specs.Story.{EndsIn}
-use Rattle.ladr_prover9.specs.declared.ends.ProverEnd.{ProverEnd}
-use Rattle.prover_setup.specs.SearchInputs.{setting_in, rows_in}
-use Rattle.prover_steps.specs.Searching.{Setting, next_state}
+use Rattle.ladr_prover9.specs.Askings.{quest_of}
+use Rattle.prover.specs.Answers.{LacksMemory, RunsTo, readings_first, end_of}
+use Rattle.prover.specs.Provers.{state_at, watch_of, IsGoing}
+use Rattle.prover.specs.declared.answer.Answer.{Answer}
+use Rattle.prover_setup.specs.SearchInputs.{setting_in}
+use Rattle.prover_steps.specs.Searching.{Setting}
 
-pub drain-requires-clause-reached : goal.drain-requires-clause-reached
-drain-requires-clause-reached g c =
+pub loop-answer-init : goal.loop-answer-init
+loop-answer-init g c =
     let q = quest_of c.args.asking.now in
-    let times = g.C.Clock.times c.loop-cut.clock in
-    let t = state_of c.loop-cut.search in
-    (going_here q c.args.seconds times t _ _ c.loop-cut.invariant.searched).1.reached
-
-pub returns-in-Err : goal.returns-in-Err
-returns-in-Err g c =
-    let q = quest_of c.args.asking.now in
-    let times = g.C.Clock.times c.loop-cut.clock in
-    let t = state_of c.loop-cut.search in
-    cut_off q c.args.seconds times t (state_of c.drain.new.search) (state_of c.drain.new.search) _ _ _ c.in-Err.cut c.loop-cut.invariant.searched (c.in-Err.ensures.tells c.args.seconds times)
+    let w = watch_of c.args.prover.now in
+    let times = g.C.Clock.times c.args.clock.now in
+    let new = c.requires.begun in
+    record {
+      searched = begins q w.seconds w times (state_at c.args.prover.now) (g.K.Sink.outflow c.args.sink.now) refl new.unread new.state c.requires.unread;
+      setting = new.setting;
+      going = new.going;
+      goes = record { fit = new.fit; watched = new_watched w times new.unread c.requires.unread };
+    }
 
 pub returns-in-Some : goal.returns-in-Some
 returns-in-Some g c =
     let q = quest_of c.args.asking.now in
-    let times = g.C.Clock.times c.loop-cut.clock in
-    let t = state_of c.loop-cut.search in
-    let u = state_of c.drain.new.search in
-    let searched = drained q c.args.seconds times t u _ _ _ c.loop-cut.invariant.searched (c.in-Ok.ensures.tells c.args.seconds times) in
-    let reads = (going_here q c.args.seconds times u _ _ searched).1.reads in
-    let early = in_time c.loop-cut.watch c.args.seconds times c.loop-cut.invariant.seconds c.loop-cut.invariant.watched in
-    let ended : u.ended ≡ Some (reason_of c.in-Some.reason) = ap (option_map reason_of) c.in-Some.is in
-    let holds = (c.ends_have_reasons.ensures.reached (setting_in q.search) _ u (c.ends_have_reasons.ensures.start (setting_in q.search) q.search.stated.formulas (rows_in q.search)) (going_here q c.args.seconds times u _ _ searched).1.reached).reason (reason_of c.in-Some.reason) ended in
-    comes_here q c.args.seconds times times u _ _ c.end_for.result c.proofs_are_counted.ensures searched
-    (subst (λ (e : ProverEnd). EndsIn (setting_in q.search) c.args.seconds u times e) (sym c.end_for.ensures) (ends_for (reason_of c.in-Some.reason) (setting_in q.search) c.args.seconds u times ended holds early reads))
+    let seconds = (watch_of c.args.prover.now).seconds in
+    let w = watch_of c.loop-answer.prover in
+    let times = g.C.Clock.times c.loop-answer.clock in
+    let s = state_at c.loop-answer.prover in
+    let t = state_at c.run.new.self in
+    let now = g.C.Clock.times c.run.new.clock in
+    let a = g.K.Sink.outflow c.args.sink.now in
+    let b = g.K.Sink.outflow c.loop-answer.sink in
+    let h = c.loop-answer.invariant.searched in
+    let runs = subst (λ (x : Option ℕ). RunsTo (setting_in q.search) x (readings_first w) s t times now (Ok c.in-Ok.answer)) h.time (subst (λ (st : Setting). RunsTo st w.seconds (readings_first w) s t times now (Ok c.in-Ok.answer)) c.loop-answer.invariant.setting (c.in-Ok.ensures.runs c.loop-answer.invariant.going)) in
+    comes c.ancestors_are_one.ensures.stay c.searches_start_well.ensures c.searches_are_sound.ensures q c.requires.sound seconds w times s a b h c.ends_have_reasons.ensures.start c.ends_have_reasons.ensures.reached now t c.in-Ok.answer c.in-Some.end c.proofs_are_counted.ensures runs (sym c.end_for.ensures ∙ c.in-Some.is)
 
-pub ring-requires-clause-reads : goal.ring-requires-clause-reads
-ring-requires-clause-reads g c =
+pub returns-in-Err : goal.returns-in-Err
+returns-in-Err g c =
     let q = quest_of c.args.asking.now in
-    let times = g.C.Clock.times c.loop-cut.clock in
-    let t = state_of c.loop-cut.search in
-    let u = state_of c.drain.new.search in
-    let searched = drained q c.args.seconds times t u _ _ _ c.loop-cut.invariant.searched (c.in-Ok.ensures.tells c.args.seconds times) in
-    subst (λ (s : Option ℕ). HasRead s (suc u.given) times) (sym c.loop-cut.invariant.seconds) (going_here q c.args.seconds times u _ _ searched).1.reads
+    let seconds = (watch_of c.args.prover.now).seconds in
+    let w = watch_of c.loop-answer.prover in
+    let times = g.C.Clock.times c.loop-answer.clock in
+    let s = state_at c.loop-answer.prover in
+    let t = state_at c.run.new.self in
+    let now = g.C.Clock.times c.run.new.clock in
+    let a = g.K.Sink.outflow c.args.sink.now in
+    let b = g.K.Sink.outflow c.loop-answer.sink in
+    let h = c.loop-answer.invariant.searched in
+    let lacks = subst (λ (x : Option ℕ). LacksMemory (setting_in q.search) x (readings_first w) s times now) h.time (subst (λ (st : Setting). LacksMemory st w.seconds (readings_first w) s times now) c.loop-answer.invariant.setting (c.in-Err.ensures.runs c.loop-answer.invariant.going)) in
+    lacking c.ancestors_are_one.ensures.stay c.searches_start_well.ensures c.searches_are_sound.ensures q c.requires.sound seconds w times s a b h now t lacks
 
-pub returns-in-Some-ring : goal.returns-in-Some-ring
-returns-in-Some-ring g c =
+pub last_proof-requires-clause-counted : goal.last_proof-requires-clause-counted
+last_proof-requires-clause-counted g c =
     let q = quest_of c.args.asking.now in
-    let times = g.C.Clock.times c.loop-cut.clock in
-    let t = state_of c.loop-cut.search in
-    let u = state_of c.drain.new.search in
-    let searched = drained q c.args.seconds times t u _ _ _ c.loop-cut.invariant.searched (c.in-Ok.ensures.tells c.args.seconds times) in
-    let now = g.C.Clock.times c.ring.new.clock in
-    comes_here q c.args.seconds times now u _ _ c.in-Some-ring.end c.proofs_are_counted.ensures searched
-    (subst (λ (s : Option ℕ). EndsIn (setting_in q.search) s u now c.in-Some-ring.end) c.loop-cut.invariant.seconds (subst (λ (st : Setting). EndsIn st c.loop-cut.watch.seconds u now c.in-Some-ring.end) c.requires.guided c.in-Some-ring.ensures.late))
+    let seconds = (watch_of c.args.prover.now).seconds in
+    let w = watch_of c.loop-answer.prover in
+    let times = g.C.Clock.times c.loop-answer.clock in
+    let s = state_at c.loop-answer.prover in
+    let t = state_at c.run.new.self in
+    let now = g.C.Clock.times c.run.new.clock in
+    let a = g.K.Sink.outflow c.args.sink.now in
+    let b = g.K.Sink.outflow c.loop-answer.sink in
+    let h = c.loop-answer.invariant.searched in
+    let runs = subst (λ (x : Option ℕ). RunsTo (setting_in q.search) x (readings_first w) s t times now (Ok c.in-Ok.answer)) h.time (subst (λ (st : Setting). RunsTo st w.seconds (readings_first w) s t times now (Ok c.in-Ok.answer)) c.loop-answer.invariant.setting (c.in-Ok.ensures.runs c.loop-answer.invariant.going)) in
+    let proof = only_proof c.in-Ok.answer (sym c.end_for.ensures ∙ search rules) in
+    let k = subst (λ (x : Answer). RunsTo (setting_in q.search) seconds (readings_first w) s t times now (Ok x)) proof.1 runs in
+    counted_at c.lines_are_counted.ensures.reached c.args.asking.now t c.requires.asked (reached_next c.ancestors_are_one.ensures.stay c.searches_start_well.ensures c.searches_are_sound.ensures q c.requires.sound seconds w times s a b h now t proof.0 k.0 k.1.0 k.1.1)
 
-pub step-requires-clause-ordered : goal.step-requires-clause-ordered
-step-requires-clause-ordered g c =
+pub last_proof-requires-clause-found : goal.last_proof-requires-clause-found
+last_proof-requires-clause-found g c =
     let q = quest_of c.args.asking.now in
-    let times = g.C.Clock.times c.loop-cut.clock in
-    let t = state_of c.loop-cut.search in
-    let u = state_of c.drain.new.search in
-    let searched = drained q c.args.seconds times t u _ _ _ c.loop-cut.invariant.searched (c.in-Ok.ensures.tells c.args.seconds times) in
-    in_order c.searches_stay_in_order.ensures.start c.searches_stay_in_order.ensures.reached q.search u (going_here q c.args.seconds times u _ _ searched).1.reached
+    let seconds = (watch_of c.args.prover.now).seconds in
+    let w = watch_of c.loop-answer.prover in
+    let times = g.C.Clock.times c.loop-answer.clock in
+    let s = state_at c.loop-answer.prover in
+    let t = state_at c.run.new.self in
+    let now = g.C.Clock.times c.run.new.clock in
+    let a = g.K.Sink.outflow c.args.sink.now in
+    let b = g.K.Sink.outflow c.loop-answer.sink in
+    let h = c.loop-answer.invariant.searched in
+    let runs = subst (λ (x : Option ℕ). RunsTo (setting_in q.search) x (readings_first w) s t times now (Ok c.in-Ok.answer)) h.time (subst (λ (st : Setting). RunsTo st w.seconds (readings_first w) s t times now (Ok c.in-Ok.answer)) c.loop-answer.invariant.setting (c.in-Ok.ensures.runs c.loop-answer.invariant.going)) in
+    let proof = only_proof c.in-Ok.answer (sym c.end_for.ensures ∙ search rules) in
+    let k = subst (λ (x : Answer). RunsTo (setting_in q.search) seconds (readings_first w) s t times now (Ok x)) proof.1 runs in
+    has_proof c.ancestors_are_one.ensures.stay c.searches_start_well.ensures c.searches_are_sound.ensures q c.requires.sound seconds w times s a b h now t proof.0 k.0 k.1.0 k.1.1
 
-pub loop-cut-preserved : goal.loop-cut-preserved
-loop-cut-preserved g c =
+pub loop-answer-smaller : goal.loop-answer-smaller
+loop-answer-smaller g c =
     let q = quest_of c.args.asking.now in
-    let times = g.C.Clock.times c.loop-cut.clock in
-    let t = state_of c.loop-cut.search in
-    let u = state_of c.drain.new.search in
-    let searched = drained q c.args.seconds times t u _ _ _ c.loop-cut.invariant.searched (c.in-Ok.ensures.tells c.args.seconds times) in
-    let now = g.C.Clock.times c.ring.new.clock in
-    let ensured = c.in_default-ring.ensures in
-    let rings = subst (λ (s : Option ℕ). RingsFor (setting_in q.search) s u now) c.loop-cut.invariant.seconds (subst (λ (st : Setting). RingsFor st c.loop-cut.watch.seconds u now) c.requires.guided ensured.rings) in
-    let early = in_time c.ring.new.watch c.args.seconds now (ensured.same ∙ c.loop-cut.invariant.seconds) ensured.late in
-    let going : u.ended ≡ None = search rules in
+    let seconds = (watch_of c.args.prover.now).seconds in
+    let w = watch_of c.loop-answer.prover in
+    let times = g.C.Clock.times c.loop-answer.clock in
+    let s = state_at c.loop-answer.prover in
+    let t = state_at c.run.new.self in
+    let now = g.C.Clock.times c.run.new.clock in
+    let a = g.K.Sink.outflow c.args.sink.now in
+    let b = g.K.Sink.outflow c.loop-answer.sink in
+    let h = c.loop-answer.invariant.searched in
+    let runs = subst (λ (x : Option ℕ). RunsTo (setting_in q.search) x (readings_first w) s t times now (Ok c.in-Ok.answer)) h.time (subst (λ (st : Setting). RunsTo st w.seconds (readings_first w) s t times now (Ok c.in-Ok.answer)) c.loop-answer.invariant.setting (c.in-Ok.ensures.runs c.loop-answer.invariant.going)) in
+    let proof = only_proof c.in-Ok.answer (sym c.end_for.ensures ∙ search rules) in
+    let k = subst (λ (x : Answer). RunsTo (setting_in q.search) seconds (readings_first w) s t times now (Ok x)) proof.1 runs in
+    omega (arith, many c.ancestors_are_one.ensures.stay c.searches_start_well.ensures c.searches_are_sound.ensures q c.requires.sound seconds w times s a b h now t proof.0 k.0 k.1.0 k.1.1, (within c.ends_have_reasons.ensures.start c.ends_have_reasons.ensures.reached q t (reached_next c.ancestors_are_one.ensures.stay c.searches_start_well.ensures c.searches_are_sound.ensures q c.requires.sound seconds w times s a b h now t proof.0 k.0 k.1.0 k.1.1)).proofs)
+
+pub loop-answer-preserved : goal.loop-answer-preserved
+loop-answer-preserved g c =
+    let q = quest_of c.args.asking.now in
+    let seconds = (watch_of c.args.prover.now).seconds in
+    let w = watch_of c.loop-answer.prover in
+    let times = g.C.Clock.times c.loop-answer.clock in
+    let s = state_at c.loop-answer.prover in
+    let t = state_at c.run.new.self in
+    let now = g.C.Clock.times c.run.new.clock in
+    let a = g.K.Sink.outflow c.args.sink.now in
+    let b = g.K.Sink.outflow c.loop-answer.sink in
+    let h = c.loop-answer.invariant.searched in
+    let runs = subst (λ (x : Option ℕ). RunsTo (setting_in q.search) x (readings_first w) s t times now (Ok c.in-Ok.answer)) h.time (subst (λ (st : Setting). RunsTo st w.seconds (readings_first w) s t times now (Ok c.in-Ok.answer)) c.loop-answer.invariant.setting (c.in-Ok.ensures.runs c.loop-answer.invariant.going)) in
+    let proof = only_proof c.in-Ok.answer (sym c.end_for.ensures ∙ search rules) in
+    let k = subst (λ (x : Answer). RunsTo (setting_in q.search) seconds (readings_first w) s t times now (Ok x)) proof.1 runs in
+    let going : IsGoing c.run.new.self = record { unended = c.in-Ok.ensures.ends c.loop-answer.invariant.going ∙ ap end_of proof.1; sufficed = c.in-Ok.ensures.sufficed.1 } in
     record {
-      searched = given_on q c.args.seconds times c.ends_have_reasons.ensures.picking c.ancestors_are_one.ensures.stay c.searches_start_well.ensures c.searches_are_sound.ensures c.requires.sound now u (state_of c.step.new.search) _ _ searched going (queue_empty u c.in-Ok.ensures.quiet going)
-          (c.in-Ok-step.ensures.state ∙ ap (λ (st : Setting). next_state st u) c.requires.guided) early rings;
-      seconds = ensured.same ∙ c.loop-cut.invariant.seconds;
-      watched = ensured.late;
-      begun = ensured.begun;
-      noted = c.in-Ok-step.ensures.noted;
+      searched = shown c.ancestors_are_one.ensures.stay c.searches_start_well.ensures c.searches_are_sound.ensures q c.requires.sound seconds w times s a b h now t proof.0 k.0 k.1.0 k.1.1 (watch_of c.run.new.self) c.last_proof.result (g.K.Sink.outflow c.piece.new.sink) (c.run.ensures.time ∙ h.time) (c.run.ensures.begun c.loop-answer.invariant.going) (c.last_proof.ensures s.proofs k.0.found.0 (found c.ancestors_are_one.ensures.stay c.searches_start_well.ensures c.searches_are_sound.ensures q c.requires.sound seconds w times s a b h now t proof.0 k.0 k.1.0 k.1.1)) c.in-Ok-piece.ensures.lacking c.in-Ok-piece.ensures.printed;
+      setting = c.run.ensures.setting ∙ c.loop-answer.invariant.setting;
+      going = going;
+      goes = c.run.ensures.goes going;
     }
 
-pub returns-in-Err-step : goal.returns-in-Err-step
-returns-in-Err-step g c =
+pub returns-in-Err-piece : goal.returns-in-Err-piece
+returns-in-Err-piece g c =
     let q = quest_of c.args.asking.now in
-    let times = g.C.Clock.times c.loop-cut.clock in
-    let t = state_of c.loop-cut.search in
-    let u = state_of c.drain.new.search in
-    let searched = drained q c.args.seconds times t u _ _ _ c.loop-cut.invariant.searched (c.in-Ok.ensures.tells c.args.seconds times) in
-    let now = g.C.Clock.times c.ring.new.clock in
-    let ensured = c.in_default-ring.ensures in
-    let rings = subst (λ (s : Option ℕ). RingsFor (setting_in q.search) s u now) c.loop-cut.invariant.seconds (subst (λ (st : Setting). RingsFor st c.loop-cut.watch.seconds u now) c.requires.guided ensured.rings) in
-    let early = in_time c.ring.new.watch c.args.seconds now (ensured.same ∙ c.loop-cut.invariant.seconds) ensured.late in
-    lacking q c.args.seconds times now u (state_of c.step.new.search) _ _ searched early rings
+    let seconds = (watch_of c.args.prover.now).seconds in
+    let w = watch_of c.loop-answer.prover in
+    let times = g.C.Clock.times c.loop-answer.clock in
+    let s = state_at c.loop-answer.prover in
+    let t = state_at c.run.new.self in
+    let now = g.C.Clock.times c.run.new.clock in
+    let a = g.K.Sink.outflow c.args.sink.now in
+    let b = g.K.Sink.outflow c.loop-answer.sink in
+    let h = c.loop-answer.invariant.searched in
+    let runs = subst (λ (x : Option ℕ). RunsTo (setting_in q.search) x (readings_first w) s t times now (Ok c.in-Ok.answer)) h.time (subst (λ (st : Setting). RunsTo st w.seconds (readings_first w) s t times now (Ok c.in-Ok.answer)) c.loop-answer.invariant.setting (c.in-Ok.ensures.runs c.loop-answer.invariant.going)) in
+    let proof = only_proof c.in-Ok.answer (sym c.end_for.ensures ∙ search rules) in
+    let k = subst (λ (x : Answer). RunsTo (setting_in q.search) seconds (readings_first w) s t times now (Ok x)) proof.1 runs in
+    stopped c.ancestors_are_one.ensures.stay c.searches_start_well.ensures c.searches_are_sound.ensures q c.requires.sound seconds w times s a b h now t proof.0 k.0 k.1.0 k.1.1 t c.last_proof.result (g.K.Sink.outflow c.piece.new.sink) c.in-Err-piece.cut (c.last_proof.ensures s.proofs k.0.found.0 (found c.ancestors_are_one.ensures.stay c.searches_start_well.ensures c.searches_are_sound.ensures q c.requires.sound seconds w times s a b h now t proof.0 k.0 k.1.0 k.1.1)) c.in-Err-piece.ensures.lacking c.in-Err-piece.ensures.printed

@@ -1,23 +1,18 @@
--- The search has gone on since, and the clock is watched; each round leaves fewer clauses to be given.
-use Rattle.std.proofs.Common.{◌≡◌}
-use Rattle.given_clause.specs.Guides.{setting_of}
-use Rattle.given_clause.specs.Noted.{AreNoted}
-use Rattle.given_clause.specs.States.{state_of}
-use Rattle.ladr_mace4.specs.Watching.{HasBegun, IsWatched}
+-- The prover may go on, each proof that it found is printed, and it finds no more than may be.
+use Rattle.std.proofs.Common.{◌≡◌, ◌-◌, ◌+◌, max, length}
 use Rattle.ladr_prover9.proofs.Seeking.{IsSearchedTo}
 use Rattle.ladr_prover9.proofs.searching.search_proofs.Given as goal
 use Rattle.ladr_prover9.specs.Askings.{quest_of}
+use Rattle.prover.specs.Provers.{setting_at, state_at, watch_of, IsGoing, MayGoOn}
 use Rattle.prover_setup.specs.SearchInputs.{setting_in}
-use Rattle.prover_steps.specs.Ending.{given_left}
 
-abbrev pub invariant-loop-cut : goal.invariant-loop-cut
-invariant-loop-cut g l = record {
-  searched : IsSearchedTo (quest_of l.asking) l.fn.seconds (g.C.Clock.times l.clock) (state_of l.search) (g.K.Sink.outflow l.fn.sink) (g.K.Sink.outflow l.sink);
-  seconds : l.watch.seconds ≡ l.fn.seconds;
-  watched : IsWatched l.watch (g.C.Clock.times l.clock);
-  begun : HasBegun l.watch (g.C.Clock.times l.clock);
-  noted : AreNoted (setting_of l.guide) l.search.waiting;
+abbrev pub invariant-loop-answer : goal.invariant-loop-answer
+invariant-loop-answer g l = record {
+  searched : IsSearchedTo (quest_of l.asking) (watch_of l.fn.prover).seconds (watch_of l.prover) (g.C.Clock.times l.clock) (state_at l.prover) (g.K.Sink.outflow l.fn.sink) (g.K.Sink.outflow l.sink);
+  setting : setting_at l.prover ≡ setting_in (quest_of l.asking).search;
+  going : IsGoing l.prover;
+  goes : MayGoOn l.prover (g.C.Clock.times l.clock);
 }
 
-abbrev pub decreases-loop-cut : goal.decreases-loop-cut
-decreases-loop-cut g l = given_left (setting_in (quest_of l.asking).search) (state_of l.search)
+abbrev pub decreases-loop-answer : goal.decreases-loop-answer
+decreases-loop-answer g l = (1 + max 1 (setting_in (quest_of l.asking).search).options.max_proofs) - length (state_at l.prover).proofs
