@@ -4,5 +4,6 @@ pub mod Faults
 pub mod Machine
 pub mod Nesting
 pub mod Reads
+pub mod StackView
 pub mod Table
 pub mod Worked

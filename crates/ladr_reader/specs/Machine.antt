@@ -81,11 +81,6 @@ last_is_closed f (Group ∷ fs) = false
 last_is_closed f (Applied s us ∷ fs) = false
 last_is_closed f (Waiting part side p ∷ fs) = closes f p
 
--- what is innermost
-abbrev pub first : List Frame → Option Frame
-first [] = None
-first (f ∷ fs) = Some f
-
 -- Terms stand here as the machine builds them: by their disjuncts, or nothing where one has more
 -- than n levels.
 
