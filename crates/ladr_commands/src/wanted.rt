@@ -45,7 +45,7 @@ impl Wanted {
             Wanted::OpenSquare => is_open_square(token),
             Wanted::CloseSquare => is_close_square(token),
             Wanted::Comma => is_comma(token),
-            Wanted::Stop => token.kind == TokenKind::Stop,
+            Wanted::Stop => token.kind() == TokenKind::Stop,
             Wanted::Symbol => is_symbol(token),
             Wanted::Numeral => is_number(token),
             Wanted::CommandWord => is_command_word(token),
@@ -75,8 +75,8 @@ fn is_command_word(token: &Token) -> bool
 pub fn text_of<'a>(token: &Token<'a>) -> &'a [u8]
     ensures { result.now ≡ symbol_text (lexeme_of token.now) }
 {
-    match token.kind {
-        TokenKind::Ordinary | TokenKind::Quoted | TokenKind::Special => token.text,
+    match token.kind() {
+        TokenKind::Ordinary | TokenKind::Quoted | TokenKind::Special => token.text(),
         _ => &[],
     }
 }
@@ -84,7 +84,7 @@ pub fn text_of<'a>(token: &Token<'a>) -> &'a [u8]
 pub fn is_symbol(token: &Token) -> bool
     ensures { result ≡ is_symbol (lexeme_of token.now) }
 {
-    match token.kind {
+    match token.kind() {
         TokenKind::Ordinary | TokenKind::Quoted | TokenKind::Special => true,
         _ => false,
     }
@@ -93,8 +93,8 @@ pub fn is_symbol(token: &Token) -> bool
 pub fn is_number(token: &Token) -> bool
     ensures { result ≡ is_number (lexeme_of token.now) }
 {
-    match token.kind {
-        TokenKind::Ordinary => is_numeral(token.text),
+    match token.kind() {
+        TokenKind::Ordinary => is_numeral(token.text()),
         _ => false,
     }
 }
@@ -102,43 +102,43 @@ pub fn is_number(token: &Token) -> bool
 pub fn is_close(token: &Token) -> bool
     ensures { result ≡ is_close (lexeme_of token.now) }
 {
-    token.kind == TokenKind::Close
+    token.kind() == TokenKind::Close
 }
 
 pub fn is_open_square(token: &Token) -> bool
     ensures { result ≡ is_open_square (lexeme_of token.now) }
 {
-    token.kind == TokenKind::LeftSquare
+    token.kind() == TokenKind::LeftSquare
 }
 
 pub fn is_close_square(token: &Token) -> bool
     ensures { result ≡ is_close_square (lexeme_of token.now) }
 {
-    token.kind == TokenKind::RightSquare
+    token.kind() == TokenKind::RightSquare
 }
 
 pub fn is_comma(token: &Token) -> bool
     ensures { result ≡ is_comma (lexeme_of token.now) }
 {
-    token.kind == TokenKind::Comma
+    token.kind() == TokenKind::Comma
 }
 
 pub fn is_open(token: &Token) -> bool
     ensures { result ≡ is_open (lexeme_of token.now) }
 {
-    token.kind == TokenKind::Open
+    token.kind() == TokenKind::Open
 }
 
 fn is_word(token: &Token, word: &[u8]) -> bool
     ensures { result ≡ is_word word.now (lexeme_of token.now) }
 {
-    token.kind == TokenKind::Ordinary && token.text == word
+    token.kind() == TokenKind::Ordinary && token.text() == word
 }
 
 fn is_equality(token: &Token) -> bool
     ensures { result ≡ is_equality (lexeme_of token.now) }
 {
-    token.kind == TokenKind::Special && token.text == b"=".as_slice()
+    token.kind() == TokenKind::Special && token.text() == b"=".as_slice()
 }
 
 /// Whether a token is the word of interpretations.

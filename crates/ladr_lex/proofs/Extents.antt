@@ -10,7 +10,8 @@ use Rattle.std.proofs.lemmas.Slice.Eq.{bytes_eq-Decides}
 use Rattle.ladr_lex.specs.Bytes.{is_blank, is_punctuation, is_ordinary, is_special, is_dash, is_quote}
 use Rattle.ladr_lex.specs.Comments.{is_comment, is_open_block}
 use Rattle.ladr_lex.specs.Cuts.{can_be, is_run, is_quoted, is_single, is_stray, is_special_run}
-use Rattle.ladr_lex.specs.Lexed.{start_of, quote_ends, kind_begun_by, kind_beginning, kept, begins_with_dash, special_behind, quoted_behind, behind_in, length_behind}
+use Rattle.ladr_lex.specs.Lexed.{quote_ends, kind_begun_by, kind_beginning, kept, begins_with_dash, special_behind, quoted_behind, behind_in, length_behind}
+use Rattle.ladr_lex.specs.Starts.{start_of}
 use Rattle.ladr_lex.specs.declared.bytes.TokenStart.{TokenStart}
 use Rattle.ladr_lex.specs.declared.bytes.TokenStart.TheVariants.{Blank, Word, Sign, Quote, Percent, Single}
 use Rattle.ladr_lex.specs.declared.token.TokenKind.{TokenKind}

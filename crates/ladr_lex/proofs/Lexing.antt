@@ -2,7 +2,8 @@
 use Rattle.std.proofs.Common.{◌≡◌, ℕ, zero, suc, ◌+◌, ◌≤◌, List, [], ◌∷◌, ◌++◌, length, take, drop, Option, Some, None, refl, sym, ap, ◌∙◌, subst, append_assoc, arith}
 use Rattle.std.proofs.lemmas.List.{length-append, length-take-le, take-append-drop, nil_from_length}
 use Rattle.ladr_lex.specs.Cuts.{Piece, IsLongest, Cuts, nothing, gap, token}
-use Rattle.ladr_lex.specs.Lexed.{start_of, kind_beginning, length_behind, piece, lexed_behind, lexed}
+use Rattle.ladr_lex.specs.Lexed.{kind_beginning, length_behind, piece, lexed_behind, lexed}
+use Rattle.ladr_lex.specs.Starts.{start_of}
 use Rattle.ladr_lex.specs.declared.token.TokenKind.{TokenKind}
 use Rattle.ladr_lex.proofs.Extents.{told, behind_grows, extent}
 

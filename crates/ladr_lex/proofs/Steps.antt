@@ -6,15 +6,18 @@ use Rattle.ladr_lex.specs.Bytes.{is_blank, is_ordinary, is_special}
 use Rattle.ladr_lex.specs.declared.token.TokenKind.{TokenKind}
 use Rattle.ladr_lex.specs.declared.token.TokenKind.TheVariants.{Special}
 use Rattle.ladr_lex.specs.Cuts.{Piece, piece_of, pieces_of, Cuts}
-use Rattle.ladr_lex.specs.Lexed.{start_of, kind_beginning, behind_in, length_behind, begins_with_dash, kept, piece, lexed_behind, lexed_from, Advances}
+use Rattle.ladr_lex.specs.Lexed.{kind_beginning, behind_in, length_behind, begins_with_dash, kept, piece, lexed_behind, lexed_from, Advances}
+use Rattle.ladr_lex.specs.Starts.{start_of, kind_in}
+use Rattle.ladr_lex.specs.Tokens.{token_kind, token_text, token_start}
 use Rattle.ladr_lex.proofs.Lexing.{behind_within, cuts_at}
 use Rattle.ladr_lex.proofs.Unique.{lexed_front}
 use Rattle.ladr_lex.specs.declared.token.Token.{Token}
 use Rattle.std.proofs.lemmas.List.{drop_more, drop_all, append-nil}
 use Rattle.std.proofs.lemmas.Bool.{eqb-true, cond_both, and_parts}
-use Rattle.std.specs.Prelude.{IfOk, ◌==◌, ◌&&◌}
+use Rattle.std.specs.Prelude.{IfOk, is_some, ◌==◌, ◌&&◌}
 use Rattle.ladr_lex.proofs.Classes.{special_start}
 use Rattle.ladr_lex.proofs.Kept.{kept_behind}
+use Rattle.ladr_lex.proofs.KindLemmas.{kind_told}
 
 -- the tokens from a place on are the one that begins there, if one does, and those behind it
 lexed_place : (first : ℕ) (bytes : List ℕ) (at end : ℕ) → at < length bytes → end ≡ at + 1 + length_behind (get_or bytes at 0) (drop (at + 1) bytes) →
@@ -36,25 +39,40 @@ pieces-append : (ts us : List Token) → pieces_of (ts ++ us) ≡ pieces_of ts +
 pieces-append [] us = refl
 pieces-append (t ∷ ts) us = ap (λ (l : List Piece). piece_of t ∷ l) (pieces-append ts us)
 
-advances_add : (first : ℕ) (bytes : List ℕ) (old : List Token) (t : Token) (at end : ℕ) → at < length bytes → kind_beginning (get_or bytes at 0) (drop (at + 1) bytes) ≡ Some t.kind →
-    end ≡ at + 1 + length_behind (get_or bytes at 0) (drop (at + 1) bytes) → t.text.now ≡ take (end - at) (drop at bytes) → t.start ≡ first + at →
+advances_add : (first : ℕ) (bytes : List ℕ) (old : List Token) (t : Token) (at end : ℕ) → at < length bytes → kind_beginning (get_or bytes at 0) (drop (at + 1) bytes) ≡ Some (token_kind t) →
+    end ≡ at + 1 + length_behind (get_or bytes at 0) (drop (at + 1) bytes) → token_text t ≡ take (end - at) (drop at bytes) → token_start t ≡ first + at →
     Advances first bytes old (old ++ t ∷ []) at end
 advances_add first bytes old t at end h k e text start = record {
   onward = omega arith;
   within = omega (arith, end_within bytes at h);
   found =
       let ahead = lexed_place first bytes at end h e in
-      let here : piece (Some t.kind) (take (end - at) (drop at bytes)) (first + at) ≡ piece_of t ∷ [] = λ i. record { kind = t.kind; text = sym text i; start = sym start i } ∷ [] in
+      let here : piece (Some (token_kind t)) (take (end - at) (drop at bytes)) (first + at) ≡ piece_of t ∷ [] = λ i. record { kind = token_kind t; text = sym text i; start = sym start i } ∷ [] in
       ap (λ (l : List Piece). l ++ lexed_from first end bytes) (pieces-append old (t ∷ [])) ∙
       append_assoc (pieces_of old) (piece_of t ∷ []) (lexed_from first end bytes) ∙
       ap (λ (l : List Piece). pieces_of old ++ l) (ap (λ (l : List Piece). l ++ lexed_from first end bytes) (sym here ∙ ap (λ (o : Option TokenKind). piece o (take (end - at) (drop at bytes)) (first + at)) (sym k)) ∙ sym ahead);
 }
 
+-- the kind of the bytes of a token is that of what begins with them
+text_kind : (bytes : List ℕ) (t : Token) (at end : ℕ) → at < length bytes → is_some (kind_beginning (get_or bytes at 0) (drop (at + 1) bytes)) ≡ true →
+    end ≡ at + 1 + length_behind (get_or bytes at 0) (drop (at + 1) bytes) → token_text t ≡ take (end - at) (drop at bytes) →
+    kind_beginning (get_or bytes at 0) (drop (at + 1) bytes) ≡ Some (token_kind t)
+unfolding token_kind
+text_kind bytes t at end h k e text =
+    let b = get_or bytes at 0 in
+    let bs = drop (at + 1) bytes in
+    let here : take (end - at) (drop at bytes) ≡ b ∷ take (length_behind b bs) bs =
+    ap (take (end - at)) (drop_more bytes at 0 h) ∙ ap (λ (n : ℕ). take n (b ∷ bs)) {x = end - at} {y = suc (length_behind b bs)} (omega arith) in
+    kind_told b bs k ∙ ap (λ (l : List ℕ). Some (kind_in l)) (sym (text ∙ here))
+
 -- what `add` does
-pub advances_pushed : (first : ℕ) (bytes : List ℕ) (old new : List Token) (t : Token) (at end : ℕ) → new ≡ old ++ t ∷ [] → at < length bytes → kind_beginning (get_or bytes at 0) (drop (at + 1) bytes) ≡ Some t.kind →
-    end ≡ at + 1 + length_behind (get_or bytes at 0) (drop (at + 1) bytes) → t.text.now ≡ take (end - at) (drop at bytes) → t.start ≡ first + at →
+pub advances_pushed : (first : ℕ) (bytes : List ℕ) (old new : List Token) (t : Token) (at end : ℕ) → new ≡ old ++ t ∷ [] → at < length bytes →
+    is_some (kind_beginning (get_or bytes at 0) (drop (at + 1) bytes)) ≡ true →
+    end ≡ at + 1 + length_behind (get_or bytes at 0) (drop (at + 1) bytes) → token_text t ≡ take (end - at) (drop at bytes) → token_start t ≡ first + at →
     Advances first bytes old new at end
-advances_pushed first bytes old new t at end pushed h k e text start = subst (λ (l : List Token). Advances first bytes old l at end) (sym pushed) (advances_add first bytes old t at end h k e text start)
+advances_pushed first bytes old new t at end pushed h k e text start =
+    subst (λ (l : List Token). Advances first bytes old l at end) (sym pushed)
+    (advances_add first bytes old t at end h (text_kind bytes t at end h k e text) e text start)
 
 -- white space and comments are passed over
 pub advances_gap : (first : ℕ) (bytes : List ℕ) (old : List Token) (at end : ℕ) → at < length bytes → kind_beginning (get_or bytes at 0) (drop (at + 1) bytes) ≡ None →

@@ -3,7 +3,8 @@ use Rattle.std.proofs.Common.{◌≡◌, ℕ, Bool, true, false, List, [], ◌�
 use Rattle.std.proofs.lemmas.Bool.{cases_Bool, cases_eq, eq-eqb, ne_eqb, or_left, or_right, or_cases}
 use Rattle.std.proofs.lemmas.List.{take_all}
 use Rattle.ladr_lex.specs.Cuts.{can_be, is_plain_symbol, is_quoted}
-use Rattle.ladr_lex.specs.Lexed.{start_of, kind_beginning, length_behind, whole_kind}
+use Rattle.ladr_lex.specs.Lexed.{kind_beginning, length_behind, whole_kind}
+use Rattle.ladr_lex.specs.Starts.{start_of}
 use Rattle.ladr_lex.specs.declared.token.TokenKind.{TokenKind}
 use Rattle.ladr_lex.specs.declared.token.TokenKind.TheVariants.{Open, Close, LeftSquare, RightSquare, Comma, Stop, Ordinary, Quoted, Special, Unreadable}
 use Rattle.ladr_lex.proofs.Extents.{told, extent}

@@ -4,6 +4,7 @@ use Rattle.std.specs.List.{list_all}
 use Rattle.std.specs.Str.{bytes_eq}
 use Rattle.ladr_lex.specs.Bytes.{is_blank, is_punctuation, is_ordinary, is_special, is_dash, is_apostrophe, is_quote, is_quotable, is_percent}
 use Rattle.ladr_lex.specs.Comments.{is_comment, is_open_block}
+use Rattle.ladr_lex.specs.Tokens.{token_kind, token_text, token_start}
 use Rattle.ladr_lex.specs.declared.token.Token.{Token}
 use Rattle.ladr_lex.specs.declared.token.TokenKind.{TokenKind}
 use Rattle.ladr_lex.specs.declared.token.TokenKind.TheVariants.{Open, Close, LeftSquare, RightSquare, Comma, Stop, Ordinary, Quoted, Special, Unreadable}
@@ -15,7 +16,7 @@ pub record Piece : Type 0 where
   pub start : ℕ
 
 abbrev pub piece_of : Token → Piece
-piece_of t = record { kind = t.kind; text = t.text.now; start = t.start }
+piece_of t = record { kind = token_kind t; text = token_text t; start = token_start t }
 
 abbrev pub pieces_of : List Token → List Piece
 pieces_of [] = []

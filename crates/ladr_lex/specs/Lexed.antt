@@ -1,33 +1,17 @@
 -- The tokens of a text, computed.
 use Rattle.std.specs.Prelude.{◌≡◌, ◌≤◌, ◌+◌, length, ℕ, zero, suc, Bool, false, ◌==◌, ◌&&◌, if◌then◌else◌, unwrap_or, Option, Some, None, List, [], ◌∷◌, ◌++◌, take, drop, codes}
 use Rattle.std.specs.List.{prefix_len}
-use Rattle.ladr_lex.specs.Bytes.{is_blank, is_ordinary, is_special, is_dash, is_apostrophe, is_quote, is_quotable, is_percent}
+use Rattle.ladr_lex.specs.Bytes.{is_ordinary, is_special, is_dash, is_quotable}
 use Rattle.ladr_lex.specs.Comments.{begins_with, up_to, contains, is_in_line}
 use Rattle.ladr_lex.specs.Cuts.{Piece, pieces_of}
+use Rattle.ladr_lex.specs.Starts.{start_of}
 use Rattle.ladr_lex.specs.declared.bytes.Class.{Class}
 use Rattle.ladr_lex.specs.declared.bytes.Class.TheVariants as class
 use Rattle.ladr_lex.specs.declared.bytes.TokenStart.{TokenStart}
 use Rattle.ladr_lex.specs.declared.bytes.TokenStart.TheVariants.{Blank, Word, Sign, Quote, Percent, Single}
 use Rattle.ladr_lex.specs.declared.token.Token.{Token}
 use Rattle.ladr_lex.specs.declared.token.TokenKind.{TokenKind}
-use Rattle.ladr_lex.specs.declared.token.TokenKind.TheVariants.{Open, Close, LeftSquare, RightSquare, Comma, Stop, Ordinary, Quoted, Special, Unreadable}
-
--- what begins with a byte
-unfoldable pub start_of : ℕ → TokenStart
-start_of b =
-    if is_blank b then Blank
-    else (if is_ordinary b then Word
-    else (if is_special b then Sign
-    else (if is_quote b then Quote
-    else (if is_percent b then Percent
-    else (if is_apostrophe b then Single Special
-    else (if b == 40 then Single Open
-    else (if b == 41 then Single Close
-    else (if b == 91 then Single LeftSquare
-    else (if b == 93 then Single RightSquare
-    else (if b == 44 then Single Comma
-    else (if b == 46 then Single Stop
-    else Single Unreadable)))))))))))
+use Rattle.ladr_lex.specs.declared.token.TokenKind.TheVariants.{Ordinary, Quoted, Special, Unreadable}
 
 -- the classes of bytes whose runs are looked for
 abbrev pub in_class : Class → ℕ → Bool

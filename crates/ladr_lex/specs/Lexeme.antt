@@ -1,5 +1,6 @@
 -- Tokens as definitions see them: without their places.
 use Rattle.std.specs.Prelude.{ℕ, List, [], ◌∷◌}
+use Rattle.ladr_lex.specs.Tokens.{token_kind, token_text}
 use Rattle.ladr_lex.specs.declared.token.Token.{Token}
 use Rattle.ladr_lex.specs.declared.token.TokenKind.{TokenKind}
 use Rattle.ladr_lex.specs.declared.token.TokenKind.TheVariants.{Open, Close, LeftSquare, RightSquare, Comma, Stop, Ordinary, Quoted, Special, Unreadable}
@@ -35,7 +36,7 @@ lexeme Special text = symbol special text
 lexeme Unreadable text = unreadable
 
 abbrev pub lexeme_of : Token → Lexeme
-lexeme_of t = lexeme t.kind t.text.now
+lexeme_of t = lexeme (token_kind t) (token_text t)
 
 -- the tokens of a text, without their places
 abbrev pub lexemes_of : List Token → List Lexeme

@@ -9,4 +9,6 @@ pub mod Numeral
 pub mod OperatorView
 pub mod Operators
 pub mod Places
+pub mod Starts
+pub mod Tokens
 pub mod Worked

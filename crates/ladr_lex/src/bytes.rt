@@ -1,7 +1,7 @@
 // The classes of bytes.
 ghost use Rattle.std.specs.Prelude.{◌≡◌};
 ghost use Rattle.ladr_lex.specs.Bytes.{is_blank, is_ordinary, is_special};
-ghost use Rattle.ladr_lex.specs.Lexed.{start_of};
+ghost use Rattle.ladr_lex.specs.Starts.{start_of, kind_with, kind_in};
 
 use crate::token::TokenKind;
 
@@ -83,7 +83,7 @@ fn is_blank(byte: u8) -> bool
 }
 
 /// What begins with a byte.
-#[tactic(auto, unfolding(crate::specs::Lexed::start_of))]
+#[tactic(auto, unfolding(crate::specs::Starts::start_of))]
 pub fn start_of(byte: u8) -> TokenStart
     ensures { result ≡ start_of byte }
 {
@@ -107,5 +107,31 @@ pub fn start_of(byte: u8) -> TokenStart
         b',' => TokenStart::Single(TokenKind::Comma),
         b'.' => TokenStart::Single(TokenKind::Stop),
         _ => TokenStart::Single(TokenKind::Unreadable),
+    }
+}
+
+/// The kind of a token's bytes.
+pub fn kind_in(text: &[u8]) -> TokenKind
+    ensures { result ≡ kind_in text.now }
+{
+    match text {
+        [] => TokenKind::Unreadable,
+        [first, behind @ ..] => kind_with(start_of(*first), behind),
+    }
+}
+
+// The kind of a token that begins so, with the bytes behind its first.
+fn kind_with(start: TokenStart, behind: &[u8]) -> TokenKind
+    ensures { result ≡ kind_with start behind.now }
+{
+    match start {
+        TokenStart::Word => TokenKind::Ordinary,
+        TokenStart::Sign => TokenKind::Special,
+        TokenStart::Quote => match behind {
+            [] => TokenKind::Unreadable,
+            [_, ..] => TokenKind::Quoted,
+        },
+        TokenStart::Single(kind) => kind,
+        TokenStart::Blank | TokenStart::Percent => TokenKind::Unreadable,
     }
 }

@@ -20,4 +20,4 @@ pub use numeral::{is_numeral, number, whole_number};
 pub use operators::{DeclareError, Operator, OperatorKind, Ops};
 pub use places::{Position, place_of};
 pub use scan::{Lex, tokens, tokens_from};
-pub use token::{Token, TokenKind};
+pub use token::{Text, Token, TokenKind};

@@ -1,5 +1,5 @@
 // Cuts a text into its tokens.
-ghost use Rattle.std.specs.Prelude.{◌≡◌, ◌+◌, ◌^◌, ◌<◌, ◌≤◌, ◌↔◌, length, drop, slice_index, codes, IsTrue, Some, IfSome, IfOk, OnOk, Err};
+ghost use Rattle.std.specs.Prelude.{◌≡◌, ◌+◌, ◌^◌, ◌<◌, ◌≤◌, ◌↔◌, length, drop, slice_index, codes, true, is_some, IsTrue, IfSome, IfOk, OnOk, Err};
 ghost use Rattle.std.specs.List.{prefix_len};
 ghost use Rattle.ladr_lex.specs.Comments.{begins_with, up_to};
 ghost use Rattle.ladr_lex.specs.Cuts.{pieces_of, is_plain_symbol, is_quoted, Cuts};
@@ -8,7 +8,7 @@ ghost use Rattle.ladr_lex.specs.declared.bytes.TokenStart.TheVariants.{Quote, Pe
 
 use crate::bytes::{Class, TokenStart, is_special, start_of};
 use crate::limits::MOST_BYTES;
-use crate::token::{Token, TokenKind};
+use crate::token::{Text, Token, TokenKind};
 use std::alloc::{AllocError, Global};
 
 /// Why a text isn't cut: it has too many bytes, or memory is lacking.
@@ -30,30 +30,30 @@ impl From<AllocError> for Lex {
 }
 
 /// The tokens of a text.
-pub fn tokens<'a>(alloc: Global, bytes: &'a [u8]) -> Result<Vec<Token<'a>>, Lex>
-    ensures cut { IfOk result (λ found. Cuts 0 bytes.now (pieces_of found.items)) }
-    ensures input { (result ≡ Err Lex.Input) ↔ (MOST_BYTES < length bytes.now) }
+pub fn tokens<'a>(alloc: Global, text: &'a Text<'a>) -> Result<Vec<Token<'a>>, Lex>
+    ensures cut { IfOk result (λ found.
+        Cuts text.now.start text.now.bytes.now (pieces_of found.items)) }
+    ensures input { (result ≡ Err Lex.Input) ↔ (MOST_BYTES < length text.now.bytes.now) }
 {
-    if bytes.len() as u64 > MOST_BYTES {
+    if text.bytes.len() as u64 > MOST_BYTES {
         return Err(Lex::Input);
     }
-    let found = tokens_from(alloc, bytes, 0)?;
+    let found = tokens_from(alloc, text)?;
     Ok(found)
 }
 
-/// The tokens of bytes that stand at place `start` of a text, from which their places count; there is no limit on bytes.
-pub fn tokens_from<'a>(
-    alloc: Global,
-    bytes: &'a [u8],
-    start: usize,
-) -> Result<Vec<Token<'a>>, AllocError>
-    requires { start + length bytes.now < 2 ^ 64 }
-    ensures { IfOk result (λ found. Cuts start bytes.now (pieces_of found.items)) }
+/// The tokens of a text, however many bytes it has below 4 GiB; a longer one is refused as if memory were lacking.
+pub fn tokens_from<'a>(alloc: Global, text: &'a Text<'a>) -> Result<Vec<Token<'a>>, AllocError>
+    ensures { IfOk result (λ found.
+        Cuts text.now.start text.now.bytes.now (pieces_of found.items)) }
 {
+    if text.bytes.len() > u32::MAX as usize {
+        return Err(AllocError);
+    }
     let mut found = Vec::new(alloc);
     let mut at = 0;
-    while at < bytes.len() {
-        at = step(&mut found, bytes, start, at)?;
+    while at < text.bytes.len() {
+        at = step(&mut found, text, at)?;
     }
     Ok(found)
 }
@@ -89,24 +89,19 @@ fn whole_kind(text: &[u8]) -> Option<TokenKind>
 }
 
 // Adds the token that begins at a place, if one does, with each `-` that was cut off its end, and answers the place behind them.
-fn step<'a>(
-    found: &mut Vec<Token<'a>>,
-    bytes: &'a [u8],
-    start: usize,
-    at: usize,
-) -> Result<usize, AllocError>
-    requires place { at < length bytes.now }
-    requires end { start + length bytes.now < 2 ^ 64 }
-    ensures { IfOk result (λ next.
-        Advances start bytes.now found.old.items found.new.items at next × (at < next)) }
+fn step<'a>(found: &mut Vec<Token<'a>>, text: &'a Text<'a>, at: usize) -> Result<usize, AllocError>
+    requires small { length text.now.bytes.now < 2 ^ 32 }
+    requires place { at < length text.now.bytes.now }
+    ensures { IfOk result (λ next. Advances text.now.start text.now.bytes.now found.old.items
+        found.new.items at next × (at < next)) }
 {
-    let (kind, end) = piece_at(bytes, at);
+    let (kind, end) = piece_at(text.bytes, at);
     match kind {
         None => Ok(end),
-        Some(kind) => {
-            add(found, kind, bytes, start, at, end)?;
-            if is_special(bytes[at]) {
-                dashes(found, bytes, start, end)
+        Some(_) => {
+            add(found, text, at, end)?;
+            if is_special(text.bytes[at]) {
+                dashes(found, text, end)
             } else {
                 Ok(end)
             }
@@ -117,19 +112,18 @@ fn step<'a>(
 // Each `-` from a place on is a token, where no special byte but `-` follows.
 fn dashes<'a>(
     found: &mut Vec<Token<'a>>,
-    bytes: &'a [u8],
-    start: usize,
+    text: &'a Text<'a>,
     from: usize,
 ) -> Result<usize, AllocError>
-    requires place { from ≤ length bytes.now }
-    requires end { start + length bytes.now < 2 ^ 64 }
-    requires dashed { kept (drop from bytes.now) ≡ 0 }
+    requires small { length text.now.bytes.now < 2 ^ 32 }
+    requires place { from ≤ length text.now.bytes.now }
+    requires dashed { kept (drop from text.now.bytes.now) ≡ 0 }
     ensures { IfOk result (λ next.
-        Advances start bytes.now found.old.items found.new.items from next) }
+        Advances text.now.start text.now.bytes.now found.old.items found.new.items from next) }
 {
     let mut at = from;
-    while at < bytes.len() && bytes[at] == b'-' {
-        add(found, TokenKind::Special, bytes, start, at, at + 1)?;
+    while at < text.bytes.len() && text.bytes[at] == b'-' {
+        add(found, text, at, at + 1)?;
         at += 1;
     }
     Ok(at)
@@ -138,25 +132,24 @@ fn dashes<'a>(
 // Adds the token that begins at a place and ends before another.
 fn add<'a>(
     found: &mut Vec<Token<'a>>,
-    kind: TokenKind,
-    bytes: &'a [u8],
-    start: usize,
+    text: &'a Text<'a>,
     at: usize,
     end: usize,
 ) -> Result<(), AllocError>
-    requires place { at < length bytes.now }
-    requires text { start + length bytes.now < 2 ^ 64 }
-    requires kind { kind_beginning (slice_index bytes.now at) (drop (at + 1) bytes.now)
-        ≡ Some kind }
-    requires end { end
-        ≡ at + 1 + length_behind (slice_index bytes.now at) (drop (at + 1) bytes.now) }
-    requires within { end ≤ length bytes.now }
-    ensures { OnOk result (Advances start bytes.now found.old.items found.new.items at end) }
+    requires small { length text.now.bytes.now < 2 ^ 32 }
+    requires place { at < length text.now.bytes.now }
+    requires token { is_some (kind_beginning (slice_index text.now.bytes.now at)
+        (drop (at + 1) text.now.bytes.now)) ≡ true }
+    requires end { end ≡ at + 1 + length_behind (slice_index text.now.bytes.now at)
+        (drop (at + 1) text.now.bytes.now) }
+    requires within { end ≤ length text.now.bytes.now }
+    ensures { OnOk result (Advances text.now.start text.now.bytes.now found.old.items
+        found.new.items at end) }
 {
     found.push(Token {
-        kind,
-        text: &bytes[at..end],
-        start: start + at,
+        source: text,
+        at: at as u32,
+        len: (end - at) as u32,
     })?;
     Ok(())
 }

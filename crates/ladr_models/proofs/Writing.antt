@@ -7,7 +7,7 @@ use Rattle.fol_core.specs.declared.symbols.Kind.TheVariants.{Function, Relation}
 use Rattle.ladr_commands.specs.ByName.{NamedTable}
 use Rattle.ladr_lex.specs.Bytes.{is_blank, is_ordinary, is_special}
 use Rattle.ladr_lex.specs.Cuts.{can_be, is_quoted, IsLongest, gap, token}
-use Rattle.ladr_lex.specs.Lexed.{start_of}
+use Rattle.ladr_lex.specs.Starts.{start_of}
 use Rattle.ladr_lex.specs.Lexeme.{Sort, ordinary, quoted, special, Lexeme, lexeme, open_paren, close_paren, open_square, close_square, comma, full_stop, symbol}
 use Rattle.ladr_lex.specs.declared.token.TokenKind.{TokenKind}
 use Rattle.ladr_lex.specs.declared.token.TokenKind.TheVariants.{LeftSquare, RightSquare, Ordinary, Special}

@@ -10,7 +10,8 @@ use Rattle.std.proofs.lemmas.Bool.Decides.{nat_tests}
 use Rattle.std.proofs.lemmas.Slice.Eq.{bytes_eq-Decides}
 use Rattle.ladr_lex.specs.Bytes.{is_blank, is_ordinary, is_special, is_dash}
 use Rattle.ladr_lex.specs.Cuts.{can_be, is_run, is_quoted, is_special_run, IsLongest}
-use Rattle.ladr_lex.specs.Lexed.{start_of, kind_beginning, kind_begun_by, length_behind, behind_in, kept, special_behind}
+use Rattle.ladr_lex.specs.Lexed.{kind_beginning, kind_begun_by, length_behind, behind_in, kept, special_behind}
+use Rattle.ladr_lex.specs.Starts.{start_of}
 use Rattle.ladr_lex.specs.declared.bytes.TokenStart.{TokenStart}
 use Rattle.ladr_lex.specs.declared.bytes.TokenStart.TheVariants.{Word, Sign, Quote}
 use Rattle.ladr_lex.specs.declared.token.TokenKind.{TokenKind}

@@ -1,6 +1,7 @@
 // Where items end.
 ghost use Rattle.std.specs.Prelude.{◌≡◌, ◌∷◌, ◌<◌, ◌≤◌, take, drop, length, slice_range};
 ghost use Rattle.ladr_lex.specs.Cuts.{pieces_of};
+ghost use Rattle.ladr_lex.specs.Tokens.{token_kind};
 ghost use Rattle.ladr_problem.specs.Items.{items_of, is_stop_kind};
 
 use ladr_lex::{Token, TokenKind};
@@ -34,7 +35,7 @@ fn first_len(tokens: &[Token]) -> usize
 }
 
 fn is_stop(token: &Token) -> bool
-    ensures { result ≡ is_stop_kind token.now.kind }
+    ensures { result ≡ is_stop_kind (token_kind token.now) }
 {
-    token.kind == TokenKind::Stop
+    token.kind() == TokenKind::Stop
 }

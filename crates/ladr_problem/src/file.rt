@@ -19,7 +19,7 @@ fn start_at(end: usize, tokens: &[Token], k: usize) -> usize
     ensures { result ≡ start_at end (pieces_of tokens.now) k }
 {
     match tokens.get(k) {
-        Some(token) => token.start,
+        Some(token) => token.start(),
         None => end,
     }
 }

@@ -37,7 +37,7 @@ fn begins_with_closing(tokens: &[Token]) -> bool
         (¬ take 2 (lexemes_of tokens.now) ≡ closing_tokens) }
 {
     match tokens {
-        [word, stop, ..] => is_end_word(word) && stop.kind == TokenKind::Stop,
+        [word, stop, ..] => is_end_word(word) && stop.kind() == TokenKind::Stop,
         _ => false,
     }
 }
@@ -46,5 +46,5 @@ fn is_end_word(token: &Token) -> bool
     ensures { MatchBool result (lexeme_of token.now ≡ symbol ordinary (codes "end_of_list"))
         (¬ lexeme_of token.now ≡ symbol ordinary (codes "end_of_list")) }
 {
-    token.kind == TokenKind::Ordinary && token.text == b"end_of_list".as_slice()
+    token.kind() == TokenKind::Ordinary && token.text() == b"end_of_list".as_slice()
 }

@@ -23,7 +23,7 @@ use crate::stop::RefusalAt;
 use fol_core::{Input, Name, Problem};
 use ladr_formulas::Mode;
 use ladr_interpretations::{Named, bind, covers};
-use ladr_lex::{Lex, MOST_BYTES, Misuse, Ops, Token, TokenKind, place_of, tokens};
+use ladr_lex::{Lex, MOST_BYTES, Misuse, Ops, Text, Token, TokenKind, place_of, tokens};
 use ladr_settings::Settings;
 use model_tables::Tables;
 use std::alloc::{AllocError, Global};
@@ -126,7 +126,7 @@ pub fn shown(alloc: Global, token: &Token) -> Result<Name, AllocError>
     ensures { IfOk result (λ name. name ≡ shown (piece_of token.now)) }
 {
     let mut bytes = Vec::new(alloc);
-    for byte in front(token.text, shown_len(token.kind)) {
+    for byte in front(token.text(), shown_len(token.kind())) {
         bytes.push(shown_byte(*byte))?;
     }
     Ok(Name::new(bytes))
@@ -137,7 +137,7 @@ fn shown_at(alloc: Global, tokens: &[Token], byte: u64) -> Result<Name, AllocErr
     ensures { IfOk result (λ name. name ≡ shown_at (pieces_of tokens.now) byte) }
 {
     for token in tokens {
-        if token.start as u64 == byte {
+        if token.start() as u64 == byte {
             return shown(alloc, token);
         }
     }
@@ -216,12 +216,13 @@ fn finish(draft: Draft) -> FileRead
 }
 
 // The tokens of a file, unless it has too many bytes.
-fn cut<'a>(alloc: Global, bytes: &'a [u8]) -> Result<Vec<Token<'a>>, ReadError>
-    ensures cut { IfOk result (λ tokens. Cuts 0 bytes.now (pieces_of tokens.items)) }
-    ensures within { OnOk result (length bytes.now ≤ MOST_BYTES) }
-    ensures refused { (m : Mode) → IfErr result (IsReadError m bytes.now) }
+fn cut<'a>(alloc: Global, text: &'a Text<'a>) -> Result<Vec<Token<'a>>, ReadError>
+    ensures cut { IfOk result (λ tokens.
+        Cuts text.now.start text.now.bytes.now (pieces_of tokens.items)) }
+    ensures within { OnOk result (length text.now.bytes.now ≤ MOST_BYTES) }
+    ensures refused { (m : Mode) → IfErr result (IsReadError m text.now.bytes.now) }
 {
-    match tokens(alloc, bytes) {
+    match tokens(alloc, text) {
         Ok(tokens) => Ok(tokens),
         Err(Lex::Input) => Err(ReadError::TooLarge {
             byte: MOST_BYTES,
@@ -243,7 +244,8 @@ pub fn read_problem(alloc: Global, program: Mode, bytes: &[u8]) -> Result<FileRe
     ensures interpreted { program ≡ Tester → IfOk result (λ r. IsTrue (is_some r.interpretation)) }
     ensures refused { IfErr result (IsReadError program bytes.now) }
 {
-    let tokens = match cut(alloc, bytes) {
+    let text = Text { bytes, start: 0 };
+    let tokens = match cut(alloc, &text) {
         Ok(tokens) => tokens,
         Err(error) => return Err(error),
     };

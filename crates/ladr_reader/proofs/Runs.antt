@@ -42,22 +42,25 @@ lexemes_within tokens i h = omega (arith, lexemes_length tokens)
 
 -- the tokens from a place on
 pub lexemes_from :
-    (tokens : List Token) (i : ℕ) (d : Token) → i < length tokens →
-    drop i (lexemes_of tokens) ≡ lexeme_of (get_or tokens i d) ∷ drop (i + 1) (lexemes_of tokens)
-lexemes_from tokens i d h =
-    rw (add-one, ← lexeme_at tokens i d h) (drop-cons (lexemes_of tokens) i unreadable (lexemes_within tokens i h))
+    (tokens : List Token) (i : ℕ) (x : Token) → i < length tokens → x ≡ get_or tokens i x →
+    drop i (lexemes_of tokens) ≡ lexeme_of x ∷ drop (i + 1) (lexemes_of tokens)
+lexemes_from tokens i x h is =
+    let here : drop i (lexemes_of tokens) ≡ lexeme_of (get_or tokens i x) ∷ drop (i + 1) (lexemes_of tokens) =
+    rw (add-one, ← lexeme_at tokens i x h) (drop-cons (lexemes_of tokens) i unreadable (lexemes_within tokens i h))
+    in
+    here ∙ ap (λ (t : Token). lexeme_of t ∷ drop (i + 1) (lexemes_of tokens)) (sym is)
 
 -- a run over one token more
 pub run_more :
-    (n : ℕ) (g : OperatorTable) (tokens : List Token) (i : ℕ) (d : Token) (place : Standing) (fs : List Frame) → i < length tokens →
-    go n g (operand []) (take i (lexemes_of tokens)) ≡ standing (Some place) fs →
-    go n g (operand []) (take (i + 1) (lexemes_of tokens)) ≡ step n g place fs (lexeme_of (get_or tokens i d))
-run_more n g tokens i d place fs h e =
+    (n : ℕ) (g : OperatorTable) (tokens : List Token) (i : ℕ) (x : Token) (place : Standing) (fs : List Frame) → i < length tokens →
+    x ≡ get_or tokens i x → go n g (operand []) (take i (lexemes_of tokens)) ≡ standing (Some place) fs →
+    go n g (operand []) (take (i + 1) (lexemes_of tokens)) ≡ step n g place fs (lexeme_of x)
+run_more n g tokens i x place fs h is e =
     let ts : List Lexeme = lexemes_of tokens in
     ap (λ (xs : List Lexeme). go n g (operand []) xs) (take_more ts i unreadable (lexemes_within tokens i h))
     ∙ go_append n g (operand []) (take i ts) (get_or ts i unreadable ∷ [])
     ∙ ap (λ (s : Option State). next n g s (get_or ts i unreadable)) e
-    ∙ ap (λ (x : Lexeme). step n g place fs x) (lexeme_at tokens i d h)
+    ∙ ap (λ (l : Lexeme). step n g place fs l) (lexeme_at tokens i x h ∙ ap (λ (t : Token). lexeme_of t) (sym is))
 
 go_none : (n : ℕ) (g : OperatorTable) (xs : List Lexeme) → go n g None xs ≡ None
 go_none n g [] = refl

@@ -31,7 +31,7 @@ impl Parentheses {
         ensures most { (ts : List Lexeme) → max self.new.most (most_open self.new.unclosed ts)
             ≡ max self.old.most (most_open self.old.unclosed (lexeme_of token.now ∷ ts)) }
     {
-        match token.kind {
+        match token.kind() {
             TokenKind::Open => self.unclosed += 1,
             TokenKind::Close => {
                 self.most = self.most.max(self.unclosed);

@@ -38,10 +38,12 @@ impl TermStart {
     pub fn of(alloc: Global, ops: &Ops, token: &Token) -> Result<TermStart, AllocError>
         ensures { IfOk result (λ start. start ≡ start_of (table_of ops.now) (lexeme_of token.now)) }
     {
-        match token.kind {
+        match token.kind() {
             TokenKind::Open => Ok(TermStart::Opens),
             TokenKind::Ordinary | TokenKind::Quoted | TokenKind::Special => TermStart::of_symbol(
-                alloc, ops, token.text,
+                alloc,
+                ops,
+                token.text(),
             ),
             _ => Ok(TermStart::StartsNot),
         }
@@ -69,13 +71,15 @@ impl Follow {
         ensures { IfOk result (λ follow. follow ≡ follow_of (table_of ops.now)
             (lexeme_of token.now)) }
     {
-        match token.kind {
+        match token.kind() {
             TokenKind::Open => Ok(Follow::Applies),
             TokenKind::Close => Ok(Follow::Closes),
             TokenKind::Comma => Ok(Follow::Separates),
             TokenKind::Stop => Ok(Follow::Stops),
             TokenKind::Ordinary | TokenKind::Quoted | TokenKind::Special => Follow::of_symbol(
-                alloc, ops, token.text,
+                alloc,
+                ops,
+                token.text(),
             ),
             _ => Ok(Follow::FollowsNot),
         }
@@ -107,9 +111,10 @@ impl Follow {
 pub fn variable_of(alloc: Global, token: &Token) -> Result<Option<Name>, AllocError>
     ensures { IfOk result (λ variable. variable ≡ variable_of may_be_bound (lexeme_of token.now)) }
 {
-    match token.kind {
-        TokenKind::Ordinary if may_be_bound(token.text) => Ok(Some(Name::from_slice(
-            alloc, token.text,
+    match token.kind() {
+        TokenKind::Ordinary if may_be_bound(token.text()) => Ok(Some(Name::from_slice(
+            alloc,
+            token.text(),
         )?)),
         _ => Ok(None),
     }

@@ -1,21 +1,29 @@
 use ladr_lex::{
-    DeclareError, OperatorKind, Ops, TokenKind, place_of, tokens, tokens_from, whole_number,
+    DeclareError, OperatorKind, Ops, Text, TokenKind, place_of, tokens, tokens_from, whole_number,
 };
 use std::test::Fail;
 
 #[test]
 fn texts_are_cut(rt: HostRuntime) -> Result<(), Fail> {
-    let cut = tokens(rt.alloc(), b"f(x) % c\n!= \"a\".").map_err(|_| "memory")?;
+    let text = Text {
+        bytes: b"f(x) % c\n!= \"a\".",
+        start: 0,
+    };
+    let cut = tokens(rt.alloc(), &text).map_err(|_| "memory")?;
     assert_eq!(rt; cut.len(), 7);
-    assert!(rt; matches!(cut.last(), Some(token) if token.kind == TokenKind::Stop));
-    assert!(rt; matches!(cut.last(), Some(token) if token.start == 15));
+    assert!(rt; matches!(cut.last(), Some(token) if token.kind() == TokenKind::Stop));
+    assert!(rt; matches!(cut.last(), Some(token) if token.start() == 15));
     Ok(())
 }
 
 #[test]
 fn texts_are_cut_from_a_place_on(rt: HostRuntime) -> Result<(), Fail> {
-    let cut = tokens_from(rt.alloc(), b"-p", 100)?;
-    assert!(rt; matches!(cut.last(), Some(token) if token.start == 101));
+    let text = Text {
+        bytes: b"-p",
+        start: 100,
+    };
+    let cut = tokens_from(rt.alloc(), &text)?;
+    assert!(rt; matches!(cut.last(), Some(token) if token.start() == 101));
     let place = place_of(b"p(a).\n\nq(b)", 9);
     assert_eq!(rt; (place.byte, place.line, place.column), (9, 3, 3));
     Ok(())

@@ -13,7 +13,7 @@ use Rattle.ladr_formulas.specs.declared.styles.Mode.TheVariants.{Prover}
 use Rattle.ladr_lex.specs.Bytes.{is_blank, is_ordinary}
 use Rattle.ladr_lex.specs.Comments.{begins_with, is_in_line}
 use Rattle.ladr_lex.specs.Cuts.{Piece, IsLongest, gap, is_run}
-use Rattle.ladr_lex.specs.Lexed.{start_of}
+use Rattle.ladr_lex.specs.Starts.{start_of}
 use Rattle.ladr_lex.specs.Lexeme.{Lexeme, lexeme}
 use Rattle.ladr_lex.specs.Operators.{OperatorRow, are_lawful}
 use Rattle.ladr_lex.specs.Places.{ends_line}

@@ -75,7 +75,7 @@ impl ContentRead {
 fn is_stop(token: &Token) -> bool
     ensures { result ≡ is_stop (lexeme_of token.now) }
 {
-    token.kind == TokenKind::Stop
+    token.kind() == TokenKind::Stop
 }
 
 /// Where the content that tokens begin with ends: behind the first full stop, or with them.

@@ -22,8 +22,8 @@ use std::alloc::Global;
 fn number_of(token: &Token) -> Option<u64>
     ensures { result ≡ whole_number (word_text (lexeme_of token.now)) }
 {
-    match token.kind {
-        TokenKind::Ordinary => whole_number(token.text),
+    match token.kind() {
+        TokenKind::Ordinary => whole_number(token.text()),
         _ => None,
     }
 }

@@ -11,7 +11,7 @@ use Rattle.ladr_formulas.specs.Formulas.{style_of}
 use Rattle.ladr_formulas.specs.declared.styles.Mode.TheVariants.{Prover}
 use Rattle.ladr_lex.specs.Bytes.{is_blank, is_ordinary, is_special}
 use Rattle.ladr_lex.specs.Cuts.{IsLongest, gap}
-use Rattle.ladr_lex.specs.Lexed.{start_of}
+use Rattle.ladr_lex.specs.Starts.{start_of}
 use Rattle.ladr_lex.specs.Lexeme.{Lexeme, ordinary, full_stop}
 use Rattle.ladr_lex.specs.Operators.{OperatorRow, are_lawful}
 use Rattle.ladr_lex.proofs.Numerals.{ordinary_decimal, whole_decimal}

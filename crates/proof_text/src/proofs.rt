@@ -13,7 +13,7 @@ use crate::blocks::BlockRead;
 use crate::refusing::refuse_line;
 use derivation::{Derivation, Line};
 use fol_core::{Problem, Symbols};
-use ladr_lex::{Token, tokens_from};
+use ladr_lex::{Text, Token, tokens_from};
 use ladr_problem::ReadError;
 use proof_lines::{LineFault, LineOperators, ProblemNames, read_line};
 use std::alloc::Global;
@@ -80,7 +80,11 @@ fn read_block(
 {
     // Its bytes end there, at a place that has a number.
     let _end = block.end;
-    let tokens = match tokens_from(alloc, &block.bytes, block.start) {
+    let text = Text {
+        bytes: &block.bytes,
+        start: block.start,
+    };
+    let tokens = match tokens_from(alloc, &text) {
         Ok(tokens) => tokens,
         Err(_) => return Err(ReadError::Memory),
     };

@@ -51,7 +51,7 @@ fn token_start(block: &BlockRead, tokens: &[Token], k: usize) -> usize
     ensures { result ≡ start_at block.now.end (pieces_of tokens.now) k }
 {
     match tokens.get(k) {
-        Some(token) => token.start,
+        Some(token) => token.start(),
         None => block.end,
     }
 }

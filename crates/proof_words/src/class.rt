@@ -29,12 +29,12 @@ impl TokenClass {
         ensures { result ≡ is_of self (lexeme_of token.now) }
     {
         match self {
-            TokenClass::Open => token.kind == TokenKind::Open,
-            TokenClass::Close => token.kind == TokenKind::Close,
-            TokenClass::OpenSquare => token.kind == TokenKind::LeftSquare,
-            TokenClass::CloseSquare => token.kind == TokenKind::RightSquare,
-            TokenClass::Comma => token.kind == TokenKind::Comma,
-            TokenClass::Stop => token.kind == TokenKind::Stop,
+            TokenClass::Open => token.kind() == TokenKind::Open,
+            TokenClass::Close => token.kind() == TokenKind::Close,
+            TokenClass::OpenSquare => token.kind() == TokenKind::LeftSquare,
+            TokenClass::CloseSquare => token.kind() == TokenKind::RightSquare,
+            TokenClass::Comma => token.kind() == TokenKind::Comma,
+            TokenClass::Stop => token.kind() == TokenKind::Stop,
             TokenClass::Number => whole_number(word_text(token)).is_some(),
             TokenClass::LiteralName => is_literal_name(word_text(token)),
             TokenClass::FirstWord(kind) => match first_name(word_text(token)) {
@@ -43,10 +43,10 @@ impl TokenClass {
             },
             TokenClass::StepWord => later_name(word_text(token)).is_some(),
             TokenClass::CommaOrClose => {
-                token.kind == TokenKind::Comma || token.kind == TokenKind::Close
+                token.kind() == TokenKind::Comma || token.kind() == TokenKind::Close
             }
             TokenClass::CommaOrCloseSquare => {
-                token.kind == TokenKind::Comma || token.kind == TokenKind::RightSquare
+                token.kind() == TokenKind::Comma || token.kind() == TokenKind::RightSquare
             }
         }
     }
@@ -56,8 +56,8 @@ impl TokenClass {
 pub fn word_text<'a>(token: &Token<'a>) -> &'a [u8]
     ensures { result.now ≡ word_text (lexeme_of token.now) }
 {
-    match token.kind {
-        TokenKind::Ordinary => token.text,
+    match token.kind() {
+        TokenKind::Ordinary => token.text(),
         _ => &[],
     }
 }

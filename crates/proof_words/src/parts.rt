@@ -105,7 +105,7 @@ pub fn is_more(walk: &mut Walk, class: TokenClass) -> Result<bool, Halt>
     ensures shorter { OnOk result (length walk.new < length walk.old) }
 {
     let token = walk.take(class)?;
-    Ok(token.kind == TokenKind::Comma)
+    Ok(token.kind() == TokenKind::Comma)
 }
 
 // A satellite, and whether one more follows.

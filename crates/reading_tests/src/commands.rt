@@ -1,11 +1,15 @@
 use ladr_commands::{Command, Value, read_command};
-use ladr_lex::tokens;
+use ladr_lex::{Text, tokens};
 use std::alloc::Global;
 use std::test::Fail;
 
 /// The command of an item.
 pub fn command(alloc: Global, text: &[u8]) -> Result<Command, Fail> {
-    let Ok(tokens) = tokens(alloc, text) else {
+    let text = Text {
+        bytes: text,
+        start: 0,
+    };
+    let Ok(tokens) = tokens(alloc, &text) else {
         return Err(Fail::from("memory"));
     };
     match read_command(alloc, true, &tokens) {

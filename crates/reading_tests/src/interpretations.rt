@@ -1,13 +1,17 @@
 use fol_core::{Kind, Sym, Symbols};
 use ladr_commands::{ByName, read_interpretation};
 use ladr_interpretations::{Named, bind};
-use ladr_lex::tokens;
+use ladr_lex::{Text, tokens};
 use std::alloc::{AllocError, Global};
 use std::test::Fail;
 
 // The interpretation of an item by the names of its symbols.
 fn by_name(alloc: Global, text: &[u8]) -> Result<ByName, Fail> {
-    let Ok(tokens) = tokens(alloc, text) else {
+    let text = Text {
+        bytes: text,
+        start: 0,
+    };
+    let Ok(tokens) = tokens(alloc, &text) else {
         return Err(Fail::from("memory"));
     };
     match read_interpretation(alloc, &tokens) {

@@ -1,6 +1,6 @@
 use fol_core::{Formula, Names, Raw, Shape, Symbols, Term};
 use ladr_formulas::Mode;
-use ladr_lex::{Ops, tokens};
+use ladr_lex::{Ops, Text, tokens};
 use ladr_reader::read_term;
 use ladr_rules::{is_demodulator, kbo_rule, weight_rule};
 use std::alloc::Global;
@@ -9,7 +9,11 @@ use std::test::Fail;
 // The term of an item.
 fn item(alloc: Global, text: &[u8]) -> Result<Raw, Fail> {
     let ops = Ops::standard(alloc)?;
-    let Ok(tokens) = tokens(alloc, text) else {
+    let text = Text {
+        bytes: text,
+        start: 0,
+    };
+    let Ok(tokens) = tokens(alloc, &text) else {
         return Err(Fail::from("memory"));
     };
     match read_term(alloc, &ops, &tokens) {

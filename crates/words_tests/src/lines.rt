@@ -1,12 +1,12 @@
 use derivation::Content;
 use fol_core::{Problem, Symbols};
-use ladr_lex::{Misuse, Ops, Token, tokens};
+use ladr_lex::{Misuse, Ops, Text, Token, tokens};
 use proof_lines::{LineFault, LineOperators, LineRead, ProblemNames, read_line};
 use std::alloc::Global;
 use std::test::Fail;
 
 // The tokens of a text, of which a proof knows nothing: so it works nothing out of it.
-fn cut(alloc: Global, text: &[u8]) -> Result<Vec<Token>, Fail> {
+fn cut<'a>(alloc: Global, text: &'a Text<'a>) -> Result<Vec<Token<'a>>, Fail> {
     match tokens(alloc, text) {
         Ok(tokens) => Ok(tokens),
         Err(_) => Err(Fail::from("memory")),
@@ -25,7 +25,11 @@ fn line(
     symbols: &mut Symbols,
 ) -> Result<Result<LineRead, LineFault>, Fail> {
     let operators = operators(alloc)?;
-    let tokens = cut(alloc, text)?;
+    let text = Text {
+        bytes: text,
+        start: 0,
+    };
+    let tokens = cut(alloc, &text)?;
     let problem = Problem::new(alloc, Symbols::new(alloc), Vec::new(alloc));
     let Ok(names) = ProblemNames::of(alloc, &problem.symbols) else {
         return Err(Fail::from("memory"));

@@ -1,11 +1,11 @@
 use derivation::First;
-use ladr_lex::{Token, tokens};
+use ladr_lex::{Text, Token, tokens};
 use proof_words::{ContentKind, WordsFault, read_words};
 use std::alloc::Global;
 use std::test::Fail;
 
 // The tokens of a text, of which a proof knows nothing: so it works nothing out of it.
-fn cut(alloc: Global, text: &[u8]) -> Result<Vec<Token>, Fail> {
+fn cut<'a>(alloc: Global, text: &'a Text<'a>) -> Result<Vec<Token<'a>>, Fail> {
     match tokens(alloc, text) {
         Ok(tokens) => Ok(tokens),
         Err(_) => Err(Fail::from("memory")),
@@ -15,7 +15,11 @@ fn cut(alloc: Global, text: &[u8]) -> Result<Vec<Token>, Fail> {
 // What stands behind the words is left.
 #[test]
 fn words_are_read(rt: HostRuntime) -> Result<(), Fail> {
-    let tokens = cut(rt.alloc(), b"[hyper(4,a,5,b,c,6,a),flip(a)]. 8 p.")?;
+    let text = Text {
+        bytes: b"[hyper(4,a,5,b,c,6,a),flip(a)]. 8 p.",
+        start: 0,
+    };
+    let tokens = cut(rt.alloc(), &text)?;
     let Ok((just, count)) = read_words(rt.alloc(), ContentKind::Either, &tokens) else {
         return Err(Fail::from("words"));
     };
@@ -27,7 +31,11 @@ fn words_are_read(rt: HostRuntime) -> Result<(), Fail> {
 
 #[test]
 fn the_first_bad_token_is_told(rt: HostRuntime) -> Result<(), Fail> {
-    let tokens = cut(rt.alloc(), b"[copy(07)].")?;
+    let text = Text {
+        bytes: b"[copy(07)].",
+        start: 0,
+    };
+    let tokens = cut(rt.alloc(), &text)?;
     let read = read_words(rt.alloc(), ContentKind::Either, &tokens);
     assert!(rt; matches!(read, Err(WordsFault::Bad(3))));
     Ok(())

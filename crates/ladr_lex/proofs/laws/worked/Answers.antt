@@ -1,6 +1,6 @@
 use Rattle.std.proofs.Common.{refl}
 use Rattle.ladr_lex.specs.Bytes.{is_blank, is_ordinary, is_special}
-use Rattle.ladr_lex.specs.Lexed.{start_of}
+use Rattle.ladr_lex.specs.Starts.{start_of}
 use Rattle.ladr_lex.specs.Worked.{worked_formula, special_line, comment_lines, quoted_line, open_lines}
 use Rattle.ladr_lex.proofs.Lexing.{cuts_text}
 use Rattle.ladr_lex.proofs.laws.worked.Goals as goal

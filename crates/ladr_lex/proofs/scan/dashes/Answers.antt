@@ -1,12 +1,14 @@
+use Rattle.std.proofs.Common.{ap}
+use Rattle.std.specs.Prelude.{is_some}
 use Rattle.ladr_lex.proofs.scan.dashes.Goals as goal
 use Rattle.ladr_lex.proofs.Steps.{dash_alone, advances_both}
 
-pub add-requires-clause-kind : goal.add-requires-clause-kind
-add-requires-clause-kind c = (dash_alone c.args.bytes.now c.loop-at.at c.loop-at-test.true c.if-bytes-at-eq45.true c.loop-at.invariant.1).kind
+pub add-requires-clause-token : goal.add-requires-clause-token
+add-requires-clause-token c = ap is_some (dash_alone c.args.text.now.bytes.now c.loop-at.at c.loop-at-test.true c.if-text-at-eq45.true c.loop-at.invariant.1).kind
 
 pub add-requires-clause-end : goal.add-requires-clause-end
-add-requires-clause-end c = (dash_alone c.args.bytes.now c.loop-at.at c.loop-at-test.true c.if-bytes-at-eq45.true c.loop-at.invariant.1).end
+add-requires-clause-end c = (dash_alone c.args.text.now.bytes.now c.loop-at.at c.loop-at-test.true c.if-text-at-eq45.true c.loop-at.invariant.1).end
 
 pub loop-at-preserved : goal.loop-at-preserved
 loop-at-preserved c =
-    (advances_both _ _ _ _ _ _ _ _ c.loop-at.invariant.0 c.in_ok-add.ensures, (dash_alone c.args.bytes.now c.loop-at.at c.loop-at-test.true c.if-bytes-at-eq45.true c.loop-at.invariant.1).ahead)
+    (advances_both _ _ _ _ _ _ _ _ c.loop-at.invariant.0 c.in_ok-add.ensures, (dash_alone c.args.text.now.bytes.now c.loop-at.at c.loop-at-test.true c.if-text-at-eq45.true c.loop-at.invariant.1).ahead)

@@ -4,7 +4,7 @@ use Rattle.ladr_lex.specs.Lexed.{kept, Advances}
 use Rattle.ladr_lex.proofs.scan.dashes.Given as goal
 
 abbrev pub invariant-loop-at : goal.invariant-loop-at
-invariant-loop-at l = Advances l.start l.bytes l.fn.found.items l.found.items l.fn.from l.at × (kept (drop l.at l.bytes) ≡ 0)
+invariant-loop-at l = Advances l.text.start l.text.bytes.now l.fn.found.items l.found.items l.fn.from l.at × (kept (drop l.at l.text.bytes.now) ≡ 0)
 
 abbrev pub decreases-loop-at : goal.decreases-loop-at
-decreases-loop-at l = length l.bytes - l.at
+decreases-loop-at l = length l.text.bytes.now - l.at

@@ -2,7 +2,7 @@ use Rattle.std.proofs.Common.{◌≡◌, ℕ, zero, suc, true, false, Option, So
 use Rattle.std.specs.Fmt.{digits}
 use Rattle.fol_core.specs.SymbolTable.{Symbol, number_of, FindsEach}
 use Rattle.ladr_lex.specs.Bytes.{is_blank, is_ordinary, is_special}
-use Rattle.ladr_lex.specs.Lexed.{start_of}
+use Rattle.ladr_lex.specs.Starts.{start_of}
 use Rattle.ladr_lex.proofs.Lexing.{cuts_text}
 use Rattle.ladr_problem.specs.Names.{are_named}
 use Rattle.ladr_models.specs.Worked.{pair, pair_text}

@@ -1,16 +1,20 @@
-use Rattle.std.proofs.Common.{◌≡◌, length, false, List, take, drop, [], sym, subst, arith}
+use Rattle.std.proofs.Common.{◌≡◌, length, false, List, take, drop, [], sym, ap, ◌∙◌, subst, arith}
 use Rattle.std.proofs.lemmas.List.{take_all, drop_all}
+use Rattle.ladr_lex.specs.Tokens.{token_kind}
 use Rattle.ladr_lex.specs.declared.token.Token.{Token}
+use Rattle.ladr_problem.specs.Items.{is_stop_kind}
 use Rattle.ladr_problem.proofs.CutLemmas.{has_stop, first_item, whole_item, no_stop_more}
 use Rattle.ladr_problem.proofs.cut.first_len.Goals as goal
 
 pub returns-then-is_stop-clause-item : goal.returns-then-is_stop-clause-item
 returns-then-is_stop-clause-item c =
-    first_item c.args.tokens.now c.loop-i.i _ c.loop-i.invariant c.loop-i-test.true (sym c.if-is_stop.ensures)
+    first_item c.args.tokens.now c.loop-i.i c.index-tokens-i.result c.loop-i.invariant c.loop-i-test.true
+    (ap (λ (t : Token). is_stop_kind (token_kind t)) (sym c.index-tokens-i.is) ∙ sym c.if-is_stop.ensures)
 
 pub loop-i-preserved : goal.loop-i-preserved
 loop-i-preserved c =
-    no_stop_more c.args.tokens.now c.loop-i.i _ c.loop-i.invariant c.loop-i-test.true (sym c.if-is_stop.ensures)
+    no_stop_more c.args.tokens.now c.loop-i.i c.index-tokens-i.result c.loop-i.invariant c.loop-i-test.true
+    (ap (λ (t : Token). is_stop_kind (token_kind t)) (sym c.index-tokens-i.is) ∙ sym c.if-is_stop.ensures)
 
 pub returns-clause-item : goal.returns-clause-item
 returns-clause-item c =

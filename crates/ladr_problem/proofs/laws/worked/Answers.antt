@@ -2,7 +2,7 @@ use Rattle.std.proofs.Common.{[], codes, refl, true}
 use Rattle.ladr_lex.specs.declared.misuse.Misuse.TheVariants.{UnknownFlag}
 use Rattle.ladr_commands.specs.declared.command.Command.TheVariants.{Flag, If, EndIf, Formulas}
 use Rattle.ladr_lex.specs.Bytes.{is_blank, is_ordinary, is_special}
-use Rattle.ladr_lex.specs.Lexed.{start_of}
+use Rattle.ladr_lex.specs.Starts.{start_of}
 use Rattle.ladr_problem.specs.Adding.{command}
 use Rattle.ladr_problem.specs.File.{ends, open_list, breaks, goes_on}
 use Rattle.ladr_problem.proofs.WorkedFiles.{says}

@@ -6,7 +6,7 @@ use Rattle.ladr_commands.specs.declared.command.Command.TheVariants as of_comman
 use Rattle.ladr_problem.proofs.EndLemmas.{fault_of_term}
 use Rattle.ladr_problem.specs.ListItem.{closing, term}
 use Rattle.ladr_lex.specs.Bytes.{is_blank, is_ordinary, is_special}
-use Rattle.ladr_lex.specs.Lexed.{start_of}
+use Rattle.ladr_lex.specs.Starts.{start_of}
 use Rattle.ladr_lex.specs.Operators.{standard_rows}
 use Rattle.ladr_problem.specs.Adding.{command, within}
 use Rattle.ladr_problem.specs.File.{ends, bad, breaks, goes_on}

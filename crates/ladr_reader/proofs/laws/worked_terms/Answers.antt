@@ -1,7 +1,7 @@
 -- A run of the machine shows each.
 use Rattle.std.proofs.Common.{refl}
 use Rattle.ladr_lex.specs.Bytes.{is_blank, is_ordinary, is_special}
-use Rattle.ladr_lex.specs.Lexed.{start_of}
+use Rattle.ladr_lex.specs.Starts.{start_of}
 use Rattle.ladr_reader.specs.Worked.{standard}
 use Rattle.ladr_reader.proofs.Lawful.{standard_lawful}
 use Rattle.ladr_reader.proofs.Runs.{run_item}

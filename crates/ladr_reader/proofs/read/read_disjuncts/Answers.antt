@@ -16,19 +16,19 @@ returns-in-None-clause-fault c =
     bad_at n (table_of rows) (table_lawful rows c.rows_are_lawful.ensures) (table_names rows) (lexemes_of c.args.tokens.now) c.loop-i.i c.loop-i.place c.loop-i.stack
     (omega (arith, lexemes_length c.args.tokens.now))
     c.loop-i.invariant.run
-    (run_more n _ _ _ _ c.loop-i.place c.loop-i.stack c.loop-i-test.true c.loop-i.invariant.run
+    (run_more n _ _ _ c.index-tokens-i.result c.loop-i.place c.loop-i.stack c.loop-i-test.true c.index-tokens-i.is c.loop-i.invariant.run
     ∙ sym c.in_ok-next.ensures
     ∙ ap (λ o. standing o c.step.new.stack) c.in-None.is)
 
 pub loop-i-preserved : goal.loop-i-preserved
 loop-i-preserved c =
     record {
-      run = run_more c.args.build.most _ _ _ _ c.loop-i.place c.loop-i.stack c.loop-i-test.true c.loop-i.invariant.run
+      run = run_more c.args.build.most _ _ _ c.index-tokens-i.result c.loop-i.place c.loop-i.stack c.loop-i-test.true c.index-tokens-i.is c.loop-i.invariant.run
           ∙ sym c.in_ok-next.ensures
           ∙ ap (λ o. standing o c.step.new.stack) c.in-Some.is;
       few = omega arith;
       most = c.note.ensures.most (drop (c.loop-i.i + 1) (lexemes_of c.args.tokens.now))
-          ∙ ap (λ (ts : List Lexeme). max c.loop-i.parentheses.most (most_open c.loop-i.parentheses.unclosed ts)) (sym (lexemes_from c.args.tokens.now c.loop-i.i _ c.loop-i-test.true))
+          ∙ ap (λ (ts : List Lexeme). max c.loop-i.parentheses.most (most_open c.loop-i.parentheses.unclosed ts)) (sym (lexemes_from c.args.tokens.now c.loop-i.i c.index-tokens-i.result c.loop-i-test.true c.index-tokens-i.is))
           ∙ c.loop-i.invariant.most;
     }
 

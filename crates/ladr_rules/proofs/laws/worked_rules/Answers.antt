@@ -1,6 +1,6 @@
 use Rattle.std.proofs.Common.{refl}
 use Rattle.ladr_lex.specs.Bytes.{is_blank, is_ordinary, is_special}
-use Rattle.ladr_lex.specs.Lexed.{start_of}
+use Rattle.ladr_lex.specs.Starts.{start_of}
 use Rattle.ladr_formulas.specs.Formulas.{named_variable}
 use Rattle.ladr_reader.specs.Worked.{standard}
 use Rattle.ladr_reader.proofs.Lawful.{standard_lawful}

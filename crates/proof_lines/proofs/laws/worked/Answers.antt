@@ -1,6 +1,6 @@
 use Rattle.std.proofs.Common.{◌≡◌, refl, subst, inl, inr, lit≤, IsTrue}
 use Rattle.ladr_lex.specs.Bytes.{is_blank, is_ordinary, is_special}
-use Rattle.ladr_lex.specs.Lexed.{start_of}
+use Rattle.ladr_lex.specs.Starts.{start_of}
 use Rattle.ladr_lex.specs.Operators.{standard_rows}
 use Rattle.ladr_reader.specs.Worked.{constant, binary, standard}
 use Rattle.ladr_reader.proofs.Complete.{item_one}

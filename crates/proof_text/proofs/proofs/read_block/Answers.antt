@@ -6,11 +6,11 @@ use Rattle.proof_text.specs.Refused.{IsLineRefused}
 use Rattle.proof_text.proofs.LinesRead.{block_end, block_refused, stop_within}
 use Rattle.proof_text.proofs.proofs.read_block.Goals as goal
 
-pub tokens_from-requires : goal.tokens_from-requires
-tokens_from-requires c =
+pub invariant_of-text : goal.invariant_of-text
+invariant_of-text c =
     let placed : c.args.block.now.start + length c.args.block.now.bytes.items ≡ c.args.block.now.end = block_end c.requires.block.0 c.args.block.now c.requires.block.1 in
     let long : length c.deref.result.now ≡ length c.args.block.now.bytes.items = ap length c.deref.ensures.value in
-    omega (arith, placed, long)
+    record { placed = omega (arith, placed, long) }
 
 pub offset_bounds-deref-at : goal.offset_bounds-deref-at
 offset_bounds-deref-at c =

@@ -1,6 +1,6 @@
 use Rattle.std.proofs.Common.{refl}
 use Rattle.ladr_lex.specs.Bytes.{is_blank, is_ordinary, is_special}
-use Rattle.ladr_lex.specs.Lexed.{start_of}
+use Rattle.ladr_lex.specs.Starts.{start_of}
 use Rattle.proof_words.specs.Spelling.{line_words}
 use Rattle.proof_words.specs.Worked.{tokens_of}
 use Rattle.proof_words.specs.declared.names.ContentKind.TheVariants.{Formula, Clause, Either}
