@@ -3,5 +3,7 @@ pub mod Commands
 pub mod Faults
 pub mod Form
 pub mod LexemeCodes
+pub mod Spelled
+pub mod SpelledParts
 pub mod Wanted
 pub mod Worked

@@ -57,3 +57,15 @@ exchange =
     ∷ word "function" ∷ open_paren ∷ word "f" ∷ open_paren ∷ word "_" ∷ close_paren ∷ comma
     ∷ open_square ∷ word "1" ∷ comma ∷ word "0" ∷ close_square ∷ close_paren
     ∷ close_square ∷ close_paren ∷ full_stop ∷ []
+
+-- `function_order([c, "g"]).`
+abbrev pub order : List Lexeme
+order =
+    word "function_order" ∷ open_paren ∷ open_square ∷ word "c" ∷ comma
+    ∷ symbol quoted (codes "\"g\"") ∷ close_square ∷ close_paren ∷ full_stop ∷ []
+
+-- `interpretation(1, [], []).`
+abbrev pub no_entries : List Lexeme
+no_entries =
+    word "interpretation" ∷ open_paren ∷ word "1" ∷ comma ∷ open_square ∷ close_square ∷ comma
+    ∷ open_square ∷ close_square ∷ close_paren ∷ full_stop ∷ []

@@ -14,5 +14,5 @@ mod word;
 pub use by_name::{ByName, TableEntry};
 pub use command::{Command, Value};
 pub use fault::CommandFault;
-pub use laws::{one_command, worked};
+pub use laws::{commands_are_spelled, one_command, worked, worked_spellings};
 pub use read::{read_command, read_interpretation};

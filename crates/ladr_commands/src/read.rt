@@ -4,6 +4,7 @@ ghost use Rattle.ladr_lex.specs.Lexeme.{Lexeme, lexeme_of, lexemes_of};
 ghost use Rattle.ladr_commands.specs.Commands.{commands_of, interpretation_item, behind_first_token, behind_word, name_form, names_form, assign_form, behind_value, behind_dash, declaration, behind_type, whole_in};
 ghost use Rattle.ladr_commands.specs.Faults.{IsCommandFault};
 ghost use Rattle.ladr_commands.specs.Form.{Form, token, members, opened, closed, stopped, behind_text, IsMember, list, form_outcome, reads, stops, SaysCommand};
+ghost use Rattle.ladr_commands.specs.Spelled.{Spells, SpellsInterpretation, SpellsNone};
 ghost use Rattle.ladr_commands.specs.declared.command.Command.{Command};
 ghost use Rattle.ladr_commands.specs.declared.command.Command.TheVariants as command;
 ghost use Rattle.ladr_commands.specs.declared.command.Command.TheVariants.{Interpretation};
@@ -27,6 +28,8 @@ use std::alloc::Global;
 pub fn read_command(alloc: Global, tester: bool, tokens: &[Token]) -> Result<Command, CommandFault>
     ensures read { IfOk result (λ c. SaysCommand (commands_of tester) (lexemes_of tokens.now) c) }
     ensures fault { IfErr result (IsCommandFault (commands_of tester) (lexemes_of tokens.now)) }
+    ensures spelled { IfOk result (Spells tester (lexemes_of tokens.now)) }
+    ensures unspelled { IfErr result (SpellsNone (Spells tester (lexemes_of tokens.now))) }
 {
     let mut cursor = Cursor::new(tokens);
     match command(alloc, tester, &mut cursor) {
@@ -41,6 +44,8 @@ pub fn read_interpretation(alloc: Global, tokens: &[Token]) -> Result<ByName, Co
     ensures read { IfOk result (λ it. SaysCommand interpretation_item (lexemes_of tokens.now)
         (Interpretation it)) }
     ensures fault { IfErr result (IsCommandFault interpretation_item (lexemes_of tokens.now)) }
+    ensures spelled { IfOk result (SpellsInterpretation (lexemes_of tokens.now)) }
+    ensures unspelled { IfErr result (SpellsNone (SpellsInterpretation (lexemes_of tokens.now))) }
 {
     let mut cursor = Cursor::new(tokens);
     match worded_interpretation(alloc, &mut cursor) {

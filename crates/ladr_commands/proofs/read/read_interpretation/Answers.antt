@@ -2,7 +2,10 @@ use Rattle.std.proofs.Common.{◌≡◌, ◌≤◌, ◌∙◌, ap, subst, length
 use Rattle.ladr_lex.specs.Lexeme.{lexemes_of}
 use Rattle.ladr_commands.specs.Commands.{interpretation_item}
 use Rattle.ladr_commands.specs.Faults.{IsBadCommandToken}
-use Rattle.ladr_commands.specs.Form.{form_outcome, stops}
+use Rattle.ladr_commands.specs.Form.{form_outcome, reads, stops}
+use Rattle.ladr_commands.specs.declared.command.Command.TheVariants.{Interpretation}
+use Rattle.ladr_commands.proofs.Reading.{interpretation_spelled}
+use Rattle.ladr_commands.proofs.Spelling.{interpretation_said}
 use Rattle.ladr_commands.proofs.Forms.{length-lexemes_of, left_within, first_bad}
 use Rattle.ladr_commands.proofs.read.read_interpretation.Goals as goal
 
@@ -19,3 +22,14 @@ returns-in-Err-Bad-clause-fault c =
     omega (arith, length-lexemes_of c.args.tokens.now, c.left.ensures) in
     let h = first_bad interpretation_item (lexemes_of c.args.tokens.now) c.worded_interpretation.new.cursor (rw c.new-cursor.ensures at e) in
     (subst (λ n. IsBadCommandToken interpretation_item (lexemes_of c.args.tokens.now) n) k h.0, h.1)
+
+pub returns-in-Ok-clause-spelled : goal.returns-in-Ok-clause-spelled
+returns-in-Ok-clause-spelled c =
+    let e : form_outcome interpretation_item c.new-cursor.result ≡ reads (Interpretation c.in-Ok.it) = c.in-Ok.ensures.ok in
+    interpretation_spelled (lexemes_of c.args.tokens.now) c.in-Ok.it (rw c.new-cursor.ensures at e)
+
+pub returns-in-Err-Bad-clause-unspelled : goal.returns-in-Err-Bad-clause-unspelled
+returns-in-Err-Bad-clause-unspelled c =
+    let e : form_outcome interpretation_item c.new-cursor.result ≡ stops c.worded_interpretation.new.cursor = c.worded_interpretation.ensures.bad (cc) in
+    let h = first_bad interpretation_item (lexemes_of c.args.tokens.now) c.worded_interpretation.new.cursor (rw c.new-cursor.ensures at e) in
+    λ it i. h.1 (Interpretation it) (interpretation_said (lexemes_of c.args.tokens.now) it i)
