@@ -30,7 +30,8 @@ begins (x ∷ a) (y ∷ T) k =
     let f : y ≡ x = cc in
     (λ i. f i ∷ begins a T (λ n s h. k (suc n) s h) i)
 
-found : (a T : List Symbol) (name : List ℕ) (arity n : ℕ) → KeepsNumbers a T → number_of a name arity ≡ Some n → number_of T name arity ≡ Some n
+-- what is found in a table is found in one that keeps its numbers
+pub found : (a T : List Symbol) (name : List ℕ) (arity n : ℕ) → KeepsNumbers a T → number_of a name arity ≡ Some n → number_of T name arity ≡ Some n
 found a T name arity n k h = ap (λ (t : List Symbol). number_of t name arity) (begins a T k) ∙ first_place-append (is_called name arity) a (drop (length a) T) n h
 
 kind_found : (a T : List Symbol) (name : List ℕ) (arity n : ℕ) → KeepsNumbers a T → number_of a name arity ≡ Some n → kind_at T n ≡ kind_at a n

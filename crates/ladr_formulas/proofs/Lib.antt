@@ -1,12 +1,17 @@
 pub mod Behind
+pub mod BoundPlaces
 pub mod ClauseElements
 pub mod ClauseLemmas
 pub mod FormulaLemmas
 pub mod Growing
+pub mod MeaningLemmas
 pub mod NoElements
 pub mod NumberingLemmas
+pub mod OneMeaning
+pub mod OrderLemmas
 pub mod OwnFormulas
 pub mod OwnTerms
 pub mod OwnVariables
 pub mod ScopeLemmas
 pub mod TermLemmas
+pub mod VariableOrder

@@ -1,8 +1,11 @@
 pub mod ClauseIn
 pub mod Formulas
 pub mod Literals
+pub mod Means
 pub mod Numbering
+pub mod Occurring
 pub mod ReaderView
 pub mod ScopeView
+pub mod VariablesMet
 pub mod Whole
 pub mod WorkedFormulas

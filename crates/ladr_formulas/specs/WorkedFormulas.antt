@@ -4,7 +4,7 @@ use Rattle.fol_core.specs.RawTree.{RawTree, named, quantified, no_raws, more_raw
 use Rattle.fol_core.specs.Tree.{Tree, app, none, more}
 use Rattle.fol_core.specs.declared.raw.Quantifier.TheVariants.{All}
 use Rattle.ladr_lex.specs.declared.misuse.Misuse.{Misuse}
-use Rattle.ladr_formulas.specs.Formulas.{Style, formula_reading}
+use Rattle.ladr_formulas.specs.Formulas.{Style, Variable, formula_reading}
 
 abbrev pub for_tester : Style
 for_tester = record { elements = true; prolog = false }
@@ -92,3 +92,10 @@ great_numeral = one_part (codes "p") (leaf (codes "1000000000"))
 
 abbrev pub great_function : RawTree
 great_function = one_part (codes "p") (one_part (codes "1000000000") (leaf (codes "a")))
+
+-- variables that a quantifier brings, and free ones
+abbrev pub bound_variable : List ℕ → Variable
+bound_variable name = record { name = name; free = false }
+
+abbrev pub free_variable : List ℕ → Variable
+free_variable name = record { name = name; free = true }

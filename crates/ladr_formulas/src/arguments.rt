@@ -1,10 +1,13 @@
 // Terms that stand in no formula.
-ghost use Rattle.std.specs.Prelude.{◌≡◌, [], length, IfOk};
+ghost use Rattle.std.specs.Prelude.{◌≡◌, [], ◌++◌, None, length, IfOk, OnOk};
 ghost use Rattle.fol_core.specs.Bound.{HaveSymbolsBelow};
 ghost use Rattle.fol_core.specs.RawTree.{raws_of};
 ghost use Rattle.fol_core.specs.SymbolTable.{KeepsNumbers};
 ghost use Rattle.fol_core.specs.Tree.{trees_of};
 ghost use Rattle.ladr_formulas.specs.Formulas.{unread, terms_of};
+ghost use Rattle.ladr_formulas.specs.Means.{MeanTerms};
+ghost use Rattle.ladr_formulas.specs.Occurring.{symbols_of_terms, new_symbols};
+ghost use Rattle.ladr_formulas.specs.VariablesMet.{variables_of_terms, numbered};
 
 use crate::formulas::terms;
 use crate::numbering::Variables;
@@ -40,6 +43,15 @@ pub fn terms_of(
         }) }
     // The symbols are of the table.
     ensures symbols { IfOk result (λ r. HaveSymbolsBelow (length symbols.new) (trees_of r.terms)) }
+    // New symbols stand behind the others, in the order in which they occur, and so do the variables.
+    ensures ordered { OnOk result (symbols.new ≡ symbols.old ++ new_symbols symbols.old
+        (symbols_of_terms style [] (raws_of raws.now))) }
+    ensures numbered { IfOk result (λ r. r.variables
+        ≡ numbered (variables_of_terms style [] (raws_of raws.now))) }
+    // Where no row was met the terms are what the arguments mean by these.
+    ensures means { IfOk result (λ r. r.least ≡ None → MeanTerms style symbols.new
+        (numbered (variables_of_terms style [] (raws_of raws.now))) [] (raws_of raws.now)
+        (trees_of r.terms)) }
     // Whatever the answer, the old symbols keep their numbers.
     ensures kept { KeepsNumbers symbols.old symbols.new }
 {

@@ -1,15 +1,19 @@
 // From literals as they are read to a clause.
-ghost use Rattle.std.specs.Prelude.{◌≡◌, [], Some, IfOk, OnOk};
+ghost use Rattle.std.specs.Prelude.{◌≡◌, [], ◌++◌, Some, None, IfOk, OnOk};
 ghost use Rattle.std.specs.Option.{option_map};
 ghost use Rattle.fol_core.specs.ClauseView.{literal_of};
+ghost use Rattle.fol_core.specs.Fol.{Fol};
 ghost use Rattle.fol_core.specs.FormulaView.{fol_of};
 ghost use Rattle.fol_core.specs.RawTree.{RawTree};
 ghost use Rattle.fol_core.specs.RawView.{raw_list};
 ghost use Rattle.fol_core.specs.SymbolTable.{KeepsNumbers};
 ghost use Rattle.ladr_reader.specs.Capped.{disjuncts};
-ghost use Rattle.ladr_formulas.specs.ClauseIn.{atom_in, literal_in};
-ghost use Rattle.ladr_formulas.specs.Formulas.{formula_in, formula_reading, style_of};
+ghost use Rattle.ladr_formulas.specs.ClauseIn.{atom_in, literal_in, clause_in};
+ghost use Rattle.ladr_formulas.specs.Formulas.{formula_in, formula_reading, names_of_variables, style_of};
 ghost use Rattle.ladr_formulas.specs.Literals.{formulas_in, all_literals, clause_from, with_literal, IsClauseRead};
+ghost use Rattle.ladr_formulas.specs.Means.{IsMeaning};
+ghost use Rattle.ladr_formulas.specs.Occurring.{occurring, new_symbols};
+ghost use Rattle.ladr_formulas.specs.VariablesMet.{variables_in};
 
 use crate::formulas::formula;
 use crate::reader::Reader;
@@ -41,6 +45,16 @@ pub fn clause_of(
     // It is the clause of the term's formula.
     ensures read { IfOk result (λ r. (t : RawTree) → raw_list literals.now ≡ disjuncts t →
         IsClauseRead (formula_reading (style_of mode prolog) symbols.old t) r symbols.new) }
+    // New symbols stand behind the others, in the order in which they occur in the term, and so do the variables.
+    ensures ordered { IfOk result (λ r. (t : RawTree) → raw_list literals.now ≡ disjuncts t →
+        symbols.new ≡ symbols.old ++ new_symbols symbols.old
+        (occurring (style_of mode prolog) [] t)) }
+    ensures numbered { IfOk result (λ r. (t : RawTree) → raw_list literals.now ≡ disjuncts t →
+        r.names ≡ names_of_variables (variables_in (style_of mode prolog) t)) }
+    // Where no row was met the formula is what the term means by these.
+    ensures means { IfOk result (λ r. (t : RawTree) → raw_list literals.now ≡ disjuncts t →
+        r.least ≡ None →
+        (f : Fol) × IsMeaning (style_of mode prolog) symbols.new t f × (r.clause ≡ clause_in f)) }
     // Whatever the answer, the old symbols keep their numbers.
     ensures kept { KeepsNumbers symbols.old symbols.new }
 {

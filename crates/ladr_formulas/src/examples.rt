@@ -6,7 +6,10 @@ ghost use Rattle.fol_core.specs.Tree.{var, elem, app, none, more};
 ghost use Rattle.fol_core.specs.declared.symbols.Kind.TheVariants.{Function, Relation};
 ghost use Rattle.ladr_lex.specs.declared.misuse.Misuse.TheVariants.{TwoKinds, VariableAsFormula, QuantifierInTerm, UnfitAttribute, UnfitNumeral};
 ghost use Rattle.ladr_formulas.specs.Formulas.{formula_reading, names_of_variables};
-ghost use Rattle.ladr_formulas.specs.WorkedFormulas.{for_tester, for_prover, in_prolog, misuse_of, leaf, one_part, function, bound_and_free, involution, one_name_twice, misuses, numeral, three_arities, constant_bound, denial_of_two, connectives, great_numeral, great_function};
+ghost use Rattle.ladr_formulas.specs.Means.{Means};
+ghost use Rattle.ladr_formulas.specs.Occurring.{occurring, new_symbols};
+ghost use Rattle.ladr_formulas.specs.VariablesMet.{variables_in};
+ghost use Rattle.ladr_formulas.specs.WorkedFormulas.{for_tester, for_prover, in_prolog, misuse_of, leaf, one_part, function, bound_variable, free_variable, bound_and_free, involution, one_name_twice, misuses, numeral, three_arities, constant_bound, denial_of_two, connectives, great_numeral, great_function};
 
 /// Terms and their formulas.
 pub fn worked_formulas()
@@ -66,4 +69,70 @@ pub fn worked_refusals()
     ensures great { misuse_of for_tester great_numeral ≡ Some UnfitNumeral }
     ensures great_function { misuse_of for_tester great_function ≡ Some UnfitNumeral }
     ensures symbols { misuse_of for_prover great_function ≡ None }
+{}
+
+/// The symbols of terms, in their order.
+pub fn worked_symbols()
+    // p(f,f(x),f(x,x))
+    ensures three_arities { occurring for_tester [] three_arities
+        ≡ symbol (codes "p") 3 Relation ∷ symbol (codes "f") 0 Function ∷
+        symbol (codes "f") 1 Function ∷ symbol (codes "f") 2 Function ∷ [] }
+    // p(x) <- (all x q(x)): the premise is read first.
+    ensures premise_first { occurring for_tester [] one_name_twice
+        ≡ symbol (codes "q") 1 Relation ∷ symbol (codes "p") 1 Relation ∷ [] }
+    // $T <-> ($F & (t | u(x)))
+    ensures connectives { occurring for_tester [] connectives
+        ≡ symbol (codes "t") 0 Relation ∷ symbol (codes "u") 1 Relation ∷ [] }
+    // all $T p($T)
+    ensures constant_bound { occurring for_tester [] constant_bound
+        ≡ symbol (codes "p") 1 Relation ∷ [] }
+    // a != 2: for the prover 2 is a constant.
+    ensures element { occurring for_tester [] numeral ≡ symbol (codes "a") 0 Function ∷ [] }
+    ensures constant { occurring for_prover [] numeral
+        ≡ symbol (codes "a") 0 Function ∷ symbol (codes "2") 0 Function ∷ [] }
+    // f(f(x)) = x: f occurs twice, and is one new symbol, or none where it stands in the table.
+    ensures involution { occurring for_tester [] involution
+        ≡ symbol (codes "f") 1 Function ∷ symbol (codes "f") 1 Function ∷ [] }
+    ensures once { new_symbols [] (occurring for_tester [] involution)
+        ≡ symbol (codes "f") 1 Function ∷ [] }
+    ensures known { new_symbols (symbol (codes "f") 1 Function ∷ [])
+        (occurring for_tester [] involution) ≡ [] }
+{}
+
+/// The variables of terms, by number.
+pub fn worked_variables()
+    // all x p(x,f(y))
+    ensures bound_and_free { variables_in for_tester bound_and_free
+        ≡ bound_variable (codes "x") ∷ free_variable (codes "y") ∷ [] }
+    // p(x) <- (all x q(x)): the bound x is read first.
+    ensures one_name_twice { variables_in for_tester one_name_twice
+        ≡ bound_variable (codes "x") ∷ free_variable (codes "x") ∷ [] }
+    // p(f,f(x),f(x,x))
+    ensures three_arities { variables_in for_tester three_arities
+        ≡ free_variable (codes "x") ∷ [] }
+    // all $T p($T)
+    ensures constant_bound { variables_in for_tester constant_bound
+        ≡ bound_variable (codes "$T") ∷ [] }
+    // p(f,f(x),f(x,x)) with the variables of Prolog
+    ensures prolog { variables_in in_prolog three_arities ≡ [] }
+{}
+
+/// What terms mean.
+pub fn worked_meanings()
+    // all x p(x,f(y)), where p is symbol 0 and f symbol 1, x variable 0 and y variable 1
+    ensures bound_and_free { Means for_tester
+        (symbol (codes "p") 2 Relation ∷ symbol (codes "f") 1 Function ∷ [])
+        (bound_variable (codes "x") ∷ free_variable (codes "y") ∷ []) [] bound_and_free
+        (forall 0 (atom 0 (more (var 0) (more (function 1 (var 1)) none)))) }
+    // p(x) <- (all x q(x)), where p is symbol 1 and q symbol 0, and the free x is variable 1
+    ensures one_name_twice { Means for_tester
+        (symbol (codes "q") 1 Relation ∷ symbol (codes "p") 1 Relation ∷ [])
+        (bound_variable (codes "x") ∷ free_variable (codes "x") ∷ []) [] one_name_twice
+        (implication (forall 0 (atom 0 (more (var 0) none))) (atom 1 (more (var 1) none))) }
+    // a != 2: no variables
+    ensures element { Means for_tester (symbol (codes "a") 0 Function ∷ []) [] [] numeral
+        (negation (equal (app 0 none) (elem 2))) }
+    ensures constant { Means for_prover
+        (symbol (codes "2") 0 Function ∷ symbol (codes "a") 0 Function ∷ []) [] [] numeral
+        (negation (equal (app 1 none) (app 0 none))) }
 {}

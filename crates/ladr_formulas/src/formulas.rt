@@ -1,5 +1,5 @@
 // From terms as they are read to formulas.
-ghost use Rattle.std.specs.Prelude.{◌≡◌, [], ◌∷◌, length, None, IfOk, OnOk};
+ghost use Rattle.std.specs.Prelude.{◌≡◌, [], ◌∷◌, ◌++◌, length, None, IfOk, OnOk};
 ghost use Rattle.fol_core.specs.declared.symbols.Kind.TheVariants.{Function};
 ghost use Rattle.fol_core.specs.Bound.{BindsOnce, HasSymbolsBelow};
 ghost use Rattle.fol_core.specs.FormulaView.{fol_of};
@@ -8,7 +8,10 @@ ghost use Rattle.fol_core.specs.RawView.{raw_of};
 ghost use Rattle.fol_core.specs.SymbolTable.{KeepsNumbers};
 ghost use Rattle.fol_core.specs.Tree.{trees_of};
 ghost use Rattle.fol_core.specs.TermView.{tree_of};
-ghost use Rattle.ladr_formulas.specs.Formulas.{is_element, is_too_great, arity_of, meets, with_symbol, symbol_number, constant, term_of, terms_of, relation_of, equation_read, sentence, bound_by, joined_by, comparison, formula_in, formula_reading, style_of};
+ghost use Rattle.ladr_formulas.specs.Formulas.{is_element, is_too_great, arity_of, meets, with_symbol, symbol_number, constant, term_of, terms_of, relation_of, equation_read, sentence, bound_by, joined_by, comparison, formula_in, formula_reading, names_of_variables, style_of};
+ghost use Rattle.ladr_formulas.specs.Means.{IsMeaning};
+ghost use Rattle.ladr_formulas.specs.Occurring.{occurring, new_symbols};
+ghost use Rattle.ladr_formulas.specs.VariablesMet.{variables_in};
 ghost use Rattle.ladr_formulas.specs.Whole.{IsWhole};
 
 use crate::connectives::{Connective, connective_of, is_denial};
@@ -343,6 +346,15 @@ pub fn read_formula(
     ensures once { IfOk result (λ r. r.least ≡ None → BindsOnce (fol_of r.formula.shape)) }
     ensures symbols { IfOk result (λ r. HasSymbolsBelow (length symbols.new)
         (fol_of r.formula.shape)) }
+    // New symbols stand behind the others, in the order in which they occur.
+    ensures ordered { OnOk result (symbols.new ≡ symbols.old ++ new_symbols symbols.old
+        (occurring (style_of mode prolog) [] (raw_of raw.now))) }
+    // So do the variables: each free one where it is first met, and each quantifier's.
+    ensures numbered { IfOk result (λ r. r.formula.names
+        ≡ names_of_variables (variables_in (style_of mode prolog) (raw_of raw.now))) }
+    // Where no row was met the formula is what the term means by these symbols and variables.
+    ensures means { IfOk result (λ r. r.least ≡ None → IsMeaning (style_of mode prolog) symbols.new
+        (raw_of raw.now) (fol_of r.formula.shape)) }
     // Whatever the answer, the old symbols keep their numbers.
     ensures kept { KeepsNumbers symbols.old symbols.new }
 {

@@ -1,6 +1,7 @@
 // Laws of the definitions.
-ghost use Rattle.std.specs.Prelude.{◌≡◌, ℕ, Bool, Some, true, false, List, []};
+ghost use Rattle.std.specs.Prelude.{◌≡◌, ℕ, Bool, Some, None, true, false, List, [], ◌++◌};
 ghost use Rattle.std.specs.List.{list_any};
+ghost use Rattle.fol_core.specs.Fol.{Fol};
 ghost use Rattle.fol_core.specs.Literals.{ClauseTree};
 ghost use Rattle.fol_core.specs.Occurs.{names, names_in, names_in_any};
 ghost use Rattle.fol_core.specs.RawTree.{RawTree, RawTrees};
@@ -8,6 +9,9 @@ ghost use Rattle.fol_core.specs.SymbolTable.{Symbol, KeepsNumbers};
 ghost use Rattle.ladr_lex.specs.Cuts.{is_quoted};
 ghost use Rattle.ladr_formulas.specs.ClauseIn.{clause_in};
 ghost use Rattle.ladr_formulas.specs.Formulas.{Style, is_free_name, formula_reading, terms_of, unread, style_of};
+ghost use Rattle.ladr_formulas.specs.Means.{IsMeaning};
+ghost use Rattle.ladr_formulas.specs.Occurring.{occurring, new_symbols};
+ghost use Rattle.ladr_formulas.specs.VariablesMet.{variables_in};
 
 use crate::styles::Mode;
 
@@ -25,6 +29,26 @@ pub fn larger_tables()
           tree = (formula_reading st table t).tree;
           reading = record (formula_reading st table t).reading { symbols = larger };
         } }
+{}
+
+/// Behind a reading the table is the one before it and then what is new, in the order in which it occurs; the variables are in
+/// their order too. Where nothing is misused the formula is what the term means by these symbols and variables.
+pub fn readings_mean()
+    ensures ordered { (st : Style) (table : List Symbol) (t : RawTree) →
+        (formula_reading st table t).reading.symbols
+        ≡ table ++ new_symbols table (occurring st [] t) }
+    ensures numbered { (st : Style) (table : List Symbol) (t : RawTree) →
+        (formula_reading st table t).reading.variables ≡ variables_in st t }
+    ensures means { (st : Style) (table : List Symbol) (t : RawTree) →
+        (formula_reading st table t).reading.least ≡ None →
+        IsMeaning st (formula_reading st table t).reading.symbols t
+        (formula_reading st table t).tree }
+{}
+
+/// By a table of symbols a term as read means one formula at most.
+pub fn one_meaning()
+    ensures { (st : Style) (table : List Symbol) (t : RawTree) (f g : Fol) →
+        IsMeaning st table t f → IsMeaning st table t g → f ≡ g }
 {}
 
 /// What is read for the prover names no element.

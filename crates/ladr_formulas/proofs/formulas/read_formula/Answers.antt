@@ -6,7 +6,10 @@ use Rattle.fol_core.specs.SymbolTable.{Symbol, KeepsNumbers}
 use Rattle.ladr_formulas.specs.Formulas.{Made, unread, style_of, formula_in, formula_reading}
 use Rattle.ladr_formulas.specs.ReaderView.{Progress}
 use Rattle.ladr_formulas.specs.Whole.{IsWhole}
+use Rattle.ladr_formulas.proofs.MeaningLemmas.{whole_means}
+use Rattle.ladr_formulas.proofs.OrderLemmas.{whole_in_order}
 use Rattle.ladr_formulas.proofs.OwnFormulas.{whole_once, whole_below}
+use Rattle.ladr_formulas.proofs.VariableOrder.{whole_numbered}
 use Rattle.ladr_formulas.proofs.formulas.read_formula.Goals as goal
 
 -- the reader begins with the table
@@ -32,3 +35,12 @@ returns-clause-once c = whole_once c.whole_formula-answer.result (style_of c.arg
 
 pub returns-clause-symbols : goal.returns-clause-symbols
 returns-clause-symbols c = whole_below c.whole_formula-answer.result (style_of c.args.mode c.args.prolog) c.args.symbols.now (raw_of c.args.raw.now) _ (returns-clause-read c)
+
+pub returns-clause-ordered : goal.returns-clause-ordered
+returns-clause-ordered c = whole_in_order c.whole_formula-answer.result (style_of c.args.mode c.args.prolog) c.args.symbols.now (raw_of c.args.raw.now) _ (returns-clause-read c)
+
+pub returns-clause-numbered : goal.returns-clause-numbered
+returns-clause-numbered c = whole_numbered c.whole_formula-answer.result (style_of c.args.mode c.args.prolog) c.args.symbols.now (raw_of c.args.raw.now) _ (returns-clause-read c)
+
+pub returns-clause-means : goal.returns-clause-means
+returns-clause-means c = whole_means c.whole_formula-answer.result (style_of c.args.mode c.args.prolog) c.args.symbols.now (raw_of c.args.raw.now) _ (returns-clause-read c)

@@ -1,0 +1,11 @@
+use Rattle.ladr_formulas.proofs.MeaningLemmas.{reading_means}
+use Rattle.ladr_formulas.proofs.OrderLemmas.{read_in_order}
+use Rattle.ladr_formulas.proofs.VariableOrder.{variables_read}
+use Rattle.ladr_formulas.proofs.laws.readings_mean.Goals as goal
+
+pub returns : goal.returns
+returns c = record {
+  ordered = λ st table t. read_in_order st table t;
+  numbered = λ st table t. variables_read st table t;
+  means = λ st table t sound. reading_means st table t sound;
+}
