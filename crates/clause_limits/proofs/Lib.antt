@@ -1,2 +1,3 @@
+pub mod Maxima
 mod Measured
 pub mod Numbered

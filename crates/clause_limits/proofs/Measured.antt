@@ -1,6 +1,6 @@
 -- How large several terms of a bank are, term by term.
 use Rattle.std.proofs.Common.{◌≡◌, ℕ, ◌+◌, ◌-◌, ◌<◌, ◌≤◌, Bool, true, false, nat_lt, max, ◌||◌, List, [], ◌∷◌, map, length, get_or, drop, refl, sym, ap, ap₂, ◌∙◌, arith}
-use Rattle.std.proofs.lemmas.Bool.{lt-ltb, ltb-true, le-ltb, ltb-false}
+use Rattle.std.proofs.lemmas.Bool.{lt-ltb, le-ltb}
 use Rattle.std.proofs.lemmas.List.{drop_all, drop_more}
 use Rattle.fol_core.specs.Literals.{Lit, ClauseTree}
 use Rattle.fol_core.specs.Tree.{Tree, trees_of}
@@ -8,14 +8,7 @@ use Rattle.term_bank.specs.Bank.{tree_at, size_of, sizes_of, term_depth, depths_
 use Rattle.term_bank.specs.declared.id.TermId.{TermId}
 use Rattle.clause_limits.specs.Sizes.{clause_size, clause_depth, is_too_large}
 use Rattle.clause_limits.specs.Terms.{terms_of}
-
-lt_max : (n a b : ℕ) → nat_lt n (max a b) ≡ (nat_lt n a || nat_lt n b)
-lt_max n a b = by (nat_lt n a) refl (nat_lt n b) refl
-  where
-    by : (x : Bool) → nat_lt n a ≡ x → (y : Bool) → nat_lt n b ≡ y → nat_lt n (max a b) ≡ (x || y)
-    by true e y f = let h : n < a = ltb-true n a e in lt-ltb n (max a b) (omega (arith, h))
-    by false e true f = let h : n < b = ltb-true n b f in lt-ltb n (max a b) (omega (arith, h))
-    by false e false f = let h : a ≤ n = ltb-false n a e in let k : b ≤ n = ltb-false n b f in le-ltb n (max a b) (omega (arith, h, k))
+use Rattle.clause_limits.proofs.Maxima.{lt_max}
 
 module _ (bank : List Tree) (ids : List TermId) (i : ℕ) where
   -- whether one of the terms from a place on has more levels

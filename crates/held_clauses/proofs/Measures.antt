@@ -1,7 +1,8 @@
 -- How large terms are, argument by argument.
-use Rattle.std.proofs.Common.{◌≡◌, ℕ, ◌+◌, ◌-◌, ◌<◌, ◌≤◌, Bool, true, false, nat_lt, max, ◌||◌, length, List, get_or, drop, refl, ap, ◌∙◌, arith}
+use Rattle.std.proofs.Common.{◌≡◌, ℕ, ◌+◌, ◌-◌, ◌<◌, ◌≤◌, Bool, true, false, nat_lt, max, ◌||◌, length, List, get_or, drop, ap, ◌∙◌, arith}
 use Rattle.std.proofs.lemmas.Bool.{lt-ltb, ltb-true, le-ltb, ltb-false}
 use Rattle.std.proofs.lemmas.List.{drop_all}
+use Rattle.clause_limits.proofs.Maxima.{lt_max}
 use Rattle.held_clauses.proofs.Items.{drop_item}
 use Rattle.fol_core.specs.ClauseView.{literal_of}
 use Rattle.fol_core.specs.TermView.{tree_of, tree_list}
@@ -11,14 +12,6 @@ use Rattle.fol_core.specs.declared.term.Term.{Term}
 use Rattle.prover_steps.specs.Searching.{clause_size, clause_depth}
 use Rattle.std.specs.Prelude.{map}
 use Rattle.term_bank.specs.Bank.{size_of, sizes_of, term_depth, depths_of}
-
-lt_max : (n a b : ℕ) → nat_lt n (max a b) ≡ (nat_lt n a || nat_lt n b)
-lt_max n a b = by (nat_lt n a) refl (nat_lt n b) refl
-  where
-    by : (x : Bool) → nat_lt n a ≡ x → (y : Bool) → nat_lt n b ≡ y → nat_lt n (max a b) ≡ (x || y)
-    by true e y f = let h : n < a = ltb-true n a e in lt-ltb n (max a b) (omega (arith, h))
-    by false e true f = let h : n < b = ltb-true n b f in lt-ltb n (max a b) (omega (arith, h))
-    by false e false f = let h : a ≤ n = ltb-false n a e in let k : b ≤ n = ltb-false n b f in le-ltb n (max a b) (omega (arith, h, k))
 
 -- whether one of the terms from a place on has more levels
 abbrev pub deeper_from : ℕ → List Term → ℕ → Bool
