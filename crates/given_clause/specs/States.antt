@@ -1,5 +1,6 @@
 -- The states of the code.
-use Rattle.std.specs.Prelude.{[], map}
+use Rattle.std.specs.Prelude.{◌≡◌, true, false, [], map}
+use Rattle.clause_limits.specs.Sizes.{is_too_large}
 use Rattle.derivation.specs.View.{later_of}
 use Rattle.derivation.specs.declared.line.Content.{Content}
 use Rattle.derivation.specs.declared.line.Content.TheVariants.{Formula, Clause}
@@ -30,6 +31,11 @@ queued_of q = record {
 abbrev pub entry_of : QueueEntry → Queued
 entry_of (Built q) = queued_of q
 entry_of (Large c f) = queued_for (record { clause = renumbered c; first = written_first f })
+
+-- what is queued is built exactly where it isn't too large
+abbrev pub IsQueuedWithin : QueueEntry → Type 0
+IsQueuedWithin (Built q) = is_too_large q.clause ≡ false
+IsQueuedWithin (Large c f) = is_too_large c ≡ true
 
 -- a line's clause
 abbrev pub line_clause : Content → ClauseTree

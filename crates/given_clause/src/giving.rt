@@ -1,8 +1,9 @@
 // A clause is given.
-ghost use Rattle.std.specs.Prelude.{◌≡◌, ◌++◌, IfOk, OnOk, map, filter, not};
+ghost use Rattle.std.specs.Prelude.{◌≡◌, ◌++◌, [], IfOk, OnOk, map, filter, not};
+ghost use Rattle.std.specs.List.{AllByRecursion};
 ghost use Rattle.given_clause.specs.Guides.{setting_of};
 ghost use Rattle.given_clause.specs.Noted.{AreNoted, StayNoted};
-ghost use Rattle.given_clause.specs.States.{entry_of, state_of};
+ghost use Rattle.given_clause.specs.States.{entry_of, state_of, IsQueuedWithin};
 ghost use Rattle.prover_steps.specs.HeldOrder.{numbers_of, IsInOrder, IsNoneOf};
 ghost use Rattle.prover_steps.specs.Searching.{Setting, queued_for, gives, given_next};
 ghost use Rattle.resolution.specs.View.{conclusion_of};
@@ -20,25 +21,33 @@ use std::collections::VecDeque;
 
 // A conclusion as it is queued.
 fn queued(alloc: Global, conclusion: Conclusion) -> QueueEntry
-    ensures { entry_of result ≡ queued_for (conclusion_of conclusion) }
+    ensures entry { entry_of result ≡ queued_for (conclusion_of conclusion) }
+    ensures within { IsQueuedWithin result }
 {
     let Conclusion { clause, first } = conclusion;
     match clause {
-        Concluded::Numbered(clause) => QueueEntry::Built(Queued {
-            clause,
-            first,
-            later: Vec::new(alloc),
-            input: None,
-            usable: false,
-        }),
-        Concluded::Large(clause) => QueueEntry::Large(clause, first),
+        Concluded::Numbered(clause) => {
+            clause.keeps_to_limits();
+            QueueEntry::Built(Queued {
+                clause: clause.into_clause(),
+                first,
+                later: Vec::new(alloc),
+                input: None,
+                usable: false,
+            })
+        }
+        Concluded::Large(clause) => {
+            clause.exceeds_limits();
+            QueueEntry::Large(clause, first)
+        }
     }
 }
 
 // Conclusions, queued in their order.
 fn queued_all(alloc: Global, mut new: Vec<Conclusion>) -> Result<VecDeque<QueueEntry>, AllocError>
-    ensures { IfOk result (λ qs. map entry_of qs.items
+    ensures entries { IfOk result (λ qs. map entry_of qs.items
         ≡ map queued_for (map conclusion_of new.items)) }
+    ensures within { IfOk result (λ qs. AllByRecursion IsQueuedWithin qs.items) }
 {
     let mut queue = VecDeque::new(alloc);
     while let Some(conclusion) = new.pop() {
@@ -57,6 +66,7 @@ fn give(
     requires { IsNoneOf given.number (numbers_of search.old.usable) }
     ensures noted { OnOk result
         ((st : Setting) → StayNoted st search.old.waiting search.new.waiting) }
+    ensures within { OnOk result (AllByRecursion IsQueuedWithin search.new.queue.items) }
     ensures state { OnOk result (state_of search.new ≡ gives (setting_of guide.now)
         (state_of search.old) given) }
 {
@@ -76,6 +86,8 @@ pub fn give_next(alloc: Global, guide: &Guide<'_>, search: &mut Search) -> Resul
     requires ordered { IsInOrder (state_of search.old) }
     requires noted { AreNoted (setting_of guide.now) search.old.waiting }
     ensures noted { OnOk result (AreNoted (setting_of guide.now) search.new.waiting) }
+    ensures within { search.old.queue.items ≡ []
+        → OnOk result (AllByRecursion IsQueuedWithin search.new.queue.items) }
     ensures state { OnOk result (state_of search.new ≡ given_next (setting_of guide.now)
         (state_of search.old)) }
 {

@@ -167,7 +167,10 @@ fn rule_and_words(
     match judge(alloc, &just.first, parents)? {
         Judged::Unfit => Ok(Some(6)),
         Judged::Apart => Ok(Some(7)),
-        Judged::Numbered(clause) => after(alloc, earlier, just.steps.as_slice(), clause, content),
+        Judged::Numbered(small) => {
+            let clause = small.into_clause();
+            after(alloc, earlier, just.steps.as_slice(), clause, content)
+        }
         Judged::Large(large) => {
             let clause = large.numbered(alloc)?;
             after(alloc, earlier, just.steps.as_slice(), clause, content)

@@ -7,18 +7,19 @@ ghost use Rattle.substitutions.specs.Apart.{apart_of};
 use crate::apart::renamed_apart;
 use crate::building::{Pending, build};
 use crate::fitting::fits;
+use clause_limits::SmallClause;
 use derivation::First;
-use fol_core::{Clause, renumber};
+use fol_core::Clause;
 use std::alloc::{AllocError, Global};
 use term_unifiers::{Formed, LargeClause, unify};
 
-/// A literal, path or side isn't there or isn't taken; what has to be equal isn't; or the clause that the step makes, numbered, or
-/// too large to be built.
+/// A literal, path or side isn't there or isn't taken; what has to be equal isn't; or the clause that the step makes, built and
+/// numbered exactly where it isn't too large.
 #[derive(Drop)]
 pub enum Judged {
     Unfit,
     Apart,
-    Numbered(Clause),
+    Numbered(SmallClause),
     Large(LargeClause),
 }
 
@@ -44,7 +45,7 @@ fn conclude(
         return Ok(Judged::Apart);
     };
     match formed {
-        Formed::Plain(clause) => Ok(Judged::Numbered(renumber(alloc, &clause)?)),
+        Formed::Plain(clause) => Ok(Judged::Numbered(SmallClause::numbered(alloc, &clause)?)),
         Formed::Large(clause) => Ok(Judged::Large(clause)),
     }
 }

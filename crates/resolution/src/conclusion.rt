@@ -2,15 +2,16 @@
 ghost use Rattle.std.specs.Prelude.{◌≡◌, IfOk};
 ghost use Rattle.resolution.specs.View.{clause_of};
 
+use clause_limits::SmallClause;
 use derivation::First;
 use fol_core::Clause;
 use std::alloc::{AllocError, Global};
 use term_unifiers::LargeClause;
 
-/// The clause of a conclusion: with its variables numbered, or too large to be built.
+/// The clause of a conclusion: built, with its variables numbered, exactly where it isn't too large.
 #[derive(Drop)]
 pub enum Concluded {
-    Numbered(Clause),
+    Numbered(SmallClause),
     Large(LargeClause),
 }
 
@@ -20,7 +21,7 @@ impl Concluded {
         ensures { IfOk result (λ c. c ≡ clause_of self) }
     {
         match self {
-            Concluded::Numbered(clause) => Ok(clause),
+            Concluded::Numbered(clause) => Ok(clause.into_clause()),
             Concluded::Large(clause) => clause.numbered(alloc),
         }
     }

@@ -19,7 +19,7 @@ returns-clause-state c =
     (c.in_ok-put_in.ensures.ok ∙ ap (λ h. put_in h s.usable) c.in_ok-copy.ensures)
     (c.leave_out_one.ensures.held ∙ ap (λ n. filter (λ h. not (h.number == n)) s.waiting.held) c.number-number.ensures)
     c.in_ok-new.ensures
-    c.in_ok-search-2.ensures
+    c.in_ok-search-2.ensures.entries
     c.in_ok-search.ensures
     (c.counted_on-search.ensures ∙ ap (counted_on s.generated) (c.len.ensures ∙ new.ok.0 ∙ sym (length-map new.items conclusion_of)))
 
