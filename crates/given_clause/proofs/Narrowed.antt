@@ -2,13 +2,12 @@
 use Rattle.std.proofs.Common.{◌≡◌, ℕ, Bool, true, false, not, ◌&&◌, ◌||◌, if◌then◌else◌, is_some, IsTrue, ◌<◌, List, [], ◌∷◌, ◌++◌, Option, Some, None, length, get_or, map, filter, flat_map, refl, sym, ap, ◌∙◌, arith}
 use Rattle.std.specs.List.{list_any}
 use Rattle.std.specs.Option.{option_map}
-use Rattle.std.proofs.lemmas.Bool.{false≢true}
 use Rattle.clause_index.specs.Finding.{has_atom_such, has_inside_such, has_term_such, has_argument_such, has_such_below}
 use Rattle.derivation.specs.Equations.{left_of}
 use Rattle.derivation.specs.Later.{is_unit}
 use Rattle.derivation.specs.Places.{same_sign, has_literal, atom_at, are_opposite}
 use Rattle.discrim_tree.specs.Terms.{can_unify, has_instance}
-use Rattle.discrim_tree.proofs.Terms.{unifiers_are_of_two}
+use Rattle.discrim_tree.specs.Meeting.{NeverMeet}
 use Rattle.fol_core.specs.ClauseView.{literal_of}
 use Rattle.fol_core.specs.Literals.{Lit, ClauseTree}
 use Rattle.fol_core.specs.TermView.{tree_of}
@@ -25,7 +24,8 @@ use Rattle.prover_steps.specs.Concluded.{Conclusion}
 use Rattle.prover_steps.specs.Rewriting.{rewritten_by}
 use Rattle.prover_steps.specs.Shortening.{denies}
 use Rattle.prover_steps.specs.Subsuming.{fits_in, fits_in_some, fits_below, matched_literal}
-use Rattle.resolution.specs.Meeting.{NeverMeet, NeverClash}
+use Rattle.resolution.specs.Meeting.{NeverClash}
+use Rattle.resolution.proofs.Unopposed.{never_meets}
 use Rattle.resolution.proofs.Failing.{no_resolvent}
 use Rattle.substitutions.specs.Bindings.{Binding}
 use Rattle.unifiers.specs.Matching.{matched}
@@ -128,10 +128,6 @@ pub others_there : (act : Act) (h : Held) (hs : List Held)
 others_there act h hs =
     kept_again (λ d. not (is_same_held h d) && acts_on act h d.clause) (may_act act h)
     (λ d e. acts_there act h d (and_second (not (is_same_held h d)) (acts_on act h d.clause) e)) hs
-
--- terms that have no unifier
-never_meets : (s t : Tree) → can_unify s t ≡ false → NeverMeet s t
-never_meets s t fails u v same = false≢true (sym fails ∙ (unifiers_are_of_two s t).1 (u, v, same))
 
 or_none : (b : Bool) → (b || false) ≡ false → b ≡ false
 or_none true e = e

@@ -19,7 +19,7 @@ use Rattle.proof_words.specs.Written.{by_para, by_xx_res}
 use Rattle.prover_steps.specs.Clashing.{Held, places_of}
 use Rattle.prover_steps.specs.Concluded.{inferred}
 use Rattle.prover_steps.specs.Equalities.{from_sides, into_paths}
-use Rattle.resolution.specs.Meeting.{NeverMeet}
+use Rattle.discrim_tree.specs.Meeting.{NeverMeet}
 use Rattle.resolution.proofs.Failing.{none_concluded, none_inferred}
 use Rattle.resolution.proofs.AllWays.{negative_there}
 use Rattle.resolution.proofs.Going.{flat_none}

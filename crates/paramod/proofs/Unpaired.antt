@@ -20,7 +20,7 @@ use Rattle.prover_steps.specs.Clashing.{Held, is_same_held, places_of}
 use Rattle.prover_steps.specs.Concluded.{Conclusion}
 use Rattle.prover_steps.specs.Equalities.{paths_of, paths_below, into_paths, from_sides, is_oriented, paramodulants_into, paramodulants_with, paramodulants_of}
 use Rattle.prover_steps.specs.HeldOrder.{numbers_of}
-use Rattle.resolution.specs.Meeting.{NeverMeet}
+use Rattle.discrim_tree.specs.Meeting.{NeverMeet}
 use Rattle.resolution.proofs.Going.{flat_none, flat_mapped}
 use Rattle.resolution.proofs.Unopposed.{never_meets}
 use Rattle.paramod.specs.Partners.{terms_in, terms_among, terms_below, terms_into, replaced_by, replacing, by_side, by_sides, by_terms, partner_numbers}

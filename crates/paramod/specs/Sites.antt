@@ -9,7 +9,7 @@ use Rattle.proof_words.specs.Written.{by_para}
 use Rattle.prover_steps.specs.Clashing.{Held, places_of}
 use Rattle.prover_steps.specs.Concluded.{Conclusion, inferred}
 use Rattle.prover_steps.specs.Equalities.{into_paths, from_sides, is_bare_variable, is_oriented}
-use Rattle.resolution.specs.Meeting.{NeverMeet}
+use Rattle.discrim_tree.specs.Meeting.{NeverMeet}
 
 -- the clause, literal and side of the equation, and the clause and literal of the term
 pub record SiteTree : Type 0 where

@@ -7,9 +7,10 @@ ghost use Rattle.prover_steps.specs.Equalities.{reflexive_resolvents_of};
 ghost use Rattle.resolution.specs.View.{all_conclusions};
 
 use derivation::First;
+use discrim_tree::may_meet;
 use fol_core::{Clause, Term};
 use held_clauses::{Held, is_equation, left_of, right_of};
-use resolution::{Conclusion, infer, may_meet};
+use resolution::{Conclusion, infer};
 use std::alloc::{AllocError, Global};
 
 // Whether a literal may be an inequation whose sides may meet.

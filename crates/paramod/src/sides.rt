@@ -6,9 +6,9 @@ ghost use Rattle.held_clauses.specs.Order.{greater_of};
 ghost use Rattle.paramod.specs.Sites.{NeverReplaced, takes_side};
 ghost use Rattle.prover_steps.specs.Equalities.{is_bare_variable, is_oriented};
 
+use discrim_tree::may_meet;
 use fol_core::Term;
 use held_clauses::{is_equation, is_greater, left_of, right_of};
-use resolution::may_meet;
 use std::alloc::{AllocError, Global};
 use term_order::Precedence;
 

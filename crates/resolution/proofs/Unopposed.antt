@@ -15,7 +15,8 @@ use Rattle.discrim_tree.proofs.Terms.{unifiers_are_of_two}
 use Rattle.prover_steps.specs.Clashing.{Held, Partner, Clashing, is_same_held, clashings, clashes_of, places_of, places_with, has_negative, resolvents_with, resolvents_of, unit_partners}
 use Rattle.prover_steps.specs.Concluded.{Conclusion}
 use Rattle.prover_steps.specs.HeldOrder.{numbers_of}
-use Rattle.resolution.specs.Meeting.{NeverMeet, NeverClash}
+use Rattle.discrim_tree.specs.Meeting.{NeverMeet}
+use Rattle.resolution.specs.Meeting.{NeverClash}
 use Rattle.resolution.specs.Opposing.{opposes, numbers_against}
 use Rattle.resolution.proofs.Failing.{no_resolvent}
 use Rattle.resolution.proofs.Going.{flat_none}

@@ -1,13 +1,8 @@
--- Terms and literals that can't be made the same.
-use Rattle.std.specs.Prelude.{ℕ, ◌≡◌, IsTrue}
+-- Literals that can't clash or be merged.
+use Rattle.std.specs.Prelude.{ℕ, IsTrue}
 use Rattle.fol_core.specs.Literals.{ClauseTree}
-use Rattle.fol_core.specs.Substitutions.{Substitution, substitute}
-use Rattle.fol_core.specs.Tree.{Tree}
 use Rattle.derivation.specs.Places.{atom_at, are_alike, are_opposite}
-
--- nothing that is put in for their variables, for those of each by itself, makes the terms the same
-abbrev pub NeverMeet : Tree → Tree → Type 0
-NeverMeet s t = (u v : Substitution) → ¬ (substitute u s ≡ substitute v t)
+use Rattle.discrim_tree.specs.Meeting.{NeverMeet}
 
 -- literals of opposite signs whose atoms never meet, or literals that aren't of opposite signs
 abbrev pub NeverClash : ClauseTree → ℕ → ClauseTree → ℕ → Type 0

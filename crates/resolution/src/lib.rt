@@ -16,5 +16,4 @@ pub use binary::{add_resolvent, add_resolvents, two_clauses};
 pub use conclusion::{Concluded, Conclusion};
 pub use factoring::add_factors;
 pub use inferring::{conclude, infer};
-pub use meeting::may_meet;
 pub use nuclei::{add_hyperresolvents, add_unit_resolvents};

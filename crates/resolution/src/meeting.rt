@@ -1,38 +1,9 @@
-// Terms and literals that may be made the same: tests that need no memory, before anything is copied.
+// Literals whose atoms may be made the same: tests that need no memory, before anything is copied.
 ghost use Rattle.std.specs.Prelude.{◌≡◌, false};
-ghost use Rattle.fol_core.specs.TermView.{tree_of};
-ghost use Rattle.resolution.specs.Meeting.{NeverMeet, NeverClash, NeverMerge};
+ghost use Rattle.resolution.specs.Meeting.{NeverClash, NeverMerge};
 
-use fol_core::{Clause, Term};
-
-/// Whether terms may be made the same by what is put in for the variables, for those of each by itself: no only where nothing
-/// does.
-#[tactic(auto, using(crate::proofs::Meetings::apart_heads, crate::proofs::Meetings::apart_elements))]
-pub fn may_meet(s: &Term, t: &Term) -> bool
-    ensures { result ≡ false → NeverMeet (tree_of s.now) (tree_of t.now) }
-{
-    match (s, t) {
-        (Term::Var(_), _) => true,
-        (_, Term::Var(_)) => true,
-        (Term::Elem(k), Term::Elem(n)) => k == n,
-        (Term::Elem(_), Term::App(_, _)) => false,
-        (Term::App(_, _), Term::Elem(_)) => false,
-        (Term::App(f, ls), Term::App(g, rs)) => {
-            if f.0 != g.0 {
-                return false;
-            }
-            if ls.items.len() != rs.items.len() {
-                return false;
-            }
-            for (i, l) in ls.items.iter().enumerate() {
-                if !may_meet(l, &rs.items[i]) {
-                    return false;
-                }
-            }
-            true
-        }
-    }
-}
+use discrim_tree::may_meet;
+use fol_core::Clause;
 
 /// Whether literals of two clauses may clash: they have opposite signs, and their atoms may meet.
 #[tactic(auto, using(crate::proofs::Meetings::never_clash_past, crate::proofs::Meetings::never_clash_behind, crate::proofs::Meetings::never_clash_signs, crate::proofs::Meetings::never_clash_atoms))]

@@ -2,7 +2,7 @@ use Rattle.std.proofs.Common.{subst, sym, ◌∙◌, arith}
 use Rattle.derivation.specs.Equations.{left_of}
 use Rattle.fol_core.specs.TermView.{tree_of}
 use Rattle.paramod.proofs.Missing.{reflects_past, reflects_sign, reflects_not, reflects_apart}
-use Rattle.resolution.specs.Meeting.{NeverMeet}
+use Rattle.discrim_tree.specs.Meeting.{NeverMeet}
 use Rattle.paramod.proofs.reflexivity.may_reflect.Goals as goal
 
 pub returns-then-a-literals : goal.returns-then-a-literals
