@@ -10,7 +10,6 @@ pub mod GoingOn
 pub mod Items
 pub mod Known
 pub mod ModelLines
-pub mod Names
 pub mod Planned
 pub mod Printable
 pub mod Same

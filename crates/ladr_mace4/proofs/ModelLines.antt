@@ -5,7 +5,7 @@ use Rattle.std.specs.Fmt.{decimal}
 use Rattle.fol_core.specs.SymbolTable.{Symbol}
 use Rattle.fol_core.specs.declared.symbols.Kind.{Kind}
 use Rattle.fol_core.specs.declared.symbols.Kind.TheVariants.{Function, Relation}
-use Rattle.ladr_mace4.proofs.Names.{name_unbroken}
+use Rattle.ladr_intake.proofs.Names.{name_unbroken}
 use Rattle.ladr_output.proofs.Standing.{is_unbroken, unbroken_append, decimal_unbroken, line_ends, IsPassed, passed_line, passed_both}
 use Rattle.ladr_output.specs.Standing.{AreWholeLines}
 use Rattle.ladr_output.specs.Telling.{as_line}

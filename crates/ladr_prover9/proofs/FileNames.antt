@@ -50,7 +50,7 @@ use Rattle.ladr_settings.specs.declared.lists.OpenList.{OpenList}
 use Rattle.ladr_settings.specs.declared.lists.OpenList.TheVariants.{Formulas, Weights, KboWeights, OtherFormulas, OtherRules}
 use Rattle.ladr_settings.specs.declared.settings.Settings.{Settings}
 use Rattle.prover_steps.proofs.Lists.{all_append}
-use Rattle.ladr_prover9.proofs.Names.{name_unbroken}
+use Rattle.ladr_intake.proofs.Names.{name_unbroken}
 use Rattle.ladr_prover9.proofs.Unbroken.{IsFlat, HasFlatNames, HaveFlatNames, HasFlatLabel}
 
 -- a term that is read of tokens

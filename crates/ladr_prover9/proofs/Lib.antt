@@ -5,7 +5,6 @@ pub mod FileElements
 pub mod FileNames
 pub mod Knowing
 pub mod Leaving
-pub mod Names
 pub mod Nothing
 pub mod Numbered
 pub mod OneEnd

@@ -23,7 +23,7 @@ use Rattle.ladr_problem.specs.Names.{is_name, are_named}
 use Rattle.ladr_problem.specs.Proper.{IsProper}
 use Rattle.ladr_problem.specs.Sofar.{Sofar, Listed, stated_in}
 use Rattle.ladr_prover9.proofs.FileNames.{IsFlatListed, says_flat}
-use Rattle.ladr_prover9.proofs.Names.{name_unbroken}
+use Rattle.ladr_intake.proofs.Names.{name_unbroken}
 use Rattle.ladr_prover9.proofs.StandingProofs.{first, IsNumbered}
 use Rattle.ladr_prover9.proofs.Unbroken.{IsFlat, HasFlatLabel, HasFlatSymbols, text_flat, formula_flat, clause_flat, labelled_flat, words_flat}
 use Rattle.ladr_prover9.specs.ProofTexts.{plain_content_text, plain_text, quest_text}
