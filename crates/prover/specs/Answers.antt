@@ -115,8 +115,9 @@ ReadsFor seconds more s t times times' (MaxSeconds first last) =
 ReadsFor seconds more s t times times' answer =
     IsInTime seconds times' × ReadsOn seconds more s t times times'
 
--- Memory is lacking for the step from a state with no more proofs; where that is to give a clause,
--- the clock is read before.
+-- Memory is lacking for a step, from a state that is reached with no more proofs. The clock was read
+-- for the clauses that were given, and once more where that step is to give a clause and its turn
+-- to be read had come.
 pub record LacksMemory (st : Setting) (seconds : Option ℕ) (more : ℕ) (s : SearchState)
     (times times' : Times) : Type 0 where
   pub state : SearchState

@@ -1,11 +1,11 @@
 -- Answers worked out.
-use Rattle.std.specs.Prelude.{ℕ, true, false, [], ◌∷◌, Some, None}
+use Rattle.std.specs.Prelude.{ℕ, ◌≡◌, true, false, [], ◌∷◌, Some, None}
 use Rattle.fol_core.specs.Literals.{ClauseTree, literal}
 use Rattle.fol_core.specs.Tree.{var, app, none, more}
 use Rattle.ladr_io.specs.Times.{Times}
 use Rattle.ladr_options.specs.Options.{start}
 use Rattle.proof_words.specs.Written.{by_copy}
-use Rattle.prover.specs.Answers.{ComesTo, ReadsOn}
+use Rattle.prover.specs.Answers.{ComesTo, IsGivenStep, ReadsOn}
 use Rattle.prover.specs.declared.answer.Answer.TheVariants.{Proof, Proofs}
 use Rattle.prover_steps.specs.Conclusions.{rules_in_force}
 use Rattle.prover_steps.specs.Searching.{Setting, Queued, SearchState, clause_size, after}
@@ -54,6 +54,23 @@ WorkedAnswers =
     ComesTo setting beginning (after setting 2 beginning) (Proof 7)
     × ComesTo setting (after setting 2 beginning) (after setting 3 beginning) (Proof 8)
     × ComesTo setting (after setting 3 beginning) (after setting 3 beginning) Proofs
+
+-- p(a) and -p(x) | q(x) are input clauses under 4 and 5
+abbrev pub implied : ClauseTree
+implied =
+    literal false (app 2 (more (var 0) none)) ∷ literal true (app 3 (more (var 0) none)) ∷ []
+
+abbrev pub two_inputs : SearchState
+two_inputs = record beginning { queue = input 4 (said 0) ∷ input 5 implied ∷ []; next = 6 }
+
+-- When both wait, p(a) is given, from which nothing is concluded. Then the other clause is, and q(a)
+-- is concluded: with that queued the step is not over, but when it is kept.
+abbrev pub WorkedGivenSteps : Type 0
+WorkedGivenSteps =
+    IsGivenStep setting (after setting 2 two_inputs) (after setting 3 two_inputs)
+    × ¬ IsGivenStep setting (after setting 3 two_inputs) (after setting 4 two_inputs)
+    × IsGivenStep setting (after setting 3 two_inputs) (after setting 5 two_inputs)
+    × ((after setting 5 two_inputs).kept ≡ 3)
 
 -- of two states, in the second of which two clauses more were given
 abbrev pub times_read : ℕ → Times

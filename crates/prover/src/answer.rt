@@ -10,7 +10,7 @@ use given_clause::Reason;
 pub enum Answer {
     /// One more proof is found, whose last line has this number.
     Proof(u64),
-    /// As many proofs as were wanted are found, each of them answered before.
+    /// As many proofs as were wanted are found. Each that `run` found was answered before; a given step tells them by its counters.
     Proofs,
     /// No clause waits to be given.
     SosEmpty,

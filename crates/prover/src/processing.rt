@@ -31,8 +31,8 @@ fn advance(alloc: Global, guide: &Guide<'_>, search: &mut Search) -> Result<Opti
     Ok(Some(search.proofs[before].line))
 }
 
-/// The clauses that are queued are processed until one gives a proof, whose last line is answered, until none is left or the search
-/// has ended.
+/// Processes queued clauses up to the first that gives a proof, and answers the proof's last line; or else until no clause is left or
+/// the search has ended.
 pub fn drain(
     alloc: Global,
     guide: &Guide<'_>,
@@ -58,7 +58,7 @@ pub fn drain(
     Ok(None)
 }
 
-/// The clauses that are queued are processed until none is left or the search has ended, whatever proofs they give.
+/// Processes queued clauses until none is left or the search has ended, whatever proofs they give.
 pub fn settle(alloc: Global, guide: &Guide<'_>, search: &mut Search) -> Result<(), AllocError>
     requires ordered { IsInOrder (state_of search.old) }
     requires noted { AreNoted (setting_of guide.now) search.old.waiting }
