@@ -1,5 +1,5 @@
 -- The kind of a token is that of its bytes.
-use Rattle.std.proofs.Common.{◌≡◌, ℕ, suc, Bool, true, false, List, [], ◌∷◌, take, Option, Some, None, inl, inr, refl, sym, ap}
+use Rattle.std.proofs.Common.{◌≡◌, ℕ, suc, true, false, List, [], ◌∷◌, take, Some, inl, inr, refl, sym, ap}
 use Rattle.std.specs.Prelude.{is_some}
 use Rattle.std.specs.List.{prefix_len}
 use Rattle.std.proofs.lemmas.Bool.{cases_Bool}
@@ -9,7 +9,7 @@ use Rattle.ladr_lex.specs.Starts.{start_of, kind_with, kind_in}
 use Rattle.ladr_lex.specs.declared.bytes.TokenStart.{TokenStart}
 use Rattle.ladr_lex.specs.declared.bytes.TokenStart.TheVariants.{Blank, Word, Sign, Quote, Percent, Single}
 use Rattle.ladr_lex.specs.declared.token.TokenKind.{TokenKind}
-use Rattle.ladr_lex.specs.declared.token.TokenKind.TheVariants.{Ordinary, Quoted, Special, Unreadable}
+use Rattle.ladr_lex.specs.declared.token.TokenKind.TheVariants.{Quoted}
 
 -- a quoted symbol has bytes behind its first quote
 quoted_more : (bs : List ℕ) → quote_ends bs ≡ true → kind_with Quote (take (suc (prefix_len is_quotable bs)) bs) ≡ Quoted

@@ -1,26 +1,8 @@
-use fol_core::{Formula, Names, Raw, Shape, Symbols, Term};
+use crate::terms::item;
+use fol_core::{Formula, Names, Shape, Symbols, Term};
 use ladr_formulas::Mode;
-use ladr_lex::{Ops, Text, tokens};
-use ladr_reader::read_term;
 use ladr_rules::{is_demodulator, kbo_rule, weight_rule};
-use std::alloc::Global;
 use std::test::Fail;
-
-// The term of an item.
-fn item(alloc: Global, text: &[u8]) -> Result<Raw, Fail> {
-    let ops = Ops::standard(alloc)?;
-    let text = Text {
-        bytes: text,
-        start: 0,
-    };
-    let Ok(tokens) = tokens(alloc, &text) else {
-        return Err(Fail::from("memory"));
-    };
-    match read_term(alloc, &ops, &tokens) {
-        Ok(raw) => Ok(raw),
-        Err(_) => Err(Fail::from("term")),
-    }
-}
 
 #[test]
 fn a_rule_of_weights_is_read(rt: HostRuntime) -> Result<(), Fail> {

@@ -5,8 +5,8 @@ use proof_lines::{LineFault, LineOperators, LineRead, ProblemNames, read_line};
 use std::alloc::Global;
 use std::test::Fail;
 
-// The tokens of a text, of which a proof knows nothing: so it works nothing out of it.
-fn cut<'a>(alloc: Global, text: &'a Text<'a>) -> Result<Vec<Token<'a>>, Fail> {
+/// The tokens of a text, of which a proof knows nothing: so it works nothing out of it.
+pub fn cut<'a>(alloc: Global, text: &'a Text<'a>) -> Result<Vec<Token<'a>>, Fail> {
     match tokens(alloc, text) {
         Ok(tokens) => Ok(tokens),
         Err(_) => Err(Fail::from("memory")),

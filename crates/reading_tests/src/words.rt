@@ -1,16 +1,8 @@
+use crate::lines::cut;
 use derivation::First;
-use ladr_lex::{Text, Token, tokens};
+use ladr_lex::Text;
 use proof_words::{ContentKind, WordsFault, read_words};
-use std::alloc::Global;
 use std::test::Fail;
-
-// The tokens of a text, of which a proof knows nothing: so it works nothing out of it.
-fn cut<'a>(alloc: Global, text: &'a Text<'a>) -> Result<Vec<Token<'a>>, Fail> {
-    match tokens(alloc, text) {
-        Ok(tokens) => Ok(tokens),
-        Err(_) => Err(Fail::from("memory")),
-    }
-}
 
 // What stands behind the words is left.
 #[test]
