@@ -98,11 +98,11 @@ fn literal(
     match shape {
         Shape::True => constant(alloc, positive),
         Shape::False => constant(alloc, !positive),
-        Shape::Eq(s, t) => {
+        Shape::Eq(equation) => {
             let rows = rows_of(alloc, terms)?;
             let mut sides = Terms::new(alloc);
-            sides.push(substitute(alloc, s, &rows)?)?;
-            sides.push(substitute(alloc, t, &rows)?)?;
+            sides.push(substitute(alloc, equation.left(), &rows)?)?;
+            sides.push(substitute(alloc, equation.right(), &rows)?)?;
             unit(alloc, positive, Term::App(EQ, sides))
         }
         Shape::Atom(r, arguments) => {

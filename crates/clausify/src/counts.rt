@@ -99,7 +99,7 @@ pub fn counts_of(shape: &Shape) -> Counts
     ensures denied { result.denied ≡ count_capped (clause_count (nnf_of false (fol_of shape.now))) }
 {
     match shape {
-        Shape::True | Shape::False | Shape::Eq(_, _) | Shape::Atom(_, _) => ONE,
+        Shape::True | Shape::False | Shape::Eq(_) | Shape::Atom(_, _) => ONE,
         Shape::Not(f) => turned(part(f)),
         Shape::And(f, g) => both(part(f), part(g)),
         Shape::Or(f, g) => turned(both(turned(part(f)), turned(part(g)))),

@@ -53,7 +53,7 @@ fn plain(alloc: Global, shape: &Shape) -> Result<Shape, AllocError>
     ensures { IfOk result (λ f. fol_of f ≡ nnf_of true (fol_of shape.now)) }
 {
     Ok(match shape {
-        Shape::True | Shape::False | Shape::Eq(_, _) | Shape::Atom(_, _) => shape.copy(alloc)?,
+        Shape::True | Shape::False | Shape::Eq(_) | Shape::Atom(_, _) => shape.copy(alloc)?,
         Shape::Not(f) => normal_form(alloc, &f.shape, false)?,
         Shape::And(f, g) => Shape::And(part(alloc, f, true)?, part(alloc, g, true)?),
         Shape::Or(f, g) => Shape::Or(part(alloc, f, true)?, part(alloc, g, true)?),
@@ -73,7 +73,7 @@ fn denied(alloc: Global, shape: &Shape) -> Result<Shape, AllocError>
     ensures { IfOk result (λ f. fol_of f ≡ nnf_of false (fol_of shape.now)) }
 {
     Ok(match shape {
-        Shape::True | Shape::False | Shape::Eq(_, _) | Shape::Atom(_, _) => {
+        Shape::True | Shape::False | Shape::Eq(_) | Shape::Atom(_, _) => {
             Shape::Not(Sub::new(alloc, shape.copy(alloc)?)?)
         }
         Shape::Not(f) => normal_form(alloc, &f.shape, true)?,

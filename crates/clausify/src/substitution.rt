@@ -7,7 +7,7 @@ ghost use Rattle.fol_core.specs.Substitutions.{substitute, substitute_all};
 ghost use Rattle.clausify.specs.Skolem.{substitute_in};
 ghost use Rattle.clausify.specs.View.{put_by, substitution_kept};
 
-use fol_core::{Shape, Sub, Term, Terms};
+use fol_core::{Shape, Sides, Sub, Term, Terms};
 use indexmap::IndexMap;
 use std::alloc::{AllocError, Global};
 
@@ -64,6 +64,16 @@ pub fn substitute_all(alloc: Global, terms: &Terms, rows: &Rows<'_>) -> Result<T
     Ok(made)
 }
 
+// The sides of an equation with terms put in.
+fn put_in_sides(alloc: Global, sides: &Sides, rows: &Rows<'_>) -> Result<Sides, AllocError>
+    ensures left { IfOk result (λ made. made.0 ≡ substitute (put_by rows.now) sides.now.0) }
+    ensures right { IfOk result (λ made. made.1 ≡ substitute (put_by rows.now) sides.now.1) }
+{
+    let left = substitute(alloc, sides.left(), rows)?;
+    let right = substitute(alloc, sides.right(), rows)?;
+    Sides::new(alloc, left, right)
+}
+
 // A part with terms put in.
 #[cycle(putting)]
 fn part(alloc: Global, sub: &Sub, rows: &Rows<'_>) -> Result<Sub, AllocError>
@@ -81,7 +91,7 @@ pub fn substitute_in(alloc: Global, shape: &Shape, rows: &Rows<'_>) -> Result<Sh
     Ok(match shape {
         Shape::True => Shape::True,
         Shape::False => Shape::False,
-        Shape::Eq(s, t) => Shape::Eq(substitute(alloc, s, rows)?, substitute(alloc, t, rows)?),
+        Shape::Eq(sides) => Shape::Eq(put_in_sides(alloc, sides, rows)?),
         Shape::Atom(r, terms) => Shape::Atom(*r, substitute_all(alloc, terms, rows)?),
         Shape::Not(f) => Shape::Not(part(alloc, f, rows)?),
         Shape::And(f, g) => Shape::And(part(alloc, f, rows)?, part(alloc, g, rows)?),

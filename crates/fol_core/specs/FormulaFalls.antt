@@ -10,7 +10,7 @@ use Rattle.fol_core.specs.declared.formula.Sub.TheDeep.{deep-Shape}
 pub shape_falls : (f : Shape) → max (deep-Shape f) 0 ≤ folds (fol_of f)
 shape_falls True = omega arith
 shape_falls False = omega arith
-shape_falls (Eq s t) = omega arith
+shape_falls (Eq sides) = omega arith
 shape_falls (Atom r ts) = omega arith
 shape_falls (Not f) = omega arith
 shape_falls (And f g) = omega arith

@@ -95,12 +95,31 @@ impl Clause {
     pub fn copy(&self, alloc: Global) -> Result<Clause, AllocError>
         ensures { IfOk result (λ copy. copy ≡ self.now) }
     {
-        let mut copy = Clause::new(alloc);
+        let mut copy = Clause::with_capacity(alloc, self.literals.len())?;
         copy.append(alloc, self)?;
         Ok(copy)
     }
 
-    /// The literals of another clause, at the end.
+    /// No literals, in a place that has room for so many and no more.
+    pub fn with_capacity(alloc: Global, capacity: usize) -> Result<Clause, AllocError>
+        ensures { IfOk result (λ clause. clause ≡ []) }
+    {
+        Ok(Clause {
+            literals: Vec::with_capacity(alloc, capacity)?,
+        })
+    }
+
+    /// The literals of another clause by value, at the end.
+    pub fn extend(&mut self, other: Clause) -> Result<(), AllocError>
+        ensures { OnOk result (self.new ≡ self.old ++ other) }
+    {
+        for literal in other.literals {
+            self.push(literal)?;
+        }
+        Ok(())
+    }
+
+    /// Copies of the literals of another clause, at the end.
     pub fn append(&mut self, alloc: Global, other: &Clause) -> Result<(), AllocError>
         ensures { OnOk result (self.new ≡ self.old ++ other.now) }
     {

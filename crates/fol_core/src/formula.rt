@@ -3,8 +3,9 @@ ghost use Rattle.std.specs.Prelude.{◌≡◌, IfOk};
 ghost use Rattle.fol_core.specs.FormulaView.{fol_of};
 
 use crate::name::Names;
+use crate::sides::Sides;
 use crate::symbols::Sym;
-use crate::term::{Term, Terms};
+use crate::term::Terms;
 use std::alloc::{AllocError, Global};
 use std::marker::Model;
 
@@ -21,7 +22,7 @@ pub struct Formula {
 pub enum Shape {
     True,
     False,
-    Eq(Term, Term),
+    Eq(Sides),
     Atom(Sym, Terms),
     Not(Sub),
     And(Sub, Sub),
@@ -81,7 +82,7 @@ impl Shape {
         Ok(match self {
             Shape::True => Shape::True,
             Shape::False => Shape::False,
-            Shape::Eq(s, t) => Shape::Eq(s.copy(alloc)?, t.copy(alloc)?),
+            Shape::Eq(sides) => Shape::Eq(sides.copy(alloc)?),
             Shape::Atom(r, terms) => Shape::Atom(*r, terms.copy(alloc)?),
             Shape::Not(f) => Shape::Not(f.copy(alloc)?),
             Shape::And(f, g) => Shape::And(f.copy(alloc)?, g.copy(alloc)?),

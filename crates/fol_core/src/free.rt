@@ -51,9 +51,9 @@ fn add_free(
 {
     match shape {
         Shape::True | Shape::False => Ok(()),
-        Shape::Eq(s, t) => {
-            add_variables(s, bound, found)?;
-            add_variables(t, bound, found)
+        Shape::Eq(sides) => {
+            add_variables(sides.left(), bound, found)?;
+            add_variables(sides.right(), bound, found)
         }
         Shape::Atom(_, terms) => add_variables_of_all(terms, bound, found),
         Shape::Not(f) => add_free(&f.shape, bound, found),

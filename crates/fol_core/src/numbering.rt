@@ -29,7 +29,7 @@ fn placed_clause(
     ensures { IfOk result (λ c. c ≡ map (λ l. literal l.positive
         (substitute (by_place variables.now.keys) l.atom)) clause.now) }
 {
-    let mut made = Clause::new(alloc);
+    let mut made = Clause::with_capacity(alloc, clause.literals.len())?;
     for literal in &clause.literals {
         let atom = placed(alloc, &literal.atom, variables)?;
         made.push(Literal {
@@ -72,7 +72,7 @@ fn placed(alloc: Global, term: &Term, variables: &IndexSet<u64>) -> Result<Term,
         Term::Var(x) => Ok(Term::Var(place(*x, variables))),
         Term::Elem(k) => Ok(Term::Elem(*k)),
         Term::App(s, terms) => {
-            let mut made = Terms::new(alloc);
+            let mut made = Terms::with_capacity(alloc, terms.items.len())?;
             for term in &terms.items {
                 made.push(placed(alloc, term, variables)?)?;
             }

@@ -22,9 +22,9 @@ fn mark_all(shape: &Shape, marks: &mut [bool])
 {
     match shape {
         Shape::True | Shape::False => {}
-        Shape::Eq(left, right) => {
-            mark_term(left, marks);
-            mark_term(right, marks);
+        Shape::Eq(sides) => {
+            mark_term(sides.left(), marks);
+            mark_term(sides.right(), marks);
         }
         Shape::Atom(relation, terms) => {
             mark(*relation, marks);
@@ -97,7 +97,7 @@ fn above_all(shape: &Shape) -> u64
 {
     match shape {
         Shape::True | Shape::False => 0,
-        Shape::Eq(left, right) => above_term(left).max(above_term(right)),
+        Shape::Eq(sides) => above_term(sides.left()).max(above_term(sides.right())),
         Shape::Atom(_, terms) => above_terms(terms),
         Shape::Not(part) => above_all(part.shape()),
         Shape::And(left, right) => above_all(left.shape()).max(above_all(right.shape())),

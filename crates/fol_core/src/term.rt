@@ -53,7 +53,7 @@ impl Term {
             Term::Var(x) => Ok(Term::Var(*x)),
             Term::Elem(k) => Ok(Term::Elem(*k)),
             Term::App(s, terms) => {
-                let mut copies = Terms::new(alloc);
+                let mut copies = Terms::with_capacity(alloc, terms.items.len())?;
                 for term in &terms.items {
                     copies.push(term.copy(alloc)?)?;
                 }
@@ -68,7 +68,7 @@ impl Terms {
     pub fn copy(&self, alloc: Global) -> Result<Terms, AllocError>
         ensures { IfOk result (λ copy. copy ≡ self.now) }
     {
-        let mut copies = Terms::new(alloc);
+        let mut copies = Terms::with_capacity(alloc, self.items.len())?;
         for term in &self.items {
             copies.push(term.copy(alloc)?)?;
         }
@@ -82,6 +82,15 @@ impl Terms {
         Terms {
             items: Vec::new(alloc),
         }
+    }
+
+    /// No arguments, in a place that has room for so many and no more.
+    pub fn with_capacity(alloc: Global, capacity: usize) -> Result<Terms, AllocError>
+        ensures { IfOk result (λ terms. terms ≡ []) }
+    {
+        Ok(Terms {
+            items: Vec::with_capacity(alloc, capacity)?,
+        })
     }
 
     /// One more argument, at the end.

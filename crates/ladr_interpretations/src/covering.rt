@@ -20,7 +20,9 @@ fn covers_shape(tables: &Tables, shape: &Shape) -> bool
 {
     match shape {
         Shape::True | Shape::False => true,
-        Shape::Eq(left, right) => covers_term(tables, left) && covers_term(tables, right),
+        Shape::Eq(sides) => {
+            covers_term(tables, sides.left()) && covers_term(tables, sides.right())
+        }
         Shape::Atom(relation, terms) => tables.has(*relation) && covers_terms(tables, terms),
         Shape::Not(part) | Shape::All(_, part) | Shape::Exists(_, part) => {
             covers_shape(tables, part.shape())

@@ -147,9 +147,9 @@ pub fn formula_raw(
     match shape {
         Shape::True => constant(alloc, b"$T"),
         Shape::False => constant(alloc, b"$F"),
-        Shape::Eq(left, right) => {
-            let left = term_raw(alloc, symbols, variables, left)?;
-            let right = term_raw(alloc, symbols, variables, right)?;
+        Shape::Eq(sides) => {
+            let left = term_raw(alloc, symbols, variables, sides.left())?;
+            let right = term_raw(alloc, symbols, variables, sides.right())?;
             two(alloc, b"=", left, right)
         }
         Shape::Atom(relation, terms) => Ok(Raw::App(

@@ -32,7 +32,7 @@ fn is_atom(shape: &Shape) -> bool
     ensures { result ≡ is_atom (fol_of shape.now) }
 {
     match shape {
-        Shape::Eq(_, _) | Shape::Atom(_, _) => true,
+        Shape::Eq(_) | Shape::Atom(_, _) => true,
         _ => false,
     }
 }
@@ -42,7 +42,9 @@ pub fn is_demodulator(alloc: Global, formula: &Formula) -> Result<bool, AllocErr
     ensures { IfOk result (λ b. b ≡ is_demodulator (fol_of formula.now.shape)) }
 {
     match &formula.shape {
-        Shape::Eq(left, right) if !is_variable(left) => has_variables(alloc, left, right),
+        Shape::Eq(sides) if !is_variable(sides.left()) => {
+            has_variables(alloc, sides.left(), sides.right())
+        }
         _ => Ok(false),
     }
 }

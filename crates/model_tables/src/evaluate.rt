@@ -91,7 +91,7 @@ pub(crate) fn is_true(tables: &Tables, shape: &Shape, env: &mut Env) -> bool
     match shape {
         Shape::True => true,
         Shape::False => false,
-        Shape::Eq(left, right) => value(tables, left, env) == value(tables, right, env),
+        Shape::Eq(sides) => value(tables, sides.left(), env) == value(tables, sides.right(), env),
         Shape::Atom(relation, terms) => atom(tables, *relation, terms, env) == 1,
         Shape::Not(part) => !is_true(tables, part.shape(), env),
         Shape::And(left, right) => is_true(tables, left.shape(), env)

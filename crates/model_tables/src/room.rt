@@ -55,7 +55,7 @@ fn room(shape: &Shape) -> Option<u64>
     match shape {
         Shape::True => Some(0),
         Shape::False => Some(0),
-        Shape::Eq(_, _) => Some(0),
+        Shape::Eq(_) => Some(0),
         Shape::Atom(_, _) => Some(0),
         Shape::Not(part) => room(part.shape()),
         Shape::And(left, right) => greater(room(left.shape())?, room(right.shape())?),

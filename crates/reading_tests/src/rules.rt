@@ -1,5 +1,5 @@
 use crate::terms::item;
-use fol_core::{Formula, Names, Shape, Symbols, Term};
+use fol_core::{Formula, Names, Shape, Sides, Symbols, Term};
 use ladr_formulas::Mode;
 use ladr_rules::{is_demodulator, kbo_rule, weight_rule};
 use std::test::Fail;
@@ -23,7 +23,7 @@ fn a_weight_of_a_name_is_read(rt: HostRuntime) -> Result<(), Fail> {
 #[test]
 fn an_equation_is_a_demodulator(rt: HostRuntime) -> Result<(), Fail> {
     let formula = Formula {
-        shape: Shape::Eq(Term::Elem(1), Term::Elem(0)),
+        shape: Shape::Eq(Sides::new(rt.alloc(), Term::Elem(1), Term::Elem(0))?),
         names: Names::new(rt.alloc()),
     };
     assert!(rt; is_demodulator(rt.alloc(), &formula)?);

@@ -54,10 +54,10 @@ fn add_atom(
     ensures { OnOk result (clause.new ≡ clause.old ++ atom_literals positive (fol_of shape.now)) }
 {
     let atom = match shape {
-        Shape::Eq(s, t) => {
+        Shape::Eq(equation) => {
             let mut sides = Terms::new(alloc);
-            sides.push(s.copy(alloc)?)?;
-            sides.push(t.copy(alloc)?)?;
+            sides.push(equation.left().copy(alloc)?)?;
+            sides.push(equation.right().copy(alloc)?)?;
             Term::App(EQ, sides)
         }
         Shape::Atom(r, terms) => Term::App(*r, terms.copy(alloc)?),
