@@ -4,6 +4,7 @@ pub mod ClauseOperators
 pub mod Comments
 pub mod Extents
 pub mod Kept
+pub mod ItemLemmas
 pub mod KindLemmas
 pub mod OperatorLemmas
 pub mod Quotes

@@ -35,7 +35,7 @@ lexed_place first bytes at end h e =
 end_within : (bytes : List ℕ) (at : ℕ) → at < length bytes → at + 1 + length_behind (get_or bytes at 0) (drop (at + 1) bytes) ≤ length bytes
 end_within bytes at h = omega (arith, behind_within (get_or bytes at 0) (drop (at + 1) bytes), length-drop (at + 1) bytes)
 
-pieces-append : (ts us : List Token) → pieces_of (ts ++ us) ≡ pieces_of ts ++ pieces_of us
+pub pieces-append : (ts us : List Token) → pieces_of (ts ++ us) ≡ pieces_of ts ++ pieces_of us
 pieces-append [] us = refl
 pieces-append (t ∷ ts) us = ap (λ (l : List Piece). piece_of t ∷ l) (pieces-append ts us)
 
@@ -54,7 +54,7 @@ advances_add first bytes old t at end h k e text start = record {
 }
 
 -- the kind of the bytes of a token is that of what begins with them
-text_kind : (bytes : List ℕ) (t : Token) (at end : ℕ) → at < length bytes → is_some (kind_beginning (get_or bytes at 0) (drop (at + 1) bytes)) ≡ true →
+pub text_kind : (bytes : List ℕ) (t : Token) (at end : ℕ) → at < length bytes → is_some (kind_beginning (get_or bytes at 0) (drop (at + 1) bytes)) ≡ true →
     end ≡ at + 1 + length_behind (get_or bytes at 0) (drop (at + 1) bytes) → token_text t ≡ take (end - at) (drop at bytes) →
     kind_beginning (get_or bytes at 0) (drop (at + 1) bytes) ≡ Some (token_kind t)
 unfolding token_kind

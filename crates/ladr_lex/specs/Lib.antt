@@ -2,6 +2,7 @@ pub mod Bytes
 pub mod ClauseNames
 pub mod Comments
 pub mod Cuts
+pub mod Item
 pub mod Lexed
 pub mod Lexeme
 pub mod Misuses

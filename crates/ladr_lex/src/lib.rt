@@ -3,6 +3,7 @@
 
 mod bytes;
 mod clause_names;
+mod item;
 mod laws;
 mod limits;
 mod misuse;
@@ -13,6 +14,7 @@ mod scan;
 mod token;
 
 pub use bytes::{is_ordinary, is_special};
+pub use item::item_from;
 pub use laws::{one_cutting, one_numeral, one_operator, worked, worked_clauses, worked_operators};
 pub use limits::{MOST_ARGUMENTS, MOST_BYTES, MOST_ELEMENT, MOST_LEVELS, MOST_SYMBOLS};
 pub use misuse::Misuse;

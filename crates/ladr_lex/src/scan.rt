@@ -1,8 +1,11 @@
 // Cuts a text into its tokens.
-ghost use Rattle.std.specs.Prelude.{◌≡◌, ◌+◌, ◌^◌, ◌<◌, ◌≤◌, ◌↔◌, length, drop, slice_index, codes, true, is_some, IsTrue, IfSome, IfOk, OnOk, Err};
+ghost use Rattle.std.specs.Prelude.{◌≡◌, ◌+◌, ◌^◌, ◌<◌, ◌≤◌, ◌↔◌, ◌||◌, ◌==◌, [], ◌∷◌, ◌++◌, length, drop, slice_index, codes, true, is_some, IsTrue, IfSome, IfOk, OnOk, Err};
 ghost use Rattle.std.specs.List.{prefix_len};
 ghost use Rattle.ladr_lex.specs.Comments.{begins_with, up_to};
 ghost use Rattle.ladr_lex.specs.Cuts.{pieces_of, is_plain_symbol, is_quoted, Cuts};
+ghost use Rattle.ladr_lex.specs.Item.{is_stop, has_stop};
+ghost use Rattle.ladr_lex.specs.Tokens.{token_kind};
+ghost use Rattle.ladr_lex.specs.declared.token.Token.{Token};
 ghost use Rattle.ladr_lex.specs.Lexed.{kind_begun_by, kind_beginning, kept, length_behind, special_behind, quoted_behind, comment_behind, in_class, whole_kind, Advances};
 ghost use Rattle.ladr_lex.specs.declared.bytes.TokenStart.TheVariants.{Quote, Percent};
 
@@ -88,12 +91,19 @@ fn whole_kind(text: &[u8]) -> Option<TokenKind>
     if end == text.len() { kind } else { None }
 }
 
-// Adds the token that begins at a place, if one does, with each `-` that was cut off its end, and answers the place behind them.
-fn step<'a>(found: &mut Vec<Token<'a>>, text: &'a Text<'a>, at: usize) -> Result<usize, AllocError>
+/// Adds the token that begins at a place, if one does, with each `-` that was cut off its end, and answers the place behind
+/// them. A full stop is added where one stands at the place, and nowhere else.
+pub fn step<'a>(
+    found: &mut Vec<Token<'a>>,
+    text: &'a Text<'a>,
+    at: usize,
+) -> Result<usize, AllocError>
     requires small { length text.now.bytes.now < 2 ^ 32 }
     requires place { at < length text.now.bytes.now }
-    ensures { IfOk result (λ next. Advances text.now.start text.now.bytes.now found.old.items
+    ensures cut { IfOk result (λ next. Advances text.now.start text.now.bytes.now found.old.items
         found.new.items at next × (at < next)) }
+    ensures stop { OnOk result (has_stop (pieces_of found.new.items)
+        ≡ (has_stop (pieces_of found.old.items) || slice_index text.now.bytes.now at == 46)) }
 {
     let (kind, end) = piece_at(text.bytes, at);
     match kind {
@@ -118,8 +128,10 @@ fn dashes<'a>(
     requires small { length text.now.bytes.now < 2 ^ 32 }
     requires place { from ≤ length text.now.bytes.now }
     requires dashed { kept (drop from text.now.bytes.now) ≡ 0 }
-    ensures { IfOk result (λ next.
+    ensures cut { IfOk result (λ next.
         Advances text.now.start text.now.bytes.now found.old.items found.new.items from next) }
+    ensures stop { OnOk result (has_stop (pieces_of found.new.items)
+        ≡ has_stop (pieces_of found.old.items)) }
 {
     let mut at = from;
     while at < text.bytes.len() && text.bytes[at] == b'-' {
@@ -129,8 +141,8 @@ fn dashes<'a>(
     Ok(at)
 }
 
-// Adds the token that begins at a place and ends before another.
-fn add<'a>(
+/// Adds the token that begins at a place and ends before another.
+pub fn add<'a>(
     found: &mut Vec<Token<'a>>,
     text: &'a Text<'a>,
     at: usize,
@@ -143,8 +155,12 @@ fn add<'a>(
     requires end { end ≡ at + 1 + length_behind (slice_index text.now.bytes.now at)
         (drop (at + 1) text.now.bytes.now) }
     requires within { end ≤ length text.now.bytes.now }
-    ensures { OnOk result (Advances text.now.start text.now.bytes.now found.old.items
+    ensures cut { OnOk result (Advances text.now.start text.now.bytes.now found.old.items
         found.new.items at end) }
+    ensures stop { OnOk result (has_stop (pieces_of found.new.items)
+        ≡ (has_stop (pieces_of found.old.items) || slice_index text.now.bytes.now at == 46)) }
+    ensures added { OnOk result ((t : Token) × (found.new.items ≡ found.old.items ++ t ∷ [])
+        × (is_stop (token_kind t) ≡ (slice_index text.now.bytes.now at == 46))) }
 {
     found.push(Token {
         source: text,
