@@ -38,15 +38,15 @@ only_one ts (u ∷ v ∷ us) t h e = absurd (let f : is_one_argument (Some (u �
 only_depth : (ts : List RawTree) (t : RawTree) → ts ≡ t ∷ [] → depth_of (raws_of ts) ≡ depth t
 only_depth ts t e = omega (arith, ap (λ (l : List RawTree). depth_of (raws_of l)) e)
 
-pub raws-append : (rs ss : List Raw) → raw_list (rs ++ ss) ≡ raw_list rs ++ raw_list ss
-raws-append [] ss = refl
-raws-append (r ∷ rs) ss = ap (λ (ts : List RawTree). raw_of r ∷ ts) (raws-append rs ss)
+pub raws_append : (rs ss : List Raw) → raw_list (rs ++ ss) ≡ raw_list rs ++ raw_list ss
+raws_append [] ss = refl
+raws_append (r ∷ rs) ss = ap (λ (ts : List RawTree). raw_of r ∷ ts) (raws_append rs ss)
 
 -- the levels behind the only argument of code
 pub popped_levels : (before : List RawTree) (t : RawTree) (levels first : ℕ) (trees : List RawTree) (items rest : List Raw) (r : Raw) → levels ≡ levels_of (in_order before t)
     → is_one_argument (Some trees) ≡ true → depth_of (raws_of trees) ≡ first → raw_list items ≡ trees → items ≡ rest ++ r ∷ [] → min (max levels first + 1) 4294967295 ≡ levels_of (in_order (before ++ raw_of r ∷ []) t)
 popped_levels before t levels first trees items rest r h one d e p =
-    let parts : trees ≡ raw_list rest ++ raw_of r ∷ [] = sym e ∙ ap raw_list p ∙ raws-append rest (r ∷ []) in
+    let parts : trees ≡ raw_list rest ++ raw_of r ∷ [] = sym e ∙ ap raw_list p ∙ raws_append rest (r ∷ []) in
     let only = only_one trees (raw_list rest) (raw_of r) one parts in
     omega (arith, levels_behind before (raw_of r) t levels first h (sym d ∙ only_depth trees (raw_of r) only))
 
@@ -57,6 +57,6 @@ raws-reverse rs = map-reverse raw_of rs
 pub nested_more : (passed : List Raw) (r : Raw) (last t u : RawTree) → disjunction_tree (in_order (raw_list passed) last) ≡ Some t → u ≡ named (124 ∷ []) (raws_of (raw_of r ∷ t ∷ []))
     → disjunction_tree (in_order (raw_list (passed ++ r ∷ [])) last) ≡ Some u
 nested_more passed r last t u h e =
-    ap (λ (ts : List RawTree). disjunction_tree (in_order ts last)) (raws-append passed (r ∷ []))
+    ap (λ (ts : List RawTree). disjunction_tree (in_order ts last)) (raws_append passed (r ∷ []))
     ∙ ap disjunction_tree (in_order_more (raw_list passed) (raw_of r) last)
     ∙ ap (λ (o : Option RawTree). Some (with_disjunct (raw_of r) o)) h ∙ ap (λ (w : RawTree). Some w) (sym e)

@@ -1,11 +1,13 @@
 pub mod Bounds
 pub mod Complete
+pub mod Deepening
 pub mod Disjunctions
 pub mod Lawful
 pub mod Levels
 pub mod Live
 pub mod Moves
 pub mod Quoted
+pub mod Recognized
 pub mod Runs
 pub mod Sound
 pub mod Splits

@@ -151,11 +151,11 @@ answered g ts t n (Err fault) item e ok err = (
   subst (IsTermFault g ts) (sym err.0) (t, item, subst (λ (k : ℕ). 500 < max (depth t) k) e err.1),
 )
 
--- where no term is too deep nothing is said of depth
-pub never_deep : (IsDeep : RawTree → Type 0) (g : OperatorTable) (ts : List Lexeme) (f : TermFault) → IsFaultWhere (λ _. ⊥) g ts f → IsFaultWhere IsDeep g ts f
-never_deep IsDeep g ts (Bad k) h = h
-never_deep IsDeep g ts Deep h = absurd h.2
-never_deep IsDeep g ts Memory h = tt
+-- what is too deep in one sense is so in another
+pub deep_as : {P Q : RawTree → Type 0} → ((t : RawTree) → P t → Q t) → (g : OperatorTable) (ts : List Lexeme) (f : TermFault) → IsFaultWhere P g ts f → IsFaultWhere Q g ts f
+deep_as leads g ts (Bad k) h = h
+deep_as leads g ts Deep h = (h.0, h.1, leads h.0 h.2)
+deep_as leads g ts Memory h = tt
 
 -- what a run over given tokens tells
 pub run_item :

@@ -1,4 +1,6 @@
 pub mod Capped
+pub mod Control
+pub mod Depths
 pub mod DisjunctView
 pub mod Faults
 pub mod Machine

@@ -1,5 +1,5 @@
 -- Words for examples.
-use Rattle.std.specs.Prelude.{ℕ, List, [], ◌∷◌, codes}
+use Rattle.std.specs.Prelude.{ℕ, List, [], ◌∷◌, Some, codes}
 use Prim.Native.String.{String}
 use Rattle.fol_core.specs.RawTree.{RawTree, named, quantified, raws_of}
 use Rattle.fol_core.specs.declared.raw.Quantifier.{Quantifier}
@@ -10,6 +10,10 @@ use Rattle.ladr_lex.specs.Operators.{OperatorRow, standard_rows, declared}
 use Rattle.ladr_reader.specs.Faults.{IsTermFault}
 use Rattle.ladr_reader.specs.Table.{OperatorTable, table_of}
 use Rattle.ladr_reader.specs.declared.fault.TermFault.TheVariants.{Bad}
+use Rattle.ladr_reader.specs.declared.sides.Side.TheVariants.{UpTo}
+use Rattle.ladr_reader.specs.declared.stack.Frame.{Frame}
+use Rattle.ladr_reader.specs.declared.stack.Frame.TheVariants.{Waiting}
+use Rattle.ladr_reader.specs.declared.stack.Part.TheVariants.{Prefix, Infix}
 
 -- pieces without their places
 abbrev pub lexemes_in : List Piece → List Lexeme
@@ -53,3 +57,10 @@ declared_rows =
 
 abbrev pub with_declared : OperatorTable
 with_declared = table_of declared_rows
+
+-- what waits for a right disjunct, and for a literal that is denied
+abbrev pub bar : Frame
+bar = Waiting (Infix (codes "|") (Some (constant "p"))) UpTo 790
+
+abbrev pub denial : Frame
+denial = Waiting (Prefix (codes "-")) UpTo 350

@@ -1,5 +1,5 @@
 // Trees that are built as long as they have few levels.
-ghost use Rattle.std.specs.Prelude.{◌≡◌, [], Some, IfOk};
+ghost use Rattle.std.specs.Prelude.{◌≡◌, [], ◌∷◌, ◌++◌, Some, IfOk};
 ghost use Rattle.std.specs.Option.{option_map};
 ghost use Rattle.fol_core.specs.RawView.{raw_of};
 ghost use Rattle.ladr_reader.specs.Capped.{with_last_argument, application_within, quantification, is_one_argument};
@@ -101,18 +101,15 @@ impl Arguments {
                 trees: None,
                 levels: 0,
             }),
-            Some(mut trees) => match tree {
+            Some(trees) => match tree {
                 None => Ok(Arguments {
                     trees: None,
                     levels: 0,
                 }),
-                Some(tree) => {
-                    trees.push(tree)?;
-                    Ok(Arguments {
-                        trees: Some(trees),
-                        levels: levels.max(more),
-                    })
-                }
+                Some(tree) => Ok(Arguments {
+                    trees: Some(with_tree(trees, tree)?),
+                    levels: levels.max(more),
+                }),
             },
         }
     }
@@ -172,4 +169,25 @@ impl Capped {
             levels: 0,
         }
     }
+}
+
+// One more tree, at the end.
+#[tactic(auto, using(crate::proofs::Disjunctions::raws_append))]
+fn with_tree(trees: Raws, tree: Raw) -> Result<Raws, AllocError>
+    ensures { IfOk result (λ more. more ≡ trees ++ raw_of tree ∷ []) }
+{
+    let mut items = with_room(trees.into_items())?;
+    items.push(tree)?;
+    Ok(Raws { items })
+}
+
+// The same trees with room for one more: most names have one or two arguments, and there may be millions of them.
+fn with_room(items: Vec<Raw>) -> Result<Vec<Raw>, AllocError>
+    ensures { IfOk result (λ roomy. roomy.items ≡ items.items) }
+{
+    let mut items = items;
+    if items.len() < 4 {
+        items.reserve_exact(1)?;
+    }
+    Ok(items)
 }

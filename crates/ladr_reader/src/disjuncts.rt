@@ -195,7 +195,8 @@ fn nested(build: Build, before: Vec<Raw>, last: Raw) -> Result<Raw, AllocError>
     Ok(tree)
 }
 
-fn is_bar(name: &[u8]) -> bool
+/// Whether the name is that of disjunctions.
+pub fn is_bar(name: &[u8]) -> bool
     ensures { result ≡ is_bar name.now }
 {
     name == b"|".as_slice()

@@ -1,5 +1,5 @@
 // Laws of the definitions, and examples worked out.
-ghost use Rattle.std.specs.Prelude.{◌≡◌, ℕ, true, false, IsTrue, List, [], ◌∷◌, None};
+ghost use Rattle.std.specs.Prelude.{◌≡◌, ℕ, true, false, IsTrue, List, [], ◌∷◌, Some, None, codes};
 ghost use Rattle.fol_core.specs.RawTree.{RawTree};
 ghost use Rattle.fol_core.specs.declared.raw.Quantifier.TheVariants.{All, Exists};
 ghost use Rattle.ladr_lex.specs.Cuts.{is_quoted};
@@ -7,9 +7,11 @@ ghost use Rattle.ladr_lex.specs.Lexeme.{Lexeme, quoted};
 ghost use Rattle.ladr_lex.specs.Numeral.{is_numeral};
 ghost use Rattle.ladr_lex.specs.Operators.{OperatorRow, are_lawful};
 ghost use Rattle.ladr_reader.specs.Capped.{disjuncts};
+ghost use Rattle.ladr_reader.specs.Depths.{levels_around};
 ghost use Rattle.ladr_reader.specs.Reads.{Reads, Item};
 ghost use Rattle.ladr_reader.specs.Table.{OperatorTable, table_of};
-ghost use Rattle.ladr_reader.specs.Worked.{lexemes_of_text, constant, unary, binary, binder, IsBadAt, standard, with_declared};
+ghost use Rattle.ladr_reader.specs.Worked.{lexemes_of_text, constant, unary, binary, binder, IsBadAt, standard, with_declared, bar, denial};
+ghost use Rattle.ladr_reader.specs.declared.stack.Frame.TheVariants.{Group, Applied};
 
 /// Tokens are at most one term, of one precedence, and an item has one tree.
 pub fn one_reading()
@@ -37,6 +39,18 @@ pub fn worked_disjuncts()
     ensures left { disjuncts (binary "|" (binary "|" (constant "p") (constant "q")) (constant "r"))
         ≡ binary "|" (constant "p") (constant "q") ∷ constant "r" ∷ [] }
     ensures other { disjuncts (unary "|" (constant "p")) ≡ unary "|" (constant "p") ∷ [] }
+{}
+
+/// The levels around what stands inside of frames, here the innermost first: parentheses are none, and a disjunction is none
+/// where its disjuncts alone count, as long as no other frame is outside of it.
+pub fn worked_levels()
+    ensures parentheses { levels_around false (Group ∷ Group ∷ []) ≡ 0 }
+    ensures frames { levels_around false (Applied (codes "f") (Some []) ∷ Group ∷ denial ∷ [])
+        ≡ 2 }
+    ensures bar { levels_around false (bar ∷ bar ∷ []) ≡ 2 }
+    ensures spine { levels_around true (bar ∷ Group ∷ bar ∷ []) ≡ 0 }
+    ensures literal { levels_around true (denial ∷ bar ∷ []) ≡ 1 }
+    ensures inside { levels_around true (bar ∷ denial ∷ bar ∷ []) ≡ 2 }
 {}
 
 /// Items with the operators at the start.

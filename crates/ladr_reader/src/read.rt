@@ -1,9 +1,10 @@
 // The term that the tokens of an item are.
-ghost use Rattle.std.specs.Prelude.{◌≡◌, ◌≤◌, ◌<◌, max, true, false, IfOk, IfErr};
+ghost use Rattle.std.specs.Prelude.{◌≡◌, ◌≤◌, ◌<◌, max, true, false, IfOk, IfErr, MatchOption};
 ghost use Rattle.fol_core.specs.RawTree.{RawTree, depth};
 ghost use Rattle.fol_core.specs.RawView.{raw_of, raw_list};
 ghost use Rattle.ladr_lex.specs.Lexeme.{lexemes_of};
 ghost use Rattle.ladr_reader.specs.Capped.{unless_too_deep, disjuncts_within, disjuncts, all_within};
+ghost use Rattle.ladr_reader.specs.Depths.{IsTooDeep};
 ghost use Rattle.ladr_reader.specs.Faults.{IsTermFault, IsFaultWhere, IsTermRead};
 ghost use Rattle.ladr_reader.specs.Nesting.{nesting, most_open};
 ghost use Rattle.ladr_reader.specs.Reads.{Item};
@@ -14,6 +15,7 @@ use crate::disjuncts::Disjuncts;
 use crate::fault::TermFault;
 use crate::nesting::Parentheses;
 use crate::place::Standing;
+use crate::recognizing::recognize;
 use crate::stack::Stack;
 use crate::step::step;
 use fol_core::Raw;
@@ -22,7 +24,8 @@ use std::alloc::Global;
 
 /// The term that the tokens are, which are one item with its full stop, or all that is left of a text.
 ///
-/// The tokens are read once, from left to right, also where the item turns out to be nested too deep.
+/// The tokens are read once, from left to right; where so much waits that the item can only be nested too deep they are gone
+/// over again, without names and trees.
 pub fn read_term(alloc: Global, ops: &Ops, tokens: &[Token]) -> Result<Raw, TermFault>
     ensures read { IfOk result (λ raw. Item (table_of ops.now) (lexemes_of tokens.now)
         (raw_of raw)) }
@@ -34,7 +37,7 @@ pub fn read_term(alloc: Global, ops: &Ops, tokens: &[Token]) -> Result<Raw, Term
         alloc,
         most: MOST_LEVELS,
     };
-    let (term, most_open) = read_disjuncts(build, ops, tokens)?;
+    let (term, most_open) = read_disjuncts(build, ops, tokens, false)?;
     let tree = term.into_whole(build)?;
     shallow(tree, most_open)
 }
@@ -48,7 +51,7 @@ pub fn read_tree(alloc: Global, ops: &Ops, tokens: &[Token], most: u16) -> Resul
         (IsFaultWhere (λ t. most < depth t) (table_of ops.now) (lexemes_of tokens.now)) }
 {
     let build = Build { alloc, most };
-    let (term, _) = read_disjuncts(build, ops, tokens)?;
+    let (term, _) = read_disjuncts(build, ops, tokens, false)?;
     let tree = term.into_whole(build)?;
     match tree.into_tree() {
         Some(raw) => Ok(raw),
@@ -73,21 +76,47 @@ pub fn read_literals(
         (lexemes_of tokens.now)) }
 {
     let build = Build { alloc, most };
-    let (term, _) = read_disjuncts(build, ops, tokens)?;
+    let (term, _) = read_disjuncts(build, ops, tokens, true)?;
     match term.into_literals()? {
         Some(literals) => Ok(literals),
         None => Err(TermFault::Deep),
     }
 }
 
-// The term that the tokens are, by its disjuncts, and how many parentheses are open at once.
+// The term that the tokens are, by its disjuncts, and how many parentheses are open at once. Where `literals` says so, just the
+// disjuncts are to have few levels.
 fn read_disjuncts(
     build: Build,
     ops: &Ops,
     tokens: &[Token],
+    literals: bool,
 ) -> Result<(Disjuncts, usize), TermFault>
     ensures read { IfOk result (λ r.
         IsTermRead build.most (table_of ops.now) (lexemes_of tokens.now) r.0 r.1) }
+    ensures fault { IfErr result (IsFaultWhere (IsTooDeep literals build.most) (table_of ops.now)
+        (lexemes_of tokens.now)) }
+{
+    let found = read_shallow(build, ops, tokens, literals)?;
+    match found {
+        Some(read) => Ok(read),
+        None => {
+            recognize(build.alloc, ops, tokens)?;
+            Err(TermFault::Deep)
+        }
+    }
+}
+
+// The same, but nothing as soon as so much waits that an item can only be too deep: what was built is freed then.
+fn read_shallow(
+    build: Build,
+    ops: &Ops,
+    tokens: &[Token],
+    literals: bool,
+) -> Result<Option<(Disjuncts, usize)>, TermFault>
+    ensures read { IfOk result (λ read. MatchOption read
+        ((t : RawTree) → Item (table_of ops.now) (lexemes_of tokens.now) t
+        → IsTooDeep literals build.most t)
+        (λ r. IsTermRead build.most (table_of ops.now) (lexemes_of tokens.now) r.0 r.1)) }
     ensures fault { IfErr result (IsFaultWhere (λ _. ⊥) (table_of ops.now)
         (lexemes_of tokens.now)) }
 {
@@ -96,6 +125,9 @@ fn read_disjuncts(
     let mut place = Standing::Operand;
     let mut parentheses = Parentheses::new();
     for (i, token) in tokens.iter().enumerate() {
+        if stack.is_deeper_than(build.most, literals) {
+            return Ok(None);
+        }
         parentheses.note(token);
         match step(build, ops, &mut stack, place, token)? {
             Some(next) => place = next,
@@ -105,7 +137,7 @@ fn read_disjuncts(
     let Standing::Done(term, _) = place else {
         return Err(TermFault::Bad(tokens.len()));
     };
-    Ok((term, parentheses.most()))
+    Ok(Some((term, parentheses.most())))
 }
 
 // The tree, unless the item is nested too deep.

@@ -1,5 +1,6 @@
 // What a token may be where the reader stands.
 ghost use Rattle.std.specs.Prelude.{◌≡◌, IfOk};
+ghost use Rattle.std.specs.Option.{is_some};
 ghost use Rattle.ladr_lex.specs.Lexeme.{lexeme_of, ordinary};
 ghost use Rattle.ladr_lex.specs.Operators.{operator_of, if_prefix, if_after};
 ghost use Rattle.ladr_reader.specs.Machine.{start_of, start_of_symbol, follow_of, follow_of_symbol, variable_of, closes};
@@ -120,14 +121,24 @@ pub fn variable_of(alloc: Global, token: &Token) -> Result<Option<Name>, AllocEr
     }
 }
 
+/// Whether the token is a variable behind a quantifier's word.
+pub fn is_variable(token: &Token) -> bool
+    ensures { result ≡ is_some (variable_of may_be_bound (lexeme_of token.now)) }
+{
+    match token.kind() {
+        TokenKind::Ordinary => may_be_bound(token.text()),
+        _ => false,
+    }
+}
+
 fn may_be_bound(text: &[u8]) -> bool
     ensures { result ≡ may_be_bound ordinary text.now }
 {
     !is_numeral(text) && quantifier_of(text).is_none()
 }
 
-// The quantifier of a word.
-fn quantifier_of(text: &[u8]) -> Option<Quantifier>
+/// The quantifier of a word.
+pub fn quantifier_of(text: &[u8]) -> Option<Quantifier>
     ensures { result ≡ quantifier_of text.now }
 {
     match text {

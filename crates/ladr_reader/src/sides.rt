@@ -4,6 +4,9 @@ ghost use Rattle.ladr_reader.specs.Table.{left, right, takes, grows, ends};
 
 use ladr_lex::OperatorKind;
 
+/// The precedence of a quantified term, and the greatest of its body.
+pub const QUANTIFIED: u16 = 750;
+
 /// A side of an operator of precedence p: there is no argument, or one below p, or one up to p.
 #[derive(Clone, Copy, Debug, PartialEq, Eq)]
 pub enum Side {

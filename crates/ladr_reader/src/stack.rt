@@ -1,11 +1,14 @@
 // What waits for more tokens.
-ghost use Rattle.std.specs.Prelude.{◌≡◌, [], ◌∷◌, reverse, List, IfOk, MatchOption};
+ghost use Rattle.std.specs.Prelude.{◌≡◌, ℕ, ◌<◌, ◌≤◌, true, [], ◌∷◌, reverse, List, IfOk, MatchOption};
 ghost use Rattle.std.specs.Option.{option_copied};
+ghost use Rattle.ladr_reader.specs.Capped.{is_bar};
+ghost use Rattle.ladr_reader.specs.Depths.{levels_around, one_more};
 ghost use Rattle.ladr_reader.specs.Machine.{may_stand_on, last_is_closed};
 ghost use Rattle.ladr_reader.specs.StackView.{frames_of, first_held};
 ghost use Rattle.ladr_reader.specs.declared.stack.Frame.{Frame};
 
 use crate::capped::{Arguments, Capped};
+use crate::disjuncts::is_bar;
 use crate::roles::Follow;
 use crate::sides::Side;
 use fol_core::{Name, Quantifier};
@@ -44,6 +47,9 @@ pub struct Stack {
     held: Vec<Held>,
     // How many open parentheses wait inside of all that.
     groups: usize,
+    // How many levels are around what stands inside of all that, at least: of a tree, and of its disjuncts.
+    tree_levels: u32,
+    literal_levels: u32,
 }
 
 impl Model for Stack {
@@ -60,6 +66,13 @@ impl Model for Stack {
     ghost use Rattle.ladr_reader.specs.StackView.{in_groups, frames_of};
 
     ghost view = { λ a. in_groups a.groups (frames_of (reverse a.held.items)) };
+
+    ghost use Rattle.std.specs.Prelude.{◌≤◌, true, false};
+    ghost use Rattle.ladr_reader.specs.Depths.{levels_around};
+
+    ghost invariant = { λ a.
+        (a.tree_levels ≤ levels_around false (in_groups a.groups (frames_of (reverse a.held.items))))
+        × (a.literal_levels ≤ levels_around true (in_groups a.groups (frames_of (reverse a.held.items)))) };
 }
 
 impl Stack {
@@ -70,7 +83,22 @@ impl Stack {
         Stack {
             held: Vec::new(alloc),
             groups: 0,
+            tree_levels: 0,
+            literal_levels: 0,
         }
+    }
+
+    /// Whether there are surely more levels than this around what stands inside of all that waits, if it is a tree, or if
+    /// it is disjuncts.
+    pub fn is_deeper_than(&self, most: u16, literals: bool) -> bool
+        ensures { result ≡ true → most < levels_around literals self.now }
+    {
+        let levels = if literals {
+            self.literal_levels
+        } else {
+            self.tree_levels
+        };
+        levels > u32::from(most)
     }
 
     /// One more frame, the innermost.
@@ -84,8 +112,12 @@ impl Stack {
             }
             frame => {
                 let groups = self.groups;
+                let tree_levels = frame.levels_inside(self.tree_levels, false);
+                let literal_levels = frame.levels_inside(self.literal_levels, true);
                 self.held.push(Held { frame, groups })?;
                 self.groups = 0;
+                self.tree_levels = tree_levels;
+                self.literal_levels = literal_levels;
                 Ok(())
             }
         }
@@ -120,9 +152,13 @@ impl Stack {
             self.groups -= 1;
             return Some(Frame::Group);
         }
-        match self.held.pop() {
+        let innermost = self.held.pop();
+        give_back(&mut self.held);
+        match innermost {
             Some(Held { frame, groups }) => {
                 self.groups = groups;
+                self.tree_levels = self.tree_levels.saturating_sub(1);
+                self.literal_levels = self.literal_levels.saturating_sub(1);
                 Some(frame)
             }
             None => None,
@@ -130,7 +166,33 @@ impl Stack {
     }
 }
 
+// Gives back room that isn't needed any more, since what a long clause becomes needs it.
+fn give_back(held: &mut Vec<Held>)
+    ensures { held.new.items ≡ held.old.items }
+{
+    let room = held.capacity();
+    if room > 65_536 && held.len() == room / 2 {
+        held.shrink_to(room / 2 + room / 8);
+    }
+}
+
 impl Frame {
+    // The levels around what stands inside of it, where there are so many around it, at least.
+    fn levels_inside(&self, around: u32, literals: bool) -> u32
+        ensures { (outside : List Frame) → around ≤ levels_around literals outside →
+            result ≤ levels_around literals (self.now ∷ outside) }
+    {
+        match self {
+            Frame::Group => around,
+            Frame::Applied(name, _) | Frame::Waiting(Part::Infix(name, _), _, _) => {
+                one_level_more(around, literals, name.bytes())
+            }
+            Frame::Waiting(Part::Prefix(_) | Part::Quantified(_, _), _, _) => {
+                around.saturating_add(1)
+            }
+        }
+    }
+
     // Whether a term of precedence `own` may stand on top of it.
     fn allows(&self, own: u16, growing: bool) -> bool
         ensures { (outside : List Frame) → result ≡ may_stand_on (self.now ∷ outside) own growing }
@@ -149,6 +211,17 @@ impl Frame {
             Frame::Waiting(_, _, own) => follow.closes(*own),
             Frame::Group | Frame::Applied(_, _) => false,
         }
+    }
+}
+
+// The levels inside of a name's term, which is a disjunction where the name is `|`.
+fn one_level_more(around: u32, literals: bool, name: &[u8]) -> u32
+    ensures { (levels : ℕ) → around ≤ levels → result ≤ one_more literals (is_bar name.now) levels }
+{
+    if literals && around == 0 && is_bar(name) {
+        0
+    } else {
+        around.saturating_add(1)
     }
 }
 

@@ -9,14 +9,11 @@ use crate::capped::{Arguments, Build};
 use crate::disjuncts::Disjuncts;
 use crate::place::Standing;
 use crate::roles::{Follow, TermStart, variable_of};
-use crate::sides::{Side, grows, left, right};
+use crate::sides::{QUANTIFIED, Side, grows, left, right};
 use crate::stack::{Frame, Part, Stack};
 use fol_core::{Name, Quantifier};
 use ladr_lex::{Operator, Ops, Token};
 use std::alloc::AllocError;
-
-/// The precedence of a quantified term, and the greatest of its body.
-const QUANTIFIED: u16 = 750;
 
 /// Where the reader stands behind the token; nothing where no term begins so.
 pub fn step(

@@ -1,16 +1,16 @@
-use Rattle.std.proofs.Common.{ap, ◌∙◌}
+use Rattle.std.proofs.Common.{ap, ◌∙◌, arith}
 use Rattle.std.proofs.lemmas.Result.{err_from_is_err_and}
 use Rattle.ladr_lex.specs.Lexeme.{lexemes_of}
 use Rattle.ladr_reader.specs.Capped.{whole_of}
 use Rattle.ladr_reader.specs.Table.{table_of}
 use Rattle.ladr_reader.proofs.Levels.{whole_built}
-use Rattle.ladr_reader.proofs.Runs.{answered, never_deep}
+use Rattle.ladr_reader.proofs.Runs.{answered, deep_as}
 use Rattle.ladr_reader.proofs.read.read_term.Goals as goal
 
 pub returns-in_err-term-clause-fault : goal.returns-in_err-term-clause-fault
 returns-in_err-term-clause-fault c =
     let p = err_from_is_err_and c.from_residual.result c.from_residual.ensures.1 in
-    rw (p.1, p.2) (never_deep _ _ _ _ c.in_err-term.ensures.fault)
+    rw (p.1, p.2) (deep_as (λ t d. omega arith) _ _ _ c.in_err-term.ensures.fault)
 
 pub returns : goal.returns
 returns c =

@@ -8,13 +8,13 @@ use Rattle.ladr_reader.specs.Capped.{whole_of}
 use Rattle.ladr_reader.specs.Reads.{Item}
 use Rattle.ladr_reader.specs.Table.{table_of}
 use Rattle.ladr_reader.proofs.Levels.{whole_built, capped_some, capped_none}
-use Rattle.ladr_reader.proofs.Runs.{never_deep}
+use Rattle.ladr_reader.proofs.Runs.{deep_as}
 use Rattle.ladr_reader.proofs.read.read_tree.Goals as goal
 
 pub returns-in_err-term-clause-fault : goal.returns-in_err-term-clause-fault
 returns-in_err-term-clause-fault c =
     let p = err_from_is_err_and c.from_residual.result c.from_residual.ensures.1 in
-    rw (p.1, p.2) (never_deep _ _ _ _ c.in_err-term.ensures.fault)
+    rw (p.1, p.2) (deep_as (λ t d. d) _ _ _ c.in_err-term.ensures.fault)
 
 pub returns-in-Some : goal.returns-in-Some
 returns-in-Some c =

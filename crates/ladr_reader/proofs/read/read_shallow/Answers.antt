@@ -4,10 +4,11 @@ use Rattle.ladr_lex.specs.Lexeme.{Lexeme, lexemes_of}
 use Rattle.ladr_reader.specs.Machine.{standing}
 use Rattle.ladr_reader.specs.Nesting.{most_open}
 use Rattle.ladr_reader.specs.Table.{OperatorTable, table_of}
+use Rattle.ladr_reader.proofs.Deepening.{deep_item}
 use Rattle.ladr_reader.proofs.Lawful.{table_lawful}
 use Rattle.ladr_reader.proofs.Live.{table_names}
 use Rattle.ladr_reader.proofs.Runs.{lexemes_length, lexemes_from, run_more, bad_at, bad_end, done_item, all_noted}
-use Rattle.ladr_reader.proofs.read.read_disjuncts.Goals as goal
+use Rattle.ladr_reader.proofs.read.read_shallow.Goals as goal
 
 pub returns-in-None-clause-fault : goal.returns-in-None-clause-fault
 returns-in-None-clause-fault c =
@@ -53,3 +54,8 @@ returns-clause-read c =
       term_is = done.1;
       most_is = all_noted ts c.loop-i.i c.loop-i.parentheses.most c.loop-i.parentheses.unclosed c.most.result end c.most.ensures c.loop-i.invariant.most;
     }
+
+pub returns-then-is_deeper_than-clause-read : goal.returns-then-is_deeper_than-clause-read
+returns-then-is_deeper_than-clause-read c =
+    deep_item c.args.build.most c.args.literals (table_of c.args.ops.now) (table_lawful c.args.ops.now c.rows_are_lawful.ensures) (lexemes_of c.args.tokens.now) c.loop-i.i c.loop-i.place c.loop-i.stack c.loop-i.invariant.run
+    (c.is_deeper_than.ensures c.if-is_deeper_than.true)

@@ -5,7 +5,7 @@ use Rattle.ladr_reader.specs.Machine.{standing, go}
 use Rattle.ladr_reader.specs.Nesting.{most_open}
 use Rattle.ladr_reader.specs.Table.{table_of}
 use Rattle.ladr_reader.specs.declared.place.Standing.TheVariants.{Operand}
-use Rattle.ladr_reader.proofs.read.read_disjuncts.Given as goal
+use Rattle.ladr_reader.proofs.read.read_shallow.Given as goal
 
 abbrev pub invariant-loop-i : goal.invariant-loop-i
 invariant-loop-i l = record {
