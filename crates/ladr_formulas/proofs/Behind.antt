@@ -45,15 +45,15 @@ same_kind Function = refl
 same_kind Relation = refl
 
 -- a symbol that stands in the table is not entered anew, and clashes where it did
-record Stands (a T : List Symbol) (x : Symbol) : Type 0 where
-  clash : is_clash T x ≡ is_clash a x
-  table : entered T x ≡ T
-  number : number_of T x.name x.arity ≡ number_of (entered a x) x.name x.arity
+pub record Stands (a T : List Symbol) (x : Symbol) : Type 0 where
+  pub clash : is_clash T x ≡ is_clash a x
+  pub table : entered T x ≡ T
+  pub number : number_of T x.name x.arity ≡ number_of (entered a x) x.name x.arity
 
 stands_at : (T : List Symbol) (x : Symbol) (n : ℕ) → number_of T x.name x.arity ≡ Some n → entered T x ≡ T
 stands_at T x n h = ap (λ (o : Option ℕ). if is_some o then T else T ++ x ∷ []) h
 
-stands : (a T : List Symbol) (x : Symbol) → KeepsNumbers (entered a x) T → Stands a T x
+pub stands : (a T : List Symbol) (x : Symbol) → KeepsNumbers (entered a x) T → Stands a T x
 stands a T x k = by (number_of a x.name x.arity) refl
   where
     by : (o : Option ℕ) → number_of a x.name x.arity ≡ o → Stands a T x

@@ -14,4 +14,5 @@ pub mod OwnTerms
 pub mod OwnVariables
 pub mod ScopeLemmas
 pub mod TermLemmas
+pub mod Unbroken
 pub mod VariableOrder

@@ -6,25 +6,27 @@ use Rattle.std.proofs.lemmas.Slice.Eq.{bytes_eq-Decides}
 use Rattle.fol_core.specs.Fol.{Fol, verum, falsum, negation}
 use Rattle.fol_core.specs.FormulaView.{fol_of}
 use Rattle.fol_core.specs.RawTree.{RawTree, named, quantified, RawTrees, no_raws, more_raws}
-use Rattle.fol_core.specs.SymbolTable.{Symbol, symbol, number_of, entered, KeepsNumbers}
+use Rattle.fol_core.specs.SymbolTable.{Symbol, symbol, number_of, entered, is_clash, KeepsNumbers}
 use Rattle.fol_core.specs.Tree.{Tree, elem, app, none}
 use Rattle.fol_core.specs.declared.raw.Quantifier.{Quantifier}
 use Rattle.fol_core.specs.declared.raw.Quantifier.TheVariants.{All, Exists}
+use Rattle.fol_core.specs.declared.symbols.Kind.{Kind}
 use Rattle.fol_core.specs.declared.symbols.Kind.TheVariants.{Function, Relation}
 use Rattle.fol_core.proofs.Places.{slice_get_last}
 use Rattle.fol_core.proofs.SymbolLemmas.{number_of_push}
 use Rattle.ladr_lex.specs.Numeral.{limited_number_of}
-use Rattle.ladr_lex.specs.declared.misuse.Misuse.TheVariants.{VariableAsFormula, QuantifierInTerm, UnfitNumeral}
+use Rattle.ladr_lex.specs.declared.misuse.Misuse.{Misuse}
+use Rattle.ladr_lex.specs.declared.misuse.Misuse.TheVariants.{TwoKinds, VariableAsFormula, QuantifierInTerm, UnfitAttribute, UnfitNumeral}
 use Rattle.ladr_formulas.specs.Formulas.{Variable, Reading, Made, Bound, Style, meets, bound_number, free_number, is_free_name, is_variable, with_variable, variable_number, reading_with_name, named_variable, with_symbol, symbol_number, arity_of, is_too_great, is_element, constant_as, term_of, terms_of, relation_of, sentence_as, equation_read, under, bound_by, is_denial, connective_of, by_connective, comparison, formula_in, unread, formula_reading}
-use Rattle.ladr_formulas.specs.Means.{is_relation, between, IsMeaning, MeansTerm, bound_variable, free_variable, element, applied, MeanTerms, no_terms, more_terms, Means, for_all, there_is, truth, falsity, denied, both, either, if_then, then_if, if_and_only_if, equals, differs, related}
+use Rattle.ladr_formulas.specs.Means.{number_as, is_relation, between, IsMeaning, MeansTerm, bound_variable, free_variable, element, applied, MeanTerms, no_terms, more_terms, Means, for_all, there_is, truth, falsity, denied, both, either, if_then, then_if, if_and_only_if, equals, differs, related}
 use Rattle.ladr_formulas.specs.VariablesMet.{variables_of_terms, numbered}
 use Rattle.ladr_formulas.specs.Whole.{IsWhole}
 use Rattle.ladr_formulas.specs.declared.formulas.FormulaRead.{FormulaRead}
 use Rattle.ladr_formulas.specs.declared.connectives.Connective.{Connective}
 use Rattle.ladr_formulas.specs.declared.connectives.Connective.TheVariants.{And, Or, IfThen, ThenIf, IfAndOnlyIf}
-use Rattle.ladr_formulas.proofs.Behind.{found}
+use Rattle.ladr_formulas.proofs.Behind.{found, stands}
 use Rattle.ladr_formulas.proofs.BoundPlaces.{binders_read}
-use Rattle.ladr_formulas.proofs.Growing.{Grows, beyond, same, grows_term, grows_terms, grows_formula}
+use Rattle.ladr_formulas.proofs.Growing.{Grows, beyond, same, grows_meets, grows_symbol, grows_term, grows_terms, grows_formula}
 use Rattle.ladr_formulas.proofs.NumberingLemmas.{free_number_free}
 use Rattle.ladr_formulas.proofs.OwnVariables.{met}
 use Rattle.ladr_formulas.proofs.VariableOrder.{variables_read, terms_variables}
@@ -49,6 +51,22 @@ entered_found table x = by (number_of table x.name x.arity) refl
 -- also in a table that keeps the numbers
 number_kept : (table last : List Symbol) (x : Symbol) → KeepsNumbers (entered table x) last → number_of last x.name x.arity ≡ Some (unwrap_or (number_of (entered table x) x.name x.arity) 0)
 number_kept table last x k = found (entered table x) last x.name x.arity _ k (entered_found table x)
+
+-- a row that isn't met isn't broken
+unmet : (test : Bool) (row : Misuse) (s : Reading) → (meets test row s).least ≡ None → test ≡ false
+unmet true row s e = absurd (met row s e)
+unmet false row s e = refl
+
+-- a symbol that is entered without misuse is found with its kind
+number_kept_as : (name : List ℕ) (arity : ℕ) (kind : Kind) (s : Reading) (last : List Symbol) → (with_symbol name arity kind s).least ≡ None → KeepsNumbers (with_symbol name arity kind s).symbols last
+    → number_as kind last name arity ≡ Some (symbol_number name arity (with_symbol name arity kind s))
+number_kept_as name arity kind s last e k =
+    let x : Symbol = symbol name arity kind in
+    let clash = meets (is_clash s.symbols x) TwoKinds s in
+    let sign : bytes_eq name (codes "#") ≡ false = unmet (bytes_eq name (codes "#")) UnfitAttribute clash e in
+    let apart : is_clash s.symbols x ≡ false = unmet (is_clash s.symbols x) TwoKinds s ((grows_meets (bytes_eq name (codes "#")) UnfitAttribute clash).sound e) in
+    let one : is_clash last x ≡ false = (stands s.symbols last x k).clash ∙ apart in
+    (λ i. if sign i || one i then None else number_of last name arity) ∙ number_kept s.symbols last x k
 
 -- a free variable keeps its number
 free_kept : (n : ℕ) (vs ws : List Variable) (name : List ℕ) (k : ℕ) → ((m : ℕ) (x : Variable) → slice_get vs m ≡ Some x → slice_get ws m ≡ Some x) → free_number n vs name ≡ Some k → free_number n ws name ≡ Some k
@@ -152,8 +170,8 @@ module _ (st : Style) (last : Reading) (sound : last.least ≡ None) where
       made b = if b then record { tree = elem (limited_number_of name); reading = meets (is_too_great st name) UnfitNumeral r } else record { tree = app (symbol_number name 0 (with_symbol name 0 Function r)) none; reading = with_symbol name 0 Function r }
 
       by : (b : Bool) → is_element st name ≡ b → Grows (made b).reading last → IsTerm scope (named name no_raws) (made b)
-      by true e h = element (other refl) e
-      by false e h = applied (λ i. not (other refl i) && not (e i)) (number_kept r.symbols last.symbols (symbol name 0 Function) h.symbols) no_terms
+      by true e h = element (other refl) e (unmet (is_too_great st name) UnfitNumeral r (h.sound sound))
+      by false e h = applied (λ i. not (other refl i) && not (e i)) (number_kept_as name 0 Function r last.symbols (h.sound sound) h.symbols) no_terms
 
   mutual
     pub term_means : (scope : List Bound) (s : Reading) (t : RawTree) → Grows (term_of st scope s t).reading last → IsTerm scope t (term_of st scope s t)
@@ -169,7 +187,9 @@ module _ (st : Style) (last : Reading) (sound : last.least ≡ None) where
         let great = meets (is_too_great st name) UnfitNumeral s in
         let after = with_symbol name arity Function great in
         let all = grows_terms st scope after (more_raws t ts) in
-        applied refl (number_kept great.symbols last.symbols (symbol name arity Function) (beyond after _ last all g).symbols) (terms_mean scope after (more_raws t ts) g)
+        let on = beyond after _ last all g in
+        let small = unmet (is_too_great st name) UnfitNumeral s ((grows_symbol name arity Function great).sound (on.sound sound)) in
+        applied (ap not small) (number_kept_as name arity Function great last.symbols (on.sound sound) on.symbols) (terms_mean scope after (more_raws t ts) g)
 
     pub terms_mean : (scope : List Bound) (s : Reading) (ts : RawTrees) → Grows (terms_of st scope s ts).reading last → MeanTerms st last.symbols last.variables scope ts (terms_of st scope s ts).tree
     terms_mean scope s no_raws g = no_terms
@@ -180,9 +200,11 @@ module _ (st : Style) (last : Reading) (sound : last.least ≡ None) where
   relation_means : (scope : List Bound) (name : List ℕ) (ts : RawTrees) (s : Reading) → is_relation st scope name ts ≡ true → Grows (relation_of st scope name ts s).reading last
       → IsFormula scope (named name ts) (relation_of st scope name ts s)
   relation_means scope name ts s e g =
-      let element = meets (is_element st name) UnfitNumeral s in
-      let after = with_symbol name (arity_of ts) Relation element in
-      related e (number_kept element.symbols last.symbols (symbol name (arity_of ts) Relation) (beyond after _ last (grows_terms st scope after ts) g).symbols) (terms_mean scope after ts g)
+      let numeral = meets (is_element st name) UnfitNumeral s in
+      let after = with_symbol name (arity_of ts) Relation numeral in
+      let on = beyond after _ last (grows_terms st scope after ts) g in
+      let other = unmet (is_element st name) UnfitNumeral s ((grows_symbol name (arity_of ts) Relation numeral).sound (on.sound sound)) in
+      related e other (number_kept_as name (arity_of ts) Relation numeral last.symbols (on.sound sound) on.symbols) (terms_mean scope after ts g)
 
   sentence_means : (scope : List Bound) (name : List ℕ) (o : Option ℕ) (r : Reading) → (o ≡ None → is_variable st scope name ≡ false)
       → Grows (sentence_as st scope name o r).reading last → IsFormula scope (named name no_raws) (sentence_as st scope name o r)

@@ -6,12 +6,13 @@ use Rattle.std.specs.Str.{bytes_eq}
 use Rattle.fol_core.specs.Bound.{binders_of}
 use Rattle.fol_core.specs.Fol.{Fol, verum, falsum, equal, atom, negation, conjunction, disjunction, implication, equivalence}
 use Rattle.fol_core.specs.RawTree.{RawTree, named, quantified, RawTrees, no_raws, more_raws}
-use Rattle.fol_core.specs.SymbolTable.{Symbol, number_of}
+use Rattle.fol_core.specs.SymbolTable.{Symbol}
 use Rattle.fol_core.specs.Tree.{Tree, var, elem, app, Trees, none, more}
 use Rattle.fol_core.specs.declared.raw.Quantifier.TheVariants.{All, Exists}
+use Rattle.fol_core.specs.declared.symbols.Kind.TheVariants.{Function, Relation}
 use Rattle.ladr_lex.specs.Numeral.{limited_number_of}
 use Rattle.ladr_formulas.specs.Formulas.{Variable, Bound, Style, bound_number, free_number, is_free_name, is_variable, is_element, arity_of, bound_by, is_denial, connective_of}
-use Rattle.ladr_formulas.specs.Means.{is_function, is_relation, IsMeaning, MeansTerm, bound_variable, free_variable, element, applied, MeanTerms, no_terms, more_terms, Means, for_all, there_is, truth, falsity, denied, both, either, if_then, then_if, if_and_only_if, equals, differs, related}
+use Rattle.ladr_formulas.specs.Means.{number_as, is_function, is_relation, IsMeaning, MeansTerm, bound_variable, free_variable, element, applied, MeanTerms, no_terms, more_terms, Means, for_all, there_is, truth, falsity, denied, both, either, if_then, then_if, if_and_only_if, equals, differs, related}
 use Rattle.ladr_formulas.specs.VariablesMet.{variables_in}
 use Rattle.ladr_formulas.specs.declared.connectives.Connective.{Connective}
 use Rattle.ladr_formulas.specs.declared.connectives.Connective.TheVariants.{And, Or, IfThen, ThenIf, IfAndOnlyIf}
@@ -62,21 +63,21 @@ module _ (st : Style) (table : List Symbol) (variables : List Variable) where
   constant_by name (Some n) = Some (var n)
   constant_by name None =
       if is_free_name st name then option_map (λ n. var n) (free_number 0 variables name)
-      else (if is_element st name then Some (elem (limited_number_of name)) else applied_to (number_of table name 0) (Some none))
+      else (if is_element st name then Some (elem (limited_number_of name)) else applied_to (number_as Function table name 0) (Some none))
 
   abbrev mutual
     -- the term that a term as read means, if it means one
     the_term : List Bound → RawTree → Option Tree
     the_term scope (quantified q x t) = None
     the_term scope (named name no_raws) = constant_by name (bound_number scope name)
-    the_term scope (named name (more_raws t ts)) = applied_to (number_of table name (suc (arity_of ts))) (further (the_term scope t) (the_terms scope ts))
+    the_term scope (named name (more_raws t ts)) = applied_to (number_as Function table name (suc (arity_of ts))) (further (the_term scope t) (the_terms scope ts))
 
     the_terms : List Bound → RawTrees → Option Trees
     the_terms scope no_raws = Some none
     the_terms scope (more_raws t ts) = further (the_term scope t) (the_terms scope ts)
 
   abbrev relation_by : List Bound → List ℕ → RawTrees → List ℕ → Found
-  relation_by scope name ts ns = related_to (number_of table name (arity_of ts)) (the_terms scope ts) ns
+  relation_by scope name ts ns = related_to (number_as Relation table name (arity_of ts)) (the_terms scope ts) ns
 
   abbrev sentence_by : List Bound → List ℕ → List ℕ → Found
   sentence_by scope name ns =
@@ -106,7 +107,7 @@ module _ (st : Style) (table : List Symbol) (variables : List Variable) where
       by (Some n) b e = cc
       by None b e = (refl, e)
 
-  function_same : (scope : List Bound) (name : List ℕ) (ts : RawTrees) (us : Trees) (f : ℕ) → is_function st scope name ts ≡ true → number_of table name (arity_of ts) ≡ Some f
+  function_same : (scope : List Bound) (name : List ℕ) (ts : RawTrees) (us : Trees) (f : ℕ) → is_function st scope name ts ≡ true → number_as Function table name (arity_of ts) ≡ Some f
       → the_terms scope ts ≡ Some us → the_term scope (named name ts) ≡ Some (app f us)
   function_same scope name no_raws us f e n h =
       let other = neither (is_variable st scope name) (is_element st name) e in
@@ -125,18 +126,18 @@ module _ (st : Style) (table : List Symbol) (variables : List Variable) where
     term_same (bound_variable {scope} {name} {n} e) = ap (constant_by name) e
     term_same (free_variable {scope} {name} {n} e is k) =
         ap (constant_by name) e ∙
-        (λ i. if is i then option_map (λ n. var n) (k i) else (if is_element st name then Some (elem (limited_number_of name)) else applied_to (number_of table name 0) (Some none)))
-    term_same (element {scope} {name} other e) =
+        (λ i. if is i then option_map (λ n. var n) (k i) else (if is_element st name then Some (elem (limited_number_of name)) else applied_to (number_as Function table name 0) (Some none)))
+    term_same (element {scope} {name} other e small) =
         let free = no_variable scope name other in
         ap (constant_by name) free.0 ∙
-        (λ i. if free.1 i then option_map (λ n. var n) (free_number 0 variables name) else (if e i then Some (elem (limited_number_of name)) else applied_to (number_of table name 0) (Some none)))
+        (λ i. if free.1 i then option_map (λ n. var n) (free_number 0 variables name) else (if e i then Some (elem (limited_number_of name)) else applied_to (number_as Function table name 0) (Some none)))
     term_same (applied {scope} {name} {ts} {us} {f} e n all) = function_same scope name ts us f e n (terms_same all)
 
     terms_same : {scope : List Bound} {ts : RawTrees} {us : Trees} → MeanTerms st table variables scope ts us → the_terms scope ts ≡ Some us
     terms_same no_terms = refl
     terms_same (more_terms first others) = (λ i. further (term_same first i) (terms_same others i))
 
-  relation_same : (scope : List Bound) (name : List ℕ) (ts : RawTrees) (us : Trees) (r : ℕ) (ns : List ℕ) → is_relation st scope name ts ≡ true → number_of table name (arity_of ts) ≡ Some r
+  relation_same : (scope : List Bound) (name : List ℕ) (ts : RawTrees) (us : Trees) (r : ℕ) (ns : List ℕ) → is_relation st scope name ts ≡ true → number_as Relation table name (arity_of ts) ≡ Some r
       → the_terms scope ts ≡ Some us → the_formula scope (named name ts) ns ≡ Some (atom r us, ns)
   relation_same scope name no_raws us r ns e n h =
       by (is_variable st scope name) (bytes_eq name (codes "$T")) (bytes_eq name (codes "$F")) e
@@ -185,7 +186,7 @@ module _ (st : Style) (table : List Symbol) (variables : List Variable) where
   formula_same (if_and_only_if {scope} {t} {u} {f} {g} a b) ns = pair_same equivalence (λ ms. the_formula scope t ms) (λ ms. the_formula scope u ms) f g ns (λ ms. formula_same a ms) (λ ms. formula_same b ms)
   formula_same (equals a b) ns = (λ i. equated (term_same a i) (term_same b i) ns)
   formula_same (differs a b) ns = (λ i. changed negation (equated (term_same a i) (term_same b i) ns))
-  formula_same (related {scope} {name} {ts} {us} {r} e n all) ns = relation_same scope name ts us r ns e n (terms_same all)
+  formula_same (related {scope} {name} {ts} {us} {r} e other n all) ns = relation_same scope name ts us r ns e n (terms_same all)
 
   -- two formulas that a term means are one where their quantifiers have the same numbers
   pub same_formula : (scope : List Bound) (t : RawTree) (f g : Fol) → Means st table variables scope t f → Means st table variables scope t g → binders_of f ≡ binders_of g → f ≡ g

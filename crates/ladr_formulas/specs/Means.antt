@@ -1,20 +1,28 @@
 -- What a term as read means as a formula, by the symbols and variables that there are in the end.
-use Rattle.std.specs.Prelude.{◌≡◌, ℕ, suc, Bool, true, false, not, ◌&&◌, ◌||◌, List, [], ◌∷◌, Some, None, is_none, if◌then◌else◌, slice_get, codes}
+use Rattle.std.specs.Prelude.{◌≡◌, ℕ, suc, Bool, true, false, not, ◌&&◌, ◌||◌, List, [], ◌∷◌, Option, Some, None, is_none, if◌then◌else◌, slice_get, codes}
 use Rattle.std.specs.Str.{bytes_eq}
 use Rattle.fol_core.specs.Bound.{binders_of}
 use Rattle.fol_core.specs.Fol.{Fol, verum, falsum, equal, atom, negation, conjunction, disjunction, implication, equivalence, forall, exists}
 use Rattle.fol_core.specs.RawTree.{RawTree, named, quantified, RawTrees, no_raws, more_raws}
-use Rattle.fol_core.specs.SymbolTable.{Symbol, number_of}
+use Rattle.fol_core.specs.SymbolTable.{Symbol, symbol, number_of, is_clash}
 use Rattle.fol_core.specs.Tree.{Tree, var, elem, app, Trees, none, more}
 use Rattle.fol_core.specs.declared.raw.Quantifier.TheVariants.{All, Exists}
+use Rattle.fol_core.specs.declared.symbols.Kind.{Kind}
+use Rattle.fol_core.specs.declared.symbols.Kind.TheVariants.{Function, Relation}
 use Rattle.ladr_lex.specs.Numeral.{limited_number_of}
-use Rattle.ladr_formulas.specs.Formulas.{Style, Variable, Bound, bound_number, free_number, is_free_name, is_variable, is_element, arity_of, is_denial, connective_of}
+use Rattle.ladr_formulas.specs.Formulas.{Style, Variable, Bound, bound_number, free_number, is_free_name, is_variable, is_element, is_too_great, arity_of, is_denial, connective_of}
 use Rattle.ladr_formulas.specs.VariablesMet.{variables_in}
+
+-- the number of a name and arity in a table that has them with this kind; `#` names nothing
+abbrev pub number_as : Kind → List Symbol → List ℕ → ℕ → Option ℕ
+number_as kind table name arity =
+    if bytes_eq name (codes "#") || is_clash table (symbol name arity kind) then None
+    else number_of table name arity
 
 -- whether a name with these arguments is a function's, below a relation
 abbrev pub is_function : Style → List Bound → List ℕ → RawTrees → Bool
 is_function st scope name no_raws = not (is_variable st scope name) && not (is_element st name)
-is_function st scope name (more_raws t ts) = true
+is_function st scope name (more_raws t ts) = not (is_too_great st name)
 
 -- whether a name with these arguments is a relation's
 abbrev pub is_relation : Style → List Bound → List ℕ → RawTrees → Bool
@@ -40,12 +48,13 @@ mutual
         MeansTerm st table variables scope (named name no_raws) (var n)
     element :
         {scope : List Bound} {name : List ℕ} → is_variable st scope name ≡ false →
-        is_element st name ≡ true →
+        is_element st name ≡ true → is_too_great st name ≡ false →
         MeansTerm st table variables scope (named name no_raws) (elem (limited_number_of name))
-    -- a function is the symbol that the table has for its name and arity
+    -- a function is the symbol that the table has for its name and arity, as a function
     applied :
         {scope : List Bound} {name : List ℕ} {ts : RawTrees} {us : Trees} {f : ℕ} →
-        is_function st scope name ts ≡ true → number_of table name (arity_of ts) ≡ Some f →
+        is_function st scope name ts ≡ true →
+        number_as Function table name (arity_of ts) ≡ Some f →
         MeanTerms st table variables scope ts us →
         MeansTerm st table variables scope (named name ts) (app f us)
 
@@ -113,10 +122,12 @@ pub data Means (st : Style) (table : List Symbol) (variables : List Variable)
       {scope : List Bound} {t u : RawTree} {a b : Tree} →
       MeansTerm st table variables scope t a → MeansTerm st table variables scope u b →
       Means st table variables scope (between (codes "!=") t u) (negation (equal a b))
-  -- a relation is the symbol that the table has for its name and arity
+  -- a relation is the symbol that the table has for its name and arity, as a relation; its name isn't
+  -- an element's
   related :
       {scope : List Bound} {name : List ℕ} {ts : RawTrees} {us : Trees} {r : ℕ} →
-      is_relation st scope name ts ≡ true → number_of table name (arity_of ts) ≡ Some r →
+      is_relation st scope name ts ≡ true → is_element st name ≡ false →
+      number_as Relation table name (arity_of ts) ≡ Some r →
       MeanTerms st table variables scope ts us →
       Means st table variables scope (named name ts) (atom r us)
 

@@ -1,10 +1,11 @@
 -- The symbols of a term as read, in their order.
-use Rattle.std.specs.Prelude.{ℕ, suc, Bool, not, ◌||◌, List, [], ◌∷◌, ◌++◌, Option, Some, None, is_none, if◌then◌else◌, filter, codes}
+use Rattle.std.specs.Prelude.{ℕ, suc, Bool, not, ◌||◌, List, [], ◌∷◌, ◌++◌, Option, Some, None, is_none, if◌then◌else◌, filter, nat_lt, codes}
 use Rattle.std.specs.List.{list_any}
 use Rattle.std.specs.Str.{bytes_eq}
 use Rattle.fol_core.specs.RawTree.{RawTree, named, quantified, RawTrees, no_raws, more_raws}
 use Rattle.fol_core.specs.SymbolTable.{Symbol, symbol, is_called, number_of}
 use Rattle.fol_core.specs.declared.symbols.Kind.TheVariants.{Function, Relation}
+use Rattle.ladr_lex.specs.declared.limits.TheConstants.{MOST_ARGUMENTS}
 use Rattle.ladr_formulas.specs.Formulas.{Style, is_free_name, is_element, arity_of, is_denial, connective_of}
 use Rattle.ladr_formulas.specs.declared.connectives.Connective.{Connective}
 use Rattle.ladr_formulas.specs.declared.connectives.Connective.TheVariants.{ThenIf}
@@ -75,3 +76,7 @@ first_of_each (s ∷ ss) = s ∷ filter (λ t. not (is_called s.name s.arity t))
 -- of these symbols, the first of each name and arity that doesn't stand in a table
 abbrev pub new_symbols : List Symbol → List Symbol → List Symbol
 new_symbols table ss = filter (λ s. is_none (number_of table s.name s.arity)) (first_of_each ss)
+
+-- whether one of these symbols has more arguments than a symbol may have
+abbrev pub has_many_arguments : List Symbol → Bool
+has_many_arguments ss = list_any (λ s. nat_lt MOST_ARGUMENTS s.arity) ss

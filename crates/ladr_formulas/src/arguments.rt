@@ -3,10 +3,10 @@ ghost use Rattle.std.specs.Prelude.{◌≡◌, [], ◌++◌, None, length, IfOk,
 ghost use Rattle.fol_core.specs.Bound.{HaveSymbolsBelow};
 ghost use Rattle.fol_core.specs.RawTree.{raws_of};
 ghost use Rattle.fol_core.specs.SymbolTable.{KeepsNumbers};
-ghost use Rattle.fol_core.specs.Tree.{trees_of};
+ghost use Rattle.fol_core.specs.Tree.{Trees, trees_of};
 ghost use Rattle.ladr_formulas.specs.Formulas.{unread, terms_of};
 ghost use Rattle.ladr_formulas.specs.Means.{MeanTerms};
-ghost use Rattle.ladr_formulas.specs.Occurring.{symbols_of_terms, new_symbols};
+ghost use Rattle.ladr_formulas.specs.Occurring.{symbols_of_terms, new_symbols, has_many_arguments};
 ghost use Rattle.ladr_formulas.specs.VariablesMet.{variables_of_terms, numbered};
 
 use crate::formulas::terms;
@@ -46,12 +46,18 @@ pub fn terms_of(
     // New symbols stand behind the others, in the order in which they occur, and so do the variables.
     ensures ordered { OnOk result (symbols.new ≡ symbols.old ++ new_symbols symbols.old
         (symbols_of_terms style [] (raws_of raws.now))) }
+    ensures arity { IfOk result (λ r. r.large
+        ≡ has_many_arguments (symbols_of_terms style [] (raws_of raws.now))) }
     ensures numbered { IfOk result (λ r. r.variables
         ≡ numbered (variables_of_terms style [] (raws_of raws.now))) }
     // Where no row was met the terms are what the arguments mean by these.
     ensures means { IfOk result (λ r. r.least ≡ None → MeanTerms style symbols.new
         (numbered (variables_of_terms style [] (raws_of raws.now))) [] (raws_of raws.now)
         (trees_of r.terms)) }
+    // A row was met only where they mean no terms.
+    ensures unmet { IfOk result (λ r. (ts : Trees) → MeanTerms style symbols.new
+        (numbered (variables_of_terms style [] (raws_of raws.now))) [] (raws_of raws.now) ts →
+        r.least ≡ None) }
     // Whatever the answer, the old symbols keep their numbers.
     ensures kept { KeepsNumbers symbols.old symbols.new }
 {

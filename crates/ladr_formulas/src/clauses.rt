@@ -12,7 +12,7 @@ ghost use Rattle.ladr_formulas.specs.ClauseIn.{atom_in, literal_in, clause_in};
 ghost use Rattle.ladr_formulas.specs.Formulas.{formula_in, formula_reading, names_of_variables, style_of};
 ghost use Rattle.ladr_formulas.specs.Literals.{formulas_in, all_literals, clause_from, with_literal, IsClauseRead};
 ghost use Rattle.ladr_formulas.specs.Means.{IsMeaning};
-ghost use Rattle.ladr_formulas.specs.Occurring.{occurring, new_symbols};
+ghost use Rattle.ladr_formulas.specs.Occurring.{occurring, new_symbols, has_many_arguments};
 ghost use Rattle.ladr_formulas.specs.VariablesMet.{variables_in};
 
 use crate::formulas::formula;
@@ -49,12 +49,17 @@ pub fn clause_of(
     ensures ordered { IfOk result (λ r. (t : RawTree) → raw_list literals.now ≡ disjuncts t →
         symbols.new ≡ symbols.old ++ new_symbols symbols.old
         (occurring (style_of mode prolog) [] t)) }
+    ensures arity { IfOk result (λ r. (t : RawTree) → raw_list literals.now ≡ disjuncts t →
+        r.large ≡ has_many_arguments (occurring (style_of mode prolog) [] t)) }
     ensures numbered { IfOk result (λ r. (t : RawTree) → raw_list literals.now ≡ disjuncts t →
         r.names ≡ names_of_variables (variables_in (style_of mode prolog) t)) }
     // Where no row was met the formula is what the term means by these.
     ensures means { IfOk result (λ r. (t : RawTree) → raw_list literals.now ≡ disjuncts t →
         r.least ≡ None →
         (f : Fol) × IsMeaning (style_of mode prolog) symbols.new t f × (r.clause ≡ clause_in f)) }
+    // A row was met only where it means no formula.
+    ensures unmet { IfOk result (λ r. (t : RawTree) → raw_list literals.now ≡ disjuncts t →
+        (f : Fol) → IsMeaning (style_of mode prolog) symbols.new t f → r.least ≡ None) }
     // Whatever the answer, the old symbols keep their numbers.
     ensures kept { KeepsNumbers symbols.old symbols.new }
 {
@@ -174,7 +179,8 @@ fn atom_in(alloc: Global, positive: bool, shape: Shape) -> Result<Option<Literal
             positive,
             atom: Term::App(s, terms),
         })),
-        Shape::Eq(left, right) => {
+        Shape::Eq(equation) => {
+            let (left, right) = equation.into_terms();
             let mut sides = Terms::new(alloc);
             sides.push(left)?;
             sides.push(right)?;

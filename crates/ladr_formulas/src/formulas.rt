@@ -2,6 +2,7 @@
 ghost use Rattle.std.specs.Prelude.{◌≡◌, [], ◌∷◌, ◌++◌, length, None, IfOk, OnOk};
 ghost use Rattle.fol_core.specs.declared.symbols.Kind.TheVariants.{Function};
 ghost use Rattle.fol_core.specs.Bound.{BindsOnce, HasSymbolsBelow};
+ghost use Rattle.fol_core.specs.Fol.{Fol};
 ghost use Rattle.fol_core.specs.FormulaView.{fol_of};
 ghost use Rattle.fol_core.specs.RawTree.{raws_of};
 ghost use Rattle.fol_core.specs.RawView.{raw_of};
@@ -10,14 +11,16 @@ ghost use Rattle.fol_core.specs.Tree.{trees_of};
 ghost use Rattle.fol_core.specs.TermView.{tree_of};
 ghost use Rattle.ladr_formulas.specs.Formulas.{is_element, is_too_great, arity_of, meets, with_symbol, symbol_number, constant, term_of, terms_of, relation_of, equation_read, sentence, bound_by, joined_by, comparison, formula_in, formula_reading, names_of_variables, style_of};
 ghost use Rattle.ladr_formulas.specs.Means.{IsMeaning};
-ghost use Rattle.ladr_formulas.specs.Occurring.{occurring, new_symbols};
+ghost use Rattle.ladr_formulas.specs.Occurring.{occurring, new_symbols, has_many_arguments};
 ghost use Rattle.ladr_formulas.specs.VariablesMet.{variables_in};
 ghost use Rattle.ladr_formulas.specs.Whole.{IsWhole};
 
 use crate::connectives::{Connective, connective_of, is_denial};
 use crate::reader::Reader;
 use crate::styles::{Mode, Style, style_of};
-use fol_core::{Formula, Kind, Quantifier, Raw, Raws, Shape, Sub, Sym, Symbols, Term, Terms};
+use fol_core::{
+    Formula, Kind, Quantifier, Raw, Raws, Shape, Sides, Sub, Sym, Symbols, Term, Terms,
+};
 use ladr_lex::{MOST_ELEMENT, Misuse, is_numeral, number};
 use std::alloc::{AllocError, Global};
 use std::mem;
@@ -73,6 +76,15 @@ fn function(name: &[u8], args: &Raws, style: Style, reader: &mut Reader) -> Resu
     reader.enter(name, args.len(), Kind::Function)
 }
 
+// No terms, with room for so many.
+fn room(alloc: Global, count: usize) -> Result<Terms, AllocError>
+    ensures { IfOk result (λ terms. terms ≡ []) }
+{
+    Ok(Terms {
+        items: Vec::with_capacity(alloc, count)?,
+    })
+}
+
 #[tactic(auto, using(crate::proofs::TermLemmas::kept_both))]
 // The term that is read below a relation.
 fn term(alloc: Global, raw: &Raw, style: Style, reader: &mut Reader) -> Result<Term, AllocError>
@@ -94,7 +106,7 @@ fn term(alloc: Global, raw: &Raw, style: Style, reader: &mut Reader) -> Result<T
                 return constant(alloc, name.bytes(), style, reader);
             }
             let s = function(name.bytes(), args, style, reader)?;
-            let mut terms = Terms::new(alloc);
+            let mut terms = room(alloc, args.len())?;
             for arg in &args.items {
                 terms.push(term(alloc, arg, style, reader)?)?;
             }
@@ -116,7 +128,7 @@ pub fn terms(
     ensures scope { OnOk result (reader.new.scope ≡ reader.old.scope) }
     ensures kept { KeepsNumbers reader.old.reading.symbols reader.new.reading.symbols }
 {
-    let mut terms = Terms::new(alloc);
+    let mut terms = room(alloc, raws.len())?;
     for arg in &raws.items {
         terms.push(term(alloc, arg, style, reader)?)?;
     }
@@ -161,7 +173,7 @@ fn equation(
 {
     let left = term(alloc, left, style, reader)?;
     let right = term(alloc, right, style, reader)?;
-    Ok(Shape::Eq(left, right))
+    Ok(Shape::Eq(Sides::new(alloc, left, right)?))
 }
 
 #[tactic(auto, using(crate::proofs::TermLemmas::kept_both))]
@@ -349,12 +361,18 @@ pub fn read_formula(
     // New symbols stand behind the others, in the order in which they occur.
     ensures ordered { OnOk result (symbols.new ≡ symbols.old ++ new_symbols symbols.old
         (occurring (style_of mode prolog) [] (raw_of raw.now))) }
+    // An arity is too large where one of these symbols has so many arguments.
+    ensures arity { IfOk result (λ r. r.large
+        ≡ has_many_arguments (occurring (style_of mode prolog) [] (raw_of raw.now))) }
     // So do the variables: each free one where it is first met, and each quantifier's.
     ensures numbered { IfOk result (λ r. r.formula.names
         ≡ names_of_variables (variables_in (style_of mode prolog) (raw_of raw.now))) }
     // Where no row was met the formula is what the term means by these symbols and variables.
     ensures means { IfOk result (λ r. r.least ≡ None → IsMeaning (style_of mode prolog) symbols.new
         (raw_of raw.now) (fol_of r.formula.shape)) }
+    // A row was met only where it means no formula.
+    ensures unmet { IfOk result (λ r. (f : Fol) → IsMeaning (style_of mode prolog) symbols.new
+        (raw_of raw.now) f → r.least ≡ None) }
     // Whatever the answer, the old symbols keep their numbers.
     ensures kept { KeepsNumbers symbols.old symbols.new }
 {

@@ -10,7 +10,7 @@ ghost use Rattle.ladr_lex.specs.Cuts.{is_quoted};
 ghost use Rattle.ladr_formulas.specs.ClauseIn.{clause_in};
 ghost use Rattle.ladr_formulas.specs.Formulas.{Style, is_free_name, formula_reading, terms_of, unread, style_of};
 ghost use Rattle.ladr_formulas.specs.Means.{IsMeaning};
-ghost use Rattle.ladr_formulas.specs.Occurring.{occurring, new_symbols};
+ghost use Rattle.ladr_formulas.specs.Occurring.{occurring, new_symbols, has_many_arguments};
 ghost use Rattle.ladr_formulas.specs.VariablesMet.{variables_in};
 
 use crate::styles::Mode;
@@ -31,18 +31,24 @@ pub fn larger_tables()
         } }
 {}
 
-/// Behind a reading the table is the one before it and then what is new, in the order in which it occurs; the variables are in
-/// their order too. Where nothing is misused the formula is what the term means by these symbols and variables.
+/// Behind a reading the table is the one before it and then what is new, in the order in which it occurs, and an arity is too
+/// large where one of these is; the variables are in their order too. Nothing is misused exactly where the term means a formula by these symbols and variables, and the formula is
+/// that one.
 pub fn readings_mean()
     ensures ordered { (st : Style) (table : List Symbol) (t : RawTree) →
         (formula_reading st table t).reading.symbols
         ≡ table ++ new_symbols table (occurring st [] t) }
     ensures numbered { (st : Style) (table : List Symbol) (t : RawTree) →
         (formula_reading st table t).reading.variables ≡ variables_in st t }
+    ensures arity { (st : Style) (table : List Symbol) (t : RawTree) →
+        (formula_reading st table t).reading.large ≡ has_many_arguments (occurring st [] t) }
     ensures means { (st : Style) (table : List Symbol) (t : RawTree) →
         (formula_reading st table t).reading.least ≡ None →
         IsMeaning st (formula_reading st table t).reading.symbols t
         (formula_reading st table t).tree }
+    ensures unmet { (st : Style) (table : List Symbol) (t : RawTree) (f : Fol) →
+        IsMeaning st (formula_reading st table t).reading.symbols t f →
+        (formula_reading st table t).reading.least ≡ None }
 {}
 
 /// By a table of symbols a term as read means one formula at most.

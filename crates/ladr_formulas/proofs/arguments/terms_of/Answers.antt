@@ -5,11 +5,12 @@ use Rattle.fol_core.specs.SymbolTable.{Symbol, KeepsNumbers}
 use Rattle.fol_core.specs.Tree.{Trees, trees_of}
 use Rattle.ladr_formulas.specs.Formulas.{Style, Bound, Reading, Made, unread, terms_of}
 use Rattle.ladr_formulas.specs.Means.{MeanTerms}
-use Rattle.ladr_formulas.specs.Occurring.{symbols_of_terms, new_symbols}
+use Rattle.ladr_formulas.specs.Occurring.{symbols_of_terms, new_symbols, has_many_arguments}
 use Rattle.ladr_formulas.specs.ReaderView.{Progress}
 use Rattle.ladr_formulas.specs.VariablesMet.{variables_of_terms, numbered}
 use Rattle.ladr_formulas.proofs.MeaningLemmas.{terms_reading_mean}
-use Rattle.ladr_formulas.proofs.OrderLemmas.{terms_in_order}
+use Rattle.ladr_formulas.proofs.OrderLemmas.{terms_in_order, terms_large}
+use Rattle.ladr_formulas.proofs.Unbroken.{terms_reading_unmet}
 use Rattle.ladr_formulas.proofs.VariableOrder.{terms_variables}
 use Rattle.ladr_formulas.proofs.OwnTerms.{terms_good}
 use Rattle.ladr_formulas.proofs.arguments.terms_of.Goals as goal
@@ -50,6 +51,9 @@ module _ (st : Style) (old table : List Symbol) (first : Progress) (last read : 
   ordered_read : read.symbols ≡ old ++ new_symbols old (symbols_of_terms st [] raws)
   ordered_read = ap (λ (m : Made Trees). m.reading.symbols) (sym whole) ∙ terms_in_order st old raws
 
+  large_read : read.large ≡ has_many_arguments (symbols_of_terms st [] raws)
+  large_read = ap (λ (m : Made Trees). m.reading.large) (sym whole) ∙ terms_large st old raws
+
   numbered_read : read.variables ≡ numbered (variables_of_terms st [] raws)
   numbered_read = ap (λ (m : Made Trees). m.reading.variables) (sym whole) ∙ terms_variables st old raws
 
@@ -57,6 +61,11 @@ module _ (st : Style) (old table : List Symbol) (first : Progress) (last read : 
   means_read unmet =
       subst (λ (m : Made Trees). MeanTerms st m.reading.symbols (numbered (variables_of_terms st [] raws)) [] raws m.tree) whole
       (terms_reading_mean st old raws (ap (λ (m : Made Trees). m.reading.least) whole ∙ unmet))
+
+  unmet_read : (us : Trees) → MeanTerms st read.symbols (numbered (variables_of_terms st [] raws)) [] raws us → read.least ≡ None
+  unmet_read us h =
+      ap (λ (m : Made Trees). m.reading.least) (sym whole)
+      ∙ terms_reading_unmet st old raws us (subst (λ (m : Made Trees). MeanTerms st m.reading.symbols (numbered (variables_of_terms st [] raws)) [] raws us) (sym whole) h)
 
 pub returns-clause-ordered : goal.returns-clause-ordered
 returns-clause-ordered c =
@@ -69,3 +78,11 @@ returns-clause-numbered c =
 pub returns-clause-means : goal.returns-clause-means
 returns-clause-means c =
     means_read c.args.style c.args.symbols.now c.replace-table.result c.new-reader.result c.terms-answer.new.reader.reading _ (raws_of c.args.raws.now) (trees_of c.in_ok-terms.terms) c.new-reader.ensures c.replace-table.ensures.value c.in_ok-terms.ensures.read c.into_read-table.ensures
+
+pub returns-clause-unmet : goal.returns-clause-unmet
+returns-clause-unmet c =
+    unmet_read c.args.style c.args.symbols.now c.replace-table.result c.new-reader.result c.terms-answer.new.reader.reading _ (raws_of c.args.raws.now) (trees_of c.in_ok-terms.terms) c.new-reader.ensures c.replace-table.ensures.value c.in_ok-terms.ensures.read c.into_read-table.ensures
+
+pub returns-clause-arity : goal.returns-clause-arity
+returns-clause-arity c =
+    large_read c.args.style c.args.symbols.now c.replace-table.result c.new-reader.result c.terms-answer.new.reader.reading _ (raws_of c.args.raws.now) (trees_of c.in_ok-terms.terms) c.new-reader.ensures c.replace-table.ensures.value c.in_ok-terms.ensures.read c.into_read-table.ensures

@@ -13,7 +13,8 @@ use Rattle.ladr_formulas.specs.Means.{IsMeaning}
 use Rattle.ladr_formulas.specs.ReaderView.{Progress}
 use Rattle.ladr_formulas.specs.declared.clauses.ClauseRead.{ClauseRead}
 use Rattle.ladr_formulas.proofs.MeaningLemmas.{reading_means}
-use Rattle.ladr_formulas.proofs.OrderLemmas.{read_in_order}
+use Rattle.ladr_formulas.proofs.OrderLemmas.{read_in_order, read_large}
+use Rattle.ladr_formulas.proofs.Unbroken.{reading_unmet}
 use Rattle.ladr_formulas.proofs.VariableOrder.{variables_read}
 use Rattle.ladr_formulas.proofs.clauses.clause_of.Goals as goal
 
@@ -50,3 +51,15 @@ returns-clause-numbered c =
 pub returns-clause-means : goal.returns-clause-means
 returns-clause-means c =
     IfOk-weaker c.whole_clause-answer.result _ _ (λ r h t e. clause_means (style_of c.args.mode c.args.prolog) c.args.symbols.now t r _ (h t e)) (returns-clause-read c)
+
+-- where the term means a formula no row was met
+clause_unmet : (st : Style) (old : List Symbol) (t : RawTree) (r : ClauseRead) (table : List Symbol) → IsClauseRead (formula_reading st old t) r table → (f : Fol) → IsMeaning st table t f → r.least ≡ None
+clause_unmet st old t r table h f m = h.least ∙ reading_unmet st old t f (subst (λ (u : List Symbol). IsMeaning st u t f) h.symbols m)
+
+pub returns-clause-unmet : goal.returns-clause-unmet
+returns-clause-unmet c =
+    IfOk-weaker c.whole_clause-answer.result _ _ (λ r h t e. clause_unmet (style_of c.args.mode c.args.prolog) c.args.symbols.now t r _ (h t e)) (returns-clause-read c)
+
+pub returns-clause-arity : goal.returns-clause-arity
+returns-clause-arity c =
+    IfOk-weaker c.whole_clause-answer.result _ _ (λ r h t e. (h t e).large ∙ read_large (style_of c.args.mode c.args.prolog) c.args.symbols.now t) (returns-clause-read c)

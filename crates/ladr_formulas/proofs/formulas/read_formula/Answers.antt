@@ -7,8 +7,9 @@ use Rattle.ladr_formulas.specs.Formulas.{Made, unread, style_of, formula_in, for
 use Rattle.ladr_formulas.specs.ReaderView.{Progress}
 use Rattle.ladr_formulas.specs.Whole.{IsWhole}
 use Rattle.ladr_formulas.proofs.MeaningLemmas.{whole_means}
-use Rattle.ladr_formulas.proofs.OrderLemmas.{whole_in_order}
+use Rattle.ladr_formulas.proofs.OrderLemmas.{whole_in_order, whole_large}
 use Rattle.ladr_formulas.proofs.OwnFormulas.{whole_once, whole_below}
+use Rattle.ladr_formulas.proofs.Unbroken.{whole_unmet}
 use Rattle.ladr_formulas.proofs.VariableOrder.{whole_numbered}
 use Rattle.ladr_formulas.proofs.formulas.read_formula.Goals as goal
 
@@ -44,3 +45,9 @@ returns-clause-numbered c = whole_numbered c.whole_formula-answer.result (style_
 
 pub returns-clause-means : goal.returns-clause-means
 returns-clause-means c = whole_means c.whole_formula-answer.result (style_of c.args.mode c.args.prolog) c.args.symbols.now (raw_of c.args.raw.now) _ (returns-clause-read c)
+
+pub returns-clause-unmet : goal.returns-clause-unmet
+returns-clause-unmet c = whole_unmet c.whole_formula-answer.result (style_of c.args.mode c.args.prolog) c.args.symbols.now (raw_of c.args.raw.now) _ (returns-clause-read c)
+
+pub returns-clause-arity : goal.returns-clause-arity
+returns-clause-arity c = whole_large c.whole_formula-answer.result (style_of c.args.mode c.args.prolog) c.args.symbols.now (raw_of c.args.raw.now) _ (returns-clause-read c)
