@@ -20,7 +20,6 @@ use Rattle.ladr_lex.specs.Cuts.{Piece}
 use Rattle.ladr_lex.specs.Lexeme.{Lexeme}
 use Rattle.ladr_problem.specs.Adding.{FileItem, command, within, IsItemRead, IsUnreadable, after_item, is_tester}
 use Rattle.ladr_problem.specs.File as file
-use Rattle.ladr_lex.specs.declared.limits.TheConstants.{MOST_BYTES}
 use Rattle.ladr_problem.specs.File.{Outcome, unreadable, File, ends, open_list, open_block, bad, breaks, goes_on, start_at, refused_at, at_file_end}
 use Rattle.ladr_problem.specs.Sofar.{Sofar, nothing_read}
 use Rattle.ladr_problem.specs.declared.refusal.Refusal.{Refusal}

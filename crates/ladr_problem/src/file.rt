@@ -1,17 +1,16 @@
 // The items of a file, one behind the other.
-ghost use Rattle.std.specs.Prelude.{◌≡◌, ◌≤◌, OnOk, IfOk, IfErr, None, Some, [], length, drop, List};
-ghost use Rattle.ladr_problem.specs.Items.{items_of};
-ghost use Rattle.ladr_lex.specs.Cuts.{pieces_of};
+ghost use Rattle.std.specs.Prelude.{◌≡◌, ◌<◌, ◌^◌, OnOk, IfErr, [], length, List};
+ghost use Rattle.ladr_problem.specs.Items.{items_of, in_front, tokens_of};
+ghost use Rattle.ladr_lex.specs.Cuts.{Piece, pieces_of};
 ghost use Rattle.ladr_problem.specs.Draft.{sofar_of};
 ghost use Rattle.ladr_problem.specs.File.{Outcome, File, problem, unreadable, start_at};
 ghost use Rattle.ladr_problem.specs.Stops.{IsStop, by_refusal};
 
-use crate::cut::item_end;
 use crate::draft::Draft;
 use crate::refusal::{Limit, Refusal};
 use crate::stop::RefusalAt;
 use ladr_formulas::Mode;
-use ladr_lex::Token;
+use ladr_lex::{Text, Token, item_from};
 use std::alloc::Global;
 
 // Where a token of an item begins; behind the last one the input ends.
@@ -39,46 +38,74 @@ fn by_refusal(end: usize, tokens: &[Token], why: Refusal) -> RefusalAt
     }
 }
 
-// Takes the items that the tokens are, up to the first that is refused.
-fn take_items(
+// Takes an item, if it has tokens.
+fn take_item(
     alloc: Global,
     program: Mode,
     end: usize,
     tokens: &[Token],
     draft: &mut Draft,
 ) -> Result<(), RefusalAt>
-    ensures ok { OnOk result ((o : Outcome) → File program end (sofar_of draft.new) [] o
-        → File program end (sofar_of draft.old) (items_of (pieces_of tokens.now)) o) }
-    ensures stop { IfErr result (IsStop (File program end (sofar_of draft.old)
-        (items_of (pieces_of tokens.now)))) }
+    ensures ok { OnOk result ((items : List (List Piece)) (o : Outcome)
+        → File program end (sofar_of draft.new) items o → File program end (sofar_of draft.old)
+        (in_front (pieces_of tokens.now) items) o) }
+    ensures stop { (items : List (List Piece)) → IfErr result (IsStop (File program end
+        (sofar_of draft.old) (in_front (pieces_of tokens.now) items))) }
 {
+    if tokens.is_empty() {
+        return Ok(());
+    }
+    let byte = start_at(end, tokens, 0) as u64;
+    match draft.take(alloc, program, byte, tokens) {
+        Ok(()) => Ok(()),
+        Err(why) => Err(by_refusal(end, tokens, why)),
+    }
+}
+
+// Takes the items of a text, up to the first that is refused. The tokens of one item are held at a time.
+fn take_items<'a>(
+    alloc: Global,
+    program: Mode,
+    end: usize,
+    text: &'a Text<'a>,
+    draft: &mut Draft,
+) -> Result<(), RefusalAt>
+    requires { length text.now.bytes.now < 2 ^ 32 }
+    ensures ok { OnOk result ((o : Outcome) → File program end (sofar_of draft.new) [] o
+        → File program end (sofar_of draft.old) (items_of (tokens_of text.now)) o) }
+    ensures stop { IfErr result (IsStop (File program end (sofar_of draft.old)
+        (items_of (tokens_of text.now)))) }
+{
+    let mut item = Vec::new(alloc);
     let mut at = 0;
-    while at < tokens.len() {
-        let next = item_end(tokens, at);
-        let item = &tokens[at..next];
-        let byte = start_at(end, item, 0) as u64;
-        match draft.take(alloc, program, byte, item) {
-            Ok(()) => at = next,
-            Err(why) => return Err(by_refusal(end, item, why)),
+    while at < text.bytes.len() {
+        at = match item_from(&mut item, text, at) {
+            Ok(next) => next,
+            Err(_) => return Err(RefusalAt::Memory),
+        };
+        match take_item(alloc, program, end, &item, draft) {
+            Ok(()) => {}
+            Err(stop) => return Err(stop),
         }
     }
     Ok(())
 }
 
-/// Takes all items of a file that ends at a byte.
-pub fn take_all(
+/// Takes all items of a text, of a file that ends at a byte.
+pub fn take_all<'a>(
     alloc: Global,
     program: Mode,
     end: usize,
-    tokens: &[Token],
+    text: &'a Text<'a>,
     draft: &mut Draft,
 ) -> Result<(), RefusalAt>
+    requires { length text.now.bytes.now < 2 ^ 32 }
     ensures ok { OnOk result (File program end (sofar_of draft.old)
-        (items_of (pieces_of tokens.now)) (problem (sofar_of draft.new))) }
+        (items_of (tokens_of text.now)) (problem (sofar_of draft.new))) }
     ensures stop { IfErr result (IsStop (File program end (sofar_of draft.old)
-        (items_of (pieces_of tokens.now)))) }
+        (items_of (tokens_of text.now)))) }
 {
-    match take_items(alloc, program, end, tokens, draft) {
+    match take_items(alloc, program, end, text, draft) {
         Ok(()) => {}
         Err(stop) => return Err(stop),
     }

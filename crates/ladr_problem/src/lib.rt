@@ -1,7 +1,6 @@
 // What a file says to a program: its problem, or the first refusal.
 #![tactic(auto)]
 
-mod cut;
 mod draft;
 mod file;
 mod formulas;

@@ -1,8 +1,8 @@
 // The problem of a file.
-ghost use Rattle.std.specs.Prelude.{◌≡◌, ◌≤◌, OnOk, IfOk, IfErr, IsTrue, is_some, length, map, take};
+ghost use Rattle.std.specs.Prelude.{◌≡◌, ◌≤◌, ◌<◌, ◌^◌, ◌++◌, List, unwrap_or, OnOk, IfOk, IfErr, IsTrue, is_some, length, map, take};
 ghost use Rattle.fol_core.specs.Stated.{stated_of, IsWellFormed};
-ghost use Rattle.ladr_problem.specs.Items.{items_of};
-ghost use Rattle.ladr_lex.specs.Cuts.{Cuts, piece_of, pieces_of};
+ghost use Rattle.ladr_problem.specs.Items.{items_of, tokens_of};
+ghost use Rattle.ladr_lex.specs.Cuts.{Cuts, Piece, piece_of, pieces_of};
 ghost use Rattle.ladr_lex.specs.Places.{line_of, column_of};
 ghost use Rattle.ladr_lex.specs.declared.limits.TheConstants.{MOST_BYTES, MOST_SYMBOLS};
 ghost use Rattle.ladr_problem.specs.Draft.{sofar_of};
@@ -23,7 +23,7 @@ use crate::stop::RefusalAt;
 use fol_core::{Input, Name, Problem};
 use ladr_formulas::Mode;
 use ladr_interpretations::{Named, bind, covers};
-use ladr_lex::{Lex, MOST_BYTES, Misuse, Ops, Text, Token, TokenKind, place_of, tokens};
+use ladr_lex::{MOST_BYTES, Misuse, Ops, Text, Token, TokenKind, item_from, place_of};
 use ladr_settings::Settings;
 use model_tables::Tables;
 use std::alloc::{AllocError, Global};
@@ -68,19 +68,20 @@ fn test(alloc: Global, end: usize, draft: &Draft) -> Result<(), RefusalAt>
 }
 
 // Takes a whole file.
-fn take_file(
+fn take_file<'a>(
     alloc: Global,
     program: Mode,
     end: usize,
-    tokens: &[Token],
+    text: &'a Text<'a>,
     draft: &mut Draft,
 ) -> Result<(), RefusalAt>
+    requires { length text.now.bytes.now < 2 ^ 32 }
     ensures ok { OnOk result (IsFinished program end (sofar_of draft.old)
-        (items_of (pieces_of tokens.now)) (problem (sofar_of draft.new))) }
+        (items_of (tokens_of text.now)) (problem (sofar_of draft.new))) }
     ensures stop { IfErr result (IsStop (IsFinished program end (sofar_of draft.old)
-        (items_of (pieces_of tokens.now)))) }
+        (items_of (tokens_of text.now)))) }
 {
-    match take_all(alloc, program, end, tokens, draft) {
+    match take_all(alloc, program, end, text, draft) {
         Ok(()) => {}
         Err(stop) => return Err(stop),
     }
@@ -132,27 +133,45 @@ pub fn shown(alloc: Global, token: &Token) -> Result<Name, AllocError>
     Ok(Name::new(bytes))
 }
 
-// What is shown of the token that begins at a byte.
-fn shown_at(alloc: Global, tokens: &[Token], byte: u64) -> Result<Name, AllocError>
-    ensures { IfOk result (λ name. name ≡ shown_at (pieces_of tokens.now) byte) }
+// What is shown of the one of these tokens that begins at a byte, if one does.
+fn shown_in(alloc: Global, tokens: &[Token], byte: u64) -> Result<Option<Name>, AllocError>
+    ensures { IfOk result (λ name. (behind : List Piece) → shown_at (pieces_of tokens.now ++ behind)
+        byte ≡ unwrap_or name (shown_at behind byte)) }
 {
     for token in tokens {
         if token.start() as u64 == byte {
-            return shown(alloc, token);
+            return Ok(Some(shown(alloc, token)?));
+        }
+    }
+    Ok(None)
+}
+
+// What is shown of the token of a text that begins at a byte.
+fn shown_at<'a>(alloc: Global, text: &'a Text<'a>, byte: u64) -> Result<Name, AllocError>
+    requires { length text.now.bytes.now < 2 ^ 32 }
+    ensures { IfOk result (λ name. name ≡ shown_at (tokens_of text.now) byte) }
+{
+    let mut item = Vec::new(alloc);
+    let mut at = 0;
+    while at < text.bytes.len() {
+        at = item_from(&mut item, text, at)?;
+        if let Some(name) = shown_in(alloc, &item, byte)? {
+            return Ok(name);
         }
     }
     Name::from_slice(alloc, b"end of input")
 }
 
 // A byte with its line and column, and what is shown of its token.
-fn place(alloc: Global, bytes: &[u8], tokens: &[Token], byte: u64) -> Result<Place, AllocError>
+fn place<'a>(alloc: Global, text: &'a Text<'a>, byte: u64) -> Result<Place, AllocError>
+    requires { length text.now.bytes.now < 2 ^ 32 }
     ensures byte { IfOk result (λ p. p.byte ≡ byte) }
-    ensures line { IfOk result (λ p. p.line ≡ line_of bytes.now byte) }
-    ensures column { IfOk result (λ p. p.column ≡ column_of bytes.now byte) }
-    ensures token { IfOk result (λ p. p.token ≡ shown_at (pieces_of tokens.now) byte) }
+    ensures line { IfOk result (λ p. p.line ≡ line_of text.now.bytes.now byte) }
+    ensures column { IfOk result (λ p. p.column ≡ column_of text.now.bytes.now byte) }
+    ensures token { IfOk result (λ p. p.token ≡ shown_at (tokens_of text.now) byte) }
 {
-    let token = shown_at(alloc, tokens, byte)?;
-    let spot = place_of(bytes, (byte as usize).min(bytes.len()));
+    let token = shown_at(alloc, text, byte)?;
+    let spot = place_of(text.bytes, (byte as usize).min(text.bytes.len()));
     Ok(Place {
         byte,
         line: spot.line,
@@ -162,16 +181,17 @@ fn place(alloc: Global, bytes: &[u8], tokens: &[Token], byte: u64) -> Result<Pla
 }
 
 // The refusal of a file with its place.
-fn placed(alloc: Global, bytes: &[u8], tokens: &[Token], stop: RefusalAt) -> ReadError
-    requires { Cuts 0 bytes.now (pieces_of tokens.now) }
-    ensures { IsPlaced bytes.now stop result }
+fn placed<'a>(alloc: Global, text: &'a Text<'a>, stop: RefusalAt) -> ReadError
+    requires small { length text.now.bytes.now < 2 ^ 32 }
+    requires cut { Cuts 0 text.now.bytes.now (tokens_of text.now) }
+    ensures { IsPlaced text.now.bytes.now stop result }
 {
     match stop {
-        RefusalAt::Unreadable(byte) => match place(alloc, bytes, tokens, byte) {
+        RefusalAt::Unreadable(byte) => match place(alloc, text, byte) {
             Ok(place) => ReadError::Unreadable(place),
             Err(_) => ReadError::Memory,
         },
-        RefusalAt::Misuse(byte, misuse) => match place(alloc, bytes, tokens, byte) {
+        RefusalAt::Misuse(byte, misuse) => match place(alloc, text, byte) {
             Ok(place) => ReadError::Misuse(place, misuse),
             Err(_) => ReadError::Memory,
         },
@@ -215,23 +235,6 @@ fn finish(draft: Draft) -> FileRead
     }
 }
 
-// The tokens of a file, unless it has too many bytes.
-fn cut<'a>(alloc: Global, text: &'a Text<'a>) -> Result<Vec<Token<'a>>, ReadError>
-    ensures cut { IfOk result (λ tokens.
-        Cuts text.now.start text.now.bytes.now (pieces_of tokens.items)) }
-    ensures within { OnOk result (length text.now.bytes.now ≤ MOST_BYTES) }
-    ensures refused { (m : Mode) → IfErr result (IsReadError m text.now.bytes.now) }
-{
-    match tokens(alloc, text) {
-        Ok(tokens) => Ok(tokens),
-        Err(Lex::Input) => Err(ReadError::TooLarge {
-            byte: MOST_BYTES,
-            what: Limit::Input,
-        }),
-        Err(Lex::Memory) => Err(ReadError::Memory),
-    }
-}
-
 /// What a file says to a program: its problem, or the first refusal.
 pub fn read_problem(alloc: Global, program: Mode, bytes: &[u8]) -> Result<FileRead, ReadError>
     ensures read { IfOk result (λ r. (s : Sofar) × Says program bytes.now (problem s) × IsOf s r) }
@@ -244,17 +247,19 @@ pub fn read_problem(alloc: Global, program: Mode, bytes: &[u8]) -> Result<FileRe
     ensures interpreted { program ≡ Tester → IfOk result (λ r. IsTrue (is_some r.interpretation)) }
     ensures refused { IfErr result (IsReadError program bytes.now) }
 {
+    if bytes.len() as u64 > MOST_BYTES {
+        return Err(ReadError::TooLarge {
+            byte: MOST_BYTES,
+            what: Limit::Input,
+        });
+    }
     let text = Text { bytes, start: 0 };
-    let tokens = match cut(alloc, &text) {
-        Ok(tokens) => tokens,
-        Err(error) => return Err(error),
-    };
     let mut draft = match Draft::new(alloc) {
         Ok(draft) => draft,
         Err(_) => return Err(ReadError::Memory),
     };
-    match take_file(alloc, program, bytes.len(), &tokens, &mut draft) {
+    match take_file(alloc, program, bytes.len(), &text, &mut draft) {
         Ok(()) => Ok(finish(draft)),
-        Err(stop) => Err(placed(alloc, bytes, &tokens, stop)),
+        Err(stop) => Err(placed(alloc, &text, stop)),
     }
 }

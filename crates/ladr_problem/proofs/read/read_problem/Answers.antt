@@ -4,13 +4,13 @@ use Rattle.fol_core.specs.Stated.{AreWellFormed, all_said}
 use Rattle.fol_core.specs.SymbolTable.{Symbol}
 use Rattle.fol_core.specs.declared.problem.Input.{Input}
 use Rattle.ladr_problem.specs.Items.{items_of}
-use Rattle.ladr_lex.specs.Cuts.{pieces_of}
+use Rattle.ladr_lex.specs.Lexed.{lexed}
+use Rattle.ladr_lex.proofs.Lexing.{cuts_text}
 use Rattle.ladr_lex.specs.declared.limits.TheConstants.{MOST_SYMBOLS}
-use Rattle.ladr_lex.specs.declared.token.Token.{Token}
 use Rattle.ladr_problem.specs.Draft.{sofar_of}
 use Rattle.ladr_options.specs.Ranges.{AreInRange}
 use Rattle.ladr_problem.specs.File as file
-use Rattle.ladr_problem.specs.File.{Outcome, File, Says, problem}
+use Rattle.ladr_problem.specs.File.{Outcome, File, Says, too_long, problem}
 use Rattle.ladr_problem.specs.Names.{AreTellable}
 use Rattle.ladr_problem.specs.Proper.{IsProper}
 use Rattle.ladr_problem.specs.Sofar.{Sofar, stated_in, nothing_read}
@@ -21,20 +21,20 @@ use Rattle.ladr_problem.proofs.Good.{says_proper, has_interpretation, said_same}
 use Rattle.ladr_problem.proofs.Readings.{says_of, placed_error}
 use Rattle.ladr_problem.proofs.read.read_problem.Goals as goal
 
-finished : (c : goal.After-drop-tokens-in-Ok-take_file)
-    → IsFinished c.args.program (length c.args.bytes.now) nothing_read (items_of (pieces_of c.in-Ok.tokens.items)) (problem (sofar_of c.take_file.new.draft))
+finished : (c : goal.After-finish)
+    → IsFinished c.args.program (length c.args.bytes.now) nothing_read (items_of (lexed c.args.bytes.now)) (problem (sofar_of c.take_file.new.draft))
 finished c =
-    subst (λ (s : Sofar). IsFinished c.args.program (length c.args.bytes.now) s (items_of (pieces_of c.in-Ok.tokens.items)) (problem (sofar_of c.take_file.new.draft))) c.in-Ok-new.ensures
-    (subst (λ (ts : List Token). IsFinished c.args.program (length c.args.bytes.now) (sofar_of c.in-Ok-new.draft) (items_of (pieces_of ts)) (problem (sofar_of c.take_file.new.draft))) c.deref.ensures.value c.in-Ok-take_file.ensures.ok)
+    subst (λ (s : Sofar). IsFinished c.args.program (length c.args.bytes.now) s (items_of (lexed c.args.bytes.now)) (problem (sofar_of c.take_file.new.draft))) c.in-Ok.ensures
+    c.in-Ok-take_file.ensures.ok
 
 pub returns-in-Ok-take_file-clause-read : goal.returns-in-Ok-take_file-clause-read
 returns-in-Ok-take_file-clause-read c =
-    (sofar_of c.take_file.new.draft, says_of c.args.program c.args.bytes.now (pieces_of c.in-Ok.tokens.items) c.in-Ok.ensures.within c.in-Ok.ensures.cut _ (finished c), c.finish.ensures.of)
+    (sofar_of c.take_file.new.draft, says_of c.args.program c.args.bytes.now (lexed c.args.bytes.now) c.if-bytes-gt-MOST_BYTES.false (cuts_text c.args.bytes.now) _ (finished c), c.finish.ensures.of)
 
-proper : (c : goal.After-drop-tokens-in-Ok-take_file) → IsProper (stated_in (sofar_of c.take_file.new.draft)) c.take_file.new.draft.settings.options
+proper : (c : goal.After-finish) → IsProper (stated_in (sofar_of c.take_file.new.draft)) c.take_file.new.draft.settings.options
 proper c =
     says_proper c.args.program c.args.bytes.now (sofar_of c.take_file.new.draft)
-    (says_of c.args.program c.args.bytes.now (pieces_of c.in-Ok.tokens.items) c.in-Ok.ensures.within c.in-Ok.ensures.cut _ (finished c))
+    (says_of c.args.program c.args.bytes.now (lexed c.args.bytes.now) c.if-bytes-gt-MOST_BYTES.false (cuts_text c.args.bytes.now) _ (finished c))
 
 pub returns-in-Ok-take_file-clause-few : goal.returns-in-Ok-take_file-clause-few
 returns-in-Ok-take_file-clause-few c = subst (λ (t : List Symbol). length t ≤ MOST_SYMBOLS) (sym c.finish.ensures.of.symbols) (proper c).few
@@ -58,14 +58,17 @@ returns-in-Ok-take_file-clause-well_formed c =
     subst (λ (is : List Input). AreWellFormed (length c.finish.result.problem.symbols) (all_said is)) (sym c.finish.ensures.inputs)
     (subst (λ (t : List Symbol). AreWellFormed (length t) (all_said draft.inputs.items)) (sym c.finish.ensures.of.symbols) well_formed)
 
-pub returns-in-Err-clause-refused : goal.returns-in-Err-clause-refused
-returns-in-Err-clause-refused c = c.in-Err.ensures.refused c.args.program
-
-pub returns-clause-refused : goal.returns-clause-refused
-returns-clause-refused c =
-    let stop = subst (λ (s : Sofar). IsStop (IsFinished c.args.program (length c.args.bytes.now) s (items_of (pieces_of c.in-Ok.tokens.items))) c.in-Err-take_file.stop) c.in-Ok-new.ensures
-    (subst (λ (ts : List Token). IsStop (IsFinished c.args.program (length c.args.bytes.now) (sofar_of c.in-Ok-new.draft) (items_of (pieces_of ts))) c.in-Err-take_file.stop) c.deref.ensures.value c.in-Err-take_file.ensures.stop) in
+pub returns-in-Err-take_file-clause-refused : goal.returns-in-Err-take_file-clause-refused
+returns-in-Err-take_file-clause-refused c =
+    let stop = subst (λ (s : Sofar). IsStop (IsFinished c.args.program (length c.args.bytes.now) s (items_of (lexed c.args.bytes.now))) c.in-Err-take_file.stop) c.in-Ok.ensures
+    c.in-Err-take_file.ensures.stop in
     placed_error c.args.program c.args.bytes.now c.in-Err-take_file.stop c.placed.result
-    (stop_along (IsFinished c.args.program (length c.args.bytes.now) nothing_read (items_of (pieces_of c.in-Ok.tokens.items))) (Says c.args.program c.args.bytes.now)
-    (λ o h. says_of c.args.program c.args.bytes.now (pieces_of c.in-Ok.tokens.items) c.in-Ok.ensures.within c.in-Ok.ensures.cut o h) c.in-Err-take_file.stop stop)
+    (stop_along (IsFinished c.args.program (length c.args.bytes.now) nothing_read (items_of (lexed c.args.bytes.now))) (Says c.args.program c.args.bytes.now)
+    (λ o h. says_of c.args.program c.args.bytes.now (lexed c.args.bytes.now) c.if-bytes-gt-MOST_BYTES.false (cuts_text c.args.bytes.now) o h) c.in-Err-take_file.stop stop)
     c.placed.ensures
+
+pub returns-then-bytes-gt-MOST_BYTES-clause-refused : goal.returns-then-bytes-gt-MOST_BYTES-clause-refused
+returns-then-bytes-gt-MOST_BYTES-clause-refused c = too_long c.if-bytes-gt-MOST_BYTES.true
+
+pub placed-requires-clause-cut : goal.placed-requires-clause-cut
+placed-requires-clause-cut c = cuts_text c.args.bytes.now

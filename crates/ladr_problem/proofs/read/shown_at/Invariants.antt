@@ -1,8 +1,12 @@
--- none of those so far begins there
-use Rattle.std.proofs.Common.{◌≡◌, drop}
-use Rattle.ladr_lex.specs.Cuts.{pieces_of}
+-- what is shown is the same for the tokens that are left as for all
+use Rattle.std.proofs.Common.{◌≡◌, ◌-◌, length}
+use Rattle.ladr_lex.specs.Lexed.{lexed_from}
+use Rattle.ladr_problem.specs.Items.{tokens_of}
 use Rattle.ladr_problem.specs.Places.{shown_at}
 use Rattle.ladr_problem.proofs.read.shown_at.Given as goal
 
-abbrev pub invariant-loop-token : goal.invariant-loop-token
-invariant-loop-token l = shown_at (pieces_of (drop l.token-index l.fn.tokens)) l.byte ≡ shown_at (pieces_of l.fn.tokens) l.byte
+abbrev pub invariant-loop-at : goal.invariant-loop-at
+invariant-loop-at l = shown_at (lexed_from l.text.start l.at l.text.bytes.now) l.byte ≡ shown_at (tokens_of l.text) l.byte
+
+abbrev pub decreases-loop-at : goal.decreases-loop-at
+decreases-loop-at l = length l.text.bytes.now - l.at
