@@ -1,3 +1,3 @@
 pub mod Maxima
-mod Measured
+pub mod Measures
 pub mod Numbered

@@ -36,7 +36,11 @@ module _ (name : ℕ → ℕ) where
   clause_deep [] = refl
   clause_deep (l ∷ c) = ap₂ max (deep l.atom) (clause_deep c)
 
+pub numbered_size : (c : ClauseTree) → clause_size (renumbered c) ≡ clause_size c
+numbered_size c = clause_sized (λ x. place_in (clause_variables c) x) c
+
+pub numbered_depth : (c : ClauseTree) → clause_depth (renumbered c) ≡ clause_depth c
+numbered_depth c = clause_deep (λ x. place_in (clause_variables c) x) c
+
 pub numbered_as_large : (c : ClauseTree) → is_too_large (renumbered c) ≡ is_too_large c
-numbered_as_large c =
-    let name : ℕ → ℕ = λ x. place_in (clause_variables c) x in
-    ap₂ (λ m n. nat_lt 1000 m || nat_lt 1000000 n) (clause_deep name c) (clause_sized name c)
+numbered_as_large c = ap₂ (λ m n. nat_lt 1000 m || nat_lt 1000000 n) (numbered_depth c) (numbered_size c)

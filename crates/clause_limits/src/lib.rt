@@ -1,8 +1,12 @@
-// How large a clause may be, whether one is larger, by the numbers of its atoms in a bank, and clauses known not to be.
+// How large a clause may be, how large one is, and clauses known to keep to the limits.
 #![tactic(auto)]
 
 mod limits;
+mod measure;
 mod small;
 
-pub use limits::{MOST_LEVELS, MOST_SYMBOLS, are_too_large};
+pub use limits::{MOST_LEVELS, MOST_SYMBOLS};
+pub use measure::{
+    clause_size, is_clause_deeper, is_larger, is_too_large, left_behind, left_behind_clause,
+};
 pub use small::SmallClause;

@@ -10,9 +10,9 @@ use crate::literals::exchange;
 use crate::rewriting::atom_step;
 use crate::step::{PlacedStep, Tidied};
 use clause_index::Rules;
+use clause_limits::is_too_large;
 use derivation::{Later, Rewrite};
 use fol_core::{Clause, Term};
-use held_clauses::is_too_large;
 use std::alloc::{AllocError, Global};
 
 // The first step of a clause, with the place of its literal.

@@ -3,9 +3,9 @@ ghost use Rattle.std.specs.Prelude.{◌≡◌, ◌≤◌, false, IfOk};
 ghost use Rattle.given_clause.specs.Guides.{setting_of};
 ghost use Rattle.prover_steps.specs.Searching.{clause_size, is_too_large};
 
+use clause_limits::clause_size;
 use conclusions::RulesInForce;
 use fol_core::Clause;
-use held_clauses::clause_size;
 use ladr_options::Options;
 use std::alloc::{AllocError, Global};
 use term_order::Precedence;

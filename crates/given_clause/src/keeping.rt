@@ -11,9 +11,10 @@ ghost use Rattle.prover_steps.specs.Searching.{counted_on, is_unchanged, number_
 
 use crate::guide::Guide;
 use crate::state::{FoundProof, Queued, Search};
+use clause_limits::clause_size;
 use derivation::{Content, First, Just, Later, Line};
 use fol_core::Clause;
-use held_clauses::{Held, clause_size};
+use held_clauses::Held;
 use prover_steps::steps_keep_order;
 use std::alloc::{AllocError, Global};
 

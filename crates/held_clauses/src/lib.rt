@@ -1,12 +1,10 @@
-// Clauses that a search holds, how large clauses are, equations, and the order of terms that is chosen.
+// Clauses that a search holds, equations, and the order of terms that is chosen.
 #![tactic(auto)]
 
 mod equations;
 mod held;
-mod measure;
 mod order;
 
 pub use equations::{first_atom, has_same_sides, is_equation, is_unit, left_of, right_of};
 pub use held::Held;
-pub use measure::{clause_size, is_too_large};
 pub use order::is_greater;

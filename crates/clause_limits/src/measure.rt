@@ -1,10 +1,10 @@
-// How large clauses are: what is told needs no more than what the limits allow.
-ghost use Rattle.std.specs.Prelude.{◌≡◌, ◌<◌, ◌+◌, MatchOption, false, nat_lt};
+// How large clauses are: each is looked at no further than the number asked about.
+ghost use Rattle.std.specs.Prelude.{◌≡◌, ◌<◌, ◌+◌, ◌||◌, MatchOption, false, nat_lt};
 ghost use Rattle.fol_core.specs.TermView.{tree_of};
-ghost use Rattle.prover_steps.specs.Searching.{clause_size, clause_depth, is_too_large};
+ghost use Rattle.clause_limits.specs.Sizes.{clause_size, clause_depth, is_too_large};
 ghost use Rattle.term_bank.specs.Bank.{size_of, term_depth};
 
-use clause_limits::{MOST_LEVELS, MOST_SYMBOLS};
+use crate::limits::{MOST_LEVELS, MOST_SYMBOLS};
 use fol_core::{Clause, Term};
 
 // Whether a term has more levels.
@@ -29,9 +29,9 @@ fn is_deeper(term: &Term, levels: u64) -> bool
     }
 }
 
-// How many symbols and variables are left of a number behind those of a term.
+/// How many symbols and variables are left of a number behind those of a term.
 #[tactic(auto, using(crate::proofs::Measures::sizes_next, crate::proofs::Measures::sizes_end))]
-fn left_behind(term: &Term, room: u64) -> Option<u64>
+pub fn left_behind(term: &Term, room: u64) -> Option<u64>
     ensures { MatchOption result (room < size_of (tree_of term.now))
         (λ left. left + size_of (tree_of term.now) ≡ room) }
 {
@@ -54,9 +54,9 @@ fn left_behind(term: &Term, room: u64) -> Option<u64>
     }
 }
 
-// Whether a clause has more levels.
+/// Whether a clause has more levels.
 #[tactic(auto, using(crate::proofs::Measures::clause_deeper_here, crate::proofs::Measures::clause_deeper_behind, crate::proofs::Measures::clause_deeper_end))]
-fn is_clause_deeper(clause: &Clause, levels: u64) -> bool
+pub fn is_clause_deeper(clause: &Clause, levels: u64) -> bool
     ensures { result ≡ nat_lt levels (clause_depth clause.now) }
 {
     for literal in &clause.literals {
@@ -67,9 +67,9 @@ fn is_clause_deeper(clause: &Clause, levels: u64) -> bool
     false
 }
 
-// How many symbols and variables are left behind those of a clause.
+/// How many symbols and variables are left of a number behind those of a clause.
 #[tactic(auto, using(crate::proofs::Measures::clause_sizes_next, crate::proofs::Measures::clause_sizes_end))]
-fn left_behind_clause(clause: &Clause, room: u64) -> Option<u64>
+pub fn left_behind_clause(clause: &Clause, room: u64) -> Option<u64>
     ensures { MatchOption result (room < clause_size clause.now)
         (λ left. left + clause_size clause.now ≡ room) }
 {
@@ -83,17 +83,25 @@ fn left_behind_clause(clause: &Clause, room: u64) -> Option<u64>
     Some(left)
 }
 
-/// Whether a clause is too large to be processed: the levels are counted first, and no further than to the limit.
-pub fn is_too_large(clause: &Clause) -> bool
-    ensures { result ≡ is_too_large clause.now }
+/// Whether a clause has more levels, or more symbols and variables: the levels are counted first.
+pub fn is_larger(clause: &Clause, levels: u64, symbols: u64) -> bool
+    ensures { result
+        ≡ (nat_lt levels (clause_depth clause.now) || nat_lt symbols (clause_size clause.now)) }
 {
-    if is_clause_deeper(clause, MOST_LEVELS) {
+    if is_clause_deeper(clause, levels) {
         return true;
     }
-    match left_behind_clause(clause, MOST_SYMBOLS) {
+    match left_behind_clause(clause, symbols) {
         Some(_) => false,
         None => true,
     }
+}
+
+/// Whether a clause is too large to be processed.
+pub fn is_too_large(clause: &Clause) -> bool
+    ensures { result ≡ is_too_large clause.now }
+{
+    is_larger(clause, MOST_LEVELS, MOST_SYMBOLS)
 }
 
 /// How many symbols and variables a clause has that isn't too large.
