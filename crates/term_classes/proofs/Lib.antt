@@ -1,0 +1,14 @@
+pub mod Advances
+pub mod Bindings
+pub mod Compares
+pub mod Entering
+pub mod Growing
+pub mod Links
+pub mod Measured
+pub mod Merges
+pub mod Orders
+pub mod Renamed
+pub mod Solving
+pub mod Terms
+pub mod Unified
+pub mod Walks

@@ -1,0 +1,61 @@
+-- Terms that were put into an arena, and what is found of them.
+use Rattle.std.proofs.Common.{◌≡◌, ℕ, ◌≤◌, refl, sym, ap, subst, ◌∙◌, List, [], ◌++◌, length, map, Option, MatchOption}
+use Rattle.std.proofs.lemmas.List.{length-map}
+use Rattle.fol_core.specs.Tree.{Tree, trees_of}
+use Rattle.substitutions.specs.Bindings.{Binding, by_bindings}
+use Rattle.unifiers.specs.Unifier.{IsMostGeneral}
+use Rattle.term_classes.specs.Arenas.{IsArena, AreNodes, shapes_of}
+use Rattle.term_classes.specs.Classes.{found_terms}
+use Rattle.term_classes.specs.Merging.{Merging, IsMerged, merging_of}
+use Rattle.term_classes.specs.Shapes.{AreBelow, tree_at}
+use Rattle.term_classes.specs.Solutions.{IsFound, bindings_of, classes_in}
+use Rattle.term_classes.specs.Solved.{HasNoUnifier, IsBegun}
+use Rattle.term_classes.specs.declared.found.Found.{Found}
+use Rattle.term_classes.specs.declared.node.Arena.{Arena}
+use Rattle.term_classes.proofs.Bindings.{bindings_found, same_general}
+use Rattle.term_classes.proofs.Growing.{below_more, grows_length, trees_grow}
+use Rattle.term_classes.proofs.Solving.{found_is_general}
+
+-- the bindings of what is found are a most general unifier
+pub solved_general : (f : Found) (ls rs : List ℕ) (old : Merging) (s : List Binding) → IsFound f → IsBegun (shapes_of f.arena) ls rs old → IsMerged (shapes_of f.arena) old (merging_of f.work) → s ≡ bindings_of f
+    → IsMostGeneral (by_bindings s) (trees_of (map (tree_at (shapes_of f.arena)) ls)) (trees_of (map (tree_at (shapes_of f.arena)) rs))
+solved_general f ls rs old s is begun merged e =
+    let ss : List Tree = map (tree_at (shapes_of f.arena)) ls in
+    let ts : List Tree = map (tree_at (shapes_of f.arena)) rs in
+    let general = found_is_general f.arena ls rs old (merging_of f.work) f.order.items ss ts is.arena begun merged is.ordered.order is.ordered.whole is.ordered.within refl refl in
+    subst (λ bs. IsMostGeneral (by_bindings bs) (trees_of ss) (trees_of ts)) (sym e)
+    (same_general (found_terms f.arena (classes_in f) f.order.items) (by_bindings (bindings_of f)) (λ x. sym (bindings_found f x)) (trees_of ss) (trees_of ts) general)
+
+-- the nodes of two lists of terms
+pub record AreReady (a : Arena) (ls rs : List ℕ) (ss ts : List Tree) : Type 0 where
+  pub arena : IsArena a
+  pub lefts : AreBelow (length (shapes_of a)) ls
+  pub rights : AreBelow (length (shapes_of a)) rs
+  pub left : map (tree_at (shapes_of a)) ls ≡ ss
+  pub right : map (tree_at (shapes_of a)) rs ≡ ts
+
+pub are_ready : (a b c : Arena) (front back ls rs : List ℕ) (us vs ss ts : List Tree) → front ≡ [] → back ≡ [] → us ≡ ss → vs ≡ ts → AreNodes a b front ls us → AreNodes b c back rs vs → AreReady c ls rs ss ts
+are_ready a b c front back ls rs us vs ss ts no_front no_back left right first second =
+    let longer : length (shapes_of b) ≤ length (shapes_of c) = grows_length (shapes_of b) (shapes_of c) second.grows in
+    let first_all : ls ≡ first.added = first.numbers ∙ ap (λ l. l ++ first.added) no_front in
+    let second_all : rs ≡ second.added = second.numbers ∙ ap (λ l. l ++ second.added) no_back in
+    let below : AreBelow (length (shapes_of b)) ls = subst (AreBelow (length (shapes_of b))) (sym first_all) first.within in
+    record {
+      arena = second.arena;
+      lefts = below_more (length (shapes_of b)) (length (shapes_of c)) longer ls below;
+      rights = subst (AreBelow (length (shapes_of c))) (sym second_all) second.within;
+      left = trees_grow (shapes_of b) (shapes_of c) second.grows ls below ∙ ap (map (tree_at (shapes_of b))) first_all ∙ first.trees ∙ left;
+      right = ap (map (tree_at (shapes_of c))) second_all ∙ second.trees ∙ right;
+    }
+
+pub ready_even : (a : Arena) (ls rs : List ℕ) (ss ts : List Tree) → AreReady a ls rs ss ts → length ss ≡ length ts → length ls ≡ length rs
+ready_even a ls rs ss ts is e =
+    sym (length-map ls (tree_at (shapes_of a))) ∙ ap length is.left ∙ e ∙ sym (ap length is.right) ∙ length-map rs (tree_at (shapes_of a))
+
+-- what is found of their trees is found of the terms
+pub ready_found : (a : Arena) (ls rs : List ℕ) (ss ts : List Tree) (o : Option (List Binding)) → AreReady a ls rs ss ts
+    → MatchOption o (HasNoUnifier (trees_of (map (tree_at (shapes_of a)) ls)) (trees_of (map (tree_at (shapes_of a)) rs))) (λ s. IsMostGeneral (by_bindings s) (trees_of (map (tree_at (shapes_of a)) ls)) (trees_of (map (tree_at (shapes_of a)) rs)))
+    → MatchOption o (HasNoUnifier (trees_of ss) (trees_of ts)) (λ s. IsMostGeneral (by_bindings s) (trees_of ss) (trees_of ts))
+ready_found a ls rs ss ts o is h =
+    subst (λ us. MatchOption o (HasNoUnifier (trees_of ss) (trees_of us)) (λ s. IsMostGeneral (by_bindings s) (trees_of ss) (trees_of us))) is.right
+    (subst (λ us. MatchOption o (HasNoUnifier (trees_of us) (trees_of (map (tree_at (shapes_of a)) rs))) (λ s. IsMostGeneral (by_bindings s) (trees_of us) (trees_of (map (tree_at (shapes_of a)) rs)))) is.left h)

@@ -1,0 +1,17 @@
+-- The variable had no node, and has the last one.
+use Rattle.std.proofs.Common.{◌≡◌, ◌∙◌, None, Some, refl, sym, ap, subst, length, arith}
+use Rattle.term_classes.specs.Arenas.{IsNode, node_of}
+use Rattle.term_classes.specs.Shapes.{variable}
+use Rattle.term_classes.specs.declared.node.Arena.{Arena}
+use Rattle.term_classes.proofs.Entering.{variable_entered}
+use Rattle.term_classes.proofs.arena.enter_variable.Goals as goal
+
+pub returns-in_ok-insert-in-None : goal.returns-in_ok-insert-in-None
+returns-in_ok-insert-in-None c =
+    let old : Arena = c.args.arena.now in
+    let new : Arena = record { nodes = c.push.new.self; arguments = c.args.arena.now.arguments; variables = c.insert.new.self } in
+    let place : length c.args.arena.now.nodes.items ≡ c.len-n.result = omega (arith, c.len-n.ensures, c.args.arena.now.nodes.ok.0) in
+    let absent : node_of c.args.arena.now c.args.x ≡ None = sym c.get.ensures.value ∙ sym c.in-None.ensures in
+    let updates = c.in_ok-insert-in-None.ensures.updates in
+    subst (IsNode old new (variable c.args.x)) place
+    (variable_entered old new c.args.x c.requires refl c.in_ok-push-in-None.ensures.items absent (updates.1 ∙ ap Some (sym place)) updates.2)

@@ -1,0 +1,54 @@
+-- The schemas of both classes, and what was made of them.
+use Rattle.std.proofs.Common.{refl, set}
+use Rattle.term_classes.specs.Arenas.{shapes_of}
+use Rattle.term_classes.specs.Merging.{Merging, merging_of}
+use Rattle.term_classes.proofs.Merges.{pair_inside, schema_read, united_clash, united_first, united_second, united_less}
+use Rattle.term_classes.proofs.merging.unite.Goals as goal
+
+pub compare-requires-clause-p : goal.compare-requires-clause-p
+compare-requires-clause-p c =
+    let m : Merging = merging_of c.args.work.now in
+    let i = pair_inside (shapes_of c.args.arena.now) m c.args.low c.args.high c.requires.unite.merging in
+    (schema_read (shapes_of c.args.arena.now) m c.args.low c.args.high c.args.low c.index-kept.result.now c.requires.unite i.0 c.index-kept.ensures).1
+
+pub compare-requires-clause-q : goal.compare-requires-clause-q
+compare-requires-clause-q c =
+    let m : Merging = merging_of c.args.work.now in
+    let i = pair_inside (shapes_of c.args.arena.now) m c.args.low c.args.high c.requires.unite.merging in
+    (schema_read (shapes_of c.args.arena.now) m c.args.low c.args.high c.args.high c.index-other.result.now c.requires.unite i.1 c.index-other.ensures).1
+
+pub returns-in-Clash-clause-steps : goal.returns-in-Clash-clause-steps
+returns-in-Clash-clause-steps c =
+    let m : Merging = merging_of c.args.work.now in
+    let i = pair_inside (shapes_of c.args.arena.now) m c.args.low c.args.high c.requires.unite.merging in
+    let k = schema_read (shapes_of c.args.arena.now) m c.args.low c.args.high c.args.low c.index-kept.result.now c.requires.unite i.0 c.index-kept.ensures in
+    let o = schema_read (shapes_of c.args.arena.now) m c.args.low c.args.high c.args.high c.index-other.result.now c.requires.unite i.1 c.index-other.ensures in
+    united_clash (shapes_of c.args.arena.now) m c.args.low c.args.high c.index-kept.result.now c.index-other.result.now c.args.work.now.lefts.items c.args.work.now.rights.items c.compare.new.lefts.items c.compare.new.rights.items
+    c.in_ok-compare.field-0 c.requires.unite k.0 o.0 c.in-Clash.is c.in_ok-compare.ensures
+
+pub returns-in-First-clause-steps : goal.returns-in-First-clause-steps
+returns-in-First-clause-steps c =
+    let m : Merging = merging_of c.args.work.now in
+    let i = pair_inside (shapes_of c.args.arena.now) m c.args.low c.args.high c.requires.unite.merging in
+    let k = schema_read (shapes_of c.args.arena.now) m c.args.low c.args.high c.args.low c.index-kept.result.now c.requires.unite i.0 c.index-kept.ensures in
+    let o = schema_read (shapes_of c.args.arena.now) m c.args.low c.args.high c.args.high c.index-other.result.now c.requires.unite i.1 c.index-other.ensures in
+    let n : Merging = record { links = set c.args.work.now.links.items c.args.high c.args.low; schemas = c.args.work.now.schemas.items; lefts = c.compare.new.lefts.items; rights = c.compare.new.rights.items } in
+    united_first (shapes_of c.args.arena.now) m n c.args.low c.args.high c.index-kept.result.now c.index-other.result.now c.in_ok-compare.field-0 c.requires.unite k.0 o.0 c.in-First.is c.in_ok-compare.ensures refl refl
+
+pub returns-in-First-clause-less : goal.returns-in-First-clause-less
+returns-in-First-clause-less c =
+    let m : Merging = merging_of c.args.work.now in
+    let i = pair_inside (shapes_of c.args.arena.now) m c.args.low c.args.high c.requires.unite.merging in
+    let k = schema_read (shapes_of c.args.arena.now) m c.args.low c.args.high c.args.low c.index-kept.result.now c.requires.unite i.0 c.index-kept.ensures in
+    let o = schema_read (shapes_of c.args.arena.now) m c.args.low c.args.high c.args.high c.index-other.result.now c.requires.unite i.1 c.index-other.ensures in
+    let n : Merging = record { links = set c.args.work.now.links.items c.args.high c.args.low; schemas = c.args.work.now.schemas.items; lefts = c.compare.new.lefts.items; rights = c.compare.new.rights.items } in
+    united_less (shapes_of c.args.arena.now) m n c.args.low c.args.high c.index-kept.result.now c.index-other.result.now c.in_ok-compare.field-0 c.requires.unite k.0 o.0 c.in-First.is c.in_ok-compare.ensures refl
+
+pub returns-in-Second-clause-steps : goal.returns-in-Second-clause-steps
+returns-in-Second-clause-steps c =
+    let m : Merging = merging_of c.args.work.now in
+    let i = pair_inside (shapes_of c.args.arena.now) m c.args.low c.args.high c.requires.unite.merging in
+    let k = schema_read (shapes_of c.args.arena.now) m c.args.low c.args.high c.args.low c.index-kept.result.now c.requires.unite i.0 c.index-kept.ensures in
+    let o = schema_read (shapes_of c.args.arena.now) m c.args.low c.args.high c.args.high c.index-other.result.now c.requires.unite i.1 c.index-other.ensures in
+    let n : Merging = record { links = set c.args.work.now.links.items c.args.high c.args.low; schemas = set c.args.work.now.schemas.items c.args.low c.index-other.result.now; lefts = c.compare.new.lefts.items; rights = c.compare.new.rights.items } in
+    united_second (shapes_of c.args.arena.now) m n c.args.low c.args.high c.index-kept.result.now c.index-other.result.now c.in_ok-compare.field-0 c.requires.unite k.0 o.0 c.in-Second.is c.in_ok-compare.ensures refl refl

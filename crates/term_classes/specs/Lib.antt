@@ -1,0 +1,10 @@
+pub mod Arenas
+pub mod Classes
+pub mod Comparing
+pub mod Measures
+pub mod Merging
+pub mod Shapes
+pub mod Solutions
+pub mod Solved
+pub mod Walking
+pub mod Worked

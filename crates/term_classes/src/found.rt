@@ -1,0 +1,14 @@
+// What is found of nodes that have to be the same.
+use crate::measure::Measure;
+use crate::node::Arena;
+use crate::work::Work;
+
+/// Classes of nodes, an order of them in which each stands behind those of its schema's arguments,
+/// and by node how great the term of its class is.
+#[derive(Drop)]
+pub struct Found {
+    pub arena: Arena,
+    pub work: Work,
+    pub order: Vec<usize>,
+    pub measures: Vec<Measure>,
+}

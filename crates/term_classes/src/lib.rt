@@ -1,0 +1,25 @@
+// Most general unifiers by classes of nodes: each pair that is looked at merges two classes or is
+// dropped.
+#![tactic(auto)]
+
+mod apart;
+mod arena;
+mod comparing;
+mod found;
+mod instances;
+mod laws;
+mod linking;
+mod measure;
+mod measuring;
+mod merging;
+mod node;
+mod ordering;
+mod solution;
+mod unifying;
+mod walk;
+mod work;
+
+pub use apart::can_unify_apart;
+pub use laws::worked;
+pub use solution::Solution;
+pub use unifying::unify;

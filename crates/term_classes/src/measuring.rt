@@ -1,0 +1,73 @@
+// How great the terms of classes are.
+ghost use Rattle.std.specs.Prelude.{ℕ, ◌<◌, ◌≡◌, IfOk, length};
+ghost use Rattle.fol_core.specs.Tree.{var};
+ghost use Rattle.term_classes.specs.Arenas.{IsArena, shapes_of};
+ghost use Rattle.term_classes.specs.Classes.{AreClasses, OrdersAll, arguments_of, class_terms, classes_of};
+ghost use Rattle.term_classes.specs.Measures.{AreMeasured, IsAbove};
+ghost use Rattle.term_classes.specs.Merging.{merging_of, nth};
+ghost use Rattle.term_classes.specs.Shapes.{AreBelow, shape_at};
+
+use crate::arena::view;
+use crate::measure::Measure;
+use crate::node::{Arena, View};
+use crate::work::Work;
+use std::alloc::{AllocError, Global};
+
+// A symbol over arguments of measured classes.
+fn above(links: &[usize], measures: &[Measure], arguments: &[usize]) -> Measure
+    requires arguments { AreBelow (length links.now) arguments.now }
+    requires links { AreBelow (length measures.now) links.now }
+    ensures { IsAbove links.now measures.now arguments.now result }
+{
+    let mut size = 1u64;
+    let mut depth = 0u64;
+    for argument in arguments {
+        let other = measures[links[*argument]];
+        size = size.saturating_add(other.size);
+        depth = depth.max(other.depth);
+    }
+    Measure {
+        size,
+        depth: depth.saturating_add(1),
+    }
+}
+
+// How great a class's term is, by those of its arguments.
+fn measured(arena: &Arena, work: &Work, measures: &[Measure], root: usize) -> Measure
+    requires arena { IsArena arena.now }
+    requires classes { AreClasses (classes_of (shapes_of arena.now) (merging_of work.now)) }
+    requires root { root < length (shapes_of arena.now) }
+    requires len { length measures.now ≡ length (shapes_of arena.now) }
+    ensures { IsAbove work.now.links.items measures.now
+        (arguments_of (shape_at (shapes_of arena.now) (nth work.now.schemas.items root))) result }
+{
+    match view(arena, work.schemas[root]) {
+        View::Variable(_) => Measure { size: 1, depth: 1 },
+        View::Element(_) => Measure { size: 1, depth: 1 },
+        View::Application(_, arguments) => above(work.links.as_slice(), measures, arguments),
+    }
+}
+
+/// How great the term of each class is.
+pub fn measures_of(
+    alloc: Global,
+    arena: &Arena,
+    work: &Work,
+    order: &Vec<usize>,
+) -> Result<Vec<Measure>, AllocError>
+    requires arena { IsArena arena.now }
+    requires classes { AreClasses (classes_of (shapes_of arena.now) (merging_of work.now)) }
+    requires order { OrdersAll (classes_of (shapes_of arena.now) (merging_of work.now))
+        order.now.items }
+    ensures { IfOk result (λ measures. AreMeasured
+        (class_terms (classes_of (shapes_of arena.now) (merging_of work.now)) var order.now.items)
+        order.now.items (length (shapes_of arena.now)) measures.items) }
+{
+    let nothing = Measure { size: 0, depth: 0 };
+    let mut measures = vec![in alloc; nothing; arena.nodes.len()]?;
+    for root in order {
+        let measure = measured(arena, work, measures.as_slice(), *root);
+        measures[*root] = measure;
+    }
+    Ok(measures)
+}

@@ -1,0 +1,67 @@
+// A most general unifier.
+ghost use Rattle.std.specs.Prelude.{◌≡◌, IfOk};
+ghost use Rattle.fol_core.specs.Substitutions.{substitute};
+ghost use Rattle.fol_core.specs.TermView.{tree_of};
+ghost use Rattle.substitutions.specs.Bindings.{by_bindings};
+ghost use Rattle.term_classes.specs.Measures.{size_of, depth_of, saturated};
+ghost use Rattle.term_classes.specs.Solutions.{IsFound, bindings_of};
+
+use crate::found::Found;
+use crate::instances::{depth_under, plain_under, size_under};
+use fol_core::Term;
+use std::alloc::{AllocError, Global};
+use std::marker::Model;
+
+/// A unifier; contracts see what variables are bound to. A variable that isn't bound stays.
+#[derive(Drop)]
+pub struct Solution {
+    found: Found,
+}
+
+impl Model for Solution {
+    ghost use Rattle.std.specs.Prelude.{List};
+    ghost use Rattle.substitutions.specs.Bindings.{Binding, coded_bindings};
+    ghost use Rattle.term_classes.specs.Solutions.{bindings_of, IsFound};
+
+    ghost Value = { List Binding };
+
+    ghost coded = { coded_bindings };
+
+    ghost view = { λ a. bindings_of a.found };
+
+    ghost invariant = { λ a. IsFound a.found };
+}
+
+impl Solution {
+    /// What is found, as a unifier.
+    pub(crate) fn new(found: Found) -> Solution
+        requires { IsFound found }
+        ensures { result ≡ bindings_of found }
+    {
+        Solution { found }
+    }
+
+    /// How many symbols and variables the term has under the unifier, up to the greatest number.
+    pub fn size(&self, term: &Term) -> u64
+        ensures { result ≡ saturated (size_of
+            (substitute (by_bindings self.now) (tree_of term.now))) }
+    {
+        size_under(&self.found, term)
+    }
+
+    /// How many levels the term has under the unifier, up to the greatest number.
+    pub fn depth(&self, term: &Term) -> u64
+        ensures { result ≡ saturated (depth_of
+            (substitute (by_bindings self.now) (tree_of term.now))) }
+    {
+        depth_under(&self.found, term)
+    }
+
+    /// The term under the unifier, as a tree.
+    pub fn plain(&self, alloc: Global, term: &Term) -> Result<Term, AllocError>
+        ensures { IfOk result (λ made. tree_of made
+            ≡ substitute (by_bindings self.now) (tree_of term.now)) }
+    {
+        Ok(plain_under(alloc, &self.found, term)?)
+    }
+}
