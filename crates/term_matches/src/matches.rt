@@ -125,7 +125,7 @@ impl<'a> Matches<'a> {
             Term::Var(x) => self.value_of(alloc, *x),
             Term::Elem(k) => Ok(Term::Elem(*k)),
             Term::App(f, terms) => {
-                let mut made = Terms::new(alloc);
+                let mut made = Terms::with_capacity(alloc, terms.items.len())?;
                 for term in &terms.items {
                     made.push(self.apply(alloc, term)?)?;
                 }

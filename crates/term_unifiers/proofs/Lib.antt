@@ -1,6 +1,3 @@
+pub mod Limits
 pub mod MatchSteps
-pub mod Numbers
-pub mod PairSteps
-pub mod PutSteps
-pub mod SolveSteps
 pub mod Variables

@@ -1,12 +1,9 @@
 // Most general unifiers and matches of terms.
 #![tactic(auto)]
 
-mod comparing;
 mod forming;
 mod matching;
-mod numbering;
 mod occurring;
-mod putting;
 mod unifying;
 
 pub use forming::{Formed, LargeClause};
