@@ -1,5 +1,5 @@
 -- Nodes, as they change.
-use Rattle.std.proofs.Common.{◌≡◌, ℕ, zero, suc, ◌<◌, ◌==◌, Bool, true, false, not, if◌then◌else◌, inl, inr, refl, sym, ap, ap₂, subst, ◌∙◌, List, [], ◌∷◌, ◌++◌, Some, MatchOption, length, set, arith, eqb-true, slice_get}
+use Rattle.std.proofs.Common.{◌≡◌, ℕ, zero, suc, ◌<◌, ◌==◌, Bool, true, false, not, if◌then◌else◌, inl, inr, refl, sym, ap, ap₂, subst, ◌∙◌, List, [], ◌∷◌, ◌++◌, Some, MatchOption, length, set, drop, drop-cons, get_or, ◌+◌, arith, eqb-true, eq-eqb, slice_get, Option, None}
 use Rattle.std.specs.BTreeMap as tree
 use Rattle.std.specs.List.{filter}
 use Rattle.std.specs.Option.{option_and_then}
@@ -139,3 +139,83 @@ paths_cut at edge old new k is empty cut a (e ∷ path) n h = elim (cut.0 a e h.
     nothing : (j : ℕ) (p : List Edge) → k ≡ j → Reaches old j p n → ⊥
     nothing j [] s r = empty.0 n (subst (λ i. Holds old i n) (sym s) r)
     nothing j (d ∷ p) s r = empty.1 d r.0 (ap (λ i. child old i d) s ∙ r.1)
+
+-- a path that goes on by a step
+pub steps_along : (nodes : List Node) (path : List Edge) (i : ℕ) (d : Edge) (at k n : ℕ) → i < length path → child nodes at (get_or path i d) ≡ Some k
+    → Reaches nodes k (drop (i + 1) path) n → Reaches nodes at (drop i path) n
+steps_along nodes path i d at k n lt c r =
+    let next : i + 1 ≡ suc i = omega arith in
+    subst (λ p. Reaches nodes at p n) (sym (drop-cons path i d lt))
+    (k, c, subst (λ j. Reaches nodes k (drop j path) n) next r)
+
+pub nothing_lost : (nodes : List Node) → Grows nodes nodes
+nothing_lost nodes = (λ at e k h. h, λ at n h. h)
+
+some_same : (x y : ℕ) → Some x ≡ Some y → x ≡ y
+some_same x y e = cc
+
+none_some : (x : ℕ) → None ≡ Some x → ⊥
+none_some x e = cc
+
+-- a path that goes on leads through the node behind its next step, also where some are taken away
+pub step_taken : (nodes fewer : List Node) (path : List Edge) (i : ℕ) (d : Edge) (at k n : ℕ) → i < length path → Grows fewer nodes → child nodes at (get_or path i d) ≡ Some k
+    → Reaches fewer at (drop i path) n → Reaches fewer k (drop (i + 1) path) n
+step_taken nodes fewer path i d at k n lt g c r =
+    let next : suc i ≡ i + 1 = omega arith in
+    let there = subst (λ p. Reaches fewer at p n) (drop-cons path i d lt) r in
+    let same : there.0 ≡ k = some_same there.0 k (sym (g.0 at (get_or path i d) there.0 there.1) ∙ c) in
+    subst (λ j. Reaches fewer j (drop (i + 1) path) n) same (subst (λ j. Reaches fewer there.0 (drop j path) n) next there.2)
+
+-- and to nothing where there is none
+pub none_taken : (nodes fewer : List Node) (path : List Edge) (i : ℕ) (d : Edge) (at n : ℕ) → i < length path → Grows fewer nodes → child nodes at (get_or path i d) ≡ None
+    → Reaches fewer at (drop i path) n → ⊥
+none_taken nodes fewer path i d at n lt g c r =
+    let there = subst (λ p. Reaches fewer at p n) (drop-cons path i d lt) r in
+    none_some there.0 (sym c ∙ g.0 at (get_or path i d) there.0 there.1)
+
+pub is_in_more : (n m : ℕ) (ms : List ℕ) → IsIn m (filter (λ k. not (k == n)) ms) → IsIn m ms
+is_in_more n m [] h = absurd h
+is_in_more n m (k ∷ ms) h = by (k == n) (is_in_more n m ms) h
+  where
+    by : (b : Bool) → (IsIn m (filter (λ j. not (j == n)) ms) → IsIn m ms) → IsIn m (if not b then k ∷ filter (λ j. not (j == n)) ms else filter (λ j. not (j == n)) ms) → IsIn m (k ∷ ms)
+    by true more rest = inr (more rest)
+    by false more (inl e) = inl e
+    by false more (inr rest) = inr (more rest)
+
+pub is_out : (n : ℕ) (ms : List ℕ) → IsIn n (filter (λ k. not (k == n)) ms) → ⊥
+is_out n [] h = absurd h
+is_out n (k ∷ ms) h = by (k == n) refl (is_out n ms) h
+  where
+    by : (b : Bool) → (k == n) ≡ b → (IsIn n (filter (λ j. not (j == n)) ms) → ⊥) → IsIn n (if not b then k ∷ filter (λ j. not (j == n)) ms else filter (λ j. not (j == n)) ms) → ⊥
+    by true e out rest = out rest
+    by false e out (inl same) = let bad : true ≡ false = sym (eq-eqb k n (sym same)) ∙ e in cc
+    by false e out (inr rest) = out rest
+
+-- a node that takes another one's place has no branches and numbers that it hadn't
+pub back_changed : (nodes : List Node) (at : ℕ) (old new : Node) → slice_get nodes at ≡ Some old → ((e : Edge) (k : ℕ) → branch new e ≡ Some k → branch old e ≡ Some k) → ((n : ℕ) → IsIn n new.numbers.items → IsIn n old.numbers.items)
+    → Grows (set nodes at new) nodes
+back_changed nodes at old new is bs ns = (λ a e k h. branches a e k h, λ a n h. numbers a n h)
+  where
+    here : slice_get (set nodes at new) at ≡ Some new
+    here = set_same nodes at new (slice_get_within nodes at old is)
+
+    branches : (a : ℕ) (e : Edge) (k : ℕ) → child (set nodes at new) a e ≡ Some k → child nodes a e ≡ Some k
+    branches a e k h = elim (cases_eq a at) [
+      | inl s ↦ ap (λ b. child nodes b e) s ∙ ap (option_and_then (λ (node : Node). branch node e)) is
+          ∙ bs e k (ap (option_and_then (λ (node : Node). branch node e)) (sym here) ∙ ap (λ b. child (set nodes at new) b e) (sym s) ∙ h)
+      | inr s ↦ ap (option_and_then (λ (node : Node). branch node e)) (sym (set_other nodes at a new s)) ∙ h
+    ]
+
+    numbers : (a n : ℕ) → Holds (set nodes at new) a n → Holds nodes a n
+    numbers a n h = elim (cases_eq a at) [
+      | inl s ↦ subst (λ b. Holds nodes b n) (sym s) (held_there nodes at n old is (ns n (held_by (set nodes at new) at n new here (subst (λ b. Holds (set nodes at new) b n) s h))))
+      | inr s ↦ subst (λ o. MatchOption o ⊥ (λ (node : Node). IsIn n node.numbers.items)) (set_other nodes at a new s) h
+    ]
+
+-- where there is no branch there is none when some are taken away
+pub gone_on : (old new : List Node) (at : ℕ) (edge : Edge) → Grows new old → child old at edge ≡ None → child new at edge ≡ None
+gone_on old new at edge g none = by (child new at edge) refl
+  where
+    by : (o : Option ℕ) → child new at edge ≡ o → child new at edge ≡ None
+    by None e = e
+    by (Some k) e = absurd (none_some k (sym none ∙ g.0 at edge k e))

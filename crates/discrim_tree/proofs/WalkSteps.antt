@@ -1,5 +1,5 @@
 -- Walks, as they go on.
-use Rattle.std.proofs.Common.{◌≡◌, ℕ, zero, suc, ◌+◌, ◌<◌, ◌≤◌, ◌⊎◌, Bool, true, false, IsTrue, cond, inl, inr, refl, sym, ap, ap₂, subst, ◌∙◌, List, [], ◌∷◌, ◌++◌, Some, None, MatchOption, length, arith, slice_get, append_assoc, length-append}
+use Rattle.std.proofs.Common.{◌≡◌, ℕ, zero, suc, ◌+◌, ◌<◌, ◌≤◌, ◌-◌, ◌⊎◌, Bool, true, false, IsTrue, cond, inl, inr, refl, sym, ap, ap₂, subst, ◌∙◌, List, [], ◌∷◌, ◌++◌, Some, None, MatchOption, length, drop, arith, slice_get, append_assoc, append-nil, length-append}
 use Rattle.std.specs.BTreeMap.{is_at}
 use Rattle.std.specs.Map.{lookup}
 use Rattle.std.specs.Option.{option_and_then}
@@ -8,29 +8,38 @@ use Rattle.std.proofs.lemmas.Option.{slice_get_within, slice_get_past}
 use Rattle.fol_core.specs.Tree.{Tree, var, elem, app, Trees, none, more, list_of}
 use Rattle.discrim_tree.specs.Fitting.{FitAll}
 use Rattle.discrim_tree.specs.Nodes.{edge_cmp, branch, child, IsIn, Holds, Reaches}
-use Rattle.discrim_tree.specs.Paths.{step_of, arguments, steps_of}
-use Rattle.discrim_tree.specs.Walks.{arity, GoesOn, IsFrom, IsFound, Waits, Follows, Skips, SkipsEach, Passes, PassesAll, Covers}
+use Rattle.discrim_tree.specs.Paths.{step_of, arguments, steps_of, path_of, paths_of}
+use Rattle.discrim_tree.specs.Walks.{arity, GoesOn, IsFrom, IsFound, IsBehind, IsAhead, IsToSkip, Enters, StartsAt, SkipsOne, SkipsAll, SkipsEach, Waits, Follows, Passes, PassesAll, Covers}
 use Rattle.discrim_tree.specs.declared.edge.Edge.{Edge}
 use Rattle.discrim_tree.specs.declared.edge.Edge.TheVariants.{Any, Element, Symbol}
 use Rattle.discrim_tree.specs.declared.nodes.Node.{Node}
+use Rattle.discrim_tree.specs.declared.skipping.Skipping.{Skipping}
 use Rattle.discrim_tree.proofs.NodeSteps.{is_same}
+use Rattle.discrim_tree.proofs.Paths.{steps_begin}
 
-some_same : (x y : ℕ) → Some x ≡ Some y → x ≡ y
+some_same : {X : Type 0} (x y : X) → Some x ≡ Some y → x ≡ y
 some_same x y e = cc
 
-pub pushed_on : (xs : List ℕ) (k : ℕ) → GoesOn xs (xs ++ k ∷ [])
+pub pushed_on : {X : Type 0} (xs : List X) (k : X) → GoesOn xs (xs ++ k ∷ [])
 pushed_on [] k i at h = cc
 pushed_on (x ∷ xs) k zero at h = h
 pushed_on (x ∷ xs) k (suc i) at h = pushed_on xs k i at h
 
-pushed_last : (xs : List ℕ) (k : ℕ) → slice_get (xs ++ k ∷ []) (length xs) ≡ Some k
+pub pushed_last : {X : Type 0} (xs : List X) (k : X) → slice_get (xs ++ k ∷ []) (length xs) ≡ Some k
 pushed_last [] k = refl
 pushed_last (x ∷ xs) k = pushed_last xs k
 
-pub stays : (xs : List ℕ) → GoesOn xs xs
+-- what stands in a list stands before its last or is that
+pub last_or_before : {X : Type 0} (xs : List X) (k : X) (i : ℕ) (y : X) → slice_get (xs ++ k ∷ []) i ≡ Some y → (slice_get xs i ≡ Some y) ⊎ (k ≡ y)
+last_or_before [] k zero y h = inr (some_same k y h)
+last_or_before [] k (suc i) y h = inl h
+last_or_before (x ∷ xs) k zero y h = inl h
+last_or_before (x ∷ xs) k (suc i) y h = last_or_before xs k i y h
+
+pub stays : {X : Type 0} (xs : List X) → GoesOn xs xs
 stays xs i at h = h
 
-pub goes_far : (a b c : List ℕ) → GoesOn a b → GoesOn b c → GoesOn a c
+pub goes_far : {X : Type 0} (a b c : List X) → GoesOn a b → GoesOn b c → GoesOn a c
 goes_far a b c f g i at h = g i at (f i at h)
 
 pub pushed_from : (xs : List ℕ) (k low : ℕ) → low ≤ length xs → IsFrom low (xs ++ k ∷ []) k
@@ -42,15 +51,38 @@ from_on low a b at g h = (h.0, h.1, g h.0 at h.2)
 pub from_lower : (low high : ℕ) (a : List ℕ) (at : ℕ) → low ≤ high → IsFrom high a at → IsFrom low a at
 from_lower low high a at le h = let l : low ≤ h.0 = omega (arith, le, h.1) in (h.0, l, h.2)
 
+dropped : {X : Type 0} (xs : List X) (next i : ℕ) (x : X) → next ≤ i → slice_get xs i ≡ Some x → slice_get (drop next xs) (i - next) ≡ Some x
+dropped xs zero i x le h = ap (slice_get xs) (omega arith) ∙ h
+dropped [] (suc next) i x le h = cc
+dropped (y ∷ xs) (suc next) zero x le h = absurd (omega (arith, le))
+dropped (y ∷ xs) (suc next) (suc i) x le h =
+    let same : suc i - suc next ≡ i - next = omega arith in
+    let lower : next ≤ i = omega (arith, le) in
+    ap (slice_get (drop next xs)) same ∙ dropped xs next i x lower h
+
+pub starts_nowhere : (low : ℕ) (walk : List ℕ) (waiting : List Skipping) → StartsAt low low walk waiting
+starts_nowhere low walk waiting i at lo hi is = absurd (omega (arith, lo, hi))
+
+-- a node more from which one term is to be skipped
+pub starts_next : (low i : ℕ) (walk : List ℕ) (at : ℕ) (now new : List Skipping) → StartsAt low i walk now → slice_get walk i ≡ Some at → new ≡ now ++ record { node = at; count = 1 } ∷ [] → StartsAt low (i + 1) walk new
+starts_next low i walk at now new so here is j b lo hi there = elim (cases_eq j i) [
+  | inl s ↦
+      let same : at ≡ b = some_same at b (sym here ∙ ap (slice_get walk) (sym s) ∙ there) in
+      (length now, ap (λ xs. slice_get xs (length now)) is ∙ pushed_last now (record { node = at; count = 1 }) ∙ ap (λ k. Some (record { node = k; count = 1 })) same)
+  | inr s ↦
+      let old = so j b lo (omega (arith, hi, s)) there in
+      (old.0, ap (λ xs. slice_get xs old.0) is ∙ pushed_on now (record { node = at; count = 1 }) old.0 (record { node = b; count = 1 }) old.1)
+]
+
 module _ (nodes : List Node) where
   pub found_on : (a b : List ℕ) (n : ℕ) → GoesOn a b → IsFound nodes a n → IsFound nodes b n
   found_on a b n g h = (h.0, h.1, g h.0 h.1 h.2, h.3)
 
-  pub waits_on : (low : ℕ) (a b : List ℕ) (ts : List Tree) (n : ℕ) → GoesOn a b → Waits nodes low a ts n → Waits nodes low b ts n
-  waits_on low a b ts n g h = (h.0, h.1, from_on low a b h.0 g h.2, h.3, h.4)
+  pub waits_on : (low : ℕ) (a b : List ℕ) (path : List Edge) (n : ℕ) → GoesOn a b → Waits nodes low a path n → Waits nodes low b path n
+  waits_on low a b path n g h = (h.0, from_on low a b h.0 g h.1, h.2)
 
-  pub waits_lower : (low high : ℕ) (a : List ℕ) (ts : List Tree) (n : ℕ) → low ≤ high → Waits nodes high a ts n → Waits nodes low a ts n
-  waits_lower low high a ts n le h = (h.0, h.1, from_lower low high a h.0 le h.2, h.3, h.4)
+  pub waits_lower : (low high : ℕ) (a : List ℕ) (path : List Edge) (n : ℕ) → low ≤ high → Waits nodes high a path n → Waits nodes low a path n
+  waits_lower low high a path n le h = (h.0, from_lower low high a h.0 le h.1, h.2)
 
   pub none_followed : (low : ℕ) (edge : Edge) (old : List ℕ) → Follows nodes low low edge old old
   none_followed low edge old = λ i at k lo hi is c. absurd (omega (arith, lo, hi))
@@ -75,36 +107,29 @@ module _ (nodes : List Node) where
     | inr l ↦ absurd (subst (λ o. MatchOption o ⊥ (λ (node : Node). IsIn n node.numbers.items)) (slice_get_past nodes at l) h)
   ]
 
-  pub some_held : (at n : ℕ) (node : Node) → slice_get nodes at ≡ Some node → Holds nodes at n → 0 < length node.numbers.items
-  some_held at n node is h = some_in node.numbers.items (subst (λ o. MatchOption o ⊥ (λ (x : Node). IsIn n x.numbers.items)) is h)
-    where
-      some_in : (ms : List ℕ) → IsIn n ms → 0 < length ms
-      some_in [] f = absurd f
-      some_in (m ∷ ms) f = omega arith
+  -- ---- the branches of a node that come to what is to be skipped
 
-  -- what a branch leads to is reached
-  abbrev pub SkipsBehind : Edge → ℕ → ℕ → ℕ → ℕ → List ℕ → Type 0
-  SkipsBehind edge k count depth low new =
-      (ts us : List Tree) (j n : ℕ) → length ts + 1 ≡ count + arity edge → j + 1 ≤ depth → Reaches nodes k (steps_of j (ts ++ us)) n → Waits nodes low new us n
+  -- the terms are to be skipped that are left behind a branch
+  abbrev pub IsEntered : Edge → ℕ → ℕ → List Skipping → Type 0
+  IsEntered edge k count waiting = (left : ℕ) × (left + 1 ≡ count + arity edge) × IsToSkip waiting k left
 
-  pub behind : (edge : Edge) (k count depth low left less : ℕ) (now new : List ℕ) → left + 1 ≡ count + arity edge → less + 1 ≡ depth → low ≤ length now → Skips nodes k left less (length now) new → SkipsBehind edge k count depth low new
-  behind edge k count depth low left less now new l d le so ts us j n c i r =
-      waits_lower low (length now) new us n le (so ts us j n (omega (arith, l, c)) (omega (arith, d, i)) r)
+  pub entered_on : (edge : Edge) (k count : ℕ) (now new : List Skipping) → GoesOn now new → IsEntered edge k count now → IsEntered edge k count new
+  entered_on edge k count now new g h = (h.0, h.1, (h.2.0, g h.2.0 (record { node = k; count = h.0 }) h.2.1))
 
-  pub behind_on : (edge : Edge) (k count depth low : ℕ) (now new : List ℕ) → GoesOn now new → SkipsBehind edge k count depth low now → SkipsBehind edge k count depth low new
-  behind_on edge k count depth low now new g so ts us j n c i r = waits_on low now new us n g (so ts us j n c i r)
+  pub entered_last : (edge : Edge) (k count left : ℕ) (now new : List Skipping) → left + 1 ≡ count + arity edge → new ≡ now ++ record { node = k; count = left } ∷ [] → IsEntered edge k count new
+  entered_last edge k count left now new fits is = (left, fits, (length now, ap (λ xs. slice_get xs (length now)) is ∙ pushed_last now (record { node = k; count = left })))
 
-  -- the branches that are left, or those whose nodes are reached
-  abbrev pub AreLeft : ℕ → List (Edge × ℕ) → ℕ → ℕ → ℕ → List ℕ → Type 0
-  AreLeft at left count depth low walk =
-      (e : Edge) (k : ℕ) → child nodes at e ≡ Some k → (lookup (is_at (edge_cmp e)) left ≡ Some k) ⊎ SkipsBehind e k count depth low walk
+  -- the branches that are left, or those that came
+  abbrev pub AreLeft : ℕ → List (Edge × ℕ) → ℕ → List Skipping → Type 0
+  AreLeft at left count waiting =
+      (e : Edge) (k : ℕ) → child nodes at e ≡ Some k → (lookup (is_at (edge_cmp e)) left ≡ Some k) ⊎ IsEntered e k count waiting
 
-  pub all_left : (at : ℕ) (node : Node) (left : List (Edge × ℕ)) (count depth low : ℕ) (walk : List ℕ) → slice_get nodes at ≡ Some node → left ≡ node.branches.entries → AreLeft at left count depth low walk
-  all_left at node left count depth low walk is same e k h =
+  pub all_left : (at : ℕ) (node : Node) (left : List (Edge × ℕ)) (count : ℕ) (waiting : List Skipping) → slice_get nodes at ≡ Some node → left ≡ node.branches.entries → AreLeft at left count waiting
+  all_left at node left count waiting is same e k h =
       inl (ap (lookup (is_at (edge_cmp e))) same ∙ ap (option_and_then (λ (x : Node). branch x e)) (sym is) ∙ h)
 
-  pub none_left : (at : ℕ) (left : List (Edge × ℕ)) (count depth low : ℕ) (walk : List ℕ) → left ≡ [] → AreLeft at left count depth low walk → (e : Edge) (k : ℕ) → child nodes at e ≡ Some k → SkipsBehind e k count depth low walk
-  none_left at left count depth low walk is so e k h = elim (so e k h) [
+  pub none_left : (at : ℕ) (left : List (Edge × ℕ)) (count : ℕ) (waiting : List Skipping) → left ≡ [] → AreLeft at left count waiting → Enters nodes at count waiting
+  none_left at left count waiting is so e k h = elim (so e k h) [
     | inl f ↦ let bad : None ≡ Some k = sym (ap (lookup (is_at (edge_cmp e))) is) ∙ f in absurd (nothing k bad)
     | inr f ↦ f
   ]
@@ -112,53 +137,88 @@ module _ (nodes : List Node) where
       nothing : (k : ℕ) → None ≡ Some k → ⊥
       nothing k e = cc
 
-  pub branch_done : (at : ℕ) (left rest : List (Edge × ℕ)) (edge : Edge) (b count depth low : ℕ) (now new : List ℕ) → AreLeft at left count depth low now → left ≡ (edge, b) ∷ rest → GoesOn now new
-      → SkipsBehind edge b count depth low new → AreLeft at rest count depth low new
-  branch_done at left rest edge b count depth low now new so is g done = λ e k h. elim (so e k h) [
+  pub branch_done : (at : ℕ) (left rest : List (Edge × ℕ)) (edge : Edge) (b count : ℕ) (now new : List Skipping) → AreLeft at left count now → left ≡ (edge, b) ∷ rest → GoesOn now new
+      → IsEntered edge b count new → AreLeft at rest count new
+  branch_done at left rest edge b count now new so is g done = λ e k h. elim (so e k h) [
     | inl f ↦ by e k (is_at (edge_cmp e) edge) refl (ap (lookup (is_at (edge_cmp e))) (sym is) ∙ f)
-    | inr f ↦ inr (behind_on e k count depth low now new g f)
+    | inr f ↦ inr (entered_on e k count now new g f)
   ]
     where
-      by : (e : Edge) (k : ℕ) (c : Bool) → is_at (edge_cmp e) edge ≡ c → lookup (is_at (edge_cmp e)) ((edge, b) ∷ rest) ≡ Some k → (lookup (is_at (edge_cmp e)) rest ≡ Some k) ⊎ SkipsBehind e k count depth low new
+      by : (e : Edge) (k : ℕ) (c : Bool) → is_at (edge_cmp e) edge ≡ c → lookup (is_at (edge_cmp e)) ((edge, b) ∷ rest) ≡ Some k → (lookup (is_at (edge_cmp e)) rest ≡ Some k) ⊎ IsEntered e k count new
       by e k true s h =
           let same : b ≡ k = some_same b k (sym (ap (λ c. cond c (Some b) (lookup (is_at (edge_cmp e)) rest)) s) ∙ h) in
-          inr (subst (λ i. SkipsBehind e i count depth low new) same (subst (λ d. SkipsBehind d b count depth low new) (sym (is_same e edge s)) done))
+          inr (subst (λ i. IsEntered e i count new) same (subst (λ d. IsEntered d b count new) (sym (is_same e edge s)) done))
       by e k false s h = inl (sym (ap (λ c. cond c (Some b) (lookup (is_at (edge_cmp e)) rest)) s) ∙ h)
 
-  -- a term more is skipped by its step and what is behind
-  pub skipped : (at count depth low : ℕ) (new : List ℕ) → 0 < count → depth ≤ 64 → ((n : ℕ) → Holds nodes at n → IsFrom low new at)
-      → ((e : Edge) (k : ℕ) → child nodes at e ≡ Some k → SkipsBehind e k count depth low new) → Skips nodes at count depth low new
-  skipped at count depth low new some deep kept so [] us j n c i r = absurd (omega (arith, some, c))
-  skipped at count depth low new some deep kept so (t ∷ ts) us zero n c i r = (at, 0, kept n r, omega arith, r)
-  skipped at count depth low new some deep kept so (t ∷ ts) us (suc j) n c i r =
-      so (step_of t) r.0 r.1 (arguments t ++ ts) us j n
-      (omega (arith, length-append (arguments t) ts, measured t, c)) (omega (arith, i))
-      (subst (λ us. Reaches nodes r.0 (steps_of j us) n) (sym (append_assoc (arguments t) ts us)) r.2)
+  pub enters_nothing : (at count : ℕ) (waiting : List Skipping) → slice_get nodes at ≡ None → Enters nodes at count waiting
+  enters_nothing at count waiting is e k h = let bad : None ≡ Some k = ap (option_and_then (λ (node : Node). branch node e)) (sym is) ∙ h in cc
+
+  -- ---- terms that are skipped
+
+  pub ahead_on : (now new : List Skipping) (path : List Edge) (n : ℕ) → GoesOn now new → IsAhead nodes now path n → IsAhead nodes new path n
+  ahead_on now new path n g h = (h.0, h.1, g h.0 h.1 h.2, h.3)
+
+  -- no terms are left to be skipped
+  pub skipped_here : (s : Skipping) (low : ℕ) (new : List ℕ) (waiting : List Skipping) → s.count ≡ 0 → IsFrom low new s.node → SkipsOne nodes s low new waiting
+  skipped_here s low new waiting is f path n h = inl (s.node, f, nothing h.0 (h.1 ∙ is) h.2)
     where
-      measured : (t : Tree) → length (arguments t) ≡ arity (step_of t)
-      measured (var x) = refl
-      measured (elem k) = refl
-      measured (app f ts) = refl
+      nothing : (ts : List Tree) → length ts ≡ 0 → Reaches nodes s.node (steps_of ts ++ path) n → Reaches nodes s.node path n
+      nothing [] e r = r
+      nothing (t ∷ ts) e r = absurd (omega (arith, e))
 
-  pub skipped_no_further : (at count low : ℕ) (new : List ℕ) → 0 < count → ((n : ℕ) → Holds nodes at n → IsFrom low new at) → Skips nodes at count 0 low new
-  skipped_no_further at count low new some kept ts us zero n c i r = (at, 0, kept n r, omega arith, r)
-  skipped_no_further at count low new some kept ts us (suc j) n c i r = absurd (omega (arith, i))
+  measured : (t : Tree) → length (arguments t) ≡ arity (step_of t)
+  measured (var x) = refl
+  measured (elem k) = refl
+  measured (app f ts) = refl
 
-  pub skipped_nowhere : (at count depth low : ℕ) (new : List ℕ) → slice_get nodes at ≡ None → Skips nodes at count depth low new
-  skipped_nowhere at count depth low new is ts us j n c i r = absurd (nowhere at (steps_of j (ts ++ us)) n is r)
+  -- a step further
+  pub skipped_on : (s : Skipping) (low : ℕ) (walk : List ℕ) (waiting : List Skipping) → (s.count ≡ 0 → ⊥) → Enters nodes s.node s.count waiting → SkipsOne nodes s low walk waiting
+  skipped_on s low walk waiting some so path n h = inr (by h.0 h.1 h.2)
+    where
+      by : (ts : List Tree) → length ts ≡ s.count → Reaches nodes s.node (steps_of ts ++ path) n → IsAhead nodes waiting path n
+      by [] e r = absurd (some (sym e))
+      by (t ∷ ts) e r =
+          let there = subst (λ p. Reaches nodes s.node p n) (steps_begin t ts path) r in
+          let way = so (step_of t) there.0 there.1 in (
+            way.2.0,
+            record { node = there.0; count = way.0 },
+            way.2.1,
+            (arguments t ++ ts, omega (arith, length-append (arguments t) ts, measured t, e, way.1), there.2),
+          )
 
-  pub skipped_here : (at depth low : ℕ) (new : List ℕ) → depth ≤ 64 → IsFrom low new at → Skips nodes at 0 depth low new
-  skipped_here at depth low new deep f [] us j n c i r = (at, j, f, omega (arith, i, deep), r)
-  skipped_here at depth low new deep f (t ∷ ts) us j n c i r = absurd (omega (arith, c))
+  -- what was ahead is reached, or still is
+  abbrev pub SkipsOn : List Skipping → ℕ → List ℕ → List Skipping → Type 0
+  SkipsOn first low walk waiting = (path : List Edge) (n : ℕ) → IsAhead nodes first path n → Waits nodes low walk path n ⊎ IsAhead nodes waiting path n
 
-  pub skip_next : (low i : ℕ) (old now new : List ℕ) (at : ℕ) → GoesOn old now → GoesOn now new → SkipsEach nodes low i old now → slice_get now i ≡ Some at → length old ≤ length now
-      → Skips nodes at 1 64 (length now) new → SkipsEach nodes low (i + 1) old new
-  skip_next low i old now new at f g so here le skips = λ j b lo hi is. elim (cases_eq j i) [
-    | inl s ↦
-        let same : at ≡ b = some_same at b (sym here ∙ ap (slice_get now) (sym s) ∙ f j b is) in
-        λ ts us k n c d r. waits_lower (length old) (length now) new us n le (skips ts us k n c d (subst (λ a. Reaches nodes a (steps_of k (ts ++ us)) n) (sym same) r))
-    | inr s ↦ λ ts us k n c d r. waits_on (length old) now new us n g (so j b lo (omega (arith, hi, s)) is ts us k n c d r)
+  pub skips_first : (first : List Skipping) (low : ℕ) (walk : List ℕ) → SkipsOn first low walk first
+  skips_first first low walk path n h = inr h
+
+  pub skips_next : (first waiting left after : List Skipping) (s : Skipping) (low : ℕ) (now new : List ℕ) → low ≤ length now → SkipsOn first low now waiting → waiting ≡ left ++ s ∷ [] → GoesOn now new → GoesOn left after
+      → SkipsOne nodes s (length now) new after → SkipsOn first low new after
+  skips_next first waiting left after s low now new le so is g others one path n h = elim (so path n h) [
+    | inl w ↦ inl (waits_on low now new path n g w)
+    | inr w ↦ elim (last_or_before left s w.0 w.1 (ap (λ xs. slice_get xs w.0) (sym is) ∙ w.2)) [
+      | inl before ↦ inr (ahead_on left after path n others (w.0, w.1, before, w.3))
+      | inr last ↦ elim (one path n (subst (λ (t : Skipping). IsBehind nodes t.node t.count path n) (sym last) w.3)) [
+        | inl reached ↦ inl (waits_lower low (length now) new path n le reached)
+        | inr ahead ↦ inr ahead
+      ]
+    ]
   ]
+
+  pub skips_all : (first waiting : List Skipping) (low : ℕ) (walk : List ℕ) → waiting ≡ [] → SkipsOn first low walk waiting → SkipsAll nodes first low walk
+  skips_all first waiting low walk ended so path n h = elim (so path n h) [
+    | inl w ↦ w
+    | inr w ↦ absurd (nothing w.0 w.1 (ap (λ xs. slice_get xs w.0) (sym ended) ∙ w.2))
+  ]
+    where
+      nothing : (i : ℕ) (s : Skipping) → slice_get {X = Skipping} [] i ≡ Some s → ⊥
+      nothing i s e = cc
+
+  pub skipped_each : (low high : ℕ) (old new : List ℕ) (waiting : List Skipping) → StartsAt low high old waiting → SkipsAll nodes waiting (length old) new → SkipsEach nodes low high old new
+  skipped_each low high old new waiting starts all i at lo hi is path n h =
+      let start = starts i at lo hi is in
+      all path n (start.0, record { node = at; count = 1 }, start.1, h)
 
   module _ (below above : Bool) where
     same_count : (ss ts : Trees) → FitAll below above ss ts → length (list_of ss) ≡ length (list_of ts)
@@ -168,75 +228,59 @@ module _ (nodes : List Node) where
     same_count (more s ss) (more t ts) h = ap suc (same_count ss ts h.1)
 
     pub passes_nothing : (t : Tree) (low high : ℕ) (old : List ℕ) → length old ≤ low → Passes nodes below above t low old high old
-    passes_nothing t low high old short s us n fit h = absurd (omega (arith, short, h.2.1, slice_get_within old h.2.0 h.0 h.2.2))
+    passes_nothing t low high old short s path n fit h = absurd (omega (arith, short, h.1.1, slice_get_within old h.1.0 h.0 h.1.2))
 
     pub passes_none : (low : ℕ) (walk : List ℕ) → PassesAll nodes below above none low walk low walk
-    passes_none low walk none us n fit h = inr h
-    passes_none low walk (more s ss) us n fit h = absurd fit
+    passes_none low walk none path n fit h = h
+    passes_none low walk (more s ss) path n fit h = absurd fit
 
-    pub passes_more : (t : Tree) (ts : Trees) (low mid high : ℕ) (a b c : List ℕ) → GoesOn b c → Passes nodes below above t low a mid b → PassesAll nodes below above ts mid b high c → PassesAll nodes below above (more t ts) low a high c
-    passes_more t ts low mid high a b c g one all none us n fit h = absurd fit
-    passes_more t ts low mid high a b c g one all (more s ss) us n fit h = elim (one s (list_of ss ++ us) n fit.0 h) [
-      | inl f ↦ inl (found_on b c n g f)
-      | inr w ↦ all ss us n fit.1 w
-    ]
+    pub passes_more : (t : Tree) (ts : Trees) (low mid high : ℕ) (a b c : List ℕ) → Passes nodes below above t low a mid b → PassesAll nodes below above ts mid b high c → PassesAll nodes below above (more t ts) low a high c
+    passes_more t ts low mid high a b c one all none path n fit h = absurd fit
+    passes_more t ts low mid high a b c one all (more s ss) path n fit h =
+        all ss path n fit.1 (one s (paths_of ss ++ path) n fit.0 (subst (λ p. Waits nodes low a p n) (append_assoc (path_of s) (paths_of ss) path) h))
 
-    pub passes_variable : (x low high : ℕ) (old new : List ℕ) → high ≡ length old → GoesOn old new → SkipsEach nodes low high old new → Passes nodes below above (var x) low old high new
-    passes_variable x low high old new is g so s us n fit h =
-        let within : h.2.0 < high = omega (arith, slice_get_within old h.2.0 h.0 h.2.2, is) in
-        inr (subst (λ l. Waits nodes l new us n) (sym is) (so h.2.0 h.0 h.2.1 within h.2.2 (s ∷ []) us h.1 n refl h.3 h.4))
+    pub passes_variable : (x low high : ℕ) (old new : List ℕ) → high ≡ length old → SkipsEach nodes low high old new → Passes nodes below above (var x) low old high new
+    passes_variable x low high old new is so s path n fit h =
+        let within : h.1.0 < high = omega (arith, slice_get_within old h.1.0 h.0 h.1.2, is) in
+        let behind : IsBehind nodes h.0 1 path n = (s ∷ [], refl, subst (λ p. Reaches nodes h.0 (p ++ path) n) (sym (append-nil (path_of s))) h.2) in
+        subst (λ l. Waits nodes l new path n) (sym is) (so h.1.0 h.0 h.1.1 within h.1.2 path n behind)
 
-    -- from a node of the walk by one step
-    stepped : (s : Tree) (us : List Tree) (n low next : ℕ) (old new : List ℕ) → GoesOn old new → Waits nodes low old (s ∷ us) n
-        → ((i at k : ℕ) → low ≤ i → i < length old → slice_get old i ≡ Some at → child nodes at (step_of s) ≡ Some k → (j : ℕ) → j ≤ 64 → Reaches nodes k (steps_of j (arguments s ++ us)) n → IsFound nodes new n ⊎ Waits nodes next new us n)
-        → IsFound nodes new n ⊎ Waits nodes next new us n
-    stepped s us n low next old new g h so = by h.1 h.3 h.4
-      where
-        by : (j : ℕ) → j ≤ 64 → Reaches nodes h.0 (steps_of j (s ∷ us)) n → IsFound nodes new n ⊎ Waits nodes next new us n
-        by zero le r = inl (h.2.0, h.0, g h.2.0 h.0 h.2.2, r)
-        by (suc j) le r = so h.2.0 h.0 r.0 h.2.1 (slice_get_within old h.2.0 h.0 h.2.2) h.2.2 r.1 j (omega (arith, le)) r.2
+    -- a node of the walk is followed by a step
+    follows : (edge : Edge) (path : List Edge) (low high : ℕ) (old now new : List ℕ) (n : ℕ) → high ≡ length old → GoesOn old now → Follows nodes low high edge now new → Waits nodes low old (edge ∷ path) n → Waits nodes (length now) new path n
+    follows edge path low high old now new n is g so h =
+        let within : h.1.0 < high = omega (arith, slice_get_within old h.1.0 h.0 h.1.2, is) in
+        (h.2.0, so h.1.0 h.0 h.2.0 h.1.1 within (g h.1.0 h.0 h.1.2) h.2.1, h.2.2)
 
-    pub passes_plain : (x low high : ℕ) (old new : List ℕ) → above ≡ false → high ≡ length old → GoesOn old new → Follows nodes low high Any old new → Passes nodes below above (var x) low old high new
-    passes_plain x low high old new plain is g so (var y) us n fit h =
-        stepped (var y) us n low high old new g h (λ i at k lo hi at_is c j le r.
-        inr (k, j, subst (λ l. IsFrom l new k) (sym is) (so i at k lo (omega (arith, hi, is)) at_is c), le, r))
-    passes_plain x low high old new plain is g so (elem m) us n fit h = let bad : true ≡ false = sym fit ∙ plain in cc
-    passes_plain x low high old new plain is g so (app f ss) us n fit h = let bad : true ≡ false = sym fit ∙ plain in cc
-
-    -- by the step of a variable, at the end
-    anything : (x low high next : ℕ) (us : List Tree) (n : ℕ) (old now new : List ℕ) → high ≡ length old → next ≤ length now → GoesOn old now → GoesOn now new → Follows nodes low high Any now new
-        → Waits nodes low old (var x ∷ us) n → IsFound nodes new n ⊎ Waits nodes next new us n
-    anything x low high next us n old now new is le f g so h =
-        stepped (var x) us n low next old new (goes_far old now new f g) h (λ i at k lo hi at_is c j small r.
-        inr (k, j, from_lower next (length now) new k le (so i at k lo (omega (arith, hi, is)) (f i at at_is) c), small, r))
+    pub passes_plain : (x low high : ℕ) (old new : List ℕ) → above ≡ false → high ≡ length old → Follows nodes low high Any old new → Passes nodes below above (var x) low old high new
+    passes_plain x low high old new plain is so (var y) path n fit h =
+        subst (λ l. Waits nodes l new path n) (sym is) (follows Any path low high old old new n is (stays old) so h)
+    passes_plain x low high old new plain is so (elem m) path n fit h = let bad : true ≡ false = sym fit ∙ plain in cc
+    passes_plain x low high old new plain is so (app f ss) path n fit h = let bad : true ≡ false = sym fit ∙ plain in cc
 
     pub passes_element : (m low high : ℕ) (old now new : List ℕ) → high ≡ length old → GoesOn old now → GoesOn now new → length old ≤ length now → Follows nodes low high (Element m) old now
         → (IsTrue below → Follows nodes low high Any now new) → Passes nodes below above (elem m) low old high new
-    passes_element m low high old now new is f g longer so any (var x) us n fit h = anything x low high high us n old now new is (omega (arith, is, longer)) f g (any fit) h
-    passes_element m low high old now new is f g longer so any (elem k) us n fit h =
-        stepped (elem k) us n low high old new (goes_far old now new f g) h (λ i at b lo hi at_is c j small r.
-        inr (b, j, subst (λ l. IsFrom l new b) (sym is) (from_on (length old) now new b g (so i at b lo (omega (arith, hi, is)) at_is (ap (λ e. child nodes at (Element e)) (sym fit) ∙ c))), small, r))
-    passes_element m low high old now new is f g longer so any (app e ss) us n fit h = absurd fit
+    passes_element m low high old now new is f g longer so any (var x) path n fit h =
+        waits_lower high (length now) new path n (omega (arith, is, longer)) (follows Any path low high old now new n is f (any fit) h)
+    passes_element m low high old now new is f g longer so any (elem k) path n fit h =
+        waits_on high now new path n g (subst (λ l. Waits nodes l now path n) (sym is)
+        (follows (Element m) path low high old old now n is (stays old) so (subst (λ j. Waits nodes low old (Element j ∷ path) n) fit h)))
+    passes_element m low high old now new is f g longer so any (app e ss) path n fit h = absurd fit
 
     pub passes_application : (f : ℕ) (ts : Trees) (low high next : ℕ) (old first now new : List ℕ) → high ≡ length old → GoesOn old first → GoesOn first now → GoesOn now new → next ≤ length now
         → Follows nodes low high (Symbol f (length (list_of ts))) old first → PassesAll nodes below above ts high first next now
         → (IsTrue below → Follows nodes low high Any now new) → Passes nodes below above (app f ts) low old next new
-    passes_application f ts low high next old first now new is a b c le so all any (var x) us n fit h = anything x low high next us n old now new is le (goes_far old first now a b) c (any fit) h
-    passes_application f ts low high next old first now new is a b c le so all any (elem k) us n fit h = absurd fit
-    passes_application f ts low high next old first now new is a b c le so all any (app g ss) us n fit h =
+    passes_application f ts low high next old first now new is a b c le so all any (var x) path n fit h =
+        waits_lower next (length now) new path n le (follows Any path low high old now new n is (goes_far old first now a b) (any fit) h)
+    passes_application f ts low high next old first now new is a b c le so all any (elem k) path n fit h = absurd fit
+    passes_application f ts low high next old first now new is a b c le so all any (app g ss) path n fit h =
         let head : Symbol g (length (list_of ss)) ≡ Symbol f (length (list_of ts)) = ap₂ Symbol fit.0 (same_count ss ts fit.1) in
-        stepped (app g ss) us n low next old new (goes_far old first new a (goes_far first now new b c)) h (λ i at k lo hi at_is d j small r.
-        elim (all ss us n fit.1 (k, j, subst (λ l. IsFrom l first k) (sym is) (so i at k lo (omega (arith, hi, is)) at_is (ap (child nodes at) (sym head) ∙ d)), small, r)) [
-          | inl w ↦ inl (found_on now new n c w)
-          | inr w ↦ inr (waits_on next now new us n c w)
-        ])
+        waits_on next now new path n c
+        (all ss path n fit.1 (subst (λ l. Waits nodes l first (paths_of ss ++ path) n) (sym is)
+        (follows (Symbol f (length (list_of ts))) (paths_of ss ++ path) low high old old first n is (stays old) so
+        (subst (λ e. Waits nodes low old (e ∷ (paths_of ss ++ path)) n) head h))))
 
-    pub covered : (t : Tree) (next : ℕ) (old new : List ℕ) → slice_get old 0 ≡ Some 0 → Passes nodes below above t 0 old next new → Covers nodes below above t new
-    covered t next old new is so s n fit r = elim (so s [] n fit (0, 64, (0, omega arith, is), omega arith, r)) [
-      | inl f ↦ f
-      | inr w ↦ (w.2.0, w.0, w.2.2, ended w.0 w.1 w.4)
-    ]
-      where
-        ended : (at j : ℕ) → Reaches nodes at (steps_of j []) n → Holds nodes at n
-        ended at zero h = h
-        ended at (suc j) h = h
+    pub covered : (t : Tree) (next : ℕ) (old new rest : List ℕ) → slice_get old 0 ≡ Some 0 → rest ≡ drop next new → Passes nodes below above t 0 old next new → Covers nodes below above t rest
+    covered t next old new rest is cut so s n fit r =
+        let start : IsFrom 0 old 0 = (0, omega arith, is) in
+        let w = so s [] n fit (0, start, subst (λ p. Reaches nodes 0 p n) (sym (append-nil (path_of s))) r) in
+        (w.1.0 - next, w.0, ap (λ xs. slice_get xs (w.1.0 - next)) cut ∙ dropped new next w.1.0 w.0 w.1.1 w.1.2, w.2)

@@ -59,3 +59,9 @@ LosesBranch at edge old new =
     ((a : ℕ) (e : Edge) (k : ℕ) → child old a e ≡ Some k
     → (child new a e ≡ Some k) ⊎ (child old at edge ≡ Some k))
     × ((a : ℕ) (n : ℕ) → Holds old a n → Holds new a n)
+
+-- the node to which a path leads from the root, however many branches and numbers are taken away
+abbrev pub Ends : List Node → List Edge → Option ℕ → Type 0
+Ends nodes path end =
+    (fewer : List Node) (n : ℕ) → Grows fewer nodes → Reaches fewer 0 path n
+    → MatchOption end ⊥ (λ k. Holds fewer k n)

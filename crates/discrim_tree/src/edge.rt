@@ -1,7 +1,7 @@
 // The steps of a term's path.
-ghost use Rattle.std.specs.Prelude.{◌≡◌, IfOk, OnOk};
+ghost use Rattle.std.specs.Prelude.{◌≡◌, ◌++◌, IfOk, OnOk};
 ghost use Rattle.fol_core.specs.TermView.{tree_of};
-ghost use Rattle.discrim_tree.specs.Paths.{step_of, path_of, Continues};
+ghost use Rattle.discrim_tree.specs.Paths.{step_of, path_of};
 
 use fol_core::Term;
 use std::alloc::{AllocError, Global};
@@ -13,9 +13,6 @@ pub enum Edge {
     Element(u32),
     Symbol(u64, usize),
 }
-
-/// How many steps a path has at most.
-pub const LONGEST: usize = 64;
 
 /// The first step of a term.
 #[tactic(auto, using(crate::proofs::Paths::list_back))]
@@ -29,13 +26,10 @@ pub fn step_of(t: &Term) -> Edge
     }
 }
 
-/// The steps of one more term, as far as a path goes.
+/// The steps of one more term come to a path.
 pub fn add_steps(path: &mut Vec<Edge>, t: &Term) -> Result<(), AllocError>
-    ensures { OnOk result (Continues path.old.items (tree_of t.now) path.new.items) }
+    ensures { OnOk result (path.new.items ≡ path.old.items ++ path_of (tree_of t.now)) }
 {
-    if path.len() >= LONGEST {
-        return Ok(());
-    }
     path.push(step_of(t))?;
     match t {
         Term::Var(_) => Ok(()),

@@ -10,6 +10,7 @@ mod meeting;
 mod nodes;
 mod seeking;
 mod sieve;
+mod skipping;
 mod sought;
 mod walk;
 

@@ -1,19 +1,19 @@
 // A tree of paths: nodes by their places, the first of them the root.
 ghost use Rattle.std.specs.Prelude.{ℕ, ◌≡◌, ◌<◌, [], Some, None, IfOk, IsTrue, OnOk, length};
-ghost use Rattle.discrim_tree.specs.Nodes.{child, branch, Holds, IsIn, Reaches, Grows, IsEmptyAt, KeepsOthers, KeepsPaths, LosesBranch};
+ghost use Rattle.discrim_tree.specs.Nodes.{child, branch, Holds, IsIn, Reaches, Grows, IsEmptyAt, Ends, KeepsOthers, KeepsPaths, LosesBranch};
 ghost use Rattle.discrim_tree.specs.Walks.{IsFound};
 
 use crate::edge::Edge;
 use std::alloc::{AllocError, Global};
 use std::collections::BTreeMap;
 
-/// A node: the numbers of the paths that end there, where each step leads, and the next node that is free, where this
-/// one is.
+/// A node: the numbers of the paths that end there, where each step leads, and a link: to the node above, or from a node
+/// that is free to the next one that is.
 #[derive(Drop)]
 pub struct Node {
     pub numbers: Vec<u64>,
     pub branches: BTreeMap<Edge, usize>,
-    pub next: usize,
+    pub link: usize,
 }
 
 /// Nodes, and the first that is free, or a place that none has.
@@ -32,7 +32,7 @@ impl Node {
         Node {
             numbers: Vec::new(alloc),
             branches: BTreeMap::new(alloc),
-            next: usize::MAX,
+            link: usize::MAX,
         }
     }
 
@@ -54,6 +54,8 @@ impl Node {
     fn forget(&mut self, number: u64)
         ensures numbers { (m : ℕ) → (m ≡ number → ⊥) → IsIn m self.old.numbers.items → IsIn m self.new.numbers.items }
         ensures branches { self.new.branches ≡ self.old.branches }
+        ensures fewer { (m : ℕ) → IsIn m self.new.numbers.items → IsIn m self.old.numbers.items }
+        ensures gone { IsIn number self.new.numbers.items → ⊥ }
     {
         self.numbers.retain(|n| *n != number);
     }
@@ -87,7 +89,7 @@ impl Nodes {
     {
         let k = self.free;
         if k < self.items.len() {
-            self.free = self.items[k].next;
+            self.free = self.items[k].link;
             return Ok(k);
         }
         let k = self.items.len();
@@ -109,6 +111,15 @@ impl Nodes {
         Ok(())
     }
 
+    // A node hangs below another one from now on.
+    fn hang(&mut self, k: usize, at: usize)
+        ensures { Grows self.old.items.items self.new.items.items }
+    {
+        if k < self.items.len() {
+            self.items[k].link = at;
+        }
+    }
+
     // Where a step leads from a node, from now on.
     fn entered(&mut self, alloc: Global, at: usize, edge: Edge) -> Result<usize, AllocError>
         ensures grows { Grows self.old.items.items self.new.items.items }
@@ -122,6 +133,7 @@ impl Nodes {
             Some(j) => Ok(j),
             None => {
                 self.attach(at, edge, k)?;
+                self.hang(k, at);
                 Ok(k)
             }
         }
@@ -139,26 +151,6 @@ impl Nodes {
         Ok(())
     }
 
-    // A number at the end of a path from a node.
-    fn put_from(
-        &mut self,
-        alloc: Global,
-        at: usize,
-        path: &[Edge],
-        number: u64,
-    ) -> Result<(), AllocError>
-        ensures grows { Grows self.old.items.items self.new.items.items }
-        ensures reached { OnOk result (Reaches self.new.items.items at path.now number) }
-    {
-        match path.split_first() {
-            None => self.note(at, number),
-            Some((edge, rest)) => {
-                let k = self.entered(alloc, at, *edge)?;
-                self.put_from(alloc, k, rest, number)
-            }
-        }
-    }
-
     /// A number at the end of a path.
     pub fn put(&mut self, alloc: Global, path: &[Edge], number: u64) -> Result<(), AllocError>
         ensures grows { Grows self.old.items.items self.new.items.items }
@@ -167,7 +159,12 @@ impl Nodes {
         if self.items.is_empty() {
             self.items.push(Node::new(alloc))?;
         }
-        self.put_from(alloc, 0, path, number)
+        let mut at = 0;
+        for edge in path {
+            at = self.entered(alloc, at, *edge)?;
+        }
+        self.note(at, number)?;
+        Ok(())
     }
 
     // Whether a node has neither numbers nor branches.
@@ -182,7 +179,9 @@ impl Nodes {
 
     // A number is at a node no more.
     fn forget(&mut self, at: usize, number: u64)
-        ensures { KeepsOthers number self.old.items.items self.new.items.items }
+        ensures others { KeepsOthers number self.old.items.items self.new.items.items }
+        ensures fewer { Grows self.new.items.items self.old.items.items }
+        ensures gone { Holds self.new.items.items at number → ⊥ }
     {
         if at < self.items.len() {
             self.items[at].forget(number);
@@ -191,7 +190,9 @@ impl Nodes {
 
     // A branch is taken away.
     fn cut(&mut self, at: usize, edge: Edge)
-        ensures { LosesBranch at edge self.old.items.items self.new.items.items }
+        ensures others { LosesBranch at edge self.old.items.items self.new.items.items }
+        ensures fewer { Grows self.new.items.items self.old.items.items }
+        ensures gone { child self.new.items.items at edge ≡ None }
     {
         if at < self.items.len() {
             let _k = self.items[at].branches.remove(&edge);
@@ -200,36 +201,67 @@ impl Nodes {
 
     // A node is free from now on.
     fn release(&mut self, k: usize)
-        ensures { Grows self.old.items.items self.new.items.items }
+        ensures grows { Grows self.old.items.items self.new.items.items }
+        ensures fewer { Grows self.new.items.items self.old.items.items }
     {
         if k < self.items.len() {
-            self.items[k].next = self.free;
+            self.items[k].link = self.free;
             self.free = k;
         }
     }
 
-    // A branch to an empty node is taken away.
-    fn prune(&mut self, at: usize, edge: Edge)
-        ensures { KeepsPaths self.old.items.items self.new.items.items }
+    // A branch to an empty node is taken away; whether there was one.
+    fn prune(&mut self, at: usize, edge: Edge) -> bool
+        ensures paths { KeepsPaths self.old.items.items self.new.items.items }
+        ensures fewer { Grows self.new.items.items self.old.items.items }
+        ensures gone { IsTrue result → child self.new.items.items at edge ≡ None }
     {
         if let Some(k) = self.child(at, edge) {
             if self.is_empty_at(k) {
                 self.cut(at, edge);
                 self.release(k);
+                return true;
             }
+        }
+        false
+    }
+
+    // The node to which a path leads.
+    fn end_of(&self, path: &[Edge]) -> Option<usize>
+        ensures { Ends self.now.items.items path.now result }
+    {
+        let mut at = 0;
+        for edge in path {
+            match self.child(at, *edge) {
+                None => return None,
+                Some(k) => at = k,
+            }
+        }
+        Some(at)
+    }
+
+    // The node above a node.
+    fn above(&self, at: usize) -> Option<usize> {
+        match self.items.get(at) {
+            None => None,
+            Some(node) => Some(node.link),
         }
     }
 
-    // A number leaves the end of a path from a node.
-    fn take_from(&mut self, at: usize, path: &[Edge], number: u64)
-        ensures { KeepsOthers number self.old.items.items self.new.items.items }
+    // From the end of a path on, branches to empty nodes are taken away.
+    fn prune_back(&mut self, end: usize, path: &[Edge])
+        ensures paths { KeepsPaths self.old.items.items self.new.items.items }
+        ensures fewer { Grows self.new.items.items self.old.items.items }
     {
-        match path.split_first() {
-            None => self.forget(at, number),
-            Some((edge, rest)) => {
-                if let Some(k) = self.child(at, *edge) {
-                    self.take_from(k, rest, number);
-                    self.prune(at, *edge);
+        let mut at = end;
+        for edge in path.iter().rev() {
+            match self.above(at) {
+                None => return,
+                Some(above) => {
+                    if !self.prune(above, *edge) {
+                        return;
+                    }
+                    at = above;
                 }
             }
         }
@@ -237,9 +269,16 @@ impl Nodes {
 
     /// A number leaves the end of a path; nodes without numbers and branches go.
     pub fn take(&mut self, path: &[Edge], number: u64)
-        ensures { KeepsOthers number self.old.items.items self.new.items.items }
+        ensures others { KeepsOthers number self.old.items.items self.new.items.items }
+        ensures gone { Reaches self.new.items.items 0 path.now number → ⊥ }
     {
-        self.take_from(0, path, number)
+        match self.end_of(path) {
+            None => {}
+            Some(end) => {
+                self.forget(end, number);
+                self.prune_back(end, path);
+            }
+        }
     }
 
     // The numbers at a node come to a list.

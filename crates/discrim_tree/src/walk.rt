@@ -1,12 +1,12 @@
 // Walks through a tree of paths: to the nodes of terms that fit a term.
-ghost use Rattle.std.specs.Prelude.{ℕ, ◌≡◌, ◌+◌, ◌<◌, ◌≤◌, IfOk, IsTrue, OnOk, length};
+ghost use Rattle.std.specs.Prelude.{◌≡◌, ◌+◌, ◌<◌, ◌≤◌, IfOk, IsTrue, OnOk, length};
 ghost use Rattle.fol_core.specs.TermView.{tree_of};
 ghost use Rattle.discrim_tree.specs.declared.edge.Edge.TheVariants.{Any};
-ghost use Rattle.discrim_tree.specs.Nodes.{Holds};
-ghost use Rattle.discrim_tree.specs.Walks.{IsFrom, GoesOn, Follows, Skips, SkipsEach, Passes, Covers, arity};
+ghost use Rattle.discrim_tree.specs.Walks.{GoesOn, Follows, Enters, StartsAt, SkipsOne, SkipsAll, SkipsEach, Passes, Covers, arity};
 
-use crate::edge::{Edge, LONGEST, step_of};
+use crate::edge::{Edge, step_of};
 use crate::nodes::Nodes;
+use crate::skipping::Skipping;
 use fol_core::Term;
 use std::alloc::{AllocError, Global};
 
@@ -30,6 +30,26 @@ fn left(count: usize, edge: Edge) -> Result<usize, AllocError>
         Some(left) => Ok(left),
         None => Err(AllocError),
     }
+}
+
+// One term is to be skipped from each node between two places.
+fn starts(
+    alloc: Global,
+    walk: &[usize],
+    low: usize,
+    high: usize,
+) -> Result<Vec<Skipping>, AllocError>
+    requires { high ≤ length walk.now }
+    ensures { IfOk result (λ waiting. StartsAt low high walk.now waiting.items) }
+{
+    let mut waiting = Vec::new(alloc);
+    for i in low..high {
+        waiting.push(Skipping {
+            node: walk[i],
+            count: 1,
+        })?;
+    }
+    Ok(waiting)
 }
 
 impl Nodes {
@@ -73,56 +93,60 @@ impl Nodes {
         Ok(())
     }
 
-    // Whether a node has numbers.
-    fn has_numbers(&self, at: usize) -> bool
-        ensures { (n : ℕ) → Holds self.now.items.items at n → IsTrue result }
-    {
-        if at < self.items.len() {
-            return !self.items[at].numbers.is_empty();
-        }
-        false
-    }
-
-    // A node that has numbers comes into the walk.
-    fn keep(&self, walk: &mut Vec<usize>, at: usize) -> Result<(), AllocError>
-        ensures goes_on { OnOk result (GoesOn walk.old.items walk.new.items) }
-        ensures longer { OnOk result (length walk.old.items ≤ length walk.new.items) }
-        ensures kept { OnOk result ((n : ℕ) → Holds self.now.items.items at n → IsFrom (length walk.old.items) walk.new.items at) }
-    {
-        if self.has_numbers(at) {
-            walk.push(at)?;
-        }
-        Ok(())
-    }
-
-    // Goes to the nodes behind so many terms from a node, by no more steps than a number.
-    fn skip(
+    // The branches of a node come to what is to be skipped, with the terms that are left behind each.
+    fn enter_each(
         &self,
-        walk: &mut Vec<usize>,
+        waiting: &mut Vec<Skipping>,
         at: usize,
         count: usize,
-        depth: usize,
     ) -> Result<(), AllocError>
-        requires { depth ≤ 64 }
-        ensures goes_on { OnOk result (GoesOn walk.old.items walk.new.items) }
-        ensures longer { OnOk result (length walk.old.items ≤ length walk.new.items) }
-        ensures skips { OnOk result (Skips self.now.items.items at count depth (length walk.old.items) walk.new.items) }
+        requires { 0 < count }
+        ensures goes_on { OnOk result (GoesOn waiting.old.items waiting.new.items) }
+        ensures enters { OnOk result (Enters self.now.items.items at count waiting.new.items) }
     {
-        if count == 0 {
-            walk.push(at)?;
-            return Ok(());
-        }
-        self.keep(walk, at)?;
-        if depth == 0 {
-            return Ok(());
-        }
         if at >= self.items.len() {
             return Ok(());
         }
         for (edge, k) in &self.items[at].branches {
-            self.skip(walk, *k, left(count, *edge)?, depth - 1)?;
+            let count = left(count, *edge)?;
+            waiting.push(Skipping { node: *k, count })?;
         }
         Ok(())
+    }
+
+    // Goes a step further where terms are to be skipped from a node.
+    fn skip_one(
+        &self,
+        walk: &mut Vec<usize>,
+        waiting: &mut Vec<Skipping>,
+        next: Skipping,
+    ) -> Result<(), AllocError>
+        ensures goes_on { OnOk result (GoesOn walk.old.items walk.new.items) }
+        ensures longer { OnOk result (length walk.old.items ≤ length walk.new.items) }
+        ensures others { OnOk result (GoesOn waiting.old.items waiting.new.items) }
+        ensures skips { OnOk result (SkipsOne self.now.items.items next (length walk.old.items) walk.new.items waiting.new.items) }
+    {
+        if next.count == 0 {
+            walk.push(next.node)?;
+            return Ok(());
+        }
+        self.enter_each(waiting, next.node, next.count)?;
+        Ok(())
+    }
+
+    // Goes to the nodes behind all terms that are to be skipped.
+    fn skip(&self, walk: &mut Vec<usize>, waiting: &mut Vec<Skipping>) -> Result<(), AllocError>
+        ensures goes_on { OnOk result (GoesOn walk.old.items walk.new.items) }
+        ensures longer { OnOk result (length walk.old.items ≤ length walk.new.items) }
+        ensures skips { OnOk result (SkipsAll self.now.items.items waiting.old.items (length walk.old.items) walk.new.items) }
+    {
+        for _step in 0..u64::MAX {
+            match waiting.pop() {
+                None => return Ok(()),
+                Some(next) => self.skip_one(walk, waiting, next)?,
+            }
+        }
+        Err(AllocError)
     }
 
     // Goes to the nodes behind one term from those between two places.
@@ -132,10 +156,8 @@ impl Nodes {
         ensures longer { OnOk result (length walk.old.items ≤ length walk.new.items) }
         ensures skips { OnOk result (SkipsEach self.now.items.items low high walk.old.items walk.new.items) }
     {
-        for i in low..high {
-            let at = walk[i];
-            self.skip(walk, at, 1, LONGEST)?;
-        }
+        let mut waiting = starts(*walk.allocator(), walk, low, high)?;
+        self.skip(walk, &mut waiting)?;
         Ok(())
     }
 
@@ -184,7 +206,7 @@ impl Nodes {
         }
     }
 
-    /// The nodes to which the paths of the terms lead that fit a term, and others.
+    /// The nodes to which the paths of the terms lead that fit a term.
     pub fn reached(
         &self,
         alloc: Global,
@@ -196,7 +218,7 @@ impl Nodes {
     {
         let mut walk = Vec::new(alloc);
         walk.push(0)?;
-        let _next = self.pass(&mut walk, below, above, 0, t)?;
-        Ok(walk)
+        let next = self.pass(&mut walk, below, above, 0, t)?;
+        Ok(walk.split_off(next)?)
     }
 }

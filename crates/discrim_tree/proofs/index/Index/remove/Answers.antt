@@ -17,7 +17,7 @@ invariant_of-self c =
       rise_out c.args.number es place.result c.index.result.now left c.remove-entry.ensures.items c.self.invariant.0 at within c.index.ensures c.if-index-number.true,
       reached_out c.args.number c.self.inside.nodes.items.items c.take.new.self.items.items es left place.result c.remove-entry.ensures.items
           (ap all_indexed c.remove-entry.ensures.items ∙ entry_out c.args.number es place.result c.index.result.now c.self.invariant.0 at within here)
-          c.take.ensures c.self.invariant.1,
+          c.take.ensures.others c.self.invariant.1,
     )
 
 pub returns-else-index-number : goal.returns-else-index-number

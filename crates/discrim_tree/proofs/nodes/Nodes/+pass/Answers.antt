@@ -16,7 +16,7 @@ returns-then-above-clause-passes t c =
     let new = c.skip_each.new.walk.items in
     let all : c.len-high.result ≡ length c.args.walk.now.items = omega (arith, c.len-high.ensures, c.args.walk.now.ok.0) in
     subst (λ (u : Term). Passes c.args.self.now.items.items c.args.below c.args.above (tree_of u) c.args.low old c.len-high.result new) (sym c.in-Var.is)
-    (passes_variable c.args.self.now.items.items c.args.below c.args.above c.in-Var.field-0 c.args.low c.len-high.result old new all c.in_ok-skip_each-in-Var.ensures.goes_on c.in_ok-skip_each-in-Var.ensures.skips)
+    (passes_variable c.args.self.now.items.items c.args.below c.args.above c.in-Var.field-0 c.args.low c.len-high.result old new all c.in_ok-skip_each-in-Var.ensures.skips)
 
 pub returns-in_ok-follow-in-Var-clause-passes : goal.returns-in_ok-follow-in-Var-clause-passes
 returns-in_ok-follow-in-Var-clause-passes t c =
@@ -24,7 +24,7 @@ returns-in_ok-follow-in-Var-clause-passes t c =
     let new = c.follow.new.walk.items in
     let all : c.len-high.result ≡ length c.args.walk.now.items = omega (arith, c.len-high.ensures, c.args.walk.now.ok.0) in
     subst (λ (u : Term). Passes c.args.self.now.items.items c.args.below c.args.above (tree_of u) c.args.low old c.len-high.result new) (sym c.in-Var.is)
-    (passes_plain c.args.self.now.items.items c.args.below c.args.above c.in-Var.field-0 c.args.low c.len-high.result old new c.if-above.false all c.in_ok-follow-in-Var.ensures.goes_on c.in_ok-follow-in-Var.ensures.follows)
+    (passes_plain c.args.self.now.items.items c.args.below c.args.above c.in-Var.field-0 c.args.low c.len-high.result old new c.if-above.false all c.in_ok-follow-in-Var.ensures.follows)
 
 pub returns-in_ok-follow_any-in-Elem-clause-passes : goal.returns-in_ok-follow_any-in-Elem-clause-passes
 returns-in_ok-follow_any-in-Elem-clause-passes t c =
@@ -53,7 +53,7 @@ loop-term-preserved t c =
       within = step.within;
       passes = λ low new g rest. so.passes low new (goes_far now after new step.goes_on g)
           (subst (λ us. PassesAll nodes c.args.below c.args.above (trees_of us) c.loop-term.next now low new) (sym (next_tree items c.loop-term.term-index c.term-item.result c.loop-term-test.true c.term-item.is))
-          (passes_more nodes c.args.below c.args.above (tree_of c.term-item.result) (trees_of (tree_list (drop (c.loop-term.term-index + 1) items))) c.loop-term.next c.in_ok-next-in-App.next low now after new g step.passes rest));
+          (passes_more nodes c.args.below c.args.above (tree_of c.term-item.result) (trees_of (tree_list (drop (c.loop-term.term-index + 1) items))) c.loop-term.next c.in_ok-next-in-App.next low now after new step.passes rest));
     }
 
 pub returns-in_ok-follow_any-in-App-clause-passes : goal.returns-in_ok-follow_any-in-App-clause-passes

@@ -9,7 +9,7 @@ returns-clause-grows c =
     let nodes = c.args.self.now.items in
     let node = c.index_mut.result.now in
     let within : c.args.at < length c.args.self.now.items.items = omega (arith, c.if-at-len.false, c.len.ensures, c.args.self.now.items.ok.0) in
-    changed nodes.items c.args.at node (record { numbers = c.push.new.self; branches = node.branches; next = node.next })
+    changed nodes.items c.args.at node (record { numbers = c.push.new.self; branches = node.branches; link = node.link })
     (slice_get_read nodes.items (length nodes.items) c.args.at node refl within c.index_mut.ensures.value)
     (λ e k h. h) (λ n h. subst (IsIn n) (sym c.in_ok-push.ensures.items) (is_in_front n c.args.number node.numbers.items h))
 
@@ -17,5 +17,5 @@ pub returns-clause-noted : goal.returns-clause-noted
 returns-clause-noted c =
     let node = c.index_mut.result.now in
     let within : c.args.at < length c.args.self.now.items.items = omega (arith, c.if-at-len.false, c.len.ensures, c.args.self.now.items.ok.0) in
-    here_noted c.args.self.now.items.items c.args.at c.args.number (record { numbers = c.push.new.self; branches = node.branches; next = node.next }) within
+    here_noted c.args.self.now.items.items c.args.at c.args.number (record { numbers = c.push.new.self; branches = node.branches; link = node.link }) within
     (subst (IsIn c.args.number) (sym c.in_ok-push.ensures.items) (is_in_last c.args.number node.numbers.items))

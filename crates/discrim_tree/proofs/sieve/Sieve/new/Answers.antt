@@ -1,10 +1,13 @@
-use Rattle.std.proofs.Common.{sym, ap, ◌∙◌}
-use Rattle.discrim_tree.specs.Nodes.{child}
+use Rattle.std.proofs.Common.{sym, ap, subst, ◌∙◌}
+use Rattle.discrim_tree.specs.Nodes.{child, Reaches}
 use Rattle.discrim_tree.specs.Paths.{step_of}
 use Rattle.discrim_tree.specs.Sieves.{IsUnder}
 use Rattle.discrim_tree.proofs.Ordered.{none_some}
+use Rattle.discrim_tree.proofs.Paths.{path_begins}
 use Rattle.discrim_tree.proofs.sieve.Sieve.new.Goals as goal
 
 pub returns : goal.returns
 unfolding IsUnder
-returns c = λ t n h. none_some h.0 (sym (ap (λ nodes. child nodes 0 (step_of t)) c.new.ensures) ∙ h.1)
+returns c = λ t n h.
+    let there = subst (λ p. Reaches c.new.result.items.items 0 p n) (path_begins t) h in
+    none_some there.0 (sym (ap (λ nodes. child nodes 0 (step_of t)) c.new.ensures) ∙ there.1)

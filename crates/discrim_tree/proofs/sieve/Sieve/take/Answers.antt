@@ -4,4 +4,4 @@ use Rattle.discrim_tree.proofs.sieve.Sieve.take.Goals as goal
 
 pub returns-in-Ok : goal.returns-in-Ok
 unfolding IsUnder
-returns-in-Ok c = λ t n apart h. c.take.ensures 0 (path_of t) n apart h
+returns-in-Ok c = λ t n apart h. c.take.ensures.others 0 (path_of t) n apart h

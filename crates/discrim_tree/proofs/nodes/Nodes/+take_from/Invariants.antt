@@ -1,5 +1,0 @@
-use Rattle.std.proofs.Common.{length}
-use Rattle.discrim_tree.proofs.nodes.Nodes.+take_from.Given as goal
-
-abbrev pub decreases-take_from : goal.decreases-take_from
-decreases-take_from l = length l.path.now

@@ -1,0 +1,11 @@
+-- The branches that are left, and those that came.
+use Rattle.discrim_tree.specs.Walks.{GoesOn}
+use Rattle.discrim_tree.proofs.WalkSteps.{AreLeft}
+use Rattle.discrim_tree.proofs.nodes.Nodes.enter_each.Given as goal
+
+abbrev pub invariant-loop-edge : goal.invariant-loop-edge
+invariant-loop-edge l =
+    (goal.iterator-loop-edge).can_next l.edge-iterator ×
+    (goal.iterator-loop-edge).is_finite l.edge-iterator ×
+    GoesOn l.initial.waiting.items l.waiting.items ×
+    AreLeft l.self.items.items l.at l.edge-iterator l.count l.waiting.items

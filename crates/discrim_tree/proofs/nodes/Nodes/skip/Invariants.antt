@@ -1,0 +1,12 @@
+-- What was ahead is reached, or still is.
+use Rattle.std.proofs.Common.{◌≤◌, length}
+use Rattle.discrim_tree.specs.Walks.{GoesOn}
+use Rattle.discrim_tree.proofs.WalkSteps.{SkipsOn}
+use Rattle.discrim_tree.proofs.nodes.Nodes.skip.Given as goal
+
+abbrev pub invariant-loop-step : goal.invariant-loop-step
+invariant-loop-step l = record {
+  on : GoesOn l.fn.walk.items l.walk.items;
+  longer : length l.fn.walk.items ≤ length l.walk.items;
+  skips : SkipsOn l.self.items.items l.fn.waiting.items (length l.fn.walk.items) l.walk.items l.waiting.items;
+}
