@@ -1,7 +1,7 @@
 -- Words behind a clause, one after the other.
 use Rattle.std.proofs.Common.{◌≡◌, inl, inr, ℕ, suc, ◌+◌, ◌<◌, ◌≤◌, Bool, true, false, ◌&&◌, IsTrue, List, [], ◌∷◌, ◌++◌, map, length, get_or, drop, take, Option, Some, None, is_some, refl, sym, ap, ◌∙◌, subst, add-one, drop-cons}
 use Rattle.std.specs.List.{flat_map}
-use Rattle.std.proofs.lemmas.Bool.{and_left, and_right, and_from}
+use Rattle.std.proofs.lemmas.Bool.{and_left, and_right, and_from, false≢true}
 use Rattle.std.proofs.lemmas.List.{drop_all, take_all, take_more}
 use Rattle.std.proofs.lemmas.List.Folds.{list_all-append}
 use Rattle.fol_core.specs.Literals.{ClauseTree}
@@ -78,6 +78,10 @@ module _ (ls : List LineTree) (ws : List Later) (d0 : ClauseTree) (content : Con
 
   pub following_other : Following ls ws d0 content i d → length ws ≤ i → (IsClause content d → ⊥) → Fails ls (words_from ws 0) d0 content 8
   following_other going h apart = going.fails 8 (subst (λ us. Fails ls us d content 8) (sym (ap (map later_of) (drop_all i ws h))) (refl, apart))
+
+-- no word follows, and the content isn't it
+pub other_size : (ls : List LineTree) (ws : List Later) (d : ClauseTree) (content : ContentTree) → ws ≡ [] → (IsClause content d → false ≡ true) → AfterAs ls (map later_of ws) d content (Some 8)
+other_size ls ws d content none apart = subst (λ us. AfterAs ls (map later_of us) d content (Some 8)) (sym none) (inl (refl, λ is. false≢true (apart is)))
 
 pub numbers_next : (n : ℕ) (ss : List Satellite) (i : ℕ) (s : Satellite) → i < length ss → s ≡ get_or ss i s
     → n ∷ map (λ s. s.clause) (take (i + 1) ss) ≡ (n ∷ map (λ s. s.clause) (take i ss)) ++ s.clause ∷ []

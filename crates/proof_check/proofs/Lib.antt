@@ -1,4 +1,5 @@
 mod ApartSteps
+mod BoundSteps
 mod BuildSteps
 mod CheckSteps
 mod EarlierSteps
@@ -9,6 +10,7 @@ mod InferSteps
 mod JudgeSteps
 mod Leaving
 mod PlaceSteps
+mod PutSteps
 mod RowAtoms
 mod RuleSteps
 mod SameSteps

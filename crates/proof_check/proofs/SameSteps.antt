@@ -60,8 +60,8 @@ pub exists_is : (s : Shape) (x : ℕ) (f : Fol) → ((y : ℕ) (g : Fol) → s �
 exists_is (Exists y g) x f apart e = apart y g refl
 exists_is s x f apart e = cc
 
-pub equal_is : (s : Shape) (t u : Tree) → ((v w : Term) → s ≡ Eq v w → ⊥) → equal t u ≡ fol_of s → ⊥
-equal_is (Eq v w) t u apart e = apart v w refl
+pub equal_is : (s : Shape) (t u : Tree) → ((v : Tree × Tree) → s ≡ Eq v → ⊥) → equal t u ≡ fol_of s → ⊥
+equal_is (Eq v) t u apart e = apart v refl
 equal_is s t u apart e = cc
 
 pub atom_is : (s : Shape) (r : ℕ) (ts : Trees) → ((q : Sym) (us : List Tree) → s ≡ Atom q us → ⊥) → atom r ts ≡ fol_of s → ⊥

@@ -1,5 +1,5 @@
 -- Formulas of the problem and rows, one after the other.
-use Rattle.std.proofs.Common.{◌≡◌, inl, inr, ℕ, zero, suc, ◌+◌, ◌-◌, ◌<◌, ◌≤◌, Bool, if◌then◌else◌, List, [], ◌∷◌, length, get_or, drop, Some, None, unwrap_or, refl, sym, ap, ◌∙◌, subst, arith, add-one, drop-cons}
+use Rattle.std.proofs.Common.{◌≡◌, inl, inr, ℕ, zero, suc, ◌+◌, ◌-◌, ◌<◌, ◌≤◌, ◌==◌, Bool, true, false, if◌then◌else◌, List, [], ◌∷◌, length, get_or, drop, Some, None, unwrap_or, refl, sym, ap, ◌∙◌, subst, arith, add-one, drop-cons}
 use Rattle.std.proofs.lemmas.Bool.{ne_eqb}
 use Rattle.std.proofs.lemmas.List.{drop_all}
 use Rattle.fol_core.specs.Fol.{Fol}
@@ -62,6 +62,15 @@ input_there (x ∷ is) (suc (suc n)) d h k =
     again : suc n - 1 ≡ n
     again = omega arith
 
+-- an input of a number is among all
+pub among_at : (goal : Bool) (f : Fol) (ss : List Said) (n : ℕ) (s : Said) → Some s ≡ said_at ss n → IsSaid goal f s → IsAmongSaid goal f ss
+among_at goal f [] n s there said = cc
+among_at goal f (t ∷ ss) n s there said = by (n == 1) there (λ e. among_at goal f ss (n - 1) s e said)
+  where
+    by : (b : Bool) → Some s ≡ (if b then Some t else said_at ss (n - 1)) → (Some s ≡ said_at ss (n - 1) → IsAmongSaid goal f ss) → IsAmongSaid goal f (t ∷ ss)
+    by true e rest = inl (subst (IsSaid goal f) (ap (λ o. unwrap_or o s) e) said)
+    by false e rest = inr (rest e)
+
 module _ (goal : Bool) (f : Fol) (ss : List Said) (content : ContentTree) (r : InputRow) where
   pub row_same : (s : Said) → Some s ≡ said_at ss r.0 → IsSaid goal f s → IsClause content r.1 → IsRowOf goal f ss content r
   row_same s there said same = (s, sym there, said, same)
@@ -95,6 +104,12 @@ module _ (goal : Bool) (f : Fol) (ss : List Said) (content : ContentTree) (rows 
 
   pub rows_end : Rowed goal f ss content rows i → length rows ≤ i → IsInput goal f ss content rows → ⊥
   rows_end rowed h k = subst (IsInput goal f ss content) (drop_all i rows h) (rowed.only k)
+
+-- and a row at a place is one of the rows
+pub rowed_at : (goal : Bool) (f : Fol) (ss : List Said) (content : ContentTree) (rows : List InputRow) (n : ℕ) (r : InputRow) → n < length rows → r ≡ get_or rows n r → IsRowOf goal f ss content r → IsInput goal f ss content rows
+rowed_at goal f ss content [] n r h at row = absurd (omega arith)
+rowed_at goal f ss content (q ∷ rows) zero r h at row = inl (subst (IsRowOf goal f ss content) at row)
+rowed_at goal f ss content (q ∷ rows) (suc n) r h at row = inr (rowed_at goal f ss content rows n r (omega arith) at row)
 
 module _ (ss : List Said) (rows : List InputRow) (ls : List LineTree) (goal : Bool) (n : ℕ) (content : ContentTree) where
   pub input_none : None ≡ line_at ls n → IsInputOf ss rows ls goal n content → ⊥

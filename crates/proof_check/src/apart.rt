@@ -30,7 +30,7 @@ fn term_apart(alloc: Global, term: &Term, count: u64, parent: u64) -> Result<Ter
         Term::Var(x) => Ok(Term::Var(number_apart(*x, count, parent)?)),
         Term::Elem(k) => Ok(Term::Elem(*k)),
         Term::App(s, terms) => {
-            let mut made = Terms::new(alloc);
+            let mut made = Terms::with_capacity(alloc, terms.items.len())?;
             for term in &terms.items {
                 made.push(term_apart(alloc, term, count, parent)?)?;
             }
@@ -48,7 +48,7 @@ fn clause_apart(
 ) -> Result<Clause, AllocError>
     ensures { IfOk result (λ c. c ≡ substitute_clause (interleaved count parent) clause.now) }
 {
-    let mut made = Clause::new(alloc);
+    let mut made = Clause::with_capacity(alloc, clause.literals.len())?;
     for literal in &clause.literals {
         let atom = term_apart(alloc, &literal.atom, count, parent)?;
         made.push(Literal {

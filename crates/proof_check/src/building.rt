@@ -8,8 +8,8 @@ ghost use Rattle.derivation.specs.View.{first_word_of};
 ghost use Rattle.derivation.specs.Words.{only_of, first_of_two, second_of_two, copy_rule, clash_pairs, satellite_rests, clash_rule, factor_rule, xx_rule, para_rest, para_rule};
 ghost use Rattle.proof_check.specs.Judged.{clash_of, rule_by, IsPending};
 
-use crate::equations::{copy_below, copy_left, copy_other_side, copy_right, copy_side, replaced};
-use crate::places::{copy_atom, others, with_atom};
+use crate::equations::{copy_below, left_of, other_side_of, replaced, right_of, side_of};
+use crate::places::{atom_at, copy_atom, others, with_atom};
 use derivation::{First, Paramodulation, Satellite};
 use fol_core::{Clause, Term, Terms};
 use std::alloc::{AllocError, Global};
@@ -30,36 +30,38 @@ pub fn without(alloc: Global, clause: &Clause, place: u64) -> Result<Clause, All
     others(alloc, clause, &[place])
 }
 
-// The single parent.
+// The single parent, and each of two; of other numbers of parents a clause without literals.
 #[tactic(auto, using(crate::proofs::BuildSteps::only_here, crate::proofs::BuildSteps::only_not))]
-fn copy_only(alloc: Global, parents: &[Clause]) -> Result<Clause, AllocError>
-    ensures { IfOk result (λ c. c ≡ only_of parents.now) }
+fn only_of<'a>(parents: &'a [Clause], nothing: &'a Clause) -> &'a Clause
+    requires { nothing.now ≡ [] }
+    ensures { result.now ≡ only_of parents.now }
 {
     if parents.len() != 1 {
-        return Ok(Clause::new(alloc));
+        return nothing;
     }
-    parents[0].copy(alloc)
+    &parents[0]
 }
 
-// Each of two.
 #[tactic(auto, using(crate::proofs::BuildSteps::first_here, crate::proofs::BuildSteps::first_not))]
-fn copy_first(alloc: Global, parents: &[Clause]) -> Result<Clause, AllocError>
-    ensures { IfOk result (λ c. c ≡ first_of_two parents.now) }
+fn first_of_two<'a>(parents: &'a [Clause], nothing: &'a Clause) -> &'a Clause
+    requires { nothing.now ≡ [] }
+    ensures { result.now ≡ first_of_two parents.now }
 {
     if parents.len() != 2 {
-        return Ok(Clause::new(alloc));
+        return nothing;
     }
-    parents[0].copy(alloc)
+    &parents[0]
 }
 
 #[tactic(auto, using(crate::proofs::BuildSteps::second_here, crate::proofs::BuildSteps::second_not))]
-fn copy_second(alloc: Global, parents: &[Clause]) -> Result<Clause, AllocError>
-    ensures { IfOk result (λ c. c ≡ second_of_two parents.now) }
+fn second_of_two<'a>(parents: &'a [Clause], nothing: &'a Clause) -> &'a Clause
+    requires { nothing.now ≡ [] }
+    ensures { result.now ≡ second_of_two parents.now }
 {
     if parents.len() != 2 {
-        return Ok(Clause::new(alloc));
+        return nothing;
     }
-    parents[1].copy(alloc)
+    &parents[1]
 }
 
 // One pair.
@@ -82,7 +84,8 @@ fn pair(alloc: Global, left: Term, right: Term, rest: Clause) -> Result<Pending,
 fn copy_pending(alloc: Global, parents: &[Clause]) -> Result<Pending, AllocError>
     ensures { IfOk result (λ p. IsPending copy_rule parents.now p) }
 {
-    let rest = copy_only(alloc, parents)?;
+    let nothing = Clause::new(alloc);
+    let rest = only_of(parents, &nothing).copy(alloc)?;
     Ok(Pending {
         lefts: Terms::new(alloc),
         rights: Terms::new(alloc),
@@ -94,8 +97,8 @@ fn copy_pending(alloc: Global, parents: &[Clause]) -> Result<Pending, AllocError
 fn factor_pending(alloc: Global, parents: &[Clause], a: u64, b: u64) -> Result<Pending, AllocError>
     ensures { IfOk result (λ p. IsPending (factor_rule a b) parents.now p) }
 {
-    let clause = copy_only(alloc, parents)?;
-    factor_of(alloc, &clause, a, b)
+    let nothing = Clause::new(alloc);
+    factor_of(alloc, only_of(parents, &nothing), a, b)
 }
 
 fn factor_of(alloc: Global, clause: &Clause, a: u64, b: u64) -> Result<Pending, AllocError>
@@ -111,16 +114,17 @@ fn factor_of(alloc: Global, clause: &Clause, a: u64, b: u64) -> Result<Pending, 
 fn xx_pending(alloc: Global, parents: &[Clause], a: u64) -> Result<Pending, AllocError>
     ensures { IfOk result (λ p. IsPending (xx_rule a) parents.now p) }
 {
-    let clause = copy_only(alloc, parents)?;
-    xx_of(alloc, &clause, a)
+    let nothing = Clause::new(alloc);
+    xx_of(alloc, only_of(parents, &nothing), a)
 }
 
 fn xx_of(alloc: Global, clause: &Clause, a: u64) -> Result<Pending, AllocError>
     ensures { IfOk result (λ p. IsPending (xx_rule a) (clause.now ∷ []) p) }
 {
-    let atom = copy_atom(alloc, clause, a)?;
-    let left = copy_left(alloc, &atom)?;
-    let right = copy_right(alloc, &atom)?;
+    let nothing = Term::Var(0);
+    let atom = atom_at(clause, a, &nothing);
+    let left = left_of(atom, &nothing).copy(alloc)?;
+    let right = right_of(atom, &nothing).copy(alloc)?;
     let rest = without(alloc, clause, a)?;
     pair(alloc, left, right, rest)
 }
@@ -135,13 +139,14 @@ fn para_made(
     ensures { IfOk result (λ c. c ≡ para_rest para.now.equation para.now.side para.now.literal
         para.now.path.items from.now into.now) }
 {
-    let equation = copy_atom(alloc, from, para.equation)?;
-    let other = copy_other_side(alloc, para.side, &equation)?;
-    let atom = copy_atom(alloc, into, para.literal)?;
-    let new = replaced(alloc, &atom, para.path.as_slice(), &other)?;
+    let nothing = Term::Var(0);
+    let equation = atom_at(from, para.equation, &nothing);
+    let other = other_side_of(para.side, equation, &nothing);
+    let atom = atom_at(into, para.literal, &nothing);
+    let new = replaced(alloc, atom, para.path.as_slice(), other)?;
     let mut made = with_atom(alloc, into, para.literal, &new)?;
     let rest = without(alloc, from, para.equation)?;
-    made.append(alloc, &rest)?;
+    made.extend(rest)?;
     Ok(made)
 }
 
@@ -153,13 +158,15 @@ fn para_pending(
     ensures { IfOk result (λ p. IsPending (para_rule para.now.equation para.now.side
         para.now.literal para.now.path.items) parents.now p) }
 {
-    let from = copy_first(alloc, parents)?;
-    let into = copy_second(alloc, parents)?;
-    let equation = copy_atom(alloc, &from, para.equation)?;
-    let left = copy_side(alloc, para.side, &equation)?;
-    let atom = copy_atom(alloc, &into, para.literal)?;
-    let right = copy_below(alloc, &atom, para.path.as_slice())?;
-    let rest = para_made(alloc, para, &from, &into)?;
+    let none = Clause::new(alloc);
+    let from = first_of_two(parents, &none);
+    let into = second_of_two(parents, &none);
+    let nothing = Term::Var(0);
+    let equation = atom_at(from, para.equation, &nothing);
+    let left = side_of(para.side, equation, &nothing).copy(alloc)?;
+    let atom = atom_at(into, para.literal, &nothing);
+    let right = copy_below(alloc, atom, para.path.as_slice())?;
+    let rest = para_made(alloc, para, from, into)?;
     pair(alloc, left, right, rest)
 }
 
@@ -200,7 +207,7 @@ fn satellites_pending(
         lefts.push(copy_atom(alloc, nucleus, s.place)?)?;
         rights.push(copy_atom(alloc, &parents[i], s.literal)?)?;
         let left = without(alloc, &parents[i], s.literal)?;
-        rest.append(alloc, &left)?;
+        rest.extend(left)?;
     }
     Ok(Pending {
         lefts,

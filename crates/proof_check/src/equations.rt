@@ -1,6 +1,7 @@
 // Equations, and the terms below an atom.
 ghost use Rattle.std.specs.Prelude.{◌≡◌, IfOk};
 ghost use Rattle.std.specs.Option.{option_map};
+ghost use Rattle.fol_core.specs.Tree.{var};
 ghost use Rattle.fol_core.specs.TermView.{tree_of};
 ghost use Rattle.substitutions.specs.Paths.{replaced};
 ghost use Rattle.derivation.specs.Equations.{equation, is_equation, left_of, right_of, below, is_there, is_no_variable, term_below};
@@ -28,62 +29,82 @@ pub fn is_equation(atom: &Term) -> bool
     }
 }
 
-/// A copy of the left side.
+/// The left side; of what is no equation of two sides perhaps the term for nothing.
 #[tactic(auto, using(crate::proofs::EquationSteps::left_side, crate::proofs::EquationSteps::no_left))]
-pub fn copy_left(alloc: Global, atom: &Term) -> Result<Term, AllocError>
-    ensures { IfOk result (λ t. tree_of t ≡ left_of (tree_of atom.now)) }
+pub fn left_of<'a>(atom: &'a Term, nothing: &'a Term) -> &'a Term
+    requires { tree_of nothing.now ≡ var 0 }
+    ensures { tree_of result.now ≡ left_of (tree_of atom.now) }
 {
     match atom {
-        Term::Var(_) => Ok(Term::Var(0)),
-        Term::Elem(_) => Ok(Term::Var(0)),
+        Term::Var(_) => nothing,
+        Term::Elem(_) => nothing,
         Term::App(_, terms) => {
             let sides = terms.as_slice();
             if sides.is_empty() {
-                return Ok(Term::Var(0));
+                return nothing;
             }
-            sides[0].copy(alloc)
+            &sides[0]
         }
     }
 }
 
-/// A copy of the right side.
+/// The right side, so.
 #[tactic(auto, using(crate::proofs::EquationSteps::right_side, crate::proofs::EquationSteps::no_right))]
-pub fn copy_right(alloc: Global, atom: &Term) -> Result<Term, AllocError>
-    ensures { IfOk result (λ t. tree_of t ≡ right_of (tree_of atom.now)) }
+pub fn right_of<'a>(atom: &'a Term, nothing: &'a Term) -> &'a Term
+    requires { tree_of nothing.now ≡ var 0 }
+    ensures { tree_of result.now ≡ right_of (tree_of atom.now) }
 {
     match atom {
-        Term::Var(_) => Ok(Term::Var(0)),
-        Term::Elem(_) => Ok(Term::Var(0)),
+        Term::Var(_) => nothing,
+        Term::Elem(_) => nothing,
         Term::App(_, terms) => {
             let sides = terms.as_slice();
             if sides.len() < 2 {
-                return Ok(Term::Var(0));
+                return nothing;
             }
-            sides[1].copy(alloc)
+            &sides[1]
         }
     }
 }
 
-/// A copy of a side by its number.
-pub fn copy_side(alloc: Global, side: u64, atom: &Term) -> Result<Term, AllocError>
-    ensures { IfOk result (λ t. tree_of t ≡ side_of side (tree_of atom.now)) }
+/// A side by its number.
+pub fn side_of<'a>(side: u64, atom: &'a Term, nothing: &'a Term) -> &'a Term
+    requires { tree_of nothing.now ≡ var 0 }
+    ensures { tree_of result.now ≡ side_of side (tree_of atom.now) }
 {
     if side == 1 {
-        copy_left(alloc, atom)
+        left_of(atom, nothing)
     } else {
-        copy_right(alloc, atom)
+        right_of(atom, nothing)
     }
 }
 
-/// A copy of the other one.
-pub fn copy_other_side(alloc: Global, side: u64, atom: &Term) -> Result<Term, AllocError>
-    ensures { IfOk result (λ t. tree_of t ≡ other_side_of side (tree_of atom.now)) }
+/// The other one.
+pub fn other_side_of<'a>(side: u64, atom: &'a Term, nothing: &'a Term) -> &'a Term
+    requires { tree_of nothing.now ≡ var 0 }
+    ensures { tree_of result.now ≡ other_side_of side (tree_of atom.now) }
 {
     if side == 1 {
-        copy_right(alloc, atom)
+        right_of(atom, nothing)
     } else {
-        copy_left(alloc, atom)
+        left_of(atom, nothing)
     }
+}
+
+/// A copy of the left side.
+pub fn copy_left(alloc: Global, atom: &Term) -> Result<Term, AllocError>
+    ensures { IfOk result (λ t. tree_of t ≡ left_of (tree_of atom.now)) }
+{
+    let nothing = Term::Var(0);
+    left_of(atom, &nothing).copy(alloc)
+}
+
+/// A copy of the right side.
+pub fn copy_right(alloc: Global, atom: &Term) -> Result<Term, AllocError>
+    ensures { IfOk result (λ t. tree_of t ≡ right_of (tree_of atom.now)) }
+{
+    let nothing = Term::Var(0);
+    right_of(atom, &nothing).copy(alloc)
 }
 
 // The term below an atom at a path.

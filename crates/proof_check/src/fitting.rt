@@ -1,15 +1,14 @@
 // Whether the places of a rule are there in its parents, of the kinds and signs that it takes.
-ghost use Rattle.std.specs.Prelude.{◌≡◌, IfOk, map, length};
+ghost use Rattle.std.specs.Prelude.{◌≡◌, map, length};
 ghost use Rattle.fol_core.specs.Free.{is_in};
 ghost use Rattle.derivation.specs.View.{first_word_of};
 ghost use Rattle.derivation.specs.Words.{copy_rule, clashes_fit, clash_rule, factor_rule, xx_rule, para_rule, para_fits};
 ghost use Rattle.proof_check.specs.Judged.{clash_of, rule_by};
 
 use crate::equations::{is_equation, is_no_variable};
-use crate::places::{are_alike, are_opposite, copy_atom, has_literal, has_place};
+use crate::places::{are_alike, are_opposite, atom_at, has_literal, has_place};
 use derivation::{First, Paramodulation, Satellite};
-use fol_core::Clause;
-use std::alloc::{AllocError, Global};
+use fol_core::{Clause, Term};
 
 // One parent.
 #[tactic(auto, using(crate::proofs::FitSteps::copy_one, crate::proofs::FitSteps::copy_not))]
@@ -33,49 +32,41 @@ fn factor_fits(parents: &[Clause], a: u64, b: u64) -> bool
 }
 
 #[tactic(auto, using(crate::proofs::FitSteps::xx_one, crate::proofs::FitSteps::xx_sign, crate::proofs::FitSteps::xx_not))]
-fn xx_fits(alloc: Global, parents: &[Clause], a: u64) -> Result<bool, AllocError>
-    ensures { IfOk result (λ fits. fits ≡ (xx_rule a).fits parents.now) }
+fn xx_fits(parents: &[Clause], a: u64) -> bool
+    ensures { result ≡ (xx_rule a).fits parents.now }
 {
     if parents.len() != 1 {
-        return Ok(false);
+        return false;
     }
     if !has_literal(&parents[0], false, a) {
-        return Ok(false);
+        return false;
     }
-    let atom = copy_atom(alloc, &parents[0], a)?;
-    Ok(is_equation(&atom))
+    let nothing = Term::Var(0);
+    is_equation(atom_at(&parents[0], a, &nothing))
 }
 
-fn equation_into(
-    alloc: Global,
-    para: &Paramodulation,
-    from: &Clause,
-    into: &Clause,
-) -> Result<bool, AllocError>
-    ensures { IfOk result (λ fits. fits ≡ para_fits para.now.equation para.now.side para.now.literal
-        para.now.path.items from.now into.now) }
+fn equation_into(para: &Paramodulation, from: &Clause, into: &Clause) -> bool
+    ensures { result ≡ para_fits para.now.equation para.now.side para.now.literal
+        para.now.path.items from.now into.now }
 {
-    let equation = copy_atom(alloc, from, para.equation)?;
-    let atom = copy_atom(alloc, into, para.literal)?;
+    let nothing = Term::Var(0);
+    let equation = atom_at(from, para.equation, &nothing);
+    let atom = atom_at(into, para.literal, &nothing);
     let sides = para.side == 1 || para.side == 2;
-    let from_fits = has_literal(from, true, para.equation) && is_equation(&equation);
-    let into_fits = has_place(into, para.literal) && is_no_variable(&atom, para.path.as_slice());
-    Ok(from_fits && (sides && into_fits))
+    let from_fits = has_literal(from, true, para.equation) && is_equation(equation);
+    let into_fits = has_place(into, para.literal) && is_no_variable(atom, para.path.as_slice());
+    from_fits && (sides && into_fits)
 }
 
 #[tactic(auto, using(crate::proofs::FitSteps::para_two, crate::proofs::FitSteps::para_not))]
-fn para_rule_fits(
-    alloc: Global,
-    parents: &[Clause],
-    para: &Paramodulation,
-) -> Result<bool, AllocError>
-    ensures { IfOk result (λ fits. fits ≡ (para_rule para.now.equation para.now.side
-        para.now.literal para.now.path.items).fits parents.now) }
+fn para_rule_fits(parents: &[Clause], para: &Paramodulation) -> bool
+    ensures { result ≡ (para_rule para.now.equation para.now.side para.now.literal
+        para.now.path.items).fits parents.now }
 {
     if parents.len() != 2 {
-        return Ok(false);
+        return false;
     }
-    equation_into(alloc, para, &parents[0], &parents[1])
+    equation_into(para, &parents[0], &parents[1])
 }
 
 // Whether a place of the nucleus is that of one of the satellites.
@@ -122,22 +113,22 @@ fn clash_fits(parents: &[Clause], satellites: &[Satellite]) -> bool
 }
 
 /// Whether the parents fit the rule of a first word; of the words without a rule nothing is said.
-pub fn fits(alloc: Global, first: &First, parents: &[Clause]) -> Result<bool, AllocError>
-    ensures { IfOk result (λ fits. fits ≡ (rule_by (first_word_of first.now)).fits parents.now) }
+pub fn fits(first: &First, parents: &[Clause]) -> bool
+    ensures { result ≡ (rule_by (first_word_of first.now)).fits parents.now }
 {
     match first {
-        First::Assumption => Ok(copy_fits(parents)),
-        First::Goal => Ok(copy_fits(parents)),
-        First::Clausify(_) => Ok(copy_fits(parents)),
-        First::Deny(_) => Ok(copy_fits(parents)),
-        First::Copy(_) => Ok(copy_fits(parents)),
-        First::BackRewrite(_) => Ok(copy_fits(parents)),
-        First::BackUnitDel(_) => Ok(copy_fits(parents)),
-        First::Resolve(_, satellite) => Ok(clash_fits(parents, &[*satellite])),
-        First::Hyper(_, satellites) => Ok(clash_fits(parents, satellites.as_slice())),
-        First::Ur(_, satellites) => Ok(clash_fits(parents, satellites.as_slice())),
-        First::Factor(_, a, b) => Ok(factor_fits(parents, *a, *b)),
-        First::Para(para) => para_rule_fits(alloc, parents, para),
-        First::XxRes(_, a) => xx_fits(alloc, parents, *a),
+        First::Assumption => copy_fits(parents),
+        First::Goal => copy_fits(parents),
+        First::Clausify(_) => copy_fits(parents),
+        First::Deny(_) => copy_fits(parents),
+        First::Copy(_) => copy_fits(parents),
+        First::BackRewrite(_) => copy_fits(parents),
+        First::BackUnitDel(_) => copy_fits(parents),
+        First::Resolve(_, satellite) => clash_fits(parents, &[*satellite]),
+        First::Hyper(_, satellites) => clash_fits(parents, satellites.as_slice()),
+        First::Ur(_, satellites) => clash_fits(parents, satellites.as_slice()),
+        First::Factor(_, a, b) => factor_fits(parents, *a, *b),
+        First::Para(para) => para_rule_fits(parents, para),
+        First::XxRes(_, a) => xx_fits(parents, *a),
     }
 }

@@ -8,11 +8,12 @@ ghost use Rattle.proof_check.specs.Judged.{LeadsAs};
 use crate::building::without;
 use crate::equations::{copy_below, copy_left, copy_right, is_equation, is_there, replaced};
 use crate::places::{are_opposite, copy_atom, has_literal, has_place, with_atom};
+use crate::putting::put_in;
 use crate::rewriting::{equation, is_rule_equation};
 use derivation::{Later, Rewrite};
 use fol_core::Clause;
 use std::alloc::{AllocError, Global};
-use substitutions::{apply, same, same_literal};
+use substitutions::{same, same_literal};
 use term_unifiers::match_of;
 
 /// A literal, path or side isn't there or isn't taken; what has to be equal isn't; or the clause that the word leads to.
@@ -146,7 +147,7 @@ fn rewrite(
     match match_of(alloc, &left, &term)? {
         None => Ok(Followed::Differs),
         Some(bindings) => {
-            let new = apply(alloc, &right, &bindings)?;
+            let new = put_in(alloc, &bindings, &right)?;
             let changed = replaced(alloc, &atom, entry.path.as_slice(), &new)?;
             Ok(Followed::Made(with_atom(alloc, clause, entry.literal, &changed)?))
         }

@@ -5,10 +5,12 @@ ghost use Rattle.derivation.specs.Later.{later_parents};
 ghost use Rattle.derivation.specs.Lines.{IsClause, AreClauses};
 ghost use Rattle.derivation.specs.Refused.{are_there, all_parents};
 ghost use Rattle.derivation.specs.View.{first_word_of, later_of, content_of, lines_of};
+ghost use Rattle.fol_core.specs.Renumbered.{renumbered};
 ghost use Rattle.proof_check.specs.Judged.{inference_by, parents_by};
 ghost use Rattle.proof_check.specs.Found.{AfterAs, InferredAs};
 ghost use Rattle.proof_check.specs.Reached.{AreRising};
 
+use crate::bounds::{built, is_beyond, may_be};
 use crate::earlier::{are_there, copied_clauses};
 use crate::following::{Followed, follow};
 use crate::judging::{Judged, judge};
@@ -16,6 +18,7 @@ use derivation::{Content, First, Just, Later, Line, Satellite};
 use fol_core::{Clause, renumber};
 use std::alloc::{AllocError, Global};
 use substitutions::same_clause;
+use term_unifiers::LargeClause;
 
 /// Whether a content is a clause, but for the numbers of variables.
 pub fn is_clause(alloc: Global, content: &Content, clause: &Clause) -> Result<bool, AllocError>
@@ -84,12 +87,35 @@ fn after(
             Followed::Differs => return Ok(Some(7)),
             Followed::Made(next) => clause = next,
         }
+        if is_beyond(&clause) {
+            return Err(AllocError);
+        }
     }
     if is_clause(alloc, content, &clause)? {
         Ok(None)
     } else {
         Ok(Some(8))
     }
+}
+
+// The same of a conclusion that isn't built: where no word follows, one that is larger than the content, or smaller, isn't it.
+#[tactic(auto, using(crate::proofs::InferSteps::other_size))]
+fn after_large(
+    alloc: Global,
+    earlier: &[Line],
+    words: &[Later],
+    large: &LargeClause,
+    content: &Content,
+) -> Result<Option<u64>, AllocError>
+    requires { AreRising (lines_of earlier.now) }
+    ensures { IfOk result (AfterAs (lines_of earlier.now) (map later_of words.now)
+        (renumbered large.now) (content_of content.now)) }
+{
+    if words.is_empty() && !may_be(content, large) {
+        return Ok(Some(8));
+    }
+    let clause = built(alloc, large)?;
+    after(alloc, earlier, words, clause, content)
 }
 
 // The numbers of the lines that a first word takes; of the words without a rule none.
@@ -172,8 +198,7 @@ fn rule_and_words(
             after(alloc, earlier, just.steps.as_slice(), clause, content)
         }
         Judged::Large(large) => {
-            let clause = large.numbered(alloc)?;
-            after(alloc, earlier, just.steps.as_slice(), clause, content)
+            after_large(alloc, earlier, just.steps.as_slice(), &large, content)
         }
     }
 }

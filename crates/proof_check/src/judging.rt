@@ -55,7 +55,7 @@ fn conclude(
 pub fn judge(alloc: Global, first: &First, parents: &[Clause]) -> Result<Judged, AllocError>
     ensures { IfOk result (JudgedAs (rule_by (first_word_of first.now)) parents.now) }
 {
-    if !fits(alloc, first, parents)? {
+    if !fits(first, parents) {
         return Ok(Judged::Unfit);
     }
     let apart = renamed_apart(alloc, parents)?;

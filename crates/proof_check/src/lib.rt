@@ -2,6 +2,7 @@
 #![tactic(auto)]
 
 mod apart;
+mod bounds;
 mod building;
 mod checking;
 mod earlier;
@@ -14,6 +15,7 @@ mod judging;
 mod laws;
 mod line;
 mod places;
+mod putting;
 mod rewriting;
 mod sameness;
 mod stating;

@@ -17,13 +17,18 @@ fn stated(inputs: &[Input], goal: bool, line: &Line) -> Option<u64>
     ensures { StatedAs goal (all_said inputs.now) (map later_of line.now.just.steps.items)
         (content_of line.now.content) result }
 {
-    if !is_stated(inputs, goal, &line.content) {
+    if !is_stated(inputs, line.number, goal, &line.content) {
         return Some(4);
     }
     if !line.just.steps.is_empty() {
         return Some(8);
     }
     None
+}
+
+// Where the clause of a line stands among those of the formulas, if the lines are all formulas and then their clauses.
+fn place_among(inputs: &[Input], number: u64) -> u64 {
+    number.saturating_sub(inputs.len() as u64).saturating_sub(1)
 }
 
 // A line that names a clause of a formula.
@@ -43,7 +48,17 @@ fn input(
     if !is_formula_at(earlier, number) {
         return Ok(Some(3));
     }
-    if !is_input_of(alloc, inputs, rows, earlier, goal, number, &line.content)? {
+    let place = place_among(inputs, line.number);
+    if !is_input_of(
+        alloc,
+        inputs,
+        rows,
+        earlier,
+        goal,
+        number,
+        place,
+        &line.content,
+    )? {
         return Ok(Some(5));
     }
     if !line.just.steps.is_empty() {

@@ -1,6 +1,7 @@
 // The literals of a clause by their places.
 ghost use Rattle.std.specs.Prelude.{◌≡◌, ◌||◌, ◌&&◌, IfOk, OnOk, ◌++◌, map, length};
 ghost use Rattle.fol_core.specs.ClauseView.{literal_of};
+ghost use Rattle.fol_core.specs.Tree.{var};
 ghost use Rattle.fol_core.specs.TermView.{tree_of};
 ghost use Rattle.fol_core.specs.Free.{is_in};
 ghost use Rattle.derivation.specs.Places.{has_literal, has_place, atom_at, others, with_atom, are_alike, are_opposite};
@@ -45,16 +46,25 @@ pub fn are_opposite(c: &Clause, a: u64, d: &Clause, b: u64) -> bool
     first || second
 }
 
-/// A copy of the atom at the place.
+/// The atom at the place; where there is none, the term for nothing.
 #[tactic(auto, using(crate::proofs::PlaceSteps::atom_there, crate::proofs::PlaceSteps::atom_past))]
-pub fn copy_atom(alloc: Global, clause: &Clause, place: u64) -> Result<Term, AllocError>
-    ensures { IfOk result (λ t. tree_of t ≡ atom_at clause.now place) }
+pub fn atom_at<'a>(clause: &'a Clause, place: u64, nothing: &'a Term) -> &'a Term
+    requires { tree_of nothing.now ≡ var 0 }
+    ensures { tree_of result.now ≡ atom_at clause.now place }
 {
     let literals = clause.as_slice();
     if place >= literals.len() as u64 {
-        return Ok(Term::Var(0));
+        return nothing;
     }
-    literals[place as usize].atom.copy(alloc)
+    &literals[place as usize].atom
+}
+
+/// A copy of the atom at the place.
+pub fn copy_atom(alloc: Global, clause: &Clause, place: u64) -> Result<Term, AllocError>
+    ensures { IfOk result (λ t. tree_of t ≡ atom_at clause.now place) }
+{
+    let nothing = Term::Var(0);
+    atom_at(clause, place, &nothing).copy(alloc)
 }
 
 // Whether a place is among some.

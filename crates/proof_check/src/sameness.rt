@@ -31,10 +31,10 @@ fn same_terms(left: &Terms, right: &Terms) -> bool
 fn is_equation_of(left: &Term, right: &Term, shape: &Shape) -> bool
     ensures { IsTrue result ↔ (equal (tree_of left.now) (tree_of right.now) ≡ fol_of shape.now) }
 {
-    let Shape::Eq(other, another) = shape else {
+    let Shape::Eq(sides) = shape else {
         return false;
     };
-    same(left, other) && same(right, another)
+    same(left, sides.left()) && same(right, sides.right())
 }
 
 // Whether it is an atom of a relation and these terms.
@@ -56,7 +56,7 @@ pub fn same_shape(left: &Shape, right: &Shape) -> bool
     match left {
         Shape::True => matches!(right, Shape::True),
         Shape::False => matches!(right, Shape::False),
-        Shape::Eq(s, t) => is_equation_of(s, t, right),
+        Shape::Eq(sides) => is_equation_of(sides.left(), sides.right(), right),
         Shape::Atom(relation, terms) => is_atom_of(*relation, terms, right),
         Shape::Not(f) => match right {
             Shape::Not(g) => same_shape(f.shape(), g.shape()),

@@ -36,6 +36,30 @@ fn is_said(input: &Input, goal: bool, shape: &Shape) -> bool
     same_shape(&input.formula.shape, shape)
 }
 
+// The input of a number, counted from 1.
+#[tactic(auto, using(crate::proofs::StateSteps::input_there, crate::proofs::StateSteps::input_zero, crate::proofs::StateSteps::input_past))]
+fn input_of(inputs: &[Input], number: u64) -> Option<&Input>
+    ensures { option_map (λ i. said_of i.now) result ≡ said_at (all_said inputs.now) number }
+{
+    if number == 0 {
+        return None;
+    }
+    if number > inputs.len() as u64 {
+        return None;
+    }
+    Some(&inputs[(number - 1) as usize])
+}
+
+// Whether the input of a number is.
+fn is_at(inputs: &[Input], number: u64, goal: bool, shape: &Shape) -> bool
+    ensures { IsTrue result → IsAmongSaid goal (fol_of shape.now) (all_said inputs.now) }
+{
+    match input_of(inputs, number) {
+        Some(input) => is_said(input, goal, shape),
+        None => false,
+    }
+}
+
 // Whether one of the inputs is.
 #[tactic(auto, using(crate::proofs::StateSteps::among_here, crate::proofs::StateSteps::among_behind, crate::proofs::StateSteps::among_end, crate::proofs::StateSteps::among_start))]
 fn is_among(inputs: &[Input], goal: bool, shape: &Shape) -> bool
@@ -49,28 +73,17 @@ fn is_among(inputs: &[Input], goal: bool, shape: &Shape) -> bool
     false
 }
 
-/// Whether a content is a formula of the problem, as a goal or as another one.
-pub fn is_stated(inputs: &[Input], goal: bool, content: &Content) -> bool
+/// Whether a content is a formula of the problem, as a goal or as another one. The one of a number, mostly that of the line, is
+/// looked at first.
+pub fn is_stated(inputs: &[Input], number: u64, goal: bool, content: &Content) -> bool
     ensures { IsTrue result ↔ IsStated goal (content_of content.now) (all_said inputs.now) }
 {
     match content {
-        Content::Formula(formula, _) => is_among(inputs, goal, &formula.shape),
+        Content::Formula(formula, _) => {
+            is_at(inputs, number, goal, &formula.shape) || is_among(inputs, goal, &formula.shape)
+        }
         Content::Clause(_) => false,
     }
-}
-
-// The input of a number, counted from 1.
-#[tactic(auto, using(crate::proofs::StateSteps::input_there, crate::proofs::StateSteps::input_zero, crate::proofs::StateSteps::input_past))]
-fn input_of(inputs: &[Input], number: u64) -> Option<&Input>
-    ensures { option_map (λ i. said_of i.now) result ≡ said_at (all_said inputs.now) number }
-{
-    if number == 0 {
-        return None;
-    }
-    if number > inputs.len() as u64 {
-        return None;
-    }
-    Some(&inputs[(number - 1) as usize])
 }
 
 // Whether a row is one of the formula, with the content as its clause.
@@ -95,6 +108,26 @@ fn is_row_of(
     is_clause(alloc, content, &row.1)
 }
 
+// Whether the row at a place is.
+#[tactic(auto, using(crate::proofs::StateSteps::rowed_at))]
+fn is_row_at(
+    alloc: Global,
+    inputs: &[Input],
+    rows: &[(u64, Clause)],
+    place: u64,
+    goal: bool,
+    shape: &Shape,
+    content: &Content,
+) -> Result<bool, AllocError>
+    ensures { IfOk result (λ is. IsTrue is → IsInput goal (fol_of shape.now) (all_said inputs.now)
+        (content_of content.now) rows.now) }
+{
+    if place >= rows.len() as u64 {
+        return Ok(false);
+    }
+    is_row_of(alloc, inputs, &rows[place as usize], goal, shape, content)
+}
+
 // Whether one of the rows is.
 #[tactic(auto, using(crate::proofs::StateSteps::rows_here, crate::proofs::StateSteps::rows_behind, crate::proofs::StateSteps::rows_end, crate::proofs::StateSteps::rows_start))]
 fn is_input(
@@ -114,6 +147,25 @@ fn is_input(
         }
     }
     Ok(false)
+}
+
+// Whether one of the rows is; the one that stands where the lines of a proof have it is looked at first.
+fn is_input_from(
+    alloc: Global,
+    inputs: &[Input],
+    rows: &[(u64, Clause)],
+    place: u64,
+    goal: bool,
+    shape: &Shape,
+    content: &Content,
+) -> Result<bool, AllocError>
+    ensures { IfOk result (λ is. IsTrue is ↔ IsInput goal (fol_of shape.now) (all_said inputs.now)
+        (content_of content.now) rows.now) }
+{
+    if is_row_at(alloc, inputs, rows, place, goal, shape, content)? {
+        return Ok(true);
+    }
+    is_input(alloc, inputs, rows, goal, shape, content)
 }
 
 // Whether a word states a goal, or another formula.
@@ -147,7 +199,8 @@ pub fn is_formula_at(earlier: &[Line], number: u64) -> bool
     }
 }
 
-/// Whether a content is a clause of the formula of the line of a number, as a goal or as another one.
+/// Whether a content is a clause of the formula of the line of a number, as a goal or as another one. The row at a place is
+/// looked at first.
 #[tactic(auto, using(crate::proofs::StateSteps::input_none, crate::proofs::StateSteps::input_clause, crate::proofs::StateSteps::input_word, crate::proofs::StateSteps::input_yes, crate::proofs::StateSteps::input_no))]
 pub fn is_input_of(
     alloc: Global,
@@ -156,6 +209,7 @@ pub fn is_input_of(
     earlier: &[Line],
     goal: bool,
     number: u64,
+    place: u64,
     content: &Content,
 ) -> Result<bool, AllocError>
     requires { AreRising (lines_of earlier.now) }
@@ -171,7 +225,7 @@ pub fn is_input_of(
             if !states(&line.just.first, goal) {
                 return Ok(false);
             }
-            if is_input(alloc, inputs, rows, goal, &formula.shape, content)? {
+            if is_input_from(alloc, inputs, rows, place, goal, &formula.shape, content)? {
                 Ok(true)
             } else {
                 Ok(false)
