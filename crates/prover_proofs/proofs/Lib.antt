@@ -1,4 +1,5 @@
 pub mod Growing
+pub mod Known
 pub mod Lasting
 pub mod Refuting
 pub mod Remaining

@@ -1,5 +1,5 @@
 -- What is left of lists: levels and sizes, from a place on.
-use Rattle.std.proofs.Common.{◌≡◌, ℕ, suc, ◌+◌, ◌<◌, ◌≤◌, ◌==◌, Bool, true, false, if◌then◌else◌, max, length, List, ◌∷◌, [], ◌++◌, get_or, drop, refl, sym, ap, ◌∙◌, add-one, drop-cons, eq-eqb, eqb-true, map}
+use Rattle.std.proofs.Common.{◌≡◌, ℕ, suc, ◌+◌, ◌<◌, ◌≤◌, max, length, List, ◌∷◌, [], ◌++◌, get_or, drop, refl, sym, ap, ◌∙◌, add-one, drop-cons, map}
 use Rattle.std.proofs.lemmas.List.{drop_all}
 use Rattle.clause_store.specs.Ancestors.{line_parents}
 use Rattle.clause_store.specs.Lines.{plain_content, plain_line}
@@ -19,29 +19,6 @@ left_next xs i x h is = rw (add-one, drop-cons xs i x) (ap (λ u. u ∷ drop (su
 
 left_here : {X : Type 0} (xs : List X) (i : ℕ) (d : X) → i < length xs → drop i xs ≡ get_or xs i d ∷ drop (i + 1) xs
 left_here xs i d h = rw (add-one, drop-cons xs i d) refl
-
--- the level of a number, among those from a place on
-abbrev pub among_from : List (ℕ × ℕ) → ℕ → ℕ → ℕ
-among_from ks n i = level_among (drop i ks) n
-
-among_head : (k : ℕ × ℕ) (ks : List (ℕ × ℕ)) (n : ℕ) → k.0 ≡ n → level_among (k ∷ ks) n ≡ k.1
-among_head k ks n e = ap (λ b. if b then k.1 else level_among ks n) (eq-eqb k.0 n e)
-
-among_tail : (k : ℕ × ℕ) (ks : List (ℕ × ℕ)) (n : ℕ) → (k.0 ≡ n → ⊥) → level_among (k ∷ ks) n ≡ level_among ks n
-among_tail k ks n other = by (k.0 == n) refl
-  where
-    by : (b : Bool) → (k.0 == n) ≡ b → (if b then k.1 else level_among ks n) ≡ level_among ks n
-    by true e = absurd (other (eqb-true k.0 n e))
-    by false e = refl
-
-pub among_here : (ks : List (ℕ × ℕ)) (n i : ℕ) (d : ℕ × ℕ) → i < length ks → (get_or ks i d).0 ≡ n → among_from ks n i ≡ (get_or ks i d).1
-among_here ks n i d h e = ap (λ js. level_among js n) (left_here ks i d h) ∙ among_head (get_or ks i d) (drop (i + 1) ks) n e
-
-pub among_behind : (ks : List (ℕ × ℕ)) (n i : ℕ) (d : ℕ × ℕ) → i < length ks → ((get_or ks i d).0 ≡ n → ⊥) → among_from ks n i ≡ among_from ks n (i + 1)
-among_behind ks n i d h other = ap (λ js. level_among js n) (left_here ks i d h) ∙ among_tail (get_or ks i d) (drop (i + 1) ks) n other
-
-pub among_end : (ks : List (ℕ × ℕ)) (n i : ℕ) → length ks ≤ i → among_from ks n i ≡ 0
-among_end ks n i h = ap (λ js. level_among js n) (drop_all i ks h)
 
 -- the level of a line with the parents from a place on
 abbrev pub above_from : List (ℕ × ℕ) → List ℕ → ℕ → ℕ

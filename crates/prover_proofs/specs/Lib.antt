@@ -1,3 +1,4 @@
+pub mod KnownLevels
 pub mod Levels
 pub mod ProofLaws
 pub mod SearchLines

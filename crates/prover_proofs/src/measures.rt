@@ -1,8 +1,9 @@
 // The level of a proof, and the greatest size of its clauses.
-ghost use Rattle.std.specs.Prelude.{◌≡◌, ◌+◌, IfOk, map};
+ghost use Rattle.std.specs.Prelude.{ℕ, ◌≡◌, ◌+◌, ◌∷◌, ◌++◌, [], List, IfOk, OnOk, map};
 ghost use Rattle.clause_store.specs.Lines.{plain_content, plain_line};
 ghost use Rattle.derivation.specs.View.{lines_of};
 ghost use Rattle.fol_core.specs.TermView.{tree_of};
+ghost use Rattle.prover_proofs.specs.KnownLevels.{AreLevels};
 ghost use Rattle.prover_proofs.specs.Levels.{level_among, level_above, level_in, content_size, greatest_size};
 ghost use Rattle.prover_steps.specs.Searching.{clause_size};
 ghost use Rattle.term_bank.specs.Bank.{size_of};
@@ -11,18 +12,29 @@ use clause_store::add_parents;
 use derivation::{Content, Line};
 use fol_core::{Clause, Term};
 use std::alloc::{AllocError, Global};
+use std::collections::BTreeMap;
 
 // The level of a number, among lines with their levels.
-#[tactic(auto, using(crate::proofs::Remaining::among_here, crate::proofs::Remaining::among_behind, crate::proofs::Remaining::among_end))]
-fn level_among(levels: &[(u64, u64)], n: u64) -> u64
-    ensures { result ≡ level_among levels.now n }
+#[tactic(auto, using(crate::proofs::Known::level_there, crate::proofs::Known::level_missing))]
+fn level_among(levels: &BTreeMap<u64, u64>, n: u64) -> u64
+    ensures { (ks : List (ℕ × ℕ)) → AreLevels levels.now ks → result ≡ level_among ks n }
 {
-    for (number, level) in levels {
-        if *number == n {
-            return *level;
-        }
+    match levels.get(&n) {
+        Some(level) => *level,
+        None => 0,
     }
-    0
+}
+
+// One more line with its level; of lines with one number the first has it.
+fn enter(levels: &mut BTreeMap<u64, u64>, number: u64, level: u64) -> Result<(), AllocError>
+    ensures { OnOk result ((ks : List (ℕ × ℕ)) → AreLevels levels.old ks
+        → AreLevels levels.new (ks ++ (number, level) ∷ [])) }
+{
+    if levels.contains_key(&number) {
+        return Ok(());
+    }
+    levels.insert(number, level)?;
+    Ok(())
 }
 
 // The sum; there are no more lines, symbols and variables than numbers.
@@ -34,8 +46,9 @@ fn sum_of(n: u64, more: u64) -> Result<u64, AllocError>
 
 // The level of a line with these parents.
 #[tactic(auto, using(crate::proofs::Remaining::above_next, crate::proofs::Remaining::above_end))]
-fn level_above(levels: &[(u64, u64)], parents: &[u64]) -> Result<u64, AllocError>
-    ensures { IfOk result (λ level. level ≡ level_above levels.now parents.now) }
+fn level_above(levels: &BTreeMap<u64, u64>, parents: &[u64]) -> Result<u64, AllocError>
+    ensures { IfOk result (λ level. (ks : List (ℕ × ℕ)) → AreLevels levels.now ks
+        → level ≡ level_above ks parents.now) }
 {
     let mut highest = 0;
     for parent in parents {
@@ -50,14 +63,14 @@ fn level_above(levels: &[(u64, u64)], parents: &[u64]) -> Result<u64, AllocError
 pub fn level_in(alloc: Global, lines: &[Line], n: u64) -> Result<u64, AllocError>
     ensures { IfOk result (λ level. level ≡ level_in (lines_of lines.now) n) }
 {
-    let mut levels = Vec::new(alloc);
+    let mut levels = BTreeMap::new(alloc);
     for line in lines {
         let mut parents = Vec::new(alloc);
         add_parents(&line.just, &mut parents)?;
-        let level = level_above(levels.as_slice(), parents.as_slice())?;
-        levels.push((line.number, level))?;
+        let level = level_above(&levels, parents.as_slice())?;
+        enter(&mut levels, line.number, level)?;
     }
-    Ok(level_among(levels.as_slice(), n))
+    Ok(level_among(&levels, n))
 }
 
 // How many symbols and variables a term has.
