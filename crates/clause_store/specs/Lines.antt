@@ -1,16 +1,14 @@
 -- The lines that are kept, without what the code adds to them.
 use Rattle.std.specs.Prelude.{ℕ, zero, suc, ◌≡◌, if◌then◌else◌, List, [], ◌∷◌, map, Option, Some, None, slice_get}
-use Rattle.std.specs.Option.{option_map, option_and_then}
+use Rattle.std.specs.Option.{option_and_then}
 use Rattle.fol_core.specs.Fol.{Fol}
 use Rattle.fol_core.specs.FormulaView.{fol_of}
 use Rattle.fol_core.specs.Literals.{ClauseTree}
 use Rattle.fol_core.specs.RawTree.{RawTree}
-use Rattle.fol_core.specs.RawView.{raw_of}
 use Rattle.fol_core.specs.Tree.{Tree}
 use Rattle.fol_core.specs.declared.formula.Formula.{Formula}
 use Rattle.fol_core.specs.declared.problem.Input.{Input}
 use Rattle.fol_core.specs.declared.problem.Role.{Role}
-use Rattle.fol_core.specs.declared.raw.Raw.{Raw}
 use Rattle.derivation.specs.Lines.{ContentTree, formula, clause, LineTree, is_goal}
 use Rattle.derivation.specs.declared.line.Content.{Content}
 use Rattle.derivation.specs.declared.line.Content.TheVariants as content
@@ -37,8 +35,8 @@ abbrev pub line_under : ℕ → PlainContent → Written → PlainLine
 line_under n content words = record { number = n; content = content; words = words }
 
 -- what the code has of a formula
-abbrev pub formula_content : Formula → Option Raw → PlainContent
-formula_content f label = plain_formula (fol_of f.shape) f.names (option_map raw_of label)
+abbrev pub formula_content : Formula → Option RawTree → PlainContent
+formula_content f label = plain_formula (fol_of f.shape) f.names label
 
 abbrev pub stored_content : List Tree → StoredContent → PlainContent
 stored_content bank (stored.Formula f label) = formula_content f label

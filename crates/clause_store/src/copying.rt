@@ -1,6 +1,5 @@
 // Copies of labels, and of the words of a line.
 ghost use Rattle.std.specs.Prelude.{◌≡◌, IfOk, map};
-ghost use Rattle.std.specs.Option.{option_map};
 ghost use Rattle.fol_core.specs.RawView.{raw_of};
 ghost use Rattle.derivation.specs.View.{later_of};
 ghost use Rattle.proof_words.specs.Written.{written_first, written_of};
@@ -40,12 +39,15 @@ fn copy_raws(alloc: Global, raws: &Raws) -> Result<Raws, AllocError>
 }
 
 /// An equal label, where there is one.
-pub fn copy_label(alloc: Global, label: &Option<Raw>) -> Result<Option<Raw>, AllocError>
-    ensures { IfOk result (λ copy. option_map raw_of copy ≡ option_map raw_of label.now) }
+pub fn copy_label(alloc: Global, label: &Option<RawSub>) -> Result<Option<RawSub>, AllocError>
+    ensures { IfOk result (λ copy. copy ≡ label.now) }
 {
     match label {
         None => Ok(None),
-        Some(raw) => Ok(Some(copy_raw(alloc, raw)?)),
+        Some(label) => {
+            let copy = copy_raw(alloc, label.raw())?;
+            Ok(Some(RawSub::new(alloc, copy)?))
+        }
     }
 }
 

@@ -5,14 +5,14 @@ ghost use Rattle.clause_store.specs.Lines.{stored_content, stored_line, plain_co
 use crate::copying::{copy_just, copy_label};
 use crate::stored::Stored;
 use derivation::{Content, Just, Line};
-use fol_core::{Formula, Raw};
+use fol_core::{Formula, RawSub};
 use std::alloc::{AllocError, Global};
 use term_bank::Bank;
 
 /// A formula with its label, or a clause.
 #[derive(Drop)]
 pub enum StoredContent {
-    Formula(Formula, Option<Raw>),
+    Formula(Formula, Option<RawSub>),
     Clause(Stored),
 }
 

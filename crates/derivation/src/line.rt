@@ -1,11 +1,11 @@
 // Lines of a proof.
 use crate::words::{First, Later};
-use fol_core::{Clause, Formula, Raw};
+use fol_core::{Clause, Formula, RawSub};
 
 /// A line's formula with its label, or its clause.
 #[derive(Drop)]
 pub enum Content {
-    Formula(Formula, Option<Raw>),
+    Formula(Formula, Option<RawSub>),
     Clause(Clause),
 }
 

@@ -1,13 +1,14 @@
 // Names of symbols and variables, and lists of such names.
 ghost use Rattle.std.specs.Prelude.{◌≡◌, [], ◌∷◌, ◌++◌, length, IfOk, OnOk, OnErr};
 
+use smallvec::SmallVec;
 use std::alloc::{AllocError, Global};
 use std::marker::Model;
 
-/// The bytes of a symbol's or a variable's name; contracts see the list of the bytes.
+/// The bytes of a symbol's or a variable's name; contracts see the list of the bytes. Up to sixteen take no allocation.
 #[derive(Drop)]
 pub struct Name {
-    bytes: Vec<u8>,
+    bytes: SmallVec<u8, 16>,
 }
 
 impl Model for Name {
@@ -23,14 +24,16 @@ impl Name {
     pub fn new(bytes: Vec<u8>) -> Name
         ensures { result ≡ bytes.items }
     {
-        Name { bytes }
+        Name {
+            bytes: SmallVec::from_vec(bytes),
+        }
     }
 
     /// The name of a copy of these bytes.
     pub fn from_slice(alloc: Global, bytes: &[u8]) -> Result<Name, AllocError>
         ensures { IfOk result (λ name. name ≡ bytes.now) }
     {
-        let bytes = Vec::from_slice(alloc, bytes)?;
+        let bytes = SmallVec::from_slice(alloc, bytes)?;
         Ok(Name { bytes })
     }
 
@@ -42,10 +45,12 @@ impl Name {
     }
 }
 
-/// Names, one for each number from 0 on; contracts see the list.
+/// Names, one for each number from 0 on; contracts see the list. They stand in a place of their own, which most formulas,
+/// having no variables, don't take.
 #[derive(Drop)]
 pub struct Names {
-    items: Vec<Name>,
+    list: Option<Box<Vec<Name>>>,
+    alloc: Global,
 }
 
 impl Model for Names {
@@ -53,7 +58,10 @@ impl Model for Names {
 
     ghost Value = { List (List ℕ) };
 
-    ghost view = { λ a. a.items.items };
+    ghost use Rattle.std.specs.Prelude.{[]};
+    ghost use Rattle.std.specs.Option.{option_map_or};
+
+    ghost view = { λ a. option_map_or (λ names. names.value.items) a.list [] };
 }
 
 impl Names {
@@ -62,7 +70,7 @@ impl Names {
         ensures { IfOk result (λ copy. copy ≡ self.now) }
     {
         let mut copies = Names::new(alloc);
-        for name in &self.items {
+        for name in self.as_slice() {
             copies.push(Name::from_slice(alloc, name.bytes())?)?;
         }
         Ok(copies)
@@ -72,9 +80,7 @@ impl Names {
     pub fn new(alloc: Global) -> Names
         ensures { result ≡ [] }
     {
-        Names {
-            items: Vec::new(alloc),
-        }
+        Names { list: None, alloc }
     }
 
     /// One more name, for the next number.
@@ -82,7 +88,14 @@ impl Names {
         ensures ok { OnOk result (self.new ≡ self.old ++ name ∷ []) }
         ensures err { OnErr result (self.new ≡ self.old) }
     {
-        self.items.push(name)?;
+        match &mut self.list {
+            Some(names) => names.push(name)?,
+            None => {
+                let mut names = Vec::new(self.alloc);
+                names.push(name)?;
+                self.list = Some(Box::new(self.alloc, names)?);
+            }
+        }
         Ok(())
     }
 
@@ -90,13 +103,19 @@ impl Names {
     pub fn as_slice(&self) -> &[Name]
         ensures { result.now ≡ self.now }
     {
-        self.items.as_slice()
+        match &self.list {
+            Some(names) => names.as_slice(),
+            None => &[],
+        }
     }
 
     /// How many there are.
     pub fn len(&self) -> usize
         ensures { result ≡ length self.now }
     {
-        self.items.len()
+        match &self.list {
+            Some(names) => names.len(),
+            None => 0,
+        }
     }
 }

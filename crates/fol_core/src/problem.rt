@@ -4,7 +4,7 @@ ghost use Rattle.ladr_options.specs.Options.{start};
 
 use crate::formula::Formula;
 use crate::name_order::NameOrder;
-use crate::raw::Raw;
+use crate::raw::RawSub;
 use crate::symbols::Symbols;
 use crate::weights::{KboWeights, WeightRule};
 use ladr_options::Options;
@@ -24,7 +24,7 @@ pub enum Role {
 pub struct Input {
     pub role: Role,
     pub formula: Formula,
-    pub label: Option<Raw>,
+    pub label: Option<RawSub>,
     pub byte: u64,
 }
 
@@ -32,7 +32,7 @@ pub struct Input {
 #[derive(Drop)]
 pub struct Hint {
     pub formula: Formula,
-    pub label: Option<Raw>,
+    pub label: Option<RawSub>,
     pub weight: Option<u32>,
     pub byte: u64,
 }

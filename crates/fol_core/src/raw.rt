@@ -1,5 +1,6 @@
 // Terms as they are read: by names, before symbols and variables are told apart.
 ghost use Rattle.std.specs.Prelude.{◌≡◌, [], ◌∷◌, ◌++◌, length, OnOk, OnErr, IfOk};
+ghost use Rattle.std.specs.Option.{option_map};
 ghost use Rattle.fol_core.specs.RawView.{raw_of, raw_list};
 
 use crate::name::Name;
@@ -28,7 +29,7 @@ pub struct Raws {
     pub items: Vec<Raw>,
 }
 
-/// The body of a quantified term; contracts see its tree.
+/// A term in a place of its own, as the body of a quantified term is; contracts see its tree.
 #[cycle(raw)]
 #[derive(Drop)]
 pub struct RawSub {
@@ -118,6 +119,16 @@ impl Raws {
 }
 
 impl RawSub {
+    /// A term in a place of its own, where there is one.
+    pub fn of(alloc: Global, raw: Option<Raw>) -> Result<Option<RawSub>, AllocError>
+        ensures { IfOk result (λ sub. sub ≡ option_map raw_of raw) }
+    {
+        match raw {
+            None => Ok(None),
+            Some(raw) => Ok(Some(RawSub::new(alloc, raw)?)),
+        }
+    }
+
     /// The term as a body.
     pub fn new(alloc: Global, raw: Raw) -> Result<RawSub, AllocError>
         ensures { IfOk result (λ body. body ≡ raw_of raw) }

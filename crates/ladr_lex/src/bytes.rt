@@ -87,25 +87,19 @@ fn is_blank(byte: u8) -> bool
 pub fn start_of(byte: u8) -> TokenStart
     ensures { result ≡ start_of byte }
 {
-    if is_blank(byte) {
-        return TokenStart::Blank;
-    }
-    if is_ordinary(byte) {
-        return TokenStart::Word;
-    }
-    if is_special(byte) {
-        return TokenStart::Sign;
-    }
     match byte {
+        b'(' => TokenStart::Single(TokenKind::Open),
+        b')' => TokenStart::Single(TokenKind::Close),
+        b',' => TokenStart::Single(TokenKind::Comma),
+        b'.' => TokenStart::Single(TokenKind::Stop),
+        _ if is_blank(byte) => TokenStart::Blank,
+        _ if is_ordinary(byte) => TokenStart::Word,
+        _ if is_special(byte) => TokenStart::Sign,
         b'"' => TokenStart::Quote,
         b'%' => TokenStart::Percent,
         b'\'' => TokenStart::Single(TokenKind::Special),
-        b'(' => TokenStart::Single(TokenKind::Open),
-        b')' => TokenStart::Single(TokenKind::Close),
         b'[' => TokenStart::Single(TokenKind::LeftSquare),
         b']' => TokenStart::Single(TokenKind::RightSquare),
-        b',' => TokenStart::Single(TokenKind::Comma),
-        b'.' => TokenStart::Single(TokenKind::Stop),
         _ => TokenStart::Single(TokenKind::Unreadable),
     }
 }

@@ -1,9 +1,10 @@
 -- The formula of an item as the code has read it.
 use Rattle.std.specs.Prelude.{◌≡◌, ℕ, nat_lt, not, if◌then◌else◌, List, [], ◌∷◌, ◌++◌, length, take, Option}
-use Rattle.std.specs.Option.{option_map_or}
+use Rattle.std.specs.Option.{option_map, option_map_or}
 use Rattle.std.specs.declared.result.Result.{Result}
 use Rattle.std.specs.declared.result.Result.TheVariants.{Ok, Err}
 use Rattle.fol_core.specs.FormulaView.{fol_of}
+use Rattle.fol_core.specs.RawView.{raw_of}
 use Rattle.fol_core.specs.RuleView.{rule_of}
 use Rattle.ladr_lex.specs.declared.limits.TheConstants.{MOST_SYMBOLS}
 use Rattle.ladr_lex.specs.Lexeme.{Lexeme}
@@ -33,7 +34,7 @@ abbrev pub with_read : FormulaList → ℕ → Sofar → LabelledFormula → For
 with_read list byte s a r =
     option_map_or (λ k. Err (Misused k))
     (least_misuse list a.misused (fol_of r.formula.shape) r.least)
-    (Ok (with_listed list (listed_of r.formula a.label byte) a.hint_weight s))
+    (Ok (with_listed list (listed_of r.formula (option_map raw_of a.label) byte) a.hint_weight s))
 
 -- the table has the formula's symbols behind so many
 abbrev pub after_formula_read : Mode → Option FormulaList → ℕ → ℕ → Sofar → LabelledFormula →

@@ -1,17 +1,14 @@
 -- What was read of a file so far.
 use Rattle.std.specs.Prelude.{ℕ, List, [], map, Option}
-use Rattle.std.specs.Option.{option_map}
 use Rattle.fol_core.specs.Fol.{Fol}
 use Rattle.fol_core.specs.FormulaView.{fol_of}
 use Rattle.fol_core.specs.RawTree.{RawTree}
-use Rattle.fol_core.specs.RawView.{raw_of}
 use Rattle.fol_core.specs.Stated.{Said, Stated, said, stated}
 use Rattle.fol_core.specs.SymbolTable.{Symbol}
 use Rattle.fol_core.specs.declared.formula.Formula.{Formula}
 use Rattle.fol_core.specs.declared.problem.Hint.{Hint}
 use Rattle.fol_core.specs.declared.problem.Input.{Input}
 use Rattle.fol_core.specs.declared.problem.Role.{Role}
-use Rattle.fol_core.specs.declared.raw.Raw.{Raw}
 use Rattle.fol_core.specs.Weights.{Rule}
 use Rattle.ladr_settings.specs.Settings.{at_start}
 use Rattle.ladr_settings.specs.declared.settings.Settings.{Settings}
@@ -53,12 +50,12 @@ abbrev pub stated_in : Sofar → Stated
 stated_in s = stated s.symbols (said_in s)
 
 -- formulas and hints of the code
-abbrev pub listed_of : Formula → Option Raw → ℕ → Listed
+abbrev pub listed_of : Formula → Option RawTree → ℕ → Listed
 listed_of f label byte =
     record {
       formula = fol_of f.shape;
       names = f.names;
-      label = option_map raw_of label;
+      label = label;
       byte = byte;
     }
 

@@ -1,11 +1,10 @@
 // What was read of a file so far.
 ghost use Rattle.std.specs.Prelude.{◌≡◌, OnOk, IfOk};
-ghost use Rattle.fol_core.specs.RawView.{raw_of};
 ghost use Rattle.ladr_problem.specs.Adding.{with_listed};
 ghost use Rattle.ladr_problem.specs.Draft.{sofar_of};
 ghost use Rattle.ladr_problem.specs.Sofar.{listed_of, nothing_read};
 
-use fol_core::{Formula, Hint, Input, KboWeights, Raw, Role, Symbols, WeightRule};
+use fol_core::{Formula, Hint, Input, KboWeights, RawSub, Role, Symbols, WeightRule};
 use ladr_settings::{FormulaList, Settings};
 use std::alloc::{AllocError, Global};
 
@@ -40,7 +39,7 @@ impl Draft {
         &mut self,
         list: FormulaList,
         formula: Formula,
-        label: Option<Raw>,
+        label: Option<RawSub>,
         weight: Option<u32>,
         byte: u64,
     ) -> Result<(), AllocError>
@@ -66,7 +65,7 @@ impl Draft {
     fn add_hint(
         &mut self,
         formula: Formula,
-        label: Option<Raw>,
+        label: Option<RawSub>,
         weight: Option<u32>,
         byte: u64,
     ) -> Result<(), AllocError>

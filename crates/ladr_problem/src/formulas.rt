@@ -8,7 +8,7 @@ ghost use Rattle.ladr_problem.specs.Reading.{after_formula_read, with_read, IsNo
 
 use crate::draft::Draft;
 use crate::refusal::Refusal;
-use fol_core::Raw;
+use fol_core::{Raw, RawSub};
 use ladr_formulas::{FormulaRead, Mode, read_formula};
 use ladr_lex::{MOST_SYMBOLS, Misuse};
 use ladr_rules::{LabelledFormula, is_demodulator, is_hint};
@@ -140,7 +140,8 @@ impl Draft {
         match least_misuse(alloc, list, stated.misused, &read)? {
             Some(misuse) => Err(Refusal::Misused(misuse)),
             None => {
-                self.add(list, read.formula, stated.label, stated.hint_weight, byte)?;
+                let label = RawSub::of(alloc, stated.label)?;
+                self.add(list, read.formula, label, stated.hint_weight, byte)?;
                 Ok(())
             }
         }

@@ -2,7 +2,6 @@
 use Rattle.std.proofs.Common.{◌≡◌, inl, inr, ℕ, ◌<◌, ◌≤◌, Bool, true, false, List, [], length, Option, Some, slice_get, get_or, refl, sym, ap, ◌∙◌, subst, arith}
 use Rattle.std.specs.Prelude.{nat_le}
 use Rattle.std.specs.List.{All, list_any}
-use Rattle.std.specs.Option.{option_map}
 use Rattle.std.proofs.lemmas.Bool.{or_cases}
 use Rattle.std.proofs.lemmas.Bool.Decides.{nat_tests}
 use Rattle.std.proofs.lemmas.List.{length-append}
@@ -13,7 +12,6 @@ use Rattle.fol_core.specs.Fol.{Fol}
 use Rattle.fol_core.specs.FormulaView.{fol_of}
 use Rattle.fol_core.specs.Literals.{equality}
 use Rattle.fol_core.specs.RawTree.{RawTree, depth}
-use Rattle.fol_core.specs.RawView.{raw_of}
 use Rattle.fol_core.specs.SkolemAxioms.{SkolemAxiom}
 use Rattle.fol_core.specs.Stated.{Stated, stated_of}
 use Rattle.fol_core.specs.SymbolTable.{Symbol, symbol, FindsEach, KeepsNumbers}
@@ -130,7 +128,7 @@ module _ (themselves : (input : List ℕ) (s : Sofar) → Says Prover input (pro
       (subst (λ o. All (λ x. StatesItself f.operators (style_of Prover o.prolog_style_variables) s.symbols x.1) s.formulas) (sym is_of.options)
       (subst (λ (rows : List OperatorRow). All (λ x. StatesItself rows (style_of Prover s.settings.options.prolog_style_variables) s.symbols x.1) s.formulas) (sym is_of.operators) (themselves input s says).formulas))
 
-  formula_read : (k : ℕ) (i : Input) → slice_get f.problem.inputs.items k ≡ Some i → IsReadFormula f.operators prolog T (fol_of i.formula.shape) i.formula.names (option_map raw_of i.label)
+  formula_read : (k : ℕ) (i : Input) → slice_get f.problem.inputs.items k ≡ Some i → IsReadFormula f.operators prolog T (fol_of i.formula.shape) i.formula.names i.label
   formula_read k i e =
       let x = at_input (λ y. StatesItself f.operators st own y.1) f.problem.inputs.items (subst (All (λ y. StatesItself f.operators st own y.1)) (sym is_of.formulas) states) k i e in
       let o = at_input (λ y. IsOfTerm y.1) f.problem.inputs.items (subst (All (λ y. IsOfTerm y.1)) (sym is_of.formulas) (formulas_of_terms Prover input s says)) k i e in
@@ -139,7 +137,7 @@ module _ (themselves : (input : List ℕ) (s : Sofar) → Says Prover input (pro
   of_formula : (n : ℕ) → n < length T → is_used p.formulas n ≡ true → IsReadableSymbol (table_of clauses) st T n
   of_formula n h e =
       let u = used_by f.problem.inputs.items n e in
-      formula_readable prolog f.operators clauses are T (fol_of u.input.formula.shape) u.input.formula.names (option_map raw_of u.input.label) (formula_read u.place u.input u.at) n h u.uses
+      formula_readable prolog f.operators clauses are T (fol_of u.input.formula.shape) u.input.formula.names u.input.label (formula_read u.place u.input u.at) n h u.uses
 
   of_skolem : (n : ℕ) → n < length T → nat_le (length own) n ≡ true → IsReadableSymbol (table_of clauses) st T n
   of_skolem n h e =

@@ -3,7 +3,6 @@ use Rattle.std.proofs.Common.{◌≡◌, ℕ, ◌<◌, ◌^◌, Bool, true, fals
 use Rattle.std.specs.Prelude.{not, if◌then◌else◌, codes}
 use Rattle.std.specs.Fmt.{decimal}
 use Rattle.std.specs.List.{list_all}
-use Rattle.std.specs.Option.{option_map}
 use Rattle.std.specs.Str.{bytes_eq}
 use Rattle.std.proofs.lemmas.Bool.{cases_eq, ne_eqb, and_parts, and_from, or_cases, both_ways}
 use Rattle.std.proofs.lemmas.Slice.Eq.{bytes_eq-Decides}
@@ -11,7 +10,6 @@ use Rattle.derivation.specs.declared.line.Content.{Content}
 use Rattle.derivation.specs.declared.line.Content.TheVariants.{Formula, Clause}
 use Rattle.fol_core.specs.FormulaView.{fol_of}
 use Rattle.fol_core.specs.RawTree.{RawTree, named, quantified, RawTrees, no_raws, more_raws}
-use Rattle.fol_core.specs.RawView.{raw_of}
 use Rattle.fol_core.specs.SymbolTable.{Symbol}
 use Rattle.fol_core.specs.declared.raw.Quantifier.{Quantifier}
 use Rattle.fol_core.specs.declared.raw.Quantifier.TheVariants.{All, Exists}
@@ -174,7 +172,7 @@ mutual
 
 pub content_in : (formulas clauses : List OperatorRow) (prolog : Bool) (problem T : List Symbol) (content : Content) → CanPrint clauses prolog T →
     IsPrintableContent (row_tables formulas clauses) prolog problem T content → InLine (content_text (row_tables formulas clauses) T prolog content)
-content_in formulas clauses prolog problem T (Formula f label) can p = text_in (table_of formulas) (formula_term T (fol_of f.shape) f.names (option_map raw_of label)) p.0
+content_in formulas clauses prolog problem T (Formula f label) can p = text_in (table_of formulas) (formula_term T (fol_of f.shape) f.names label) p.0
 content_in formulas clauses prolog problem T (Clause c) can p =
     let v = clause_variable prolog in
     let over = clause_has clauses can.fixed prolog can.frees T can.few c p.over (λ n h e. (p.readable n h e).named) in

@@ -1,10 +1,8 @@
 -- What a line states, behind a table of symbols, and what it breaks.
 use Rattle.std.specs.Prelude.{◌≡◌, Bool, true, false, not, nat_lt, List, length, Option, Some}
-use Rattle.std.specs.Option.{option_map}
 use Rattle.fol_core.specs.FormulaView.{fol_of}
 use Rattle.fol_core.specs.Fol.{Fol}
 use Rattle.fol_core.specs.RawTree.{RawTree, depth}
-use Rattle.fol_core.specs.RawView.{raw_of}
 use Rattle.fol_core.specs.SymbolTable.{Symbol}
 use Rattle.derivation.specs.declared.line.Content.{Content}
 use Rattle.derivation.specs.declared.line.Content.TheVariants.{Formula, Clause}
@@ -48,7 +46,7 @@ line_misuse st problem table by_formula t =
 abbrev pub IsContentOf : Bool → RawTree → Made Fol → Content → Type 0
 IsContentOf true t m (Formula f label) =
     (fol_of f.shape ≡ m.tree) × (f.names ≡ names_of_variables m.reading.variables)
-    × (option_map raw_of label ≡ label_of (attributed t).attributes)
+    × (label ≡ label_of (attributed t).attributes)
 IsContentOf false t m (Clause c) = clause_in m.tree ≡ Some c
 IsContentOf by_formula t m content = ⊥
 

@@ -13,7 +13,7 @@ use crate::content::Terms;
 use crate::fault::LineFault;
 use crate::strays::{ProblemNames, brings_stray};
 use derivation::Content;
-use fol_core::{Problem, Raw, Symbols};
+use fol_core::{Problem, Raw, RawSub, Symbols};
 use ladr_formulas::{Mode, clause_of, read_formula};
 use ladr_lex::Misuse;
 use ladr_rules::LabelledFormula;
@@ -56,7 +56,10 @@ fn formula(
     let strays = brings_stray(names, before, symbols);
     match meet(strays, Misuse::TwoKinds, least) {
         Some(misuse) => Err(LineFault::Misused(misuse)),
-        None => Ok(Content::Formula(read.formula, stated.label)),
+        None => {
+            let label = RawSub::of(alloc, stated.label)?;
+            Ok(Content::Formula(read.formula, label))
+        }
     }
 }
 

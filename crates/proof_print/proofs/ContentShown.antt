@@ -1,6 +1,5 @@
 -- The texts of contents, with their tokens, which are read as the contents.
 use Rattle.std.proofs.Common.{◌≡◌, ℕ, Bool, true, false, List, [], ◌∷◌, ◌++◌, length, drop, Some, None, refl, sym, ap, ◌∙◌, subst, arith}
-use Rattle.std.specs.Option.{option_map}
 use Rattle.std.specs.List.{list_any}
 use Rattle.std.proofs.lemmas.List.{drop_all}
 use Rattle.derivation.specs.declared.line.Content.{Content}
@@ -9,7 +8,6 @@ use Rattle.fol_core.specs.Fol.{Fol}
 use Rattle.fol_core.specs.FormulaView.{fol_of}
 use Rattle.fol_core.specs.Literals.{ClauseTree}
 use Rattle.fol_core.specs.RawTree.{RawTree}
-use Rattle.fol_core.specs.RawView.{raw_of}
 use Rattle.fol_core.specs.Renumbered.{clause_variables, renumbered}
 use Rattle.fol_core.specs.SymbolTable.{Symbol}
 use Rattle.fol_core.specs.declared.raw.Quantifier.{Quantifier}
@@ -94,7 +92,7 @@ pub record ShowsContent (g : LineTables) (prolog : Bool) (problem table : List S
 pub shows_content : (formulas clauses : List OperatorRow) (prolog : Bool) (problem T : List Symbol) (content : Content) → are_lawful formulas ≡ true → CanPrint clauses prolog T →
     IsPrintableContent (row_tables formulas clauses) prolog problem T content → ShowsContent (row_tables formulas clauses) prolog problem T content
 shows_content formulas clauses prolog problem T (Formula f label) l can p =
-    let t = formula_term T (fol_of f.shape) f.names (option_map raw_of label) in
+    let t = formula_term T (fol_of f.shape) f.names label in
     let s = shows_item formulas t l p.0 in
     record { tokens = s.tokens; tree = t; writes = s.writes; is_content = s.item; is_read = p.1 }
 shows_content formulas clauses prolog problem T (Clause c) l can p =

@@ -2,7 +2,6 @@
 use Rattle.std.proofs.Common.{◌≡◌, ℕ, Bool, true, false, List, [], length, Option, Some, None, inl, inr, refl, sym, ap, ◌∙◌, subst, arith, drop}
 use Rattle.std.specs.Prelude.{codes}
 use Rattle.std.specs.List.{list_any}
-use Rattle.std.specs.Option.{option_map}
 use Rattle.std.specs.Str.{bytes_eq}
 use Rattle.std.proofs.lemmas.Bool.{cases_Bool, cond-false}
 use Rattle.std.proofs.lemmas.List.{drop_all}
@@ -11,10 +10,8 @@ use Rattle.derivation.specs.declared.line.Content.TheVariants as content
 use Rattle.fol_core.specs.Fol.{Fol}
 use Rattle.fol_core.specs.FormulaView.{fol_of}
 use Rattle.fol_core.specs.RawTree.{RawTree, named, quantified, no_raws, more_raws}
-use Rattle.fol_core.specs.RawView.{raw_of}
 use Rattle.fol_core.specs.SymbolTable.{Symbol, KeepsNumbers}
 use Rattle.fol_core.specs.declared.formula.Formula.{Formula}
-use Rattle.fol_core.specs.declared.raw.Raw.{Raw}
 use Rattle.fol_core.specs.declared.symbols.Kind.TheVariants.{Relation}
 use Rattle.ladr_formulas.specs.Formulas.{Bound, Reading, Made, meets, unread, is_element, with_symbol, terms_of, formula_in, formula_reading, names_of_variables, style_of}
 use Rattle.ladr_formulas.specs.declared.styles.Mode.TheVariants.{Prover}
@@ -92,8 +89,8 @@ attributed_has : (rows : List OperatorRow) → Brings rows → (label : Option R
 attributed_has rows b None t p = turned_has rows b t p
 attributed_has rows b (Some l) t p = (p.0, (turned_has rows b t p.1.0, p.1.1))
 
-module _ (rows : List OperatorRow) (prolog : Bool) (problem T : List Symbol) (fixed : KeepsFixed rows) (f : Formula) (l : Option Raw)
-    (given : IsReadFormula rows prolog T (fol_of f.shape) f.names (option_map raw_of l)) where
+module _ (rows : List OperatorRow) (prolog : Bool) (problem T : List Symbol) (fixed : KeepsFixed rows) (f : Formula) (l : Option RawTree)
+    (given : IsReadFormula rows prolog T (fol_of f.shape) f.names l) where
   abbrev st : Style
   st = style_of Prover prolog
 
@@ -101,7 +98,7 @@ module _ (rows : List OperatorRow) (prolog : Bool) (problem T : List Symbol) (fi
   m = given.made
 
   abbrev label : Option RawTree
-  label = option_map raw_of l
+  label = l
 
   abbrev v : Naming
   v = name_in (names_of_variables m.reading.variables)

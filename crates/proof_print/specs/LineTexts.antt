@@ -2,14 +2,12 @@
 use Rattle.std.specs.Prelude.{ℕ, Bool, List, ◌++◌, length, map, Option, codes}
 use Rattle.std.specs.Fmt.{decimal}
 use Rattle.std.specs.List.{concat}
-use Rattle.std.specs.Option.{option_map}
 use Rattle.derivation.specs.declared.line.Content.{Content}
 use Rattle.derivation.specs.declared.line.Content.TheVariants.{Formula, Clause}
 use Rattle.derivation.specs.declared.line.Line.{Line}
 use Rattle.fol_core.specs.Fol.{Fol}
 use Rattle.fol_core.specs.FormulaView.{fol_of}
 use Rattle.fol_core.specs.RawTree.{RawTree}
-use Rattle.fol_core.specs.RawView.{raw_of}
 use Rattle.fol_core.specs.Renumbered.{renumbered}
 use Rattle.fol_core.specs.SymbolTable.{Symbol}
 use Rattle.ladr_print.specs.ClauseText.{clause_bytes}
@@ -28,7 +26,7 @@ formula_term table f names label = with_attribute label (formula_raw table (name
 -- a formula with its label, or a clause with its variables numbered by first occurrence
 abbrev pub content_text : LineTables → List Symbol → Bool → Content → List ℕ
 content_text g table prolog (Formula f label) =
-    text_of g.formulas (formula_term table (fol_of f.shape) f.names (option_map raw_of label))
+    text_of g.formulas (formula_term table (fol_of f.shape) f.names label)
 content_text g table prolog (Clause c) =
     clause_bytes g.clauses table (clause_variable prolog) (renumbered c)
 

@@ -1,13 +1,11 @@
 -- What the texts of contents and lines are read as.
 use Rattle.std.specs.Prelude.{◌≡◌, ℕ, ◌≤◌, ◌^◌, Bool, true, false, IsTrue, List, [], ◌∷◌, ◌++◌, length, drop, None, codes}
-use Rattle.std.specs.Option.{option_map}
 use Rattle.derivation.specs.declared.line.Content.{Content}
 use Rattle.derivation.specs.declared.line.Content.TheVariants.{Formula, Clause}
 use Rattle.derivation.specs.declared.line.Line.{Line}
 use Rattle.fol_core.specs.FormulaView.{fol_of}
 use Rattle.fol_core.specs.Literals.{ClauseTree, equality}
 use Rattle.fol_core.specs.RawTree.{RawTree}
-use Rattle.fol_core.specs.RawView.{raw_of}
 use Rattle.fol_core.specs.Renumbered.{clause_variables, renumbered}
 use Rattle.fol_core.specs.SymbolTable.{Symbol, FindsEach}
 use Rattle.ladr_formulas.specs.Formulas.{style_of}
@@ -73,7 +71,7 @@ pub record IsPrintableClause (g : OperatorTable) (prolog : Bool) (table : List S
 -- the clause is such a one; a formula's term has a text, and is read as the formula
 abbrev pub IsPrintableContent : LineTables → Bool → List Symbol → List Symbol → Content → Type 0
 IsPrintableContent g prolog problem table (Formula f label) =
-    let t = formula_term table (fol_of f.shape) f.names (option_map raw_of label) in
+    let t = formula_term table (fol_of f.shape) f.names label in
     HasText g.formulas t
     × IsContentTerm (style_of Prover prolog) problem table true t (Formula f label)
 IsPrintableContent g prolog problem table (Clause c) =

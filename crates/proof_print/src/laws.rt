@@ -1,6 +1,5 @@
 // What the texts are read as: the functions do nothing, and their contracts are the laws.
 ghost use Rattle.std.specs.Prelude.{◌≡◌, ℕ, Bool, true, false, IsTrue, List, Option, Some, slice_get, [], ◌∷◌, ◌++◌, codes};
-ghost use Rattle.std.specs.Option.{option_map};
 ghost use Rattle.derivation.specs.declared.line.Content.{Content};
 ghost use Rattle.derivation.specs.declared.line.Content.TheVariants as content;
 ghost use Rattle.derivation.specs.declared.line.Line.{Line};
@@ -9,10 +8,8 @@ ghost use Rattle.fol_core.specs.Fol.{Fol};
 ghost use Rattle.fol_core.specs.FormulaView.{fol_of};
 ghost use Rattle.fol_core.specs.Literals.{literal, equality};
 ghost use Rattle.fol_core.specs.RawTree.{RawTree};
-ghost use Rattle.fol_core.specs.RawView.{raw_of};
 ghost use Rattle.fol_core.specs.SymbolTable.{Symbol};
 ghost use Rattle.fol_core.specs.declared.formula.Formula.{Formula};
-ghost use Rattle.fol_core.specs.declared.raw.Raw.{Raw};
 ghost use Rattle.fol_core.specs.Tree.{var, app, none, more};
 ghost use Rattle.ladr_formulas.specs.Formulas.{style_of};
 ghost use Rattle.ladr_formulas.specs.declared.styles.Mode.TheVariants.{Prover};
@@ -37,8 +34,8 @@ pub fn words_are_cut()
 /// A formula that some text states, as each of a problem, can be a line's content.
 pub fn formulas_are_printable()
     ensures { (formulas clauses : List OperatorRow) (prolog : Bool) (problem table : List Symbol)
-        (f : Formula) (label : Option Raw) → KeepsFixed formulas
-        → IsReadFormula formulas prolog table (fol_of f.shape) f.names (option_map raw_of label)
+        (f : Formula) (label : Option RawTree) → KeepsFixed formulas
+        → IsReadFormula formulas prolog table (fol_of f.shape) f.names label
         → IsPrintableContent (row_tables formulas clauses) prolog problem table
         (content.Formula f label) }
 {}

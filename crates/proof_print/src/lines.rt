@@ -4,7 +4,7 @@ ghost use Rattle.proof_lines.specs.ContentTokens.{tables_of};
 ghost use Rattle.proof_print.specs.LineTexts.{content_text, line_text, lines_text};
 
 use derivation::{Content, Line};
-use fol_core::Symbols;
+use fol_core::{RawSub, Symbols};
 use ladr_output::decimal;
 use ladr_print::{clause_text, formula_text};
 use proof_lines::LineOperators;
@@ -24,7 +24,8 @@ fn content_text(
 {
     match content {
         Content::Formula(formula, label) => {
-            formula_text(alloc, &operators.formulas, symbols, formula, label.as_ref())
+            let label = label.as_ref().map(RawSub::raw);
+            formula_text(alloc, &operators.formulas, symbols, formula, label)
         }
         Content::Clause(clause) => {
             clause_text(alloc, &operators.clauses, symbols, clause, prolog)
