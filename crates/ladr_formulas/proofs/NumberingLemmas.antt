@@ -1,7 +1,6 @@
 -- Variables that come last, and the table of the free ones.
 use Rattle.std.proofs.Common.{◌≡◌, ℕ, suc, ◌+◌, ◌<◌, take, get_or, Bool, true, false, cond, List, [], ◌∷◌, ◌++◌, length, Option, Some, None, inl, inr, refl, sym, ap, ◌∙◌, arith, add-zero, zero-add}
 use Rattle.std.specs.Prelude.{Result, Ok, Err, is_ok, OnOk, if◌then◌else◌, ◌&&◌}
-use Rattle.std.specs.Global.{Vec}
 use Rattle.std.specs.Str.{bytes_eq}
 use Rattle.std.proofs.lemmas.Bool.{cases_Bool, both_ways, cond-true, cond-false}
 use Rattle.std.proofs.lemmas.Bool.Decides.{same_from_decides, Decides-like}
@@ -10,7 +9,7 @@ use Rattle.std.proofs.lemmas.Slice.Eq.{bytes_eq-Decides}
 use Rattle.indexmap.specs.IndexMap.{insert_entry}
 use Rattle.ladr_formulas.specs.Formulas.{free_number, names_of_variables}
 use Rattle.ladr_formulas.specs.Formulas as formulas
-use Rattle.ladr_formulas.specs.Numbering.{variable_list, number_in, HasFree}
+use Rattle.ladr_formulas.specs.Numbering.{ShortName, variable_list, number_in, HasFree}
 use Rattle.ladr_formulas.specs.declared.numbering.Variable.{Variable}
 
 pub variable_list_last : (vs : List Variable) (v : Variable) → variable_list (vs ++ v ∷ []) ≡ variable_list vs ++ record { name = v.name; free = v.free } ∷ []
@@ -71,25 +70,25 @@ free_number_free n (v ∷ vs) x q h =
     ]
 
 -- what stands under a name once a key has a number
-pub number_put : (es : List (Vec ℕ × ℕ)) (k : Vec ℕ) (n : ℕ) (q : List ℕ) → number_in (insert_entry (λ u v. bytes_eq u.items v.items) es k n) q ≡ (if bytes_eq q k.items then Some n else number_in es q)
+pub number_put : (es : List (ShortName × ℕ)) (k : ShortName) (n : ℕ) (q : List ℕ) → number_in (insert_entry (λ u v. bytes_eq u.items v.items) es k n) q ≡ (if bytes_eq q k.items then Some n else number_in es q)
 number_put [] k n q = refl
 number_put (e ∷ es) k n q =
     elim (cases_Bool (bytes_eq k.items e.0.items)) [
-      | inl t ↦ ap (λ (l : List (Vec ℕ × ℕ)). number_in l q) (cond-true (bytes_eq k.items e.0.items) ((e.0, n) ∷ es) (e ∷ insert_entry (λ u v. bytes_eq u.items v.items) es k n) t) ∙
+      | inl t ↦ ap (λ (l : List (ShortName × ℕ)). number_in l q) (cond-true (bytes_eq k.items e.0.items) ((e.0, n) ∷ es) (e ∷ insert_entry (λ u v. bytes_eq u.items v.items) es k n) t) ∙
           same_choice (bytes_eq q k.items) (bytes_eq q e.0.items) (Some n) (Some e.1) (number_in es q) (ap (bytes_eq q) ((bytes_eq-Decides k.items e.0.items).0 t))
-      | inr t ↦ ap (λ (l : List (Vec ℕ × ℕ)). number_in l q) (cond-false (bytes_eq k.items e.0.items) ((e.0, n) ∷ es) (e ∷ insert_entry (λ u v. bytes_eq u.items v.items) es k n) t) ∙
+      | inr t ↦ ap (λ (l : List (ShortName × ℕ)). number_in l q) (cond-false (bytes_eq k.items e.0.items) ((e.0, n) ∷ es) (e ∷ insert_entry (λ u v. bytes_eq u.items v.items) es k n) t) ∙
           ap (λ (o : Option ℕ). cond (bytes_eq q e.0.items) (Some e.1) o) (number_put es k n q) ∙
           apart_choice (bytes_eq q k.items) (bytes_eq q e.0.items) (Some n) (Some e.1) (number_in es q)
           (λ a b. both_ways _ t ((bytes_eq-Decides k.items e.0.items).1 (sym ((bytes_eq-Decides q k.items).0 a) ∙ (bytes_eq-Decides q e.0.items).0 b)))
     ]
 
 -- the table goes on having the free ones
-pub has_free_bound : (es : List (Vec ℕ × ℕ)) (vs : List Variable) (v : Variable) → v.free ≡ false → HasFree es (variable_list vs) → HasFree es (variable_list (vs ++ v ∷ []))
+pub has_free_bound : (es : List (ShortName × ℕ)) (vs : List Variable) (v : Variable) → v.free ≡ false → HasFree es (variable_list vs) → HasFree es (variable_list (vs ++ v ∷ []))
 has_free_bound es vs v f h = λ q.
     h q ∙ sym (free_number_bound 0 (variable_list vs) v.name q) ∙
     ap (λ (l : List formulas.Variable). free_number 0 l q) (ap (λ (b : Bool). variable_list vs ++ record { name = v.name; free = b } ∷ []) (sym f) ∙ sym (variable_list_last vs v))
 
-pub has_free_put : (es : List (Vec ℕ × ℕ)) (vs : List Variable) (k : Vec ℕ) (v : Variable) (n : ℕ) → v.free ≡ true → k.items ≡ v.name → n ≡ length vs →
+pub has_free_put : (es : List (ShortName × ℕ)) (vs : List Variable) (k : ShortName) (v : Variable) (n : ℕ) → v.free ≡ true → k.items ≡ v.name → n ≡ length vs →
     free_number 0 (variable_list vs) v.name ≡ None → HasFree es (variable_list vs) → HasFree (insert_entry (λ x y. bytes_eq x.items y.items) es k n) (variable_list (vs ++ v ∷ []))
 has_free_put es vs k v n f name number fresh h = λ q.
     number_put es k n q ∙

@@ -83,12 +83,14 @@ fn whole_clause(
     ensures kept { KeepsNumbers reader.old.reading.symbols reader.new.reading.symbols }
 {
     let clause = clause(alloc, literals, style, reader)?;
-    let names = reader.names(alloc)?;
+    let least = reader.least();
+    let large = reader.is_large();
+    let names = reader.take_names(alloc)?;
     Ok(ClauseRead {
         clause,
         names,
-        least: reader.least(),
-        large: reader.is_large(),
+        least,
+        large,
     })
 }
 

@@ -322,24 +322,40 @@ pub struct FormulaRead {
     pub large: bool,
 }
 
+// The formula of a term, which is given back.
+fn formula_of(
+    alloc: Global,
+    raw: Raw,
+    style: Style,
+    reader: &mut Reader,
+) -> Result<Shape, AllocError>
+    ensures read { IfOk result (λ shape. formula_in style reader.old.scope reader.old.reading
+        (raw_of raw) ≡ record { tree = fol_of shape; reading = reader.new.reading }) }
+    ensures kept { KeepsNumbers reader.old.reading.symbols reader.new.reading.symbols }
+{
+    formula(alloc, &raw, style, reader)
+}
+
 // The formula of a term with what it breaks.
 fn whole_formula(
     alloc: Global,
-    raw: &Raw,
+    raw: Raw,
     style: Style,
     reader: &mut Reader,
 ) -> Result<FormulaRead, AllocError>
     ensures read { IfOk result (λ r. IsWhole
         (formula_in style reader.old.scope reader.old.reading
-        (raw_of raw.now)) r reader.new.reading.symbols) }
+        (raw_of raw)) r reader.new.reading.symbols) }
     ensures kept { KeepsNumbers reader.old.reading.symbols reader.new.reading.symbols }
 {
-    let shape = formula(alloc, raw, style, reader)?;
-    let names = reader.names(alloc)?;
+    let shape = formula_of(alloc, raw, style, reader)?;
+    let least = reader.least();
+    let large = reader.is_large();
+    let names = reader.take_names(alloc)?;
     Ok(FormulaRead {
         formula: Formula { shape, names },
-        least: reader.least(),
-        large: reader.is_large(),
+        least,
+        large,
     })
 }
 
@@ -347,32 +363,32 @@ fn whole_formula(
 /// those of a formula that is to be refused.
 pub fn read_formula(
     alloc: Global,
-    raw: &Raw,
+    raw: Raw,
     symbols: &mut Symbols,
     mode: Mode,
     prolog: bool,
 ) -> Result<FormulaRead, AllocError>
     ensures read { IfOk result (λ r. IsWhole
-        (formula_reading (style_of mode prolog) symbols.old (raw_of raw.now)) r symbols.new) }
+        (formula_reading (style_of mode prolog) symbols.old (raw_of raw)) r symbols.new) }
     // Where no row was met no variable is bound twice, and none is both bound and free; the symbols are of the table.
     ensures once { IfOk result (λ r. r.least ≡ None → BindsOnce (fol_of r.formula.shape)) }
     ensures symbols { IfOk result (λ r. HasSymbolsBelow (length symbols.new)
         (fol_of r.formula.shape)) }
     // New symbols stand behind the others, in the order in which they occur.
     ensures ordered { OnOk result (symbols.new ≡ symbols.old ++ new_symbols symbols.old
-        (occurring (style_of mode prolog) [] (raw_of raw.now))) }
+        (occurring (style_of mode prolog) [] (raw_of raw))) }
     // An arity is too large where one of these symbols has so many arguments.
     ensures arity { IfOk result (λ r. r.large
-        ≡ has_many_arguments (occurring (style_of mode prolog) [] (raw_of raw.now))) }
+        ≡ has_many_arguments (occurring (style_of mode prolog) [] (raw_of raw))) }
     // So do the variables: each free one where it is first met, and each quantifier's.
     ensures numbered { IfOk result (λ r. r.formula.names
-        ≡ names_of_variables (variables_in (style_of mode prolog) (raw_of raw.now))) }
+        ≡ names_of_variables (variables_in (style_of mode prolog) (raw_of raw))) }
     // Where no row was met the formula is what the term means by these symbols and variables.
     ensures means { IfOk result (λ r. r.least ≡ None → IsMeaning (style_of mode prolog) symbols.new
-        (raw_of raw.now) (fol_of r.formula.shape)) }
+        (raw_of raw) (fol_of r.formula.shape)) }
     // A row was met only where it means no formula.
     ensures unmet { IfOk result (λ r. (f : Fol) → IsMeaning (style_of mode prolog) symbols.new
-        (raw_of raw.now) f → r.least ≡ None) }
+        (raw_of raw) f → r.least ≡ None) }
     // Whatever the answer, the old symbols keep their numbers.
     ensures kept { KeepsNumbers symbols.old symbols.new }
 {

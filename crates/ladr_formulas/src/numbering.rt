@@ -4,6 +4,7 @@ ghost use Rattle.ladr_formulas.specs.Formulas.{free_number, names_of_variables};
 
 use fol_core::{Name, Names};
 use indexmap::IndexMap;
+use smallvec::SmallVec;
 use std::alloc::{AllocError, Global};
 use std::marker::Model;
 
@@ -19,7 +20,7 @@ pub struct Variable {
 pub struct Variables {
     items: Vec<Variable>,
     // The numbers of the free ones by name.
-    free: IndexMap<Vec<u8>, u64>,
+    free: IndexMap<SmallVec<u8, 16>, u64>,
 }
 
 impl Model for Variables {
@@ -55,8 +56,8 @@ impl Variables {
     }
 
     /// The number of the free variable of this name.
-    pub fn free_number(&self, name: &[u8]) -> Option<u64>
-        ensures { result ≡ free_number 0 self.now name.now }
+    pub fn free_number(&self, name: &SmallVec<u8, 16>) -> Option<u64>
+        ensures { result ≡ free_number 0 self.now name.now.items }
     {
         self.free.get(name).copied()
     }
@@ -70,14 +71,13 @@ impl Variables {
     }
 
     /// One more variable, which is free.
-    pub fn push_free(&mut self, alloc: Global, name: &[u8]) -> Result<(), AllocError>
-        requires { free_number 0 self.old name.now ≡ None }
+    pub fn push_free(&mut self, alloc: Global, key: SmallVec<u8, 16>) -> Result<(), AllocError>
+        requires { free_number 0 self.old key.items ≡ None }
         ensures { OnOk result (self.new ≡ self.old
-            ++ record { name = name.now; free = true } ∷ []) }
+            ++ record { name = key.items; free = true } ∷ []) }
     {
         let number = self.items.len() as u64;
-        let key = Vec::from_slice(alloc, name)?;
-        let name = Name::from_slice(alloc, name)?;
+        let name = Name::from_slice(alloc, key.as_slice())?;
         self.items.push(Variable { name, free: true })?;
         if self.free.insert(key, number).is_err() {
             let _ = self.items.pop();
@@ -88,8 +88,8 @@ impl Variables {
 
     #[tactic(auto, using(crate::proofs::NumberingLemmas::names_more))]
     /// The names by number.
-    pub fn names(&self, alloc: Global) -> Result<Names, AllocError>
-        ensures { IfOk result (λ names. names ≡ names_of_variables self.now) }
+    pub fn into_names(self, alloc: Global) -> Result<Names, AllocError>
+        ensures { IfOk result (λ names. names ≡ names_of_variables self) }
     {
         let mut names = Names::new(alloc);
         for variable in &self.items {

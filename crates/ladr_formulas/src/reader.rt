@@ -9,8 +9,10 @@ use crate::scopes::Scope;
 use crate::styles::Style;
 use fol_core::{Clash, Kind, Name, Names, Sym, Symbols};
 use ladr_lex::{MOST_ARGUMENTS, Misuse};
+use smallvec::SmallVec;
 use std::alloc::{AllocError, Global};
 use std::marker::Model;
+use std::mem;
 
 /// The symbols and variables so far, the quantifiers around the place where the reader is, the least row of misuse that was
 /// met, and whether an arity was too large.
@@ -122,7 +124,8 @@ impl Reader {
         if !is_free_name(style, name) {
             return Ok(None);
         }
-        match self.variables.free_number(name) {
+        let name = SmallVec::from_slice(alloc, name)?;
+        match self.variables.free_number(&name) {
             Some(number) => Ok(Some(number)),
             None => {
                 let number = self.variables.len() as u64;
@@ -171,11 +174,14 @@ impl Reader {
         self.large
     }
 
-    /// The names of the variables.
-    pub fn names(&self, alloc: Global) -> Result<Names, AllocError>
-        ensures { IfOk result (λ names. names ≡ names_of_variables self.now.reading.variables) }
+    /// The names of the variables, which are forgotten.
+    pub fn take_names(&mut self, alloc: Global) -> Result<Names, AllocError>
+        ensures names { IfOk result (λ names. names
+            ≡ names_of_variables self.old.reading.variables) }
+        ensures symbols { self.new.reading.symbols ≡ self.old.reading.symbols }
     {
-        self.variables.names(alloc)
+        let variables = mem::replace(&mut self.variables, Variables::new(alloc));
+        variables.into_names(alloc)
     }
 
     /// The symbols, the variables, the least row that was met, and whether an arity was too large.

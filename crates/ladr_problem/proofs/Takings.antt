@@ -29,7 +29,7 @@ use Rattle.ladr_formulas.specs.declared.styles.Mode.{Mode}
 use Rattle.ladr_rules.specs.Attributes.{attributed, has_unfit_weight, label_of, hint_weight_of}
 use Rattle.ladr_rules.specs.RuleSeen.{IsRuleIn}
 use Rattle.ladr_rules.specs.Rules.{rule_in}
-use Rattle.ladr_rules.specs.declared.attributes.LabelledFormula.{LabelledFormula}
+use Rattle.ladr_rules.specs.declared.attributes.Notes.{Notes}
 use Rattle.ladr_rules.specs.declared.rules.RuleRead.{RuleRead}
 use Rattle.ladr_settings.specs.Settings.{settings_after, is_meant}
 use Rattle.ladr_settings.specs.declared.lists.FormulaList.{FormulaList}
@@ -78,12 +78,12 @@ module _ (m : Mode) (byte : ℕ) (s : Sofar) where
     item_refused ts term_fault.Memory h = tt
 
   -- a formula as the code has read it is the one of the item
-  pub same_formula : (list : Option FormulaList) (t : RawTree) (a : LabelledFormula) (r : FormulaRead) (table : List Symbol)
-      → raw_of a.formula ≡ (attributed t).formula → option_map raw_of a.label ≡ label_of (attributed t).attributes
+  pub same_formula : (list : Option FormulaList) (t : RawTree) (f : Raw) (a : Notes) (r : FormulaRead) (table : List Symbol)
+      → raw_of f ≡ (attributed t).formula → option_map raw_of a.label ≡ label_of (attributed t).attributes
       → a.misused ≡ has_unfit_weight (attributed t).attributes → a.hint_weight ≡ hint_weight_of (attributed t).attributes
-      → IsWhole (formula_reading (style_in m s) s.symbols (raw_of a.formula)) r table → KeepsNumbers s.symbols table
+      → IsWhole (formula_reading (style_in m s) s.symbols (raw_of f)) r table → KeepsNumbers s.symbols table
       → after_formula_read m list byte (length s.symbols) (record s { symbols = table }) a r ≡ after_formula m list byte s t
-  same_formula list t a r table formula label misused weight whole kept =
+  same_formula list t f a r table formula label misused weight whole kept =
       let w : IsWhole (formula_made m s t) r table = subst (λ (u : RawTree). IsWhole (formula_reading (style_in m s) s.symbols u) r table) formula whole in
       let old = take_kept s.symbols table kept in
       λ i.

@@ -14,7 +14,7 @@ use Rattle.ladr_problem.specs.declared.refusal.Refusal.{Refusal}
 use Rattle.ladr_problem.specs.declared.refusal.Refusal.TheVariants.{Bad, Nesting, Symbols, Arity, Misused, Memory}
 use Rattle.ladr_formulas.specs.declared.formulas.FormulaRead.{FormulaRead}
 use Rattle.ladr_formulas.specs.declared.styles.Mode.{Mode}
-use Rattle.ladr_rules.specs.declared.attributes.LabelledFormula.{LabelledFormula}
+use Rattle.ladr_rules.specs.declared.attributes.Notes.{Notes}
 use Rattle.ladr_rules.specs.declared.rules.RuleRead.{RuleRead}
 use Rattle.ladr_settings.specs.Settings.{is_meant}
 use Rattle.ladr_settings.specs.declared.lists.FormulaList.{FormulaList}
@@ -28,8 +28,12 @@ IsNo r Arity = r ≡ Err Arity
 IsNo r (Misused k) = r ≡ Err (Misused k)
 IsNo r Memory = Unit {0}
 
+-- the tokens stay where one of them can't be read
+abbrev pub IsKept : {X : Type 0} → List X → List X → Refusal → Type 0
+IsKept old new why = (k : ℕ) → why ≡ Bad k → new ≡ old
+
 -- what was read with the formula's symbols, and then the formula
-abbrev pub with_read : FormulaList → ℕ → Sofar → LabelledFormula → FormulaRead →
+abbrev pub with_read : FormulaList → ℕ → Sofar → Notes → FormulaRead →
     Result Sofar Refusal
 with_read list byte s a r =
     option_map_or (λ k. Err (Misused k))
@@ -37,7 +41,7 @@ with_read list byte s a r =
     (Ok (with_listed list (listed_of r.formula (option_map raw_of a.label) byte) a.hint_weight s))
 
 -- the table has the formula's symbols behind so many
-abbrev pub after_formula_read : Mode → Option FormulaList → ℕ → ℕ → Sofar → LabelledFormula →
+abbrev pub after_formula_read : Mode → Option FormulaList → ℕ → ℕ → Sofar → Notes →
     FormulaRead → Result Sofar Refusal
 after_formula_read m list byte before s a r =
     if nat_lt MOST_SYMBOLS (length s.symbols) then Err Symbols

@@ -4,6 +4,8 @@ ghost use Rattle.ladr_problem.specs.Items.{items_of, in_front, tokens_of};
 ghost use Rattle.ladr_lex.specs.Cuts.{Piece, pieces_of};
 ghost use Rattle.ladr_problem.specs.Draft.{sofar_of};
 ghost use Rattle.ladr_problem.specs.File.{Outcome, File, problem, unreadable, start_at};
+ghost use Rattle.ladr_lex.specs.declared.token.Token.{Token};
+ghost use Rattle.ladr_problem.specs.Reading.{IsKept};
 ghost use Rattle.ladr_problem.specs.Stops.{IsStop, by_refusal};
 
 use crate::draft::Draft;
@@ -23,11 +25,11 @@ fn start_at(end: usize, tokens: &[Token], k: usize) -> usize
     }
 }
 
-// The refusal of an item, with its place.
-fn by_refusal(end: usize, tokens: &[Token], why: Refusal) -> RefusalAt
-    ensures { result ≡ by_refusal end (pieces_of tokens.now) why }
+// The refusal of an item that begins at a byte, with its place.
+fn by_refusal(end: usize, byte: u64, tokens: &[Token], why: Refusal) -> RefusalAt
+    ensures { (old : List Token) → byte ≡ start_at end (pieces_of old) 0
+        → IsKept old tokens.now why → result ≡ by_refusal end (pieces_of old) why }
 {
-    let byte = start_at(end, tokens, 0) as u64;
     match why {
         Refusal::Bad(k) => RefusalAt::Unreadable(start_at(end, tokens, k) as u64),
         Refusal::Nesting => RefusalAt::TooLarge(byte, Limit::Nesting),
@@ -43,14 +45,14 @@ fn take_item(
     alloc: Global,
     program: Mode,
     end: usize,
-    tokens: &[Token],
+    tokens: &mut Vec<Token>,
     draft: &mut Draft,
 ) -> Result<(), RefusalAt>
     ensures ok { OnOk result ((items : List (List Piece)) (o : Outcome)
         → File program end (sofar_of draft.new) items o → File program end (sofar_of draft.old)
-        (in_front (pieces_of tokens.now) items) o) }
+        (in_front (pieces_of tokens.old.items) items) o) }
     ensures stop { (items : List (List Piece)) → IfErr result (IsStop (File program end
-        (sofar_of draft.old) (in_front (pieces_of tokens.now) items))) }
+        (sofar_of draft.old) (in_front (pieces_of tokens.old.items) items))) }
 {
     if tokens.is_empty() {
         return Ok(());
@@ -58,7 +60,7 @@ fn take_item(
     let byte = start_at(end, tokens, 0) as u64;
     match draft.take(alloc, program, byte, tokens) {
         Ok(()) => Ok(()),
-        Err(why) => Err(by_refusal(end, tokens, why)),
+        Err(why) => Err(by_refusal(end, byte, tokens, why)),
     }
 }
 
@@ -83,7 +85,7 @@ fn take_items<'a>(
             Ok(next) => next,
             Err(_) => return Err(RefusalAt::Memory),
         };
-        match take_item(alloc, program, end, &item, draft) {
+        match take_item(alloc, program, end, &mut item, draft) {
             Ok(()) => {}
             Err(stop) => return Err(stop),
         }

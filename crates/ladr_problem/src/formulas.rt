@@ -11,7 +11,7 @@ use crate::refusal::Refusal;
 use fol_core::{Raw, RawSub};
 use ladr_formulas::{FormulaRead, Mode, read_formula};
 use ladr_lex::{MOST_SYMBOLS, Misuse};
-use ladr_rules::{LabelledFormula, is_demodulator, is_hint};
+use ladr_rules::{LabelledFormula, Notes, is_demodulator, is_hint};
 use ladr_settings::FormulaList;
 use std::alloc::{AllocError, Global};
 
@@ -84,10 +84,11 @@ impl Draft {
             (raw_of raw))) }
     {
         let stated = LabelledFormula::of(raw);
+        let LabelledFormula { formula, notes } = stated;
         let before = self.symbols.len();
         let prolog = self.settings.options.prolog_style_variables;
-        let read = read_formula(alloc, &stated.formula, &mut self.symbols, program, prolog)?;
-        self.settle(alloc, program, list, byte, before, stated, read)
+        let read = read_formula(alloc, formula, &mut self.symbols, program, prolog)?;
+        self.settle(alloc, program, list, byte, before, notes, read)
     }
 
     // Takes a formula that was read behind so many symbols.
@@ -98,13 +99,13 @@ impl Draft {
         list: Option<FormulaList>,
         byte: u64,
         before: usize,
-        stated: LabelledFormula,
+        notes: Notes,
         read: FormulaRead,
     ) -> Result<(), Refusal>
         ensures ok { OnOk result (after_formula_read program list byte before
-            (sofar_of self.old) stated read ≡ Ok (sofar_of self.new)) }
+            (sofar_of self.old) notes read ≡ Ok (sofar_of self.new)) }
         ensures refused { IfErr result (IsNo (after_formula_read program list byte before
-            (sofar_of self.old) stated read)) }
+            (sofar_of self.old) notes read)) }
     {
         if self.symbols.len() > MOST_SYMBOLS {
             return Err(Refusal::Symbols);
@@ -114,7 +115,7 @@ impl Draft {
         }
         match list {
             Some(list) if self.settings.is_meant(program) => {
-                self.judge(alloc, list, byte, stated, read)
+                self.judge(alloc, list, byte, notes, read)
             }
             _ => {
                 self.symbols.truncate(before);
@@ -129,19 +130,19 @@ impl Draft {
         alloc: Global,
         list: FormulaList,
         byte: u64,
-        stated: LabelledFormula,
+        notes: Notes,
         read: FormulaRead,
     ) -> Result<(), Refusal>
-        ensures ok { OnOk result (with_read list byte (sofar_of self.old) stated read
+        ensures ok { OnOk result (with_read list byte (sofar_of self.old) notes read
             ≡ Ok (sofar_of self.new)) }
         ensures refused { IfErr result (IsNo (with_read list byte
-            (sofar_of self.old) stated read)) }
+            (sofar_of self.old) notes read)) }
     {
-        match least_misuse(alloc, list, stated.misused, &read)? {
+        match least_misuse(alloc, list, notes.misused, &read)? {
             Some(misuse) => Err(Refusal::Misused(misuse)),
             None => {
-                let label = RawSub::of(alloc, stated.label)?;
-                self.add(list, read.formula, label, stated.hint_weight, byte)?;
+                let label = RawSub::of(alloc, notes.label)?;
+                self.add(list, read.formula, label, notes.hint_weight, byte)?;
                 Ok(())
             }
         }

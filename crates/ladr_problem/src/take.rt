@@ -1,10 +1,10 @@
 // One item.
-ghost use Rattle.std.specs.Prelude.{◌≡◌, OnOk, IfErr, None, Some, Ok};
+ghost use Rattle.std.specs.Prelude.{◌≡◌, [], OnOk, IfErr, None, Some, Ok};
 ghost use Rattle.fol_core.specs.RawView.{raw_of};
 ghost use Rattle.ladr_lex.specs.Lexeme.{lexemes_of};
 ghost use Rattle.ladr_problem.specs.Adding.{is_tester, after_term, IsItemRefused};
 ghost use Rattle.ladr_problem.specs.Draft.{sofar_of};
-ghost use Rattle.ladr_problem.specs.Reading.{IsNo, IsTaken};
+ghost use Rattle.ladr_problem.specs.Reading.{IsKept, IsNo, IsTaken};
 
 use crate::draft::Draft;
 use crate::item::ListItem;
@@ -26,19 +26,34 @@ fn is_tester(program: Mode) -> bool
     }
 }
 
+// How many tokens have room between two items.
+const ROOM: usize = 4096;
+
+// The tokens are gone; where they took much room it is given back.
+fn give_back(alloc: Global, tokens: &mut Vec<Token>)
+    ensures { tokens.new.items ≡ [] }
+{
+    if tokens.len() > ROOM {
+        *tokens = Vec::new(alloc);
+    } else {
+        tokens.clear();
+    }
+}
+
 impl Draft {
-    /// Takes an item that begins at a byte.
+    /// Takes an item that begins at a byte. Its tokens may be gone then, but for those of an item that can't be read.
     pub fn take(
         &mut self,
         alloc: Global,
         program: Mode,
         byte: u64,
-        tokens: &[Token],
+        tokens: &mut Vec<Token>,
     ) -> Result<(), Refusal>
-        ensures ok { OnOk result (IsTaken program byte (sofar_of self.old) (lexemes_of tokens.now)
-            (sofar_of self.new)) }
+        ensures ok { OnOk result (IsTaken program byte (sofar_of self.old)
+            (lexemes_of tokens.old.items) (sofar_of self.new)) }
         ensures refused { IfErr result (IsItemRefused program byte (sofar_of self.old)
-            (lexemes_of tokens.now)) }
+            (lexemes_of tokens.old.items)) }
+        ensures bad { IfErr result (IsKept tokens.old.items tokens.new.items) }
     {
         match self.settings.list {
             None => self.take_command(alloc, program, byte, tokens),
@@ -76,20 +91,24 @@ impl Draft {
         program: Mode,
         list: OpenList,
         byte: u64,
-        tokens: &[Token],
+        tokens: &mut Vec<Token>,
     ) -> Result<(), Refusal>
         requires { self.old.settings.list ≡ Some list }
-        ensures ok { OnOk result (IsTaken program byte (sofar_of self.old) (lexemes_of tokens.now)
-            (sofar_of self.new)) }
+        ensures ok { OnOk result (IsTaken program byte (sofar_of self.old)
+            (lexemes_of tokens.old.items) (sofar_of self.new)) }
         ensures refused { IfErr result (IsItemRefused program byte (sofar_of self.old)
-            (lexemes_of tokens.now)) }
+            (lexemes_of tokens.old.items)) }
+        ensures bad { IfErr result (IsKept tokens.old.items tokens.new.items) }
     {
         match read_list_item(alloc, &self.settings.operators, tokens) {
             Ok(ListItem::End) => {
                 self.settings.list = None;
                 Ok(())
             }
-            Ok(ListItem::Term(raw)) => self.take_term(alloc, program, list, byte, raw),
+            Ok(ListItem::Term(raw)) => {
+                give_back(alloc, tokens);
+                self.take_term(alloc, program, list, byte, raw)
+            }
             Err(fault) => Err(by_term(fault)),
         }
     }

@@ -10,56 +10,44 @@ use crate::bounds::MOST_WEIGHT;
 use fol_core::{Raw, Raws};
 use ladr_lex::whole_number;
 
-/// A formula without its attributes; the first label among them, whether one of them breaks row 12, and the number of the first
-/// `bsub_hint_wt`.
+/// A formula without its attributes, and what these say.
 #[derive(Drop)]
 pub struct LabelledFormula {
     pub formula: Raw,
-    pub label: Option<Raw>,
-    pub misused: bool,
-    pub hint_weight: Option<u32>,
+    pub notes: Notes,
 }
 
 impl LabelledFormula {
     /// The term taken apart.
     pub fn of(raw: Raw) -> LabelledFormula
         ensures formula { raw_of result.formula ≡ (attributed (raw_of raw)).formula }
-        ensures label { option_map raw_of result.label
+        ensures label { option_map raw_of result.notes.label
             ≡ label_of (attributed (raw_of raw)).attributes }
-        ensures misused { result.misused ≡ has_unfit_weight (attributed (raw_of raw)).attributes }
-        ensures hint_weight { result.hint_weight
+        ensures misused { result.notes.misused
+            ≡ has_unfit_weight (attributed (raw_of raw)).attributes }
+        ensures hint_weight { result.notes.hint_weight
             ≡ hint_weight_of (attributed (raw_of raw)).attributes }
     {
         match Split::of(raw) {
-            Split::Joined(formula, rest) => {
-                let Notes {
-                    label,
-                    misused,
-                    hint_weight,
-                } = Notes::of(rest);
-                LabelledFormula {
-                    formula,
-                    label,
-                    misused,
-                    hint_weight,
-                }
-            }
+            Split::Joined(formula, rest) => LabelledFormula {
+                formula,
+                notes: Notes::of(rest),
+            },
             Split::Alone(formula) => LabelledFormula {
                 formula,
-                label: None,
-                misused: false,
-                hint_weight: None,
+                notes: Notes::none(),
             },
         }
     }
 }
 
-// What attributes say.
+/// What attributes say: the first label among them, whether one of them is misused, and the number of the first
+/// `bsub_hint_wt`.
 #[derive(Drop)]
-struct Notes {
-    label: Option<Raw>,
-    misused: bool,
-    hint_weight: Option<u32>,
+pub struct Notes {
+    pub label: Option<Raw>,
+    pub misused: bool,
+    pub hint_weight: Option<u32>,
 }
 
 impl Notes {

@@ -11,7 +11,7 @@ mod shapes;
 mod sides;
 mod values;
 
-pub use attributes::LabelledFormula;
+pub use attributes::{LabelledFormula, Notes};
 pub use kbo::kbo_rule;
 pub use laws::{worked, worked_rules};
 pub use rules::{RuleRead, weight_rule};

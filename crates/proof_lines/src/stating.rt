@@ -51,13 +51,14 @@ fn formula(
     let before = symbols.len();
     let stated = LabelledFormula::of(raw);
     let prolog = problem.options.prolog_style_variables;
-    let read = read_formula(alloc, &stated.formula, symbols, Mode::Prover, prolog)?;
-    let least = meet(stated.misused, Misuse::UnfitAttribute, read.least);
+    let LabelledFormula { formula, notes } = stated;
+    let read = read_formula(alloc, formula, symbols, Mode::Prover, prolog)?;
+    let least = meet(notes.misused, Misuse::UnfitAttribute, read.least);
     let strays = brings_stray(names, before, symbols);
     match meet(strays, Misuse::TwoKinds, least) {
         Some(misuse) => Err(LineFault::Misused(misuse)),
         None => {
-            let label = RawSub::of(alloc, stated.label)?;
+            let label = RawSub::of(alloc, notes.label)?;
             Ok(Content::Formula(read.formula, label))
         }
     }

@@ -7,7 +7,7 @@ use std::test::Fail;
 fn a_term_is_read_as_a_formula(rt: HostRuntime) -> Result<(), Fail> {
     let raw = item(rt.alloc(), b"all x p(x,f(y)).")?;
     let mut symbols = Symbols::new(rt.alloc());
-    let read = read_formula(rt.alloc(), &raw, &mut symbols, Mode::Tester, false)?;
+    let read = read_formula(rt.alloc(), raw, &mut symbols, Mode::Tester, false)?;
     assert!(rt; matches!(&read.formula.shape, Shape::All(0, _)));
     assert_eq!(rt; read.formula.names.len(), 2);
     assert_eq!(rt; symbols.len(), 2);

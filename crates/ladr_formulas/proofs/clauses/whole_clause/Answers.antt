@@ -16,8 +16,8 @@ returns-clause-read c = λ t parts none.
     let reading : c.clause.new.reader.reading ≡ (formula_in st [] s t).reading = c.in_ok-clause.ensures.reading ∙ ap (λ (m : Made (List Fol)). m.reading) all ∙ is.reading in
     record {
       clause = c.in_ok-clause.ensures.clause ∙ ap (λ (m : Made (List Fol)). clause_from m.tree) all ∙ is.clause;
-      named = c.in_ok-names.ensures ∙ ap (λ (r : Reading). names_of_variables r.variables) reading;
-      least = c.least.ensures ∙ ap (λ (r : Reading). r.least) reading;
-      large = c.is_large.ensures ∙ ap (λ (r : Reading). r.large) reading;
-      symbols = ap (λ (r : Reading). r.symbols) reading;
+      named = c.in_ok-names.ensures.names ∙ ap (λ (r : Reading). names_of_variables r.variables) reading;
+      least = c.least-least.ensures ∙ ap (λ (r : Reading). r.least) reading;
+      large = c.is_large-large.ensures ∙ ap (λ (r : Reading). r.large) reading;
+      symbols = c.take_names.ensures.symbols ∙ ap (λ (r : Reading). r.symbols) reading;
     }
