@@ -56,10 +56,11 @@ impl Variables {
     }
 
     /// The number of the free variable of this name.
-    pub fn free_number(&self, name: &SmallVec<u8, 16>) -> Option<u64>
-        ensures { result ≡ free_number 0 self.now name.now.items }
+    pub fn free_number(&self, alloc: Global, name: &[u8]) -> Result<Option<u64>, AllocError>
+        ensures { IfOk result (λ n. n ≡ free_number 0 self.now name.now) }
     {
-        self.free.get(name).copied()
+        let key = SmallVec::from_slice(alloc, name)?;
+        Ok(self.free.get(&key).copied())
     }
 
     /// One more variable, which a quantifier brings.
@@ -71,13 +72,14 @@ impl Variables {
     }
 
     /// One more variable, which is free.
-    pub fn push_free(&mut self, alloc: Global, key: SmallVec<u8, 16>) -> Result<(), AllocError>
-        requires { free_number 0 self.old key.items ≡ None }
+    pub fn push_free(&mut self, alloc: Global, name: &[u8]) -> Result<(), AllocError>
+        requires { free_number 0 self.old name.now ≡ None }
         ensures { OnOk result (self.new ≡ self.old
-            ++ record { name = key.items; free = true } ∷ []) }
+            ++ record { name = name.now; free = true } ∷ []) }
     {
         let number = self.items.len() as u64;
-        let name = Name::from_slice(alloc, key.as_slice())?;
+        let key = SmallVec::from_slice(alloc, name)?;
+        let name = Name::from_slice(alloc, name)?;
         self.items.push(Variable { name, free: true })?;
         if self.free.insert(key, number).is_err() {
             let _ = self.items.pop();

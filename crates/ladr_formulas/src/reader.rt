@@ -9,7 +9,6 @@ use crate::scopes::Scope;
 use crate::styles::Style;
 use fol_core::{Clash, Kind, Name, Names, Sym, Symbols};
 use ladr_lex::{MOST_ARGUMENTS, Misuse};
-use smallvec::SmallVec;
 use std::alloc::{AllocError, Global};
 use std::marker::Model;
 use std::mem;
@@ -124,8 +123,7 @@ impl Reader {
         if !is_free_name(style, name) {
             return Ok(None);
         }
-        let name = SmallVec::from_slice(alloc, name)?;
-        match self.variables.free_number(&name) {
+        match self.variables.free_number(alloc, name)? {
             Some(number) => Ok(Some(number)),
             None => {
                 let number = self.variables.len() as u64;

@@ -71,7 +71,7 @@ pub fn value_of(alloc: Global, variables: &Variables, raw: &Raw) -> Result<Weigh
     match raw {
         Raw::App(name, args) => match args.as_slice() {
             [] => Ok(Weight::Number(limited_number(MOST_WEIGHT, raw).unwrap_or(0))),
-            [part] => Ok(single(variables, part)),
+            [part] => single(alloc, variables, part),
             [left, right] => {
                 let left = value_of(alloc, variables, left)?;
                 let right = value_of(alloc, variables, right)?;
@@ -84,12 +84,15 @@ pub fn value_of(alloc: Global, variables: &Variables, raw: &Raw) -> Result<Weigh
 }
 
 // The weight of the variable that `part` is.
-fn single(variables: &Variables, part: &Raw) -> Weight
-    ensures { weight_of result ≡ single_weight variables.now (raw_of part.now) }
+fn single(alloc: Global, variables: &Variables, part: &Raw) -> Result<Weight, AllocError>
+    ensures { IfOk result (λ w. weight_of w ≡ single_weight variables.now (raw_of part.now)) }
 {
     match part {
-        Raw::App(name, _) => Weight::Variable(variables.free_number(name.bytes()).unwrap_or(0)),
-        Raw::Quant(_, _, _) => Weight::Number(0),
+        Raw::App(name, _) => {
+            let number = variables.free_number(alloc, name.bytes())?;
+            Ok(Weight::Variable(number.unwrap_or(0)))
+        }
+        Raw::Quant(_, _, _) => Ok(Weight::Number(0)),
     }
 }
 
