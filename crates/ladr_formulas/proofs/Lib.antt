@@ -1,5 +1,6 @@
 pub mod Behind
 pub mod BoundPlaces
+pub mod Breaking
 pub mod ClauseElements
 pub mod ClauseLemmas
 pub mod FormulaLemmas

@@ -59,7 +59,7 @@ bound_among (b ∷ bs) name = by (bytes_eq b.name name) (bound_among bs name)
     by true rest = refl
     by false rest = rest
 
-same_variable : (st : Style) (scope : List Bound) (name : List ℕ) → is_variable st scope name ≡ stands_for_variable st (names_bound scope) name
+pub same_variable : (st : Style) (scope : List Bound) (name : List ℕ) → is_variable st scope name ≡ stands_for_variable st (names_bound scope) name
 same_variable st scope name = ap (λ (b : Bool). b || is_free_name st name) (bound_among scope name)
 
 met_noted : (test : Bool) (row : Misuse) (s : Reading) → noted (meets test row s) ≡ noted s

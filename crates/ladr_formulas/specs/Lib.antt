@@ -1,3 +1,4 @@
+pub mod Broken
 pub mod ClauseIn
 pub mod Formulas
 pub mod Literals

@@ -4,6 +4,7 @@ use Rattle.fol_core.specs.RawTree.{RawTree, named, quantified, no_raws, more_raw
 use Rattle.fol_core.specs.Tree.{Tree, app, none, more}
 use Rattle.fol_core.specs.declared.raw.Quantifier.TheVariants.{All}
 use Rattle.ladr_lex.specs.declared.misuse.Misuse.{Misuse}
+use Rattle.ladr_formulas.specs.Broken.{broken}
 use Rattle.ladr_formulas.specs.Formulas.{Style, Variable, formula_reading}
 
 abbrev pub for_tester : Style
@@ -18,6 +19,10 @@ in_prolog = record { elements = false; prolog = true }
 -- the misuse of the least row that a term meets as a formula
 abbrev pub misuse_of : Style → RawTree → Option Misuse
 misuse_of style t = (formula_reading style [] t).reading.least
+
+-- the rows that a term breaks by its own symbols
+abbrev pub rows_of : Style → RawTree → List Misuse
+rows_of style t = broken style (formula_reading style [] t).reading.symbols t
 
 abbrev pub leaf : List ℕ → RawTree
 leaf name = named name no_raws

@@ -4,6 +4,7 @@ ghost use Rattle.fol_core.specs.Bound.{HaveSymbolsBelow};
 ghost use Rattle.fol_core.specs.RawTree.{raws_of};
 ghost use Rattle.fol_core.specs.SymbolTable.{KeepsNumbers};
 ghost use Rattle.fol_core.specs.Tree.{Trees, trees_of};
+ghost use Rattle.ladr_formulas.specs.Broken.{broken_outside, least_of};
 ghost use Rattle.ladr_formulas.specs.Formulas.{unread, terms_of};
 ghost use Rattle.ladr_formulas.specs.Means.{MeanTerms};
 ghost use Rattle.ladr_formulas.specs.Occurring.{symbols_of_terms, new_symbols, has_many_arguments};
@@ -50,6 +51,9 @@ pub fn terms_of(
         ≡ has_many_arguments (symbols_of_terms style [] (raws_of raws.now))) }
     ensures numbered { IfOk result (λ r. r.variables
         ≡ numbered (variables_of_terms style [] (raws_of raws.now))) }
+    // The row that is told is the least of those that the arguments break.
+    ensures least { IfOk result (λ r. r.least
+        ≡ least_of (broken_outside style symbols.new (raws_of raws.now))) }
     // Where no row was met the terms are what the arguments mean by these.
     ensures means { IfOk result (λ r. r.least ≡ None → MeanTerms style symbols.new
         (numbered (variables_of_terms style [] (raws_of raws.now))) [] (raws_of raws.now)

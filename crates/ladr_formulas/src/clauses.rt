@@ -8,6 +8,7 @@ ghost use Rattle.fol_core.specs.RawTree.{RawTree};
 ghost use Rattle.fol_core.specs.RawView.{raw_list};
 ghost use Rattle.fol_core.specs.SymbolTable.{KeepsNumbers};
 ghost use Rattle.ladr_reader.specs.Capped.{disjuncts};
+ghost use Rattle.ladr_formulas.specs.Broken.{broken, least_of};
 ghost use Rattle.ladr_formulas.specs.ClauseIn.{atom_in, literal_in, clause_in};
 ghost use Rattle.ladr_formulas.specs.Formulas.{formula_in, formula_reading, names_of_variables, style_of};
 ghost use Rattle.ladr_formulas.specs.Literals.{formulas_in, all_literals, clause_from, with_literal, IsClauseRead};
@@ -53,6 +54,9 @@ pub fn clause_of(
         r.large ≡ has_many_arguments (occurring (style_of mode prolog) [] t)) }
     ensures numbered { IfOk result (λ r. (t : RawTree) → raw_list literals.now ≡ disjuncts t →
         r.names ≡ names_of_variables (variables_in (style_of mode prolog) t)) }
+    // The row that is told is the least of those that the term breaks.
+    ensures least { IfOk result (λ r. (t : RawTree) → raw_list literals.now ≡ disjuncts t →
+        r.least ≡ least_of (broken (style_of mode prolog) symbols.new t)) }
     // Where no row was met the formula is what the term means by these.
     ensures means { IfOk result (λ r. (t : RawTree) → raw_list literals.now ≡ disjuncts t →
         r.least ≡ None →

@@ -5,11 +5,12 @@ ghost use Rattle.fol_core.specs.SymbolTable.{symbol};
 ghost use Rattle.fol_core.specs.Tree.{var, elem, app, none, more};
 ghost use Rattle.fol_core.specs.declared.symbols.Kind.TheVariants.{Function, Relation};
 ghost use Rattle.ladr_lex.specs.declared.misuse.Misuse.TheVariants.{TwoKinds, VariableAsFormula, QuantifierInTerm, UnfitAttribute, UnfitNumeral};
+ghost use Rattle.ladr_formulas.specs.Broken.{least_of};
 ghost use Rattle.ladr_formulas.specs.Formulas.{formula_reading, names_of_variables};
 ghost use Rattle.ladr_formulas.specs.Means.{Means};
 ghost use Rattle.ladr_formulas.specs.Occurring.{occurring, new_symbols};
 ghost use Rattle.ladr_formulas.specs.VariablesMet.{variables_in};
-ghost use Rattle.ladr_formulas.specs.WorkedFormulas.{for_tester, for_prover, in_prolog, misuse_of, leaf, one_part, function, bound_variable, free_variable, bound_and_free, involution, one_name_twice, misuses, numeral, three_arities, constant_bound, denial_of_two, connectives, great_numeral, great_function};
+ghost use Rattle.ladr_formulas.specs.WorkedFormulas.{for_tester, for_prover, in_prolog, misuse_of, rows_of, leaf, one_part, function, bound_variable, free_variable, bound_and_free, involution, one_name_twice, misuses, numeral, three_arities, constant_bound, denial_of_two, connectives, great_numeral, great_function};
 
 /// Terms and their formulas.
 pub fn worked_formulas()
@@ -52,6 +53,9 @@ pub fn worked_formulas()
 pub fn worked_refusals()
     // f is a relation and a function, x a variable where a formula is wanted, and a numeral too great: the first counts.
     ensures misuses { misuse_of for_tester misuses ≡ Some TwoKinds }
+    ensures rows { rows_of for_tester misuses
+        ≡ VariableAsFormula ∷ UnfitNumeral ∷ TwoKinds ∷ [] }
+    ensures least { least_of (VariableAsFormula ∷ UnfitNumeral ∷ TwoKinds ∷ []) ≡ Some TwoKinds }
     // x and, with the variables of Prolog, X
     ensures variable { misuse_of for_tester (leaf (codes "x")) ≡ Some VariableAsFormula }
     ensures prolog { misuse_of in_prolog (leaf (codes "X")) ≡ Some VariableAsFormula }

@@ -9,6 +9,7 @@ ghost use Rattle.fol_core.specs.RawView.{raw_of};
 ghost use Rattle.fol_core.specs.SymbolTable.{KeepsNumbers};
 ghost use Rattle.fol_core.specs.Tree.{trees_of};
 ghost use Rattle.fol_core.specs.TermView.{tree_of};
+ghost use Rattle.ladr_formulas.specs.Broken.{broken, least_of};
 ghost use Rattle.ladr_formulas.specs.Formulas.{is_element, is_too_great, arity_of, meets, with_symbol, symbol_number, constant, term_of, terms_of, relation_of, equation_read, sentence, bound_by, joined_by, comparison, formula_in, formula_reading, names_of_variables, style_of};
 ghost use Rattle.ladr_formulas.specs.Means.{IsMeaning};
 ghost use Rattle.ladr_formulas.specs.Occurring.{occurring, new_symbols, has_many_arguments};
@@ -383,6 +384,9 @@ pub fn read_formula(
     // So do the variables: each free one where it is first met, and each quantifier's.
     ensures numbered { IfOk result (λ r. r.formula.names
         ≡ names_of_variables (variables_in (style_of mode prolog) (raw_of raw))) }
+    // The row that is told is the least of those that the term breaks.
+    ensures least { IfOk result (λ r. r.least
+        ≡ least_of (broken (style_of mode prolog) symbols.new (raw_of raw))) }
     // Where no row was met the formula is what the term means by these symbols and variables.
     ensures means { IfOk result (λ r. r.least ≡ None → IsMeaning (style_of mode prolog) symbols.new
         (raw_of raw) (fol_of r.formula.shape)) }

@@ -7,6 +7,7 @@ ghost use Rattle.fol_core.specs.Occurs.{names, names_in, names_in_any};
 ghost use Rattle.fol_core.specs.RawTree.{RawTree, RawTrees};
 ghost use Rattle.fol_core.specs.SymbolTable.{Symbol, KeepsNumbers};
 ghost use Rattle.ladr_lex.specs.Cuts.{is_quoted};
+ghost use Rattle.ladr_formulas.specs.Broken.{broken, least_of};
 ghost use Rattle.ladr_formulas.specs.ClauseIn.{clause_in};
 ghost use Rattle.ladr_formulas.specs.Formulas.{Style, is_free_name, formula_reading, terms_of, unread, style_of};
 ghost use Rattle.ladr_formulas.specs.Means.{IsMeaning};
@@ -32,8 +33,9 @@ pub fn larger_tables()
 {}
 
 /// Behind a reading the table is the one before it and then what is new, in the order in which it occurs, and an arity is too
-/// large where one of these is; the variables are in their order too. Nothing is misused exactly where the term means a formula by these symbols and variables, and the formula is
-/// that one.
+/// large where one of these is; the variables are in their order too. The row of misuse that is told is the least of those that
+/// the term breaks; there is none exactly where the term means a formula by these symbols and variables, and the formula is that
+/// one.
 pub fn readings_mean()
     ensures ordered { (st : Style) (table : List Symbol) (t : RawTree) →
         (formula_reading st table t).reading.symbols
@@ -42,6 +44,9 @@ pub fn readings_mean()
         (formula_reading st table t).reading.variables ≡ variables_in st t }
     ensures arity { (st : Style) (table : List Symbol) (t : RawTree) →
         (formula_reading st table t).reading.large ≡ has_many_arguments (occurring st [] t) }
+    ensures least { (st : Style) (table : List Symbol) (t : RawTree) →
+        (formula_reading st table t).reading.least
+        ≡ least_of (broken st (formula_reading st table t).reading.symbols t) }
     ensures means { (st : Style) (table : List Symbol) (t : RawTree) →
         (formula_reading st table t).reading.least ≡ None →
         IsMeaning st (formula_reading st table t).reading.symbols t

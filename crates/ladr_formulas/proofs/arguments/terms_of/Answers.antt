@@ -3,11 +3,13 @@ use Rattle.fol_core.specs.Bound.{HaveSymbolsBelow}
 use Rattle.fol_core.specs.RawTree.{RawTrees, raws_of}
 use Rattle.fol_core.specs.SymbolTable.{Symbol, KeepsNumbers}
 use Rattle.fol_core.specs.Tree.{Trees, trees_of}
+use Rattle.ladr_formulas.specs.Broken.{broken_outside, least_of}
 use Rattle.ladr_formulas.specs.Formulas.{Style, Bound, Reading, Made, unread, terms_of}
 use Rattle.ladr_formulas.specs.Means.{MeanTerms}
 use Rattle.ladr_formulas.specs.Occurring.{symbols_of_terms, new_symbols, has_many_arguments}
 use Rattle.ladr_formulas.specs.ReaderView.{Progress}
 use Rattle.ladr_formulas.specs.VariablesMet.{variables_of_terms, numbered}
+use Rattle.ladr_formulas.proofs.Breaking.{terms_least}
 use Rattle.ladr_formulas.proofs.MeaningLemmas.{terms_reading_mean}
 use Rattle.ladr_formulas.proofs.OrderLemmas.{terms_in_order, terms_large}
 use Rattle.ladr_formulas.proofs.Unbroken.{terms_reading_unmet}
@@ -62,6 +64,11 @@ module _ (st : Style) (old table : List Symbol) (first : Progress) (last read : 
       subst (λ (m : Made Trees). MeanTerms st m.reading.symbols (numbered (variables_of_terms st [] raws)) [] raws m.tree) whole
       (terms_reading_mean st old raws (ap (λ (m : Made Trees). m.reading.least) whole ∙ unmet))
 
+  least_read : read.least ≡ least_of (broken_outside st read.symbols raws)
+  least_read =
+      ap (λ (m : Made Trees). m.reading.least) (sym whole) ∙ terms_least st old raws
+      ∙ ap (λ (m : Made Trees). least_of (broken_outside st m.reading.symbols raws)) whole
+
   unmet_read : (us : Trees) → MeanTerms st read.symbols (numbered (variables_of_terms st [] raws)) [] raws us → read.least ≡ None
   unmet_read us h =
       ap (λ (m : Made Trees). m.reading.least) (sym whole)
@@ -78,6 +85,10 @@ returns-clause-numbered c =
 pub returns-clause-means : goal.returns-clause-means
 returns-clause-means c =
     means_read c.args.style c.args.symbols.now c.replace-table.result c.new-reader.result c.terms-answer.new.reader.reading _ (raws_of c.args.raws.now) (trees_of c.in_ok-terms.terms) c.new-reader.ensures c.replace-table.ensures.value c.in_ok-terms.ensures.read c.into_read-table.ensures
+
+pub returns-clause-least : goal.returns-clause-least
+returns-clause-least c =
+    least_read c.args.style c.args.symbols.now c.replace-table.result c.new-reader.result c.terms-answer.new.reader.reading _ (raws_of c.args.raws.now) (trees_of c.in_ok-terms.terms) c.new-reader.ensures c.replace-table.ensures.value c.in_ok-terms.ensures.read c.into_read-table.ensures
 
 pub returns-clause-unmet : goal.returns-clause-unmet
 returns-clause-unmet c =

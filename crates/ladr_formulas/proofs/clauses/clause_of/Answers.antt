@@ -6,12 +6,14 @@ use Rattle.fol_core.specs.RawTree.{RawTree}
 use Rattle.fol_core.specs.RawView.{raw_list}
 use Rattle.fol_core.specs.SymbolTable.{Symbol, KeepsNumbers}
 use Rattle.ladr_reader.specs.Capped.{disjuncts}
+use Rattle.ladr_formulas.specs.Broken.{broken, least_of}
 use Rattle.ladr_formulas.specs.Formulas.{Style, Made, unread, style_of, formula_in, formula_reading, names_of_variables}
 use Rattle.ladr_formulas.specs.ClauseIn.{clause_in}
 use Rattle.ladr_formulas.specs.Literals.{IsClauseRead}
 use Rattle.ladr_formulas.specs.Means.{IsMeaning}
 use Rattle.ladr_formulas.specs.ReaderView.{Progress}
 use Rattle.ladr_formulas.specs.declared.clauses.ClauseRead.{ClauseRead}
+use Rattle.ladr_formulas.proofs.Breaking.{reading_least}
 use Rattle.ladr_formulas.proofs.MeaningLemmas.{reading_means}
 use Rattle.ladr_formulas.proofs.OrderLemmas.{read_in_order, read_large}
 use Rattle.ladr_formulas.proofs.Unbroken.{reading_unmet}
@@ -59,6 +61,14 @@ clause_unmet st old t r table h f m = h.least ∙ reading_unmet st old t f (subs
 pub returns-clause-unmet : goal.returns-clause-unmet
 returns-clause-unmet c =
     IfOk-weaker c.whole_clause-answer.result _ _ (λ r h t e. clause_unmet (style_of c.args.mode c.args.prolog) c.args.symbols.now t r _ (h t e)) (returns-clause-read c)
+
+-- the row is the least that the term breaks
+clause_least : (st : Style) (old : List Symbol) (t : RawTree) (r : ClauseRead) (table : List Symbol) → IsClauseRead (formula_reading st old t) r table → r.least ≡ least_of (broken st table t)
+clause_least st old t r table h = h.least ∙ reading_least st old t ∙ ap (λ (u : List Symbol). least_of (broken st u t)) (sym h.symbols)
+
+pub returns-clause-least : goal.returns-clause-least
+returns-clause-least c =
+    IfOk-weaker c.whole_clause-answer.result _ _ (λ r h t e. clause_least (style_of c.args.mode c.args.prolog) c.args.symbols.now t r _ (h t e)) (returns-clause-read c)
 
 pub returns-clause-arity : goal.returns-clause-arity
 returns-clause-arity c =

@@ -6,6 +6,8 @@ pub returns : goal.returns
 unfolding named_variable
 returns c = record {
   misuses = refl;
+  rows = refl;
+  least = refl;
   variable = refl;
   prolog = refl;
   no_variable = refl;

@@ -6,6 +6,7 @@ use Rattle.fol_core.specs.SymbolTable.{Symbol, KeepsNumbers}
 use Rattle.ladr_formulas.specs.Formulas.{Made, unread, style_of, formula_in, formula_reading}
 use Rattle.ladr_formulas.specs.ReaderView.{Progress}
 use Rattle.ladr_formulas.specs.Whole.{IsWhole}
+use Rattle.ladr_formulas.proofs.Breaking.{whole_least}
 use Rattle.ladr_formulas.proofs.MeaningLemmas.{whole_means}
 use Rattle.ladr_formulas.proofs.OrderLemmas.{whole_in_order, whole_large}
 use Rattle.ladr_formulas.proofs.OwnFormulas.{whole_once, whole_below}
@@ -45,6 +46,9 @@ returns-clause-numbered c = whole_numbered c.whole_formula-answer.result (style_
 
 pub returns-clause-means : goal.returns-clause-means
 returns-clause-means c = whole_means c.whole_formula-answer.result (style_of c.args.mode c.args.prolog) c.args.symbols.now (raw_of c.args.raw) _ (returns-clause-read c)
+
+pub returns-clause-least : goal.returns-clause-least
+returns-clause-least c = whole_least c.whole_formula-answer.result (style_of c.args.mode c.args.prolog) c.args.symbols.now (raw_of c.args.raw) _ (returns-clause-read c)
 
 pub returns-clause-unmet : goal.returns-clause-unmet
 returns-clause-unmet c = whole_unmet c.whole_formula-answer.result (style_of c.args.mode c.args.prolog) c.args.symbols.now (raw_of c.args.raw) _ (returns-clause-read c)
