@@ -6,13 +6,14 @@ ghost use Rattle.fol_core.specs.Literals.{ClauseTree};
 ghost use Rattle.fol_core.specs.Occurs.{names, names_in, names_in_any};
 ghost use Rattle.fol_core.specs.RawTree.{RawTree, RawTrees};
 ghost use Rattle.fol_core.specs.SymbolTable.{Symbol, KeepsNumbers};
+ghost use Rattle.fol_core.specs.Tree.{Trees};
 ghost use Rattle.ladr_lex.specs.Cuts.{is_quoted};
-ghost use Rattle.ladr_formulas.specs.Broken.{broken, least_of};
+ghost use Rattle.ladr_formulas.specs.Broken.{broken, broken_outside, least_of};
 ghost use Rattle.ladr_formulas.specs.ClauseIn.{clause_in};
 ghost use Rattle.ladr_formulas.specs.Formulas.{Style, is_free_name, formula_reading, terms_of, unread, style_of};
-ghost use Rattle.ladr_formulas.specs.Means.{IsMeaning};
-ghost use Rattle.ladr_formulas.specs.Occurring.{occurring, new_symbols, has_many_arguments};
-ghost use Rattle.ladr_formulas.specs.VariablesMet.{variables_in};
+ghost use Rattle.ladr_formulas.specs.Means.{IsMeaning, MeanTerms};
+ghost use Rattle.ladr_formulas.specs.Occurring.{symbols_of_terms, occurring, new_symbols, has_many_arguments};
+ghost use Rattle.ladr_formulas.specs.VariablesMet.{variables_of_terms, numbered, variables_in};
 
 use crate::styles::Mode;
 
@@ -54,6 +55,31 @@ pub fn readings_mean()
     ensures unmet { (st : Style) (table : List Symbol) (t : RawTree) (f : Fol) →
         IsMeaning st (formula_reading st table t).reading.symbols t f →
         (formula_reading st table t).reading.least ≡ None }
+{}
+
+/// So it is of terms that stand in no formula.
+pub fn terms_mean()
+    ensures ordered { (st : Style) (table : List Symbol) (ts : RawTrees) →
+        (terms_of st [] (unread table) ts).reading.symbols
+        ≡ table ++ new_symbols table (symbols_of_terms st [] ts) }
+    ensures numbered { (st : Style) (table : List Symbol) (ts : RawTrees) →
+        (terms_of st [] (unread table) ts).reading.variables
+        ≡ numbered (variables_of_terms st [] ts) }
+    ensures arity { (st : Style) (table : List Symbol) (ts : RawTrees) →
+        (terms_of st [] (unread table) ts).reading.large
+        ≡ has_many_arguments (symbols_of_terms st [] ts) }
+    ensures least { (st : Style) (table : List Symbol) (ts : RawTrees) →
+        (terms_of st [] (unread table) ts).reading.least
+        ≡ least_of (broken_outside st (terms_of st [] (unread table) ts).reading.symbols ts) }
+    ensures means { (st : Style) (table : List Symbol) (ts : RawTrees) →
+        (terms_of st [] (unread table) ts).reading.least ≡ None →
+        MeanTerms st (terms_of st [] (unread table) ts).reading.symbols
+        (numbered (variables_of_terms st [] ts)) [] ts
+        (terms_of st [] (unread table) ts).tree }
+    ensures unmet { (st : Style) (table : List Symbol) (ts : RawTrees) (us : Trees) →
+        MeanTerms st (terms_of st [] (unread table) ts).reading.symbols
+        (numbered (variables_of_terms st [] ts)) [] ts us →
+        (terms_of st [] (unread table) ts).reading.least ≡ None }
 {}
 
 /// By a table of symbols a term as read means one formula at most.

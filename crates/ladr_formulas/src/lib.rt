@@ -18,7 +18,9 @@ pub use examples::{
     worked_formulas, worked_meanings, worked_refusals, worked_symbols, worked_variables,
 };
 pub use formulas::{FormulaRead, is_too_great, read_formula};
-pub use laws::{larger_tables, one_meaning, prover_names_no_element, quoted_names, readings_mean};
+pub use laws::{
+    larger_tables, one_meaning, prover_names_no_element, quoted_names, readings_mean, terms_mean,
+};
 pub use numbering::Variables;
 pub use reader::is_free_name;
 pub use styles::{Mode, Style, style_of};
