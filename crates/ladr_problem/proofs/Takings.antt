@@ -8,6 +8,7 @@ use Rattle.fol_core.specs.RawTree.{RawTree}
 use Rattle.fol_core.specs.RawView.{raw_of}
 use Rattle.fol_core.specs.SymbolTable.{Symbol, KeepsNumbers}
 use Rattle.fol_core.specs.Weights.{Rule}
+use Rattle.fol_core.specs.declared.raw.Raw.{Raw}
 use Rattle.ladr_lex.specs.declared.misuse.Misuse.{Misuse}
 use Rattle.ladr_commands.specs.declared.command.Command.{Command}
 use Rattle.ladr_problem.specs.ListItem.{term, IsListItem, IsItemFault}

@@ -1,5 +1,5 @@
 // The items of a file, one behind the other.
-ghost use Rattle.std.specs.Prelude.{◌≡◌, ◌<◌, ◌^◌, OnOk, IfErr, [], length, List};
+ghost use Rattle.std.specs.Prelude.{◌≡◌, ◌<◌, ◌^◌, ℕ, OnOk, IfErr, MatchOption, [], length, List};
 ghost use Rattle.ladr_problem.specs.Items.{items_of, in_front, tokens_of};
 ghost use Rattle.ladr_lex.specs.Cuts.{Piece, pieces_of};
 ghost use Rattle.ladr_problem.specs.Draft.{sofar_of};
@@ -22,6 +22,17 @@ fn start_at(end: usize, tokens: &[Token], k: usize) -> usize
     match tokens.get(k) {
         Some(token) => token.start(),
         None => end,
+    }
+}
+
+// Where the first of some tokens begins, if there is one.
+fn begin(tokens: &[Token]) -> Option<u64>
+    ensures { MatchOption result (length tokens.now ≡ 0) (λ byte. (0 < length tokens.now)
+        × ((end : ℕ) → byte ≡ start_at end (pieces_of tokens.now) 0)) }
+{
+    match tokens {
+        [] => None,
+        [first, ..] => Some(first.start() as u64),
     }
 }
 
@@ -54,13 +65,12 @@ fn take_item(
     ensures stop { (items : List (List Piece)) → IfErr result (IsStop (File program end
         (sofar_of draft.old) (in_front (pieces_of tokens.old.items) items))) }
 {
-    if tokens.is_empty() {
-        return Ok(());
-    }
-    let byte = start_at(end, tokens, 0) as u64;
-    match draft.take(alloc, program, byte, tokens) {
-        Ok(()) => Ok(()),
-        Err(why) => Err(by_refusal(end, byte, tokens, why)),
+    match begin(tokens) {
+        None => Ok(()),
+        Some(byte) => match draft.take(alloc, program, byte, tokens) {
+            Ok(()) => Ok(()),
+            Err(why) => Err(by_refusal(end, byte, tokens, why)),
+        },
     }
 }
 

@@ -20,7 +20,7 @@ returns-in-Err-take_item-clause-stop c =
     let bytes = c.args.text.now.bytes.now in
     let rest = items_of (lexed_from start c.in-Ok.next bytes) in
     let stop = c.in-Err-take_item.stop in
-    let front = subst (λ (ts : List Token). IsStop (File c.args.program c.args.end (sofar_of c.loop-at.draft) (in_front (pieces_of ts) rest)) stop) c.deref.ensures.value (c.in-Err-take_item.ensures.stop rest) in
+    let front = c.in-Err-take_item.ensures.stop rest in
     let here = subst (λ (items : List (List Piece)). IsStop (File c.args.program c.args.end (sofar_of c.loop-at.draft) items) stop) (sym (items_ahead start bytes _ c.loop-at.at c.in-Ok.next c.in-Ok.ensures)) front in
     stop_along (File c.args.program c.args.end (sofar_of c.loop-at.draft) (items_of (lexed_from start c.loop-at.at bytes))) (File c.args.program c.args.end (sofar_of c.args.draft.now) (items_of (tokens_of c.args.text.now))) c.loop-at.invariant stop here
 
@@ -29,6 +29,6 @@ loop-at-preserved c = λ o f.
     let start = c.args.text.now.start in
     let bytes = c.args.text.now.bytes.now in
     let rest = items_of (lexed_from start c.in-Ok.next bytes) in
-    let front = subst (λ (ts : List Token). File c.args.program c.args.end (sofar_of c.loop-at.draft) (in_front (pieces_of ts) rest) o) c.deref.ensures.value (c.in-Ok-take_item.ensures.ok rest o f) in
+    let front = c.in-Ok-take_item.ensures.ok rest o f in
     c.loop-at.invariant o
     (subst (λ (items : List (List Piece)). File c.args.program c.args.end (sofar_of c.loop-at.draft) items o) (sym (items_ahead start bytes _ c.loop-at.at c.in-Ok.next c.in-Ok.ensures)) front)
