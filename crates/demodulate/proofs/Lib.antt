@@ -3,4 +3,5 @@ pub mod Fits
 pub mod Passing
 pub mod Placing
 pub mod Redexes
+pub mod Resuming
 pub mod Smaller

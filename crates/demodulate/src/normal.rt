@@ -1,13 +1,14 @@
 // A clause rewritten step by step.
-ghost use Rattle.std.specs.Prelude.{◌≡◌, ◌<◌, IfOk, length};
+ghost use Rattle.std.specs.Prelude.{◌≡◌, ◌<◌, ◌∷◌, IfOk, length};
 ghost use Rattle.std.specs.Option.{option_map};
+ghost use Rattle.demodulate.specs.Resumed.{AreLiteralsNormalBefore};
 ghost use Rattle.demodulate.specs.Steps.{placed_step, IsPlaceIn, TakesAtom, tidied_of};
 ghost use Rattle.fol_core.specs.TermView.{tree_of};
 ghost use Rattle.prover_steps.specs.Rewriting.{clause_step, normal_form};
 ghost use Rattle.prover_steps.specs.Searching.{is_too_large};
 
 use crate::literals::exchange;
-use crate::rewriting::atom_step;
+use crate::rewriting::{atom_step, is_passed, place_within};
 use crate::step::{PlacedStep, Tidied};
 use clause_index::Rules;
 use clause_limits::is_too_large;
@@ -21,17 +22,33 @@ fn first_in_clause(
     alloc: Global,
     rules: &Rules,
     clause: &Clause,
+    from: &[u64],
 ) -> Result<Option<PlacedStep>, AllocError>
+    requires { AreLiteralsNormalBefore rules.now from.now 0 clause.now }
     ensures step { IfOk result (λ o. option_map (placed_step clause.now) o
         ≡ clause_step rules.now 0 clause.now) }
     ensures place { IfOk result (λ o. IsPlaceIn clause.now o) }
 {
     for (place, literal) in clause.literals.iter().enumerate() {
-        if let Some(step) = atom_step(alloc, rules, &literal.atom)? {
+        let number = place as u64;
+        if is_passed(number, from) {
+            continue;
+        }
+        if let Some(step) = atom_step(alloc, rules, &literal.atom, place_within(number, from))? {
             return Ok(Some(PlacedStep { place, step }));
         }
     }
     Ok(None)
+}
+
+// A place below an atom, as one of the clause.
+fn place_below(alloc: Global, literal: usize, path: &[u64]) -> Result<Vec<u64>, AllocError>
+    ensures { IfOk result (λ place. place.items ≡ literal ∷ path.now) }
+{
+    let mut place = Vec::with_capacity(alloc, path.len() + 1)?;
+    place.push(literal as u64)?;
+    place.extend_from_slice(path)?;
+    Ok(place)
 }
 
 // A step is taken, unless it makes the clause too large.
@@ -49,7 +66,7 @@ fn take_step(clause: &mut Clause, place: usize, atom: Term) -> bool
 }
 
 /// A clause after so many steps, or after as many as there are, or as don't make it too large; with their words.
-#[tactic(auto, using(crate::proofs::Redexes::steps_end, crate::proofs::Redexes::steps_none, crate::proofs::Redexes::steps_large, crate::proofs::Redexes::steps_on))]
+#[tactic(auto, using(crate::proofs::Redexes::steps_end, crate::proofs::Redexes::steps_none, crate::proofs::Redexes::steps_large, crate::proofs::Redexes::steps_on, crate::proofs::Resuming::nothing_before_literals))]
 pub fn normal_form(
     alloc: Global,
     rules: &Rules,
@@ -60,14 +77,16 @@ pub fn normal_form(
 {
     let mut clause = clause;
     let mut words = Vec::new(alloc);
+    let mut from = Vec::new(alloc);
     for _step in 0..limit {
-        match first_in_clause(alloc, rules, &clause)? {
+        match first_in_clause(alloc, rules, &clause, from.as_slice())? {
             None => return Ok(Tidied { clause, words }),
             Some(found) => {
                 let PlacedStep { place, step } = found;
                 if !take_step(&mut clause, place, step.result) {
                     return Ok(Tidied { clause, words });
                 }
+                from = place_below(alloc, place, step.path.as_slice())?;
                 words.push(Later::Rewrite(Rewrite {
                     rule: step.rule,
                     literal: place as u64,

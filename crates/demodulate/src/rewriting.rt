@@ -1,6 +1,8 @@
-// The first step of rewriting: in the arguments, from the left, else of the whole, by the first rule that fits.
+// The first step of rewriting: in the arguments, from the left, else of the whole, by the first rule that fits. What is left of
+// the place of the step before is in normal form, and isn't looked at again.
 ghost use Rattle.std.specs.Prelude.{◌≡◌, ◌<◌, ◌∷◌, ◌++◌, [], IfOk, OnOk, length};
 ghost use Rattle.std.specs.Option.{option_map};
+ghost use Rattle.demodulate.specs.Resumed.{is_passed, place_within, IsNormalBefore, AreNormalBefore};
 ghost use Rattle.demodulate.specs.Steps.{step_of, step_around};
 ghost use Rattle.fol_core.specs.TermView.{tree_of, tree_list};
 ghost use Rattle.fol_core.specs.Tree.{app, trees_of};
@@ -95,6 +97,26 @@ fn step_around(
     })
 }
 
+/// Whether a part is left of a place.
+pub fn is_passed(number: u64, place: &[u64]) -> bool
+    ensures { result ≡ is_passed number place.now }
+{
+    match place.split_first() {
+        None => false,
+        Some((first, _)) => number < *first,
+    }
+}
+
+/// The rest of a place that is in a part.
+pub fn place_within(number: u64, place: &[u64]) -> &[u64]
+    ensures { result.now ≡ place_within number place.now }
+{
+    match place.split_first() {
+        None => &[],
+        Some((first, rest)) => { if number == *first { rest } else { &[] } }
+    }
+}
+
 /// The first step in arguments, as one of the application.
 #[cycle(first_step)]
 #[tactic(auto, using(crate::proofs::Redexes::normal_more, crate::proofs::Redexes::argument_step, crate::proofs::Redexes::no_argument_step))]
@@ -103,12 +125,18 @@ pub fn step_within(
     rules: &Rules,
     head: Sym,
     terms: &Terms,
+    from: &[u64],
 ) -> Result<Option<Step>, AllocError>
+    requires { AreNormalBefore rules.now from.now 1 (trees_of terms.now) }
     ensures { IfOk result (λ o. option_map step_of o
         ≡ option_map (widened (app head.0)) (step_in rules.now 1 (trees_of terms.now))) }
 {
     for (i, term) in terms.items.iter().enumerate() {
-        if let Some(step) = first_step(alloc, rules, term)? {
+        let number = i as u64 + 1;
+        if is_passed(number, from) {
+            continue;
+        }
+        if let Some(step) = first_step(alloc, rules, term, place_within(number, from))? {
             return Ok(Some(step_around(alloc, head, terms.as_slice(), i, step)?));
         }
     }
@@ -118,14 +146,20 @@ pub fn step_within(
 /// The first step of a term.
 #[cycle(first_step)]
 #[tactic(auto, using(crate::proofs::Redexes::step_inside, crate::proofs::Redexes::step_outside))]
-pub fn first_step(alloc: Global, rules: &Rules, term: &Term) -> Result<Option<Step>, AllocError>
+pub fn first_step(
+    alloc: Global,
+    rules: &Rules,
+    term: &Term,
+    from: &[u64],
+) -> Result<Option<Step>, AllocError>
+    requires { IsNormalBefore rules.now from.now (tree_of term.now) }
     ensures { IfOk result (λ o. option_map step_of o
         ≡ first_step rules.now (tree_of term.now)) }
 {
     match term {
         Term::Var(_) => Ok(None),
         Term::Elem(_) => Ok(None),
-        Term::App(f, terms) => match step_within(alloc, rules, *f, terms)? {
+        Term::App(f, terms) => match step_within(alloc, rules, *f, terms, from)? {
             Some(step) => Ok(Some(step)),
             None => step_at_top(alloc, rules, term),
         },
@@ -133,13 +167,19 @@ pub fn first_step(alloc: Global, rules: &Rules, term: &Term) -> Result<Option<St
 }
 
 /// The first step below an atom.
-pub fn atom_step(alloc: Global, rules: &Rules, atom: &Term) -> Result<Option<Step>, AllocError>
+pub fn atom_step(
+    alloc: Global,
+    rules: &Rules,
+    atom: &Term,
+    from: &[u64],
+) -> Result<Option<Step>, AllocError>
+    requires { IsNormalBefore rules.now from.now (tree_of atom.now) }
     ensures { IfOk result (λ o. option_map step_of o
         ≡ atom_step rules.now (tree_of atom.now)) }
 {
     match atom {
         Term::Var(_) => Ok(None),
         Term::Elem(_) => Ok(None),
-        Term::App(f, terms) => step_within(alloc, rules, *f, terms),
+        Term::App(f, terms) => step_within(alloc, rules, *f, terms, from),
     }
 }

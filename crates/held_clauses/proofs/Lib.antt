@@ -1,5 +1,6 @@
 pub mod Comparing
 pub mod Items
 pub mod LiteralTests
+pub mod PathSteps
 pub mod Sides
 pub mod Variables

@@ -1,3 +1,4 @@
+pub mod Fronts
 pub mod Holding
 pub mod Order
 pub mod Variables

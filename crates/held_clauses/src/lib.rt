@@ -4,6 +4,7 @@
 mod equations;
 mod held;
 mod order;
+mod path_order;
 
 pub use equations::{first_atom, has_same_sides, is_equation, is_unit, left_of, right_of};
 pub use held::Held;

@@ -1,11 +1,12 @@
 // Terms compared by the order that is chosen.
-ghost use Rattle.std.specs.Prelude.{◌≡◌, ◌<◌, IfOk, length};
+ghost use Rattle.std.specs.Prelude.{◌≡◌, ◌<◌, ◌&&◌, IfOk, length, nat_lt};
 ghost use Rattle.fol_core.specs.TermView.{tree_of};
 ghost use Rattle.held_clauses.specs.Order.{greater_of, tells_greater};
 ghost use Rattle.held_clauses.specs.Variables.{has_each_of};
-ghost use Rattle.term_bank.specs.Bank.{tree_at};
+ghost use Rattle.term_bank.specs.Bank.{size_of, tree_at};
 
-use clause_limits::MOST_SYMBOLS;
+use crate::path_order::is_path_greater;
+use clause_limits::{MOST_SYMBOLS, left_behind};
 use fol_core::Term;
 use ladr_options::Order;
 use std::alloc::{AllocError, Global};
@@ -88,6 +89,33 @@ fn is_greater_put(
     is_greater_in(precedence, &bank, first, second)
 }
 
+// Whether both terms have no more than a hundred symbols and variables.
+fn are_small(s: &Term, t: &Term) -> bool
+    ensures { result ≡ (nat_lt (size_of (tree_of s.now)) 101 && nat_lt (size_of (tree_of t.now)) 101) }
+{
+    left_behind(s, 100).is_some() && left_behind(t, 100).is_some()
+}
+
+// Whether the first of two terms is greater: small ones are compared by the path order as they stand.
+fn is_greater_told(
+    alloc: Global,
+    precedence: &Precedence,
+    s: &Term,
+    t: &Term,
+) -> Result<bool, AllocError>
+    ensures { IfOk result (λ b. b ≡ greater_of precedence.now (tree_of s.now) (tree_of t.now)) }
+{
+    match precedence.order {
+        Order::Lpo => {
+            if are_small(s, t) {
+                return Ok(is_path_greater(precedence, s, t));
+            }
+            is_greater_put(alloc, precedence, s, t)
+        }
+        Order::Kbo => is_greater_put(alloc, precedence, s, t),
+    }
+}
+
 /// Whether the first term is greater. What the variables of the two tell takes no memory. A term of more than 1,000,000
 /// symbols, which no clause of a search has, has no room where terms are compared by weight.
 pub fn is_greater(
@@ -111,7 +139,7 @@ pub fn is_greater(
             if !has_each_of(s, t) {
                 return Ok(false);
             }
-            is_greater_put(alloc, precedence, s, t)
+            is_greater_told(alloc, precedence, s, t)
         }
     }
 }

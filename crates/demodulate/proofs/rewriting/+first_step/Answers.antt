@@ -1,10 +1,13 @@
-use Rattle.std.proofs.Common.{ap, sym, ◌∙◌, Some}
+use Rattle.std.proofs.Common.{◌≡◌, ◌+◌, ap, subst, sym, ◌∙◌, Some, true, None, arith}
 use Rattle.std.specs.Option.{option_map}
-use Rattle.fol_core.specs.TermView.{tree_list}
-use Rattle.fol_core.specs.Tree.{app, trees_of}
+use Rattle.fol_core.specs.TermView.{tree_of, tree_list}
+use Rattle.fol_core.specs.Tree.{app, nodes_of, trees_of}
+use Rattle.demodulate.specs.Resumed.{is_passed, place_within, IsNormalBefore, AreNormalBefore}
 use Rattle.demodulate.specs.Steps.{step_of, step_around}
-use Rattle.demodulate.proofs.Redexes.{argument_step, no_argument_step}
-use Rattle.prover_steps.specs.Rewriting.{widened, step_in}
+use Rattle.demodulate.proofs.Redexes.{normal_more, argument_step, no_argument_step}
+use Rattle.term_matches.proofs.Standing.{argument_nodes}
+use Rattle.demodulate.proofs.Resuming.{argument_before}
+use Rattle.prover_steps.specs.Rewriting.{widened, first_step, step_in}
 use Rattle.demodulate.proofs.rewriting.+first_step.Goals as goal
 
 pub step_within-returns-in-Some : goal.step_within-returns-in-Some
@@ -17,3 +20,26 @@ pub step_within-returns : goal.step_within-returns
 step_within-returns t c =
     no_argument_step c.args.rules.now c.args.head.0 c.deref-term-items.result.now c.loop-i.i c.loop-i-test.false c.loop-i.invariant
     ∙ ap (λ ts. option_map (widened (app c.args.head.0)) (step_in c.args.rules.now 1 (trees_of ts))) (ap tree_list c.deref-term-items.ensures.value ∙ c.terms.view_is)
+
+pub step_within-loop-i-preserved-then-is_passed : goal.step_within-loop-i-preserved-then-is_passed
+step_within-loop-i-preserved-then-is_passed t c =
+    let before : AreNormalBefore c.args.rules.now c.args.from.now 1 (trees_of (tree_list c.deref-term-items.result.now)) =
+    subst (λ ts. AreNormalBefore c.args.rules.now c.args.from.now 1 (trees_of ts)) (sym (ap tree_list c.deref-term-items.ensures.value ∙ c.terms.view_is)) c.requires
+    in
+    let known : (is_passed (c.loop-i.i + 1) c.args.from.now ≡ true → first_step c.args.rules.now (tree_of c.term-item.result) ≡ None) × IsNormalBefore c.args.rules.now (place_within (c.loop-i.i + 1) c.args.from.now) (tree_of c.term-item.result) =
+    argument_before c.args.rules.now c.args.from.now c.deref-term-items.result.now c.loop-i.i 1 (c.loop-i.i + 1) c.term-item.result c.loop-i-test.true c.term-item.is (omega arith) before
+    in
+    normal_more c.args.rules.now c.deref-term-items.result.now c.loop-i.i c.term-item.result c.loop-i-test.true c.term-item.is c.loop-i.invariant (known.0 (sym c.is_passed.ensures ∙ c.if-is_passed.true))
+
+pub step_within-first_step-requires : goal.step_within-first_step-requires
+step_within-first_step-requires t c =
+    let before : AreNormalBefore c.args.rules.now c.args.from.now 1 (trees_of (tree_list c.deref-term-items.result.now)) =
+    subst (λ ts. AreNormalBefore c.args.rules.now c.args.from.now 1 (trees_of ts)) (sym (ap tree_list c.deref-term-items.ensures.value ∙ c.terms.view_is)) c.requires
+    in
+    let known : (is_passed (c.loop-i.i + 1) c.args.from.now ≡ true → first_step c.args.rules.now (tree_of c.term-item.result) ≡ None) × IsNormalBefore c.args.rules.now (place_within (c.loop-i.i + 1) c.args.from.now) (tree_of c.term-item.result) =
+    argument_before c.args.rules.now c.args.from.now c.deref-term-items.result.now c.loop-i.i 1 (c.loop-i.i + 1) c.term-item.result c.loop-i-test.true c.term-item.is (omega arith) before
+    in
+    let least = argument_nodes c.deref-term-items.result.now c.loop-i.i c.term-item.result c.loop-i-test.true c.term-item.is in
+    let size : nodes_of (trees_of (tree_list c.deref-term-items.result.now)) ≡ nodes_of (trees_of c.args.terms.now) =
+    ap (λ ts. nodes_of (trees_of (tree_list ts))) c.deref-term-items.ensures.value ∙ ap (λ ts. nodes_of (trees_of ts)) c.terms.view_is in
+    (omega (arith, least, size, c.decreases), subst (λ p. IsNormalBefore c.args.rules.now p (tree_of c.term-item.result)) (sym c.place_within.ensures) known.1)
