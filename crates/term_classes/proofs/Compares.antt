@@ -1,17 +1,16 @@
 -- Two nodes compared, by what stands there.
 use Rattle.std.proofs.Common.{◌≡◌, ℕ, suc, ◌<◌, ◌≤◌, refl, sym, ap, ap₂, subst, ◌∙◌, List, [], ◌∷◌, ◌++◌, length, map, arith}
 use Rattle.std.proofs.lemmas.List.{append-nil}
-use Rattle.std.proofs.lemmas.List.Sums.{get_or-le-sum_by}
 use Rattle.fol_core.specs.Substitutions.{Substitution}
 use Rattle.fol_core.specs.Tree.{Tree, app, elem, trees_of, list_of}
 use Rattle.term_classes.specs.Comparing.{Pairs, Compared}
-use Rattle.term_classes.specs.Merging.{IsNoVariable, arity, arities}
+use Rattle.term_classes.specs.Merging.{IsNoVariable, arity}
 use Rattle.term_classes.specs.Shapes.{Shape, variable, element, application, shape_at, seen, HasArgumentsBelow, AreInPostorder}
 use Rattle.term_classes.specs.declared.work.Comparison.TheVariants.{Clash, First, Second}
 use Rattle.term_classes.proofs.Growing.{below_more}
 
-no_pairs : (n m : ℕ) (p q : Shape) (lefts rights : List ℕ) → (IsNoVariable q → IsNoVariable p) → ((label : Substitution) → IsNoVariable q → seen label q ≡ seen label p) → Pairs n m p q lefts rights lefts rights
-no_pairs n m p q lefts rights heads whole = record {
+no_pairs : (n : ℕ) (p q : Shape) (lefts rights : List ℕ) → (IsNoVariable q → IsNoVariable p) → ((label : Substitution) → IsNoVariable q → seen label q ≡ seen label p) → Pairs n p q lefts rights lefts rights
+no_pairs n p q lefts rights heads whole = record {
   ks = [];
   js = [];
   left = sym (append-nil lefts);
@@ -30,7 +29,7 @@ first_variable shapes p q lefts rights x e = record { variable = λ firm. subst 
 
 pub second_variable : (shapes : List Shape) (p q : ℕ) (lefts rights : List ℕ) (x : ℕ) → IsNoVariable (shape_at shapes p) → variable x ≡ shape_at shapes q → Compared shapes p q lefts rights lefts rights First
 second_variable shapes p q lefts rights x firm e =
-    no_pairs (length shapes) (arities shapes) (shape_at shapes p) (shape_at shapes q) lefts rights (λ h. firm) (λ label h. elim (never (subst IsNoVariable (sym e) h)) [ ])
+    no_pairs (length shapes) (shape_at shapes p) (shape_at shapes q) lefts rights (λ h. firm) (λ label h. elim (never (subst IsNoVariable (sym e) h)) [ ])
   where
     never : IsNoVariable (variable x) → ⊥
     never h = h
@@ -40,7 +39,7 @@ no_variable s shapes p e firm = subst IsNoVariable e firm
 
 pub same_elements : (shapes : List Shape) (p q : ℕ) (lefts rights : List ℕ) (k n : ℕ) → element k ≡ shape_at shapes p → element n ≡ shape_at shapes q → k ≡ n → Compared shapes p q lefts rights lefts rights First
 same_elements shapes p q lefts rights k n e f h =
-    no_pairs (length shapes) (arities shapes) (shape_at shapes p) (shape_at shapes q) lefts rights (λ firm. subst IsNoVariable e tt)
+    no_pairs (length shapes) (shape_at shapes p) (shape_at shapes q) lefts rights (λ firm. subst IsNoVariable e tt)
     (λ label firm. ap (seen label) (sym f ∙ ap element (sym h) ∙ e))
 
 heads_apart : (shapes : List Shape) (p q : ℕ) (s t : Shape) (l r ls rs : List ℕ) → s ≡ shape_at shapes p → t ≡ shape_at shapes q → IsNoVariable s → IsNoVariable t → ((label : Substitution) → seen label s ≡ seen label t → ⊥) → Compared shapes p q l r ls rs Clash
@@ -103,7 +102,7 @@ more_pairs shapes p q lefts rights ls rs f g ks js post p_in q_in e i same even 
   left_below = below_more p (length shapes) (omega (arith, p_in)) ks (subst (HasArgumentsBelow p) (sym e) (post p p_in));
   right_below = below_more q (length shapes) (omega (arith, q_in)) js (subst (HasArgumentsBelow q) (sym i) (post q q_in));
   even = even;
-  few = subst (λ s. arity s ≤ arities shapes) (sym e) (get_or-le-sum_by arity shapes p (variable 0) p_in);
+  few = let short : length ks ≤ length js = omega (arith, even) in subst (λ s. length ks ≤ arity s) i short;
   heads = λ firm. subst IsNoVariable e tt;
   arguments = λ label h. same_arguments f g (map label ks) (map label js) (ap (seen label) e ∙ h (subst IsNoVariable i tt) ∙ sym (ap (seen label) i));
   whole = λ label h firm. sym (ap (seen label) i) ∙ ap₂ (λ (s : ℕ) (ts : List Tree). app s (trees_of ts)) (sym same) (sym h) ∙ ap (seen label) e;

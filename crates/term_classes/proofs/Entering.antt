@@ -5,10 +5,12 @@ use Rattle.std.proofs.Common.{◌≡◌, ℕ, ◌+◌, ◌<◌, ◌≤◌, false
 use Rattle.std.proofs.lemmas.Bool.{cases_lt, cases_eq}
 use Rattle.std.proofs.lemmas.Bool.Decides.{nat_tests}
 use Rattle.std.proofs.lemmas.List.{length_push, map-append, length-map, append-nil, append_assoc, take_at, take_all, drop_at, length-append, get_or_at, get_or-map, map_more}
+use Rattle.std.proofs.lemmas.List.Sums.{sum_by_push}
 use Rattle.fol_core.specs.TermView.{tree_of, tree_list}
 use Rattle.fol_core.specs.Tree.{Tree, app, trees_of}
 use Rattle.fol_core.specs.declared.term.Term.{Term}
 use Rattle.term_classes.specs.Arenas.{shape_of, shapes_of, node_of, IsPlaced, ArePlaced, IsArena, IsNode, AreNodes, IsApplied}
+use Rattle.term_classes.specs.Merging.{arity, arities}
 use Rattle.term_classes.specs.Shapes.{Shape, variable, element, application, shape_at, seen, AreBelow, HasArgumentsBelow, AreInPostorder, tree_at}
 use Rattle.term_classes.specs.declared.node.Arena.{Arena}
 use Rattle.term_classes.specs.declared.node.Node.{Node}
@@ -16,15 +18,21 @@ use Rattle.term_classes.specs.declared.node.Node.TheVariants.{Variable, Applicat
 use Rattle.term_classes.proofs.Growing.{placed_at, placed_push, tree_front, shapes_more, shape_front, shape_last, last_or_before, postorder_push, grows_refl, grows_on, grows_length, trees_grow, tree_last, same_seen, below_more, below_append}
 
 pub entered : (old new : Arena) (more : List ℕ) (node : Node) (s : Shape) → IsArena old → new.arguments.items ≡ old.arguments.items ++ more → new.nodes.items ≡ old.nodes.items ++ node ∷ []
-    → IsPlaced (length new.arguments.items) node → shape_of new.arguments.items node ≡ s → HasArgumentsBelow (length (shapes_of old)) s
+    → IsPlaced (length new.arguments.items) node → shape_of new.arguments.items node ≡ s → HasArgumentsBelow (length (shapes_of old)) s → arity s ≤ length more
     → ((x n : ℕ) → node_of new x ≡ Some n → (node_of old x ≡ Some n) ⊎ ((n ≡ length (shapes_of old)) × (s ≡ variable x)))
     → ((x n : ℕ) → node_of old x ≡ Some n → node_of new x ≡ Some n)
     → ((x : ℕ) → s ≡ variable x → node_of new x ≡ Some (length (shapes_of old)))
     → IsNode old new s (length old.nodes.items)
-entered old new more node s is args nodes at shape lower named kept last = record {
+entered old new more node s is args nodes at shape lower short named kept last = record {
   arena = record {
     placed = subst (ArePlaced (length new.arguments.items)) (sym nodes) (placed_push (length old.arguments.items) (length new.arguments.items) longer old.nodes.items node is.placed at);
     postorder = subst AreInPostorder (sym all) (postorder_push (shapes_of old) s is.postorder lower);
+    few =
+        let total : arities (shapes_of old ++ s ∷ []) ≡ arities (shapes_of old) + arity s = sum_by_push arity (shapes_of old) s in
+        let before = is.few in
+        let wider : length new.arguments.items ≡ length old.arguments.items + length more = ap length args ∙ length-append old.arguments.items more in
+        let fits : arities (shapes_of old ++ s ∷ []) ≤ length new.arguments.items = omega (arith, total, before, wider, short) in
+        subst (λ l. arities l ≤ length new.arguments.items) (sym all) fits;
     named = λ x n h. elim (named x n h) [
       | inl o ↦ let r = is.named x n o in (omega (arith, r.0, more_nodes), ap (λ l. shape_at l n) all ∙ shape_front (shapes_of old) (s ∷ []) n r.0 ∙ r.1)
       | inr e ↦ (omega (arith, e.0, more_nodes), ap (λ l. shape_at l n) all ∙ ap (shape_at (shapes_of old ++ s ∷ [])) e.0 ∙ shape_last (shapes_of old) s ∙ e.1)
@@ -50,10 +58,10 @@ entered old new more node s is args nodes at shape lower named kept last = recor
 
 -- a node that is no variable leaves the variables' nodes as they are
 pub entered_other : (old new : Arena) (more : List ℕ) (node : Node) (s : Shape) → IsArena old → new.arguments.items ≡ old.arguments.items ++ more → new.nodes.items ≡ old.nodes.items ++ node ∷ []
-    → IsPlaced (length new.arguments.items) node → shape_of new.arguments.items node ≡ s → HasArgumentsBelow (length (shapes_of old)) s
+    → IsPlaced (length new.arguments.items) node → shape_of new.arguments.items node ≡ s → HasArgumentsBelow (length (shapes_of old)) s → arity s ≤ length more
     → ((x : ℕ) → node_of new x ≡ node_of old x) → ((x : ℕ) → s ≡ variable x → ⊥) → IsNode old new s (length old.nodes.items)
-entered_other old new more node s is args nodes at shape lower same no_variable =
-    entered old new more node s is args nodes at shape lower (λ x n h. inl (sym (same x) ∙ h)) (λ x n h. same x ∙ h) (λ x e. elim (no_variable x e) [ ])
+entered_other old new more node s is args nodes at shape lower short same no_variable =
+    entered old new more node s is args nodes at shape lower short (λ x n h. inl (sym (same x) ∙ h)) (λ x n h. same x ∙ h) (λ x e. elim (no_variable x e) [ ])
 
 pub at_other : (x q : ℕ) → (x ≡ q → ⊥) → is_at (nat_cmp x) q ≡ false
 at_other x q h = grind (arith, nat_tests)
@@ -170,7 +178,7 @@ no_element k x e = cc
 pub variable_entered : (old new : Arena) (x : ℕ) → IsArena old → new.arguments.items ≡ old.arguments.items → new.nodes.items ≡ old.nodes.items ++ Variable x ∷ [] → node_of old x ≡ None → node_of new x ≡ Some (length old.nodes.items)
     → ((q : ℕ) → is_at (nat_cmp x) q ≡ false → node_of new q ≡ node_of old q) → IsNode old new (variable x) (length old.nodes.items)
 variable_entered old new x is args nodes absent here others =
-    entered old new [] (Variable x) (variable x) is (args ∙ sym (append-nil old.arguments.items)) nodes tt refl tt
+    entered old new [] (Variable x) (variable x) is (args ∙ sym (append-nil old.arguments.items)) nodes tt refl tt (omega arith)
     (λ y n h. elim (cases_eq x y) [
       | inl e ↦ inr (place n (sym (ap (node_of new) (sym e) ∙ here) ∙ h) ∙ sym many, ap variable e)
       | inr d ↦ inl (sym (others y (at_other x y d)) ∙ h)

@@ -8,6 +8,7 @@ pub mod Measured
 pub mod Merges
 pub mod Orders
 pub mod Renamed
+pub mod Rooms
 pub mod Solving
 pub mod Terms
 pub mod Unified

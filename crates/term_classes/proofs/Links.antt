@@ -21,7 +21,7 @@ each_set P n here there k = elim (cases_eq k n) [
 ]
 
 pub shortened_refl : (links : List ℕ) → LeadDown links → Shortened links links
-shortened_refl links down = record { as_many = refl; down = down; sum = omega arith; stays = λ n h e. e; on = λ label f. f; back = λ label f. f; carries = λ label shapes schemas c. c }
+shortened_refl links down = record { as_many = refl; down = down; sum = omega arith; stays = λ n h e. e; stood = λ n h e. e; on = λ label f. f; back = λ label f. f; carries = λ label shapes schemas c. c }
 
 pub shortened_on : (a b c : List ℕ) → Shortened a b → Shortened b c → Shortened a c
 shortened_on a b c p q = record {
@@ -29,6 +29,7 @@ shortened_on a b c p q = record {
   down = q.down;
   sum = omega (arith, p.sum, q.sum);
   stays = λ k h o. q.stays k (subst (λ l. k < l) (sym p.as_many) h) (p.stays k h o);
+  stood = λ k h o. p.stood k h (q.stood k (subst (λ l. k < l) (sym p.as_many) h) o);
   on = λ label f. q.on label (p.on label f);
   back = λ label f. p.back label (q.back label f);
   carries = λ label shapes schemas f. q.carries label shapes schemas (p.carries label shapes schemas f);
@@ -48,6 +49,13 @@ skip links n next after down h e f = record {
   stays = λ k g o. each_set (λ k. k < length links → nth links k ≡ k → nth (set links n after) k ≡ k) n
       (λ i o. set_here links n after h ∙ f ∙ ap (nth links) (e ∙ o) ∙ o)
       (λ k d i o. set_there links n after k d ∙ o) k g o;
+  stood = λ k g o. each_set (λ k. k < length links → nth (set links n after) k ≡ k → nth links k ≡ k) n
+      (λ i o.
+      let s = set_here links n after h in
+      let lower = down n h in
+      let lowest = down next short in
+      omega (arith, s, o, lower, lowest, e, f))
+      (λ k d i o. sym (set_there links n after k d) ∙ o) k g o;
   on = λ label fits k g. each_set (λ k. k < length links → label k ≡ label (nth (set links n after) k)) n
       (λ i. fits n h ∙ ap label (sym e) ∙ fits next short ∙ ap label (sym f ∙ sym (set_here links n after h)))
       (λ k d i. fits k i ∙ ap label (sym (set_there links n after k d))) k (subst (λ l. k < l) (length-set links n after) g);

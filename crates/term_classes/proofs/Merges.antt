@@ -3,12 +3,12 @@ use Rattle.std.proofs.Common.{◌≡◌, ℕ, zero, suc, ◌+◌, ◌*◌, ◌<�
 use Rattle.std.proofs.Math.Nat.{mul-le-mul_right}
 use Rattle.std.proofs.lemmas.Bool.{cases_eq}
 use Rattle.std.proofs.lemmas.List.{length-set, length_push, length-append, map-append, get_or_read}
-use Rattle.std.proofs.lemmas.List.Sums.{sum_by-set}
+use Rattle.std.proofs.lemmas.List.Sums.{sum_by-set, get_or-le-sum_by}
 use Rattle.fol_core.specs.Substitutions.{Substitution}
 use Rattle.fol_core.specs.Tree.{Tree}
 use Rattle.term_classes.specs.Comparing.{AreApart, Pairs, IsPassed, Compared}
-use Rattle.term_classes.specs.Merging.{nth, LeadDown, FitsLinks, CarriesOn, Carries, Shortened, IsLeast, IsFlat, CountsUp, IsNoVariable, HasSchemas, Merging, with_pair, Fits, IsMerging, GoesOn, Clashes, sum_of, arities, left_of, CanUnite, Steps, Lessens, IsMerged}
-use Rattle.term_classes.specs.Shapes.{Shape, shape_at, AreBelow}
+use Rattle.term_classes.specs.Merging.{nth, LeadDown, FitsLinks, CarriesOn, Carries, Shortened, IsLeast, IsFlat, CountsUp, IsNoVariable, HasSchemas, Merging, with_pair, Fits, IsMerging, GoesOn, Clashes, sum_of, arity, arities, left_of, CanUnite, Steps, Lessens, IsMerged}
+use Rattle.term_classes.specs.Shapes.{Shape, variable, shape_at, AreBelow}
 use Rattle.term_classes.specs.Solved.{IsBegun}
 use Rattle.term_classes.proofs.Growing.{below_at, below_append, below_front, below_behind}
 use Rattle.term_classes.specs.declared.work.Comparison.{Comparison}
@@ -185,7 +185,7 @@ linked_less shapes links low high few lefts pairs h less least longer some =
 
 -- the lesser one's schema stays, and its arguments are to be the same as the other's
 pub unite_first : (shapes : List Shape) (m n : Merging) (low high : ℕ) → CanUnite shapes m low high
-    → Pairs (length shapes) (arities shapes) (shape_at shapes (nth m.schemas low)) (shape_at shapes (nth m.schemas high)) m.lefts m.rights n.lefts n.rights
+    → Pairs (length shapes) (shape_at shapes (nth m.schemas low)) (shape_at shapes (nth m.schemas high)) m.lefts m.rights n.lefts n.rights
     → n.links ≡ set m.links high low → n.schemas ≡ m.schemas → GoesOn shapes (with_pair low high m) n
 unite_first shapes m n low high can pairs links schemas = record {
   merging = record {
@@ -358,11 +358,11 @@ pub united_clash : (shapes : List Shape) (m : Merging) (low high kept other : �
 united_clash shapes m low high kept other l r ls rs d can k o e is =
     unite_clash shapes m low high can (subst (λ i. AreApart (shape_at shapes i) (shape_at shapes (nth m.schemas high))) k (subst (λ i. AreApart (shape_at shapes kept) (shape_at shapes i)) o (subst (Compared shapes kept other l r ls rs) e is)))
 
-paired : (shapes : List Shape) (m : Merging) (low high kept other : ℕ) (ls rs : List ℕ) (d : Comparison) → kept ≡ nth m.schemas low → other ≡ nth m.schemas high → d ≡ First → Compared shapes kept other m.lefts m.rights ls rs d
-    → Pairs (length shapes) (arities shapes) (shape_at shapes (nth m.schemas low)) (shape_at shapes (nth m.schemas high)) m.lefts m.rights ls rs
+pub paired : (shapes : List Shape) (m : Merging) (low high kept other : ℕ) (ls rs : List ℕ) (d : Comparison) → kept ≡ nth m.schemas low → other ≡ nth m.schemas high → d ≡ First → Compared shapes kept other m.lefts m.rights ls rs d
+    → Pairs (length shapes) (shape_at shapes (nth m.schemas low)) (shape_at shapes (nth m.schemas high)) m.lefts m.rights ls rs
 paired shapes m low high kept other ls rs d k o e is =
-    subst (λ i. Pairs (length shapes) (arities shapes) (shape_at shapes i) (shape_at shapes (nth m.schemas high)) m.lefts m.rights ls rs) k
-    (subst (λ i. Pairs (length shapes) (arities shapes) (shape_at shapes kept) (shape_at shapes i) m.lefts m.rights ls rs) o (subst (Compared shapes kept other m.lefts m.rights ls rs) e is))
+    subst (λ i. Pairs (length shapes) (shape_at shapes i) (shape_at shapes (nth m.schemas high)) m.lefts m.rights ls rs) k
+    (subst (λ i. Pairs (length shapes) (shape_at shapes kept) (shape_at shapes i) m.lefts m.rights ls rs) o (subst (Compared shapes kept other m.lefts m.rights ls rs) e is))
 
 pub united_first : (shapes : List Shape) (m n : Merging) (low high kept other : ℕ) (d : Comparison) → CanUnite shapes m low high → kept ≡ nth m.schemas low → other ≡ nth m.schemas high → d ≡ First → Compared shapes kept other m.lefts m.rights n.lefts n.rights d
     → n.links ≡ set m.links high low → n.schemas ≡ m.schemas → GoesOn shapes (with_pair low high m) n
@@ -382,8 +382,19 @@ united_less shapes m n low high kept other d can k o e is links =
     let i = high_inside shapes m low high can in
     let inside : high < length m.links = omega (arith, i.1, can.merging.linked) in
     let longer : length n.lefts ≡ length m.lefts + length pairs.ks = ap length pairs.left ∙ length-append m.lefts pairs.ks in
+    let arguments = get_or-le-sum_by arity shapes (nth m.schemas high) (variable 0) (schema_inside shapes (with_pair low high m) can.merging high i.1) in
     subst (λ l. sum_of l * (arities shapes + 1) + length n.lefts ≤ left_of shapes m) (sym links)
-    (linked_less shapes m.links low high (length pairs.ks) m.lefts n.lefts inside can.lower can.high_least longer pairs.few)
+    (linked_less shapes m.links low high (length pairs.ks) m.lefts n.lefts inside can.lower can.high_least longer (omega (arith, pairs.few, arguments)))
+
+pub passed_less : (shapes : List Shape) (m n : Merging) (low high kept other : ℕ) (d : Comparison) → CanUnite shapes m low high → d ≡ Second → Compared shapes kept other m.lefts m.rights n.lefts n.rights d → n.links ≡ set m.links high low
+    → left_of shapes n ≤ left_of shapes m
+passed_less shapes m n low high kept other d can e is links =
+    let passed : IsPassed (shape_at shapes kept) m.lefts m.rights n.lefts n.rights = subst (Compared shapes kept other m.lefts m.rights n.lefts n.rights) e is in
+    let i = high_inside shapes m low high can in
+    let inside : high < length m.links = omega (arith, i.1, can.merging.linked) in
+    let same : length n.lefts ≡ length m.lefts + 0 = let l = ap length passed.left in omega (arith, l) in
+    subst (λ l. sum_of l * (arities shapes + 1) + length n.lefts ≤ left_of shapes m) (sym links)
+    (linked_less shapes m.links low high 0 m.lefts n.lefts inside can.lower can.high_least same (omega arith))
 
 -- a node's class is found for each of a pair
 pub pair_found : (shapes : List Shape) (m n : Merging) (left right a b : ℕ) (middle : List ℕ) → IsMerging shapes (with_pair left right m) → Shortened m.links middle → IsLeast middle left a → Shortened middle n.links → IsLeast n.links right b

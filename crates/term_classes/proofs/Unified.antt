@@ -1,5 +1,5 @@
 -- Terms that were put into an arena, and what is found of them.
-use Rattle.std.proofs.Common.{◌≡◌, ℕ, ◌≤◌, refl, sym, ap, subst, ◌∙◌, List, [], ◌++◌, length, map, Option, MatchOption}
+use Rattle.std.proofs.Common.{◌≡◌, ℕ, ◌≤◌, refl, sym, ap, ap₂, subst, ◌∙◌, List, [], ◌++◌, length, map}
 use Rattle.std.proofs.lemmas.List.{length-map}
 use Rattle.fol_core.specs.Tree.{Tree, trees_of}
 use Rattle.substitutions.specs.Bindings.{Binding, by_bindings}
@@ -10,11 +10,14 @@ use Rattle.term_classes.specs.Merging.{Merging, IsMerged, merging_of}
 use Rattle.term_classes.specs.Shapes.{AreBelow, tree_at}
 use Rattle.term_classes.specs.Solutions.{IsFound, bindings_of, classes_in}
 use Rattle.term_classes.specs.Solved.{HasNoUnifier, IsBegun}
+use Rattle.term_classes.specs.Entered.{IsEntered, left_terms, right_terms}
+use Rattle.term_classes.specs.declared.entered.Entered.{Entered}
 use Rattle.term_classes.specs.declared.found.Found.{Found}
 use Rattle.term_classes.specs.declared.node.Arena.{Arena}
 use Rattle.term_classes.proofs.Bindings.{bindings_found, same_general}
 use Rattle.term_classes.proofs.Growing.{below_more, grows_length, trees_grow}
-use Rattle.term_classes.proofs.Solving.{found_is_general}
+use Rattle.term_classes.proofs.Merges.{begun}
+use Rattle.term_classes.proofs.Solving.{found_is_general, uneven}
 
 -- the bindings of what is found are a most general unifier
 pub solved_general : (f : Found) (ls rs : List ℕ) (old : Merging) (s : List Binding) → IsFound f → IsBegun (shapes_of f.arena) ls rs old → IsMerged (shapes_of f.arena) old (merging_of f.work) → s ≡ bindings_of f
@@ -25,6 +28,10 @@ solved_general f ls rs old s is begun merged e =
     let general = found_is_general f.arena ls rs old (merging_of f.work) f.order.items ss ts is.arena begun merged is.ordered.order is.ordered.whole is.ordered.within refl refl in
     subst (λ bs. IsMostGeneral (by_bindings bs) (trees_of ss) (trees_of ts)) (sym e)
     (same_general (found_terms f.arena (classes_in f) f.order.items) (by_bindings (bindings_of f)) (λ x. sym (bindings_found f x)) (trees_of ss) (trees_of ts) general)
+
+-- before any nodes are merged, where as many stand on both sides
+pub entered_begun : (e : Entered) → IsEntered e → length e.work.lefts.items ≡ length e.work.rights.items → IsBegun (shapes_of e.arena) e.work.lefts.items e.work.rights.items (merging_of e.work)
+entered_begun e is even = begun (shapes_of e.arena) (merging_of e.work) is.links is.schemas is.lefts is.rights even
 
 -- the nodes of two lists of terms
 pub record AreReady (a : Arena) (ls rs : List ℕ) (ss ts : List Tree) : Type 0 where
@@ -48,14 +55,13 @@ are_ready a b c front back ls rs us vs ss ts no_front no_back left right first s
       right = ap (map (tree_at (shapes_of c))) second_all ∙ second.trees ∙ right;
     }
 
-pub ready_even : (a : Arena) (ls rs : List ℕ) (ss ts : List Tree) → AreReady a ls rs ss ts → length ss ≡ length ts → length ls ≡ length rs
-ready_even a ls rs ss ts is e =
-    sym (length-map ls (tree_at (shapes_of a))) ∙ ap length is.left ∙ e ∙ sym (ap length is.right) ∙ length-map rs (tree_at (shapes_of a))
+-- and they are the terms of both sides
+pub entered_terms : (e : Entered) (a : Arena) (ls rs : List ℕ) (ss ts : List Tree) → AreReady a ls rs ss ts → e.arena ≡ a → e.work.lefts.items ≡ ls → e.work.rights.items ≡ rs → ◌≡◌ {A = List Tree × List Tree} (left_terms e, right_terms e) (ss, ts)
+entered_terms e a ls rs ss ts is arena left right =
+    ap₂ (λ (us vs : List Tree). (us, vs)) (ap₂ (λ (b : Arena) (l : List ℕ). map (tree_at (shapes_of b)) l) arena left ∙ is.left) (ap₂ (λ (b : Arena) (l : List ℕ). map (tree_at (shapes_of b)) l) arena right ∙ is.right)
 
--- what is found of their trees is found of the terms
-pub ready_found : (a : Arena) (ls rs : List ℕ) (ss ts : List Tree) (o : Option (List Binding)) → AreReady a ls rs ss ts
-    → MatchOption o (HasNoUnifier (trees_of (map (tree_at (shapes_of a)) ls)) (trees_of (map (tree_at (shapes_of a)) rs))) (λ s. IsMostGeneral (by_bindings s) (trees_of (map (tree_at (shapes_of a)) ls)) (trees_of (map (tree_at (shapes_of a)) rs)))
-    → MatchOption o (HasNoUnifier (trees_of ss) (trees_of ts)) (λ s. IsMostGeneral (by_bindings s) (trees_of ss) (trees_of ts))
-ready_found a ls rs ss ts o is h =
-    subst (λ us. MatchOption o (HasNoUnifier (trees_of ss) (trees_of us)) (λ s. IsMostGeneral (by_bindings s) (trees_of ss) (trees_of us))) is.right
-    (subst (λ us. MatchOption o (HasNoUnifier (trees_of us) (trees_of (map (tree_at (shapes_of a)) rs))) (λ s. IsMostGeneral (by_bindings s) (trees_of us) (trees_of (map (tree_at (shapes_of a)) rs)))) is.left h)
+-- where not as many stand on both sides nothing unifies them
+pub entered_uneven : (e : Entered) → (length e.work.lefts.items ≡ length e.work.rights.items → ⊥) → HasNoUnifier (trees_of (left_terms e)) (trees_of (right_terms e))
+entered_uneven e h =
+    uneven (left_terms e) (right_terms e)
+    (λ s. h (sym (length-map e.work.lefts.items (tree_at (shapes_of e.arena))) ∙ s ∙ length-map e.work.rights.items (tree_at (shapes_of e.arena))))

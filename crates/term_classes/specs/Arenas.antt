@@ -3,6 +3,7 @@ use Rattle.std.specs.BTreeMap as tree
 use Rattle.std.specs.Ordering.{nat_cmp}
 use Rattle.std.specs.Prelude.{ℕ, ◌+◌, ◌<◌, ◌≤◌, ◌≡◌, List, [], ◌∷◌, ◌++◌, length, map, take, drop, Option, Some}
 use Rattle.fol_core.specs.Tree.{Tree}
+use Rattle.term_classes.specs.Merging.{arities}
 use Rattle.term_classes.specs.Shapes.{Shape, variable, element, application, shape_at, AreBelow, AreInPostorder, tree_at}
 use Rattle.term_classes.specs.declared.node.Arena.{Arena}
 use Rattle.term_classes.specs.declared.node.Node.{Node}
@@ -41,6 +42,7 @@ node_of a x = tree.get nat_cmp a.variables x
 pub record IsArena (a : Arena) : Type 0 where
   pub placed : ArePlaced (length a.arguments.items) a.nodes.items
   pub postorder : AreInPostorder (shapes_of a)
+  pub few : arities (shapes_of a) ≤ length a.arguments.items
   pub named : (x n : ℕ) → node_of a x ≡ Some n
       → (n < length (shapes_of a)) × (shape_at (shapes_of a) n ≡ variable x)
   pub once : (x n : ℕ) → n < length (shapes_of a) → shape_at (shapes_of a) n ≡ variable x

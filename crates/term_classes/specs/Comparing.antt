@@ -1,7 +1,7 @@
 -- Heads of two nodes compared.
 use Rattle.std.specs.Prelude.{ℕ, ◌≤◌, ◌≡◌, List, ◌++◌, length, map}
 use Rattle.fol_core.specs.Substitutions.{Substitution}
-use Rattle.term_classes.specs.Merging.{IsNoVariable, arities}
+use Rattle.term_classes.specs.Merging.{IsNoVariable, arity}
 use Rattle.term_classes.specs.Shapes.{Shape, shape_at, seen, AreBelow}
 use Rattle.term_classes.specs.declared.work.Comparison.{Comparison}
 use Rattle.term_classes.specs.declared.work.Comparison.TheVariants.{Clash, First, Second}
@@ -13,7 +13,7 @@ pub record AreApart (p q : Shape) : Type 0 where
   pub apart : (label : Substitution) → ¬ (seen label p ≡ seen label q)
 
 -- the second is a variable, or the heads are the same, and the arguments stand behind the pairs
-pub record Pairs (n m : ℕ) (p q : Shape) (lefts rights left_pairs right_pairs : List ℕ) : Type 0
+pub record Pairs (n : ℕ) (p q : Shape) (lefts rights left_pairs right_pairs : List ℕ) : Type 0
   where
     pub ks : List ℕ
     pub js : List ℕ
@@ -22,7 +22,7 @@ pub record Pairs (n m : ℕ) (p q : Shape) (lefts rights left_pairs right_pairs 
     pub left_below : AreBelow n ks
     pub right_below : AreBelow n js
     pub even : length ks ≡ length js
-    pub few : length ks ≤ m
+    pub few : length ks ≤ arity q
     pub heads : IsNoVariable q → IsNoVariable p
     pub arguments : (label : Substitution)
         → (IsNoVariable q → seen label p ≡ seen label q) → map label ks ≡ map label js
@@ -40,7 +40,7 @@ abbrev pub Compared : List Shape → ℕ → ℕ → List ℕ → List ℕ → L
 Compared shapes p q lefts rights left_pairs right_pairs Clash =
     AreApart (shape_at shapes p) (shape_at shapes q)
 Compared shapes p q lefts rights left_pairs right_pairs First =
-    Pairs (length shapes) (arities shapes) (shape_at shapes p) (shape_at shapes q) lefts rights
-    left_pairs right_pairs
+    Pairs (length shapes) (shape_at shapes p) (shape_at shapes q) lefts rights left_pairs
+    right_pairs
 Compared shapes p q lefts rights left_pairs right_pairs Second =
     IsPassed (shape_at shapes p) lefts rights left_pairs right_pairs

@@ -1,8 +1,11 @@
 pub mod Arenas
 pub mod Classes
 pub mod Comparing
+pub mod Entered
+pub mod Equated
 pub mod Measures
 pub mod Merging
+pub mod Rooms
 pub mod Shapes
 pub mod Solutions
 pub mod Solved

@@ -124,6 +124,7 @@ pub record Shortened (old new : List ℕ) : Type 0 where
   pub down : LeadDown new
   pub sum : sum_of new ≤ sum_of old
   pub stays : (n : ℕ) → n < length old → nth old n ≡ n → nth new n ≡ n
+  pub stood : (n : ℕ) → n < length old → nth new n ≡ n → nth old n ≡ n
   pub on : (label : Substitution) → FitsLinks label old → FitsLinks label new
   pub back : (label : Substitution) → FitsLinks label new → FitsLinks label old
   pub carries : (label : Substitution) (shapes : List Shape) (schemas : List ℕ)

@@ -1,19 +1,20 @@
-// Whether two terms with variables of their own each have a unifier: none is built, and nothing is measured.
-ghost use Rattle.std.specs.Prelude.{◌≡◌, ◌<◌, ◌+◌, ◌*◌, ◌↔◌, [], ◌∷◌, IfOk, IsTrue, length, map};
+// Whether two terms with variables of their own each have a unifier.
+ghost use Rattle.std.specs.Prelude.{◌≡◌, ◌+◌, ◌*◌, ◌↔◌, [], ◌∷◌, IfOk, IsTrue};
 ghost use Rattle.fol_core.specs.Substitutions.{Substitution, substitute};
 ghost use Rattle.fol_core.specs.TermView.{tree_of};
 ghost use Rattle.fol_core.specs.Tree.{trees_of};
 ghost use Rattle.substitutions.specs.Apart.{interleaved};
-ghost use Rattle.term_classes.specs.Arenas.{IsArena, AreNodes, shapes_of};
-ghost use Rattle.term_classes.specs.Shapes.{AreBelow, tree_at};
+ghost use Rattle.term_classes.specs.Arenas.{IsArena, AreNodes};
 ghost use Rattle.unifiers.specs.Unifier.{Unifies};
 
 use crate::arena::{apply, enter_element, enter_variable, roomy_arena};
-use crate::merging::{begin, merge};
+use crate::entered::Entered;
 use crate::node::Arena;
-use crate::ordering::order_of;
+use crate::room::enter;
+use crate::unifying::have_unifier;
 use fol_core::Term;
 use std::alloc::{AllocError, Global};
+use std::marker::Model;
 
 // How many nodes a term may take, up to the greatest number: a hint of how much room to take at once.
 fn count(term: &Term) -> usize {
@@ -77,41 +78,52 @@ fn put_apart(
     }
 }
 
-// Whether nodes, each and each, have a unifier.
-fn is_solvable(
-    alloc: Global,
-    arena: &Arena,
-    lefts: Vec<usize>,
-    rights: Vec<usize>,
-) -> Result<bool, AllocError>
-    requires arena { IsArena arena.now }
-    requires lefts { AreBelow (length (shapes_of arena.now)) lefts.items }
-    requires rights { AreBelow (length (shapes_of arena.now)) rights.items }
-    requires even { length lefts.items ≡ length rights.items }
-    ensures { IfOk result (λ b. IsTrue b ↔ ((u : Substitution)
-        × Unifies u (trees_of (map (tree_at (shapes_of arena.now)) lefts.items))
-        (trees_of (map (tree_at (shapes_of arena.now)) rights.items)))) }
-{
-    let mut work = begin(alloc, arena, lefts, rights)?;
-    if !merge(arena, &mut work)? {
-        return Ok(false);
-    }
-    match order_of(alloc, arena, &work)? {
-        None => Ok(false),
-        Some(_order) => Ok(true),
-    }
+/// Two terms with variables of their own each, renamed apart, with the room that it takes to find out whether they unify;
+/// contracts see a list of each alone.
+#[derive(Drop)]
+pub struct TermPair {
+    nodes: Entered,
 }
 
-/// Whether two terms, with variables of their own each, have a unifier.
-pub fn can_unify_apart(alloc: Global, s: &Term, t: &Term) -> Result<bool, AllocError>
-    ensures { IfOk result (λ b. IsTrue b
-        ↔ ((u : Substitution) × (v : Substitution)
-        × (substitute u (tree_of s.now) ≡ substitute v (tree_of t.now)))) }
-{
-    let mut arena = roomy_arena(alloc, count(s).saturating_add(count(t)))?;
-    let mut left_nodes = Vec::new(alloc);
-    put_apart(&mut arena, s, 0, &mut left_nodes)?;
-    let mut right_nodes = Vec::new(alloc);
-    put_apart(&mut arena, t, 1, &mut right_nodes)?;
-    Ok(is_solvable(alloc, &arena, left_nodes, right_nodes)?)
+impl Model for TermPair {
+    ghost use Rattle.std.specs.Prelude.{List};
+    ghost use Rattle.std.specs.Coded.{coded×};
+    ghost use Rattle.fol_core.specs.Tree.{Tree};
+    ghost use Rattle.fol_core.specs.TreeCodes.{coded_trees};
+    ghost use Rattle.term_classes.specs.Entered.{IsEntered, left_terms, right_terms};
+
+    ghost Value = { List Tree × List Tree };
+
+    ghost coded = { coded× coded_trees coded_trees };
+
+    ghost view = { λ a. (left_terms a.nodes, right_terms a.nodes) };
+
+    ghost invariant = { λ a. IsEntered a.nodes };
+}
+
+impl TermPair {
+    /// Two terms, with room.
+    pub fn new(alloc: Global, s: &Term, t: &Term) -> Result<TermPair, AllocError>
+        ensures { IfOk result (λ p. p ≡ (
+          substitute (interleaved 2 0) (tree_of s.now) ∷ [],
+          substitute (interleaved 2 1) (tree_of t.now) ∷ [],
+        )) }
+    {
+        let mut arena = roomy_arena(alloc, count(s).saturating_add(count(t)))?;
+        let mut left_nodes = Vec::new(alloc);
+        put_apart(&mut arena, s, 0, &mut left_nodes)?;
+        let mut right_nodes = Vec::new(alloc);
+        put_apart(&mut arena, t, 1, &mut right_nodes)?;
+        let nodes = enter(alloc, arena, left_nodes, right_nodes)?;
+        Ok(TermPair { nodes })
+    }
+
+    /// Whether they have a unifier: none is built, and nothing is measured.
+    pub fn can_unify(self) -> bool
+        ensures { IsTrue result
+            ↔ ((u : Substitution) × Unifies u (trees_of self.0) (trees_of self.1)) }
+    {
+        let TermPair { nodes } = self;
+        have_unifier(nodes)
+    }
 }

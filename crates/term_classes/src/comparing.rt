@@ -1,12 +1,24 @@
 // Heads of two nodes compared.
-ghost use Rattle.std.specs.Prelude.{◌<◌, IfOk, length};
+ghost use Rattle.std.specs.Prelude.{◌≡◌, ◌+◌, ◌<◌, ◌≤◌, ◌++◌, length, vec_len, vec_capacity};
 ghost use Rattle.term_classes.specs.Arenas.{IsArena, shapes_of};
 ghost use Rattle.term_classes.specs.Comparing.{Compared};
+ghost use Rattle.term_classes.specs.Merging.{arity};
+ghost use Rattle.term_classes.specs.Shapes.{shape_at};
 
 use crate::arena::view;
 use crate::node::{Arena, View};
 use crate::work::Comparison;
-use std::alloc::AllocError;
+
+// Puts numbers behind others, for which there is room.
+fn put_behind(numbers: &mut Vec<usize>, more: &[usize])
+    requires { vec_len numbers.old + length more.now ≤ vec_capacity numbers.old }
+    ensures numbers { numbers.new.items ≡ numbers.old.items ++ more.now }
+    ensures capacity { vec_capacity numbers.new ≡ vec_capacity numbers.old }
+{
+    for number in more {
+        numbers.push_reserved(*number);
+    }
+}
 
 /// Which of two nodes is no variable; where both are none and their heads are the same, their
 /// arguments are put behind the pairs.
@@ -16,39 +28,45 @@ pub fn compare(
     q: usize,
     lefts: &mut Vec<usize>,
     rights: &mut Vec<usize>,
-) -> Result<Comparison, AllocError>
+) -> Comparison
     requires arena { IsArena arena.now }
     requires p { p < length (shapes_of arena.now) }
     requires q { q < length (shapes_of arena.now) }
-    ensures { IfOk result (Compared (shapes_of arena.now) p q lefts.old.items rights.old.items
-        lefts.new.items rights.new.items) }
+    requires left_room { vec_len lefts.old + arity (shape_at (shapes_of arena.now) q)
+        ≤ vec_capacity lefts.old }
+    requires right_room { vec_len rights.old + arity (shape_at (shapes_of arena.now) q)
+        ≤ vec_capacity rights.old }
+    ensures compared { Compared (shapes_of arena.now) p q lefts.old.items rights.old.items
+        lefts.new.items rights.new.items result }
+    ensures left_capacity { vec_capacity lefts.new ≡ vec_capacity lefts.old }
+    ensures right_capacity { vec_capacity rights.new ≡ vec_capacity rights.old }
 {
     match view(arena, p) {
-        View::Variable(_) => Ok(Comparison::Second),
+        View::Variable(_) => Comparison::Second,
         View::Element(k) => match view(arena, q) {
-            View::Variable(_) => Ok(Comparison::First),
+            View::Variable(_) => Comparison::First,
             View::Element(n) => {
                 if k == n {
-                    Ok(Comparison::First)
+                    Comparison::First
                 } else {
-                    Ok(Comparison::Clash)
+                    Comparison::Clash
                 }
             }
-            View::Application(_, _) => Ok(Comparison::Clash),
+            View::Application(_, _) => Comparison::Clash,
         },
         View::Application(f, ks) => match view(arena, q) {
-            View::Variable(_) => Ok(Comparison::First),
-            View::Element(_) => Ok(Comparison::Clash),
+            View::Variable(_) => Comparison::First,
+            View::Element(_) => Comparison::Clash,
             View::Application(g, js) => {
                 if f != g {
-                    return Ok(Comparison::Clash);
+                    return Comparison::Clash;
                 }
                 if ks.len() != js.len() {
-                    return Ok(Comparison::Clash);
+                    return Comparison::Clash;
                 }
-                lefts.extend_from_slice(ks)?;
-                rights.extend_from_slice(js)?;
-                Ok(Comparison::First)
+                put_behind(lefts, ks);
+                put_behind(rights, js);
+                Comparison::First
             }
         },
     }

@@ -5,6 +5,8 @@
 mod apart;
 mod arena;
 mod comparing;
+mod entered;
+mod equations;
 mod found;
 mod instances;
 mod laws;
@@ -14,12 +16,13 @@ mod measuring;
 mod merging;
 mod node;
 mod ordering;
+mod room;
 mod solution;
 mod unifying;
 mod walk;
 mod work;
 
-pub use apart::can_unify_apart;
+pub use apart::TermPair;
+pub use equations::Equations;
 pub use laws::worked;
 pub use solution::Solution;
-pub use unifying::unify;

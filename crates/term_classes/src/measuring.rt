@@ -48,26 +48,33 @@ fn measured(arena: &Arena, work: &Work, measures: &[Measure], root: usize) -> Me
     }
 }
 
-/// How great the term of each class is.
+/// How great the term of each class is, with room for that by node.
 pub fn measures_of(
-    alloc: Global,
     arena: &Arena,
     work: &Work,
     order: &Vec<usize>,
-) -> Result<Vec<Measure>, AllocError>
+    mut measures: Vec<Measure>,
+) -> Vec<Measure>
     requires arena { IsArena arena.now }
     requires classes { AreClasses (classes_of (shapes_of arena.now) (merging_of work.now)) }
     requires order { OrdersAll (classes_of (shapes_of arena.now) (merging_of work.now))
         order.now.items }
-    ensures { IfOk result (λ measures. AreMeasured
+    requires room { length measures.items ≡ length (shapes_of arena.now) }
+    ensures { AreMeasured
         (class_terms (classes_of (shapes_of arena.now) (merging_of work.now)) var order.now.items)
-        order.now.items (length (shapes_of arena.now)) measures.items) }
+        order.now.items (length (shapes_of arena.now)) result.items }
 {
-    let nothing = Measure { size: 0, depth: 0 };
-    let mut measures = vec![in alloc; nothing; arena.nodes.len()]?;
     for root in order {
         let measure = measured(arena, work, measures.as_slice(), *root);
         measures[*root] = measure;
     }
-    Ok(measures)
+    measures
+}
+
+/// Room for measures by node.
+pub fn unmeasured(alloc: Global, count: usize) -> Result<Vec<Measure>, AllocError>
+    ensures { IfOk result (λ measures. length measures.items ≡ count) }
+{
+    let nothing = Measure { size: 0, depth: 0 };
+    vec![in alloc; nothing; count]
 }

@@ -1,8 +1,9 @@
 // An order of classes: each stands behind those of its schema's arguments.
-ghost use Rattle.std.specs.Prelude.{ℕ, ◌<◌, ◌≤◌, ◌≡◌, ◌++◌, ◌∷◌, [], IfOk, IfSome, MatchOption, length};
+ghost use Rattle.std.specs.Prelude.{◌<◌, ◌≤◌, ◌≡◌, ◌++◌, ◌∷◌, [], IfSome, MatchOption, length};
 ghost use Rattle.term_classes.specs.Arenas.{IsArena, shapes_of};
 ghost use Rattle.term_classes.specs.Classes.{AreClasses, IsCyclic, OrdersAll, arguments_of, children, classes_of};
 ghost use Rattle.term_classes.specs.Merging.{merging_of};
+ghost use Rattle.term_classes.specs.Rooms.{HasPlaces, IsUnstarted, KeepsPlaces};
 ghost use Rattle.term_classes.specs.Shapes.{shape_at};
 ghost use Rattle.term_classes.specs.declared.walk.Mark.TheVariants.{New};
 ghost use Rattle.term_classes.specs.Walking.{IsChild, IsWalk, Advances, Rests, Visits, mark_at};
@@ -11,7 +12,6 @@ use crate::arena::view;
 use crate::node::{Arena, View};
 use crate::walk::{Frame, Mark, Walk};
 use crate::work::Work;
-use std::alloc::{AllocError, Global};
 
 // The arguments of a node.
 fn arguments_at(arena: &Arena, n: usize) -> &[usize]
@@ -46,19 +46,21 @@ fn next_child(arena: &Arena, work: &Work, frame: Frame) -> Option<usize>
 }
 
 // Looks at the next argument of the innermost class on the way, or ends it where none is left.
-fn advance(arena: &Arena, work: &Work, walk: &mut Walk, frame: Frame) -> Result<bool, AllocError>
+fn advance(arena: &Arena, work: &Work, walk: &mut Walk, frame: Frame) -> bool
     requires arena { IsArena arena.now }
     requires classes { AreClasses (classes_of (shapes_of arena.now) (merging_of work.now)) }
     requires walk { IsWalk (classes_of (shapes_of arena.now) (merging_of work.now))
         walk.old.marks.items walk.old.order.items (walk.old.frames.items ++ frame ∷ []) }
-    ensures { IfOk result (Advances (classes_of (shapes_of arena.now) (merging_of work.now))
-        walk.old frame walk.new) }
+    requires places { HasPlaces 1 walk.old }
+    ensures advances { Advances (classes_of (shapes_of arena.now) (merging_of work.now)) walk.old
+        frame walk.new result }
+    ensures places { KeepsPlaces walk.new result }
 {
     match next_child(arena, work, frame) {
         None => {
-            walk.order.push(frame.root)?;
+            walk.order.push_reserved(frame.root);
             walk.marks[frame.root] = Mark::Done;
-            Ok(true)
+            true
         }
         Some(child) => match walk.marks[child] {
             Mark::Done => {
@@ -66,19 +68,19 @@ fn advance(arena: &Arena, work: &Work, walk: &mut Walk, frame: Frame) -> Result<
                     root: frame.root,
                     next: frame.next + 1,
                 };
-                walk.frames.push(later)?;
-                Ok(true)
+                walk.frames.push_reserved(later);
+                true
             }
-            Mark::Open => Ok(false),
+            Mark::Open => false,
             Mark::New => {
-                walk.frames.push(frame)?;
+                walk.frames.push_reserved(frame);
                 let inner = Frame {
                     root: child,
                     next: 0,
                 };
-                walk.frames.push(inner)?;
+                walk.frames.push_reserved(inner);
                 walk.marks[child] = Mark::Open;
-                Ok(true)
+                true
             }
         },
     }
@@ -86,73 +88,58 @@ fn advance(arena: &Arena, work: &Work, walk: &mut Walk, frame: Frame) -> Result<
 
 // Puts a class that wasn't looked at into the order, behind those that it leads to, unless one of them
 // leads to itself.
-fn walk_from(arena: &Arena, work: &Work, walk: &mut Walk, root: usize) -> Result<bool, AllocError>
+fn walk_from(arena: &Arena, work: &Work, walk: &mut Walk, root: usize) -> bool
     requires arena { IsArena arena.now }
     requires classes { AreClasses (classes_of (shapes_of arena.now) (merging_of work.now)) }
     requires walk { Rests (classes_of (shapes_of arena.now) (merging_of work.now)) walk.old }
     requires root { root < length (shapes_of arena.now) }
     requires new { mark_at walk.old.marks.items root ≡ New }
-    ensures { IfOk result (Visits (classes_of (shapes_of arena.now) (merging_of work.now))
-        walk.old walk.new root) }
+    requires places { HasPlaces 0 walk.old }
+    ensures visits { Visits (classes_of (shapes_of arena.now) (merging_of work.now)) walk.old
+        walk.new root result }
+    ensures places { KeepsPlaces walk.new result }
 {
-    walk.frames.push(Frame { root, next: 0 })?;
+    walk.frames.push_reserved(Frame { root, next: 0 });
     walk.marks[root] = Mark::Open;
     'walk: while let Some(frame) = walk.frames.pop() {
-        if !advance(arena, work, walk, frame)? {
-            return Ok(false);
+        if !advance(arena, work, walk, frame) {
+            return false;
         }
     }
-    Ok(true)
+    true
 }
 
 // The same of any class.
-fn visit(arena: &Arena, work: &Work, walk: &mut Walk, root: usize) -> Result<bool, AllocError>
+fn visit(arena: &Arena, work: &Work, walk: &mut Walk, root: usize) -> bool
     requires arena { IsArena arena.now }
     requires classes { AreClasses (classes_of (shapes_of arena.now) (merging_of work.now)) }
     requires walk { Rests (classes_of (shapes_of arena.now) (merging_of work.now)) walk.old }
     requires root { root < length (shapes_of arena.now) }
-    ensures { IfOk result (Visits (classes_of (shapes_of arena.now) (merging_of work.now))
-        walk.old walk.new root) }
+    requires places { HasPlaces 0 walk.old }
+    ensures visits { Visits (classes_of (shapes_of arena.now) (merging_of work.now)) walk.old
+        walk.new root result }
+    ensures places { KeepsPlaces walk.new result }
 {
     match walk.marks[root] {
-        Mark::Done => Ok(true),
-        Mark::Open => Ok(true),
-        Mark::New => Ok(walk_from(arena, work, walk, root)?),
+        Mark::Done => true,
+        Mark::Open => true,
+        Mark::New => walk_from(arena, work, walk, root),
     }
 }
 
-// No class was looked at.
-fn start(alloc: Global, count: usize) -> Result<Walk, AllocError>
-    ensures marks { IfOk result (λ w. (n : ℕ) → mark_at w.marks.items n ≡ New) }
-    ensures len { IfOk result (λ w. length w.marks.items ≡ count) }
-    ensures order { IfOk result (λ w. w.order.items ≡ []) }
-    ensures frames { IfOk result (λ w. w.frames.items ≡ []) }
-{
-    let mut marks = Vec::with_capacity(alloc, count)?;
-    for _n in 0..count {
-        marks.push(Mark::New)?;
-    }
-    Ok(Walk {
-        marks,
-        order: Vec::new(alloc),
-        frames: Vec::new(alloc),
-    })
-}
-
-/// An order of all classes, unless a class leads to itself.
-pub fn order_of(alloc: Global, arena: &Arena, work: &Work) -> Result<Option<Vec<usize>>, AllocError>
+/// An order of all classes, unless a class leads to itself, by a walk that hasn't begun.
+pub fn order_of(arena: &Arena, work: &Work, mut walk: Walk) -> Option<Vec<usize>>
     requires arena { IsArena arena.now }
     requires classes { AreClasses (classes_of (shapes_of arena.now) (merging_of work.now)) }
-    ensures { IfOk result (λ o. MatchOption o
+    requires walk { IsUnstarted (length (shapes_of arena.now)) walk }
+    ensures { MatchOption result
         (IsCyclic (classes_of (shapes_of arena.now) (merging_of work.now)))
-        (λ order. OrdersAll (classes_of (shapes_of arena.now) (merging_of work.now)) order.items)) }
+        (λ order. OrdersAll (classes_of (shapes_of arena.now) (merging_of work.now)) order.items) }
 {
-    let count = arena.nodes.len();
-    let mut walk = start(alloc, count)?;
-    for n in 0..count {
+    for n in 0..arena.nodes.len() {
         let root = work.links[n];
-        if !visit(arena, work, &mut walk, root)? {
-            return Ok(None);
+        if !visit(arena, work, &mut walk, root) {
+            return None;
         }
     }
     let Walk {
@@ -160,5 +147,5 @@ pub fn order_of(alloc: Global, arena: &Arena, work: &Work) -> Result<Option<Vec<
         order,
         frames: _frames,
     } = walk;
-    Ok(Some(order))
+    Some(order)
 }

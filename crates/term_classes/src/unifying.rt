@@ -1,71 +1,97 @@
-// Most general unifiers of terms.
-ghost use Rattle.std.specs.Prelude.{◌≡◌, IfOk, MatchOption, length, map};
-ghost use Rattle.fol_core.specs.Tree.{trees_of};
+// Nodes that are to be made the same: whether they can be, and by what.
+ghost use Rattle.std.specs.Prelude.{◌≡◌, ◌↔◌, IsTrue, MatchOption, length};
+ghost use Rattle.fol_core.specs.Substitutions.{Substitution};
 ghost use Rattle.substitutions.specs.Bindings.{by_bindings};
-ghost use Rattle.term_classes.specs.Arenas.{IsArena, shapes_of};
-ghost use Rattle.term_classes.specs.Shapes.{AreBelow, tree_at};
+ghost use Rattle.term_classes.specs.Arenas.{shapes_of};
+ghost use Rattle.term_classes.specs.Entered.{IsEntered, left_terms, right_terms};
+ghost use Rattle.fol_core.specs.Tree.{trees_of};
 ghost use Rattle.term_classes.specs.Solved.{HasNoUnifier};
-ghost use Rattle.unifiers.specs.Unifier.{IsMostGeneral};
+ghost use Rattle.unifiers.specs.Unifier.{IsMostGeneral, Unifies};
 
-use crate::arena::{new_arena, put_all};
+use crate::entered::Entered;
 use crate::found::Found;
+use crate::measure::Measure;
 use crate::measuring::measures_of;
-use crate::merging::{begin, merge};
-use crate::node::Arena;
+use crate::merging::merge;
 use crate::ordering::order_of;
 use crate::solution::Solution;
-use fol_core::Terms;
-use std::alloc::{AllocError, Global};
+
+// Whether nodes, each and each, have a unifier.
+fn merges_all(nodes: Entered) -> bool
+    requires nodes { IsEntered nodes }
+    requires even { length nodes.work.lefts.items ≡ length nodes.work.rights.items }
+    ensures { IsTrue result
+        ↔ ((u : Substitution) × Unifies u (trees_of (left_terms nodes)) (trees_of (right_terms nodes))) }
+{
+    let Entered {
+        arena,
+        mut work,
+        walk,
+    } = nodes;
+    if !merge(&arena, &mut work) {
+        return false;
+    }
+    match order_of(&arena, &work, walk) {
+        None => false,
+        Some(_order) => true,
+    }
+}
 
 // A most general unifier of nodes, each and each, if they have one.
-fn solve(
-    alloc: Global,
-    arena: Arena,
-    lefts: Vec<usize>,
-    rights: Vec<usize>,
-) -> Result<Option<Solution>, AllocError>
-    requires arena { IsArena arena }
-    requires lefts { AreBelow (length (shapes_of arena)) lefts.items }
-    requires rights { AreBelow (length (shapes_of arena)) rights.items }
-    requires even { length lefts.items ≡ length rights.items }
-    ensures { IfOk result (λ o. MatchOption o
-        (HasNoUnifier (trees_of (map (tree_at (shapes_of arena)) lefts.items))
-        (trees_of (map (tree_at (shapes_of arena)) rights.items)))
-        (λ s. IsMostGeneral (by_bindings s)
-        (trees_of (map (tree_at (shapes_of arena)) lefts.items))
-        (trees_of (map (tree_at (shapes_of arena)) rights.items)))) }
+fn unifier(nodes: Entered, measures: Vec<Measure>) -> Option<Solution>
+    requires nodes { IsEntered nodes }
+    requires even { length nodes.work.lefts.items ≡ length nodes.work.rights.items }
+    requires measures { length measures.items ≡ length (shapes_of nodes.arena) }
+    ensures { MatchOption result
+        (HasNoUnifier (trees_of (left_terms nodes)) (trees_of (right_terms nodes)))
+        (λ s. IsMostGeneral (by_bindings s) (trees_of (left_terms nodes))
+        (trees_of (right_terms nodes))) }
 {
-    let mut work = begin(alloc, &arena, lefts, rights)?;
-    if !merge(&arena, &mut work)? {
-        return Ok(None);
+    let Entered {
+        arena,
+        mut work,
+        walk,
+    } = nodes;
+    if !merge(&arena, &mut work) {
+        return None;
     }
-    match order_of(alloc, &arena, &work)? {
-        None => Ok(None),
+    match order_of(&arena, &work, walk) {
+        None => None,
         Some(order) => {
-            let measures = measures_of(alloc, &arena, &work, &order)?;
-            Ok(Some(Solution::new(Found {
+            let measures = measures_of(&arena, &work, &order, measures);
+            Some(Solution::new(Found {
                 arena,
                 work,
                 order,
                 measures,
-            })))
+            }))
         }
     }
 }
 
-/// A most general unifier of terms, each and each, if they have one.
-pub fn unify(alloc: Global, lefts: &Terms, rights: &Terms) -> Result<Option<Solution>, AllocError>
-    ensures { IfOk result (λ o. MatchOption o
-        (HasNoUnifier (trees_of lefts.now) (trees_of rights.now))
-        (λ s. IsMostGeneral (by_bindings s) (trees_of lefts.now) (trees_of rights.now))) }
+/// Whether there is a unifier: as many nodes have to stand on both sides.
+pub fn have_unifier(nodes: Entered) -> bool
+    requires { IsEntered nodes }
+    ensures { IsTrue result
+        ↔ ((u : Substitution) × Unifies u (trees_of (left_terms nodes)) (trees_of (right_terms nodes))) }
 {
-    if lefts.len() != rights.len() {
-        return Ok(None);
+    if nodes.work.lefts.len() != nodes.work.rights.len() {
+        return false;
     }
-    let mut arena = new_arena(alloc);
-    let mut left_nodes = Vec::new(alloc);
-    put_all(&mut arena, lefts.as_slice(), &mut left_nodes)?;
-    let mut right_nodes = Vec::new(alloc);
-    put_all(&mut arena, rights.as_slice(), &mut right_nodes)?;
-    Ok(solve(alloc, arena, left_nodes, right_nodes)?)
+    merges_all(nodes)
+}
+
+/// A most general one, if there is one.
+pub fn unifier_of(nodes: Entered, measures: Vec<Measure>) -> Option<Solution>
+    requires nodes { IsEntered nodes }
+    requires measures { length measures.items ≡ length (shapes_of nodes.arena) }
+    ensures { MatchOption result
+        (HasNoUnifier (trees_of (left_terms nodes)) (trees_of (right_terms nodes)))
+        (λ s. IsMostGeneral (by_bindings s) (trees_of (left_terms nodes))
+        (trees_of (right_terms nodes))) }
+{
+    if nodes.work.lefts.len() != nodes.work.rights.len() {
+        return None;
+    }
+    unifier(nodes, measures)
 }

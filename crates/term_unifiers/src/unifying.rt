@@ -7,6 +7,7 @@ ghost use Rattle.term_unifiers.specs.Solved.{IsUnified, HasNoUnifier};
 use crate::forming::{Formed, form};
 use fol_core::{Clause, Terms};
 use std::alloc::{AllocError, Global};
+use term_classes::Equations;
 
 /// The clause under a most general unifier of terms, each and each, if they have one: built exactly where it isn't too large.
 pub fn unify(
@@ -20,7 +21,8 @@ pub fn unify(
         (λ f. IsUnified (trees_of lefts) (trees_of rights) rest (formed_clause f))) }
     ensures built { IfOk result (λ o. IfSome o IsBuiltWithin) }
 {
-    match term_classes::unify(alloc, &lefts, &rights)? {
+    let equations = Equations::new(alloc, &lefts, &rights)?;
+    match equations.unify() {
         None => Ok(None),
         Some(unifier) => Ok(Some(form(alloc, unifier, rest)?)),
     }

@@ -18,4 +18,4 @@ returns c =
     (entered_other old new c.args.arguments.now (Application c.args.f c.len-first.result (length c.args.arguments.now)) (application c.args.f c.args.arguments.now) c.requires.arena all c.in_ok-push.ensures.items
     (application_placed c.args.arena.now.arguments.items c.args.arguments.now c.extend_from_slice.new.self.items c.args.f c.len-first.result (length c.args.arguments.now) all first refl)
     (application_shape c.args.arena.now.arguments.items c.args.arguments.now c.extend_from_slice.new.self.items c.args.f c.len-first.result (length c.args.arguments.now) all first refl)
-    c.requires.arguments (λ x. refl) (λ x e. no_application c.args.f c.args.arguments.now x e))
+    c.requires.arguments (omega arith) (λ x. refl) (λ x e. no_application c.args.f c.args.arguments.now x e))

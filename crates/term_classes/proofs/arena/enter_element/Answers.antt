@@ -14,4 +14,4 @@ returns c =
     let new : Arena = record { nodes = c.push.new.self; arguments = c.args.arena.now.arguments; variables = c.args.arena.now.variables } in
     let place : length c.args.arena.now.nodes.items ≡ c.len-n.result = omega (arith, c.len-n.ensures, c.args.arena.now.nodes.ok.0) in
     subst (IsNode old new (element c.args.k)) place
-    (entered_other old new [] (Element c.args.k) (element c.args.k) c.requires (sym (append-nil c.args.arena.now.arguments.items)) c.in_ok-push.ensures.items tt refl tt (λ x. refl) (λ x e. no_element c.args.k x e))
+    (entered_other old new [] (Element c.args.k) (element c.args.k) c.requires (sym (append-nil c.args.arena.now.arguments.items)) c.in_ok-push.ensures.items tt refl tt (omega arith) (λ x. refl) (λ x e. no_element c.args.k x e))

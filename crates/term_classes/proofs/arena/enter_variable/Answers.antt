@@ -1,9 +1,10 @@
 -- The variable had no node, and has the last one.
 use Rattle.std.proofs.Common.{◌≡◌, ◌∙◌, None, Some, refl, sym, ap, subst, length, arith}
-use Rattle.term_classes.specs.Arenas.{IsNode, node_of}
+use Rattle.term_classes.specs.Arenas.{IsNode, node_of, shapes_of}
 use Rattle.term_classes.specs.Shapes.{variable}
 use Rattle.term_classes.specs.declared.node.Arena.{Arena}
 use Rattle.term_classes.proofs.Entering.{variable_entered}
+use Rattle.term_classes.proofs.Growing.{grows_refl}
 use Rattle.term_classes.proofs.arena.enter_variable.Goals as goal
 
 pub returns-in_ok-insert-in-None : goal.returns-in_ok-insert-in-None
@@ -15,3 +16,9 @@ returns-in_ok-insert-in-None c =
     let updates = c.in_ok-insert-in-None.ensures.updates in
     subst (IsNode old new (variable c.args.x)) place
     (variable_entered old new c.args.x c.requires refl c.in_ok-push-in-None.ensures.items absent (updates.1 ∙ ap Some (sym place)) updates.2)
+
+pub returns-in-Some : goal.returns-in-Some
+returns-in-Some c =
+    let there : node_of c.args.arena.now c.args.x ≡ Some c.in-Some.n = sym c.get.ensures.value ∙ sym c.in-Some.ensures in
+    let own = c.requires.named c.args.x c.in-Some.n there in
+    record { arena = c.requires; grows = grows_refl (shapes_of c.args.arena.now); within = own.0; shape = own.1 }

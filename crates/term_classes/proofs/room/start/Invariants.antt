@@ -2,7 +2,7 @@
 use Rattle.std.proofs.Common.{◌≡◌, ℕ, length}
 use Rattle.term_classes.specs.Walking.{mark_at}
 use Rattle.term_classes.specs.declared.walk.Mark.TheVariants.{New}
-use Rattle.term_classes.proofs.ordering.start.Given as goal
+use Rattle.term_classes.proofs.room.start.Given as goal
 
 abbrev pub invariant-loop-n : goal.invariant-loop-n
 invariant-loop-n l = record {
