@@ -1,9 +1,12 @@
+pub mod Counting
 pub mod Finding
 pub mod Fitted
 pub mod Meetings
 pub mod NodeSteps
+pub mod Only
 pub mod Ordered
 pub mod Paths
 pub mod Placing
 pub mod Terms
+pub mod Trees
 pub mod WalkSteps

@@ -1,15 +1,17 @@
 -- Nodes, as they change.
-use Rattle.std.proofs.Common.{◌≡◌, ℕ, zero, suc, ◌<◌, ◌==◌, Bool, true, false, not, if◌then◌else◌, inl, inr, refl, sym, ap, ap₂, subst, ◌∙◌, List, [], ◌∷◌, ◌++◌, Some, MatchOption, length, set, drop, drop-cons, get_or, ◌+◌, arith, eqb-true, eq-eqb, slice_get, Option, None}
+use Rattle.std.proofs.Common.{◌≡◌, ℕ, zero, suc, ◌<◌, ◌==◌, ◌⊎◌, Bool, true, false, not, if◌then◌else◌, cond, inl, inr, refl, sym, ap, ap₂, subst, ◌∙◌, List, [], ◌∷◌, ◌++◌, Some, MatchOption, length, drop, drop-cons, get_or, ◌+◌, arith, eqb-true, eq-eqb, Option, None, IsSome, Result, Ok, Err, OnErr}
 use Rattle.std.specs.BTreeMap as tree
+use Rattle.std.specs.Map.{lookup}
 use Rattle.std.specs.List.{filter}
-use Rattle.std.specs.Option.{option_and_then}
+use Rattle.std.specs.Option.{option_and_then, option_map}
 use Rattle.std.specs.declared.cmp.Ordering.{Ordering}
 use Rattle.std.specs.declared.cmp.Ordering.TheVariants.{Less, Equal, Greater}
 use Rattle.std.specs.Ordering.{nat_cmp, ordering_then, is_eq}
 use Rattle.std.proofs.lemmas.Bool.{cases_eq}
-use Rattle.std.proofs.lemmas.Option.{slice_get_within}
 use Rattle.std.proofs.lemmas.Map.Lookups.{exact_unsigned}
-use Rattle.discrim_tree.specs.Nodes.{edge_cmp, branch, child, IsIn, Holds, Reaches, Grows, KeepsOthers, KeepsPaths, IsEmptyAt, LosesBranch}
+use Rattle.slab.specs.Slab.{get, ContainsKey, Updates}
+use Rattle.discrim_tree.specs.Nodes.{Store, edge_cmp, branch, child, IsIn, Holds, Reaches, Grows, KeepsOthers, KeepsPaths, IsEmptyAt}
+use Rattle.discrim_tree.specs.Trees.{link_of, Leads, IsBranched, IsFresh, IsFull, IsOneMore, IsRenumbered, IsSame}
 use Rattle.discrim_tree.specs.declared.edge.Edge.{Edge}
 use Rattle.discrim_tree.specs.declared.edge.Edge.TheVariants.{Any, Element, Symbol}
 use Rattle.discrim_tree.specs.declared.nodes.Node.{Node}
@@ -41,17 +43,30 @@ is_same x y h = by (edge_cmp x y) refl
     by Equal e = same_step x y e
     by Greater e = let bad : is_eq Greater ≡ true = ap is_eq (sym e) ∙ h in cc
 
-pub set_same : {X : Type 0} (xs : List X) (i : ℕ) (y : X) → i < length xs → slice_get (set xs i y) i ≡ Some y
-set_same [] i y h = absurd (omega (arith, h))
-set_same (x ∷ xs) zero y h = refl
-set_same (x ∷ xs) (suc i) y h = set_same xs i y (omega (arith, h))
+pub is_other : (x y : Edge) → (y ≡ x → ⊥) → is_eq (edge_cmp x y) ≡ false
+is_other x y apart = by (is_eq (edge_cmp x y)) refl
+  where
+    by : (b : Bool) → is_eq (edge_cmp x y) ≡ b → b ≡ false
+    by true e = absurd (apart (sym (is_same x y e)))
+    by false e = refl
 
-pub set_other : {X : Type 0} (xs : List X) (i j : ℕ) (y : X) → (j ≡ i → ⊥) → slice_get (set xs i y) j ≡ slice_get xs j
-set_other [] i j y h = refl
-set_other (x ∷ xs) zero zero y h = absurd (h refl)
-set_other (x ∷ xs) zero (suc j) y h = refl
-set_other (x ∷ xs) (suc i) zero y h = refl
-set_other (x ∷ xs) (suc i) (suc j) y h = set_other xs i j y (λ e. h (ap suc e))
+equal_to_itself : (n : ℕ) → nat_cmp n n ≡ Equal
+equal_to_itself n = grind (arith)
+
+pub same_as_itself : (x : Edge) → edge_cmp x x ≡ Equal
+same_as_itself Any = refl
+same_as_itself (Element k) = equal_to_itself k
+same_as_itself (Symbol f k) = ap₂ ordering_then (equal_to_itself f) (equal_to_itself k)
+
+pub some_same : {X : Type 0} (x y : X) → Some x ≡ Some y → x ≡ y
+some_same x y e = cc
+
+pub none_some : {X : Type 0} (x : X) → None ≡ Some x → ⊥
+none_some x e = cc
+
+pub on_err : {X E : Type 0} {P : Type 0} (r : Result X E) → P → OnErr r P
+on_err (Ok x) p = tt
+on_err (Err e) p = p
 
 pub apart : (a b : ℕ) → (a ≡ b → ⊥) → (a == b) ≡ false
 apart a b h = by (a == b) refl
@@ -59,6 +74,8 @@ apart a b h = by (a == b) refl
     by : (c : Bool) → (a == b) ≡ c → c ≡ false
     by true e = absurd (h (eqb-true a b e))
     by false e = refl
+
+-- ---- numbers in a list
 
 pub is_in_last : (n : ℕ) (ms : List ℕ) → IsIn n (ms ++ n ∷ [])
 is_in_last n [] = inl refl
@@ -69,6 +86,12 @@ is_in_front n k [] h = absurd h
 is_in_front n k (m ∷ ms) (inl e) = inl e
 is_in_front n k (m ∷ ms) (inr h) = inr (is_in_front n k ms h)
 
+pub is_in_either : (n k : ℕ) (ms : List ℕ) → IsIn n (ms ++ k ∷ []) → IsIn n ms ⊎ (n ≡ k)
+is_in_either n k [] (inl e) = inr e
+is_in_either n k [] (inr h) = absurd h
+is_in_either n k (m ∷ ms) (inl e) = inl (inl e)
+is_in_either n k (m ∷ ms) (inr h) = elim (is_in_either n k ms h) [ inl g ↦ inl (inr g) | inr g ↦ inr g ]
+
 pub is_in_filter : (n m : ℕ) (ms : List ℕ) → (m ≡ n → ⊥) → IsIn m ms → IsIn m (filter (λ k. not (k == n)) ms)
 is_in_filter n m [] ne h = absurd h
 is_in_filter n m (k ∷ ms) ne (inl e) = subst (λ b. IsIn m (if not b then k ∷ filter (λ j. not (j == n)) ms else filter (λ j. not (j == n)) ms)) (sym (apart k n (λ d. ne (e ∙ d)))) (inl e)
@@ -77,101 +100,6 @@ is_in_filter n m (k ∷ ms) ne (inr h) = by (k == n) (is_in_filter n m ms ne h)
     by : (b : Bool) → IsIn m (filter (λ j. not (j == n)) ms) → IsIn m (if not b then k ∷ filter (λ j. not (j == n)) ms else filter (λ j. not (j == n)) ms)
     by true rest = rest
     by false rest = inr rest
-
--- paths to a number, where branches stay and it stays at its nodes
-pub paths_to : (old new : List Node) (n : ℕ) → ((a : ℕ) (e : Edge) (k : ℕ) → child old a e ≡ Some k → child new a e ≡ Some k) → ((a : ℕ) → Holds old a n → Holds new a n)
-    → (at : ℕ) (path : List Edge) → Reaches old at path n → Reaches new at path n
-paths_to old new n bs ns at [] h = ns at h
-paths_to old new n bs ns at (e ∷ path) h = (h.0, bs at e h.0 h.1, paths_to old new n bs ns h.0 path h.2)
-
--- a node takes the place of one whose branches it has
-module _ (nodes : List Node) (at : ℕ) (old new : Node) (is : slice_get nodes at ≡ Some old) where
-  here : slice_get (set nodes at new) at ≡ Some new
-  here = set_same nodes at new (slice_get_within nodes at old is)
-
-  pub branches_stay : ((e : Edge) (k : ℕ) → branch old e ≡ Some k → branch new e ≡ Some k) → (a : ℕ) (e : Edge) (k : ℕ) → child nodes a e ≡ Some k → child (set nodes at new) a e ≡ Some k
-  branches_stay bs a e k h = elim (cases_eq a at) [
-    | inl s ↦ ap (λ b. child (set nodes at new) b e) s ∙ ap (option_and_then (λ (node : Node). branch node e)) here
-        ∙ bs e k (ap (option_and_then (λ (node : Node). branch node e)) (sym is) ∙ ap (λ b. child nodes b e) (sym s) ∙ h)
-    | inr s ↦ ap (option_and_then (λ (node : Node). branch node e)) (set_other nodes at a new s) ∙ h
-  ]
-
-  pub number_stays : (n : ℕ) → (IsIn n old.numbers.items → IsIn n new.numbers.items) → (a : ℕ) → Holds nodes a n → Holds (set nodes at new) a n
-  number_stays n ns a h = elim (cases_eq a at) [
-    | inl s ↦ subst (λ b. Holds (set nodes at new) b n) (sym s)
-        (subst (λ o. MatchOption o ⊥ (λ (node : Node). IsIn n node.numbers.items)) (sym here)
-        (ns (subst (λ o. MatchOption o ⊥ (λ (node : Node). IsIn n node.numbers.items)) is (subst (λ b. Holds nodes b n) s h))))
-    | inr s ↦ subst (λ o. MatchOption o ⊥ (λ (node : Node). IsIn n node.numbers.items)) (sym (set_other nodes at a new s)) h
-  ]
-
-  pub changed : ((e : Edge) (k : ℕ) → branch old e ≡ Some k → branch new e ≡ Some k) → ((n : ℕ) → IsIn n old.numbers.items → IsIn n new.numbers.items) → Grows nodes (set nodes at new)
-  changed bs ns = (branches_stay bs, λ a n h. number_stays n (ns n) a h)
-
-  pub forgotten : (n : ℕ) → new.branches ≡ old.branches → ((m : ℕ) → (m ≡ n → ⊥) → IsIn m old.numbers.items → IsIn m new.numbers.items) → KeepsOthers n nodes (set nodes at new)
-  forgotten n bs ns a path m ne h = paths_to nodes (set nodes at new) m (branches_stay (λ e k f. ap (λ b. tree.get edge_cmp b e) bs ∙ f)) (number_stays m (ns m ne)) a path h
-
-pub here_noted : (nodes : List Node) (at n : ℕ) (new : Node) → at < length nodes → IsIn n new.numbers.items → Holds (set nodes at new) at n
-here_noted nodes at n new lt h = subst (λ o. MatchOption o ⊥ (λ (node : Node). IsIn n node.numbers.items)) (sym (set_same nodes at new lt)) h
-
-pub held_there : (nodes : List Node) (at n : ℕ) (node : Node) → slice_get nodes at ≡ Some node → IsIn n node.numbers.items → Holds nodes at n
-held_there nodes at n node is h = subst (λ o. MatchOption o ⊥ (λ (x : Node). IsIn n x.numbers.items)) (sym is) h
-
-pub held_by : (nodes : List Node) (at n : ℕ) (node : Node) → slice_get nodes at ≡ Some node → Holds nodes at n → IsIn n node.numbers.items
-held_by nodes at n node is h = subst (λ o. MatchOption o ⊥ (λ (x : Node). IsIn n x.numbers.items)) is h
-
-pub grows_on : (a b c : List Node) → Grows a b → Grows b c → Grows a c
-grows_on a b c f g = (λ at e k h. g.0 at e k (f.0 at e k h), λ at n h. g.1 at n (f.1 at n h))
-
-pub paths_grown : (old new : List Node) → Grows old new → KeepsPaths old new
-paths_grown old new g at path n h = paths_to old new n g.0 (λ a. g.1 a n) at path h
-
--- a branch to an empty node leads to no number
-pub paths_cut : (at : ℕ) (edge : Edge) (old new : List Node) (k : ℕ) → child old at edge ≡ Some k → IsEmptyAt old k → LosesBranch at edge old new → KeepsPaths old new
-paths_cut at edge old new k is empty cut a [] n h = cut.1 a n h
-paths_cut at edge old new k is empty cut a (e ∷ path) n h = elim (cut.0 a e h.0 h.1) [
-  | inl f ↦ (h.0, f, paths_cut at edge old new k is empty cut h.0 path n h.2)
-  | inr f ↦ absurd (nothing (h.0) path (some_same _ _ (sym is ∙ f)) h.2)
-]
-  where
-    some_same : (x y : ℕ) → Some x ≡ Some y → x ≡ y
-    some_same x y e = cc
-
-    nothing : (j : ℕ) (p : List Edge) → k ≡ j → Reaches old j p n → ⊥
-    nothing j [] s r = empty.0 n (subst (λ i. Holds old i n) (sym s) r)
-    nothing j (d ∷ p) s r = empty.1 d r.0 (ap (λ i. child old i d) s ∙ r.1)
-
--- a path that goes on by a step
-pub steps_along : (nodes : List Node) (path : List Edge) (i : ℕ) (d : Edge) (at k n : ℕ) → i < length path → child nodes at (get_or path i d) ≡ Some k
-    → Reaches nodes k (drop (i + 1) path) n → Reaches nodes at (drop i path) n
-steps_along nodes path i d at k n lt c r =
-    let next : i + 1 ≡ suc i = omega arith in
-    subst (λ p. Reaches nodes at p n) (sym (drop-cons path i d lt))
-    (k, c, subst (λ j. Reaches nodes k (drop j path) n) next r)
-
-pub nothing_lost : (nodes : List Node) → Grows nodes nodes
-nothing_lost nodes = (λ at e k h. h, λ at n h. h)
-
-some_same : (x y : ℕ) → Some x ≡ Some y → x ≡ y
-some_same x y e = cc
-
-none_some : (x : ℕ) → None ≡ Some x → ⊥
-none_some x e = cc
-
--- a path that goes on leads through the node behind its next step, also where some are taken away
-pub step_taken : (nodes fewer : List Node) (path : List Edge) (i : ℕ) (d : Edge) (at k n : ℕ) → i < length path → Grows fewer nodes → child nodes at (get_or path i d) ≡ Some k
-    → Reaches fewer at (drop i path) n → Reaches fewer k (drop (i + 1) path) n
-step_taken nodes fewer path i d at k n lt g c r =
-    let next : suc i ≡ i + 1 = omega arith in
-    let there = subst (λ p. Reaches fewer at p n) (drop-cons path i d lt) r in
-    let same : there.0 ≡ k = some_same there.0 k (sym (g.0 at (get_or path i d) there.0 there.1) ∙ c) in
-    subst (λ j. Reaches fewer j (drop (i + 1) path) n) same (subst (λ j. Reaches fewer there.0 (drop j path) n) next there.2)
-
--- and to nothing where there is none
-pub none_taken : (nodes fewer : List Node) (path : List Edge) (i : ℕ) (d : Edge) (at n : ℕ) → i < length path → Grows fewer nodes → child nodes at (get_or path i d) ≡ None
-    → Reaches fewer at (drop i path) n → ⊥
-none_taken nodes fewer path i d at n lt g c r =
-    let there = subst (λ p. Reaches fewer at p n) (drop-cons path i d lt) r in
-    none_some there.0 (sym c ∙ g.0 at (get_or path i d) there.0 there.1)
 
 pub is_in_more : (n m : ℕ) (ms : List ℕ) → IsIn m (filter (λ k. not (k == n)) ms) → IsIn m ms
 is_in_more n m [] h = absurd h
@@ -191,31 +119,173 @@ is_out n (k ∷ ms) h = by (k == n) refl (is_out n ms) h
     by false e out (inl same) = let bad : true ≡ false = sym (eq-eqb k n (sym same)) ∙ e in cc
     by false e out (inr rest) = out rest
 
--- a node that takes another one's place has no branches and numbers that it hadn't
-pub back_changed : (nodes : List Node) (at : ℕ) (old new : Node) → slice_get nodes at ≡ Some old → ((e : Edge) (k : ℕ) → branch new e ≡ Some k → branch old e ≡ Some k) → ((n : ℕ) → IsIn n new.numbers.items → IsIn n old.numbers.items)
-    → Grows (set nodes at new) nodes
-back_changed nodes at old new is bs ns = (λ a e k h. branches a e k h, λ a n h. numbers a n h)
+-- ---- what a node has
+
+pub child_by : (nodes : Store) (at : ℕ) (e : Edge) (node : Node) → get nodes at ≡ Some node → child nodes at e ≡ branch node e
+child_by nodes at e node is = ap (option_and_then (λ (x : Node). branch x e)) is
+
+pub child_none : (nodes : Store) (at : ℕ) (e : Edge) → get nodes at ≡ None → child nodes at e ≡ None
+child_none nodes at e is = ap (option_and_then (λ (x : Node). branch x e)) is
+
+pub child_same : (old new : Store) (at : ℕ) (e : Edge) → get new at ≡ get old at → child new at e ≡ child old at e
+child_same old new at e is = ap (option_and_then (λ (x : Node). branch x e)) is
+
+pub held_there : (nodes : Store) (at n : ℕ) (node : Node) → get nodes at ≡ Some node → IsIn n node.numbers.items → Holds nodes at n
+held_there nodes at n node is h = subst (λ o. MatchOption o ⊥ (λ (x : Node). IsIn n x.numbers.items)) (sym is) h
+
+pub held_by : (nodes : Store) (at n : ℕ) (node : Node) → get nodes at ≡ Some node → Holds nodes at n → IsIn n node.numbers.items
+held_by nodes at n node is h = subst (λ o. MatchOption o ⊥ (λ (x : Node). IsIn n x.numbers.items)) is h
+
+pub none_held : (nodes : Store) (at n : ℕ) → get nodes at ≡ None → Holds nodes at n → ⊥
+none_held nodes at n is h = subst (λ o. MatchOption o ⊥ (λ (x : Node). IsIn n x.numbers.items)) is h
+
+pub held_same : (old new : Store) (at n : ℕ) → get new at ≡ get old at → Holds old at n → Holds new at n
+held_same old new at n is h = subst (λ o. MatchOption o ⊥ (λ (x : Node). IsIn n x.numbers.items)) (sym is) h
+
+pub link_by : (nodes : Store) (at : ℕ) (node : Node) → get nodes at ≡ Some node → link_of nodes at ≡ Some node.link
+link_by nodes at node is = ap (option_map (λ (x : Node). x.link)) is
+
+pub link_none : (nodes : Store) (at : ℕ) → get nodes at ≡ None → link_of nodes at ≡ None
+link_none nodes at is = ap (option_map (λ (x : Node). x.link)) is
+
+pub link_same : (old new : Store) (at : ℕ) → get new at ≡ get old at → link_of new at ≡ link_of old at
+link_same old new at is = ap (option_map (λ (x : Node). x.link)) is
+
+-- a node that has a branch is there
+pub there_with : (nodes : Store) (at : ℕ) (e : Edge) (k : ℕ) → child nodes at e ≡ Some k → (above : ℕ) × (link_of nodes at ≡ Some above)
+there_with nodes at e k is = by (get nodes at) refl
   where
-    here : slice_get (set nodes at new) at ≡ Some new
-    here = set_same nodes at new (slice_get_within nodes at old is)
+    by : (o : Option Node) → get nodes at ≡ o → (above : ℕ) × (link_of nodes at ≡ Some above)
+    by None n = absurd (none_some k (sym (child_none nodes at e n) ∙ is))
+    by (Some node) n = (node.link, link_by nodes at node n)
 
-    branches : (a : ℕ) (e : Edge) (k : ℕ) → child (set nodes at new) a e ≡ Some k → child nodes a e ≡ Some k
-    branches a e k h = elim (cases_eq a at) [
-      | inl s ↦ ap (λ b. child nodes b e) s ∙ ap (option_and_then (λ (node : Node). branch node e)) is
-          ∙ bs e k (ap (option_and_then (λ (node : Node). branch node e)) (sym here) ∙ ap (λ b. child (set nodes at new) b e) (sym s) ∙ h)
-      | inr s ↦ ap (option_and_then (λ (node : Node). branch node e)) (sym (set_other nodes at a new s)) ∙ h
-    ]
-
-    numbers : (a n : ℕ) → Holds (set nodes at new) a n → Holds nodes a n
-    numbers a n h = elim (cases_eq a at) [
-      | inl s ↦ subst (λ b. Holds nodes b n) (sym s) (held_there nodes at n old is (ns n (held_by (set nodes at new) at n new here (subst (λ b. Holds (set nodes at new) b n) s h))))
-      | inr s ↦ subst (λ o. MatchOption o ⊥ (λ (node : Node). IsIn n node.numbers.items)) (set_other nodes at a new s) h
-    ]
-
--- where there is no branch there is none when some are taken away
-pub gone_on : (old new : List Node) (at : ℕ) (edge : Edge) → Grows new old → child old at edge ≡ None → child new at edge ≡ None
-gone_on old new at edge g none = by (child new at edge) refl
+pub there_for : (nodes : Store) (at : ℕ) → ContainsKey nodes at → (above : ℕ) × (link_of nodes at ≡ Some above)
+there_for nodes at is = by (get nodes at) refl
   where
-    by : (o : Option ℕ) → child new at edge ≡ o → child new at edge ≡ None
-    by None e = e
-    by (Some k) e = absurd (none_some k (sym none ∙ g.0 at edge k e))
+    by : (o : Option Node) → get nodes at ≡ o → (above : ℕ) × (link_of nodes at ≡ Some above)
+    by None n = let bad : IsSome {T = Node} None = subst IsSome n is in absurd (cc)
+    by (Some node) n = (node.link, link_by nodes at node n)
+
+-- a node that isn't there has no link
+pub vacant_link : (nodes : Store) (at above : ℕ) → get nodes at ≡ None → link_of nodes at ≡ Some above → ⊥
+vacant_link nodes at above none is = none_some above (sym (link_none nodes at none) ∙ is)
+
+-- ---- one node is changed
+
+-- a branch of a node comes, goes or leads elsewhere
+pub branched : (old new : Store) (at : ℕ) (edge : Edge) (node next : Node) → get old at ≡ Some node → Updates old new at (Some next) → next.numbers ≡ node.numbers → next.link ≡ node.link
+    → ((e : Edge) → (e ≡ edge → ⊥) → branch next e ≡ branch node e) → IsBranched at edge old new
+branched old new at edge node next is updates numbers link branches = record {
+  was = node.link;
+  there = link_by old at node is;
+  others = λ a e apart. elim (cases_eq a at) [
+    | inl s ↦
+        subst (λ b. child new b e ≡ child old b e) (sym s)
+        (child_by new at e next updates.changed ∙ branches e (λ d. apart (s, d)) ∙ sym (child_by old at e node is))
+    | inr s ↦ child_same old new a e (updates.others a s)
+  ];
+  numbers = λ a n h. elim (cases_eq a at) [
+    | inl s ↦
+        subst (λ b. Holds new b n) (sym s)
+        (held_there new at n next updates.changed (subst (λ v. IsIn n v.items) (sym numbers) (held_by old at n node is (subst (λ b. Holds old b n) s h))))
+    | inr s ↦ held_same old new a n (updates.others a s) h
+  ];
+  back = λ a n h. elim (cases_eq a at) [
+    | inl s ↦
+        subst (λ b. Holds old b n) (sym s)
+        (held_there old at n node is (subst (λ v. IsIn n v.items) numbers (held_by new at n next updates.changed (subst (λ b. Holds new b n) s h))))
+    | inr s ↦ held_same new old a n (sym (updates.others a s)) h
+  ];
+  links = λ k. elim (cases_eq k at) [
+    | inl s ↦ subst (λ b. link_of new b ≡ link_of old b) (sym s) (link_by new at next updates.changed ∙ ap Some link ∙ sym (link_by old at node is))
+    | inr s ↦ link_same old new k (updates.others k s)
+  ];
+}
+
+-- the numbers of a node change
+pub renumbered : (old new : Store) (at : ℕ) (node next : Node) → get old at ≡ Some node → Updates old new at (Some next) → next.branches ≡ node.branches → next.link ≡ node.link → IsRenumbered at old new
+renumbered old new at node next is updates branches link = record {
+  was = node.link;
+  there = link_by old at node is;
+  branches = λ a e. elim (cases_eq a at) [
+    | inl s ↦
+        subst (λ b. child new b e ≡ child old b e) (sym s)
+        (child_by new at e next updates.changed ∙ ap (λ b. tree.get edge_cmp b e) branches ∙ sym (child_by old at e node is))
+    | inr s ↦ child_same old new a e (updates.others a s)
+  ];
+  numbers = λ a n s h. held_same old new a n (updates.others a s) h;
+  back = λ a n s h. held_same new old a n (sym (updates.others a s)) h;
+  links = λ k. elim (cases_eq k at) [
+    | inl s ↦ subst (λ b. link_of new b ≡ link_of old b) (sym s) (link_by new at next updates.changed ∙ ap Some link ∙ sym (link_by old at node is))
+    | inr s ↦ link_same old new k (updates.others k s)
+  ];
+}
+
+pub same_store : (nodes : Store) → IsSame nodes nodes
+same_store nodes = record { branches = λ a e. refl; numbers = λ a n h. h; back = λ a n h. h; links = λ k. refl; next = refl }
+
+-- a node has the branches and numbers that it had
+pub untouched : (old new : Store) (at : ℕ) (node next : Node) → get old at ≡ Some node → Updates old new at (Some next) → next.numbers ≡ node.numbers → next.link ≡ node.link
+    → next.branches.entries ≡ node.branches.entries → new.vacant_key ≡ old.vacant_key → IsSame old new
+untouched old new at node next is updates numbers link entries key =
+    let there = branched old new at Any node next is updates numbers link (λ e d. ap (lookup (tree.is_at (edge_cmp e))) entries) in
+    record {
+      branches = λ a e. elim (cases_eq a at) [
+        | inl s ↦
+            subst (λ b. child new b e ≡ child old b e) (sym s)
+            (child_by new at e next updates.changed ∙ ap (lookup (tree.is_at (edge_cmp e))) entries ∙ sym (child_by old at e node is))
+        | inr s ↦ child_same old new a e (updates.others a s)
+      ];
+      numbers = there.numbers;
+      back = there.back;
+      links = there.links;
+      next = key;
+    }
+
+pub held_after : (old new : Store) (at n : ℕ) (next : Node) → Updates old new at (Some next) → IsIn n next.numbers.items → Holds new at n
+held_after old new at n next updates h = held_there new at n next updates.changed h
+
+pub after_held : (old new : Store) (at n : ℕ) (next : Node) → Updates old new at (Some next) → Holds new at n → IsIn n next.numbers.items
+after_held old new at n next updates h = held_by new at n next updates.changed h
+
+-- a node has the numbers that it had
+pub unpushed : (old new : Store) (at : ℕ) (node next : Node) → get old at ≡ Some node → Updates old new at (Some next) → next.numbers.items ≡ node.numbers.items → next.branches ≡ node.branches → next.link ≡ node.link
+    → new.vacant_key ≡ old.vacant_key → IsSame old new
+unpushed old new at node next is updates numbers branches link key =
+    let there = renumbered old new at node next is updates branches link in
+    record {
+      branches = there.branches;
+      numbers = λ a n h. elim (cases_eq a at) [
+        | inl s ↦
+            subst (λ b. Holds new b n) (sym s)
+            (held_there new at n next updates.changed (subst (IsIn n) (sym numbers) (held_by old at n node is (subst (λ b. Holds old b n) s h))))
+        | inr s ↦ there.numbers a n s h
+      ];
+      back = λ a n h. elim (cases_eq a at) [
+        | inl s ↦
+            subst (λ b. Holds old b n) (sym s)
+            (held_there old at n node is (subst (IsIn n) numbers (held_by new at n next updates.changed (subst (λ b. Holds new b n) s h))))
+        | inr s ↦ there.back a n s h
+      ];
+      links = there.links;
+      next = key;
+    }
+
+-- a node that isn't empty has a number or a branch
+pub full : (nodes : Store) (at : ℕ) (node : Node) → get nodes at ≡ Some node → (node.numbers.items ≡ [] → ⊥) ⊎ (node.branches.entries ≡ [] → ⊥) → IsFull nodes at
+full nodes at node is (inl some) = by node.numbers.items refl
+  where
+    by : (ns : List ℕ) → node.numbers.items ≡ ns → IsFull nodes at
+    by [] s = absurd (some s)
+    by (n ∷ ns) s = inl (n, held_there nodes at n node is (subst (IsIn n) (sym s) (inl refl)))
+full nodes at node is (inr some) = by node.branches.entries refl
+  where
+    by : (es : List (Edge × ℕ)) → node.branches.entries ≡ es → IsFull nodes at
+    by [] s = absurd (some s)
+    by (e ∷ es) s =
+        inr (
+          e.0,
+          e.1,
+          child_by nodes at e.0 node is ∙ ap (lookup (tree.is_at (edge_cmp e.0))) s
+              ∙ ap (λ (o : Ordering). cond (is_eq o) (Some e.1) (lookup (tree.is_at (edge_cmp e.0)) es)) (same_as_itself e.0),
+        )

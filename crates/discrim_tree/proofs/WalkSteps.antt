@@ -3,11 +3,12 @@ use Rattle.std.proofs.Common.{◌≡◌, ℕ, zero, suc, ◌+◌, ◌<◌, ◌�
 use Rattle.std.specs.BTreeMap.{is_at}
 use Rattle.std.specs.Map.{lookup}
 use Rattle.std.specs.Option.{option_and_then}
-use Rattle.std.proofs.lemmas.Bool.{cases_eq, cases_lt}
-use Rattle.std.proofs.lemmas.Option.{slice_get_within, slice_get_past}
+use Rattle.std.proofs.lemmas.Bool.{cases_eq}
+use Rattle.std.proofs.lemmas.Option.{slice_get_within}
+use Rattle.slab.specs.Slab.{get}
 use Rattle.fol_core.specs.Tree.{Tree, var, elem, app, Trees, none, more, list_of}
 use Rattle.discrim_tree.specs.Fitting.{FitAll}
-use Rattle.discrim_tree.specs.Nodes.{edge_cmp, branch, child, IsIn, Holds, Reaches}
+use Rattle.discrim_tree.specs.Nodes.{Store, edge_cmp, branch, child, IsIn, Holds, Reaches}
 use Rattle.discrim_tree.specs.Paths.{step_of, arguments, steps_of, path_of, paths_of}
 use Rattle.discrim_tree.specs.Walks.{arity, GoesOn, IsFrom, IsFound, IsBehind, IsAhead, IsToSkip, Enters, StartsAt, SkipsOne, SkipsAll, SkipsEach, Waits, Follows, Passes, PassesAll, Covers}
 use Rattle.discrim_tree.specs.declared.edge.Edge.{Edge}
@@ -74,7 +75,7 @@ starts_next low i walk at now new so here is j b lo hi there = elim (cases_eq j 
       (old.0, ap (λ xs. slice_get xs old.0) is ∙ pushed_on now (record { node = at; count = 1 }) old.0 (record { node = b; count = 1 }) old.1)
 ]
 
-module _ (nodes : List Node) where
+module _ (nodes : Store) where
   pub found_on : (a b : List ℕ) (n : ℕ) → GoesOn a b → IsFound nodes a n → IsFound nodes b n
   found_on a b n g h = (h.0, h.1, g h.0 h.1 h.2, h.3)
 
@@ -97,15 +98,33 @@ module _ (nodes : List Node) where
     | inr s ↦ from_on (length old) now new k g (so j b k lo (omega (arith, hi, s)) is c)
   ]
 
-  pub nowhere : (at : ℕ) (path : List Edge) (n : ℕ) → slice_get nodes at ≡ None → Reaches nodes at path n → ⊥
+  -- what a loop over nodes keeps as it follows one more
+  pub follow_pushed : (low i : ℕ) (edge : Edge) (old now new : List ℕ) (at k : ℕ) → GoesOn old now → length old ≤ length now → Follows nodes low i edge old now → slice_get now i ≡ Some at
+      → child nodes at edge ≡ Some k → new ≡ now ++ k ∷ [] → GoesOn old new × (length old ≤ length new) × Follows nodes low (i + 1) edge old new
+  follow_pushed low i edge old now new at k f le so here is pushed =
+      let on : GoesOn now new = subst (GoesOn now) (sym pushed) (pushed_on now k) in
+      let longer : length old ≤ length new = omega (arith, le, ap length pushed, length-append now (k ∷ [])) in (
+        goes_far old now new f on,
+        longer,
+        follow_next low i edge old now new at f on so here (λ j c. subst (IsFrom (length old) new) (some_same k j (sym is ∙ c)) (subst (λ xs. IsFrom (length old) xs k) (sym pushed) (pushed_from now k (length old) le))),
+      )
+
+  pub follow_none : (low i : ℕ) (edge : Edge) (old now new : List ℕ) (at : ℕ) → GoesOn old now → length old ≤ length now → Follows nodes low i edge old now → slice_get now i ≡ Some at
+      → child nodes at edge ≡ None → new ≡ now → GoesOn old new × (length old ≤ length new) × Follows nodes low (i + 1) edge old new
+  follow_none low i edge old now new at f le so here is same =
+      let on : GoesOn now new = subst (GoesOn now) (sym same) (stays now) in
+      let longer : length old ≤ length new = omega (arith, le, ap length same) in (
+        goes_far old now new f on,
+        longer,
+        follow_next low i edge old now new at f on so here (λ j c. absurd (nothing j (sym is ∙ c))),
+      )
+    where
+      nothing : (j : ℕ) → None ≡ Some j → ⊥
+      nothing j e = cc
+
+  pub nowhere : (at : ℕ) (path : List Edge) (n : ℕ) → get nodes at ≡ None → Reaches nodes at path n → ⊥
   nowhere at [] n is h = subst (λ o. MatchOption o ⊥ (λ (node : Node). IsIn n node.numbers.items)) is h
   nowhere at (e ∷ path) n is h = let bad : None ≡ Some h.0 = ap (option_and_then (λ (node : Node). branch node e)) (sym is) ∙ h.1 in cc
-
-  pub held_within : (at n : ℕ) → Holds nodes at n → at < length nodes
-  held_within at n h = elim (cases_lt at (length nodes)) [
-    | inl l ↦ l
-    | inr l ↦ absurd (subst (λ o. MatchOption o ⊥ (λ (node : Node). IsIn n node.numbers.items)) (slice_get_past nodes at l) h)
-  ]
 
   -- ---- the branches of a node that come to what is to be skipped
 
@@ -124,7 +143,7 @@ module _ (nodes : List Node) where
   AreLeft at left count waiting =
       (e : Edge) (k : ℕ) → child nodes at e ≡ Some k → (lookup (is_at (edge_cmp e)) left ≡ Some k) ⊎ IsEntered e k count waiting
 
-  pub all_left : (at : ℕ) (node : Node) (left : List (Edge × ℕ)) (count : ℕ) (waiting : List Skipping) → slice_get nodes at ≡ Some node → left ≡ node.branches.entries → AreLeft at left count waiting
+  pub all_left : (at : ℕ) (node : Node) (left : List (Edge × ℕ)) (count : ℕ) (waiting : List Skipping) → get nodes at ≡ Some node → left ≡ node.branches.entries → AreLeft at left count waiting
   all_left at node left count waiting is same e k h =
       inl (ap (lookup (is_at (edge_cmp e))) same ∙ ap (option_and_then (λ (x : Node). branch x e)) (sym is) ∙ h)
 
@@ -150,7 +169,7 @@ module _ (nodes : List Node) where
           inr (subst (λ i. IsEntered e i count new) same (subst (λ d. IsEntered d b count new) (sym (is_same e edge s)) done))
       by e k false s h = inl (sym (ap (λ c. cond c (Some b) (lookup (is_at (edge_cmp e)) rest)) s) ∙ h)
 
-  pub enters_nothing : (at count : ℕ) (waiting : List Skipping) → slice_get nodes at ≡ None → Enters nodes at count waiting
+  pub enters_nothing : (at count : ℕ) (waiting : List Skipping) → get nodes at ≡ None → Enters nodes at count waiting
   enters_nothing at count waiting is e k h = let bad : None ≡ Some k = ap (option_and_then (λ (node : Node). branch node e)) (sym is) ∙ h in cc
 
   -- ---- terms that are skipped

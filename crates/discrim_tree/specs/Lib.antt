@@ -1,3 +1,4 @@
+pub mod Beginnings
 pub mod Entries
 pub mod Fitting
 pub mod Laws
@@ -7,6 +8,7 @@ pub mod Paths
 pub mod Seeking
 pub mod Sieves
 pub mod Terms
+pub mod Trees
 pub mod View
 pub mod Walks
 pub mod Worked

@@ -1,14 +1,19 @@
 -- The nodes of a tree of paths.
-use Rattle.std.specs.Prelude.{ℕ, ◌≡◌, ◌⊎◌, List, [], ◌∷◌, Option, Some, MatchOption, slice_get}
+use Rattle.std.specs.Prelude.{ℕ, ◌≡◌, ◌⊎◌, List, [], ◌∷◌, Option, Some, MatchOption}
 use Rattle.std.specs.BTreeMap as tree
 use Rattle.std.specs.Option.{option_and_then}
 use Rattle.std.specs.declared.cmp.Ordering.{Ordering}
+use Rattle.slab.specs.Slab.{Slab, get}
 use Rattle.discrim_tree.specs.contracts.edge.EdgeOrd.TheImpl as edge_ord
 use Rattle.discrim_tree.specs.declared.edge.Edge.{Edge}
 use Rattle.discrim_tree.specs.declared.nodes.Node.{Node}
 
 abbrev pub edge_cmp : Edge → Edge → Ordering
 edge_cmp = (edge_ord.ghosts).cmp
+
+-- nodes under their keys
+abbrev pub Store : Type 0
+Store = Slab Node
 
 -- a number is in a list
 abbrev pub IsIn : ℕ → List ℕ → Type 0
@@ -19,49 +24,42 @@ IsIn n (m ∷ ms) = (n ≡ m) ⊎ IsIn n ms
 abbrev pub branch : Node → Edge → Option ℕ
 branch node edge = tree.get edge_cmp node.branches edge
 
-abbrev pub child : List Node → ℕ → Edge → Option ℕ
-child nodes at edge = option_and_then (λ node. branch node edge) (slice_get nodes at)
+abbrev pub child : Store → ℕ → Edge → Option ℕ
+child nodes at edge = option_and_then (λ node. branch node edge) (get nodes at)
 
 -- a node has a number
-abbrev pub Holds : List Node → ℕ → ℕ → Type 0
-Holds nodes at n = MatchOption (slice_get nodes at) ⊥ (λ node. IsIn n node.numbers.items)
+abbrev pub Holds : Store → ℕ → ℕ → Type 0
+Holds nodes at n = MatchOption (get nodes at) ⊥ (λ node. IsIn n node.numbers.items)
 
 -- from a node a path leads to a number
-abbrev pub Reaches : List Node → ℕ → List Edge → ℕ → Type 0
+abbrev pub Reaches : Store → ℕ → List Edge → ℕ → Type 0
 Reaches nodes at [] n = Holds nodes at n
 Reaches nodes at (edge ∷ path) n = (k : ℕ) × (child nodes at edge ≡ Some k) × Reaches nodes k path n
 
 -- branches and numbers stay
-abbrev pub Grows : List Node → List Node → Type 0
+abbrev pub Grows : Store → Store → Type 0
 Grows old new =
     ((at : ℕ) (edge : Edge) (k : ℕ) → child old at edge ≡ Some k → child new at edge ≡ Some k)
     × ((at : ℕ) (n : ℕ) → Holds old at n → Holds new at n)
 
 -- paths to other numbers stay
-abbrev pub KeepsOthers : ℕ → List Node → List Node → Type 0
+abbrev pub KeepsOthers : ℕ → Store → Store → Type 0
 KeepsOthers n old new =
     (at : ℕ) (path : List Edge) (m : ℕ) → (m ≡ n → ⊥) → Reaches old at path m → Reaches new at path m
 
 -- all paths stay
-abbrev pub KeepsPaths : List Node → List Node → Type 0
+abbrev pub KeepsPaths : Store → Store → Type 0
 KeepsPaths old new =
     (at : ℕ) (path : List Edge) (m : ℕ) → Reaches old at path m → Reaches new at path m
 
 -- no number and no branch is there
-abbrev pub IsEmptyAt : List Node → ℕ → Type 0
+abbrev pub IsEmptyAt : Store → ℕ → Type 0
 IsEmptyAt nodes at =
     ((n : ℕ) → Holds nodes at n → ⊥)
     × ((edge : Edge) (k : ℕ) → child nodes at edge ≡ Some k → ⊥)
 
--- numbers stay, and branches but for one
-abbrev pub LosesBranch : ℕ → Edge → List Node → List Node → Type 0
-LosesBranch at edge old new =
-    ((a : ℕ) (e : Edge) (k : ℕ) → child old a e ≡ Some k
-    → (child new a e ≡ Some k) ⊎ (child old at edge ≡ Some k))
-    × ((a : ℕ) (n : ℕ) → Holds old a n → Holds new a n)
-
 -- the node to which a path leads from the root, however many branches and numbers are taken away
-abbrev pub Ends : List Node → List Edge → Option ℕ → Type 0
+abbrev pub Ends : Store → List Edge → Option ℕ → Type 0
 Ends nodes path end =
-    (fewer : List Node) (n : ℕ) → Grows fewer nodes → Reaches fewer 0 path n
+    (fewer : Store) (n : ℕ) → Grows fewer nodes → Reaches fewer 0 path n
     → MatchOption end ⊥ (λ k. Holds fewer k n)

@@ -1,15 +1,15 @@
 -- What is sought in an index.
-use Rattle.std.specs.Prelude.{ℕ, ◌≡◌, Bool, true, false, ◌==◌, ◌&&◌, ◌≤◌, List, [], ◌∷◌, Option, Some}
+use Rattle.std.specs.Prelude.{ℕ, ◌≡◌, ◌⊎◌, Bool, true, false, ◌==◌, ◌&&◌, ◌≤◌, List, [], ◌∷◌, Option, Some}
 use Rattle.std.specs.List.{list_any}
 use Rattle.fol_core.specs.Tree.{Tree}
 use Rattle.fol_core.specs.TermView.{tree_of}
 use Rattle.discrim_tree.specs.Entries.{Indexed}
-use Rattle.discrim_tree.specs.Nodes.{IsIn, Holds, Reaches}
+use Rattle.discrim_tree.specs.Nodes.{Store, IsIn, Holds, Reaches}
 use Rattle.discrim_tree.specs.Paths.{path_of}
 use Rattle.discrim_tree.specs.Terms.{has_instance, can_unify}
 use Rattle.discrim_tree.specs.Walks.{IsFound}
+use Rattle.discrim_tree.specs.declared.edge.Edge.{Edge}
 use Rattle.discrim_tree.specs.declared.entry.IndexEntry.{IndexEntry}
-use Rattle.discrim_tree.specs.declared.nodes.Node.{Node}
 use Rattle.discrim_tree.specs.declared.sought.Sought.{Sought}
 use Rattle.discrim_tree.specs.declared.sought.Sought.TheVariants.{Generalizations, Instances, Unifiable}
 
@@ -32,11 +32,20 @@ passes Instances t s = has_instance t s
 passes Unifiable t s = can_unify s t
 
 -- each entry's number stands at the end of its path
-abbrev pub AreReached : List Node → List IndexEntry → Type 0
+abbrev pub AreReached : Store → List IndexEntry → Type 0
 AreReached nodes [] = Unit {0}
 AreReached nodes (e ∷ es) =
     Reaches nodes 0 e.path.items e.number × (e.path.items ≡ path_of (tree_of e.tree))
     × AreReached nodes es
+
+-- a path and a number are those of an entry
+abbrev pub IsEntry : List Edge → ℕ → List IndexEntry → Type 0
+IsEntry path n [] = ⊥
+IsEntry path n (e ∷ es) = ((path ≡ e.path.items) × (n ≡ e.number)) ⊎ IsEntry path n es
+
+-- no path leads to a number but those of the entries
+abbrev pub AreOnly : Store → List IndexEntry → Type 0
+AreOnly nodes es = (path : List Edge) (n : ℕ) → Reaches nodes 0 path n → IsEntry path n es
 
 -- whether a number is that of an entry that passes a test
 abbrev pub is_sought : (Tree → Bool) → List Indexed → ℕ → Bool
@@ -53,14 +62,14 @@ pub record Improves (p : ℕ → Bool) (numbers : List ℕ) (old new : Option �
   pub takes : (n : ℕ) → IsIn n numbers → p n ≡ true → IsAtMost new n
 
 -- the same, where the numbers at a node come to those before
-pub record ImprovesAt (p : ℕ → Bool) (nodes : List Node) (at : ℕ) (old new : Option ℕ) : Type 0
+pub record ImprovesAt (p : ℕ → Bool) (nodes : Store) (at : ℕ) (old new : Option ℕ) : Type 0
   where
     pub sound : ((m : ℕ) → old ≡ Some m → p m ≡ true) → (m : ℕ) → new ≡ Some m → p m ≡ true
     pub keeps : (n : ℕ) → IsAtMost old n → IsAtMost new n
     pub takes : (n : ℕ) → Holds nodes at n → p n ≡ true → IsAtMost new n
 
 -- the least number at the nodes of a walk that passes
-pub record IsLeast (p : ℕ → Bool) (nodes : List Node) (walk : List ℕ) (best : Option ℕ) : Type 0
+pub record IsLeast (p : ℕ → Bool) (nodes : Store) (walk : List ℕ) (best : Option ℕ) : Type 0
   where
     pub sound : (m : ℕ) → best ≡ Some m → p m ≡ true
     pub least : (n : ℕ) → IsFound nodes walk n → p n ≡ true → IsAtMost best n

@@ -10,7 +10,7 @@ use Rattle.discrim_tree.specs.declared.sought.Sought.{Sought}
 
 -- a number stands at the end of a term's path
 unfoldable pub IsUnder : Sieve → Tree → ℕ → Type 0
-IsUnder sieve t n = Reaches sieve.nodes.items.items 0 (path_of t) n
+IsUnder sieve t n = Reaches sieve.nodes.items 0 (path_of t) n
 
 -- numbers stay under their terms
 abbrev pub StayUnder : Sieve → Sieve → Type 0

@@ -1,6 +1,7 @@
 -- Retrievals worked out.
 use Rattle.std.specs.Prelude.{◌≡◌, List, [], ◌∷◌, Some, slice_get}
 use Rattle.fol_core.specs.Tree.{Tree, var, app, none, more}
+use Rattle.discrim_tree.specs.Beginnings.{count_beginnings}
 use Rattle.discrim_tree.specs.Entries.{Indexed, indexed, with_entry, without_entry, numbers_found}
 use Rattle.discrim_tree.specs.Terms.{has_instance, can_unify}
 
@@ -32,3 +33,12 @@ WorkedEntries =
     (with_entry (indexed 5 (f (var 0) a))
     (indexed 2 (f (var 0) (var 0)) ∷ indexed 9 (f a (var 1)) ∷ []) ≡ three)
     × (without_entry 5 three ≡ indexed 2 (f (var 0) (var 0)) ∷ indexed 9 (f a (var 1)) ∷ [])
+
+-- entries 1, 2 and 3: f(x,y), f(x,x) and f(a,x), whose paths begin f, f*, f**, fa and fa*
+abbrev paths : List Indexed
+paths =
+    indexed 1 (f (var 0) (var 1)) ∷ indexed 2 (f (var 0) (var 0)) ∷ indexed 3 (f a (var 0)) ∷ []
+
+-- five nodes, and without the last entry three
+abbrev pub WorkedNodes : Type 0
+WorkedNodes = (count_beginnings paths ≡ 5) × (count_beginnings (without_entry 3 paths) ≡ 3)

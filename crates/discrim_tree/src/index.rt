@@ -1,6 +1,7 @@
 // The index.
 ghost use Rattle.std.specs.Prelude.{◌≡◌, [], false, slice_get, IfOk, OnOk, OnErr};
 ghost use Rattle.fol_core.specs.TermView.{tree_of};
+ghost use Rattle.discrim_tree.specs.Beginnings.{count_beginnings};
 ghost use Rattle.discrim_tree.specs.Entries.{indexed, has_number, with_entry, without_entry, numbers_found, NumbersRise};
 ghost use Rattle.discrim_tree.specs.Terms.{has_instance, can_unify};
 
@@ -18,7 +19,7 @@ use std::marker::Model;
 pub struct Index {
     // By rising number.
     entries: Vec<IndexEntry>,
-    // Each entry's number stands at the end of its path; others may stand there too.
+    // A tree whose paths lead to the entries' numbers and to no others, and that has a number at each node or below it.
     nodes: Nodes,
 }
 
@@ -34,13 +35,16 @@ impl Model for Index {
 
     ghost view = { λ a. all_indexed a.entries.items };
 
-    ghost use Rattle.discrim_tree.specs.Seeking.{AreReached};
+    ghost use Rattle.discrim_tree.specs.Seeking.{AreReached, AreOnly};
+    ghost use Rattle.discrim_tree.specs.Trees.{AllUsed, IsTree};
 
-    ghost invariant = { λ a. NumbersRise (all_indexed a.entries.items) × AreReached a.nodes.items.items a.entries.items };
+    ghost invariant = { λ a. NumbersRise (all_indexed a.entries.items) × AreReached a.nodes.items a.entries.items
+        × AreOnly a.nodes.items a.entries.items × IsTree a.nodes.items × AllUsed a.nodes.items };
 }
 
 impl Index {
     /// No entries.
+    #[tactic(auto, using(crate::proofs::Only::empty_only, crate::proofs::Trees::empty_tree, crate::proofs::Trees::empty_used))]
     pub fn new(alloc: Global) -> Index
         ensures { result ≡ [] }
     {
@@ -62,6 +66,7 @@ impl Index {
         let tree = term.copy(alloc)?;
         let path = path_of(alloc, term)?;
         let place = place_of(&self.entries, number);
+        self.entries.reserve(1)?;
         self.nodes.put(alloc, &path, number)?;
         self.entries
             .insert(place, IndexEntry { number, tree, path })?;
@@ -80,6 +85,13 @@ impl Index {
                 self.nodes.take(&entry.path, number);
             }
         }
+    }
+
+    /// How many nodes the tree of the entries' paths has, but for its root: one for each of their distinct beginnings.
+    pub fn nodes(&self) -> u64
+        ensures { result ≡ count_beginnings self.now }
+    {
+        self.nodes.count()
     }
 
     /// The numbers of the entries of which the term is an instance, rising.

@@ -1,6 +1,6 @@
 // Laws of the tests of an index, and retrievals worked out: the functions do nothing, and their contracts are the laws.
 ghost use Rattle.discrim_tree.specs.Laws.{InstancesAreMade, UnifiersAreOfTwo};
-ghost use Rattle.discrim_tree.specs.Worked.{WorkedEntries, WorkedRetrievals};
+ghost use Rattle.discrim_tree.specs.Worked.{WorkedEntries, WorkedNodes, WorkedRetrievals};
 
 /// A term is an instance of another exactly where a substitution makes it of that, and two terms unify exactly where a
 /// substitution for each makes them the same.
@@ -9,8 +9,9 @@ pub fn tests_are_exact()
     ensures unifiers { UnifiersAreOfTwo }
 {}
 
-/// Retrievals and entries.
+/// Retrievals, entries and nodes.
 pub fn worked()
     ensures retrievals { WorkedRetrievals }
     ensures entries { WorkedEntries }
+    ensures nodes { WorkedNodes }
 {}

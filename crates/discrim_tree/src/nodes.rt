@@ -1,14 +1,17 @@
-// A tree of paths: nodes by their places, the first of them the root.
-ghost use Rattle.std.specs.Prelude.{ℕ, ◌≡◌, ◌<◌, [], Some, None, IfOk, IsTrue, OnOk, length};
-ghost use Rattle.discrim_tree.specs.Nodes.{child, branch, Holds, IsIn, Reaches, Grows, IsEmptyAt, Ends, KeepsOthers, KeepsPaths, LosesBranch};
+// A tree of paths: nodes under their keys, the root under 0.
+ghost use Rattle.std.specs.Prelude.{ℕ, ◌≡◌, ◌⊎◌, ◌-◌, List, [], Some, None, false, IfOk, IfSome, IsTrue, OnOk, OnErr};
+ghost use Rattle.slab.specs.Slab.{get, slab_len, ContainsKey, Updates};
+ghost use Rattle.discrim_tree.specs.Nodes.{child, branch, Holds, IsIn, Reaches, Grows, IsEmptyAt, Ends, KeepsOthers, KeepsPaths};
+ghost use Rattle.discrim_tree.specs.Trees.{link_of, AllUsed, AllUsedBut, ComesOnly, IsAlike, IsBranched, IsFresh, IsFull, IsOneMore, IsRenumbered, IsSame, IsTree, Leads};
+ghost use Rattle.discrim_tree.specs.declared.edge.Edge.{Edge};
 ghost use Rattle.discrim_tree.specs.Walks.{IsFound};
 
 use crate::edge::Edge;
+use slab::Slab;
 use std::alloc::{AllocError, Global};
 use std::collections::BTreeMap;
 
-/// A node: the numbers of the paths that end there, where each step leads, and a link: to the node above, or from a node
-/// that is free to the next one that is.
+/// A node: the numbers of the paths that end there, where each step leads, and the node above.
 #[derive(Drop)]
 pub struct Node {
     pub numbers: Vec<u64>,
@@ -16,23 +19,23 @@ pub struct Node {
     pub link: usize,
 }
 
-/// Nodes, and the first that is free, or a place that none has.
+/// Nodes.
 #[derive(Drop)]
 pub struct Nodes {
-    pub items: Vec<Node>,
-    pub free: usize,
+    pub items: Slab<Node>,
 }
 
 impl Node {
-    // Neither numbers nor branches.
-    fn new(alloc: Global) -> Node
+    // Neither numbers nor branches, below a node.
+    fn new(alloc: Global, above: usize) -> Node
         ensures numbers { result.numbers.items ≡ [] }
         ensures branches { result.branches.entries ≡ [] }
+        ensures link { result.link ≡ above }
     {
         Node {
             numbers: Vec::new(alloc),
             branches: BTreeMap::new(alloc),
-            link: usize::MAX,
+            link: above,
         }
     }
 
@@ -45,7 +48,8 @@ impl Node {
 
     // Neither numbers nor branches.
     fn is_empty(&self) -> bool
-        ensures { IsTrue result → (self.now.numbers.items ≡ []) × (self.now.branches.entries ≡ []) }
+        ensures yes { IsTrue result → (self.now.numbers.items ≡ []) × (self.now.branches.entries ≡ []) }
+        ensures no { result ≡ false → (self.now.numbers.items ≡ [] → ⊥) ⊎ (self.now.branches.entries ≡ [] → ⊥) }
     {
         self.numbers.is_empty() && self.branches.is_empty()
     }
@@ -54,6 +58,7 @@ impl Node {
     fn forget(&mut self, number: u64)
         ensures numbers { (m : ℕ) → (m ≡ number → ⊥) → IsIn m self.old.numbers.items → IsIn m self.new.numbers.items }
         ensures branches { self.new.branches ≡ self.old.branches }
+        ensures link { self.new.link ≡ self.old.link }
         ensures fewer { (m : ℕ) → IsIn m self.new.numbers.items → IsIn m self.old.numbers.items }
         ensures gone { IsIn number self.new.numbers.items → ⊥ }
     {
@@ -64,17 +69,17 @@ impl Node {
 impl Nodes {
     /// No nodes.
     pub fn new(alloc: Global) -> Nodes
-        ensures { result.items.items ≡ [] }
+        ensures none { (k : ℕ) → get result.items k ≡ None }
+        ensures first { result.items.vacant_key ≡ 0 }
     {
         Nodes {
-            items: Vec::new(alloc),
-            free: usize::MAX,
+            items: Slab::new(alloc),
         }
     }
 
     /// Where a step leads from a node.
     pub fn child(&self, at: usize, edge: Edge) -> Option<usize>
-        ensures { result ≡ child self.now.items.items at edge }
+        ensures { result ≡ child self.now.items at edge }
     {
         match self.items.get(at) {
             None => None,
@@ -82,94 +87,86 @@ impl Nodes {
         }
     }
 
-    // The place of a node that is free, or of a new one.
-    fn fresh(&mut self, alloc: Global) -> Result<usize, AllocError>
-        ensures grows { Grows self.old.items.items self.new.items.items }
-        ensures place { IfOk result (λ k. k < length self.new.items.items) }
+    // An empty node more, below another one.
+    fn fresh(&mut self, alloc: Global, above: usize) -> Result<usize, AllocError>
+        ensures fresh { IfOk result (λ k. IsFresh above k self.old.items self.new.items) }
+        ensures err { OnErr result (IsSame self.old.items self.new.items) }
     {
-        let k = self.free;
-        if k < self.items.len() {
-            self.free = self.items[k].link;
-            return Ok(k);
-        }
-        let k = self.items.len();
-        self.items.push(Node::new(alloc))?;
-        Ok(k)
+        Ok(self.items.insert(Node::new(alloc, above))?)
     }
 
-    // One more branch of a node, where it has none for the step; want of memory also where there is no such node, to
-    // which no branch leads.
+    // One more branch of a node; want of memory also where there is no such node.
     fn attach(&mut self, at: usize, edge: Edge, k: usize) -> Result<(), AllocError>
-        requires { child self.old.items.items at edge ≡ None }
-        ensures grows { Grows self.old.items.items self.new.items.items }
-        ensures branch { OnOk result (child self.new.items.items at edge ≡ Some k) }
+        ensures others { OnOk result (IsBranched at edge self.old.items self.new.items) }
+        ensures branch { OnOk result (child self.new.items at edge ≡ Some k) }
+        ensures err { OnErr result (IsSame self.old.items self.new.items) }
     {
-        if at >= self.items.len() {
-            return Err(AllocError);
-        }
-        self.items[at].branches.insert(edge, k)?;
-        Ok(())
-    }
-
-    // A node hangs below another one from now on.
-    fn hang(&mut self, k: usize, at: usize)
-        ensures { Grows self.old.items.items self.new.items.items }
-    {
-        if k < self.items.len() {
-            self.items[k].link = at;
-        }
-    }
-
-    // Where a step leads from a node, from now on.
-    fn entered(&mut self, alloc: Global, at: usize, edge: Edge) -> Result<usize, AllocError>
-        ensures grows { Grows self.old.items.items self.new.items.items }
-        ensures branch { IfOk result (λ k. child self.new.items.items at edge ≡ Some k) }
-    {
-        if let Some(k) = self.child(at, edge) {
-            return Ok(k);
-        }
-        let k = self.fresh(alloc)?;
-        match self.child(at, edge) {
-            Some(j) => Ok(j),
-            None => {
-                self.attach(at, edge, k)?;
-                self.hang(k, at);
-                Ok(k)
+        match self.items.get_mut(at) {
+            None => Err(AllocError),
+            Some(node) => {
+                node.branches.insert(edge, k)?;
+                Ok(())
             }
         }
     }
 
-    // One more number at a node; want of memory also where there is no such node, to which no branch leads.
-    fn note(&mut self, at: usize, number: u64) -> Result<(), AllocError>
-        ensures grows { Grows self.old.items.items self.new.items.items }
-        ensures noted { OnOk result (Holds self.new.items.items at number) }
+    // A branch is taken away.
+    fn cut(&mut self, at: usize, edge: Edge)
+        ensures others { ContainsKey self.old.items at → IsBranched at edge self.old.items self.new.items }
+        ensures gone { child self.new.items at edge ≡ None }
     {
-        if at >= self.items.len() {
-            return Err(AllocError);
+        if let Some(node) = self.items.get_mut(at) {
+            let _k = node.branches.remove(&edge);
         }
-        self.items[at].numbers.push(number)?;
-        Ok(())
     }
 
-    /// A number at the end of a path.
-    pub fn put(&mut self, alloc: Global, path: &[Edge], number: u64) -> Result<(), AllocError>
-        ensures grows { Grows self.old.items.items self.new.items.items }
-        ensures reached { OnOk result (Reaches self.new.items.items 0 path.now number) }
+    // A node is taken away.
+    fn release(&mut self, k: usize)
+        ensures updates { Updates self.old.items self.new.items k None }
+        ensures next { ContainsKey self.old.items k → self.new.items.vacant_key ≡ k }
     {
-        if self.items.is_empty() {
-            self.items.push(Node::new(alloc))?;
+        let _node = self.items.try_remove(k);
+    }
+
+    // An empty node more, to which a branch leads.
+    fn grown(&mut self, alloc: Global, at: usize, edge: Edge) -> Result<usize, AllocError>
+        requires there { ContainsKey self.old.items at }
+        requires none { child self.old.items at edge ≡ None }
+        ensures more { IfOk result (λ k. IsOneMore at edge k self.old.items self.new.items) }
+        ensures link { IfOk result (λ k. link_of self.new.items k ≡ Some at) }
+        ensures err { OnErr result (IsSame self.old.items self.new.items) }
+    {
+        let k = self.fresh(alloc, at)?;
+        match self.attach(at, edge, k) {
+            Ok(()) => Ok(k),
+            Err(error) => {
+                self.release(k);
+                Err(error)
+            }
         }
-        let mut at = 0;
-        for edge in path {
-            at = self.entered(alloc, at, *edge)?;
+    }
+
+    // Where a step leads from a node, from now on; want of memory also where there is no such node.
+    fn entered(&mut self, alloc: Global, at: usize, edge: Edge) -> Result<usize, AllocError>
+        ensures alike { IsAlike self.old.items self.new.items }
+        ensures grows { Grows self.old.items self.new.items }
+        ensures branch { IfOk result (λ k. child self.new.items at edge ≡ Some k) }
+        ensures used { IfOk result (λ k. AllUsedBut at self.old.items → AllUsedBut k self.new.items) }
+        ensures err { OnErr result (AllUsedBut at self.old.items → AllUsedBut at self.new.items) }
+    {
+        if let Some(k) = self.child(at, edge) {
+            return Ok(k);
         }
-        self.note(at, number)?;
-        Ok(())
+        if !self.items.contains(at) {
+            return Err(AllocError);
+        }
+        self.grown(alloc, at, edge)
     }
 
     // Whether a node has neither numbers nor branches.
     fn is_empty_at(&self, at: usize) -> bool
-        ensures { IsTrue result → IsEmptyAt self.now.items.items at }
+        ensures yes { IsTrue result → IsEmptyAt self.now.items at }
+        ensures no { result ≡ false → ContainsKey self.now.items at → IsFull self.now.items at }
     {
         match self.items.get(at) {
             None => false,
@@ -177,44 +174,12 @@ impl Nodes {
         }
     }
 
-    // A number is at a node no more.
-    fn forget(&mut self, at: usize, number: u64)
-        ensures others { KeepsOthers number self.old.items.items self.new.items.items }
-        ensures fewer { Grows self.new.items.items self.old.items.items }
-        ensures gone { Holds self.new.items.items at number → ⊥ }
-    {
-        if at < self.items.len() {
-            self.items[at].forget(number);
-        }
-    }
-
-    // A branch is taken away.
-    fn cut(&mut self, at: usize, edge: Edge)
-        ensures others { LosesBranch at edge self.old.items.items self.new.items.items }
-        ensures fewer { Grows self.new.items.items self.old.items.items }
-        ensures gone { child self.new.items.items at edge ≡ None }
-    {
-        if at < self.items.len() {
-            let _k = self.items[at].branches.remove(&edge);
-        }
-    }
-
-    // A node is free from now on.
-    fn release(&mut self, k: usize)
-        ensures grows { Grows self.old.items.items self.new.items.items }
-        ensures fewer { Grows self.new.items.items self.old.items.items }
-    {
-        if k < self.items.len() {
-            self.items[k].link = self.free;
-            self.free = k;
-        }
-    }
-
-    // A branch to an empty node is taken away; whether there was one.
+    // A branch to an empty node is taken away, and the node; whether there was one.
     fn prune(&mut self, at: usize, edge: Edge) -> bool
-        ensures paths { KeepsPaths self.old.items.items self.new.items.items }
-        ensures fewer { Grows self.new.items.items self.old.items.items }
-        ensures gone { IsTrue result → child self.new.items.items at edge ≡ None }
+        ensures alike { IsAlike self.old.items self.new.items }
+        ensures leads { (path : List Edge) → Leads self.old.items 0 path at → Leads self.new.items 0 path at }
+        ensures pruned { IsTrue result → IsTree self.old.items → (k : ℕ) → child self.old.items at edge ≡ Some k → AllUsedBut k self.old.items → AllUsedBut at self.new.items }
+        ensures full { result ≡ false → IsTree self.old.items → (k : ℕ) → child self.old.items at edge ≡ Some k → AllUsedBut k self.old.items → AllUsed self.new.items }
     {
         if let Some(k) = self.child(at, edge) {
             if self.is_empty_at(k) {
@@ -226,9 +191,123 @@ impl Nodes {
         false
     }
 
+    // The node above a node.
+    fn above(&self, at: usize) -> Option<usize>
+        ensures { result ≡ link_of self.now.items at }
+    {
+        match self.items.get(at) {
+            None => None,
+            Some(node) => Some(node.link),
+        }
+    }
+
+    // From the end of a path on, branches to empty nodes are taken away.
+    fn prune_back(&mut self, end: usize, path: &[Edge])
+        ensures alike { IsAlike self.old.items self.new.items }
+        ensures used { IsTree self.old.items → Leads self.old.items 0 path.now end → AllUsedBut end self.old.items → AllUsed self.new.items }
+    {
+        let mut at = end;
+        let mut left = path.len();
+        while left > 0 {
+            left -= 1;
+            match self.above(at) {
+                None => return,
+                Some(above) => {
+                    if !self.prune(above, path[left]) {
+                        return;
+                    }
+                    at = above;
+                }
+            }
+        }
+    }
+
+    // The root is there from now on.
+    fn plant(&mut self, alloc: Global) -> Result<(), AllocError>
+        ensures alike { IsAlike self.old.items self.new.items }
+        ensures used { IsTree self.old.items → AllUsed self.old.items → AllUsed self.new.items }
+    {
+        if !self.items.contains(0) {
+            let _root = self.fresh(alloc, usize::MAX)?;
+        }
+        Ok(())
+    }
+
+    // The end of a path, which is there from now on; for want of memory no node comes.
+    fn made(&mut self, alloc: Global, path: &[Edge]) -> Result<usize, AllocError>
+        ensures alike { IsAlike self.old.items self.new.items }
+        ensures leads { IfOk result (λ end. Leads self.new.items 0 path.now end) }
+        ensures used { IfOk result (λ end. AllUsed self.old.items → AllUsedBut end self.new.items) }
+        ensures err { OnErr result (IsTree self.old.items → AllUsed self.old.items → AllUsed self.new.items) }
+    {
+        let mut at = 0;
+        for i in 0..path.len() {
+            match self.entered(alloc, at, path[i]) {
+                Ok(k) => at = k,
+                Err(error) => {
+                    self.prune_back(at, &path[..i]);
+                    return Err(error);
+                }
+            }
+        }
+        Ok(at)
+    }
+
+    // One more number at a node; want of memory also where there is no such node.
+    fn note(&mut self, at: usize, number: u64) -> Result<(), AllocError>
+        ensures others { OnOk result (IsRenumbered at self.old.items self.new.items) }
+        ensures kept { OnOk result ((n : ℕ) → Holds self.old.items at n → Holds self.new.items at n) }
+        ensures noted { OnOk result (Holds self.new.items at number) }
+        ensures only { OnOk result ((n : ℕ) → Holds self.new.items at n → Holds self.old.items at n ⊎ (n ≡ number)) }
+        ensures err { OnErr result (IsSame self.old.items self.new.items) }
+    {
+        match self.items.get_mut(at) {
+            None => Err(AllocError),
+            Some(node) => {
+                node.numbers.push(number)?;
+                Ok(())
+            }
+        }
+    }
+
+    /// A number at the end of a path; for want of memory nothing comes.
+    pub fn put(&mut self, alloc: Global, path: &[Edge], number: u64) -> Result<(), AllocError>
+        ensures kept { KeepsPaths self.old.items self.new.items }
+        ensures reached { OnOk result (Reaches self.new.items 0 path.now number) }
+        ensures only { OnOk result (IsTree self.old.items → ComesOnly path.now number self.old.items self.new.items) }
+        ensures err { OnErr result (KeepsPaths self.new.items self.old.items) }
+        ensures tree { IsTree self.old.items → IsTree self.new.items }
+        ensures used { IsTree self.old.items → AllUsed self.old.items → AllUsed self.new.items }
+    {
+        self.plant(alloc)?;
+        let end = self.made(alloc, path)?;
+        match self.note(end, number) {
+            Ok(()) => Ok(()),
+            Err(error) => {
+                self.prune_back(end, path);
+                Err(error)
+            }
+        }
+    }
+
+    // A number is at a node no more.
+    fn forget(&mut self, at: usize, number: u64)
+        ensures others { KeepsOthers number self.old.items self.new.items }
+        ensures fewer { Grows self.new.items self.old.items }
+        ensures gone { Holds self.new.items at number → ⊥ }
+        ensures branches { (a : ℕ) (edge : Edge) → child self.new.items a edge ≡ child self.old.items a edge }
+        ensures tree { IsTree self.old.items → IsTree self.new.items }
+        ensures used { AllUsed self.old.items → AllUsedBut at self.new.items }
+    {
+        if let Some(node) = self.items.get_mut(at) {
+            node.forget(number);
+        }
+    }
+
     // The node to which a path leads.
     fn end_of(&self, path: &[Edge]) -> Option<usize>
-        ensures { Ends self.now.items.items path.now result }
+        ensures ends { Ends self.now.items path.now result }
+        ensures leads { IfSome result (λ end. Leads self.now.items 0 path.now end) }
     {
         let mut at = 0;
         for edge in path {
@@ -240,37 +319,13 @@ impl Nodes {
         Some(at)
     }
 
-    // The node above a node.
-    fn above(&self, at: usize) -> Option<usize> {
-        match self.items.get(at) {
-            None => None,
-            Some(node) => Some(node.link),
-        }
-    }
-
-    // From the end of a path on, branches to empty nodes are taken away.
-    fn prune_back(&mut self, end: usize, path: &[Edge])
-        ensures paths { KeepsPaths self.old.items.items self.new.items.items }
-        ensures fewer { Grows self.new.items.items self.old.items.items }
-    {
-        let mut at = end;
-        for edge in path.iter().rev() {
-            match self.above(at) {
-                None => return,
-                Some(above) => {
-                    if !self.prune(above, *edge) {
-                        return;
-                    }
-                    at = above;
-                }
-            }
-        }
-    }
-
     /// A number leaves the end of a path; nodes without numbers and branches go.
     pub fn take(&mut self, path: &[Edge], number: u64)
-        ensures others { KeepsOthers number self.old.items.items self.new.items.items }
-        ensures gone { Reaches self.new.items.items 0 path.now number → ⊥ }
+        ensures others { KeepsOthers number self.old.items self.new.items }
+        ensures fewer { KeepsPaths self.new.items self.old.items }
+        ensures gone { Reaches self.new.items 0 path.now number → ⊥ }
+        ensures tree { IsTree self.old.items → IsTree self.new.items }
+        ensures used { IsTree self.old.items → AllUsed self.old.items → AllUsed self.new.items }
     {
         match self.end_of(path) {
             None => {}
@@ -284,23 +339,32 @@ impl Nodes {
     // The numbers at a node come to a list.
     fn add_numbers(&self, numbers: &mut Vec<u64>, at: usize) -> Result<(), AllocError>
         ensures kept { OnOk result ((n : ℕ) → IsIn n numbers.old.items → IsIn n numbers.new.items) }
-        ensures added { OnOk result ((n : ℕ) → Holds self.now.items.items at n → IsIn n numbers.new.items) }
+        ensures added { OnOk result ((n : ℕ) → Holds self.now.items at n → IsIn n numbers.new.items) }
     {
-        if at >= self.items.len() {
-            return Ok(());
+        match self.items.get(at) {
+            None => Ok(()),
+            Some(node) => {
+                numbers.extend_from_slice(&node.numbers)?;
+                Ok(())
+            }
         }
-        numbers.extend_from_slice(&self.items[at].numbers)?;
-        Ok(())
     }
 
     /// The numbers at the nodes of a walk.
     pub fn numbers_at(&self, alloc: Global, walk: &[usize]) -> Result<Vec<u64>, AllocError>
-        ensures { IfOk result (λ numbers. (n : ℕ) → IsFound self.now.items.items walk.now n → IsIn n numbers.items) }
+        ensures { IfOk result (λ numbers. (n : ℕ) → IsFound self.now.items walk.now n → IsIn n numbers.items) }
     {
         let mut numbers = Vec::new(alloc);
         for at in walk {
             self.add_numbers(&mut numbers, *at)?;
         }
         Ok(numbers)
+    }
+
+    /// How many nodes there are, but for the root.
+    pub fn count(&self) -> u64
+        ensures { result ≡ slab_len self.now.items - 1 }
+    {
+        self.items.len().saturating_sub(1) as u64
     }
 }

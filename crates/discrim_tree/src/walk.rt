@@ -64,7 +64,7 @@ impl Nodes {
         requires { high ≤ length walk.old.items }
         ensures goes_on { OnOk result (GoesOn walk.old.items walk.new.items) }
         ensures longer { OnOk result (length walk.old.items ≤ length walk.new.items) }
-        ensures follows { OnOk result (Follows self.now.items.items low high edge walk.old.items walk.new.items) }
+        ensures follows { OnOk result (Follows self.now.items low high edge walk.old.items walk.new.items) }
     {
         for i in low..high {
             if let Some(k) = self.child(walk[i], edge) {
@@ -85,7 +85,7 @@ impl Nodes {
         requires { high ≤ length walk.old.items }
         ensures goes_on { OnOk result (GoesOn walk.old.items walk.new.items) }
         ensures longer { OnOk result (length walk.old.items ≤ length walk.new.items) }
-        ensures follows { OnOk result (IsTrue below → Follows self.now.items.items low high Any walk.old.items walk.new.items) }
+        ensures follows { OnOk result (IsTrue below → Follows self.now.items low high Any walk.old.items walk.new.items) }
     {
         if below {
             return self.follow(walk, low, high, Edge::Any);
@@ -102,9 +102,9 @@ impl Nodes {
     ) -> Result<(), AllocError>
         requires { 0 < count }
         ensures goes_on { OnOk result (GoesOn waiting.old.items waiting.new.items) }
-        ensures enters { OnOk result (Enters self.now.items.items at count waiting.new.items) }
+        ensures enters { OnOk result (Enters self.now.items at count waiting.new.items) }
     {
-        if at >= self.items.len() {
+        if !self.items.contains(at) {
             return Ok(());
         }
         for (edge, k) in &self.items[at].branches {
@@ -124,7 +124,7 @@ impl Nodes {
         ensures goes_on { OnOk result (GoesOn walk.old.items walk.new.items) }
         ensures longer { OnOk result (length walk.old.items ≤ length walk.new.items) }
         ensures others { OnOk result (GoesOn waiting.old.items waiting.new.items) }
-        ensures skips { OnOk result (SkipsOne self.now.items.items next (length walk.old.items) walk.new.items waiting.new.items) }
+        ensures skips { OnOk result (SkipsOne self.now.items next (length walk.old.items) walk.new.items waiting.new.items) }
     {
         if next.count == 0 {
             walk.push(next.node)?;
@@ -138,7 +138,7 @@ impl Nodes {
     fn skip(&self, walk: &mut Vec<usize>, waiting: &mut Vec<Skipping>) -> Result<(), AllocError>
         ensures goes_on { OnOk result (GoesOn walk.old.items walk.new.items) }
         ensures longer { OnOk result (length walk.old.items ≤ length walk.new.items) }
-        ensures skips { OnOk result (SkipsAll self.now.items.items waiting.old.items (length walk.old.items) walk.new.items) }
+        ensures skips { OnOk result (SkipsAll self.now.items waiting.old.items (length walk.old.items) walk.new.items) }
     {
         for _step in 0..u64::MAX {
             match waiting.pop() {
@@ -154,7 +154,7 @@ impl Nodes {
         requires { high ≤ length walk.old.items }
         ensures goes_on { OnOk result (GoesOn walk.old.items walk.new.items) }
         ensures longer { OnOk result (length walk.old.items ≤ length walk.new.items) }
-        ensures skips { OnOk result (SkipsEach self.now.items.items low high walk.old.items walk.new.items) }
+        ensures skips { OnOk result (SkipsEach self.now.items low high walk.old.items walk.new.items) }
     {
         let mut waiting = starts(*walk.allocator(), walk, low, high)?;
         self.skip(walk, &mut waiting)?;
@@ -174,7 +174,7 @@ impl Nodes {
         ensures goes_on { OnOk result (GoesOn walk.old.items walk.new.items) }
         ensures longer { OnOk result (length walk.old.items ≤ length walk.new.items) }
         ensures within { IfOk result (λ next. next ≤ length walk.new.items) }
-        ensures passes { IfOk result (λ next. Passes self.now.items.items below above (tree_of t.now) low walk.old.items next walk.new.items) }
+        ensures passes { IfOk result (λ next. Passes self.now.items below above (tree_of t.now) low walk.old.items next walk.new.items) }
     {
         let high = walk.len();
         if low >= high {
@@ -214,7 +214,7 @@ impl Nodes {
         above: bool,
         t: &Term,
     ) -> Result<Vec<usize>, AllocError>
-        ensures { IfOk result (λ walk. Covers self.now.items.items below above (tree_of t.now) walk.items) }
+        ensures { IfOk result (λ walk. Covers self.now.items below above (tree_of t.now) walk.items) }
     {
         let mut walk = Vec::new(alloc);
         walk.push(0)?;

@@ -15,20 +15,20 @@ returns-then-above-clause-passes t c =
     let old = c.args.walk.now.items in
     let new = c.skip_each.new.walk.items in
     let all : c.len-high.result ≡ length c.args.walk.now.items = omega (arith, c.len-high.ensures, c.args.walk.now.ok.0) in
-    subst (λ (u : Term). Passes c.args.self.now.items.items c.args.below c.args.above (tree_of u) c.args.low old c.len-high.result new) (sym c.in-Var.is)
-    (passes_variable c.args.self.now.items.items c.args.below c.args.above c.in-Var.field-0 c.args.low c.len-high.result old new all c.in_ok-skip_each-in-Var.ensures.skips)
+    subst (λ (u : Term). Passes c.args.self.now.items c.args.below c.args.above (tree_of u) c.args.low old c.len-high.result new) (sym c.in-Var.is)
+    (passes_variable c.args.self.now.items c.args.below c.args.above c.in-Var.field-0 c.args.low c.len-high.result old new all c.in_ok-skip_each-in-Var.ensures.skips)
 
 pub returns-in_ok-follow-in-Var-clause-passes : goal.returns-in_ok-follow-in-Var-clause-passes
 returns-in_ok-follow-in-Var-clause-passes t c =
     let old = c.args.walk.now.items in
     let new = c.follow.new.walk.items in
     let all : c.len-high.result ≡ length c.args.walk.now.items = omega (arith, c.len-high.ensures, c.args.walk.now.ok.0) in
-    subst (λ (u : Term). Passes c.args.self.now.items.items c.args.below c.args.above (tree_of u) c.args.low old c.len-high.result new) (sym c.in-Var.is)
-    (passes_plain c.args.self.now.items.items c.args.below c.args.above c.in-Var.field-0 c.args.low c.len-high.result old new c.if-above.false all c.in_ok-follow-in-Var.ensures.follows)
+    subst (λ (u : Term). Passes c.args.self.now.items c.args.below c.args.above (tree_of u) c.args.low old c.len-high.result new) (sym c.in-Var.is)
+    (passes_plain c.args.self.now.items c.args.below c.args.above c.in-Var.field-0 c.args.low c.len-high.result old new c.if-above.false all c.in_ok-follow-in-Var.ensures.follows)
 
 pub returns-in_ok-follow_any-in-Elem-clause-passes : goal.returns-in_ok-follow_any-in-Elem-clause-passes
 returns-in_ok-follow_any-in-Elem-clause-passes t c =
-    let nodes = c.args.self.now.items.items in
+    let nodes = c.args.self.now.items in
     let old = c.args.walk.now.items in
     let now = c.follow-in-Elem.new.walk.items in
     let new = c.follow_any.new.walk.items in
@@ -40,7 +40,7 @@ returns-in_ok-follow_any-in-Elem-clause-passes t c =
 
 pub loop-term-preserved : goal.loop-term-preserved
 loop-term-preserved t c =
-    let nodes = c.args.self.now.items.items in
+    let nodes = c.args.self.now.items in
     let so = c.loop-term.invariant in
     let step = c.in_ok-next-in-App.ensures in
     let items = c.deref-term-items.result.now in
@@ -58,7 +58,7 @@ loop-term-preserved t c =
 
 pub returns-in_ok-follow_any-in-App-clause-passes : goal.returns-in_ok-follow_any-in-App-clause-passes
 returns-in_ok-follow_any-in-App-clause-passes t c =
-    let nodes = c.args.self.now.items.items in
+    let nodes = c.args.self.now.items in
     let so = c.loop-term.invariant in
     let items = c.deref-term-items.result.now in
     let old = c.args.walk.now.items in

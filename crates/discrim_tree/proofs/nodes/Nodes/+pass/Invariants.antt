@@ -14,6 +14,6 @@ invariant-loop-term l = record {
   longer : length l.initial.walk.items ≤ length l.walk.items;
   within : l.next ≤ length l.walk.items;
   passes : (low : ℕ) (new : List ℕ) → GoesOn l.walk.items new
-      → PassesAll l.self.items.items l.below l.above (trees_of (tree_list (drop l.term-index l.term-items))) l.next l.walk.items low new
-      → PassesAll l.self.items.items l.below l.above (trees_of (tree_list l.term-items)) l.high l.initial.walk.items low new;
+      → PassesAll l.self.items l.below l.above (trees_of (tree_list (drop l.term-index l.term-items))) l.next l.walk.items low new
+      → PassesAll l.self.items l.below l.above (trees_of (tree_list l.term-items)) l.high l.initial.walk.items low new;
 }

@@ -1,28 +1,26 @@
-use Rattle.std.proofs.Common.{◌≡◌, ◌<◌, ◌≤◌, refl, sym, subst, length, arith, rules}
+use Rattle.std.proofs.Common.{◌≡◌, ◌∙◌, refl, sym, ap, subst, rules}
+use Rattle.std.specs.Option.{option_copied}
 use Rattle.std.specs.Map.Iter.{deref_pair}
-use Rattle.std.proofs.lemmas.Option.{slice_get_read, slice_get_past}
 use Rattle.std.proofs.lemmas.Map.Iter.{rest_more, rest_all}
 use Rattle.discrim_tree.specs.Walks.{GoesOn}
+use Rattle.discrim_tree.proofs.Trees.{not_there}
 use Rattle.discrim_tree.proofs.WalkSteps.{stays, goes_far, pushed_on, all_left, none_left, branch_done, entered_last, enters_nothing}
 use Rattle.discrim_tree.proofs.nodes.Nodes.enter_each.Goals as goal
 
-pub returns-then-at-len-clause-enters : goal.returns-then-at-len-clause-enters
-returns-then-at-len-clause-enters c =
-    let nodes = c.args.self.now.items.items in
-    let past : length c.args.self.now.items.items ≤ c.args.at = omega (arith, c.if-at-len.true, c.len.ensures, c.args.self.now.items.ok.0) in
-    enters_nothing nodes c.args.at c.args.count c.args.waiting.now.items (slice_get_past nodes c.args.at past)
+pub returns-then-not-contains-clause-enters : goal.returns-then-not-contains-clause-enters
+returns-then-not-contains-clause-enters c =
+    enters_nothing c.args.self.now.items c.args.at c.args.count c.args.waiting.now.items (not_there c.args.self.now.items c.args.at c.contains.result c.contains.ensures.1 c.if-not-contains.true)
 
 pub loop-edge-init : goal.loop-edge-init
 loop-edge-init c =
-    let nodes = c.args.self.now.items.items in
+    let nodes = c.args.self.now.items in
     let node = c.index.result.now in
-    let within : c.args.at < length c.args.self.now.items.items = omega (arith, c.if-at-len.false, c.len.ensures, c.args.self.now.items.ok.0) in
     let same : c.into_iter-edge-iterator.result ≡ c.index.result.now.branches.entries = search rules in
-    (tt, tt, stays c.args.waiting.now.items, all_left nodes c.args.at node c.into_iter-edge-iterator.result c.args.count c.args.waiting.now.items (slice_get_read nodes (length nodes) c.args.at node refl within c.index.ensures) same)
+    (tt, tt, stays c.args.waiting.now.items, all_left nodes c.args.at node c.into_iter-edge-iterator.result c.args.count c.args.waiting.now.items c.index.ensures same)
 
 pub loop-edge-preserved : goal.loop-edge-preserved
 loop-edge-preserved c =
-    let nodes = c.args.self.now.items.items in
+    let nodes = c.args.self.now.items in
     let so = c.loop-edge.invariant in
     let now = c.loop-edge.waiting.items in
     let new = c.push.new.self.items in
@@ -41,4 +39,4 @@ loop-edge-preserved c =
 
 pub returns-clause-enters : goal.returns-clause-enters
 returns-clause-enters c =
-    none_left c.args.self.now.items.items c.args.at c.loop-edge.edge-iterator c.args.count c.loop-edge.waiting.items (rest_all deref_pair c.loop-edge.edge-iterator c.next.new.self c.next.result c.in-None.is c.next.ensures.steps) c.loop-edge.invariant.3
+    none_left c.args.self.now.items c.args.at c.loop-edge.edge-iterator c.args.count c.loop-edge.waiting.items (rest_all deref_pair c.loop-edge.edge-iterator c.next.new.self c.next.result c.in-None.is c.next.ensures.steps) c.loop-edge.invariant.3

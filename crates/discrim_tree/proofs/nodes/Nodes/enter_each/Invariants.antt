@@ -8,4 +8,4 @@ invariant-loop-edge l =
     (goal.iterator-loop-edge).can_next l.edge-iterator ×
     (goal.iterator-loop-edge).is_finite l.edge-iterator ×
     GoesOn l.initial.waiting.items l.waiting.items ×
-    AreLeft l.self.items.items l.at l.edge-iterator l.count l.waiting.items
+    AreLeft l.self.items l.at l.edge-iterator l.count l.waiting.items

@@ -7,5 +7,5 @@ abbrev pub invariant-loop-i : goal.invariant-loop-i
 invariant-loop-i l = record {
   on : GoesOn l.fn.walk.items l.walk.items;
   longer : length l.fn.walk.items ≤ length l.walk.items;
-  follows : Follows l.self.items.items l.low l.i l.edge l.fn.walk.items l.walk.items;
+  follows : Follows l.self.items l.low l.i l.edge l.fn.walk.items l.walk.items;
 }

@@ -1,33 +1,44 @@
-use Rattle.std.proofs.Common.{refl, sym, ap, length, ◌∙◌, ◌<◌, arith}
-use Rattle.std.specs.BTreeMap as tree
-use Rattle.std.proofs.lemmas.Option.{slice_get_read}
-use Rattle.discrim_tree.specs.Nodes.{edge_cmp}
-use Rattle.discrim_tree.proofs.NodeSteps.{forgotten, back_changed, held_by, nothing_lost, set_same}
-use Rattle.discrim_tree.proofs.WalkSteps.{held_within}
+use Rattle.std.proofs.Common.{◌∙◌, ap, sym, refl}
+use Rattle.std.specs.Option.{option_copied_mut, is_some}
+use Rattle.slab.proofs.SlabLemmas.{Updates-with_value}
+use Rattle.discrim_tree.proofs.NodeSteps.{after_held, held_after, held_by, held_there, renumbered}
+use Rattle.discrim_tree.proofs.Trees.{renumbered_fewer, renumbered_others, renumbered_tree, used_forgotten}
 use Rattle.discrim_tree.proofs.nodes.Nodes.forget.Goals as goal
 
-pub returns-then-at-len-clause-others : goal.returns-then-at-len-clause-others
-returns-then-at-len-clause-others c =
+pub returns-in-Some-clause-others : goal.returns-in-Some-clause-others
+returns-in-Some-clause-others c =
     let nodes = c.args.self.now.items in
-    let within : c.args.at < length c.args.self.now.items.items = omega (arith, c.if-at-len.true, c.len.ensures, c.args.self.now.items.ok.0) in
-    forgotten nodes.items c.args.at c.index_mut.result.now c.forget.new.self (slice_get_read nodes.items (length nodes.items) c.args.at c.index_mut.result.now refl within c.index_mut.ensures.value)
-    c.args.number c.forget.ensures.branches c.forget.ensures.numbers
+    let at = c.args.at in
+    let node = c.in-Some.node.now in
+    let next = c.forget.new.self in
+    let is = sym c.get_mut.ensures.value ∙ ap option_copied_mut c.in-Some.is in
+    let up = Updates-with_value nodes at next (ap is_some is) in
+    renumbered_others at nodes _ (renumbered nodes _ at node next is up c.forget.ensures.branches c.forget.ensures.link) c.args.number
+    (λ n ne h. held_after nodes _ at n next up (c.forget.ensures.numbers n ne (held_by nodes at n node is h)))
 
-pub returns-then-at-len-clause-fewer : goal.returns-then-at-len-clause-fewer
-returns-then-at-len-clause-fewer c =
+pub returns-in-Some-clause-fewer : goal.returns-in-Some-clause-fewer
+returns-in-Some-clause-fewer c =
     let nodes = c.args.self.now.items in
-    let within : c.args.at < length c.args.self.now.items.items = omega (arith, c.if-at-len.true, c.len.ensures, c.args.self.now.items.ok.0) in
-    back_changed nodes.items c.args.at c.index_mut.result.now c.forget.new.self (slice_get_read nodes.items (length nodes.items) c.args.at c.index_mut.result.now refl within c.index_mut.ensures.value)
-    (λ e k h. ap (λ b. tree.get edge_cmp b e) (sym c.forget.ensures.branches) ∙ h) c.forget.ensures.fewer
+    let at = c.args.at in
+    let node = c.in-Some.node.now in
+    let next = c.forget.new.self in
+    let is = sym c.get_mut.ensures.value ∙ ap option_copied_mut c.in-Some.is in
+    let up = Updates-with_value nodes at next (ap is_some is) in
+    renumbered_fewer at nodes _ (renumbered nodes _ at node next is up c.forget.ensures.branches c.forget.ensures.link)
+    (λ n h. held_there nodes at n node is (c.forget.ensures.fewer n (after_held nodes _ at n next up h)))
 
-pub returns-then-at-len-clause-gone : goal.returns-then-at-len-clause-gone
-returns-then-at-len-clause-gone c = λ h.
+pub returns-in-Some-clause-tree : goal.returns-in-Some-clause-tree
+returns-in-Some-clause-tree c =
     let nodes = c.args.self.now.items in
-    let within : c.args.at < length c.args.self.now.items.items = omega (arith, c.if-at-len.true, c.len.ensures, c.args.self.now.items.ok.0) in
-    c.forget.ensures.gone (held_by _ c.args.at c.args.number c.forget.new.self (set_same nodes.items c.args.at c.forget.new.self within) h)
+    let at = c.args.at in
+    let is = sym c.get_mut.ensures.value ∙ ap option_copied_mut c.in-Some.is in
+    let up = Updates-with_value nodes at c.forget.new.self (ap is_some is) in
+    renumbered_tree at nodes _ (renumbered nodes _ at c.in-Some.node.now c.forget.new.self is up c.forget.ensures.branches c.forget.ensures.link)
 
-pub returns-else-at-len-clause-gone : goal.returns-else-at-len-clause-gone
-returns-else-at-len-clause-gone c = λ h. absurd (omega (arith, c.if-at-len.false, c.len.ensures, held_within c.args.self.now.items.items c.args.at c.args.number h, c.args.self.now.items.ok.0))
-
-pub returns-else-at-len-clause-fewer : goal.returns-else-at-len-clause-fewer
-returns-else-at-len-clause-fewer c = nothing_lost c.args.self.now.items.items
+pub returns-in-Some-clause-used : goal.returns-in-Some-clause-used
+returns-in-Some-clause-used c =
+    let nodes = c.args.self.now.items in
+    let at = c.args.at in
+    let is = sym c.get_mut.ensures.value ∙ ap option_copied_mut c.in-Some.is in
+    let up = Updates-with_value nodes at c.forget.new.self (ap is_some is) in
+    used_forgotten at nodes _ (renumbered nodes _ at c.in-Some.node.now c.forget.new.self is up c.forget.ensures.branches c.forget.ensures.link)

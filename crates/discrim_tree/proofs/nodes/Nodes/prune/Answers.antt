@@ -1,21 +1,45 @@
-use Rattle.std.proofs.Common.{sym, ◌∙◌}
-use Rattle.discrim_tree.proofs.NodeSteps.{paths_cut, paths_grown, grows_on, nothing_lost, gone_on}
+use Rattle.std.proofs.Common.{◌∙◌, sym, subst, ◌≡◌, ℕ, Some}
+use Rattle.discrim_tree.specs.Trees.{AllUsedBut}
+use Rattle.discrim_tree.proofs.NodeSteps.{some_same, none_some}
+use Rattle.discrim_tree.proofs.Trees.{alike_itself, key_linked, key_with, leads_less, less_alike, not_above, pruned_less, used_full, used_less}
 use Rattle.discrim_tree.proofs.nodes.Nodes.prune.Goals as goal
 
-pub returns-then-is_empty_at-clause-paths : goal.returns-then-is_empty_at-clause-paths
-returns-then-is_empty_at-clause-paths c = λ a path m h.
-    paths_grown c.cut.new.self.items.items c.release.new.self.items.items c.release.ensures.grows a path m
-    (paths_cut c.args.at c.args.edge c.args.self.now.items.items c.cut.new.self.items.items c.in-Some.k (sym c.child.ensures ∙ c.in-Some.is)
-    (c.is_empty_at.ensures c.if-is_empty_at.true) c.cut.ensures.others a path m h)
+pub returns-then-is_empty_at-clause-alike : goal.returns-then-is_empty_at-clause-alike
+returns-then-is_empty_at-clause-alike c =
+    let more = c.args.self.now.items in
+    let less = c.release.new.self.items in
+    let hung = sym c.child.ensures ∙ c.in-Some.is in
+    let one = pruned_less c.args.at c.args.edge c.in-Some.k more c.cut.new.self.items less hung (c.is_empty_at.ensures.yes c.if-is_empty_at.true) (c.cut.ensures.others (key_with more c.args.at c.args.edge c.in-Some.k hung)) c.cut.ensures.gone c.release.ensures.updates in
+    less_alike c.args.at c.args.edge c.in-Some.k less more one
 
-pub returns-then-is_empty_at-clause-fewer : goal.returns-then-is_empty_at-clause-fewer
-returns-then-is_empty_at-clause-fewer c = grows_on c.release.new.self.items.items c.cut.new.self.items.items c.args.self.now.items.items c.release.ensures.fewer c.cut.ensures.fewer
+pub returns-then-is_empty_at-clause-leads : goal.returns-then-is_empty_at-clause-leads
+returns-then-is_empty_at-clause-leads c = λ path leads.
+    let more = c.args.self.now.items in
+    let less = c.release.new.self.items in
+    let hung = sym c.child.ensures ∙ c.in-Some.is in
+    let one = pruned_less c.args.at c.args.edge c.in-Some.k more c.cut.new.self.items less hung (c.is_empty_at.ensures.yes c.if-is_empty_at.true) (c.cut.ensures.others (key_with more c.args.at c.args.edge c.in-Some.k hung)) c.cut.ensures.gone c.release.ensures.updates in
+    leads_less c.args.at c.args.edge c.in-Some.k less more one 0 path c.args.at (not_above c.args.at c.args.edge c.in-Some.k less more one) leads
 
-pub returns-then-is_empty_at-clause-gone : goal.returns-then-is_empty_at-clause-gone
-returns-then-is_empty_at-clause-gone c = λ yes. gone_on c.cut.new.self.items.items c.release.new.self.items.items c.args.at c.args.edge c.release.ensures.fewer c.cut.ensures.gone
+pub returns-then-is_empty_at-clause-pruned : goal.returns-then-is_empty_at-clause-pruned
+returns-then-is_empty_at-clause-pruned c = λ yes tree k is used.
+    let more = c.args.self.now.items in
+    let less = c.release.new.self.items in
+    let hung = sym c.child.ensures ∙ c.in-Some.is in
+    let one = pruned_less c.args.at c.args.edge c.in-Some.k more c.cut.new.self.items less hung (c.is_empty_at.ensures.yes c.if-is_empty_at.true) (c.cut.ensures.others (key_with more c.args.at c.args.edge c.in-Some.k hung)) c.cut.ensures.gone c.release.ensures.updates in
+    used_less c.args.at c.args.edge c.in-Some.k less more one tree (subst (λ (j : ℕ). AllUsedBut j more) (some_same k c.in-Some.k (sym is ∙ hung)) used)
 
-pub returns-else-is_empty_at-clause-fewer : goal.returns-else-is_empty_at-clause-fewer
-returns-else-is_empty_at-clause-fewer c = nothing_lost c.args.self.now.items.items
+pub returns-else-is_empty_at-clause-alike : goal.returns-else-is_empty_at-clause-alike
+returns-else-is_empty_at-clause-alike c = alike_itself c.args.self.now.items
 
-pub returns-in_default-clause-fewer : goal.returns-in_default-clause-fewer
-returns-in_default-clause-fewer c = nothing_lost c.args.self.now.items.items
+pub returns-else-is_empty_at-clause-full : goal.returns-else-is_empty_at-clause-full
+returns-else-is_empty_at-clause-full c = λ no tree k is used.
+    let nodes = c.args.self.now.items in
+    let hung = sym c.child.ensures ∙ c.in-Some.is in
+    used_full nodes c.args.at c.args.edge c.in-Some.k tree hung (c.is_empty_at.ensures.no c.if-is_empty_at.false (key_linked nodes c.in-Some.k c.args.at (tree.linked c.args.at c.args.edge c.in-Some.k hung)))
+    (subst (λ (j : ℕ). AllUsedBut j nodes) (some_same k c.in-Some.k (sym is ∙ hung)) used)
+
+pub returns-in_default-clause-alike : goal.returns-in_default-clause-alike
+returns-in_default-clause-alike c = alike_itself c.args.self.now.items
+
+pub returns-in_default-clause-full : goal.returns-in_default-clause-full
+returns-in_default-clause-full c = λ no tree k is used. absurd (c.in_default.not-Some k (c.child.ensures ∙ is))

@@ -1,25 +1,69 @@
-use Rattle.std.proofs.Common.{sym, subst, List}
-use Rattle.std.proofs.lemmas.List.{drop_all}
-use Rattle.discrim_tree.specs.Nodes.{Reaches}
-use Rattle.discrim_tree.specs.declared.edge.Edge.{Edge}
-use Rattle.discrim_tree.proofs.NodeSteps.{grows_on, steps_along}
+use Rattle.std.proofs.Common.{inl, inr}
+use Rattle.discrim_tree.proofs.Trees.{alike_on, leads_on, noted_only, paths_grown, paths_on, reaches_end, renumbered_grows, renumbered_leads, renumbered_tree, same_alike, same_grows, same_used, used_noted}
 use Rattle.discrim_tree.proofs.nodes.Nodes.put.Goals as goal
 
-pub loop-edge-preserved : goal.loop-edge-preserved
-loop-edge-preserved c =
-    let so = c.loop-edge.invariant in
-    let old = c.loop-edge.self.items.items in
-    let new = c.entered.new.self.items.items in
-    let path = c.args.path.now in
-    record {
-      grows = grows_on c.args.self.now.items.items old new so.grows c.in_ok-at.ensures.grows;
-      leads = λ later n g r. so.leads later n (grows_on old new later c.in_ok-at.ensures.grows g)
-          (steps_along later path c.loop-edge.edge-index _ c.loop-edge.at c.in_ok-at.at n c.loop-edge-test.true (g.0 c.loop-edge.at _ c.in_ok-at.at c.in_ok-at.ensures.branch) r);
-    }
+pub returns-in-Ok-clause-kept : goal.returns-in-Ok-clause-kept
+returns-in-Ok-clause-kept c =
+    let old = c.args.self.now.items in
+    let mid = c.made.new.self.items in
+    let new = c.note.new.self.items in
+    paths_on old mid new (alike_on old c.plant.new.self.items mid c.plant.ensures.alike c.made.ensures.alike).stay
+    (paths_grown mid new (renumbered_grows c.in_ok-end.end mid new c.in-Ok.ensures.others c.in-Ok.ensures.kept))
 
-pub returns-clause-reached : goal.returns-clause-reached
-returns-clause-reached c =
-    let path = c.args.path.now in
-    let new = c.note.new.self.items.items in
-    c.loop-edge.invariant.leads new c.args.number c.in_ok-note.ensures.grows
-    (subst (λ (p : List Edge). Reaches new c.loop-edge.at p c.args.number) (sym (drop_all c.loop-edge.edge-index path c.loop-edge-test.false)) c.in_ok-note.ensures.noted)
+pub returns-in-Ok-clause-reached : goal.returns-in-Ok-clause-reached
+returns-in-Ok-clause-reached c =
+    let mid = c.made.new.self.items in
+    let new = c.note.new.self.items in
+    reaches_end new 0 c.args.path.now c.in_ok-end.end c.args.number
+    (leads_on mid new (renumbered_leads c.in_ok-end.end mid new c.in-Ok.ensures.others) 0 c.args.path.now c.in_ok-end.end c.in_ok-end.ensures.leads)
+    c.in-Ok.ensures.noted
+
+pub returns-in-Ok-clause-only : goal.returns-in-Ok-clause-only
+returns-in-Ok-clause-only c = λ tree p m h.
+    let old = c.args.self.now.items in
+    let mid = c.made.new.self.items in
+    let new = c.note.new.self.items in
+    let alike = alike_on old c.plant.new.self.items mid c.plant.ensures.alike c.made.ensures.alike in
+    elim (noted_only c.in_ok-end.end mid new c.in-Ok.ensures.others c.args.number c.args.path.now (alike.tree tree) c.in_ok-end.ensures.leads c.in-Ok.ensures.only p m h) [
+      | inl g ↦ inl (alike.came 0 p m g)
+      | inr g ↦ inr g
+    ]
+
+pub returns-in-Ok-clause-tree : goal.returns-in-Ok-clause-tree
+returns-in-Ok-clause-tree c = λ tree.
+    renumbered_tree c.in_ok-end.end c.made.new.self.items c.note.new.self.items c.in-Ok.ensures.others (c.made.ensures.alike.tree (c.plant.ensures.alike.tree tree))
+
+pub returns-in-Ok-clause-used : goal.returns-in-Ok-clause-used
+returns-in-Ok-clause-used c = λ tree used.
+    used_noted c.in_ok-end.end c.made.new.self.items c.note.new.self.items c.in-Ok.ensures.others c.args.number c.in-Ok.ensures.kept c.in-Ok.ensures.noted
+    (c.in_ok-end.ensures.used (c.plant.ensures.used tree used))
+
+pub returns-in-Err-clause-kept : goal.returns-in-Err-clause-kept
+returns-in-Err-clause-kept c =
+    let old = c.args.self.now.items in
+    let mid = c.made.new.self.items in
+    let new = c.note.new.self.items in
+    let same = same_alike mid new c.in-Err.ensures.err in
+    (alike_on old mid c.prune_back.new.self.items (alike_on old c.plant.new.self.items mid c.plant.ensures.alike c.made.ensures.alike) (alike_on mid new c.prune_back.new.self.items same c.prune_back.ensures.alike)).stay
+
+pub returns-in-Err-clause-err : goal.returns-in-Err-clause-err
+returns-in-Err-clause-err c =
+    let old = c.args.self.now.items in
+    let mid = c.made.new.self.items in
+    let new = c.note.new.self.items in
+    let same = same_alike mid new c.in-Err.ensures.err in
+    (alike_on old mid c.prune_back.new.self.items (alike_on old c.plant.new.self.items mid c.plant.ensures.alike c.made.ensures.alike) (alike_on mid new c.prune_back.new.self.items same c.prune_back.ensures.alike)).came
+
+pub returns-in-Err-clause-tree : goal.returns-in-Err-clause-tree
+returns-in-Err-clause-tree c = λ tree.
+    let same = same_alike c.made.new.self.items c.note.new.self.items c.in-Err.ensures.err in
+    c.prune_back.ensures.alike.tree (same.tree (c.made.ensures.alike.tree (c.plant.ensures.alike.tree tree)))
+
+pub returns-in-Err-clause-used : goal.returns-in-Err-clause-used
+returns-in-Err-clause-used c = λ tree used.
+    let mid = c.made.new.self.items in
+    let new = c.note.new.self.items in
+    let same = same_alike mid new c.in-Err.ensures.err in
+    c.prune_back.ensures.used (same.tree (c.made.ensures.alike.tree (c.plant.ensures.alike.tree tree)))
+    (leads_on mid new (same_grows mid new c.in-Err.ensures.err).0 0 c.args.path.now c.in_ok-end.end c.in_ok-end.ensures.leads)
+    (same_used c.in_ok-end.end mid new c.in-Err.ensures.err (c.in_ok-end.ensures.used (c.plant.ensures.used tree used)))

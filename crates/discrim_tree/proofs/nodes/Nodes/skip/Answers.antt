@@ -7,7 +7,7 @@ pub loop-step-init : goal.loop-step-init
 loop-step-init c = record {
   on = stays c.args.walk.now.items;
   longer = omega arith;
-  skips = skips_first c.args.self.now.items.items c.args.waiting.now.items (length c.args.walk.now.items) c.args.walk.now.items;
+  skips = skips_first c.args.self.now.items c.args.waiting.now.items (length c.args.walk.now.items) c.args.walk.now.items;
 }
 
 pub loop-step-preserved : goal.loop-step-preserved
@@ -20,10 +20,10 @@ loop-step-preserved c =
     record {
       on = goes_far old now new so.on step.goes_on;
       longer = omega (arith, so.longer, step.longer);
-      skips = skips_next c.args.self.now.items.items c.args.waiting.now.items c.loop-step.waiting.items c.pop.new.self.items c.skip_one.new.waiting.items c.in-Some.next (length old) now new so.longer so.skips c.in-Some.ensures.items step.goes_on step.others step.skips;
+      skips = skips_next c.args.self.now.items c.args.waiting.now.items c.loop-step.waiting.items c.pop.new.self.items c.skip_one.new.waiting.items c.in-Some.next (length old) now new so.longer so.skips c.in-Some.ensures.items step.goes_on step.others step.skips;
     }
 
 pub returns-in-None-clause-skips : goal.returns-in-None-clause-skips
 returns-in-None-clause-skips c =
     let ended : c.loop-step.waiting.items ≡ [] = nil_from_length c.loop-step.waiting.items (omega (arith, c.in-None.ensures.cases.0, c.loop-step.waiting.ok.0)) in
-    skips_all c.args.self.now.items.items c.args.waiting.now.items c.loop-step.waiting.items (length c.args.walk.now.items) c.loop-step.walk.items ended c.loop-step.invariant.skips
+    skips_all c.args.self.now.items c.args.waiting.now.items c.loop-step.waiting.items (length c.args.walk.now.items) c.loop-step.walk.items ended c.loop-step.invariant.skips

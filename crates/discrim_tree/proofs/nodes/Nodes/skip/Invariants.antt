@@ -8,5 +8,5 @@ abbrev pub invariant-loop-step : goal.invariant-loop-step
 invariant-loop-step l = record {
   on : GoesOn l.fn.walk.items l.walk.items;
   longer : length l.fn.walk.items ≤ length l.walk.items;
-  skips : SkipsOn l.self.items.items l.fn.waiting.items (length l.fn.walk.items) l.walk.items l.waiting.items;
+  skips : SkipsOn l.self.items l.fn.waiting.items (length l.fn.walk.items) l.walk.items l.waiting.items;
 }

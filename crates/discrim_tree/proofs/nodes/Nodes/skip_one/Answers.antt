@@ -7,9 +7,9 @@ pub returns-then-next-eq0-clause-skips : goal.returns-then-next-eq0-clause-skips
 returns-then-next-eq0-clause-skips c =
     let old = c.args.walk.now.items in
     let far : length c.args.walk.now.items ≤ length c.args.walk.now.items = omega arith in
-    skipped_here c.args.self.now.items.items c.args.next (length old) c.push.new.self.items c.args.waiting.now.items c.if-next-eq0.true
+    skipped_here c.args.self.now.items c.args.next (length old) c.push.new.self.items c.args.waiting.now.items c.if-next-eq0.true
     (subst (λ (xs : List ℕ). IsFrom (length old) xs c.args.next.node) (sym c.in_ok-push.ensures.items) (pushed_from old c.args.next.node (length old) far))
 
 pub returns-clause-skips : goal.returns-clause-skips
 returns-clause-skips c =
-    skipped_on c.args.self.now.items.items c.args.next (length c.args.walk.now.items) c.args.walk.now.items c.enter_each.new.waiting.items c.if-next-eq0.false c.in_ok-enter_each.ensures.enters
+    skipped_on c.args.self.now.items c.args.next (length c.args.walk.now.items) c.args.walk.now.items c.enter_each.new.waiting.items c.if-next-eq0.false c.in_ok-enter_each.ensures.enters

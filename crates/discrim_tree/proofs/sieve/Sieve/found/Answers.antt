@@ -10,7 +10,7 @@ use Rattle.discrim_tree.proofs.sieve.Sieve.found.Goals as goal
 pub returns-clause-found : goal.returns-clause-found
 unfolding IsUnder
 returns-clause-found c =
-    let nodes = c.args.self.now.nodes.items.items in
+    let nodes = c.args.self.now.nodes.items in
     let t = tree_of c.args.t.now in
     let walk = c.in_ok-walk.walk.items in
     let covers = subst (λ (b : Bool). Covers nodes b (fits_above c.args.sought.now) t walk) c.fits_below.ensures (subst (λ (a : Bool). Covers nodes c.fits_below.result a t walk) c.fits_above.ensures c.in_ok-walk.ensures) in
