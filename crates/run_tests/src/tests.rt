@@ -100,6 +100,7 @@ fn each_failed_write_leaves_a_front(rt: HostRuntime) -> Result<(), Fail> {
         ("check", PROVED, ACCEPTED),
         ("clausetester", INVOLUTION, REPORT),
         ("mace4 -n 3 -N 3 -m 10", INVOLUTIONS, ALL_OF_THREE),
+        ("made 2", b"", MADE_TWO),
         ("prover9", CONTRADICTION, REFUTED),
     ] {
         for (taken, _) in output.iter().enumerate() {
