@@ -14,34 +14,34 @@ use term_matches::is_instance;
 // Whether a rule fits one of some arguments or a term in them.
 #[cycle(fits)]
 #[tactic(auto, using(crate::proofs::Fits::fits_here, crate::proofs::Fits::fits_behind, crate::proofs::Fits::fits_end))]
-fn fits_in_some(alloc: Global, rule: &Held, terms: &Terms) -> Result<bool, AllocError>
-    ensures { IfOk result (λ b. b ≡ fits_in_some rule.now (trees_of terms.now)) }
+fn fits_in_some(alloc: Global, rule: &Held, terms: &Terms) -> bool
+    ensures { result ≡ fits_in_some rule.now (trees_of terms.now) }
 {
     for term in &terms.items {
-        if fits_in(alloc, rule, term)? {
-            return Ok(true);
+        if fits_in(alloc, rule, term) {
+            return true;
         }
     }
-    Ok(false)
+    false
 }
 
 // Whether it fits a term or one in it.
 #[cycle(fits)]
 #[tactic(auto, using(crate::proofs::Fits::rewrites_instance))]
-fn fits_in(alloc: Global, rule: &Held, term: &Term) -> Result<bool, AllocError>
-    ensures { IfOk result (λ b. b ≡ fits_in rule.now (tree_of term.now)) }
+fn fits_in(alloc: Global, rule: &Held, term: &Term) -> bool
+    ensures { result ≡ fits_in rule.now (tree_of term.now) }
 {
     match term {
-        Term::Var(_) => Ok(false),
-        Term::Elem(_) => Ok(false),
+        Term::Var(_) => false,
+        Term::Elem(_) => false,
         Term::App(_, terms) => {
             let nothing = Term::Var(0);
             if is_instance(
                 alloc,
                 left_of(first_atom(&rule.clause, &nothing), &nothing),
                 term,
-            )? {
-                return Ok(true);
+            ) {
+                return true;
             }
             fits_in_some(alloc, rule, terms)
         }
@@ -49,12 +49,12 @@ fn fits_in(alloc: Global, rule: &Held, term: &Term) -> Result<bool, AllocError>
 }
 
 // Whether it fits a term below an atom.
-fn fits_below(alloc: Global, rule: &Held, atom: &Term) -> Result<bool, AllocError>
-    ensures { IfOk result (λ b. b ≡ fits_below rule.now (tree_of atom.now)) }
+fn fits_below(alloc: Global, rule: &Held, atom: &Term) -> bool
+    ensures { result ≡ fits_below rule.now (tree_of atom.now) }
 {
     match atom {
-        Term::Var(_) => Ok(false),
-        Term::Elem(_) => Ok(false),
+        Term::Var(_) => false,
+        Term::Elem(_) => false,
         Term::App(_, terms) => fits_in_some(alloc, rule, terms),
     }
 }
@@ -65,7 +65,7 @@ pub fn rewrites_clause(alloc: Global, rule: &Held, clause: &Clause) -> Result<bo
     ensures { IfOk result (λ b. b ≡ rewrites_clause rule.now clause.now) }
 {
     for literal in &clause.literals {
-        if fits_below(alloc, rule, &literal.atom)? {
+        if fits_below(alloc, rule, &literal.atom) {
             return Ok(true);
         }
     }
@@ -83,5 +83,5 @@ pub fn denies(alloc: Global, unit: &Held, literal: &Literal) -> Result<bool, All
     if literals[0].positive == literal.positive {
         return Ok(false);
     }
-    is_instance(alloc, &literals[0].atom, &literal.atom)
+    Ok(is_instance(alloc, &literals[0].atom, &literal.atom))
 }

@@ -22,8 +22,10 @@ pub fn rewritten_by(alloc: Global, rule: &Held, term: &Term) -> Result<Option<Te
 {
     let nothing = Term::Var(0);
     let atom = first_atom(&rule.clause, &nothing);
+    let left = left_of(atom, &nothing);
     let mut values = Matches::new(alloc);
-    if values.match_onto(left_of(atom, &nothing), term)? {
+    values.reserve(left)?;
+    if values.match_onto(left, term) {
         Ok(Some(values.apply(alloc, right_of(atom, &nothing))?))
     } else {
         Ok(None)

@@ -46,8 +46,8 @@ impl Sought {
         ensures { IfOk result (λ b. b ≡ passes self.now (tree_of t.now) (tree_of s.now)) }
     {
         match self {
-            Sought::Generalizations => is_instance(alloc, s, t),
-            Sought::Instances => is_instance(alloc, t, s),
+            Sought::Generalizations => Ok(is_instance(alloc, s, t)),
+            Sought::Instances => Ok(is_instance(alloc, t, s)),
             Sought::Unifiable => {
                 if !may_meet(s, t) {
                     return Ok(false);

@@ -20,8 +20,8 @@ pub struct Guide<'a> {
     pub options: Options,
 }
 
-// Room for a clause to be weighed.
-fn room_for(alloc: Global, clause: &Clause) -> Result<Room, AllocError>
+/// Room for a clause to be weighed and compared with hints.
+pub fn room_for(alloc: Global, clause: &Clause) -> Result<Room, AllocError>
     requires { is_too_large clause.now ≡ false }
     ensures { IfOk result (λ room. clause_size clause.now ≤ room) }
 {
@@ -32,20 +32,20 @@ fn room_for(alloc: Global, clause: &Clause) -> Result<Room, AllocError>
 
 impl Guide<'_> {
     /// What a clause weighs.
-    pub fn weight_of(&self, alloc: Global, clause: &Clause) -> Result<u64, AllocError>
-        requires { is_too_large clause.now ≡ false }
-        ensures { IfOk result (λ n. n ≡ (setting_of self.now).weight clause.now) }
+    pub fn weight_of(&self, room: &mut Room, clause: &Clause) -> u64
+        requires { clause_size clause.now ≤ room.old }
+        ensures weight { result ≡ (setting_of self.now).weight clause.now }
+        ensures room { room.new ≡ room.old }
     {
-        let mut room = room_for(alloc, clause)?;
-        Ok(self.weights.weight_of(&mut room, clause))
+        self.weights.weight_of(room, clause)
     }
 
     /// Whether a clause matches a hint.
-    pub fn is_hinted(&self, alloc: Global, clause: &Clause) -> Result<bool, AllocError>
-        requires { is_too_large clause.now ≡ false }
-        ensures { IfOk result (λ b. b ≡ (setting_of self.now).is_hinted clause.now) }
+    pub fn is_hinted(&self, room: &mut Room, clause: &Clause) -> bool
+        requires { clause_size clause.now ≤ room.old }
+        ensures hinted { result ≡ (setting_of self.now).is_hinted clause.now }
+        ensures room { room.new ≡ room.old }
     {
-        let mut room = room_for(alloc, clause)?;
-        Ok(self.weights.is_hinted(&mut room, clause))
+        self.weights.is_hinted(room, clause)
     }
 }

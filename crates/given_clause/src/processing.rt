@@ -12,7 +12,7 @@ ghost use Rattle.prover_steps.specs.Searching.{all_held, tidied, is_too_large, i
 ghost use Rattle.prover_steps.specs.Subsuming.{subsumes};
 
 use crate::acting::{Back, is_subsumed_by, is_unit, meet_units, put_back, subsume_back};
-use crate::guide::Guide;
+use crate::guide::{Guide, room_for};
 use crate::keeping::{add_proof, counted_on, keep_line, keep_queued, number_for};
 use crate::state::{QueueEntry, Queued, Reason, Search};
 use clause_index::{HeldSet, HeldSets};
@@ -149,10 +149,11 @@ fn is_too_heavy(alloc: Global, guide: &Guide<'_>, clause: &Clause) -> Result<boo
     requires { is_too_large clause.now ≡ false }
     ensures { IfOk result (λ b. b ≡ is_too_heavy (setting_of guide.now) clause.now) }
 {
-    if guide.weight_of(alloc, clause)? <= u64::from(guide.options.max_weight) {
+    let mut room = room_for(alloc, clause)?;
+    if guide.weight_of(&mut room, clause) <= u64::from(guide.options.max_weight) {
         return Ok(false);
     }
-    Ok(!guide.is_hinted(alloc, clause)?)
+    Ok(!guide.is_hinted(&mut room, clause))
 }
 
 // Whether a clause is of no use.

@@ -1,3 +1,4 @@
+pub mod Counting
 pub mod Fitting
 pub mod Matching
 pub mod Standing

@@ -1,2 +1,5 @@
 pub mod Matched
+pub mod Matching
+pub mod Occurrences
 pub mod Sides
+pub mod Trying

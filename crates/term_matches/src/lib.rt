@@ -2,6 +2,7 @@
 #![tactic(auto)]
 
 mod matches;
+mod occurrences;
 mod sides;
 
 pub use matches::{Matches, is_instance};

@@ -6,4 +6,4 @@ use Rattle.substitutions.specs.Bindings.{by_bindings}
 use Rattle.term_matches.proofs.matches.Matches.+apply.Given as goal
 
 abbrev pub invariant-loop-term : goal.invariant-loop-term
-invariant-loop-term l = l.made ≡ map (λ t. substitute (by_bindings l.self) (tree_of t)) (take l.term-index l.term-items)
+invariant-loop-term l = l.made ≡ map (λ t. substitute (by_bindings l.self.bindings) (tree_of t)) (take l.term-index l.term-items)

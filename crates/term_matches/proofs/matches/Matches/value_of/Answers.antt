@@ -8,8 +8,8 @@ use Rattle.term_matches.proofs.matches.Matches.value_of.Goals as goal
 
 pub returns-in-Some : goal.returns-in-Some
 returns-in-Some c =
-    let given = bound_is c.args.self.now c.args.x _ (sym c.given.ensures ∙ ap (option_map (λ t. tree_of t.now)) c.in-Some.is) in
+    let given = bound_is c.args.self.now.bindings c.args.x _ (sym c.given.ensures ∙ ap (option_map (λ t. tree_of t.now)) c.in-Some.is) in
     IfOk-weaker c.copy.result _ _ (λ copy same. ap tree_of same ∙ sym given) c.copy.ensures
 
 pub returns-in-None : goal.returns-in-None
-returns-in-None c = sym (bound_is c.args.self.now c.args.x _ (sym c.given.ensures ∙ ap (option_map (λ t. tree_of t.now)) c.in-None.is))
+returns-in-None c = sym (bound_is c.args.self.now.bindings c.args.x _ (sym c.given.ensures ∙ ap (option_map (λ t. tree_of t.now)) c.in-None.is))

@@ -1,0 +1,17 @@
+-- The arguments from here on decide, the bindings at the start stand in front, and few were added.
+use Rattle.std.proofs.Common.{◌≡◌, ◌≤◌, ◌+◌, length}
+use Rattle.term_matches.specs.Matched.{StandInFront}
+use Rattle.term_matches.proofs.Counting.{counted}
+use Rattle.term_unifiers.proofs.MatchSteps.{match_from}
+use Rattle.term_matches.proofs.matches.Matches.+try_onto.Given as goal
+
+abbrev pub decreases-try_onto : goal.decreases-try_onto
+decreases-try_onto l = goal.size-try_onto l
+
+abbrev pub invariant-loop-i : goal.invariant-loop-i
+invariant-loop-i l = record {
+  decides : match_from l.l-items l.rs-inside.items.items 0 l.fn.self.bindings ≡ match_from l.l-items l.rs-inside.items.items l.i l.self.bindings;
+  front : StandInFront l.fn.self.bindings l.self.bindings;
+  few : length l.self.bindings ≤ length l.fn.self.bindings + counted l.l-items l.i;
+  room : l.self.room ≡ l.fn.self.room;
+}
