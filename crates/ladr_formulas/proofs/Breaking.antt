@@ -15,6 +15,7 @@ use Rattle.ladr_lex.specs.Numeral.{is_numeral, limited_number_of}
 use Rattle.ladr_lex.specs.declared.limits.TheConstants.{MOST_ELEMENT}
 use Rattle.ladr_lex.specs.declared.misuse.Misuse.{Misuse}
 use Rattle.ladr_lex.specs.declared.misuse.Misuse.TheVariants.{UnknownFlag, UnknownParameter, UnfitValue, UnknownList, UnfitOperator, UnfitSymbol, TooLate, UnmatchedIf, TwoKinds, VariableAsFormula, QuantifierInTerm, UnfitAttribute, UnfitHint, UnfitDemodulator, UnfitRule, UnfitNumeral, UnfitInterpretation, Uncovered}
+use Rattle.ladr_formulas.specs.Counting.{names_bound}
 use Rattle.ladr_formulas.specs.Broken.{broken_if, broken_by_term, broken_by_terms, broken_by_relation, broken_by_compared, broken_by_formula, broken_by_symbols, broken, broken_outside, least_of}
 use Rattle.ladr_formulas.specs.Formulas.{Reading, Made, Bound, Style, meets, bound_number, free_number, is_variable, with_variable, variable_number, reading_with_name, named_variable, with_symbol, symbol_number, arity_of, is_too_great, is_element, constant_as, term_of, terms_of, relation_of, sentence_as, equation_read, under, is_denial, connective_of, connective_read, joined_by, by_connective, comparison, formula_in, unread, formula_reading}
 use Rattle.ladr_formulas.specs.Occurring.{stands_for_variable, symbols_of_term, symbols_of_terms, symbols_of_relation, symbols_compared, in_order, occurring}
@@ -24,7 +25,7 @@ use Rattle.ladr_formulas.specs.declared.connectives.Connective.{Connective}
 use Rattle.ladr_formulas.specs.declared.connectives.Connective.TheVariants.{And, Or, IfThen, ThenIf, IfAndOnlyIf}
 use Rattle.ladr_formulas.proofs.Behind.{stands}
 use Rattle.ladr_formulas.proofs.Growing.{Grows, grows_term, grows_terms, grows_formula}
-use Rattle.ladr_formulas.proofs.OrderLemmas.{names_bound, same_variable}
+use Rattle.ladr_formulas.proofs.OrderLemmas.{same_variable}
 
 -- the row of a misuse, or a greater number
 abbrev low : Option Misuse → ℕ

@@ -3,6 +3,7 @@ pub mod BoundPlaces
 pub mod Breaking
 pub mod ClauseElements
 pub mod ClauseLemmas
+pub mod CountingLemmas
 pub mod FormulaLemmas
 pub mod Growing
 pub mod MeaningLemmas
@@ -17,3 +18,4 @@ pub mod ScopeLemmas
 pub mod TermLemmas
 pub mod Unbroken
 pub mod VariableOrder
+pub mod WideLemmas

@@ -20,6 +20,7 @@ use Rattle.ladr_lex.specs.declared.limits.TheConstants.{MOST_ARGUMENTS}
 use Rattle.ladr_lex.specs.declared.misuse.Misuse.{Misuse}
 use Rattle.ladr_lex.specs.declared.misuse.Misuse.TheVariants.{QuantifierInTerm, UnfitNumeral}
 use Rattle.ladr_formulas.specs.Formulas.{Reading, Made, Bound, Style, meets, bound_number, free_number, is_free_name, is_variable, with_variable, variable_number, reading_with_name, named_variable, with_symbol, symbol_number, arity_of, is_too_great, is_element, constant_as, term_of, terms_of, relation_of, sentence_as, equation_read, under, is_denial, connective_of, connective_read, joined_by, by_connective, comparison, formula_in, unread, formula_reading}
+use Rattle.ladr_formulas.specs.Counting.{names_bound, all_entered}
 use Rattle.ladr_formulas.specs.Occurring.{stands_for_variable, symbols_of_term, symbols_of_terms, symbols_of_relation, symbols_compared, in_order, occurring, first_of_each, new_symbols, has_many_arguments}
 use Rattle.ladr_formulas.specs.Whole.{IsWhole}
 use Rattle.ladr_formulas.specs.declared.formulas.FormulaRead.{FormulaRead}
@@ -44,11 +45,6 @@ all_noted p (s ∷ ss) = all_noted (note p s) ss
 noted_on : (p : Noted) (xs ys : List Symbol) → all_noted p (xs ++ ys) ≡ all_noted (all_noted p xs) ys
 noted_on p [] ys = refl
 noted_on p (x ∷ xs) ys = noted_on (note p x) xs ys
-
--- the names that quantifiers around bind
-abbrev pub names_bound : List Bound → List (List ℕ)
-names_bound [] = []
-names_bound (b ∷ bs) = b.name ∷ names_bound bs
 
 pub bound_among : (scope : List Bound) (name : List ℕ) → is_some (bound_number scope name) ≡ list_any (λ b. bytes_eq b name) (names_bound scope)
 bound_among [] name = refl
@@ -201,11 +197,6 @@ formula_noted st scope s (named name (more_raws t (more_raws u no_raws))) =
     (λ r. formula_noted st scope r t) (λ r. formula_noted st scope r u) (comparison_noted st scope name t u) s
 formula_noted st scope s (named name (more_raws t (more_raws u (more_raws v ts)))) = relation_noted st scope name (more_raws t (more_raws u (more_raws v ts))) s
 
--- the table with these symbols entered in their order
-abbrev all_entered : List Symbol → List Symbol → List Symbol
-all_entered table [] = table
-all_entered table (s ∷ ss) = all_entered (entered table s) ss
-
 table_noted : (p : Noted) (ss : List Symbol) → (all_noted p ss).0 ≡ all_entered p.0 ss
 table_noted p [] = refl
 table_noted p (s ∷ ss) = table_noted (note p s) ss
@@ -280,7 +271,7 @@ filter_both {X} p q r (x ∷ xs) h = ap (λ (b : Bool). if b then x ∷ filter p
     by false false rest = rest
 
 -- symbols that are entered stand behind the table, the first of each name and arity that wasn't there
-entered_behind : (table ss : List Symbol) → all_entered table ss ≡ table ++ new_symbols table ss
+pub entered_behind : (table ss : List Symbol) → all_entered table ss ≡ table ++ new_symbols table ss
 entered_behind table [] = sym (append-nil table)
 entered_behind table (s ∷ ss) = by (number_of table s.name s.arity) refl (λ t. entered_behind t ss)
   where

@@ -15,6 +15,7 @@ use Rattle.fol_core.specs.declared.symbols.Kind.TheVariants.{Function, Relation}
 use Rattle.ladr_lex.specs.Numeral.{limited_number_of}
 use Rattle.ladr_lex.specs.declared.misuse.Misuse.{Misuse}
 use Rattle.ladr_lex.specs.declared.misuse.Misuse.TheVariants.{TwoKinds, QuantifierInTerm, UnfitAttribute, UnfitNumeral}
+use Rattle.ladr_formulas.specs.Counting.{names_bound}
 use Rattle.ladr_formulas.specs.Formulas.{Variable, Reading, Made, Bound, Style, meets, bound_number, free_number, is_free_name, with_variable, variable_number, named_variable, with_symbol, symbol_number, arity_of, is_too_great, is_element, constant_as, term_of, terms_of, relation_of, sentence_as, equation_read, under, is_denial, connective_of, connective_read, joined_by, by_connective, comparison, formula_in, unread, formula_reading, names_of_variables}
 use Rattle.ladr_formulas.specs.Occurring.{in_order}
 use Rattle.ladr_formulas.specs.VariablesMet.{free_variable_of, variables_of_term, variables_of_terms, variables_met, is_same_free, numbered, variables_in}
@@ -22,7 +23,7 @@ use Rattle.ladr_formulas.specs.Whole.{IsWhole}
 use Rattle.ladr_formulas.specs.declared.formulas.FormulaRead.{FormulaRead}
 use Rattle.ladr_formulas.specs.declared.connectives.Connective.{Connective}
 use Rattle.ladr_formulas.specs.declared.connectives.Connective.TheVariants.{And, Or, IfThen, ThenIf, IfAndOnlyIf}
-use Rattle.ladr_formulas.proofs.OrderLemmas.{names_bound, bound_among, filter_both}
+use Rattle.ladr_formulas.proofs.OrderLemmas.{bound_among, filter_both}
 
 -- one more variable, unless it is free and there already, and more of them
 abbrev put : List Variable → Variable → List Variable

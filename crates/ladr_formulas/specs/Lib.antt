@@ -1,5 +1,6 @@
 pub mod Broken
 pub mod ClauseIn
+pub mod Counting
 pub mod Formulas
 pub mod Literals
 pub mod Means

@@ -26,7 +26,8 @@ use ladr_lex::{MOST_ELEMENT, Misuse, is_numeral, number};
 use std::alloc::{AllocError, Global};
 use std::mem;
 
-fn is_element(style: Style, name: &[u8]) -> bool
+/// Whether a name is that of an element.
+pub fn is_element(style: Style, name: &[u8]) -> bool
     ensures { result ≡ is_element style name.now }
 {
     style.elements && is_numeral(name)

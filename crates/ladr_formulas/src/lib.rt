@@ -4,6 +4,7 @@
 mod arguments;
 mod clauses;
 mod connectives;
+mod counting;
 mod examples;
 mod formulas;
 mod laws;
@@ -14,6 +15,7 @@ mod styles;
 
 pub use arguments::{TermsRead, terms_of};
 pub use clauses::{ClauseRead, clause_of};
+pub use counting::{brings_too_many, has_large_arity};
 pub use examples::{
     worked_formulas, worked_meanings, worked_refusals, worked_symbols, worked_variables,
 };

@@ -32,8 +32,8 @@ impl Model for Reader {
     ghost view = { λ a. progress a.symbols a.variables a.scope a.least a.large };
 }
 
-// The symbol of a name, an arity and a kind, and whether the name and arity have the other kind.
-fn enter(
+/// The symbol of a name, an arity and a kind, and whether the name and arity have the other kind.
+pub fn enter(
     symbols: &mut Symbols,
     name: &[u8],
     arity: u64,

@@ -9,4 +9,5 @@ pub mod Once
 pub mod Readings
 pub mod Starts
 pub mod Takings
+pub mod TextEnds
 pub mod WorkedFiles

@@ -1,7 +1,8 @@
 -- What an item makes of what was read so far, by what its parts answer.
-use Rattle.std.proofs.Common.{◌≡◌, ℕ, suc, ◌≤◌, ◌<◌, not, if◌then◌else◌, List, [], ◌∷◌, ◌++◌, length, take, Option, Some, None, is_some, refl, sym, ap, ap₂, ◌∙◌, subst, unwrap_or}
+use Rattle.std.proofs.Common.{◌≡◌, ℕ, suc, true, ◌≤◌, ◌<◌, not, if◌then◌else◌, List, [], ◌∷◌, ◌++◌, length, take, Option, Some, None, is_some, refl, sym, ap, ap₂, ◌∙◌, subst, unwrap_or}
 use Rattle.std.specs.Prelude.{nat_lt}
 use Rattle.std.specs.Option.{option_map, option_map_or}
+use Rattle.std.specs.declared.result.Result.{Result}
 use Rattle.std.specs.declared.result.Result.TheVariants.{Ok, Err}
 use Rattle.std.proofs.lemmas.Bool.{le-ltb, lt-ltb}
 use Rattle.fol_core.specs.RawTree.{RawTree}
@@ -13,7 +14,7 @@ use Rattle.ladr_lex.specs.declared.misuse.Misuse.{Misuse}
 use Rattle.ladr_commands.specs.declared.command.Command.{Command}
 use Rattle.ladr_problem.specs.ListItem.{term, IsListItem, IsItemFault}
 use Rattle.ladr_lex.specs.Lexeme.{Lexeme}
-use Rattle.ladr_problem.specs.Adding.{command, within, IsItemRead, IsItemRefused, after_item, after_term, after_formula, after_rule, after_weight, unshaped, formula_made, style_in, with_settings, with_listed, least_misuse}
+use Rattle.ladr_problem.specs.Adding.{command, within, IsItemRead, IsItemRefused, after_item, after_term, after_formula, after_list, after_rule, after_weight, unshaped, formula_made, style_in, with_settings, with_listed, least_misuse}
 use Rattle.ladr_problem.specs.Reading.{IsNo, IsTaken, after_formula_read, after_rule_read}
 use Rattle.ladr_problem.specs.Refusals.{by_misuse, by_term}
 use Rattle.ladr_problem.specs.Sofar.{Sofar}
@@ -94,6 +95,22 @@ module _ (m : Mode) (byte : ℕ) (s : Sofar) where
       else option_map_or (λ l. option_map_or (λ k. Err (Misused k)) (least_misuse l (misused i) (w.formula i) (w.least i))
       (Ok (with_listed l (record { formula = w.formula i; names = w.named i; label = label i; byte = byte }) (weight i) (record s { symbols = w.symbols i }))))
       list (Ok (record s { symbols = old i }))))
+
+  -- a formula with too large an arity is refused for its symbols, else for that arity
+  pub large_formula : (list : Option FormulaList) (t u : RawTree) (why : Refusal) → u ≡ (attributed t).formula → (formula_reading (style_in m s) s.symbols u).reading.large ≡ true
+      → IsNo (if nat_lt 65535 (length (formula_reading (style_in m s) s.symbols u).reading.symbols) then Err Symbols else Err Arity) why → IsNo (after_formula m list byte s t) why
+  large_formula list t u why formula large refuses =
+      let symbols = (formula_made m s t).reading.symbols in
+      let wide : (formula_made m s t).reading.large ≡ true = ap (λ (v : RawTree). (formula_reading (style_in m s) s.symbols v).reading.large) (sym formula) ∙ large in
+      let small : Result Sofar Refusal = if nat_lt 65535 (length symbols) then Err Symbols else Err Arity in
+      let read : (if nat_lt 65535 (length (formula_reading (style_in m s) s.symbols u).reading.symbols) then Err Symbols else Err Arity) ≡ small =
+      ap (λ (v : RawTree). if nat_lt 65535 (length (formula_reading (style_in m s) s.symbols v).reading.symbols) then Err Symbols else Err Arity) formula in
+      let same : small ≡ after_formula m list byte s t = λ i.
+      if nat_lt 65535 (length symbols) then Err Symbols
+      else (if sym wide i then Err Arity
+      else (if not (is_meant m s.settings) then Ok s
+      else option_map_or (λ l. after_list l byte s t (formula_made m s t)) list (Ok s))) in
+      subst (λ (r : Result Sofar Refusal). IsNo r why) (read ∙ same) refuses
 
   -- a rule of weights as the code has read it is the one of the item
   rule_there : (t : RawTree) (r : RuleRead) (table : List Symbol) (o : Option (Made Rule)) → rule_in (style_in m s) s.symbols t ≡ o → IsRuleIn o (Some r) s.symbols table → KeepsNumbers s.symbols table

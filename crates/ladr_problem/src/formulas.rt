@@ -1,15 +1,17 @@
 // Formulas of lists.
-ghost use Rattle.std.specs.Prelude.{◌≡◌, ◌&&◌, not, OnOk, IfErr, IfOk, Option, None, Some, List, nat_lt, length};
+ghost use Rattle.std.specs.Prelude.{◌≡◌, ◌&&◌, not, OnOk, IfErr, IfOk, Option, None, Some, List, nat_lt, length, if◌then◌else◌};
 ghost use Rattle.fol_core.specs.FormulaView.{fol_of};
 ghost use Rattle.fol_core.specs.RawView.{raw_of};
-ghost use Rattle.ladr_problem.specs.Adding.{after_formula, is_hints, is_demodulators, met, least_misuse};
+ghost use Rattle.ladr_lex.specs.declared.limits.TheConstants.{MOST_SYMBOLS};
+ghost use Rattle.ladr_formulas.specs.Formulas.{formula_reading};
+ghost use Rattle.ladr_problem.specs.Adding.{style_in, after_formula, is_hints, is_demodulators, met, least_misuse};
 ghost use Rattle.ladr_problem.specs.Draft.{sofar_of};
 ghost use Rattle.ladr_problem.specs.Reading.{after_formula_read, with_read, IsNo};
 
 use crate::draft::Draft;
 use crate::refusal::Refusal;
 use fol_core::{Raw, RawSub};
-use ladr_formulas::{FormulaRead, Mode, read_formula};
+use ladr_formulas::{FormulaRead, Mode, brings_too_many, has_large_arity, read_formula};
 use ladr_lex::{MOST_SYMBOLS, Misuse};
 use ladr_rules::{LabelledFormula, Notes, is_demodulator, is_hint};
 use ladr_settings::FormulaList;
@@ -85,10 +87,28 @@ impl Draft {
     {
         let stated = LabelledFormula::of(raw);
         let LabelledFormula { formula, notes } = stated;
+        if has_large_arity(&formula) {
+            return Err(self.refusal_of_large(alloc, program, &formula));
+        }
         let before = self.symbols.len();
         let prolog = self.settings.options.prolog_style_variables;
         let read = read_formula(alloc, formula, &mut self.symbols, program, prolog)?;
         self.settle(alloc, program, list, byte, before, notes, read)
+    }
+
+    // Why a formula is refused that has too large an arity: nothing is made of it, since it may be long.
+    fn refusal_of_large(&mut self, alloc: Global, program: Mode, formula: &Raw) -> Refusal
+        ensures { IsNo (if nat_lt MOST_SYMBOLS (length (formula_reading
+            (style_in program (sofar_of self.old)) (sofar_of self.old).symbols
+            (raw_of formula.now)).reading.symbols) then Err Refusal.Symbols
+            else Err Refusal.Arity) result }
+    {
+        let prolog = self.settings.options.prolog_style_variables;
+        match brings_too_many(alloc, formula, &mut self.symbols, program, prolog) {
+            Ok(true) => Refusal::Symbols,
+            Ok(false) => Refusal::Arity,
+            Err(_) => Refusal::Memory,
+        }
     }
 
     // Takes a formula that was read behind so many symbols.

@@ -162,15 +162,28 @@ fn shown_at<'a>(alloc: Global, text: &'a Text<'a>, byte: u64) -> Result<Name, Al
     Name::from_slice(alloc, b"end of input")
 }
 
+// The same; where the text ends no token begins, so that none is looked for.
+fn shown_where<'a>(alloc: Global, text: &'a Text<'a>, byte: u64) -> Result<Name, AllocError>
+    requires small { length text.now.bytes.now < 2 ^ 32 }
+    requires cut { Cuts 0 text.now.bytes.now (tokens_of text.now) }
+    ensures { IfOk result (λ name. name ≡ shown_at (tokens_of text.now) byte) }
+{
+    if byte >= text.bytes.len() as u64 {
+        return Name::from_slice(alloc, b"end of input");
+    }
+    shown_at(alloc, text, byte)
+}
+
 // A byte with its line and column, and what is shown of its token.
 fn place<'a>(alloc: Global, text: &'a Text<'a>, byte: u64) -> Result<Place, AllocError>
-    requires { length text.now.bytes.now < 2 ^ 32 }
+    requires small { length text.now.bytes.now < 2 ^ 32 }
+    requires cut { Cuts 0 text.now.bytes.now (tokens_of text.now) }
     ensures byte { IfOk result (λ p. p.byte ≡ byte) }
     ensures line { IfOk result (λ p. p.line ≡ line_of text.now.bytes.now byte) }
     ensures column { IfOk result (λ p. p.column ≡ column_of text.now.bytes.now byte) }
     ensures token { IfOk result (λ p. p.token ≡ shown_at (tokens_of text.now) byte) }
 {
-    let token = shown_at(alloc, text, byte)?;
+    let token = shown_where(alloc, text, byte)?;
     let spot = place_of(text.bytes, (byte as usize).min(text.bytes.len()));
     Ok(Place {
         byte,

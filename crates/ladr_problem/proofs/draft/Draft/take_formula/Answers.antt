@@ -1,14 +1,14 @@
-use Rattle.std.proofs.Common.{◌≡◌, ℕ, ap, subst, ◌∙◌}
+use Rattle.std.proofs.Common.{◌≡◌, ℕ, ap, subst, sym, ◌∙◌}
 use Rattle.std.specs.Prelude.{OnOk, IfErr}
 use Rattle.std.specs.declared.result.Result.{Result}
 use Rattle.std.specs.declared.result.Result.TheVariants.{Ok}
 use Rattle.fol_core.specs.RawView.{raw_of}
-use Rattle.ladr_problem.specs.Adding.{after_formula}
+use Rattle.ladr_problem.specs.Adding.{after_formula, style_in}
 use Rattle.ladr_problem.specs.Draft.{sofar_of}
 use Rattle.ladr_problem.specs.Reading.{IsNo, after_formula_read}
 use Rattle.ladr_problem.specs.Sofar.{Sofar}
 use Rattle.ladr_problem.specs.declared.refusal.Refusal.{Refusal}
-use Rattle.ladr_problem.proofs.Takings.{same_formula}
+use Rattle.ladr_problem.proofs.Takings.{same_formula, large_formula}
 use Rattle.ladr_problem.proofs.draft.Draft.take_formula.Goals as goal
 
 same : (c : goal.After-settle) →
@@ -24,3 +24,9 @@ returns-clause-ok c = subst (λ (r : Result Sofar Refusal). OnOk c.settle.result
 
 pub returns-clause-refused : goal.returns-clause-refused
 returns-clause-refused c = subst (λ (r : Result Sofar Refusal). IfErr c.settle.result (IsNo r)) (same c) c.settle.ensures.refused
+
+pub returns-then-has_large_arity-clause-refused : goal.returns-then-has_large_arity-clause-refused
+returns-then-has_large_arity-clause-refused c =
+    let s = sofar_of c.args.self.now in
+    large_formula c.args.program c.args.byte s c.args.list (raw_of c.args.raw) (raw_of c.of-stated.result.formula) c.refusal_of_large.result c.of-stated.ensures.formula
+    (sym (c.has_large_arity.ensures (style_in c.args.program s) s.symbols) ∙ c.if-has_large_arity.true) c.refusal_of_large.ensures

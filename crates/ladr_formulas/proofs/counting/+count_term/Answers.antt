@@ -1,0 +1,65 @@
+use Rattle.std.proofs.Common.{◌≡◌, ◌∙◌, ℕ, List, [], ◌∷◌, ◌+◌, ◌++◌, length, drop, refl, sym, ap, subst, arith}
+use Rattle.fol_core.specs.RawTree.{RawTree, RawTrees, raws_of}
+use Rattle.fol_core.specs.RawView.{raw_of, raw_list}
+use Rattle.fol_core.specs.SymbolTable.{Symbol, symbol}
+use Rattle.fol_core.specs.declared.raw.Raw.{Raw}
+use Rattle.fol_core.specs.declared.symbols.Kind.TheVariants.{Function, Relation}
+use Rattle.ladr_formulas.specs.Counting.{names_bound}
+use Rattle.ladr_formulas.specs.Formulas.{Bound, arity_of}
+use Rattle.ladr_formulas.specs.Occurring.{symbols_of_term, symbols_of_terms}
+use Rattle.ladr_formulas.proofs.CountingLemmas.{applied, argument_here, stops_as, loop_stops, loop_goes_on, loop_ends, scope_kept, none_left}
+use Rattle.ladr_formulas.proofs.counting.+count_term.Goals as goal
+
+pub returns-then-not-branch-clause-counted : goal.returns-then-not-branch-clause-counted
+returns-then-not-branch-clause-counted t c =
+    let st = c.args.style in
+    let names = names_bound c.args.scope.now in
+    let rest = symbols_of_terms st names (raws_of c.in-App.args) in
+    let arity = arity_of (raws_of c.in-App.args) in
+    stops_as c.args.symbols.now (symbol c.bytes-in-App.result.now arity Function ∷ []) rest _ _ c.in_ok-count_head-in-App.field-0
+    (ap (λ (r : Raw). symbols_of_term st names (raw_of r)) c.in-App.is ∙ applied st names c.in-App.name c.in-App.args (omega arith) ∙
+    ap (λ (n : List ℕ). symbol n arity Function ∷ rest) (sym c.bytes-in-App.ensures))
+    c.if-not-branch.true c.in_ok-count_head-in-App.ensures
+
+pub returns-then-not-branch-2-clause-counted : goal.returns-then-not-branch-2-clause-counted
+returns-then-not-branch-2-clause-counted t c =
+    let st = c.args.style in
+    let names = names_bound c.args.scope.now in
+    let items = c.deref-arg-items.result.now in
+    let rest = symbols_of_terms st names (raws_of (raw_list items)) in
+    let arity = arity_of (raws_of c.in-App.args) in
+    let later = symbols_of_terms st names (raws_of (raw_list (drop (c.loop-arg.arg-index + 1) items))) in
+    let same = ap raw_list c.deref-arg-items.ensures.value ∙ c.args-in-App.view_is in
+    loop_stops c.args.symbols.now (symbol c.bytes-in-App.result.now arity Function ∷ []) c.count_head.new.symbols rest c.loop-arg.symbols _ later _ _ _ c.in_ok-count_head-in-App.field-0 c.in_ok-count_term-in-App.field-0
+    (ap (λ (r : Raw). symbols_of_term st names (raw_of r)) c.in-App.is ∙ applied st names c.in-App.name c.in-App.args (omega arith) ∙
+    (λ i. symbol (sym c.bytes-in-App.ensures i) arity Function ∷ symbols_of_terms st names (raws_of (sym same i))))
+    c.if-not-branch.false c.in_ok-count_head-in-App.ensures c.loop-arg.invariant.0
+    (argument_here st names c.arg-item.result items c.loop-arg.arg-index c.loop-arg-test.true c.arg-item.is ∙
+    ap (λ (s : List Bound). symbols_of_term st (names_bound s) (raw_of c.arg-item.result) ++ later) (sym c.loop-arg.invariant.1))
+    c.if-not-branch-2.true c.in_ok-count_term-in-App.ensures.counted
+
+pub loop-arg-preserved : goal.loop-arg-preserved
+loop-arg-preserved t c =
+    let st = c.args.style in
+    let names = names_bound c.args.scope.now in
+    let items = c.deref-arg-items.result.now in
+    let later = symbols_of_terms st names (raws_of (raw_list (drop (c.loop-arg.arg-index + 1) items))) in (
+      loop_goes_on c.count_head.new.symbols (symbols_of_terms st names (raws_of (raw_list items))) c.loop-arg.symbols (symbols_of_term st (names_bound c.loop-arg.scope) (raw_of c.arg-item.result)) later (symbols_of_terms st names (raws_of (raw_list (drop c.loop-arg.arg-index items)))) _ c.in_ok-count_term-in-App.field-0 c.loop-arg.invariant.0
+          (argument_here st names c.arg-item.result items c.loop-arg.arg-index c.loop-arg-test.true c.arg-item.is ∙
+          ap (λ (s : List Bound). symbols_of_term st (names_bound s) (raw_of c.arg-item.result) ++ later) (sym c.loop-arg.invariant.1))
+          c.if-not-branch-2.false c.in_ok-count_term-in-App.ensures.counted,
+      scope_kept c.in_ok-count_term-in-App.field-0 _ _ _ c.if-not-branch-2.false c.in_ok-count_term-in-App.ensures.scope c.loop-arg.invariant.1,
+    )
+
+pub returns-after-loop-arg-clause-counted : goal.returns-after-loop-arg-clause-counted
+returns-after-loop-arg-clause-counted t c =
+    let st = c.args.style in
+    let names = names_bound c.args.scope.now in
+    let items = c.deref-arg-items.result.now in
+    let rest = symbols_of_terms st names (raws_of (raw_list items)) in
+    let arity = arity_of (raws_of c.in-App.args) in
+    let same = ap raw_list c.deref-arg-items.ensures.value ∙ c.args-in-App.view_is in
+    loop_ends c.args.symbols.now (symbol c.bytes-in-App.result.now arity Function ∷ []) c.count_head.new.symbols rest c.loop-arg.symbols _ _ c.in_ok-count_head-in-App.field-0
+    (ap (λ (r : Raw). symbols_of_term st names (raw_of r)) c.in-App.is ∙ applied st names c.in-App.name c.in-App.args (omega arith) ∙
+    (λ i. symbol (sym c.bytes-in-App.ensures i) arity Function ∷ symbols_of_terms st names (raws_of (sym same i))))
+    c.if-not-branch.false c.in_ok-count_head-in-App.ensures (none_left st names items c.loop-arg.arg-index c.loop-arg-test.false) c.loop-arg.invariant.0
