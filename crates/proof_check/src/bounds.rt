@@ -1,9 +1,9 @@
 // Conclusions that are too large for a search: told from a line's clause before they are built, and built up to a bound.
-ghost use Rattle.std.specs.Prelude.{◌≡◌, IsTrue, IfOk};
+ghost use Rattle.std.specs.Prelude.{◌≡◌, true, false, IsTrue, IfOk, MatchOption};
 ghost use Rattle.derivation.specs.Lines.{IsClause};
 ghost use Rattle.derivation.specs.View.{content_of};
 ghost use Rattle.fol_core.specs.Renumbered.{renumbered};
-ghost use Rattle.proof_check.specs.Bounds.{is_beyond};
+ghost use Rattle.proof_check.specs.Bounds.{is_beyond, is_as_large, is_as_deep, may_be};
 
 use clause_limits::{is_clause_deeper, is_larger, left_behind_clause};
 use derivation::Content;
@@ -36,19 +36,21 @@ fn is_large_beyond(large: &LargeClause) -> bool
     large.size() > MOST_SYMBOLS
 }
 
-/// The clause of a conclusion, unless it is beyond the bounds.
-pub fn built(alloc: Global, large: &LargeClause) -> Result<Clause, AllocError>
-    ensures { IfOk result (λ c. c ≡ renumbered large.now) }
+/// The clause of a conclusion, its variables numbered; none exactly where it is beyond the bounds.
+pub fn built(alloc: Global, large: &LargeClause) -> Result<Option<Clause>, AllocError>
+    ensures { IfOk result (λ o. MatchOption o (is_beyond large.now ≡ true)
+        (λ c. (is_beyond large.now ≡ false) × (c ≡ renumbered large.now))) }
 {
     if is_large_beyond(large) {
-        return Err(AllocError);
+        return Ok(None);
     }
-    large.numbered(alloc)
+    Ok(Some(large.numbered(alloc)?))
 }
 
 // Whether a clause has as many symbols and variables as a large one, as far as these are counted.
+#[tactic(auto, using(crate::proofs::BoundSteps::as_many, crate::proofs::BoundSteps::more))]
 fn is_as_large(clause: &Clause, large: &LargeClause) -> bool
-    ensures { renumbered clause.now ≡ renumbered (renumbered large.now) → IsTrue result }
+    ensures { result ≡ is_as_large clause.now large.now }
 {
     let size = large.size();
     match left_behind_clause(clause, size) {
@@ -57,9 +59,10 @@ fn is_as_large(clause: &Clause, large: &LargeClause) -> bool
     }
 }
 
-// Whether it has as many levels, or more.
+// Whether it has as many levels, or more, as far as the large one's are counted.
+#[tactic(auto, using(crate::proofs::BoundSteps::none_deep, crate::proofs::BoundSteps::as_deep))]
 fn is_as_deep(clause: &Clause, large: &LargeClause) -> bool
-    ensures { renumbered clause.now ≡ renumbered (renumbered large.now) → IsTrue result }
+    ensures { result ≡ is_as_deep clause.now large.now }
 {
     let depth = large.depth();
     if depth == 0 {
@@ -68,9 +71,11 @@ fn is_as_deep(clause: &Clause, large: &LargeClause) -> bool
     is_clause_deeper(clause, depth - 1)
 }
 
-/// Whether a content may be a conclusion that isn't built, by how large it is.
+/// Whether a content may be a conclusion that isn't built, by how large it is: each that is one may.
+#[tactic(auto, using(crate::proofs::BoundSteps::same_size))]
 pub fn may_be(content: &Content, large: &LargeClause) -> bool
-    ensures { IsClause (content_of content.now) (renumbered large.now) → IsTrue result }
+    ensures size { result ≡ may_be (content_of content.now) large.now }
+    ensures conclusion { IsClause (content_of content.now) (renumbered large.now) → IsTrue result }
 {
     match content {
         Content::Formula(_, _) => false,

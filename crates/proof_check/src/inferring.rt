@@ -98,7 +98,8 @@ fn after(
     }
 }
 
-// The same of a conclusion that isn't built: where no word follows, one that is larger than the content, or smaller, isn't it.
+// The same of a conclusion that isn't built: where no word follows, one that is larger than the content, or smaller, isn't it. One
+// that is beyond the bounds counts as want of memory.
 #[tactic(auto, using(crate::proofs::InferSteps::other_size))]
 fn after_large(
     alloc: Global,
@@ -114,7 +115,9 @@ fn after_large(
     if words.is_empty() && !may_be(content, large) {
         return Ok(Some(8));
     }
-    let clause = built(alloc, large)?;
+    let Some(clause) = built(alloc, large)? else {
+        return Err(AllocError);
+    };
     after(alloc, earlier, words, clause, content)
 }
 
