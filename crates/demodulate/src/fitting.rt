@@ -1,5 +1,5 @@
 // Clauses that change others: rules that fit their terms, and units that deny their literals.
-ghost use Rattle.std.specs.Prelude.{◌≡◌, IfOk};
+ghost use Rattle.std.specs.Prelude.{◌≡◌};
 ghost use Rattle.fol_core.specs.ClauseView.{literal_of};
 ghost use Rattle.fol_core.specs.TermView.{tree_of};
 ghost use Rattle.fol_core.specs.Tree.{trees_of};
@@ -8,7 +8,7 @@ ghost use Rattle.prover_steps.specs.Subsuming.{fits_in, fits_in_some, fits_below
 
 use fol_core::{Clause, Literal, Term, Terms};
 use held_clauses::{Held, first_atom, left_of};
-use std::alloc::{AllocError, Global};
+use std::alloc::Global;
 use term_matches::is_instance;
 
 // Whether a rule fits one of some arguments or a term in them.
@@ -61,27 +61,27 @@ fn fits_below(alloc: Global, rule: &Held, atom: &Term) -> bool
 
 /// Whether the rule fits a term of the clause.
 #[tactic(auto, using(held_clauses::proofs::LiteralTests::some_here, held_clauses::proofs::LiteralTests::some_behind, held_clauses::proofs::LiteralTests::some_end))]
-pub fn rewrites_clause(alloc: Global, rule: &Held, clause: &Clause) -> Result<bool, AllocError>
-    ensures { IfOk result (λ b. b ≡ rewrites_clause rule.now clause.now) }
+pub fn rewrites_clause(alloc: Global, rule: &Held, clause: &Clause) -> bool
+    ensures { result ≡ rewrites_clause rule.now clause.now }
 {
     for literal in &clause.literals {
         if fits_below(alloc, rule, &literal.atom) {
-            return Ok(true);
+            return true;
         }
     }
-    Ok(false)
+    false
 }
 
 /// Whether the clause is a unit of the other sign that has the literal's atom as an instance.
-pub fn denies(alloc: Global, unit: &Held, literal: &Literal) -> Result<bool, AllocError>
-    ensures { IfOk result (λ b. b ≡ denies unit.now (literal_of literal.now)) }
+pub fn denies(alloc: Global, unit: &Held, literal: &Literal) -> bool
+    ensures { result ≡ denies unit.now (literal_of literal.now) }
 {
     let literals = unit.clause.literals.as_slice();
     if literals.len() != 1 {
-        return Ok(false);
+        return false;
     }
     if literals[0].positive == literal.positive {
-        return Ok(false);
+        return false;
     }
-    Ok(is_instance(alloc, &literals[0].atom, &literal.atom))
+    is_instance(alloc, &literals[0].atom, &literal.atom)
 }

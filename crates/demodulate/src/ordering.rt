@@ -181,19 +181,15 @@ fn leave_out_false(tidied: Tidied) -> Result<Tidied, AllocError>
 
 // The number of the first of some units that denies a literal.
 #[tactic(auto, using(crate::proofs::Fits::denying_here, crate::proofs::Fits::denying_behind, crate::proofs::Fits::denying_end))]
-fn first_denying(
-    alloc: Global,
-    held: &[&Held],
-    literal: &Literal,
-) -> Result<Option<u64>, AllocError>
-    ensures { IfOk result (λ o. o ≡ first_denying (lent held.now) (literal_of literal.now)) }
+fn first_denying(alloc: Global, held: &[&Held], literal: &Literal) -> Option<u64>
+    ensures { result ≡ first_denying (lent held.now) (literal_of literal.now) }
 {
     for unit in held {
-        if denies(alloc, unit, literal)? {
-            return Ok(Some(unit.number));
+        if denies(alloc, unit, literal) {
+            return Some(unit.number);
         }
     }
-    Ok(None)
+    None
 }
 
 // The number of the first unit of a set that denies a literal; the numbers of the set rise.
@@ -207,7 +203,7 @@ fn first_denying_in(
     ensures rising { IsRising (numbers_of set.now) }
 {
     let units = set.generalizing(!literal.positive, &literal.atom)?;
-    first_denying(alloc, units.as_slice(), literal)
+    Ok(first_denying(alloc, units.as_slice(), literal))
 }
 
 // The lesser of two numbers, if there are any.

@@ -63,15 +63,15 @@ pub fn is_subsumed_by(
 
 // Whether a unit denies a literal of a clause.
 #[tactic(auto, using(crate::proofs::Tests::literal_here, crate::proofs::Tests::literal_behind, crate::proofs::Tests::literal_end))]
-fn denies_some(alloc: Global, unit: &Held, clause: &Clause) -> Result<bool, AllocError>
-    ensures { IfOk result (λ b. b ≡ list_any (denies unit.now) clause.now) }
+fn denies_some(alloc: Global, unit: &Held, clause: &Clause) -> bool
+    ensures { result ≡ list_any (denies unit.now) clause.now }
 {
     for literal in clause.as_slice() {
-        if denies(alloc, unit, literal)? {
-            return Ok(true);
+        if denies(alloc, unit, literal) {
+            return true;
         }
     }
-    Ok(false)
+    false
 }
 
 // Whether a clause does so to another one.
@@ -80,8 +80,8 @@ fn acts_on(alloc: Global, act: Act, held: &Held, clause: &Clause) -> Result<bool
 {
     match act {
         Act::Subsumes => is_subsumed_by(&mut Places::new(alloc), held.clause(), clause),
-        Act::PutsBack(Back::Deletes) => denies_some(alloc, held, clause),
-        Act::PutsBack(Back::Rewrites) => rewrites_clause(alloc, held, clause),
+        Act::PutsBack(Back::Deletes) => Ok(denies_some(alloc, held, clause)),
+        Act::PutsBack(Back::Rewrites) => Ok(rewrites_clause(alloc, held, clause)),
     }
 }
 
@@ -233,21 +233,21 @@ fn retire(gone: &[Held], search: &mut Search)
 }
 
 // A clause that is put back, with the word for it.
-fn queued_back(alloc: Global, back: Back, held: Held) -> Result<QueueEntry, AllocError>
-    ensures { IfOk result (λ q. entry_of q ≡ queued_back (word_for back) held) }
+fn queued_back(alloc: Global, back: Back, held: Held) -> QueueEntry
+    ensures { entry_of result ≡ queued_back (word_for back) held }
 {
     let Held { number, clause } = held;
     let first = match back {
         Back::Deletes => First::BackUnitDel(number),
         Back::Rewrites => First::BackRewrite(number),
     };
-    Ok(QueueEntry::Built(Queued {
+    QueueEntry::Built(Queued {
         clause,
         first,
         later: Vec::new(alloc),
         input: None,
         usable: false,
-    }))
+    })
 }
 
 // Clauses that are put back, in their order.
@@ -261,7 +261,7 @@ fn all_queued_back(
 {
     let mut queue = VecDeque::new(alloc);
     while let Some(held) = gone.pop() {
-        queue.push_front(queued_back(alloc, back, held)?)?;
+        queue.push_front(queued_back(alloc, back, held))?;
     }
     Ok(queue)
 }
