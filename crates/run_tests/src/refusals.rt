@@ -1,67 +1,71 @@
-// A source that hands out few bytes a call, a sink that takes few, and either refusing a call.
-use ladr_io::{MemClock, MemSink, MemSource};
-use ladr_top::run;
-use model_tables::Tables;
+// Each call of the streams refused in turn.
+use crate::runs::ended;
+use crate::texts::{
+    ACCEPTED, ALL_OF_THREE, CONCLUDED, INVOLUTION, INVOLUTIONS, MADE_TWO, PROVED, REPORT, SYLLOGISM,
+};
 use std::alloc::{AllocError, Global};
 use std::test::Fail;
 
-const SYLLOGISM: &[u8] =
-    b"formulas(assumptions).\n-man(x) | mortal(x).\nman(socrates).\nend_of_list.\nformulas(goals).\nmortal(socrates).\nend_of_list.\n";
+const READ_FAULT: &[u8] = b"ladr: read fault\n";
 
-const PROVED: &[u8] =
-    b"% Input 120\nformulas(assumptions).\n-man(x) | mortal(x).\nman(socrates).\nend_of_list.\nformulas(goals).\nmortal(socrates).\nend_of_list.\n\n============================== PROOF =================================\n% Proof 1.\n% Length of proof is 7.\n% Level of proof is 2.\n% Maximum clause weight is 4.\n% Given clauses 3.\n1 -man(x) | mortal(x).  [assumption].\n2 man(socrates).  [assumption].\n3 mortal(socrates).  [goal].\n4 -man(x) | mortal(x).  [clausify(1)].\n5 man(socrates).  [clausify(2)].\n6 -mortal(socrates).  [deny(3)].\n7 $F.  [hyper(4,a,5,a),unit_del(a,6)].\n============================== end of proof ==========================\n% Given=3. Generated=1. Kept=3. Large=0. Proofs=1.\nTHEOREM PROVED\n% Exit max_proofs.\n";
-
-// A run on the syllogism with one byte a read, of which the one with this number fails, and with one byte a write or seven, of which
-// the one with this number fails (none has number 0): the status, and what the sink then holds.
-fn refused(
-    alloc: Global,
-    command: &str,
-    read: u64,
-    by_seven: bool,
-    write: u64,
-) -> Result<(u8, Vec<u8>), AllocError> {
-    let mut words = Vec::new(alloc);
-    for word in command.split(' ') {
-        words.push(String::from_str(alloc, word)?)?;
+// Behind how many bytes a refused read ends a run otherwise than this: what was to be read is left, and one line is written.
+fn wrong_read(alloc: Global, command: &str, input: &[u8]) -> Result<Option<usize>, AllocError> {
+    for taken in 0..input.len() + 1 {
+        let run = ended(alloc, command, input, taken as u64 + 1, 0, &[])?;
+        if !run.is(10, &input[taken..], READ_FAULT) {
+            return Ok(Some(taken));
+        }
     }
-    let any = Tables::new(1, Vec::new(alloc));
-    let mut source = MemSource::with_piece(SYLLOGISM.to_vec(alloc)?, 1, vec![in alloc; read]?);
-    let piece = if by_seven { 7 } else { 1 };
-    let mut sink = MemSink::with_piece(alloc, piece, vec![in alloc; write]?);
-    let mut clock = MemClock::new(Vec::new(alloc));
-    let exit = run(alloc, &words, &any, &mut source, &mut sink, &mut clock);
-    Ok((exit.status, sink.bytes().to_vec(alloc)?))
+    Ok(None)
 }
 
-#[test]
-fn streams_that_refuse_end_a_run(rt: HostRuntime) -> Result<(), Fail> {
-    for (command, read, write, status, output) in [
-        ("prover9", 0, 0, 0, PROVED),
-        ("prover9", 1, 0, 10, b"ladr: read fault\n".as_slice()),
-        ("prover9", 1, 1, 11, b""),
-        ("prover9 extra", 0, 0, 9, b"ladr: no such command\n"),
-        ("prover9 extra", 0, 1, 11, b""),
-    ] {
-        let (ended, held) = refused(rt.alloc(), command, read, false, write)?;
-        assert_eq!(rt; ended, status, "{command}, read {read}, write {write}");
-        assert_eq!(rt;
-            held.as_slice(),
-            output,
-            "{command}, read {read}, write {write}"
-        );
+// Behind how many bytes a refused write ends a run otherwise than this: these bytes are written, and this is left to be read.
+fn wrong_write(
+    alloc: Global,
+    command: &str,
+    input: &[u8],
+    left: &[u8],
+    output: &[u8],
+) -> Result<Option<usize>, AllocError> {
+    for (taken, _) in output.iter().enumerate() {
+        let run = ended(alloc, command, input, 0, taken as u64 + 1, &[])?;
+        if !run.is(11, left, &output[..taken]) {
+            return Ok(Some(taken));
+        }
     }
-    // Of the writes of seven bytes each is refused in turn, for as long as there is one.
-    for (earlier, _) in PROVED.iter().enumerate() {
-        let (status, held) = refused(rt.alloc(), "prover9", 0, true, earlier as u64 + 1)?;
-        let within = status == 11 && held.len() <= earlier.saturating_mul(7);
-        assert!(rt;
-            within || status == 0 && held.len() == PROVED.len(),
-            "after {earlier} writes"
-        );
-        assert!(rt;
-            PROVED.starts_with(held.as_slice()),
-            "after {earlier} writes"
-        );
+    Ok(None)
+}
+
+// A run reads a byte a call and then its end, or nothing at all, and writes a byte a call: no later call is there to be refused.
+#[test]
+fn each_refused_call_ends_a_run(rt: HostRuntime) -> Result<(), Fail> {
+    for (command, input, reads, status, output) in [
+        ("check", PROVED, true, 0, ACCEPTED),
+        ("clausetester", INVOLUTION, true, 0, REPORT),
+        ("mace4 -n 3 -N 3 -m 10", INVOLUTIONS, true, 8, ALL_OF_THREE),
+        ("prover9", SYLLOGISM, true, 0, CONCLUDED),
+        ("made 2", INVOLUTIONS, false, 0, MADE_TWO),
+        (
+            "prover9 extra",
+            INVOLUTIONS,
+            false,
+            9,
+            b"ladr: no such command\n".as_slice(),
+        ),
+    ] {
+        let (left, read) = if reads {
+            (b"".as_slice(), input.len() as u64 + 2)
+        } else {
+            (input, 1)
+        };
+        if reads {
+            assert_eq!(rt; wrong_read(rt.alloc(), command, input)?, None, "{command}");
+        }
+        let wrong = wrong_write(rt.alloc(), command, input, left, output)?;
+        assert_eq!(rt; wrong, None, "{command}");
+        let write = output.len() as u64 + 1;
+        let run = ended(rt.alloc(), command, input, read, write, &[])?;
+        assert!(rt; run.is(status, left, output), "{command}");
     }
     Ok(())
 }

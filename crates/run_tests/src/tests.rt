@@ -1,35 +1,7 @@
-use ladr_io::{MemClock, MemSink, MemSource};
-use ladr_top::run;
-use model_tables::Tables;
-use std::alloc::{AllocError, Global};
+// How runs end whose streams refuse no call, or a few.
+use crate::runs::ended;
+use crate::texts::{ACCEPTED, ALL_OF_THREE, INVOLUTION, INVOLUTIONS, MADE_TWO, PROVED, REPORT};
 use std::test::Fail;
-
-const INVOLUTION: &[u8] =
-    b"formulas(assumptions).\nf(f(x)) = x.\nexists x f(x) = x.\nend_of_list.\ninterpretation(2, [number = 1,seconds = 0], [function(f(_), [1,0])]).\n";
-
-const REPORT: &[u8] = b"formula 1 true\nformula 2 false\n% True=1. False=1.\n% Exit tested.\n";
-
-// A run with one byte a call, in which the read and the write of these numbers fail (none has number 0), and the clock gives
-// these readings: the status, and what the sink then holds.
-fn outcome(
-    alloc: Global,
-    command: &str,
-    input: &[u8],
-    read: u64,
-    write: u64,
-    readings: &[u64],
-) -> Result<(u8, Vec<u8>), AllocError> {
-    let mut words = Vec::new(alloc);
-    for word in command.split(' ') {
-        words.push(String::from_str(alloc, word)?)?;
-    }
-    let any = Tables::new(1, Vec::new(alloc));
-    let mut source = MemSource::with_piece(input.to_vec(alloc)?, 1, vec![in alloc; read]?);
-    let mut sink = MemSink::with_piece(alloc, 1, vec![in alloc; write]?);
-    let mut clock = MemClock::new(readings.to_vec(alloc)?);
-    let exit = run(alloc, &words, &any, &mut source, &mut sink, &mut clock);
-    Ok((exit.status, sink.bytes().to_vec(alloc)?))
-}
 
 // The reads of the third row are one for each byte and one for the end, and each byte is written by one call.
 #[test]
@@ -71,56 +43,12 @@ fn runs_end_as_told(rt: HostRuntime) -> Result<(), Fail> {
             b"ladr: not accepted, line 5, cause 3\n",
         ),
     ] {
-        let (ended, held) = outcome(rt.alloc(), command, input, read, write, &[])?;
-        assert_eq!(rt; ended, status, "{command}");
-        assert_eq!(rt; held.as_slice(), output, "{command}");
+        let run = ended(rt.alloc(), command, input, read, write, &[])?;
+        assert_eq!(rt; run.status, status, "{command}");
+        assert_eq!(rt; run.held.as_slice(), output, "{command}");
     }
     Ok(())
 }
-
-#[test]
-fn each_failed_read_is_told(rt: HostRuntime) -> Result<(), Fail> {
-    for command in ["check", "clausetester", "mace4", "prover9"] {
-        for taken in 0..=INVOLUTION.len() as u64 {
-            let (status, held) = outcome(rt.alloc(), command, INVOLUTION, taken + 1, 0, &[])?;
-            assert_eq!(rt; status, 10, "{command} after {taken} bytes");
-            assert_eq!(rt;
-                held.as_slice(),
-                b"ladr: read fault\n".as_slice(),
-                "{command} after {taken} bytes"
-            );
-        }
-    }
-    Ok(())
-}
-
-#[test]
-fn each_failed_write_leaves_a_front(rt: HostRuntime) -> Result<(), Fail> {
-    for (command, input, output) in [
-        ("check", PROVED, ACCEPTED),
-        ("clausetester", INVOLUTION, REPORT),
-        ("mace4 -n 3 -N 3 -m 10", INVOLUTIONS, ALL_OF_THREE),
-        ("made 2", b"", MADE_TWO),
-        ("prover9", CONTRADICTION, REFUTED),
-    ] {
-        for (taken, _) in output.iter().enumerate() {
-            let write = taken as u64 + 1;
-            let (status, held) = outcome(rt.alloc(), command, input, 0, write, &[])?;
-            assert_eq!(rt; status, 11, "{command} after {taken} bytes");
-            assert_eq!(rt;
-                held.as_slice(),
-                &output[..taken],
-                "{command} after {taken} bytes"
-            );
-        }
-    }
-    Ok(())
-}
-
-const ACCEPTED: &[u8] = b"% Proof 1 accepted.\n% Exit accepted 1.\n";
-
-const PROVED: &[u8] =
-    b"% Input 35\nformulas(sos).\np.\n-p.\nend_of_list.\n\n============================== PROOF =================================\n1 p.  [assumption].\n2 -p.  [assumption].\n3 p.  [clausify(1)].\n4 -p.  [clausify(2)].\n5 $F.  [resolve(3,a,4,a)].\n============================== end of proof ==========================\n";
 
 const CONTRADICTION: &[u8] = b"formulas(sos).\np.\n-p.\nend_of_list.\n";
 
@@ -130,18 +58,10 @@ const REFUTED: &[u8] =
 const UNPROVED: &[u8] =
     b"% Input 35\nformulas(sos).\np.\n-p.\nend_of_list.\n\n============================== PROOF =================================\n1 p.  [assumption].\n3 p.  [clausify(1)].\n5 $F.  [resolve(3,a,4,a)].\n============================== end of proof ==========================\n";
 
-const MADE_TWO: &[u8] =
-    b"% Made 2.\n% Prover9 status 0. Given=0. Kept=5. Length=15. Level=4.\n% Check accepted.\n% Mace4 status 0. Size=2.\n% Exit made.\n";
-
-const INVOLUTIONS: &[u8] = b"formulas(assumptions).\nf(f(x)) = x.\nend_of_list.\n";
-
 const MOVED: &[u8] =
     b"formulas(assumptions).\nf(f(x)) = x.\nend_of_list.\nformulas(goals).\nexists x f(x) = x.\nend_of_list.\n";
 
 const MANY: &[u8] = b"formulas(assumptions).\nf(x,y,z,u) = x.\nend_of_list.\n";
-
-const ALL_OF_THREE: &[u8] =
-    b"% Domain size 3.\ninterpretation(3, [number = 1,seconds = 0], [\n    function(f(_), [0,1,2])\n]).\ninterpretation(3, [number = 2,seconds = 0], [\n    function(f(_), [0,2,1])\n]).\ninterpretation(3, [number = 3,seconds = 0], [\n    function(f(_), [1,0,2])\n]).\n% Domain size 3 exhausted.\n% Models=3.\n% Exit all_models.\n";
 
 const ONE_OF_TWO: &[u8] =
     b"% Domain size 2.\ninterpretation(2, [number = 1,seconds = 0], [\n    function(f(_), [1,0])\n]).\n% Models=1.\n% Exit max_models.\n";
@@ -178,9 +98,9 @@ fn searches_end_as_told(rt: HostRuntime) -> Result<(), Fail> {
             b"% Domain size 90.\nladr: ground limit at size 90\n",
         ),
     ] {
-        let (ended, held) = outcome(rt.alloc(), command, input, 0, 0, &[])?;
-        assert_eq!(rt; held.as_slice(), output, "{command}");
-        assert_eq!(rt; ended, status, "{command}");
+        let run = ended(rt.alloc(), command, input, 0, 0, &[])?;
+        assert_eq!(rt; run.held.as_slice(), output, "{command}");
+        assert_eq!(rt; run.status, status, "{command}");
     }
     Ok(())
 }
@@ -248,11 +168,11 @@ fn clocks_are_heeded(rt: HostRuntime) -> Result<(), Fail> {
             b"% Given=1. Generated=2. Kept=1. Large=0. Proofs=0.\nSEARCH FAILED\n% Exit sos_empty.\n",
         ),
     ] {
-        let (ended, held) = outcome(rt.alloc(), command, INVOLUTIONS, 0, 0, readings)?;
+        let run = ended(rt.alloc(), command, INVOLUTIONS, 0, 0, readings)?;
         let mut output = front.to_vec(rt.alloc())?;
         output.extend_from_slice(rest)?;
-        assert_eq!(rt; held.as_slice(), output.as_slice(), "{command}");
-        assert_eq!(rt; ended, status, "{command}");
+        assert_eq!(rt; run.held.as_slice(), output.as_slice(), "{command}");
+        assert_eq!(rt; run.status, status, "{command}");
     }
     Ok(())
 }
