@@ -1,5 +1,5 @@
 -- The clauses that turns may pick.
-use Rattle.std.specs.Prelude.{ℕ, suc, ◌≡◌, ◌+◌, ◌<◌, nat_le, Bool, true, not, if◌then◌else◌, List, Option, Some, None, filter}
+use Rattle.std.specs.Prelude.{ℕ, ◌≡◌, ◌+◌, ◌<◌, nat_le, Bool, true, not, if◌then◌else◌, List, Option, Some, None, filter}
 use Rattle.std.specs.Borrow.{Bor}
 use Rattle.std.specs.Option.{option_map}
 use Rattle.fol_core.specs.Literals.{ClauseTree}
@@ -45,11 +45,11 @@ abbrev pub best_next : Among → Option Picked → Held → Note → Option Pick
 best_next a best h n =
     if is_noted_among a n then Some (lighter_next best (h, n.weight)) else best
 
--- so many turns from a place on are of one kind, and none of them but the last is the last of all
+-- so many turns from a place on are of one kind, and each behind the first is a turn of the cycle
 abbrev pub IsRun : Options → ℕ → ℕ → Type 0
 IsRun o n d =
     (0 < d) × ((m : ℕ) → m < d → (turn_at o (n + m) ≡ turn_at o n)
-    × (suc (n + m) ≡ turns_of o → suc m ≡ d))
+    × (0 < m → n + m < turns_of o))
 
 -- a clause with the place of the next turn, as lent
 abbrev pub pick_of : Pick → Picked

@@ -92,7 +92,7 @@ pub fn give_next(alloc: Global, guide: &Guide<'_>, search: &mut Search) -> Resul
         (state_of search.old)) }
 {
     steps_keep_order();
-    let Some(pick) = picked(guide, &search.waiting, search.turn)? else {
+    let Some(pick) = picked(guide, &search.waiting, search.turn) else {
         search.ended = Some(Reason::Spent);
         return Ok(());
     };

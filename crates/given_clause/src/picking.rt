@@ -1,5 +1,5 @@
 // Which clause is given next.
-ghost use Rattle.std.specs.Prelude.{◌≡◌, ◌+◌, ◌==◌, if◌then◌else◌, IfOk};
+ghost use Rattle.std.specs.Prelude.{◌≡◌, ◌+◌, nat_lt, if◌then◌else◌};
 ghost use Rattle.std.specs.Option.{option_map};
 ghost use Rattle.given_clause.specs.Guides.{setting_of};
 ghost use Rattle.given_clause.specs.Noted.{AreNoted};
@@ -10,7 +10,6 @@ use crate::guide::Guide;
 use crate::waiting::{Note, Waiting};
 use held_clauses::Held;
 use ladr_options::Options;
-use std::alloc::AllocError;
 
 /// All clauses, those that match a hint, those with a positive literal, or those without.
 #[derive(Clone, Copy, Debug, PartialEq, Eq)]
@@ -165,66 +164,55 @@ fn picked_at<'a>(guide: &Guide<'_>, waiting: &'a Waiting, n: u64) -> Option<&'a 
 }
 
 // The place behind a run of turns, the first one behind the last.
-fn place_behind(options: &Options, n: u64, run: u64) -> Result<u64, AllocError>
-    ensures { IfOk result (λ m. m ≡ (if n + run == turns_of options.now then 0 else n + run)) }
+fn place_behind(options: &Options, n: u64, run: u64) -> u64
+    ensures { result ≡ (if nat_lt (n + run) (turns_of options.now) then n + run else 0) }
 {
-    let place = n.checked_add(run).ok_or(AllocError)?;
-    if place == turns_of(options) {
-        Ok(0)
+    if run < turns_of(options).saturating_sub(n) {
+        n + run
     } else {
-        Ok(place)
+        0
     }
 }
 
 // Of the turns from a place on, once around, the first that has a clause: where one has none, those of its kind have none.
-fn picked_from<'a>(
-    guide: &Guide<'_>,
-    waiting: &'a Waiting,
-    turn: u64,
-) -> Result<Option<Pick<'a>>, AllocError>
+fn picked_from<'a>(guide: &Guide<'_>, waiting: &'a Waiting, turn: u64) -> Option<Pick<'a>>
     requires { AreNoted (setting_of guide.now) waiting.now }
-    ensures { IfOk result (λ o. option_map pick_of o ≡ picked_from guide.now.options
-        (setting_of guide.now).weight waiting.now.held (turns_of guide.now.options) turn) }
+    ensures { option_map pick_of result ≡ picked_from guide.now.options
+        (setting_of guide.now).weight waiting.now.held (turns_of guide.now.options) turn }
 {
     let mut left = turns_of(&guide.options);
     let mut n = turn;
     while left > 0 {
         match picked_at(guide, waiting, n) {
             Some(held) => {
-                let turn = place_behind(&guide.options, n, 1)?;
-                return Ok(Some(Pick { held, turn }));
+                let turn = place_behind(&guide.options, n, 1);
+                return Some(Pick { held, turn });
             }
             None => {
                 let run = run_from(&guide.options, n).min(left);
-                n = place_behind(&guide.options, n, run)?;
+                n = place_behind(&guide.options, n, run);
                 left -= run;
             }
         }
     }
-    Ok(None)
+    None
 }
 
 /// The clause that is given next, with the place of the next turn; nothing where none waits.
-pub fn picked<'a>(
-    guide: &Guide<'_>,
-    waiting: &'a Waiting,
-    turn: u64,
-) -> Result<Option<Pick<'a>>, AllocError>
+pub fn picked<'a>(guide: &Guide<'_>, waiting: &'a Waiting, turn: u64) -> Option<Pick<'a>>
     requires { AreNoted (setting_of guide.now) waiting.now }
-    ensures { IfOk result (λ o. option_map pick_of o ≡ picked guide.now.options
-        (setting_of guide.now).weight (setting_of guide.now).is_hinted waiting.now.held turn) }
+    ensures { option_map pick_of result ≡ picked guide.now.options
+        (setting_of guide.now).weight (setting_of guide.now).is_hinted waiting.now.held turn }
 {
     if let Some(held) = lightest_among(guide, Among::Hinted, waiting) {
-        return Ok(Some(Pick { held, turn }));
+        return Some(Pick { held, turn });
     }
-    if let Some(pick) = picked_from(guide, waiting, turn)? {
-        return Ok(Some(pick));
+    if let Some(pick) = picked_from(guide, waiting, turn) {
+        return Some(pick);
     }
-    Ok(
-        waiting
-            .held
-            .as_slice()
-            .first()
-            .map(|held| Pick { held, turn }),
-    )
+    waiting
+        .held
+        .as_slice()
+        .first()
+        .map(|held| Pick { held, turn })
 }

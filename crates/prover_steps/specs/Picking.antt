@@ -1,5 +1,5 @@
 -- Which clause is given next.
-use Rattle.std.specs.Prelude.{ℕ, zero, suc, Bool, not, ◌+◌, ◌==◌, nat_lt, nat_le, if◌then◌else◌, List, [], ◌∷◌, filter, Option, Some, None}
+use Rattle.std.specs.Prelude.{ℕ, zero, suc, Bool, not, ◌+◌, nat_lt, nat_le, if◌then◌else◌, List, [], ◌∷◌, filter, Option, Some, None}
 use Rattle.std.specs.List.{list_any}
 use Rattle.std.specs.Option.{option_map, option_map_or}
 use Rattle.fol_core.specs.Literals.{ClauseTree}
@@ -26,7 +26,7 @@ turn_at o n =
 
 -- the place behind another one, the first behind the last
 abbrev pub turn_behind : Options → ℕ → ℕ
-turn_behind o n = if suc n == turns_of o then 0 else suc n
+turn_behind o n = if nat_lt (suc n) (turns_of o) then suc n else 0
 
 abbrev pub has_positive : ClauseTree → Bool
 has_positive c = list_any (λ l. l.positive) c

@@ -14,5 +14,5 @@ give-requires c =
     let s = state_of c.args.search.now in
     not_in_use s c.in_ok-given.given c.in-Some.pick.held.now c.requires.ordered
     (c.steps_keep_order.ensures.picking st.options st.weight st.is_hinted s.waiting s.turn (pick_of c.in-Some.pick)
-    (sym c.in_ok-pick.ensures ∙ ap (option_map pick_of) c.in-Some.is))
+    (sym c.picked.ensures ∙ ap (option_map pick_of) c.in-Some.is))
     c.in_ok-given.ensures
