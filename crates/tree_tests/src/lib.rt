@@ -1,0 +1,12 @@
+// An index of terms against scans of all its entries. Tests are proved with all that they stand on, so these have a crate of
+// their own.
+#![tactic(auto)]
+
+#[cfg(test)]
+mod chance;
+#[cfg(test)]
+mod filling;
+#[cfg(test)]
+mod scans;
+#[cfg(test)]
+mod tests;

@@ -1,0 +1,73 @@
+// What of a list of terms fits another one, found by going through them all.
+use fol_core::{Clause, Term, Terms};
+use std::alloc::{AllocError, Global};
+use term_unifiers::{match_of, unify};
+
+/// Which numbers of terms are left.
+#[derive(Clone, Copy)]
+pub enum Left {
+    All,
+    NoThird,
+    NoThirdOrSecond,
+    None,
+}
+
+impl Left {
+    /// Whether a number is.
+    pub fn has(&self, number: u64) -> bool {
+        match self {
+            Left::All => true,
+            Left::NoThird => number % 3 != 0,
+            Left::NoThirdOrSecond => number % 3 != 0 && number % 2 != 0,
+            Left::None => false,
+        }
+    }
+}
+
+/// The numbers of the terms of which another one is an instance, of those that are instances of it, and of those that unify
+/// with it.
+#[derive(Drop)]
+pub struct Scan {
+    pub generalizations: Vec<u64>,
+    pub instances: Vec<u64>,
+    pub unifiable: Vec<u64>,
+}
+
+// A list of one term.
+fn alone(alloc: Global, term: &Term) -> Result<Terms, AllocError> {
+    let mut terms = Terms::new(alloc);
+    terms.push(term.copy(alloc)?)?;
+    Ok(terms)
+}
+
+// Whether terms without a variable of both unify.
+fn do_unify(alloc: Global, s: &Term, t: &Term) -> Result<bool, AllocError> {
+    let lefts = alone(alloc, s)?;
+    let rights = alone(alloc, t)?;
+    Ok(unify(alloc, lefts, rights, Clause::new(alloc))?.is_some())
+}
+
+/// What of those terms that are left fits a term that has none of their variables.
+pub fn scanned(alloc: Global, terms: &[Term], left: Left, t: &Term) -> Result<Scan, AllocError> {
+    let mut found = Scan {
+        generalizations: Vec::new(alloc),
+        instances: Vec::new(alloc),
+        unifiable: Vec::new(alloc),
+    };
+    for (i, s) in terms.iter().enumerate() {
+        let number = i as u64;
+        if !left.has(number) {
+            continue;
+        }
+        if match_of(alloc, s, t)?.is_some() {
+            found.generalizations.push(number)?;
+        }
+        if match_of(alloc, t, s)?.is_some() {
+            found.instances.push(number)?;
+        }
+        if do_unify(alloc, s, t)? {
+            found.unifiable.push(number)?;
+        }
+    }
+    Ok(found)
+}
