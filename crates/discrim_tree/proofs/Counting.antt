@@ -1,5 +1,5 @@
 -- As many nodes as distinct beginnings.
-use Rattle.std.proofs.Common.{◌≡◌, ℕ, zero, suc, ◌+◌, ◌-◌, ◌<◌, ◌≤◌, ◌⊎◌, ◌&&◌, ◌||◌, Bool, true, false, cond, inl, inr, refl, sym, ap, ap₂, subst, ◌∙◌, List, [], ◌∷◌, ◌++◌, map, Some, None, Option, is_some, count_by, length, get_or, arith, append-nil}
+use Rattle.std.proofs.Common.{◌≡◌, ℕ, zero, suc, ◌+◌, ◌-◌, ◌≤◌, ◌⊎◌, ◌&&◌, ◌||◌, Bool, true, false, cond, inl, inr, refl, sym, ap, ap₂, subst, ◌∙◌, List, [], ◌∷◌, ◌++◌, map, Some, None, Option, is_some, count_by, length, get_or, arith}
 use Rattle.std.specs.Ordering.{is_eq}
 use Rattle.std.specs.Set.{is_member, unique_keys}
 use Rattle.std.proofs.lemmas.Bool.{cases_eq}
@@ -11,7 +11,7 @@ use Rattle.discrim_tree.specs.Entries.{Indexed}
 use Rattle.discrim_tree.specs.Nodes.{Store, edge_cmp, Reaches}
 use Rattle.discrim_tree.specs.Paths.{path_of}
 use Rattle.discrim_tree.specs.Seeking.{AreOnly, AreReached, IsEntry}
-use Rattle.discrim_tree.specs.Trees.{link_of, AllUsed, IsTree, Leads}
+use Rattle.discrim_tree.specs.Trees.{AllUsed, IsTree, Leads}
 use Rattle.discrim_tree.specs.View.{all_indexed}
 use Rattle.discrim_tree.specs.declared.edge.Edge.{Edge}
 use Rattle.discrim_tree.specs.declared.entry.IndexEntry.{IndexEntry}

@@ -9,7 +9,7 @@ use Rattle.discrim_tree.specs.declared.sought.Sought.TheVariants.{Generalization
 use Rattle.discrim_tree.proofs.Terms.{instances_are_made, unifiers_are_of_two}
 
 mutual
-  unchanged : (t : Tree) → substitute var t ≡ t
+  pub unchanged : (t : Tree) → substitute var t ≡ t
   unchanged (var x) = refl
   unchanged (elem k) = refl
   unchanged (app f ts) = ap (app f) (all_unchanged ts)

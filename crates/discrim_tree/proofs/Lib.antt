@@ -1,12 +1,15 @@
+pub mod Candidates
 pub mod Counting
 pub mod Finding
 pub mod Fitted
+pub mod Linear
 pub mod Meetings
 pub mod NodeSteps
 pub mod Only
 pub mod Ordered
 pub mod Paths
 pub mod Placing
+pub mod Returning
 pub mod Terms
 pub mod Trees
 pub mod WalkSteps

@@ -1,5 +1,5 @@
 -- Nodes, as they change.
-use Rattle.std.proofs.Common.{◌≡◌, ℕ, zero, suc, ◌<◌, ◌==◌, ◌⊎◌, Bool, true, false, not, if◌then◌else◌, cond, inl, inr, refl, sym, ap, ap₂, subst, ◌∙◌, List, [], ◌∷◌, ◌++◌, Some, MatchOption, length, drop, drop-cons, get_or, ◌+◌, arith, eqb-true, eq-eqb, Option, None, IsSome, Result, Ok, Err, OnErr}
+use Rattle.std.proofs.Common.{◌≡◌, ℕ, ◌==◌, ◌⊎◌, Bool, true, false, not, if◌then◌else◌, cond, inl, inr, refl, sym, ap, ap₂, subst, ◌∙◌, List, [], ◌∷◌, ◌++◌, Some, MatchOption, arith, eqb-true, eq-eqb, Option, None, IsSome, Result, Ok, Err, OnErr}
 use Rattle.std.specs.BTreeMap as tree
 use Rattle.std.specs.Map.{lookup}
 use Rattle.std.specs.List.{filter}
@@ -10,8 +10,8 @@ use Rattle.std.specs.Ordering.{nat_cmp, ordering_then, is_eq}
 use Rattle.std.proofs.lemmas.Bool.{cases_eq}
 use Rattle.std.proofs.lemmas.Map.Lookups.{exact_unsigned}
 use Rattle.slab.specs.Slab.{get, ContainsKey, Updates}
-use Rattle.discrim_tree.specs.Nodes.{Store, edge_cmp, branch, child, IsIn, Holds, Reaches, Grows, KeepsOthers, KeepsPaths, IsEmptyAt}
-use Rattle.discrim_tree.specs.Trees.{link_of, Leads, IsBranched, IsFresh, IsFull, IsOneMore, IsRenumbered, IsSame}
+use Rattle.discrim_tree.specs.Nodes.{Store, edge_cmp, branch, child, IsIn, Holds}
+use Rattle.discrim_tree.specs.Trees.{link_of, IsBranched, IsFull, IsRenumbered, IsSame}
 use Rattle.discrim_tree.specs.declared.edge.Edge.{Edge}
 use Rattle.discrim_tree.specs.declared.edge.Edge.TheVariants.{Any, Element, Symbol}
 use Rattle.discrim_tree.specs.declared.nodes.Node.{Node}

@@ -8,7 +8,7 @@ use Rattle.std.proofs.lemmas.Option.{slice_get_within}
 use Rattle.slab.specs.Slab.{get}
 use Rattle.fol_core.specs.Tree.{Tree, var, elem, app, Trees, none, more, list_of}
 use Rattle.discrim_tree.specs.Fitting.{FitAll}
-use Rattle.discrim_tree.specs.Nodes.{Store, edge_cmp, branch, child, IsIn, Holds, Reaches}
+use Rattle.discrim_tree.specs.Nodes.{Store, edge_cmp, branch, child, IsIn, Reaches}
 use Rattle.discrim_tree.specs.Paths.{step_of, arguments, steps_of, path_of, paths_of}
 use Rattle.discrim_tree.specs.Walks.{arity, GoesOn, IsFrom, IsFound, IsBehind, IsAhead, IsToSkip, Enters, StartsAt, SkipsOne, SkipsAll, SkipsEach, Waits, Follows, Passes, PassesAll, Covers}
 use Rattle.discrim_tree.specs.declared.edge.Edge.{Edge}

@@ -2,6 +2,7 @@ pub mod Beginnings
 pub mod Entries
 pub mod Fitting
 pub mod Laws
+pub mod Linear
 pub mod Meeting
 pub mod Nodes
 pub mod Paths

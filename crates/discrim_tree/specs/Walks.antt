@@ -1,9 +1,10 @@
 -- Walks through a tree of paths: the nodes that were reached, in their order.
-use Rattle.std.specs.Prelude.{ℕ, ◌≡◌, ◌+◌, ◌<◌, ◌≤◌, ◌⊎◌, Bool, List, ◌++◌, Some, length, slice_get}
+use Rattle.std.specs.Prelude.{ℕ, ◌≡◌, ◌+◌, ◌<◌, ◌≤◌, ◌⊎◌, Bool, IsTrue, List, ◌++◌, Some, length, slice_get}
 use Rattle.fol_core.specs.Tree.{Tree, Trees}
 use Rattle.discrim_tree.specs.Fitting.{Fits, FitAll}
 use Rattle.discrim_tree.specs.Nodes.{Store, child, Holds, Reaches}
 use Rattle.discrim_tree.specs.Paths.{steps_of, path_of, paths_of}
+use Rattle.discrim_tree.specs.Trees.{Leads}
 use Rattle.discrim_tree.specs.declared.edge.Edge.{Edge}
 use Rattle.discrim_tree.specs.declared.edge.Edge.TheVariants.{Any, Element, Symbol}
 use Rattle.discrim_tree.specs.declared.skipping.Skipping.{Skipping}
@@ -98,3 +99,72 @@ abbrev pub Covers : Store → Bool → Bool → Tree → List ℕ → Type 0
 Covers nodes below above t walk =
     (s : Tree) (n : ℕ) → Fits below above s t → Reaches nodes 0 (path_of s) n
     → IsFound nodes walk n
+
+-- ---- nothing else is reached
+
+-- a node is between two places
+abbrev pub IsBetween : ℕ → ℕ → List ℕ → ℕ → Type 0
+IsBetween low high walk at =
+    (i : ℕ) × (low ≤ i) × (i < high) × (slice_get walk i ≡ Some at)
+
+-- a step leads to a node from one between two places
+abbrev pub IsStepFrom : Store → ℕ → ℕ → Edge → List ℕ → ℕ → Type 0
+IsStepFrom nodes low high edge walk k =
+    (at : ℕ) × IsBetween low high walk at × (child nodes at edge ≡ Some k)
+
+-- it leads to each node that came to a walk
+abbrev pub Came : Store → ℕ → ℕ → Edge → List ℕ → List ℕ → Type 0
+Came nodes low high edge old new =
+    (k : ℕ) → IsFrom (length old) new k → IsStepFrom nodes low high edge old k
+
+-- the same by the step of a variable, where variables fit other terms
+abbrev pub CameByAny : Store → Bool → ℕ → ℕ → List ℕ → List ℕ → Type 0
+CameByAny nodes below low high old new =
+    (k : ℕ) → IsFrom (length old) new k → IsTrue below × IsStepFrom nodes low high Any old k
+
+-- so many terms lead from a node to another
+abbrev pub IsPast : Store → ℕ → ℕ → ℕ → Type 0
+IsPast nodes at count to =
+    (ts : List Tree) × (length ts ≡ count) × Leads nodes at (steps_of ts) to
+
+-- the terms that are to be skipped lead to a node
+abbrev pub IsBeyond : Store → List Skipping → ℕ → Type 0
+IsBeyond nodes waiting to =
+    (i : ℕ) × (s : Skipping) × (slice_get waiting i ≡ Some s) × IsPast nodes s.node s.count to
+
+-- they do so from a node, or did so before
+abbrev pub IsSkipped : Store → ℕ → ℕ → List Skipping → List Skipping → Type 0
+IsSkipped nodes at count old new =
+    (to : ℕ) → IsBeyond nodes new to → IsBeyond nodes old to ⊎ IsPast nodes at count to
+
+-- one term is to be skipped from nodes at this place or later alone
+abbrev pub StartOnly : ℕ → List ℕ → List Skipping → Type 0
+StartOnly low walk waiting =
+    (i : ℕ) (s : Skipping) → slice_get waiting i ≡ Some s → IsFrom low walk s.node × (s.count ≡ 1)
+
+-- each node that came is one behind a term from one at this place or later
+abbrev pub SkippedEach : Store → ℕ → List ℕ → List ℕ → Type 0
+SkippedEach nodes low old new =
+    (to : ℕ) → IsFrom (length old) new to → (at : ℕ) × IsFrom low old at × IsPast nodes at 1 to
+
+-- a path leads to a node from one at this place or later
+abbrev pub LeadsFrom : Store → ℕ → List ℕ → List Edge → ℕ → Type 0
+LeadsFrom nodes low walk path to = (at : ℕ) × IsFrom low walk at × Leads nodes at path to
+
+-- each node from a place on is one behind a term that fits
+abbrev pub Comes : Store → Bool → Bool → Tree → ℕ → List ℕ → ℕ → List ℕ → Type 0
+Comes nodes below above t low old next new =
+    (to : ℕ) → IsFrom next new to
+    → (s : Tree) × Fits below above s t × LeadsFrom nodes low old (path_of s) to
+
+-- and behind as many as fit
+abbrev pub ComesAll : Store → Bool → Bool → Trees → ℕ → List ℕ → ℕ → List ℕ → Type 0
+ComesAll nodes below above ts low old next new =
+    (to : ℕ) → IsFrom next new to
+    → (ss : Trees) × FitAll below above ss ts × LeadsFrom nodes low old (paths_of ss) to
+
+-- each node of the walk is at the end of the path of a term that fits
+abbrev pub AllFit : Store → Bool → Bool → Tree → List ℕ → Type 0
+AllFit nodes below above t walk =
+    (i : ℕ) (to : ℕ) → slice_get walk i ≡ Some to
+    → (s : Tree) × Fits below above s t × Leads nodes 0 (path_of s) to

@@ -1,12 +1,14 @@
 // Laws of the tests of an index, and retrievals worked out: the functions do nothing, and their contracts are the laws.
-ghost use Rattle.discrim_tree.specs.Laws.{InstancesAreMade, UnifiersAreOfTwo};
+ghost use Rattle.discrim_tree.specs.Laws.{InstancesAreMade, UnifiersAreOfTwo, StepsAreLinear};
 ghost use Rattle.discrim_tree.specs.Worked.{WorkedEntries, WorkedNodes, WorkedRetrievals};
 
 /// A term is an instance of another exactly where a substitution makes it of that, and two terms unify exactly where a
-/// substitution for each makes them the same.
+/// substitution for each makes them the same. Steps alone tell whether a term is sought, if each occurrence of a variable is a
+/// variable of its own.
 pub fn tests_are_exact()
     ensures instances { InstancesAreMade }
     ensures unifiers { UnifiersAreOfTwo }
+    ensures linear { StepsAreLinear }
 {}
 
 /// Retrievals, entries and nodes.

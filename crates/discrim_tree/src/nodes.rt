@@ -340,6 +340,7 @@ impl Nodes {
     fn add_numbers(&self, numbers: &mut Vec<u64>, at: usize) -> Result<(), AllocError>
         ensures kept { OnOk result ((n : ℕ) → IsIn n numbers.old.items → IsIn n numbers.new.items) }
         ensures added { OnOk result ((n : ℕ) → Holds self.now.items at n → IsIn n numbers.new.items) }
+        ensures only { OnOk result ((n : ℕ) → IsIn n numbers.new.items → IsIn n numbers.old.items ⊎ Holds self.now.items at n) }
     {
         match self.items.get(at) {
             None => Ok(()),
@@ -352,7 +353,8 @@ impl Nodes {
 
     /// The numbers at the nodes of a walk.
     pub fn numbers_at(&self, alloc: Global, walk: &[usize]) -> Result<Vec<u64>, AllocError>
-        ensures { IfOk result (λ numbers. (n : ℕ) → IsFound self.now.items walk.now n → IsIn n numbers.items) }
+        ensures all { IfOk result (λ numbers. (n : ℕ) → IsFound self.now.items walk.now n → IsIn n numbers.items) }
+        ensures only { IfOk result (λ numbers. (n : ℕ) → IsIn n numbers.items → IsFound self.now.items walk.now n) }
     {
         let mut numbers = Vec::new(alloc);
         for at in walk {

@@ -1,8 +1,8 @@
 // Walks through a tree of paths: to the nodes of terms that fit a term.
-ghost use Rattle.std.specs.Prelude.{◌≡◌, ◌+◌, ◌<◌, ◌≤◌, IfOk, IsTrue, OnOk, length};
+ghost use Rattle.std.specs.Prelude.{ℕ, ◌≡◌, ◌+◌, ◌<◌, ◌≤◌, IfOk, IsTrue, OnOk, length};
 ghost use Rattle.fol_core.specs.TermView.{tree_of};
 ghost use Rattle.discrim_tree.specs.declared.edge.Edge.TheVariants.{Any};
-ghost use Rattle.discrim_tree.specs.Walks.{GoesOn, Follows, Enters, StartsAt, SkipsOne, SkipsAll, SkipsEach, Passes, Covers, arity};
+ghost use Rattle.discrim_tree.specs.Walks.{GoesOn, Follows, Enters, StartsAt, SkipsOne, SkipsAll, SkipsEach, Passes, Covers, Came, CameByAny, IsPast, IsBeyond, IsSkipped, StartOnly, SkippedEach, Comes, AllFit, IsFrom, arity};
 
 use crate::edge::{Edge, step_of};
 use crate::nodes::Nodes;
@@ -40,7 +40,8 @@ fn starts(
     high: usize,
 ) -> Result<Vec<Skipping>, AllocError>
     requires { high ≤ length walk.now }
-    ensures { IfOk result (λ waiting. StartsAt low high walk.now waiting.items) }
+    ensures all { IfOk result (λ waiting. StartsAt low high walk.now waiting.items) }
+    ensures only { IfOk result (λ waiting. StartOnly low walk.now waiting.items) }
 {
     let mut waiting = Vec::new(alloc);
     for i in low..high {
@@ -65,6 +66,7 @@ impl Nodes {
         ensures goes_on { OnOk result (GoesOn walk.old.items walk.new.items) }
         ensures longer { OnOk result (length walk.old.items ≤ length walk.new.items) }
         ensures follows { OnOk result (Follows self.now.items low high edge walk.old.items walk.new.items) }
+        ensures came { OnOk result (Came self.now.items low high edge walk.old.items walk.new.items) }
     {
         for i in low..high {
             if let Some(k) = self.child(walk[i], edge) {
@@ -86,10 +88,12 @@ impl Nodes {
         ensures goes_on { OnOk result (GoesOn walk.old.items walk.new.items) }
         ensures longer { OnOk result (length walk.old.items ≤ length walk.new.items) }
         ensures follows { OnOk result (IsTrue below → Follows self.now.items low high Any walk.old.items walk.new.items) }
+        ensures came { OnOk result (CameByAny self.now.items below low high walk.old.items walk.new.items) }
     {
-        if below {
-            return self.follow(walk, low, high, Edge::Any);
+        if !below {
+            return Ok(());
         }
+        self.follow(walk, low, high, Edge::Any)?;
         Ok(())
     }
 
@@ -103,11 +107,12 @@ impl Nodes {
         requires { 0 < count }
         ensures goes_on { OnOk result (GoesOn waiting.old.items waiting.new.items) }
         ensures enters { OnOk result (Enters self.now.items at count waiting.new.items) }
+        ensures only { OnOk result (IsSkipped self.now.items at count waiting.old.items waiting.new.items) }
     {
         if !self.items.contains(at) {
             return Ok(());
         }
-        for (edge, k) in &self.items[at].branches {
+        for (edge, k) in self.items[at].branches.iter() {
             let count = left(count, *edge)?;
             waiting.push(Skipping { node: *k, count })?;
         }
@@ -125,6 +130,8 @@ impl Nodes {
         ensures longer { OnOk result (length walk.old.items ≤ length walk.new.items) }
         ensures others { OnOk result (GoesOn waiting.old.items waiting.new.items) }
         ensures skips { OnOk result (SkipsOne self.now.items next (length walk.old.items) walk.new.items waiting.new.items) }
+        ensures past { OnOk result ((to : ℕ) → IsFrom (length walk.old.items) walk.new.items to → IsPast self.now.items next.node next.count to) }
+        ensures only { OnOk result (IsSkipped self.now.items next.node next.count waiting.old.items waiting.new.items) }
     {
         if next.count == 0 {
             walk.push(next.node)?;
@@ -139,6 +146,7 @@ impl Nodes {
         ensures goes_on { OnOk result (GoesOn walk.old.items walk.new.items) }
         ensures longer { OnOk result (length walk.old.items ≤ length walk.new.items) }
         ensures skips { OnOk result (SkipsAll self.now.items waiting.old.items (length walk.old.items) walk.new.items) }
+        ensures beyond { OnOk result ((to : ℕ) → IsFrom (length walk.old.items) walk.new.items to → IsBeyond self.now.items waiting.old.items to) }
     {
         for _step in 0..u64::MAX {
             match waiting.pop() {
@@ -155,6 +163,7 @@ impl Nodes {
         ensures goes_on { OnOk result (GoesOn walk.old.items walk.new.items) }
         ensures longer { OnOk result (length walk.old.items ≤ length walk.new.items) }
         ensures skips { OnOk result (SkipsEach self.now.items low high walk.old.items walk.new.items) }
+        ensures behind { OnOk result (SkippedEach self.now.items low walk.old.items walk.new.items) }
     {
         let mut waiting = starts(*walk.allocator(), walk, low, high)?;
         self.skip(walk, &mut waiting)?;
@@ -175,6 +184,7 @@ impl Nodes {
         ensures longer { OnOk result (length walk.old.items ≤ length walk.new.items) }
         ensures within { IfOk result (λ next. next ≤ length walk.new.items) }
         ensures passes { IfOk result (λ next. Passes self.now.items below above (tree_of t.now) low walk.old.items next walk.new.items) }
+        ensures comes { IfOk result (λ next. Comes self.now.items below above (tree_of t.now) low walk.old.items next walk.new.items) }
     {
         let high = walk.len();
         if low >= high {
@@ -214,7 +224,8 @@ impl Nodes {
         above: bool,
         t: &Term,
     ) -> Result<Vec<usize>, AllocError>
-        ensures { IfOk result (λ walk. Covers self.now.items below above (tree_of t.now) walk.items) }
+        ensures all { IfOk result (λ walk. Covers self.now.items below above (tree_of t.now) walk.items) }
+        ensures fit { IfOk result (λ walk. AllFit self.now.items below above (tree_of t.now) walk.items) }
     {
         let mut walk = Vec::new(alloc);
         walk.push(0)?;

@@ -1,4 +1,4 @@
-use Rattle.std.proofs.Common.{◌≡◌, ◌∙◌, ap, ap₂, subst, sym, arith, List}
+use Rattle.std.proofs.Common.{◌∙◌, ap, ap₂, subst, sym, arith, List}
 use Rattle.std.specs.List.{insert}
 use Rattle.fol_core.specs.TermView.{tree_of}
 use Rattle.fol_core.specs.declared.term.Term.{Term}

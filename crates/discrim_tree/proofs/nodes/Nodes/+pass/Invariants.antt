@@ -2,7 +2,7 @@
 use Rattle.std.proofs.Common.{◌≤◌, length, ℕ, List, drop}
 use Rattle.fol_core.specs.Tree.{trees_of}
 use Rattle.fol_core.specs.TermView.{tree_list}
-use Rattle.discrim_tree.specs.Walks.{GoesOn, PassesAll}
+use Rattle.discrim_tree.specs.Walks.{GoesOn, PassesAll, ComesAll}
 use Rattle.discrim_tree.proofs.nodes.Nodes.+pass.Given as goal
 
 abbrev pub decreases-pass : goal.decreases-pass
@@ -13,6 +13,9 @@ invariant-loop-term l = record {
   on : GoesOn l.initial.walk.items l.walk.items;
   longer : length l.initial.walk.items ≤ length l.walk.items;
   within : l.next ≤ length l.walk.items;
+  comes : (next : ℕ) (new : List ℕ)
+      → ComesAll l.self.items l.below l.above (trees_of (tree_list (drop l.term-index l.term-items))) l.next l.walk.items next new
+      → ComesAll l.self.items l.below l.above (trees_of (tree_list l.term-items)) l.high l.initial.walk.items next new;
   passes : (low : ℕ) (new : List ℕ) → GoesOn l.walk.items new
       → PassesAll l.self.items l.below l.above (trees_of (tree_list (drop l.term-index l.term-items))) l.next l.walk.items low new
       → PassesAll l.self.items l.below l.above (trees_of (tree_list l.term-items)) l.high l.initial.walk.items low new;

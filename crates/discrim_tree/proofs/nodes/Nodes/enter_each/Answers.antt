@@ -1,8 +1,8 @@
-use Rattle.std.proofs.Common.{◌≡◌, ◌∙◌, refl, sym, ap, subst, rules}
-use Rattle.std.specs.Option.{option_copied}
+use Rattle.std.proofs.Common.{◌≡◌, sym, subst, rules}
 use Rattle.std.specs.Map.Iter.{deref_pair}
 use Rattle.std.proofs.lemmas.Map.Iter.{rest_more, rest_all}
 use Rattle.discrim_tree.specs.Walks.{GoesOn}
+use Rattle.discrim_tree.proofs.Returning.{branches_there, branches_rest, branch_first, skipped_none, skipped_next}
 use Rattle.discrim_tree.proofs.Trees.{not_there}
 use Rattle.discrim_tree.proofs.WalkSteps.{stays, goes_far, pushed_on, all_left, none_left, branch_done, entered_last, enters_nothing}
 use Rattle.discrim_tree.proofs.nodes.Nodes.enter_each.Goals as goal
@@ -15,8 +15,14 @@ pub loop-edge-init : goal.loop-edge-init
 loop-edge-init c =
     let nodes = c.args.self.now.items in
     let node = c.index.result.now in
-    let same : c.into_iter-edge-iterator.result ≡ c.index.result.now.branches.entries = search rules in
-    (tt, tt, stays c.args.waiting.now.items, all_left nodes c.args.at node c.into_iter-edge-iterator.result c.args.count c.args.waiting.now.items c.index.ensures same)
+    let same : c.into_iter-edge-iterator.result ≡ c.index.result.now.branches.entries = search rules in (
+      tt,
+      tt,
+      stays c.args.waiting.now.items,
+      all_left nodes c.args.at node c.into_iter-edge-iterator.result c.args.count c.args.waiting.now.items c.index.ensures same,
+      branches_there nodes c.args.at node c.into_iter-edge-iterator.result c.index.ensures c.iter-edge-items.ensures.ordered same,
+      skipped_none nodes c.args.at c.args.count c.args.waiting.now.items,
+    )
 
 pub loop-edge-preserved : goal.loop-edge-preserved
 loop-edge-preserved c =
@@ -35,6 +41,8 @@ loop-edge-preserved c =
       goes_far c.args.waiting.now.items now new so.2 on,
       branch_done nodes c.args.at c.loop-edge.edge-iterator c.next.new.self edge k c.args.count now new so.3 is on
           (entered_last nodes edge k c.args.count count now new c.in_ok-count.ensures pushed),
+      branches_rest nodes c.args.at c.loop-edge.edge-iterator c.next.new.self (edge, k) is so.4,
+      skipped_next nodes c.args.at c.args.count k count edge c.args.waiting.now.items now new c.requires (branch_first nodes c.args.at c.loop-edge.edge-iterator c.next.new.self edge k is so.4) c.in_ok-count.ensures so.5 pushed,
     )
 
 pub returns-clause-enters : goal.returns-clause-enters

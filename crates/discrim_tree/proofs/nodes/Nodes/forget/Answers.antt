@@ -1,4 +1,4 @@
-use Rattle.std.proofs.Common.{◌∙◌, ap, sym, refl}
+use Rattle.std.proofs.Common.{◌∙◌, ap, sym}
 use Rattle.std.specs.Option.{option_copied_mut, is_some}
 use Rattle.slab.proofs.SlabLemmas.{Updates-with_value}
 use Rattle.discrim_tree.proofs.NodeSteps.{after_held, held_after, held_by, held_there, renumbered}

@@ -1,6 +1,6 @@
-use Rattle.std.proofs.Common.{◌∙◌, sym, subst, ◌≡◌, ℕ, Some}
+use Rattle.std.proofs.Common.{◌∙◌, sym, subst, ℕ}
 use Rattle.discrim_tree.specs.Trees.{AllUsedBut}
-use Rattle.discrim_tree.proofs.NodeSteps.{some_same, none_some}
+use Rattle.discrim_tree.proofs.NodeSteps.{some_same}
 use Rattle.discrim_tree.proofs.Trees.{alike_itself, key_linked, key_with, leads_less, less_alike, not_above, pruned_less, used_full, used_less}
 use Rattle.discrim_tree.proofs.nodes.Nodes.prune.Goals as goal
 

@@ -1,7 +1,5 @@
-use Rattle.std.proofs.Common.{◌∙◌, Some, None, subst, sym}
-use Rattle.std.specs.Prelude.{IfSome}
+use Rattle.std.proofs.Common.{◌∙◌, Some, None, subst}
 use Rattle.discrim_tree.specs.Nodes.{Ends}
-use Rattle.discrim_tree.specs.Trees.{Leads}
 use Rattle.discrim_tree.proofs.Trees.{leads_on, nothing_lost, paths_grown, paths_on}
 use Rattle.discrim_tree.proofs.nodes.Nodes.take.Goals as goal
 
