@@ -8,6 +8,8 @@ mod runs;
 #[cfg(test)]
 mod streams;
 #[cfg(test)]
+mod sweeps;
+#[cfg(test)]
 mod tests;
 #[cfg(test)]
 mod texts;

@@ -1,71 +1,62 @@
-// Each call of the streams refused in turn.
-use crate::runs::ended;
-use crate::texts::{
-    ACCEPTED, ALL_OF_THREE, CONCLUDED, INVOLUTION, INVOLUTIONS, MADE_TWO, PROVED, REPORT, SYLLOGISM,
-};
+// A run whose source or sink refuses a call, with a sink that takes one byte a call or seven.
+use crate::texts::{CONCLUDED, SYLLOGISM};
+use ladr_io::{MemClock, MemSink, MemSource};
+use ladr_top::run;
+use model_tables::Tables;
 use std::alloc::{AllocError, Global};
 use std::test::Fail;
 
-const READ_FAULT: &[u8] = b"ladr: read fault\n";
-
-// Behind how many bytes a refused read ends a run otherwise than this: what was to be read is left, and one line is written.
-fn wrong_read(alloc: Global, command: &str, input: &[u8]) -> Result<Option<usize>, AllocError> {
-    for taken in 0..input.len() + 1 {
-        let run = ended(alloc, command, input, taken as u64 + 1, 0, &[])?;
-        if !run.is(10, &input[taken..], READ_FAULT) {
-            return Ok(Some(taken));
-        }
-    }
-    Ok(None)
-}
-
-// Behind how many bytes a refused write ends a run otherwise than this: these bytes are written, and this is left to be read.
-fn wrong_write(
+// A run on the syllogism with one byte a read, of which the one with this number fails, and with one byte a write or seven, of which
+// the one with this number fails (none has number 0): the status, and what the sink then holds.
+fn refused(
     alloc: Global,
     command: &str,
-    input: &[u8],
-    left: &[u8],
-    output: &[u8],
-) -> Result<Option<usize>, AllocError> {
-    for (taken, _) in output.iter().enumerate() {
-        let run = ended(alloc, command, input, 0, taken as u64 + 1, &[])?;
-        if !run.is(11, left, &output[..taken]) {
-            return Ok(Some(taken));
-        }
+    read: u64,
+    by_seven: bool,
+    write: u64,
+) -> Result<(u8, Vec<u8>), AllocError> {
+    let mut words = Vec::new(alloc);
+    for word in command.split(' ') {
+        words.push(String::from_str(alloc, word)?)?;
     }
-    Ok(None)
+    let any = Tables::new(1, Vec::new(alloc));
+    let mut source = MemSource::with_piece(SYLLOGISM.to_vec(alloc)?, 1, vec![in alloc; read]?);
+    let piece = if by_seven { 7 } else { 1 };
+    let mut sink = MemSink::with_piece(alloc, piece, vec![in alloc; write]?);
+    let mut clock = MemClock::new(Vec::new(alloc));
+    let exit = run(alloc, &words, &any, &mut source, &mut sink, &mut clock);
+    Ok((exit.status, sink.bytes().to_vec(alloc)?))
 }
 
-// A run reads a byte a call and then its end, or nothing at all, and writes a byte a call: no later call is there to be refused.
 #[test]
-fn each_refused_call_ends_a_run(rt: HostRuntime) -> Result<(), Fail> {
-    for (command, input, reads, status, output) in [
-        ("check", PROVED, true, 0, ACCEPTED),
-        ("clausetester", INVOLUTION, true, 0, REPORT),
-        ("mace4 -n 3 -N 3 -m 10", INVOLUTIONS, true, 8, ALL_OF_THREE),
-        ("prover9", SYLLOGISM, true, 0, CONCLUDED),
-        ("made 2", INVOLUTIONS, false, 0, MADE_TWO),
-        (
-            "prover9 extra",
-            INVOLUTIONS,
-            false,
-            9,
-            b"ladr: no such command\n".as_slice(),
-        ),
+fn streams_that_refuse_end_a_run(rt: HostRuntime) -> Result<(), Fail> {
+    for (command, read, write, status, output) in [
+        ("prover9", 0, 0, 0, CONCLUDED),
+        ("prover9", 1, 0, 10, b"ladr: read fault\n".as_slice()),
+        ("prover9", 1, 1, 11, b""),
+        ("prover9 extra", 0, 0, 9, b"ladr: no such command\n"),
+        ("prover9 extra", 0, 1, 11, b""),
     ] {
-        let (left, read) = if reads {
-            (b"".as_slice(), input.len() as u64 + 2)
-        } else {
-            (input, 1)
-        };
-        if reads {
-            assert_eq!(rt; wrong_read(rt.alloc(), command, input)?, None, "{command}");
-        }
-        let wrong = wrong_write(rt.alloc(), command, input, left, output)?;
-        assert_eq!(rt; wrong, None, "{command}");
-        let write = output.len() as u64 + 1;
-        let run = ended(rt.alloc(), command, input, read, write, &[])?;
-        assert!(rt; run.is(status, left, output), "{command}");
+        let (ended, held) = refused(rt.alloc(), command, read, false, write)?;
+        assert_eq!(rt; ended, status, "{command}, read {read}, write {write}");
+        assert_eq!(rt;
+            held.as_slice(),
+            output,
+            "{command}, read {read}, write {write}"
+        );
+    }
+    // Of the writes of seven bytes each is refused in turn, for as long as there is one.
+    for (earlier, _) in CONCLUDED.iter().enumerate() {
+        let (status, held) = refused(rt.alloc(), "prover9", 0, true, earlier as u64 + 1)?;
+        let within = status == 11 && held.len() <= earlier.saturating_mul(7);
+        assert!(rt;
+            within || status == 0 && held.len() == CONCLUDED.len(),
+            "after {earlier} writes"
+        );
+        assert!(rt;
+            CONCLUDED.starts_with(held.as_slice()),
+            "after {earlier} writes"
+        );
     }
     Ok(())
 }

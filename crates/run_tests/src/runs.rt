@@ -20,7 +20,7 @@ impl Ended {
 }
 
 /// A run in which the read and the write of these numbers fail (none has number 0), and the clock gives these readings.
-pub fn ended(
+pub fn end_of(
     alloc: Global,
     command: &str,
     input: &[u8],

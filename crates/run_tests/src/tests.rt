@@ -1,5 +1,5 @@
 // How runs end whose streams refuse no call, or a few.
-use crate::runs::ended;
+use crate::runs::end_of;
 use crate::texts::{ACCEPTED, ALL_OF_THREE, INVOLUTION, INVOLUTIONS, MADE_TWO, PROVED, REPORT};
 use std::test::Fail;
 
@@ -43,7 +43,7 @@ fn runs_end_as_told(rt: HostRuntime) -> Result<(), Fail> {
             b"ladr: not accepted, line 5, cause 3\n",
         ),
     ] {
-        let run = ended(rt.alloc(), command, input, read, write, &[])?;
+        let run = end_of(rt.alloc(), command, input, read, write, &[])?;
         assert_eq!(rt; run.status, status, "{command}");
         assert_eq!(rt; run.held.as_slice(), output, "{command}");
     }
@@ -98,7 +98,7 @@ fn searches_end_as_told(rt: HostRuntime) -> Result<(), Fail> {
             b"% Domain size 90.\nladr: ground limit at size 90\n",
         ),
     ] {
-        let run = ended(rt.alloc(), command, input, 0, 0, &[])?;
+        let run = end_of(rt.alloc(), command, input, 0, 0, &[])?;
         assert_eq!(rt; run.held.as_slice(), output, "{command}");
         assert_eq!(rt; run.status, status, "{command}");
     }
@@ -168,7 +168,7 @@ fn clocks_are_heeded(rt: HostRuntime) -> Result<(), Fail> {
             b"% Given=1. Generated=2. Kept=1. Large=0. Proofs=0.\nSEARCH FAILED\n% Exit sos_empty.\n",
         ),
     ] {
-        let run = ended(rt.alloc(), command, INVOLUTIONS, 0, 0, readings)?;
+        let run = end_of(rt.alloc(), command, INVOLUTIONS, 0, 0, readings)?;
         let mut output = front.to_vec(rt.alloc())?;
         output.extend_from_slice(rest)?;
         assert_eq!(rt; run.held.as_slice(), output.as_slice(), "{command}");
