@@ -41,6 +41,7 @@ pub fn is_too_great(style: Style, name: &[u8]) -> bool
 }
 
 // A term without arguments.
+#[inline(always)]
 fn constant(
     alloc: Global,
     name: &[u8],
@@ -65,6 +66,7 @@ fn constant(
 
 #[tactic(auto, using(crate::proofs::TermLemmas::arity_is_length))]
 // The symbol of an application below a relation.
+#[inline(always)]
 fn function(name: &[u8], args: &Raws, style: Style, reader: &mut Reader) -> Result<Sym, AllocError>
     ensures read { OnOk result (reader.new.reading
         ≡ with_symbol name.now (arity_of (raws_of args.now)) Function
@@ -119,6 +121,7 @@ fn term(alloc: Global, raw: &Raw, style: Style, reader: &mut Reader) -> Result<T
 
 #[tactic(auto, using(crate::proofs::TermLemmas::kept_both))]
 /// The terms that are read from arguments.
+#[inline(always)]
 pub fn terms(
     alloc: Global,
     raws: &Raws,
@@ -139,6 +142,7 @@ pub fn terms(
 
 #[tactic(auto, using(crate::proofs::TermLemmas::kept_both, crate::proofs::TermLemmas::arity_is_length))]
 // A relation with its arguments.
+#[inline(always)]
 fn relation(
     alloc: Global,
     name: &[u8],
@@ -180,6 +184,7 @@ fn equation(
 
 #[tactic(auto, using(crate::proofs::TermLemmas::kept_both))]
 // A formula without arguments; `args` has none.
+#[inline(always)]
 fn sentence(
     alloc: Global,
     name: &[u8],
@@ -207,6 +212,7 @@ fn sentence(
 }
 
 // An equation, its denial, or a relation; the two terms are the arguments.
+#[inline(always)]
 fn comparison(
     alloc: Global,
     name: &[u8],
@@ -325,6 +331,7 @@ pub struct FormulaRead {
 }
 
 // The formula of a term, which is given back.
+#[inline(always)]
 fn formula_of(
     alloc: Global,
     raw: Raw,
@@ -339,6 +346,7 @@ fn formula_of(
 }
 
 // The formula of a term with what it breaks.
+#[inline(always)]
 fn whole_formula(
     alloc: Global,
     raw: Raw,

@@ -38,6 +38,7 @@ impl Model for Variables {
 
 impl Variables {
     /// No variable.
+    #[inline(always)]
     pub fn new(alloc: Global) -> Variables
         ensures { result ≡ [] }
     {
@@ -90,6 +91,7 @@ impl Variables {
 
     #[tactic(auto, using(crate::proofs::NumberingLemmas::names_more))]
     /// The names by number.
+    #[inline(always)]
     pub fn into_names(self, alloc: Global) -> Result<Names, AllocError>
         ensures { IfOk result (λ names. names ≡ names_of_variables self) }
     {

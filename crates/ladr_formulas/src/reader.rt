@@ -33,6 +33,7 @@ impl Model for Reader {
 }
 
 /// The symbol of a name, an arity and a kind, and whether the name and arity have the other kind.
+#[inline(always)]
 pub fn enter(
     symbols: &mut Symbols,
     name: &[u8],
@@ -69,6 +70,7 @@ pub fn is_free_name(style: Style, name: &[u8]) -> bool
 
 impl Reader {
     /// Behind these symbols nothing is read.
+    #[inline(always)]
     pub fn new(alloc: Global, symbols: Symbols) -> Reader
         ensures { result ≡ record { reading = unread symbols; scope = [] } }
     {
@@ -91,6 +93,7 @@ impl Reader {
     }
 
     /// The symbol of a name, an arity and a kind.
+    #[inline(always)]
     pub fn enter(&mut self, name: &[u8], arity: usize, kind: Kind) -> Result<Sym, AllocError>
         ensures read { OnOk result (self.new ≡ record self.old
             { reading = with_symbol name.now arity kind self.old.reading }) }
@@ -106,6 +109,7 @@ impl Reader {
 
     #[tactic(auto, unfolding(crate::specs::Formulas::named_variable))]
     /// The number of the variable that a name without arguments is, if it is one.
+    #[inline(always)]
     pub fn variable(
         &mut self,
         alloc: Global,
@@ -173,6 +177,7 @@ impl Reader {
     }
 
     /// The names of the variables, which are forgotten.
+    #[inline(always)]
     pub fn take_names(&mut self, alloc: Global) -> Result<Names, AllocError>
         ensures names { IfOk result (λ names. names
             ≡ names_of_variables self.old.reading.variables) }
@@ -203,6 +208,7 @@ impl Reader {
     }
 
     /// The symbols.
+    #[inline(always)]
     pub fn into_symbols(self) -> Symbols
         ensures { result ≡ self.reading.symbols }
     {

@@ -1,6 +1,6 @@
 // The classes of bytes.
 ghost use Rattle.std.specs.Prelude.{◌≡◌};
-ghost use Rattle.ladr_lex.specs.Bytes.{is_blank, is_ordinary, is_special};
+ghost use Rattle.ladr_lex.specs.Bytes.{is_ordinary, is_special};
 ghost use Rattle.ladr_lex.specs.Starts.{start_of, kind_with, kind_in};
 
 use crate::token::TokenKind;
@@ -41,49 +41,26 @@ impl Class {
 }
 
 /// Whether a byte is a letter, a digit, `_` or `$`.
-#[tactic(auto, unfolding(crate::specs::Bytes::is_ordinary))]
+#[tactic(auto, unfolding(crate::specs::Starts::start_of, crate::specs::Bytes::is_blank, crate::specs::Bytes::is_ordinary, crate::specs::Bytes::is_special))]
+#[inline(always)]
 pub fn is_ordinary(byte: u8) -> bool
     ensures { result ≡ is_ordinary byte }
 {
-    byte.is_ascii_alphanumeric() || byte == b'_' || byte == b'$'
+    matches!(start_of(byte), TokenStart::Word)
 }
 
 /// Whether a byte is special; `'`, which is a token by itself, isn't meant.
-#[tactic(auto, unfolding(crate::specs::Bytes::is_special))]
+#[tactic(auto, unfolding(crate::specs::Starts::start_of, crate::specs::Bytes::is_blank, crate::specs::Bytes::is_ordinary, crate::specs::Bytes::is_special))]
+#[inline(always)]
 pub fn is_special(byte: u8) -> bool
     ensures { result ≡ is_special byte }
 {
-    matches!(
-        byte,
-        b'+' | b'-'
-            | b'*'
-            | b'/'
-            | b'\\'
-            | b'^'
-            | b'<'
-            | b'>'
-            | b'='
-            | b'~'
-            | b'?'
-            | b'@'
-            | b'&'
-            | b'|'
-            | b'!'
-            | b'#'
-            | b';'
-            | b'`'
-    )
-}
-
-#[tactic(auto, unfolding(crate::specs::Bytes::is_blank))]
-fn is_blank(byte: u8) -> bool
-    ensures { result ≡ is_blank byte }
-{
-    matches!(byte, b'\t' | b'\n' | b'\r' | b' ')
+    matches!(start_of(byte), TokenStart::Sign)
 }
 
 /// What begins with a byte.
-#[tactic(auto, unfolding(crate::specs::Starts::start_of))]
+#[tactic(auto, unfolding(crate::specs::Starts::start_of, crate::specs::Bytes::is_blank, crate::specs::Bytes::is_ordinary, crate::specs::Bytes::is_special))]
+#[inline(always)]
 pub fn start_of(byte: u8) -> TokenStart
     ensures { result ≡ start_of byte }
 {
@@ -92,9 +69,26 @@ pub fn start_of(byte: u8) -> TokenStart
         b')' => TokenStart::Single(TokenKind::Close),
         b',' => TokenStart::Single(TokenKind::Comma),
         b'.' => TokenStart::Single(TokenKind::Stop),
-        _ if is_blank(byte) => TokenStart::Blank,
-        _ if is_ordinary(byte) => TokenStart::Word,
-        _ if is_special(byte) => TokenStart::Sign,
+        b'\t' | b'\n' | b'\r' | b' ' => TokenStart::Blank,
+        b'a'..=b'z' | b'A'..=b'Z' | b'0'..=b'9' | b'_' | b'$' => TokenStart::Word,
+        b'+'
+        | b'-'
+        | b'*'
+        | b'/'
+        | b'\\'
+        | b'^'
+        | b'<'
+        | b'>'
+        | b'='
+        | b'~'
+        | b'?'
+        | b'@'
+        | b'&'
+        | b'|'
+        | b'!'
+        | b'#'
+        | b';'
+        | b'`' => TokenStart::Sign,
         b'"' => TokenStart::Quote,
         b'%' => TokenStart::Percent,
         b'\'' => TokenStart::Single(TokenKind::Special),
@@ -105,6 +99,7 @@ pub fn start_of(byte: u8) -> TokenStart
 }
 
 /// The kind of a token's bytes.
+#[inline(always)]
 pub fn kind_in(text: &[u8]) -> TokenKind
     ensures { result ≡ kind_in text.now }
 {
@@ -115,6 +110,7 @@ pub fn kind_in(text: &[u8]) -> TokenKind
 }
 
 // The kind of a token that begins so, with the bytes behind its first.
+#[inline(always)]
 fn kind_with(start: TokenStart, behind: &[u8]) -> TokenKind
     ensures { result ≡ kind_with start behind.now }
 {

@@ -30,6 +30,7 @@ pub fn item_from<'a>(
 }
 
 // Adds the tokens from a place on up to the next full stop, and answers where that stands, or where the text ends.
+#[inline(always)]
 fn stop_from<'a>(
     found: &mut Vec<Token<'a>>,
     text: &'a Text<'a>,

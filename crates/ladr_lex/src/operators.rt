@@ -106,6 +106,7 @@ impl Ops {
     }
 
     /// The operator of this name that stands before its argument.
+    #[inline(always)]
     pub fn prefix_of(&self, name: &[u8]) -> Option<Operator>
         ensures { result ≡ if_prefix (operator_of self.now name.now) }
     {
@@ -114,6 +115,7 @@ impl Ops {
     }
 
     /// The operator of this name that stands between its arguments or behind its argument.
+    #[inline(always)]
     pub fn after_of(&self, name: &[u8]) -> Option<Operator>
         ensures { result ≡ if_after (operator_of self.now name.now) }
     {
@@ -212,6 +214,7 @@ impl Ops {
     }
 
     #[tactic(auto, using(crate::proofs::OperatorLemmas::found_row))]
+    #[inline(always)]
     fn operator_of(&self, name: &[u8]) -> Option<Operator>
         ensures { result ≡ operator_of self.now name.now }
     {

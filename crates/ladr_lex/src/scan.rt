@@ -93,6 +93,7 @@ fn whole_kind(text: &[u8]) -> Option<TokenKind>
 
 /// Adds the token that begins at a place, if one does, with each `-` that was cut off its end, and answers the place behind
 /// them. A full stop is added where one stands at the place, and nowhere else.
+#[inline(always)]
 pub fn step<'a>(
     found: &mut Vec<Token<'a>>,
     text: &'a Text<'a>,
@@ -142,6 +143,7 @@ fn dashes<'a>(
 }
 
 /// Adds the token that begins at a place and ends before another.
+#[inline(always)]
 pub fn add<'a>(
     found: &mut Vec<Token<'a>>,
     text: &'a Text<'a>,
@@ -171,6 +173,7 @@ pub fn add<'a>(
 }
 
 // What begins at a place: its kind, if it is a token, and its end.
+#[inline(always)]
 fn piece_at(bytes: &[u8], at: usize) -> (Option<TokenKind>, usize)
     requires { at < length bytes.now }
     ensures kind { result.0 ≡ kind_beginning (slice_index bytes.now at) (drop (at + 1) bytes.now) }

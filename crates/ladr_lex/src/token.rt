@@ -43,6 +43,7 @@ impl<'a> Token<'a> {
 
     /// What it stands for in the text, quotes included.
     #[tactic(auto, unfolding(crate::specs::Tokens::token_text))]
+    #[inline(always)]
     pub fn text(&self) -> &'a [u8]
         ensures { result.now ≡ token_text self.now }
     {
@@ -52,6 +53,7 @@ impl<'a> Token<'a> {
 
     /// Its kind.
     #[tactic(auto, unfolding(crate::specs::Tokens::token_kind))]
+    #[inline(always)]
     pub fn kind(&self) -> TokenKind
         ensures { result ≡ token_kind self.now }
     {

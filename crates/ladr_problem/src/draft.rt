@@ -35,6 +35,7 @@ impl Draft {
     }
 
     /// Adds a formula to those of its list; a weight is kept for hints alone.
+    #[inline(always)]
     pub fn add(
         &mut self,
         list: FormulaList,

@@ -72,6 +72,7 @@ fn least_misuse(
 
 impl Draft {
     /// Takes a formula of a list; where its list has no known name it is read alone.
+    #[inline(always)]
     pub fn take_formula(
         &mut self,
         alloc: Global,
@@ -112,6 +113,7 @@ impl Draft {
     }
 
     // Takes a formula that was read behind so many symbols.
+    #[inline(always)]
     fn settle(
         &mut self,
         alloc: Global,
@@ -145,6 +147,7 @@ impl Draft {
     }
 
     // Adds a formula, unless it breaks a row.
+    #[inline(always)]
     fn judge(
         &mut self,
         alloc: Global,

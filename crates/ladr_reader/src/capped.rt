@@ -70,6 +70,7 @@ impl Model for Arguments {
 
 impl Arguments {
     /// No arguments.
+    #[inline(always)]
     pub fn new(alloc: Global) -> Arguments
         ensures { result ≡ Some [] }
     {
@@ -80,6 +81,7 @@ impl Arguments {
     }
 
     /// Whether there is one.
+    #[inline(always)]
     pub fn is_one(&self) -> bool
         ensures { result ≡ is_one_argument self.now }
     {
@@ -91,6 +93,7 @@ impl Arguments {
 
     /// One more argument, at the end.
     #[tactic(auto, using(crate::proofs::Levels::depth_of_append))]
+    #[inline(always)]
     pub fn with(self, argument: Capped) -> Result<Arguments, AllocError>
         ensures { IfOk result (λ arguments. arguments ≡ with_last_argument self argument) }
     {
@@ -117,6 +120,7 @@ impl Arguments {
 
 impl Capped {
     /// A name with arguments.
+    #[inline(always)]
     pub fn application(build: Build, name: Name, arguments: Arguments) -> Capped
         ensures { result ≡ application_within build.most name arguments }
     {
@@ -153,6 +157,7 @@ impl Capped {
     }
 
     /// The tree, if it is there.
+    #[inline(always)]
     pub fn into_tree(self) -> Option<Raw>
         ensures { option_map raw_of result ≡ self }
     {
@@ -173,6 +178,7 @@ impl Capped {
 
 // One more tree, at the end.
 #[tactic(auto, using(crate::proofs::Disjunctions::raws_append))]
+#[inline(always)]
 fn with_tree(trees: Raws, tree: Raw) -> Result<Raws, AllocError>
     ensures { IfOk result (λ more. more ≡ trees ++ raw_of tree ∷ []) }
 {
@@ -182,6 +188,7 @@ fn with_tree(trees: Raws, tree: Raw) -> Result<Raws, AllocError>
 }
 
 // The same trees with room for one more: most names have one or two arguments, and there may be millions of them.
+#[inline(always)]
 fn with_room(items: Vec<Raw>) -> Result<Vec<Raw>, AllocError>
     ensures { IfOk result (λ roomy. roomy.items ≡ items.items) }
 {

@@ -45,6 +45,7 @@ impl Model for Disjuncts {
 
 impl Disjuncts {
     /// A tree as its only disjunct.
+    #[inline(always)]
     pub fn of(build: Build, tree: Capped) -> Disjuncts
         ensures { result ≡ single tree }
     {
@@ -57,6 +58,7 @@ impl Disjuncts {
     }
 
     /// A name without arguments.
+    #[inline(always)]
     pub fn atom(build: Build, name: Name) -> Disjuncts
         ensures { result ≡ disjuncts_within build.most (named name no_raws) }
     {
@@ -65,6 +67,7 @@ impl Disjuncts {
     }
 
     /// A name with arguments, of which the last is this one.
+    #[inline(always)]
     pub fn finished(
         build: Build,
         name: Name,
@@ -98,6 +101,7 @@ impl Disjuncts {
     }
 
     // The disjuncts behind another one, which is the argument.
+    #[inline(never)]
     fn behind(self, build: Build, first: Arguments) -> Result<Disjuncts, AllocError>
         requires { is_one_argument first ≡ true }
         ensures { IfOk result (λ term. term ≡ argument_in_front first self) }
@@ -128,6 +132,7 @@ impl Disjuncts {
     }
 
     /// The tree of the term.
+    #[inline(always)]
     pub fn into_whole(self, build: Build) -> Result<Capped, AllocError>
         ensures { IfOk result (λ tree. tree ≡ whole_of build.most self) }
     {
@@ -181,6 +186,7 @@ impl Disjuncts {
 }
 
 // The tree of disjuncts: the last, and those before it, the last of them first.
+#[inline(always)]
 fn nested(build: Build, before: Vec<Raw>, last: Raw) -> Result<Raw, AllocError>
     ensures { IfOk result (λ tree. disjunction_tree (in_order (raw_list before.items) (raw_of last))
         ≡ Some (raw_of tree)) }

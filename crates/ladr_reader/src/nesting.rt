@@ -25,6 +25,7 @@ impl Parentheses {
     }
 
     /// One token more.
+    #[inline(always)]
     pub fn note(&mut self, token: &Token)
         requires { self.old.unclosed + 1 < 2 ^ 64 }
         ensures unclosed { self.new.unclosed ≤ self.old.unclosed + 1 }

@@ -107,6 +107,7 @@ fn read_disjuncts(
 }
 
 // The same, but nothing as soon as so much waits that an item can only be too deep: what was built is freed then.
+#[inline(always)]
 fn read_shallow(
     build: Build,
     ops: &Ops,

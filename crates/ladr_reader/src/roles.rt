@@ -36,6 +36,7 @@ pub enum Follow {
 
 impl TermStart {
     /// What the token is before an operand.
+    #[inline(always)]
     pub fn of(alloc: Global, ops: &Ops, token: &Token) -> Result<TermStart, AllocError>
         ensures { IfOk result (λ start. start ≡ start_of (table_of ops.now) (lexeme_of token.now)) }
     {
@@ -68,6 +69,7 @@ impl TermStart {
 
 impl Follow {
     /// What the token is behind a term.
+    #[inline(always)]
     pub fn of(alloc: Global, ops: &Ops, token: &Token) -> Result<Follow, AllocError>
         ensures { IfOk result (λ follow. follow ≡ follow_of (table_of ops.now)
             (lexeme_of token.now)) }

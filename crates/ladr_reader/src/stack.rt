@@ -102,6 +102,7 @@ impl Stack {
     }
 
     /// One more frame, the innermost.
+    #[inline(always)]
     pub fn push(&mut self, frame: Frame) -> Result<(), AllocError>
         ensures { IfOk result (λ _. self.new ≡ frame ∷ self.old) }
     {
@@ -124,6 +125,7 @@ impl Stack {
     }
 
     /// Whether a term of precedence `own` may stand on top of what waits.
+    #[inline(always)]
     pub fn allows(&self, own: u16, growing: bool) -> bool
         ensures { result ≡ may_stand_on self.now own growing }
     {
@@ -134,6 +136,7 @@ impl Stack {
     }
 
     /// Whether the token ends the last argument of what is innermost.
+    #[inline(always)]
     pub fn is_closed_by(&self, follow: &Follow) -> bool
         ensures { result ≡ last_is_closed follow.now self.now }
     {
@@ -144,6 +147,7 @@ impl Stack {
     }
 
     /// The innermost frame, taken off.
+    #[inline(always)]
     pub fn pop(&mut self) -> Option<Frame>
         ensures { MatchOption result ((self.old ≡ []) × (self.new ≡ []))
             (λ frame. self.old ≡ frame ∷ self.new) }
@@ -167,6 +171,7 @@ impl Stack {
 }
 
 // Gives back room that isn't needed any more, since what a long clause becomes needs it.
+#[inline(never)]
 fn give_back(held: &mut Vec<Held>)
     ensures { held.new.items ≡ held.old.items }
 {
@@ -178,6 +183,7 @@ fn give_back(held: &mut Vec<Held>)
 
 impl Frame {
     // The levels around what stands inside of it, where there are so many around it, at least.
+    #[inline(always)]
     fn levels_inside(&self, around: u32, literals: bool) -> u32
         ensures { (outside : List Frame) → around ≤ levels_around literals outside →
             result ≤ levels_around literals (self.now ∷ outside) }
@@ -194,6 +200,7 @@ impl Frame {
     }
 
     // Whether a term of precedence `own` may stand on top of it.
+    #[inline(always)]
     fn allows(&self, own: u16, growing: bool) -> bool
         ensures { (outside : List Frame) → result ≡ may_stand_on (self.now ∷ outside) own growing }
     {
@@ -204,6 +211,7 @@ impl Frame {
     }
 
     // Whether the token ends its last argument.
+    #[inline(always)]
     fn is_closed_by(&self, follow: &Follow) -> bool
         ensures { (outside : List Frame) → result ≡ last_is_closed follow.now (self.now ∷ outside) }
     {
@@ -226,6 +234,7 @@ fn one_level_more(around: u32, literals: bool, name: &[u8]) -> u32
 }
 
 // Whether a term of precedence `own` may stand on top of what is held.
+#[inline(always)]
 fn allows(held: &[Held], own: u16, growing: bool) -> bool
     ensures { result ≡ may_stand_on (frames_of (reverse held.now)) own growing }
 {
@@ -236,6 +245,7 @@ fn allows(held: &[Held], own: u16, growing: bool) -> bool
 }
 
 // Whether the token ends the last argument of what is held innermost.
+#[inline(always)]
 fn is_closed_by(held: &[Held], follow: &Follow) -> bool
     ensures { result ≡ last_is_closed follow.now (frames_of (reverse held.now)) }
 {

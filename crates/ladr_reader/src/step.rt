@@ -16,6 +16,7 @@ use ladr_lex::{Operator, Ops, Token};
 use std::alloc::AllocError;
 
 /// Where the reader stands behind the token; nothing where no term begins so.
+#[inline(always)]
 pub fn step(
     build: Build,
     ops: &Ops,
@@ -46,6 +47,7 @@ pub fn step(
 }
 
 // Before an operand.
+#[inline(always)]
 fn begin(stack: &mut Stack, start: TermStart) -> Result<Option<Standing>, AllocError>
     ensures { IfOk result (λ place. standing place stack.new ≡ begin start stack.old) }
 {
@@ -79,6 +81,7 @@ fn begin(stack: &mut Stack, start: TermStart) -> Result<Option<Standing>, AllocE
 }
 
 // Behind a quantifier's word.
+#[inline(always)]
 fn bind(
     stack: &mut Stack,
     quantifier: Quantifier,
@@ -100,6 +103,7 @@ fn bind(
 }
 
 // Behind a symbol: its arguments begin, or it is an atom.
+#[inline(always)]
 fn behind_name(
     build: Build,
     stack: &mut Stack,
@@ -122,6 +126,7 @@ fn behind_name(
 }
 
 // Behind a term: the token ends what waits as far as it may, and acts then.
+#[inline(always)]
 fn after(
     build: Build,
     stack: &mut Stack,
@@ -140,6 +145,7 @@ fn after(
 }
 
 // Takes off what is innermost, if the token ends its last argument.
+#[inline(always)]
 fn take_closed(build: Build, stack: &mut Stack, follow: &Follow) -> Option<(Part, u16)>
     ensures shorter { IfSome result (λ _. length stack.new < length stack.old) }
     ensures same { MatchOption result
@@ -161,6 +167,7 @@ fn take_closed(build: Build, stack: &mut Stack, follow: &Follow) -> Option<(Part
 }
 
 // What the token does behind a term, once it has ended what it may.
+#[inline(always)]
 fn act(
     build: Build,
     stack: &mut Stack,
@@ -189,6 +196,7 @@ fn act(
 }
 
 // Behind a term and an operator.
+#[inline(always)]
 fn behind_operator(
     build: Build,
     stack: &mut Stack,
@@ -215,6 +223,7 @@ fn behind_operator(
 }
 
 // Behind a term and a closing parenthesis.
+#[inline(always)]
 fn behind_close(
     build: Build,
     stack: &mut Stack,
@@ -235,6 +244,7 @@ fn behind_close(
 }
 
 // Behind a term and a comma.
+#[inline(always)]
 fn behind_comma(
     build: Build,
     stack: &mut Stack,
@@ -256,6 +266,7 @@ fn behind_comma(
 }
 
 // Behind a term and a full stop.
+#[inline(always)]
 fn behind_stop(
     stack: &mut Stack,
     term: Disjuncts,
@@ -271,6 +282,7 @@ fn behind_stop(
 }
 
 // The term that a part becomes with its last argument.
+#[inline(always)]
 fn whole(build: Build, part: Part, last: Disjuncts) -> Result<Disjuncts, AllocError>
     ensures { IfOk result (λ term. term ≡ whole build.most part last) }
 {

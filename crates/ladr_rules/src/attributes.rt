@@ -19,6 +19,7 @@ pub struct LabelledFormula {
 
 impl LabelledFormula {
     /// The term taken apart.
+    #[inline(always)]
     pub fn of(raw: Raw) -> LabelledFormula
         ensures formula { raw_of result.formula ≡ (attributed (raw_of raw)).formula }
         ensures label { option_map raw_of result.notes.label
@@ -64,6 +65,7 @@ impl Notes {
     }
 
     // Of no attribute.
+    #[inline(always)]
     fn none() -> Notes
         ensures { result ≡ record { label = None; misused = false; hint_weight = None } }
     {
@@ -112,6 +114,7 @@ enum Split {
 }
 
 impl Split {
+    #[inline(always)]
     fn of(raw: Raw) -> Split
         ensures { IsSplit (raw_of raw) result }
     {
