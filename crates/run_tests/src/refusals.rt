@@ -48,11 +48,9 @@ fn streams_that_refuse_end_a_run(rt: HostRuntime) -> Result<(), Fail> {
     // Of the writes of seven bytes each is refused in turn, for as long as there is one.
     for (earlier, _) in CONCLUDED.iter().enumerate() {
         let (status, held) = refused(rt.alloc(), "prover9", 0, true, earlier as u64 + 1)?;
-        let within = status == 11 && held.len() <= earlier.saturating_mul(7);
-        assert!(rt;
-            within || status == 0 && held.len() == CONCLUDED.len(),
-            "after {earlier} writes"
-        );
+        let whole = held.len() == CONCLUDED.len();
+        assert_eq!(rt; status, if whole { 0 } else { 11 }, "after {earlier} writes");
+        assert!(rt; held.len() <= earlier.saturating_mul(7), "after {earlier} writes");
         assert!(rt;
             CONCLUDED.starts_with(held.as_slice()),
             "after {earlier} writes"
