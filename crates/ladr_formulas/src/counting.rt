@@ -3,7 +3,7 @@ ghost use Rattle.std.specs.Prelude.{◌≡◌, List, ◌∷◌, [], ◌++◌, �
 ghost use Rattle.std.specs.Str.{bytes_eq};
 ghost use Rattle.fol_core.specs.RawTree.{RawTrees, raws_of, more_raws, no_raws};
 ghost use Rattle.fol_core.specs.RawView.{raw_of};
-ghost use Rattle.fol_core.specs.SymbolTable.{Symbol, symbol};
+ghost use Rattle.fol_core.specs.SymbolTable.{Symbol, symbol, KeepsNumbers};
 ghost use Rattle.fol_core.specs.declared.symbols.Kind.TheVariants.{Function};
 ghost use Rattle.ladr_lex.specs.declared.limits.TheConstants.{MOST_SYMBOLS};
 ghost use Rattle.ladr_formulas.specs.Counting.{is_wide, names_bound, IsCounted};
@@ -49,8 +49,9 @@ fn is_wide(raw: &Raw) -> bool
 
 // Enters a symbol, and tells whether there aren't too many yet.
 fn count(symbols: &mut Symbols, name: &[u8], arity: usize, kind: Kind) -> Result<bool, AllocError>
-    ensures { IfOk result (λ few. IsCounted symbols.old (symbol name.now arity kind ∷ [])
+    ensures counted { IfOk result (λ few. IsCounted symbols.old (symbol name.now arity kind ∷ [])
         symbols.new few) }
+    ensures kept { KeepsNumbers symbols.old symbols.new }
 {
     let _ = enter(symbols, name, arity as u64, kind)?;
     Ok(symbols.len() <= MOST_SYMBOLS)
@@ -64,8 +65,9 @@ fn count_head(
     args: &Raws,
     kind: Kind,
 ) -> Result<bool, AllocError>
-    ensures { IfOk result (λ few. IsCounted symbols.old
+    ensures counted { IfOk result (λ few. IsCounted symbols.old
         (symbol name.now (arity_of (raws_of args.now)) kind ∷ []) symbols.new few) }
+    ensures kept { KeepsNumbers symbols.old symbols.new }
 {
     count(symbols, name, args.len(), kind)
 }
@@ -85,9 +87,10 @@ fn count_constant(
     name: &[u8],
     symbols: &mut Symbols,
 ) -> Result<bool, AllocError>
-    ensures { IfOk result (λ few. IsCounted symbols.old
+    ensures counted { IfOk result (λ few. IsCounted symbols.old
         (if stands_for_variable style (names_bound scope.now) name.now || is_element style name.now
         then [] else symbol name.now 0 Function ∷ []) symbols.new few) }
+    ensures kept { KeepsNumbers symbols.old symbols.new }
 {
     if is_variable(style, scope, name) || is_element(style, name) {
         return Ok(true);
@@ -96,6 +99,7 @@ fn count_constant(
 }
 
 // A term below a relation.
+#[tactic(auto, using(crate::proofs::TermLemmas::kept_both))]
 fn count_term(
     alloc: Global,
     raw: &Raw,
@@ -106,6 +110,7 @@ fn count_term(
     ensures counted { IfOk result (λ few. IsCounted symbols.old
         (symbols_of_term style (names_bound scope.old) (raw_of raw.now)) symbols.new few) }
     ensures scope { IfOk result (λ few. few ≡ true → scope.new ≡ scope.old) }
+    ensures kept { KeepsNumbers symbols.old symbols.new }
 {
     match raw {
         Raw::Quant(_, name, body) => {
@@ -132,6 +137,7 @@ fn count_term(
 }
 
 // A relation with its arguments.
+#[tactic(auto, using(crate::proofs::TermLemmas::kept_both))]
 fn count_relation(
     alloc: Global,
     name: &[u8],
@@ -143,6 +149,7 @@ fn count_relation(
     ensures counted { IfOk result (λ few. IsCounted symbols.old (symbols_of_relation style
         (names_bound scope.old) name.now (raws_of args.now)) symbols.new few) }
     ensures scope { IfOk result (λ few. few ≡ true → scope.new ≡ scope.old) }
+    ensures kept { KeepsNumbers symbols.old symbols.new }
 {
     if !count_head(symbols, name, args, Kind::Relation)? {
         return Ok(false);
@@ -162,8 +169,9 @@ fn count_sentence(
     name: &[u8],
     symbols: &mut Symbols,
 ) -> Result<bool, AllocError>
-    ensures { IfOk result (λ few. IsCounted symbols.old
+    ensures counted { IfOk result (λ few. IsCounted symbols.old
         (symbols_of_sentence style (names_bound scope.now) name.now) symbols.new few) }
+    ensures kept { KeepsNumbers symbols.old symbols.new }
 {
     if is_variable(style, scope, name) || name == b"$T".as_slice() || name == b"$F".as_slice() {
         return Ok(true);
@@ -172,6 +180,7 @@ fn count_sentence(
 }
 
 // The two sides of an equation.
+#[tactic(auto, using(crate::proofs::TermLemmas::kept_both))]
 fn count_sides(
     alloc: Global,
     left: &Raw,
@@ -184,6 +193,7 @@ fn count_sides(
         (symbols_of_term style (names_bound scope.old) (raw_of left.now)
         ++ symbols_of_term style (names_bound scope.old) (raw_of right.now)) symbols.new few) }
     ensures scope { IfOk result (λ few. few ≡ true → scope.new ≡ scope.old) }
+    ensures kept { KeepsNumbers symbols.old symbols.new }
 {
     if !count_term(alloc, left, style, scope, symbols)? {
         return Ok(false);
@@ -213,6 +223,7 @@ fn count_comparison(
     ensures counted { IfOk result (λ few. IsCounted symbols.old (symbols_compared style
         (names_bound scope.old) name.now (raw_of left.now) (raw_of right.now)) symbols.new few) }
     ensures scope { IfOk result (λ few. few ≡ true → scope.new ≡ scope.old) }
+    ensures kept { KeepsNumbers symbols.old symbols.new }
 {
     if is_equality(name) {
         count_sides(alloc, left, right, style, scope, symbols)
@@ -222,6 +233,7 @@ fn count_comparison(
 }
 
 // A formula.
+#[tactic(auto, using(crate::proofs::TermLemmas::kept_both))]
 fn count_formula(
     alloc: Global,
     raw: &Raw,
@@ -232,6 +244,7 @@ fn count_formula(
     ensures counted { IfOk result (λ few. IsCounted symbols.old
         (occurring style (names_bound scope.old) (raw_of raw.now)) symbols.new few) }
     ensures scope { IfOk result (λ few. few ≡ true → scope.new ≡ scope.old) }
+    ensures kept { KeepsNumbers symbols.old symbols.new }
 {
     match raw {
         Raw::Quant(_, name, body) => {
@@ -289,8 +302,10 @@ pub fn brings_too_many(
     mode: Mode,
     prolog: bool,
 ) -> Result<bool, AllocError>
-    ensures { IfOk result (λ many. many ≡ nat_lt MOST_SYMBOLS (length
+    ensures many { IfOk result (λ many. many ≡ nat_lt MOST_SYMBOLS (length
         (formula_reading (style_of mode prolog) symbols.old (raw_of raw.now)).reading.symbols)) }
+    // Whatever the answer, the old symbols keep their numbers.
+    ensures kept { KeepsNumbers symbols.old symbols.new }
 {
     let mut scope = Scope::new(alloc);
     if count_formula(alloc, raw, style_of(mode, prolog), &mut scope, symbols)? {

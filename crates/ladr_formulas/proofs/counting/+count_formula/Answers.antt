@@ -5,7 +5,7 @@ use Rattle.fol_core.specs.declared.raw.Raw.{Raw}
 use Rattle.ladr_formulas.specs.Counting.{names_bound}
 use Rattle.ladr_formulas.specs.Formulas.{Bound, connective_of}
 use Rattle.ladr_formulas.specs.Occurring.{occurring, symbols_of_relation}
-use Rattle.ladr_formulas.proofs.TermLemmas.{two_raws, length_raw_list}
+use Rattle.ladr_formulas.proofs.TermLemmas.{two_raws, length_raw_list, kept_both}
 use Rattle.ladr_formulas.proofs.CountingLemmas.{stops_as, goes_on_ok, scope_kept_ok, joined_here, reversed_here, many_here, same_counted}
 use Rattle.ladr_formulas.proofs.counting.+count_formula.Goals as goal
 
@@ -30,6 +30,7 @@ returns-then-not-branch-2 t c =
           (ap (λ (r : Raw). occurring st names (raw_of r)) c.in-App.is ∙ joined_here st names c.in-App.name c.in-App.args _ _ c.in-Some.connective two known c.in_default-connective.not-ThenIf)
           c.if-not-branch-2.true c.in_ok-count_formula-in_default-connective.ensures.counted;
       scope = λ e. absurd (cc);
+      kept = c.in_ok-count_formula-in_default-connective.ensures.kept;
     }
 
 pub returns-else-not-branch-clause-counted : goal.returns-else-not-branch-clause-counted
@@ -57,6 +58,7 @@ returns-else-not-branch-2 t c =
           ap (λ (s : List Bound). one ++ occurring st (names_bound s) (raw_of c.second-item.result)) (sym (c.in_ok-count_formula-in_default-connective.ensures.scope c.if-not-branch-2.false)))
           c.if-not-branch-2.false c.in_ok-count_formula-in_default-connective.ensures.counted c.count_formula-in_default-connective-2.ensures.counted;
       scope = scope_kept_ok c.in_ok-count_formula-in_default-connective.field-0 c.count_formula-in_default-connective-2.result _ _ _ c.if-not-branch-2.false c.in_ok-count_formula-in_default-connective.ensures.scope c.count_formula-in_default-connective-2.ensures.scope;
+      kept = kept_both _ _ _ c.in_ok-count_formula-in_default-connective.ensures.kept c.count_formula-in_default-connective-2.ensures.kept;
     }
 
 pub returns-in_default-clause-counted : goal.returns-in_default-clause-counted

@@ -8,6 +8,7 @@ use Rattle.ladr_formulas.specs.Counting.{names_bound}
 use Rattle.ladr_formulas.specs.Formulas.{Bound, arity_of}
 use Rattle.ladr_formulas.specs.Occurring.{symbols_of_term, symbols_of_terms}
 use Rattle.ladr_formulas.proofs.CountingLemmas.{applied, argument_here, stops_as, loop_stops, loop_goes_on, loop_ends, scope_kept, none_left}
+use Rattle.ladr_formulas.proofs.TermLemmas.{kept_both}
 use Rattle.ladr_formulas.proofs.counting.+count_term.Goals as goal
 
 pub returns-then-not-branch-clause-counted : goal.returns-then-not-branch-clause-counted
@@ -19,7 +20,7 @@ returns-then-not-branch-clause-counted t c =
     stops_as c.args.symbols.now (symbol c.bytes-in-App.result.now arity Function ∷ []) rest _ _ c.in_ok-count_head-in-App.field-0
     (ap (λ (r : Raw). symbols_of_term st names (raw_of r)) c.in-App.is ∙ applied st names c.in-App.name c.in-App.args (omega arith) ∙
     ap (λ (n : List ℕ). symbol n arity Function ∷ rest) (sym c.bytes-in-App.ensures))
-    c.if-not-branch.true c.in_ok-count_head-in-App.ensures
+    c.if-not-branch.true c.in_ok-count_head-in-App.ensures.counted
 
 pub returns-then-not-branch-2-clause-counted : goal.returns-then-not-branch-2-clause-counted
 returns-then-not-branch-2-clause-counted t c =
@@ -33,7 +34,7 @@ returns-then-not-branch-2-clause-counted t c =
     loop_stops c.args.symbols.now (symbol c.bytes-in-App.result.now arity Function ∷ []) c.count_head.new.symbols rest c.loop-arg.symbols _ later _ _ _ c.in_ok-count_head-in-App.field-0 c.in_ok-count_term-in-App.field-0
     (ap (λ (r : Raw). symbols_of_term st names (raw_of r)) c.in-App.is ∙ applied st names c.in-App.name c.in-App.args (omega arith) ∙
     (λ i. symbol (sym c.bytes-in-App.ensures i) arity Function ∷ symbols_of_terms st names (raws_of (sym same i))))
-    c.if-not-branch.false c.in_ok-count_head-in-App.ensures c.loop-arg.invariant.0
+    c.if-not-branch.false c.in_ok-count_head-in-App.ensures.counted c.loop-arg.invariant.0
     (argument_here st names c.arg-item.result items c.loop-arg.arg-index c.loop-arg-test.true c.arg-item.is ∙
     ap (λ (s : List Bound). symbols_of_term st (names_bound s) (raw_of c.arg-item.result) ++ later) (sym c.loop-arg.invariant.1))
     c.if-not-branch-2.true c.in_ok-count_term-in-App.ensures.counted
@@ -49,6 +50,7 @@ loop-arg-preserved t c =
           ap (λ (s : List Bound). symbols_of_term st (names_bound s) (raw_of c.arg-item.result) ++ later) (sym c.loop-arg.invariant.1))
           c.if-not-branch-2.false c.in_ok-count_term-in-App.ensures.counted,
       scope_kept c.in_ok-count_term-in-App.field-0 _ _ _ c.if-not-branch-2.false c.in_ok-count_term-in-App.ensures.scope c.loop-arg.invariant.1,
+      kept_both _ _ _ c.loop-arg.invariant.2 c.in_ok-count_term-in-App.ensures.kept,
     )
 
 pub returns-after-loop-arg-clause-counted : goal.returns-after-loop-arg-clause-counted
@@ -62,4 +64,4 @@ returns-after-loop-arg-clause-counted t c =
     loop_ends c.args.symbols.now (symbol c.bytes-in-App.result.now arity Function ∷ []) c.count_head.new.symbols rest c.loop-arg.symbols _ _ c.in_ok-count_head-in-App.field-0
     (ap (λ (r : Raw). symbols_of_term st names (raw_of r)) c.in-App.is ∙ applied st names c.in-App.name c.in-App.args (omega arith) ∙
     (λ i. symbol (sym c.bytes-in-App.ensures i) arity Function ∷ symbols_of_terms st names (raws_of (sym same i))))
-    c.if-not-branch.false c.in_ok-count_head-in-App.ensures (none_left st names items c.loop-arg.arg-index c.loop-arg-test.false) c.loop-arg.invariant.0
+    c.if-not-branch.false c.in_ok-count_head-in-App.ensures.counted (none_left st names items c.loop-arg.arg-index c.loop-arg-test.false) c.loop-arg.invariant.0
