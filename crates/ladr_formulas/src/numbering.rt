@@ -8,32 +8,29 @@ use smallvec::SmallVec;
 use std::alloc::{AllocError, Global};
 use std::marker::Model;
 
-/// A variable: its printed name, and whether no quantifier brought it.
-#[derive(Drop)]
-pub struct Variable {
-    pub name: Name,
-    pub free: bool,
-}
-
-/// The variables by number; contracts see the list.
+/// The variables by number; contracts see the list. A formula may have millions of them, so each name stands in one place.
 #[derive(Drop)]
 pub struct Variables {
-    items: Vec<Variable>,
-    // The numbers of the free ones by name.
+    // Whether each is free, by number.
+    are_free: Vec<bool>,
+    // The names of the free ones in their order, with their numbers.
     free: IndexMap<SmallVec<u8, 16>, u64>,
+    // The names of the others, which quantifiers brought, in their order.
+    bound: Vec<Name>,
 }
 
 impl Model for Variables {
     ghost use Rattle.std.specs.Prelude.{List};
+    ghost use Rattle.std.specs.Map.{keys_of};
     ghost use Rattle.ladr_formulas.specs.Formulas.{Variable};
 
     ghost Value = { List Variable };
 
-    ghost use Rattle.ladr_formulas.specs.Numbering.{variable_list, HasFree};
+    ghost use Rattle.ladr_formulas.specs.Numbering.{woven, AreNumbered};
 
-    ghost view = { λ a. variable_list a.items.items };
+    ghost view = { λ a. woven a.are_free.items (keys_of a.free.entries) a.bound.items };
 
-    ghost invariant = { λ a. HasFree a.free.entries (variable_list a.items.items) };
+    ghost invariant = { λ a. AreNumbered a.are_free.items a.free.entries a.bound.items };
 }
 
 impl Variables {
@@ -43,17 +40,18 @@ impl Variables {
         ensures { result ≡ [] }
     {
         Variables {
-            items: Vec::new(alloc),
+            are_free: Vec::new(alloc),
             free: IndexMap::new(alloc),
+            bound: Vec::new(alloc),
         }
     }
 
-    #[tactic(auto, using(crate::proofs::NumberingLemmas::length_variable_list))]
+    #[tactic(auto, using(crate::proofs::NumberingLemmas::length_woven))]
     /// How many there are.
     pub fn len(&self) -> usize
         ensures { result ≡ length self.now }
     {
-        self.items.len()
+        self.are_free.len()
     }
 
     /// The number of the free variable of this name.
@@ -68,7 +66,11 @@ impl Variables {
     pub fn push_bound(&mut self, name: Name) -> Result<(), AllocError>
         ensures { OnOk result (self.new ≡ self.old ++ record { name = name; free = false } ∷ []) }
     {
-        self.items.push(Variable { name, free: false })?;
+        self.are_free.push(false)?;
+        if self.bound.push(name).is_err() {
+            let _ = self.are_free.pop();
+            return Err(AllocError);
+        }
         Ok(())
     }
 
@@ -78,26 +80,37 @@ impl Variables {
         ensures { OnOk result (self.new ≡ self.old
             ++ record { name = name.now; free = true } ∷ []) }
     {
-        let number = self.items.len() as u64;
+        let number = self.are_free.len() as u64;
         let key = SmallVec::from_slice(alloc, name)?;
-        let name = Name::from_slice(alloc, name)?;
-        self.items.push(Variable { name, free: true })?;
+        self.are_free.push(true)?;
         if self.free.insert(key, number).is_err() {
-            let _ = self.items.pop();
+            let _ = self.are_free.pop();
             return Err(AllocError);
         }
         Ok(())
     }
 
-    #[tactic(auto, using(crate::proofs::NumberingLemmas::names_more))]
     /// The names by number.
     #[inline(always)]
     pub fn into_names(self, alloc: Global) -> Result<Names, AllocError>
         ensures { IfOk result (λ names. names ≡ names_of_variables self) }
     {
+        let Variables {
+            are_free,
+            free,
+            bound,
+        } = self;
+        let mut free_names = free.into_keys();
+        let mut bound_names = bound.into_iter();
         let mut names = Names::new(alloc);
-        for variable in &self.items {
-            names.push(Name::from_slice(alloc, variable.name.bytes())?)?;
+        for is_free in &are_free {
+            if *is_free {
+                if let Some(name) = free_names.next() {
+                    names.push(Name::from_slice(alloc, name.as_slice())?)?;
+                }
+            } else if let Some(name) = bound_names.next() {
+                names.push(name)?;
+            }
         }
         Ok(names)
     }
