@@ -1,15 +1,14 @@
 -- Literals read one behind the other.
-use Rattle.std.proofs.Common.{◌≡◌, ℕ, suc, ◌+◌, ◌<◌, ◌≤◌, get_or, Bool, true, false, List, [], ◌∷◌, length, drop, Option, Some, None, ◌⊎◌, inl, inr, refl, sym, ap, ◌∙◌, append_assoc, append-nil}
+use Rattle.std.proofs.Common.{◌≡◌, ℕ, suc, Bool, true, false, List, [], ◌∷◌, length, Option, Some, None, ◌⊎◌, inl, inr, refl, sym, ap, ◌∙◌, append_assoc, append-nil}
 use Rattle.std.specs.Prelude.{if◌then◌else◌, codes}
 use Rattle.std.specs.Option.{option_map}
 use Rattle.std.specs.Str.{bytes_eq}
 use Rattle.std.proofs.lemmas.Bool.{cases_Bool}
-use Rattle.std.proofs.lemmas.List.{drop_more, drop_all}
 use Rattle.std.proofs.lemmas.Slice.Eq.{bytes_eq-Decides}
 use Rattle.fol_core.specs.Fol.{Fol, verum, falsum, equal, atom, negation, conjunction, disjunction, implication, equivalence, forall, exists}
 use Rattle.fol_core.specs.Literals.{Lit, ClauseTree}
 use Rattle.fol_core.specs.RawTree.{RawTree, named, quantified, no_raws, more_raws}
-use Rattle.fol_core.specs.RawView.{raw_of, raw_list}
+use Rattle.fol_core.specs.RawView.{raw_list}
 use Rattle.fol_core.specs.declared.raw.Quantifier.{Quantifier}
 use Rattle.fol_core.specs.declared.raw.Quantifier.TheVariants.{All, Exists}
 use Rattle.fol_core.specs.declared.raw.Raw.{Raw}
@@ -38,30 +37,28 @@ continued_first : (d : Option ClauseTree) → continued (Some []) d ≡ d
 continued_first None = refl
 continued_first (Some d) = refl
 
--- one literal more is read
-pub literals_more : (st : Style) (scope around : List Bound) (s t : Reading) (c d : Option ClauseTree) (f : Fol) (r : Raw) (rs : List Raw) (i : ℕ) → i < length rs → r ≡ get_or rs i r
-    → around ≡ scope → formula_in st around s (raw_of r) ≡ record { tree = f; reading = t } → d ≡ with_literal c (literal_in f)
-    → onto_clause d (formulas_in st scope t (raw_list (drop (i + 1) rs))) ≡ onto_clause c (formulas_in st scope s (raw_list (drop i rs)))
-literals_more st scope around s t c d f r rs i h e same read made =
-    let rest = raw_list (drop (i + 1) rs) in
+-- the next of the literals that wait is read
+pub literals_next : (st : Style) (scope around : List Bound) (s t : Reading) (c d : Option ClauseTree) (f : Fol) (r : RawTree) (waiting rest : List RawTree) → waiting ≡ r ∷ rest
+    → around ≡ scope → formula_in st around s r ≡ record { tree = f; reading = t } → d ≡ with_literal c (literal_in f)
+    → onto_clause d (formulas_in st scope t rest) ≡ onto_clause c (formulas_in st scope s waiting)
+literals_next st scope around s t c d f r waiting rest e same read made =
     let others = formulas_in st scope t rest in
-    let here : drop i rs ≡ r ∷ drop (i + 1) rs = drop_more rs i r h ∙ ap (λ (a : Raw). a ∷ drop (i + 1) rs) (sym e) in
-    let first : formula_in st scope s (raw_of r) ≡ record { tree = f; reading = t } = ap (λ (b : List Bound). formula_in st b s (raw_of r)) (sym same) ∙ read in
-    let all : formulas_in st scope s (raw_list (drop i rs)) ≡ record { tree = f ∷ others.tree; reading = others.reading } =
-    ap (λ (l : List Raw). formulas_in st scope s (raw_list l)) here
+    let first : formula_in st scope s r ≡ record { tree = f; reading = t } = ap (λ (b : List Bound). formula_in st b s r) (sym same) ∙ read in
+    let all : formulas_in st scope s waiting ≡ record { tree = f ∷ others.tree; reading = others.reading } =
+    ap (formulas_in st scope s) e
     ∙ ap (λ (m : Made Fol). let o = formulas_in st scope m.reading rest in record { tree = m.tree ∷ o.tree; reading = o.reading }) first in
     ap (λ (b : Option ClauseTree). onto_clause b others) made
     ∙ ap (λ (b : Option ClauseTree). record { tree = b; reading = others.reading }) (continued_more c (literal_in f) (all_literals others.tree))
     ∙ ap (onto_clause c) (sym all)
 
--- where none is left the clause so far is all
-pub literals_end : (st : Style) (scope : List Bound) (last first : Reading) (c : Option ClauseTree) (rs : List Raw) (i : ℕ) → length rs ≤ i
-    → onto_clause c (formulas_in st scope last (raw_list (drop i rs))) ≡ onto_clause (Some []) (formulas_in st scope first (raw_list rs))
-    → (c ≡ all_literals (formulas_in st scope first (raw_list rs)).tree) × (last ≡ (formulas_in st scope first (raw_list rs)).reading)
-literals_end st scope last first c rs i h all =
-    let none : onto_clause c (formulas_in st scope last []) ≡ onto_clause (Some []) (formulas_in st scope first (raw_list rs)) =
-    ap (λ (l : List Raw). onto_clause c (formulas_in st scope last (raw_list l))) (sym (drop_all i rs h)) ∙ all in (
-      sym (continued_none c) ∙ ap (λ (m : Made (Option ClauseTree)). m.tree) none ∙ continued_first (all_literals (formulas_in st scope first (raw_list rs)).tree),
+-- where none waits the clause so far is all
+pub literals_over : (st : Style) (scope : List Bound) (last first : Reading) (c : Option ClauseTree) (waiting all rs : List RawTree) → waiting ≡ [] → all ≡ rs
+    → onto_clause c (formulas_in st scope last waiting) ≡ onto_clause (Some []) (formulas_in st scope first all)
+    → (c ≡ all_literals (formulas_in st scope first rs).tree) × (last ≡ (formulas_in st scope first rs).reading)
+literals_over st scope last first c waiting all rs h e so =
+    let none : onto_clause c (formulas_in st scope last []) ≡ onto_clause (Some []) (formulas_in st scope first rs) =
+    ap (λ (l : List RawTree). onto_clause c (formulas_in st scope last l)) (sym h) ∙ so ∙ ap (λ (l : List RawTree). onto_clause (Some []) (formulas_in st scope first l)) e in (
+      sym (continued_none c) ∙ ap (λ (m : Made (Option ClauseTree)). m.tree) none ∙ continued_first (all_literals (formulas_in st scope first rs).tree),
       ap (λ (m : Made (Option ClauseTree)). m.reading) none,
     )
 
@@ -210,3 +207,9 @@ not_one st scope r (t ∷ u ∷ ts) h = refl
 pub raws_length : (rs : List Raw) → length (raw_list rs) ≡ length rs
 raws_length [] = refl
 raws_length (r ∷ rs) = ap suc (raws_length rs)
+
+-- one literal
+pub only_one : (st : Style) (scope : List Bound) (s t : Reading) (f : Fol) (r : RawTree) (rs : List RawTree) → rs ≡ r ∷ [] → formula_in st scope s r ≡ record { tree = f; reading = t }
+    → formulas_in st scope s rs ≡ record { tree = f ∷ []; reading = t }
+only_one st scope s t f r rs e h =
+    ap (formulas_in st scope s) e ∙ ap (λ (m : Made Fol). record { tree = m.tree ∷ []; reading = m.reading }) h

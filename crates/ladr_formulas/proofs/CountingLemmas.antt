@@ -1,9 +1,9 @@
 -- Symbols that are entered one behind the other, until there are too many.
-use Rattle.std.proofs.Common.{◌≡◌, ℕ, suc, ◌+◌, ◌<◌, ◌≤◌, Bool, true, false, List, [], ◌∷◌, ◌++◌, length, drop, refl, sym, ap, ◌∙◌, subst, get_or, arith, inl, inr, append_assoc, Result, Ok, Err, Option, Some}
+use Rattle.std.proofs.Common.{◌≡◌, ℕ, ◌+◌, ◌<◌, ◌≤◌, Bool, true, false, List, [], ◌∷◌, ◌++◌, length, drop, refl, sym, ap, ◌∙◌, subst, get_or, arith, inl, inr, Result, Ok, Err, Option, Some}
 use Rattle.std.specs.Prelude.{◌||◌, is_some, nat_lt, IfOk}
 use Rattle.std.proofs.lemmas.Bool.{cases_Bool, lt-ltb, ltb-true}
 use Rattle.std.proofs.lemmas.List.{drop_more, drop_all, length-append}
-use Rattle.fol_core.specs.RawTree.{RawTree, named, quantified, RawTrees, no_raws, more_raws, raws_of}
+use Rattle.fol_core.specs.RawTree.{RawTree, named, raws_of}
 use Rattle.fol_core.specs.RawView.{raw_of, raw_list}
 use Rattle.fol_core.specs.SymbolTable.{Symbol, symbol, number_of, entered}
 use Rattle.fol_core.specs.declared.raw.Raw.{Raw}

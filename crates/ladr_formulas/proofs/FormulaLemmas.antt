@@ -1,5 +1,5 @@
 -- Formulas read from the parts of a term.
-use Rattle.std.proofs.Common.{◌≡◌, ℕ, ◌≤◌, false, List, [], ◌∷◌, length, Option, Some, Result, Ok, Err, refl, sym, ap, ◌∙◌, arith}
+use Rattle.std.proofs.Common.{◌≡◌, ℕ, ◌≤◌, false, List, [], ◌∷◌, length, Option, Some, None, Result, Ok, Err, refl, sym, ap, ◌∙◌, arith}
 use Rattle.std.specs.Prelude.{IfOk, OnOk}
 use Rattle.std.proofs.lemmas.Bool.{cond-false}
 use Rattle.fol_core.specs.Fol.{Fol}
@@ -55,3 +55,24 @@ formula_many st scope s name [] h = absurd (omega arith)
 formula_many st scope s name (a ∷ []) h = absurd (omega arith)
 formula_many st scope s name (a ∷ b ∷ []) h = absurd (omega arith)
 formula_many st scope s name (a ∷ b ∷ c ∷ others) h = refl
+
+-- the same where just the number of arguments is known
+pub formula_alone : (st : Style) (scope : List Bound) (s : Reading) (name : List ℕ) (args : List RawTree) → length args ≡ 1 → is_denial name ≡ false →
+    formula_in st scope s (named name (raws_of args)) ≡ relation_of st scope name (raws_of args) s
+formula_alone st scope s name [] e h = absurd (omega (arith, e))
+formula_alone st scope s name (t ∷ []) e h = formula_one st scope s name (t ∷ []) t refl h
+formula_alone st scope s name (t ∷ u ∷ ts) e h = absurd (omega (arith, e))
+
+-- two arguments
+pub two_of : (args : List RawTree) → length args ≡ 2 → (t : RawTree) × (u : RawTree) × (args ≡ t ∷ u ∷ [])
+two_of [] e = absurd (omega (arith, e))
+two_of (t ∷ []) e = absurd (omega (arith, e))
+two_of (t ∷ u ∷ []) e = (t, u, refl)
+two_of (t ∷ u ∷ v ∷ ts) e = absurd (omega (arith, e))
+
+-- that no connective joins are compared
+pub formula_compared : (st : Style) (scope : List Bound) (s : Reading) (name : List ℕ) (args : List RawTree) (t u : RawTree) → args ≡ t ∷ u ∷ [] → connective_of name ≡ None →
+    formula_in st scope s (named name (raws_of args)) ≡ comparison st scope name t u s
+formula_compared st scope s name args t u e h =
+    ap (λ (l : List RawTree). formula_in st scope s (named name (raws_of l))) e ∙
+    ap (λ (o : Option Connective). by_connective o (λ r. formula_in st scope r t) (λ r. formula_in st scope r u) (comparison st scope name t u) s) h

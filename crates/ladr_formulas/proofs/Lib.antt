@@ -18,4 +18,5 @@ pub mod ScopeLemmas
 pub mod TermLemmas
 pub mod Unbroken
 pub mod VariableOrder
+pub mod WaitingLemmas
 pub mod WideLemmas

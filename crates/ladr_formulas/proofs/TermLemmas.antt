@@ -1,6 +1,6 @@
 -- Terms read one behind the other.
 use Rattle.std.proofs.Common.{◌≡◌, ℕ, suc, ◌+◌, ◌<◌, ◌≤◌, get_or, arith, List, [], ◌∷◌, ◌++◌, length, drop, refl, sym, ap, ◌∙◌}
-use Rattle.fol_core.specs.RawTree.{RawTree, named, raws_of}
+use Rattle.fol_core.specs.RawTree.{RawTree, named, raws_of, raw_nodes, raw_nodes_of_list}
 use Rattle.fol_core.specs.RawView.{raw_of, raw_list}
 use Rattle.fol_core.specs.SymbolTable.{Symbol, KeepsNumbers}
 use Rattle.fol_core.specs.Tree.{Tree, app, Trees, none, more, trees_of}
@@ -49,6 +49,33 @@ pub terms_end : (st : Style) (scope : List Bound) (last after : Reading) (terms 
     read_onto terms (record { tree = none; reading = last }) ≡ terms_of st scope after (raws_of args)
 terms_end st scope last after terms items args i h e r =
     ap (λ (l : List Raw). read_onto terms (terms_of st scope last (raws_of (raw_list l)))) (sym (drop_all i items h)) ∙ r ∙ ap (λ (l : List RawTree). terms_of st scope after (raws_of l)) e
+
+-- the next of the arguments that wait is read
+pub terms_next : (st : Style) (scope around : List Bound) (s t : Reading) (ts more_ts : List Tree) (tree : Tree) (arg : RawTree) (waiting rest : List RawTree) → waiting ≡ arg ∷ rest →
+    around ≡ scope → term_of st around s arg ≡ record { tree = tree; reading = t } → more_ts ≡ ts ++ tree ∷ [] →
+    read_onto more_ts (terms_of st scope t (raws_of rest)) ≡ read_onto ts (terms_of st scope s (raws_of waiting))
+terms_next st scope around s t ts more_ts tree arg waiting rest e same read pushed =
+    let others = terms_of st scope t (raws_of rest) in
+    let first : term_of st scope s arg ≡ record { tree = tree; reading = t } = ap (λ (c : List Bound). term_of st c s arg) (sym same) ∙ read in
+    let made : terms_of st scope s (raws_of waiting) ≡ record { tree = more tree others.tree; reading = others.reading } =
+    ap (λ (l : List RawTree). terms_of st scope s (raws_of l)) e ∙
+    ap (λ (m : Made Tree). let o = terms_of st scope m.reading (raws_of rest) in record { tree = more m.tree o.tree; reading = o.reading }) first in
+    ap (λ (l : List Tree). read_onto l others) pushed ∙ ap (λ (us : Trees). record { tree = us; reading = others.reading }) (onto_last ts tree others.tree) ∙ ap (read_onto ts) (sym made)
+
+-- where none waits the terms so far are all
+pub terms_over : (st : Style) (scope : List Bound) (last after : Reading) (terms : List Tree) (waiting all args : List RawTree) → waiting ≡ [] → all ≡ args →
+    read_onto terms (terms_of st scope last (raws_of waiting)) ≡ terms_of st scope after (raws_of all) →
+    read_onto terms (record { tree = none; reading = last }) ≡ terms_of st scope after (raws_of args)
+terms_over st scope last after terms waiting all args h e r =
+    ap (λ (l : List RawTree). read_onto terms (terms_of st scope last (raws_of l))) (sym h) ∙ r ∙ ap (λ (l : List RawTree). terms_of st scope after (raws_of l)) e
+
+-- each of the arguments that wait is smaller than the term
+pub next_smaller : (arg : RawTree) (waiting rest all : List RawTree) (name : List ℕ) (t : RawTree) → waiting ≡ arg ∷ rest → raw_nodes_of_list waiting ≤ raw_nodes_of_list all → t ≡ named name (raws_of all) → raw_nodes arg < raw_nodes t
+next_smaller arg waiting rest all name t e h f =
+    omega (arith, h, ap raw_nodes f, ap raw_nodes_of_list e)
+
+pub rest_smaller : (arg : RawTree) (waiting rest all : List RawTree) → waiting ≡ arg ∷ rest → raw_nodes_of_list waiting ≤ raw_nodes_of_list all → raw_nodes_of_list rest ≤ raw_nodes_of_list all
+rest_smaller arg waiting rest all e h = omega (arith, h, ap raw_nodes_of_list e)
 
 pub arity_is_length : (args : List RawTree) → arity_of (raws_of args) ≡ length args
 arity_is_length [] = refl

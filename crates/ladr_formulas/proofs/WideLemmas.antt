@@ -1,5 +1,5 @@
 -- A symbol of a formula has too many arguments where a name of its term has.
-use Rattle.std.proofs.Common.{◌≡◌, ◌∙◌, ℕ, suc, Bool, true, false, List, [], ◌∷◌, ◌++◌, Option, Some, None, refl, sym, ap}
+use Rattle.std.proofs.Common.{◌≡◌, ◌∙◌, ℕ, suc, Bool, true, false, List, [], ◌∷◌, ◌++◌, Option, Some, None, refl, ap}
 use Rattle.std.specs.Prelude.{◌||◌, if◌then◌else◌, nat_lt, codes}
 use Rattle.std.specs.Str.{bytes_eq}
 use Rattle.std.proofs.lemmas.List.Folds.{list_any-append}
@@ -9,7 +9,7 @@ use Rattle.fol_core.specs.declared.symbols.Kind.TheVariants.{Function, Relation}
 use Rattle.ladr_lex.specs.declared.limits.TheConstants.{MOST_ARGUMENTS}
 use Rattle.ladr_formulas.specs.Counting.{is_wide, are_wide}
 use Rattle.ladr_formulas.specs.Formulas.{Style, arity_of, is_element, is_denial, connective_of, formula_reading}
-use Rattle.ladr_formulas.specs.Occurring.{stands_for_variable, symbols_of_term, symbols_of_terms, symbols_of_relation, symbols_of_sentence, symbols_compared, in_order, occurring, has_many_arguments}
+use Rattle.ladr_formulas.specs.Occurring.{stands_for_variable, symbols_of_term, symbols_of_terms, symbols_of_relation, symbols_compared, in_order, occurring, has_many_arguments}
 use Rattle.ladr_formulas.specs.declared.connectives.Connective.{Connective}
 use Rattle.ladr_formulas.specs.declared.connectives.Connective.TheVariants.{And, Or, IfThen, ThenIf, IfAndOnlyIf}
 use Rattle.ladr_formulas.proofs.OrderLemmas.{read_large}

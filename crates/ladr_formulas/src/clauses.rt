@@ -19,7 +19,8 @@ ghost use Rattle.ladr_formulas.specs.VariablesMet.{variables_in};
 use crate::formulas::formula;
 use crate::reader::Reader;
 use crate::styles::{Mode, Style, style_of};
-use fol_core::{Clause, EQ, Literal, Names, Raw, Shape, Symbols, Term, Terms};
+use crate::waiting::{Waiting, one};
+use fol_core::{Clause, EQ, Literal, Names, Raw, Raws, Shape, Symbols, Term, Terms};
 use ladr_lex::Misuse;
 use std::alloc::{AllocError, Global};
 use std::mem;
@@ -38,31 +39,31 @@ pub struct ClauseRead {
 /// symbols are entered.
 pub fn clause_of(
     alloc: Global,
-    literals: &[Raw],
+    literals: Vec<Raw>,
     symbols: &mut Symbols,
     mode: Mode,
     prolog: bool,
 ) -> Result<ClauseRead, AllocError>
     // It is the clause of the term's formula.
-    ensures read { IfOk result (λ r. (t : RawTree) → raw_list literals.now ≡ disjuncts t →
+    ensures read { IfOk result (λ r. (t : RawTree) → raw_list literals.items ≡ disjuncts t →
         IsClauseRead (formula_reading (style_of mode prolog) symbols.old t) r symbols.new) }
     // New symbols stand behind the others, in the order in which they occur in the term, and so do the variables.
-    ensures ordered { IfOk result (λ r. (t : RawTree) → raw_list literals.now ≡ disjuncts t →
+    ensures ordered { IfOk result (λ r. (t : RawTree) → raw_list literals.items ≡ disjuncts t →
         symbols.new ≡ symbols.old ++ new_symbols symbols.old
         (occurring (style_of mode prolog) [] t)) }
-    ensures arity { IfOk result (λ r. (t : RawTree) → raw_list literals.now ≡ disjuncts t →
+    ensures arity { IfOk result (λ r. (t : RawTree) → raw_list literals.items ≡ disjuncts t →
         r.large ≡ has_many_arguments (occurring (style_of mode prolog) [] t)) }
-    ensures numbered { IfOk result (λ r. (t : RawTree) → raw_list literals.now ≡ disjuncts t →
+    ensures numbered { IfOk result (λ r. (t : RawTree) → raw_list literals.items ≡ disjuncts t →
         r.names ≡ names_of_variables (variables_in (style_of mode prolog) t)) }
     // The row that is told is the least of those that the term breaks.
-    ensures least { IfOk result (λ r. (t : RawTree) → raw_list literals.now ≡ disjuncts t →
+    ensures least { IfOk result (λ r. (t : RawTree) → raw_list literals.items ≡ disjuncts t →
         r.least ≡ least_of (broken (style_of mode prolog) symbols.new t)) }
     // Where no row was met the formula is what the term means by these.
-    ensures means { IfOk result (λ r. (t : RawTree) → raw_list literals.now ≡ disjuncts t →
+    ensures means { IfOk result (λ r. (t : RawTree) → raw_list literals.items ≡ disjuncts t →
         r.least ≡ None →
         (f : Fol) × IsMeaning (style_of mode prolog) symbols.new t f × (r.clause ≡ clause_in f)) }
     // A row was met only where it means no formula.
-    ensures unmet { IfOk result (λ r. (t : RawTree) → raw_list literals.now ≡ disjuncts t →
+    ensures unmet { IfOk result (λ r. (t : RawTree) → raw_list literals.items ≡ disjuncts t →
         (f : Fol) → IsMeaning (style_of mode prolog) symbols.new t f → r.least ≡ None) }
     // Whatever the answer, the old symbols keep their numbers.
     ensures kept { KeepsNumbers symbols.old symbols.new }
@@ -77,11 +78,11 @@ pub fn clause_of(
 // The clause of literals with what it breaks.
 fn whole_clause(
     alloc: Global,
-    literals: &[Raw],
+    literals: Vec<Raw>,
     style: Style,
     reader: &mut Reader,
 ) -> Result<ClauseRead, AllocError>
-    ensures read { IfOk result (λ r. (t : RawTree) → raw_list literals.now ≡ disjuncts t
+    ensures read { IfOk result (λ r. (t : RawTree) → raw_list literals.items ≡ disjuncts t
         → reader.old.scope ≡ [] →
         IsClauseRead (formula_in style [] reader.old.reading t) r reader.new.reading.symbols) }
     ensures kept { KeepsNumbers reader.old.reading.symbols reader.new.reading.symbols }
@@ -101,45 +102,44 @@ fn whole_clause(
 // The clause of literals.
 fn clause(
     alloc: Global,
-    literals: &[Raw],
+    literals: Vec<Raw>,
     style: Style,
     reader: &mut Reader,
 ) -> Result<Option<Clause>, AllocError>
     ensures clause { IfOk result (λ c. c ≡ clause_from
-        (formulas_in style reader.old.scope reader.old.reading (raw_list literals.now)).tree) }
+        (formulas_in style reader.old.scope reader.old.reading (raw_list literals.items)).tree) }
     ensures reading { OnOk result (reader.new.reading
-        ≡ (formulas_in style reader.old.scope reader.old.reading (raw_list literals.now)).reading) }
+        ≡ (formulas_in style reader.old.scope reader.old.reading (raw_list literals.items)).reading) }
     ensures kept { KeepsNumbers reader.old.reading.symbols reader.new.reading.symbols }
 {
-    match literals {
-        [] => Ok(Some(Clause::new(alloc))),
-        [only] => {
-            let shape = formula(alloc, only, style, reader)?;
-            let clause = Some(Clause::new(alloc));
-            if matches!(shape, Shape::False) {
-                return Ok(clause);
-            }
-            with_literal(alloc, clause, shape)
-        }
-        [_, _, ..] => all_literals(alloc, literals, style, reader),
+    if literals.len() != 1 {
+        return all_literals(alloc, literals, style, reader);
     }
+    let only = one(Raws { items: literals });
+    let shape = formula(alloc, only, style, reader)?;
+    let clause = Some(Clause::new(alloc));
+    if matches!(shape, Shape::False) {
+        return Ok(clause);
+    }
+    with_literal(alloc, clause, shape)
 }
 
 // The clause of literals, none of which is `$F`.
 fn all_literals(
     alloc: Global,
-    literals: &[Raw],
+    literals: Vec<Raw>,
     style: Style,
     reader: &mut Reader,
 ) -> Result<Option<Clause>, AllocError>
     ensures clause { IfOk result (λ c. c ≡ all_literals
-        (formulas_in style reader.old.scope reader.old.reading (raw_list literals.now)).tree) }
+        (formulas_in style reader.old.scope reader.old.reading (raw_list literals.items)).tree) }
     ensures reading { OnOk result (reader.new.reading
-        ≡ (formulas_in style reader.old.scope reader.old.reading (raw_list literals.now)).reading) }
+        ≡ (formulas_in style reader.old.scope reader.old.reading (raw_list literals.items)).reading) }
     ensures kept { KeepsNumbers reader.old.reading.symbols reader.new.reading.symbols }
 {
     let mut clause = Some(Clause::new(alloc));
-    for literal in literals {
+    let mut waiting = Waiting::of(Raws { items: literals });
+    while let Some(literal) = waiting.next() {
         let shape = formula(alloc, literal, style, reader)?;
         clause = with_literal(alloc, clause, shape)?;
     }

@@ -4,7 +4,7 @@ ghost use Rattle.fol_core.specs.declared.symbols.Kind.TheVariants.{Function};
 ghost use Rattle.fol_core.specs.Bound.{BindsOnce, HasSymbolsBelow};
 ghost use Rattle.fol_core.specs.Fol.{Fol};
 ghost use Rattle.fol_core.specs.FormulaView.{fol_of};
-ghost use Rattle.fol_core.specs.RawTree.{raws_of};
+ghost use Rattle.fol_core.specs.RawTree.{RawTree, raws_of};
 ghost use Rattle.fol_core.specs.RawView.{raw_of};
 ghost use Rattle.fol_core.specs.SymbolTable.{KeepsNumbers};
 ghost use Rattle.fol_core.specs.Tree.{trees_of};
@@ -19,6 +19,7 @@ ghost use Rattle.ladr_formulas.specs.Whole.{IsWhole};
 use crate::connectives::{Connective, connective_of, is_denial};
 use crate::reader::Reader;
 use crate::styles::{Mode, Style, style_of};
+use crate::waiting::{Waiting, one, two};
 use fol_core::{
     Formula, Kind, Quantifier, Raw, Raws, Shape, Sides, Sub, Sym, Symbols, Term, Terms,
 };
@@ -140,25 +141,82 @@ pub fn terms(
     Ok(terms)
 }
 
+#[tactic(auto, using(crate::proofs::TermLemmas::kept_both))]
+// The same of a term that is given back bit by bit.
+fn taken_term(
+    alloc: Global,
+    raw: Raw,
+    style: Style,
+    reader: &mut Reader,
+) -> Result<Term, AllocError>
+    ensures read { IfOk result (λ term. term_of style reader.old.scope reader.old.reading
+        (raw_of raw) ≡ record { tree = tree_of term; reading = reader.new.reading }) }
+    ensures scope { OnOk result (reader.new.scope ≡ reader.old.scope) }
+    ensures kept { KeepsNumbers reader.old.reading.symbols reader.new.reading.symbols }
+{
+    match raw {
+        Raw::Quant(_, name, body) => {
+            reader.meet(true, Misuse::QuantifierInTerm);
+            reader.bind(alloc, name.bytes())?;
+            let read = taken_term(alloc, Box::into_inner(body.raw), style, reader)?;
+            reader.unbind();
+            Ok(read)
+        }
+        Raw::App(name, args) => {
+            if args.len() == 0 {
+                return constant(alloc, name.bytes(), style, reader);
+            }
+            let s = function(name.bytes(), &args, style, reader)?;
+            let mut terms = room(alloc, args.len())?;
+            let mut waiting = Waiting::of(args);
+            while let Some(arg) = waiting.next() {
+                terms.push(taken_term(alloc, arg, style, reader)?)?;
+            }
+            Ok(Term::App(s, terms))
+        }
+    }
+}
+
+#[tactic(auto, using(crate::proofs::TermLemmas::kept_both))]
+// The terms that are read from arguments, which are given back bit by bit.
+fn taken_terms(
+    alloc: Global,
+    args: Raws,
+    style: Style,
+    reader: &mut Reader,
+) -> Result<Terms, AllocError>
+    ensures read { IfOk result (λ terms. terms_of style reader.old.scope reader.old.reading
+        (raws_of args) ≡ record { tree = trees_of terms; reading = reader.new.reading }) }
+    ensures scope { OnOk result (reader.new.scope ≡ reader.old.scope) }
+    ensures kept { KeepsNumbers reader.old.reading.symbols reader.new.reading.symbols }
+{
+    let mut terms = room(alloc, args.len())?;
+    let mut waiting = Waiting::of(args);
+    while let Some(arg) = waiting.next() {
+        terms.push(taken_term(alloc, arg, style, reader)?)?;
+    }
+    Ok(terms)
+}
+
 #[tactic(auto, using(crate::proofs::TermLemmas::kept_both, crate::proofs::TermLemmas::arity_is_length))]
 // A relation with its arguments.
 #[inline(always)]
 fn relation(
     alloc: Global,
     name: &[u8],
-    args: &Raws,
+    args: Raws,
     style: Style,
     reader: &mut Reader,
 ) -> Result<Shape, AllocError>
     ensures read { IfOk result (λ shape. relation_of style reader.old.scope name.now
-        (raws_of args.now) reader.old.reading
+        (raws_of args) reader.old.reading
         ≡ record { tree = fol_of shape; reading = reader.new.reading }) }
     ensures scope { OnOk result (reader.new.scope ≡ reader.old.scope) }
     ensures kept { KeepsNumbers reader.old.reading.symbols reader.new.reading.symbols }
 {
     reader.meet(is_element(style, name), Misuse::UnfitNumeral);
     let s = reader.enter(name, args.len(), Kind::Relation)?;
-    let terms = terms(alloc, args, style, reader)?;
+    let terms = taken_terms(alloc, args, style, reader)?;
     Ok(Shape::Atom(s, terms))
 }
 
@@ -166,19 +224,19 @@ fn relation(
 // An equation.
 fn equation(
     alloc: Global,
-    left: &Raw,
-    right: &Raw,
+    left: Raw,
+    right: Raw,
     style: Style,
     reader: &mut Reader,
 ) -> Result<Shape, AllocError>
-    ensures read { IfOk result (λ shape. equation_read style reader.old.scope (raw_of left.now)
-        (raw_of right.now) reader.old.reading
+    ensures read { IfOk result (λ shape. equation_read style reader.old.scope (raw_of left)
+        (raw_of right) reader.old.reading
         ≡ record { tree = fol_of shape; reading = reader.new.reading }) }
     ensures scope { OnOk result (reader.new.scope ≡ reader.old.scope) }
     ensures kept { KeepsNumbers reader.old.reading.symbols reader.new.reading.symbols }
 {
-    let left = term(alloc, left, style, reader)?;
-    let right = term(alloc, right, style, reader)?;
+    let left = taken_term(alloc, left, style, reader)?;
+    let right = taken_term(alloc, right, style, reader)?;
     Ok(Shape::Eq(Sides::new(alloc, left, right)?))
 }
 
@@ -188,11 +246,11 @@ fn equation(
 fn sentence(
     alloc: Global,
     name: &[u8],
-    args: &Raws,
+    args: Raws,
     style: Style,
     reader: &mut Reader,
 ) -> Result<Shape, AllocError>
-    requires { args.now ≡ [] }
+    requires { args ≡ [] }
     ensures read { IfOk result (λ shape. sentence style reader.old.scope name.now reader.old.reading
         ≡ record { tree = fol_of shape; reading = reader.new.reading }) }
     ensures scope { OnOk result (reader.new.scope ≡ reader.old.scope) }
@@ -211,28 +269,28 @@ fn sentence(
     }
 }
 
-// An equation, its denial, or a relation; the two terms are the arguments.
+// An equation, its denial, or a relation of two terms.
 #[inline(always)]
 fn comparison(
     alloc: Global,
     name: &[u8],
-    args: &Raws,
-    left: &Raw,
-    right: &Raw,
+    args: Raws,
     style: Style,
     reader: &mut Reader,
 ) -> Result<Shape, AllocError>
-    requires { args.now ≡ raw_of left.now ∷ raw_of right.now ∷ [] }
-    ensures read { IfOk result (λ shape. comparison style reader.old.scope name.now
-        (raw_of left.now) (raw_of right.now) reader.old.reading
+    requires { length args ≡ 2 }
+    ensures read { (t u : RawTree) → args ≡ t ∷ u ∷ [] → IfOk result (λ shape.
+        comparison style reader.old.scope name.now t u reader.old.reading
         ≡ record { tree = fol_of shape; reading = reader.new.reading }) }
     ensures scope { OnOk result (reader.new.scope ≡ reader.old.scope) }
     ensures kept { KeepsNumbers reader.old.reading.symbols reader.new.reading.symbols }
 {
     if name == b"=".as_slice() {
+        let (left, right) = two(args);
         return equation(alloc, left, right, style, reader);
     }
     if name == b"!=".as_slice() {
+        let (left, right) = two(args);
         let equal = equation(alloc, left, right, style, reader)?;
         let equal = Sub::new(alloc, equal)?;
         return Ok(Shape::Not(equal));
@@ -251,51 +309,54 @@ fn quantified(word: Quantifier, number: u64, body: Sub) -> Shape
 }
 
 #[tactic(auto, using(crate::proofs::TermLemmas::kept_both))]
-/// The formula that is read from a term.
+/// The formula that is read from a term, which is given back bit by bit.
 pub fn formula(
     alloc: Global,
-    raw: &Raw,
+    raw: Raw,
     style: Style,
     reader: &mut Reader,
 ) -> Result<Shape, AllocError>
     ensures read { IfOk result (λ shape. formula_in style reader.old.scope reader.old.reading
-        (raw_of raw.now) ≡ record { tree = fol_of shape; reading = reader.new.reading }) }
+        (raw_of raw) ≡ record { tree = fol_of shape; reading = reader.new.reading }) }
     ensures scope { OnOk result (reader.new.scope ≡ reader.old.scope) }
     ensures kept { KeepsNumbers reader.old.reading.symbols reader.new.reading.symbols }
 {
     match raw {
         Raw::Quant(word, name, body) => {
             let number = reader.bind(alloc, name.bytes())?;
-            let shape = formula(alloc, &body.raw, style, reader)?;
+            let shape = formula(alloc, Box::into_inner(body.raw), style, reader)?;
             reader.unbind();
             let body = Sub::new(alloc, shape)?;
-            Ok(quantified(*word, number, body))
+            Ok(quantified(word, number, body))
         }
-        Raw::App(name, args) => match args.items.as_slice() {
-            [] => sentence(alloc, name.bytes(), args, style, reader),
-            [part] => {
+        Raw::App(name, args) => match args.len() {
+            0 => sentence(alloc, name.bytes(), args, style, reader),
+            1 => {
                 if is_denial(name.bytes()) {
-                    let shape = formula(alloc, part, style, reader)?;
+                    let shape = formula(alloc, one(args), style, reader)?;
                     let part = Sub::new(alloc, shape)?;
                     Ok(Shape::Not(part))
                 } else {
                     relation(alloc, name.bytes(), args, style, reader)
                 }
             }
-            [first, second] => match connective_of(name.bytes()) {
-                Some(connective) => match connective {
-                    Connective::ThenIf => {
-                        let premise = formula(alloc, second, style, reader)?;
-                        let conclusion = formula(alloc, first, style, reader)?;
-                        joined(alloc, Connective::ThenIf, premise, conclusion)
+            2 => match connective_of(name.bytes()) {
+                Some(connective) => {
+                    let (first, second) = two(args);
+                    match connective {
+                        Connective::ThenIf => {
+                            let premise = formula(alloc, second, style, reader)?;
+                            let conclusion = formula(alloc, first, style, reader)?;
+                            joined(alloc, Connective::ThenIf, premise, conclusion)
+                        }
+                        other => {
+                            let first = formula(alloc, first, style, reader)?;
+                            let second = formula(alloc, second, style, reader)?;
+                            joined(alloc, other, first, second)
+                        }
                     }
-                    other => {
-                        let first = formula(alloc, first, style, reader)?;
-                        let second = formula(alloc, second, style, reader)?;
-                        joined(alloc, other, first, second)
-                    }
-                },
-                None => comparison(alloc, name.bytes(), args, first, second, style, reader),
+                }
+                None => comparison(alloc, name.bytes(), args, style, reader),
             },
             _ => relation(alloc, name.bytes(), args, style, reader),
         },
@@ -330,21 +391,6 @@ pub struct FormulaRead {
     pub large: bool,
 }
 
-// The formula of a term, which is given back.
-#[inline(always)]
-fn formula_of(
-    alloc: Global,
-    raw: Raw,
-    style: Style,
-    reader: &mut Reader,
-) -> Result<Shape, AllocError>
-    ensures read { IfOk result (λ shape. formula_in style reader.old.scope reader.old.reading
-        (raw_of raw) ≡ record { tree = fol_of shape; reading = reader.new.reading }) }
-    ensures kept { KeepsNumbers reader.old.reading.symbols reader.new.reading.symbols }
-{
-    formula(alloc, &raw, style, reader)
-}
-
 // The formula of a term with what it breaks.
 #[inline(always)]
 fn whole_formula(
@@ -358,7 +404,7 @@ fn whole_formula(
         (raw_of raw)) r reader.new.reading.symbols) }
     ensures kept { KeepsNumbers reader.old.reading.symbols reader.new.reading.symbols }
 {
-    let shape = formula_of(alloc, raw, style, reader)?;
+    let shape = formula(alloc, raw, style, reader)?;
     let least = reader.least();
     let large = reader.is_large();
     let names = reader.take_names(alloc)?;

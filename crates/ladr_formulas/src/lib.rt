@@ -12,6 +12,7 @@ mod numbering;
 mod reader;
 mod scopes;
 mod styles;
+mod waiting;
 
 pub use arguments::{TermsRead, terms_of};
 pub use clauses::{ClauseRead, clause_of};

@@ -5,8 +5,8 @@ use Rattle.fol_core.specs.RawView.{raw_list}
 use Rattle.ladr_formulas.proofs.ClauseLemmas.{not_one, raws_length}
 use Rattle.ladr_formulas.proofs.clauses.clause.Goals as goal
 
-pub returns-in-len2-up-clause-clause : goal.returns-in-len2-up-clause-clause
-returns-in-len2-up-clause-clause c =
+pub returns-then-len-ne1-clause-clause : goal.returns-then-len-ne1-clause-clause
+returns-then-len-ne1-clause-clause c =
     subst (λ (o : Option ClauseTree). IfOk c.all_literals.result (λ d. d ≡ o))
-    (not_one c.args.style c.args.reader.now.scope c.args.reader.now.reading (raw_list c.args.literals.now) (λ e. omega (arith, raws_length c.args.literals.now, c.in-len2-up.len_at_least)))
+    (not_one c.args.style c.args.reader.now.scope c.args.reader.now.reading (raw_list c.args.literals.items) (λ e. c.if-len-ne1.true (omega (arith, e, raws_length c.args.literals.items, c.len.ensures, c.args.literals.ok.0))))
     c.all_literals.ensures.clause

@@ -26,8 +26,8 @@ start c = c.new-reader.ensures ∙ ap (λ (table : List Symbol). record { readin
 
 pub returns-clause-read : goal.returns-clause-read
 returns-clause-read c =
-    subst (λ (table : List Symbol). IfOk c.whole_clause-answer.result (λ r. (t : RawTree) → raw_list c.args.literals.now ≡ disjuncts t → IsClauseRead (formula_reading (style_of c.args.mode c.args.prolog) c.args.symbols.now t) r table)) (sym c.into_symbols.ensures)
-    (IfOk-weaker c.whole_clause-answer.result _ (λ (r : ClauseRead). (t : RawTree) → raw_list c.args.literals.now ≡ disjuncts t → IsClauseRead (formula_reading (style_of c.args.mode c.args.prolog) c.args.symbols.now t) r c.whole_clause-answer.new.reader.reading.symbols)
+    subst (λ (table : List Symbol). IfOk c.whole_clause-answer.result (λ r. (t : RawTree) → raw_list c.args.literals.items ≡ disjuncts t → IsClauseRead (formula_reading (style_of c.args.mode c.args.prolog) c.args.symbols.now t) r table)) (sym c.into_symbols.ensures)
+    (IfOk-weaker c.whole_clause-answer.result _ (λ (r : ClauseRead). (t : RawTree) → raw_list c.args.literals.items ≡ disjuncts t → IsClauseRead (formula_reading (style_of c.args.mode c.args.prolog) c.args.symbols.now t) r c.whole_clause-answer.new.reader.reading.symbols)
     (λ r h t e. subst (λ (m : Made Fol). IsClauseRead m r c.whole_clause-answer.new.reader.reading.symbols) (λ i. formula_in (c.style_of.ensures i) [] (start c i).reading t) (h t e (ap (λ (p : Progress). p.scope) (start c))))
     c.whole_clause-answer.ensures.read)
 

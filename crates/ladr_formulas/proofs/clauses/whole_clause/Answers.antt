@@ -12,7 +12,7 @@ returns-clause-read c = λ t parts none.
     let st = c.args.style in
     let s = c.args.reader.now.reading in
     let is = reads st s t in
-    let all : formulas_in st c.args.reader.now.scope s (raw_list c.args.literals.now) ≡ formulas_in st [] s (disjuncts t) = λ i. formulas_in st (none i) s (parts i) in
+    let all : formulas_in st c.args.reader.now.scope s (raw_list c.args.literals.items) ≡ formulas_in st [] s (disjuncts t) = λ i. formulas_in st (none i) s (parts i) in
     let reading : c.clause.new.reader.reading ≡ (formula_in st [] s t).reading = c.in_ok-clause.ensures.reading ∙ ap (λ (m : Made (List Fol)). m.reading) all ∙ is.reading in
     record {
       clause = c.in_ok-clause.ensures.clause ∙ ap (λ (m : Made (List Fol)). clause_from m.tree) all ∙ is.clause;

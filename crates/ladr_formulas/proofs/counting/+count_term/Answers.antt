@@ -1,9 +1,9 @@
-use Rattle.std.proofs.Common.{◌≡◌, ◌∙◌, ℕ, List, [], ◌∷◌, ◌+◌, ◌++◌, length, drop, refl, sym, ap, subst, arith}
-use Rattle.fol_core.specs.RawTree.{RawTree, RawTrees, raws_of}
+use Rattle.std.proofs.Common.{◌∙◌, ℕ, List, [], ◌∷◌, ◌+◌, ◌++◌, drop, sym, ap, arith}
+use Rattle.fol_core.specs.RawTree.{raws_of}
 use Rattle.fol_core.specs.RawView.{raw_of, raw_list}
-use Rattle.fol_core.specs.SymbolTable.{Symbol, symbol}
+use Rattle.fol_core.specs.SymbolTable.{symbol}
 use Rattle.fol_core.specs.declared.raw.Raw.{Raw}
-use Rattle.fol_core.specs.declared.symbols.Kind.TheVariants.{Function, Relation}
+use Rattle.fol_core.specs.declared.symbols.Kind.TheVariants.{Function}
 use Rattle.ladr_formulas.specs.Counting.{names_bound}
 use Rattle.ladr_formulas.specs.Formulas.{Bound, arity_of}
 use Rattle.ladr_formulas.specs.Occurring.{symbols_of_term, symbols_of_terms}

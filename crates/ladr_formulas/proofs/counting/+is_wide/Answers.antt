@@ -1,10 +1,10 @@
-use Rattle.std.proofs.Common.{◌≡◌, ◌∙◌, List, Bool, true, false, ap, sym, drop, arith}
+use Rattle.std.proofs.Common.{◌∙◌, List, ap, sym, arith}
 use Rattle.std.proofs.lemmas.List.{drop_all}
 use Rattle.fol_core.specs.RawTree.{RawTree, raws_of}
 use Rattle.fol_core.specs.RawView.{raw_of, raw_list}
 use Rattle.fol_core.specs.declared.raw.Raw.{Raw}
 use Rattle.ladr_formulas.specs.Counting.{is_wide, are_wide}
-use Rattle.ladr_formulas.proofs.CountingLemmas.{wide_here, wide_by_count, wide_by_argument, narrow}
+use Rattle.ladr_formulas.proofs.CountingLemmas.{wide_by_count, narrow}
 use Rattle.ladr_formulas.proofs.counting.+is_wide.Goals as goal
 
 pub returns-then-len-gt-MOST_ARGUMENTS : goal.returns-then-len-gt-MOST_ARGUMENTS

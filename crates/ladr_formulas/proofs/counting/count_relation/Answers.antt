@@ -1,13 +1,12 @@
-use Rattle.std.proofs.Common.{◌≡◌, ◌∙◌, ℕ, List, [], ◌∷◌, ◌+◌, ◌++◌, length, drop, refl, sym, ap, subst, arith}
-use Rattle.fol_core.specs.RawTree.{RawTree, RawTrees, raws_of}
+use Rattle.std.proofs.Common.{◌∙◌, List, [], ◌∷◌, ◌+◌, ◌++◌, drop, refl, sym, ap}
+use Rattle.fol_core.specs.RawTree.{RawTree, raws_of}
 use Rattle.fol_core.specs.RawView.{raw_of, raw_list}
-use Rattle.fol_core.specs.SymbolTable.{Symbol, symbol}
-use Rattle.fol_core.specs.declared.raw.Raw.{Raw}
-use Rattle.fol_core.specs.declared.symbols.Kind.TheVariants.{Function, Relation}
+use Rattle.fol_core.specs.SymbolTable.{symbol}
+use Rattle.fol_core.specs.declared.symbols.Kind.TheVariants.{Relation}
 use Rattle.ladr_formulas.specs.Counting.{names_bound}
 use Rattle.ladr_formulas.specs.Formulas.{Bound, arity_of}
 use Rattle.ladr_formulas.specs.Occurring.{symbols_of_term, symbols_of_terms}
-use Rattle.ladr_formulas.proofs.CountingLemmas.{applied, argument_here, stops_as, loop_stops, loop_goes_on, loop_ends, scope_kept, none_left}
+use Rattle.ladr_formulas.proofs.CountingLemmas.{argument_here, stops_as, loop_stops, loop_goes_on, scope_kept}
 use Rattle.ladr_formulas.proofs.TermLemmas.{kept_both}
 use Rattle.ladr_formulas.proofs.counting.count_relation.Goals as goal
 

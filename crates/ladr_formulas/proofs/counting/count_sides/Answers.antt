@@ -1,4 +1,4 @@
-use Rattle.std.proofs.Common.{◌≡◌, ◌++◌, List, refl, sym, ap}
+use Rattle.std.proofs.Common.{◌++◌, List, refl, sym, ap}
 use Rattle.fol_core.specs.RawView.{raw_of}
 use Rattle.ladr_formulas.specs.Counting.{names_bound}
 use Rattle.ladr_formulas.specs.Formulas.{Bound}

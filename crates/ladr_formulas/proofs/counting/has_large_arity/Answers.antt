@@ -1,4 +1,4 @@
-use Rattle.std.proofs.Common.{◌≡◌, ◌∙◌, sym}
+use Rattle.std.proofs.Common.{◌∙◌, sym}
 use Rattle.fol_core.specs.RawView.{raw_of}
 use Rattle.ladr_formulas.proofs.WideLemmas.{large_is_wide}
 use Rattle.ladr_formulas.proofs.counting.has_large_arity.Goals as goal

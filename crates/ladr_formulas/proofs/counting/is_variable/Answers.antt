@@ -1,4 +1,4 @@
-use Rattle.std.proofs.Common.{◌≡◌, ◌∙◌, Option, ℕ, sym, ap}
+use Rattle.std.proofs.Common.{◌∙◌, sym, ap}
 use Rattle.std.specs.Prelude.{is_some}
 use Rattle.ladr_formulas.specs.Formulas.{is_free_name}
 use Rattle.ladr_formulas.proofs.CountingLemmas.{left_or, right_or}
