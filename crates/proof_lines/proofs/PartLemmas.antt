@@ -56,9 +56,9 @@ behind_read g ts end n kind terms just h seen words =
     }
 
 seen_kind : (g : LineTables) (item : List Lexeme) (content : ContentRead) → IsContentSeen g item content → HasKind g item (kind_seen content)
-seen_kind g item (seen.Formula f) h = ((h.0.0, h.0.1), h.1)
+seen_kind g item seen.Formula h = (h.0, h.1)
 seen_kind g item (seen.Clause c) h = (h.1, (h.0.0, h.0.1))
-seen_kind g item (seen.Either f c) h = ((h.0.0, h.0.1), (h.1.0, h.1.1))
+seen_kind g item (seen.Either c) h = (h.0, (h.1.0, h.1.1))
 
 -- words that can't stand behind content
 pub bad_behind : (g : LineTables) (ts : List Token) (end k : ℕ) (content : ContentRead) (kind : ContentKind) → end ≤ length ts → kind ≡ kind_seen content

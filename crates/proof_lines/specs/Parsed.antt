@@ -47,23 +47,22 @@ AreLiteralsRead t (Some literals) =
     × (is_too_deep false t ≡ false)
 AreLiteralsRead t None = is_too_deep false t ≡ true
 
--- the content is one of a formula, and the code has it; so of a clause
-abbrev pub IsFormulaSeen : LineTables → List Lexeme → Option Raw → Type 0
-IsFormulaSeen g ts o = (t : RawTree) × IsContent g true ts t × HasTermRead t o
+-- the content is one of a formula; or of a clause, and the code has it
+abbrev pub IsFormulaSeen : LineTables → List Lexeme → Type 0
+IsFormulaSeen g ts = (t : RawTree) × IsContent g true ts t
 
 abbrev pub IsClauseSeen : LineTables → List Lexeme → Option (Vec Raw) → Type 0
 IsClauseSeen g ts o = (t : RawTree) × IsContent g false ts t × AreLiteralsRead t o
 
 abbrev pub IsContentSeen : LineTables → List Lexeme → ContentRead → Type 0
-IsContentSeen g ts (seen.Formula f) =
-    IsFormulaSeen g ts f × ((t : RawTree) → ¬ IsContent g false ts t)
+IsContentSeen g ts seen.Formula = IsFormulaSeen g ts × ((t : RawTree) → ¬ IsContent g false ts t)
 IsContentSeen g ts (seen.Clause c) = IsClauseSeen g ts c × ((t : RawTree) → ¬ IsContent g true ts t)
-IsContentSeen g ts (seen.Either f c) = IsFormulaSeen g ts f × IsClauseSeen g ts c
+IsContentSeen g ts (seen.Either c) = IsFormulaSeen g ts × IsClauseSeen g ts c
 
 abbrev pub kind_seen : ContentRead → ContentKind
-kind_seen (seen.Formula f) = kind.Formula
+kind_seen seen.Formula = kind.Formula
 kind_seen (seen.Clause c) = kind.Clause
-kind_seen (seen.Either f c) = kind.Either
+kind_seen (seen.Either c) = kind.Either
 
 -- what is left of the content behind the words: the term of a formula, or the literals of a clause
 abbrev pub AreTermsRead : Bool → RawTree → Terms → Type 0

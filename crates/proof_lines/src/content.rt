@@ -1,5 +1,5 @@
 // The content of a line: a formula, a clause, or what may be either.
-ghost use Rattle.std.specs.Prelude.{◌≡◌, ◌≤◌, ℕ, suc, true, false, IsTrue, List, IfOk, IfErr, length, take, drop};
+ghost use Rattle.std.specs.Prelude.{◌≡◌, ◌≤◌, ℕ, suc, true, false, IsTrue, List, IfOk, IfErr, IfSome, IfNone, length, take, drop};
 ghost use Rattle.fol_core.specs.RawTree.{RawTree};
 ghost use Rattle.fol_core.specs.RawView.{raw_list};
 ghost use Rattle.ladr_lex.specs.Lexeme.{Lexeme, lexeme_of, lexemes_of};
@@ -22,13 +22,13 @@ use ladr_reader::{TermFault, read_literals, read_tree};
 use proof_words::ContentKind;
 use std::alloc::Global;
 
-/// Content as it is read: of a formula that is no clause, of a clause that is no formula, or of what may be either. There is
-/// nothing in it where it is nested too deep.
+/// Content as it is read: of a formula that is no clause, of a clause that is no formula, or of what may be either. The term of
+/// the formula isn't kept, since it and the literals may take much memory; there are no literals where one is nested too deep.
 #[derive(Drop)]
 pub enum ContentRead {
-    Formula(Option<Raw>),
+    Formula,
     Clause(Option<Vec<Raw>>),
-    Either(Option<Raw>, Option<Vec<Raw>>),
+    Either(Option<Vec<Raw>>),
 }
 
 /// The term of a formula, or the literals of a clause, unless they are nested too deep.
@@ -44,30 +44,55 @@ impl ContentRead {
         ensures { result ≡ kind_seen self.now }
     {
         match self {
-            ContentRead::Formula(_) => ContentKind::Formula,
+            ContentRead::Formula => ContentKind::Formula,
             ContentRead::Clause(_) => ContentKind::Clause,
-            ContentRead::Either(_, _) => ContentKind::Either,
+            ContentRead::Either(_) => ContentKind::Either,
         }
     }
 
-    /// The content of a formula, or else of a clause.
-    pub fn into_terms(self, of_formula: bool) -> Terms
+    /// The literals of a clause, or else nothing.
+    pub fn into_clause(self, of_formula: bool) -> Option<Terms>
         requires { (kind_seen self ≡ ContentKind.Formula → of_formula ≡ true)
             × (kind_seen self ≡ ContentKind.Clause → of_formula ≡ false) }
-        ensures { (g : LineTables) (ts : List Lexeme) → IsContentSeen g ts self
-            → AreTermsSeen g of_formula ts result }
+        ensures clause { IfSome result (λ terms. (g : LineTables) (ts : List Lexeme)
+            → IsContentSeen g ts self → AreTermsSeen g of_formula ts terms) }
+        ensures formula { IfNone result (of_formula ≡ true) }
     {
         match self {
-            ContentRead::Formula(formula) => Terms::Formula(formula),
-            ContentRead::Clause(clause) => Terms::Clause(clause),
-            ContentRead::Either(formula, clause) => {
+            ContentRead::Formula => None,
+            ContentRead::Clause(clause) => Some(Terms::Clause(clause)),
+            ContentRead::Either(clause) => {
                 if of_formula {
-                    Terms::Formula(formula)
+                    None
                 } else {
-                    Terms::Clause(clause)
+                    Some(Terms::Clause(clause))
                 }
             }
         }
+    }
+}
+
+/// The content of a formula, or else of a clause; the tokens of a formula are gone over once more, when the clause is gone.
+pub fn terms_seen(
+    alloc: Global,
+    operators: &LineOperators,
+    tokens: &[Token],
+    content: ContentRead,
+    of_formula: bool,
+) -> Result<Terms, PartFault>
+    requires kind { (kind_seen content ≡ ContentKind.Formula → of_formula ≡ true)
+        × (kind_seen content ≡ ContentKind.Clause → of_formula ≡ false) }
+    requires seen { IsContentSeen (tables_of operators.now) (lexemes_of tokens.now) content }
+    ensures terms { IfOk result (AreTermsSeen (tables_of operators.now) of_formula
+        (lexemes_of tokens.now)) }
+    ensures fault { IfErr result (λ fault. fault ≡ PartFault.Memory) }
+{
+    match content.into_clause(of_formula) {
+        Some(terms) => Ok(terms),
+        None => match formula_seen(alloc, &operators.formulas, tokens) {
+            Ok(formula) => Ok(Terms::Formula(formula)),
+            Err(_) => Err(PartFault::Memory),
+        },
     }
 }
 
@@ -143,6 +168,19 @@ fn as_clause(literals: Vec<Raw>, tokens: &[Token]) -> Result<Option<Vec<Raw>>, P
     }
 }
 
+// Whether the tokens are those of a formula.
+fn formula_found(alloc: Global, ops: &Ops, tokens: &[Token]) -> Result<(), PartFault>
+    ensures item { IfOk result (λ _. (t : RawTree) × Item (table_of ops.now)
+        (lexemes_of tokens.now) t) }
+    ensures fault { IfErr result (IsPartFault (IsNoItem (table_of ops.now)
+        (lexemes_of tokens.now))) }
+{
+    match formula_seen(alloc, ops, tokens) {
+        Ok(_) => Ok(()),
+        Err(fault) => Err(fault),
+    }
+}
+
 /// What the tokens of content are.
 #[tactic(auto, using(crate::proofs::Clauses::no_clause_none, crate::proofs::Clauses::no_item_within, crate::proofs::Clauses::no_clause_within, crate::proofs::Contents::lexemes_long))]
 pub fn read_content(
@@ -155,10 +193,10 @@ pub fn read_content(
         (lexemes_of tokens.now))) }
     ensures within { IfErr result (IsPartFault (λ k. k ≤ length tokens.now)) }
 {
-    match formula_seen(alloc, &operators.formulas, tokens) {
-        Ok(formula) => match clause_seen(alloc, &operators.clauses, tokens) {
-            Ok(clause) => Ok(ContentRead::Either(formula, clause)),
-            Err(PartFault::Bad(_)) => Ok(ContentRead::Formula(formula)),
+    match formula_found(alloc, &operators.formulas, tokens) {
+        Ok(()) => match clause_seen(alloc, &operators.clauses, tokens) {
+            Ok(clause) => Ok(ContentRead::Either(clause)),
+            Err(PartFault::Bad(_)) => Ok(ContentRead::Formula),
             Err(PartFault::Memory) => Err(PartFault::Memory),
         },
         Err(PartFault::Bad(k)) => match clause_seen(alloc, &operators.clauses, tokens) {

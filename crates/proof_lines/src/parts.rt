@@ -10,7 +10,7 @@ ghost use Rattle.proof_words.specs.Faults.{AreFirstWords, IsBadWordToken};
 ghost use Rattle.proof_words.specs.Spelling.{line_words};
 ghost use Rattle.proof_words.specs.Written.{written_of, written_first, states_formula, suits};
 
-use crate::content::{Terms, content_end, read_content};
+use crate::content::{Terms, content_end, read_content, terms_seen};
 use crate::fault::PartFault;
 use crate::operators::LineOperators;
 use derivation::{First, Just};
@@ -94,14 +94,19 @@ pub fn read_behind(
         Ok(content) => content,
         Err(fault) => return Err(fault),
     };
-    match words_behind(alloc, content.kind(), &tokens[end..]) {
-        Ok((just, len)) => Ok(Behind {
-            terms: content.into_terms(states_formula(&just.first)),
+    let (just, len) = match words_behind(alloc, content.kind(), &tokens[end..]) {
+        Ok(read) => read,
+        Err(PartFault::Bad(k)) => return Err(PartFault::Bad(end + k)),
+        Err(PartFault::Memory) => return Err(PartFault::Memory),
+    };
+    let by_formula = states_formula(&just.first);
+    match terms_seen(alloc, operators, &tokens[..end], content, by_formula) {
+        Ok(terms) => Ok(Behind {
+            terms,
             just,
             len: end + len,
         }),
-        Err(PartFault::Bad(k)) => Err(PartFault::Bad(end + k)),
-        Err(PartFault::Memory) => Err(PartFault::Memory),
+        Err(_) => Err(PartFault::Memory),
     }
 }
 

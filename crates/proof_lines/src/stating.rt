@@ -68,17 +68,17 @@ fn formula(
 #[tactic(auto, using(crate::proofs::Steps::strays_told))]
 fn clause(
     alloc: Global,
-    literals: &[Raw],
+    literals: Vec<Raw>,
     problem: &Problem,
     names: &ProblemNames,
     symbols: &mut Symbols,
 ) -> Result<Content, LineFault>
     requires names { AreNamesOf problem.now.symbols names.now }
-    requires literals { (t : RawTree) × IsClauseTerm t literals.now }
-    ensures stated { (t : RawTree) → IsClauseTerm t literals.now → IfOk result (λ content.
+    requires literals { (t : RawTree) × IsClauseTerm t literals.items }
+    ensures stated { (t : RawTree) → IsClauseTerm t literals.items → IfOk result (λ content.
         IsTermStated (style_of Prover problem.now.options.prolog_style_variables)
         problem.now.symbols symbols.old false t content symbols.new) }
-    ensures fault { (t : RawTree) → IsClauseTerm t literals.now → IfErr result
+    ensures fault { (t : RawTree) → IsClauseTerm t literals.items → IfErr result
         (IsStatedFault (style_of Prover problem.now.options.prolog_style_variables)
         problem.now.symbols symbols.old false t) }
     ensures kept { KeepsNumbers symbols.old symbols.new }
@@ -114,7 +114,7 @@ pub fn state(
 {
     match terms {
         Terms::Formula(Some(raw)) => formula(alloc, raw, problem, names, symbols),
-        Terms::Clause(Some(literals)) => clause(alloc, &literals, problem, names, symbols),
+        Terms::Clause(Some(literals)) => clause(alloc, literals, problem, names, symbols),
         Terms::Formula(None) | Terms::Clause(None) => Err(LineFault::Deep),
     }
 }

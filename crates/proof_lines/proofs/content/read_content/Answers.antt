@@ -11,4 +11,4 @@ returns-in-Err-Bad-clause_seen-clause-read c =
     let g = table_of c.args.operators.now.clauses in
     let ts = lexemes_of c.args.tokens.now in
     let bad = subst (IsPartFault (IsNoClause g ts)) c.in-Err-Bad-clause_seen.field-0-is c.in-Err-Bad-clause_seen.ensures.fault in
-    (c.in-Ok.ensures.read, no_clause_none g ts c.in-Err-Bad-clause_seen.field-0-0 bad)
+    (c.in-Ok.ensures.item, no_clause_none g ts c.in-Err-Bad-clause_seen.field-0-0 bad)
