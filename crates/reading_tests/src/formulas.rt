@@ -31,9 +31,9 @@ fn arguments_are_read(rt: HostRuntime) -> Result<(), Fail> {
 
 #[test]
 fn a_literal_is_a_clause(rt: HostRuntime) -> Result<(), Fail> {
-    let literals = [item(rt.alloc(), b"-p(x).")?];
+    let literals = Vec::from_array(rt.alloc(), [item(rt.alloc(), b"-p(x).")?])?;
     let mut symbols = Symbols::new(rt.alloc());
-    let read = clause_of(rt.alloc(), &literals, &mut symbols, Mode::Prover, false)?;
+    let read = clause_of(rt.alloc(), literals, &mut symbols, Mode::Prover, false)?;
     assert!(rt; matches!(&read.clause, Some(clause) if clause.len() == 1));
     assert_eq!(rt; read.names.len(), 1);
     Ok(())
