@@ -9,6 +9,7 @@ pub mod Only
 pub mod Ordered
 pub mod Paths
 pub mod Placing
+pub mod Raised
 pub mod Returning
 pub mod Terms
 pub mod Trees

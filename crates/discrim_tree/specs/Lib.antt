@@ -10,6 +10,7 @@ pub mod Seeking
 pub mod Sieves
 pub mod Terms
 pub mod Trees
+pub mod Tries
 pub mod View
 pub mod Walks
 pub mod Worked

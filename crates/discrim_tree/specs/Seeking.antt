@@ -1,13 +1,12 @@
 -- What is sought in an index.
-use Rattle.std.specs.Prelude.{ℕ, ◌≡◌, ◌⊎◌, Bool, true, false, ◌==◌, ◌&&◌, ◌≤◌, List, [], ◌∷◌, Option, Some}
+use Rattle.std.specs.Prelude.{ℕ, ◌≡◌, ◌⊎◌, Bool, true, false, ◌==◌, ◌&&◌, List, [], ◌∷◌}
 use Rattle.std.specs.List.{list_any}
 use Rattle.fol_core.specs.Tree.{Tree}
 use Rattle.fol_core.specs.TermView.{tree_of}
 use Rattle.discrim_tree.specs.Entries.{Indexed}
-use Rattle.discrim_tree.specs.Nodes.{Store, IsIn, Holds, Reaches}
+use Rattle.discrim_tree.specs.Nodes.{Store, Reaches}
 use Rattle.discrim_tree.specs.Paths.{path_of}
 use Rattle.discrim_tree.specs.Terms.{has_instance, can_unify}
-use Rattle.discrim_tree.specs.Walks.{IsFound}
 use Rattle.discrim_tree.specs.declared.edge.Edge.{Edge}
 use Rattle.discrim_tree.specs.declared.entry.IndexEntry.{IndexEntry}
 use Rattle.discrim_tree.specs.declared.sought.Sought.{Sought}
@@ -50,26 +49,3 @@ AreOnly nodes es = (path : List Edge) (n : ℕ) → Reaches nodes 0 path n → I
 -- whether a number is that of an entry that passes a test
 abbrev pub is_sought : (Tree → Bool) → List Indexed → ℕ → Bool
 is_sought test es n = list_any (λ e. (e.number == n) && test e.tree) es
-
--- a number, if there is one, is no greater than this
-abbrev pub IsAtMost : Option ℕ → ℕ → Type 0
-IsAtMost best n = (m : ℕ) × (best ≡ Some m) × (m ≤ n)
-
--- the least number so far that passes, where these numbers come to those before
-pub record Improves (p : ℕ → Bool) (numbers : List ℕ) (old new : Option ℕ) : Type 0 where
-  pub sound : ((m : ℕ) → old ≡ Some m → p m ≡ true) → (m : ℕ) → new ≡ Some m → p m ≡ true
-  pub keeps : (n : ℕ) → IsAtMost old n → IsAtMost new n
-  pub takes : (n : ℕ) → IsIn n numbers → p n ≡ true → IsAtMost new n
-
--- the same, where the numbers at a node come to those before
-pub record ImprovesAt (p : ℕ → Bool) (nodes : Store) (at : ℕ) (old new : Option ℕ) : Type 0
-  where
-    pub sound : ((m : ℕ) → old ≡ Some m → p m ≡ true) → (m : ℕ) → new ≡ Some m → p m ≡ true
-    pub keeps : (n : ℕ) → IsAtMost old n → IsAtMost new n
-    pub takes : (n : ℕ) → Holds nodes at n → p n ≡ true → IsAtMost new n
-
--- the least number at the nodes of a walk that passes
-pub record IsLeast (p : ℕ → Bool) (nodes : Store) (walk : List ℕ) (best : Option ℕ) : Type 0
-  where
-    pub sound : (m : ℕ) → best ≡ Some m → p m ≡ true
-    pub least : (n : ℕ) → IsFound nodes walk n → p n ≡ true → IsAtMost best n

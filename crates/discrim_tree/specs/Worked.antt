@@ -4,6 +4,8 @@ use Rattle.fol_core.specs.Tree.{Tree, var, app, none, more}
 use Rattle.discrim_tree.specs.Beginnings.{count_beginnings}
 use Rattle.discrim_tree.specs.Entries.{Indexed, indexed, with_entry, without_entry, numbers_found}
 use Rattle.discrim_tree.specs.Terms.{has_instance, can_unify}
+use Rattle.discrim_tree.specs.Tries.{count_linear, greatest, raised}
+use Rattle.discrim_tree.specs.declared.sought.Sought.TheVariants.{Generalizations, Instances, Unifiable}
 
 abbrev a : Tree
 a = app 0 none
@@ -26,6 +28,15 @@ WorkedRetrievals =
     × (numbers_found (λ s. has_instance (f (var 3) (var 4)) s) three ≡ 2 ∷ 5 ∷ 9 ∷ [])
     × (numbers_found (λ s. has_instance (f (var 3) (var 3)) s) three ≡ 2 ∷ [])
     × (numbers_found (λ s. can_unify s (f (f (var 0) a) (var 0))) three ≡ 5 ∷ [])
+
+-- one entry is found where two or three are tested, since each occurrence of a variable counts there
+-- as a variable of its own
+abbrev pub WorkedTries : Type 0
+WorkedTries =
+    (count_linear Generalizations (f (f a a) a) three ≡ 2)
+    × (count_linear Instances (f (var 3) (var 3)) three ≡ 3)
+    × (count_linear Unifiable (f (f (var 0) a) (var 0)) three ≡ 2)
+    × (raised 2 ≡ 3) × (raised greatest ≡ greatest)
 
 -- an entry comes to its place, and one is taken out
 abbrev pub WorkedEntries : Type 0

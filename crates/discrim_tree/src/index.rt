@@ -1,15 +1,18 @@
 // The index.
-ghost use Rattle.std.specs.Prelude.{◌≡◌, [], false, slice_get, IfOk, OnOk, OnErr};
+ghost use Rattle.std.specs.Prelude.{◌≡◌, ◌+◌, ◌≤◌, [], false, length, slice_get, IfOk, IfSome, OnOk, OnErr};
 ghost use Rattle.fol_core.specs.TermView.{tree_of};
 ghost use Rattle.discrim_tree.specs.Beginnings.{count_beginnings};
 ghost use Rattle.discrim_tree.specs.Entries.{indexed, has_number, with_entry, without_entry, numbers_found, NumbersRise};
 ghost use Rattle.discrim_tree.specs.Terms.{has_instance, can_unify};
+ghost use Rattle.discrim_tree.specs.Tries.{count_linear, HasRisen};
+ghost use Rattle.discrim_tree.specs.declared.sought.Sought.TheVariants.{Generalizations, Instances, Unifiable};
 
 use crate::edge::path_of;
 use crate::entry::IndexEntry;
 use crate::nodes::Nodes;
 use crate::seeking::{first, found, place_of};
 use crate::sought::Sought;
+use crate::tries::Tries;
 use fol_core::Term;
 use std::alloc::{AllocError, Global};
 use std::marker::Model;
@@ -95,10 +98,13 @@ impl Index {
     }
 
     /// The numbers of the entries of which the term is an instance, rising.
-    pub fn generalizations(&self, t: &Term) -> Result<Vec<u64>, AllocError>
+    pub fn generalizations(&self, t: &Term, tries: &mut Tries) -> Result<Vec<u64>, AllocError>
         ensures found { IfOk result (λ found. found.items
             ≡ numbers_found (λ s. has_instance s (tree_of t.now)) self.now) }
         ensures rise { NumbersRise self.now }
+        ensures on { tries.old ≤ tries.new }
+        ensures within { tries.new ≤ tries.old + count_linear Generalizations (tree_of t.now) self.now }
+        ensures tested { IfOk result (λ found. HasRisen (length found.items) tries.old tries.new) }
     {
         found(
             *self.entries.allocator(),
@@ -106,13 +112,21 @@ impl Index {
             &self.nodes,
             &Sought::Generalizations,
             t,
+            tries,
         )
     }
 
     /// The least number of an entry of which the term is an instance.
-    pub fn first_generalization(&self, t: &Term) -> Result<Option<u64>, AllocError>
-        ensures { IfOk result (λ found. found
+    pub fn first_generalization(
+        &self,
+        t: &Term,
+        tries: &mut Tries,
+    ) -> Result<Option<u64>, AllocError>
+        ensures found { IfOk result (λ found. found
             ≡ slice_get (numbers_found (λ s. has_instance s (tree_of t.now)) self.now) 0) }
+        ensures on { tries.old ≤ tries.new }
+        ensures within { tries.new ≤ tries.old + count_linear Generalizations (tree_of t.now) self.now }
+        ensures tested { IfOk result (λ found. IfSome found (λ _. HasRisen 1 tries.old tries.new)) }
     {
         first(
             *self.entries.allocator(),
@@ -120,14 +134,18 @@ impl Index {
             &self.nodes,
             &Sought::Generalizations,
             t,
+            tries,
         )
     }
 
     /// The numbers of the entries that are instances of the term, rising.
-    pub fn instances(&self, t: &Term) -> Result<Vec<u64>, AllocError>
+    pub fn instances(&self, t: &Term, tries: &mut Tries) -> Result<Vec<u64>, AllocError>
         ensures found { IfOk result (λ found. found.items
             ≡ numbers_found (λ s. has_instance (tree_of t.now) s) self.now) }
         ensures rise { NumbersRise self.now }
+        ensures on { tries.old ≤ tries.new }
+        ensures within { tries.new ≤ tries.old + count_linear Instances (tree_of t.now) self.now }
+        ensures tested { IfOk result (λ found. HasRisen (length found.items) tries.old tries.new) }
     {
         found(
             *self.entries.allocator(),
@@ -135,14 +153,18 @@ impl Index {
             &self.nodes,
             &Sought::Instances,
             t,
+            tries,
         )
     }
 
     /// The numbers of the entries that unify with the term, where each has variables of its own, rising.
-    pub fn unifiable(&self, t: &Term) -> Result<Vec<u64>, AllocError>
+    pub fn unifiable(&self, t: &Term, tries: &mut Tries) -> Result<Vec<u64>, AllocError>
         ensures found { IfOk result (λ found. found.items
             ≡ numbers_found (λ s. can_unify s (tree_of t.now)) self.now) }
         ensures rise { NumbersRise self.now }
+        ensures on { tries.old ≤ tries.new }
+        ensures within { tries.new ≤ tries.old + count_linear Unifiable (tree_of t.now) self.now }
+        ensures tested { IfOk result (λ found. HasRisen (length found.items) tries.old tries.new) }
     {
         found(
             *self.entries.allocator(),
@@ -150,6 +172,7 @@ impl Index {
             &self.nodes,
             &Sought::Unifiable,
             t,
+            tries,
         )
     }
 }

@@ -12,6 +12,7 @@ mod seeking;
 mod sieve;
 mod skipping;
 mod sought;
+mod tries;
 mod walk;
 
 pub use index::Index;
@@ -20,3 +21,4 @@ pub use meeting::may_meet;
 pub use seeking::put_in_order;
 pub use sieve::Sieve;
 pub use sought::Sought;
+pub use tries::Tries;
