@@ -1,5 +1,5 @@
 // Clauses that are held, found by their literals and by the terms in them.
-ghost use Rattle.std.specs.Prelude.{◌≡◌, ◌==◌, not, [], IfOk, OnOk, OnErr, filter, length};
+ghost use Rattle.std.specs.Prelude.{◌≡◌, ◌≤◌, ◌==◌, not, [], IfOk, OnOk, OnErr, filter, length};
 ghost use Rattle.clause_index.specs.Entries.{begins_generally};
 ghost use Rattle.clause_index.specs.Filing.{AllOthersStay};
 ghost use Rattle.clause_index.specs.Finding.{has_atom_such, has_equation_such, has_inside_such, has_part_such};
@@ -14,7 +14,7 @@ use crate::finder::Finder;
 use crate::listed::Listed;
 use crate::lists::{all_with, with_number};
 use crate::parts::{Part, all_found};
-use discrim_tree::Sought;
+use discrim_tree::{Sought, Tries};
 use fol_core::Term;
 use held_clauses::Held;
 use std::alloc::{AllocError, Global};
@@ -90,12 +90,18 @@ impl HeldSet {
     }
 
     /// The clauses whose first literal has this sign and the atom as an instance of its own, and those without literals.
-    pub fn generalizing(&self, sign: bool, atom: &Term) -> Result<Vec<&Held>, AllocError>
+    pub fn generalizing(
+        &self,
+        sign: bool,
+        atom: &Term,
+        tries: &mut Tries,
+    ) -> Result<Vec<&Held>, AllocError>
         ensures found { IfOk result (λ hs. lent hs.items
             ≡ filter (begins_generally sign (tree_of atom.now)) self.now) }
         ensures rising { IsRising (numbers_of self.now) }
+        ensures on { tries.old ≤ tries.new }
     {
-        self.listed.generalizing(sign, atom)
+        self.listed.generalizing(sign, atom, tries)
     }
 
     // The clauses that have a term that is sought.

@@ -1,5 +1,5 @@
 // Clauses by rising number, found by their first literals.
-ghost use Rattle.std.specs.Prelude.{◌≡◌, ◌==◌, false, not, [], IfOk, OnOk, OnErr, filter, length};
+ghost use Rattle.std.specs.Prelude.{◌≡◌, ◌≤◌, ◌==◌, false, not, [], IfOk, OnOk, OnErr, filter, length};
 ghost use Rattle.clause_index.specs.Entries.{may_begin, begins_generally, entered, first_literals};
 ghost use Rattle.discrim_tree.specs.Entries.{has_number};
 ghost use Rattle.fol_core.specs.TermView.{tree_of};
@@ -8,7 +8,7 @@ ghost use Rattle.prover_steps.specs.HeldOrder.{numbers_of, IsNoneOf, IsRising};
 ghost use Rattle.prover_steps.specs.Searching.{put_in};
 
 use crate::lists::{all_with, leave_out_one, put_in};
-use discrim_tree::Index;
+use discrim_tree::{Index, Tries};
 use fol_core::Term;
 use held_clauses::{Held, first_atom};
 use std::alloc::{AllocError, Global};
@@ -113,13 +113,19 @@ impl Listed {
     }
 
     /// The clauses whose first literal has this sign and the atom as an instance of its own, and those without literals.
-    pub fn generalizing(&self, sign: bool, atom: &Term) -> Result<Vec<&Held>, AllocError>
+    pub fn generalizing(
+        &self,
+        sign: bool,
+        atom: &Term,
+        tries: &mut Tries,
+    ) -> Result<Vec<&Held>, AllocError>
         ensures found { IfOk result (λ hs. lent hs.items
             ≡ filter (begins_generally sign (tree_of atom.now)) self.now) }
         ensures rising { IsRising (numbers_of self.now) }
+        ensures on { tries.old ≤ tries.new }
     {
         let alloc = *self.clauses.allocator();
-        let numbers = self.index(sign).generalizations(atom)?;
+        let numbers = self.index(sign).generalizations(atom, tries)?;
         all_with(alloc, numbers.as_slice(), self.clauses.as_slice())
     }
 

@@ -1,5 +1,5 @@
 // Rules, found by their left sides.
-ghost use Rattle.std.specs.Prelude.{◌≡◌, ◌==◌, not, [], IfOk, OnOk, OnErr, filter, is_some};
+ghost use Rattle.std.specs.Prelude.{◌≡◌, ◌≤◌, ◌==◌, not, [], IfOk, OnOk, OnErr, filter, is_some};
 ghost use Rattle.std.specs.List.{find};
 ghost use Rattle.std.specs.Option.{option_map};
 ghost use Rattle.fol_core.specs.TermView.{tree_of};
@@ -8,7 +8,7 @@ ghost use Rattle.prover_steps.specs.Rewriting.{rewritten_by};
 ghost use Rattle.prover_steps.specs.Searching.{put_in, held_without};
 
 use crate::lists::{leave_out_one, put_in, with_number};
-use discrim_tree::Index;
+use discrim_tree::{Index, Tries};
 use fol_core::Term;
 use held_clauses::{Held, first_atom, left_of};
 use std::alloc::{AllocError, Global};
@@ -49,11 +49,12 @@ impl Rules {
     }
 
     /// The first rule that fits the term as a whole.
-    pub fn first_for(&self, term: &Term) -> Result<Option<&Held>, AllocError>
-        ensures { IfOk result (λ o. option_map (λ r. r.now) o
+    pub fn first_for(&self, term: &Term, tries: &mut Tries) -> Result<Option<&Held>, AllocError>
+        ensures first { IfOk result (λ o. option_map (λ r. r.now) o
             ≡ find (λ r. is_some (rewritten_by r (tree_of term.now))) self.now) }
+        ensures on { tries.old ≤ tries.new }
     {
-        match self.lefts.first_generalization(term)? {
+        match self.lefts.first_generalization(term, tries)? {
             Some(number) => Ok(with_number(number, self.rules.as_slice())),
             None => Ok(None),
         }

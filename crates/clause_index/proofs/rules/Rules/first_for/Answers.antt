@@ -6,13 +6,13 @@ use Rattle.prover_steps.specs.Rewriting.{rewritten_by}
 use Rattle.clause_index.proofs.Ruling.{rule_found, no_rule_found}
 use Rattle.clause_index.proofs.rules.Rules.first_for.Goals as goal
 
-pub returns-in-Some : goal.returns-in-Some
-returns-in-Some c =
+pub returns-in-Some-clause-first : goal.returns-in-Some-clause-first
+returns-in-Some-clause-first c =
     c.with_number.ensures ∙ ap (with_number c.in-Some.number) c.as_slice.ensures.value
-    ∙ rule_found (tree_of c.args.term.now) c.self.inside.rules.items c.self.inside.lefts c.in-Some.number c.self.invariant (sym c.in_ok-number.ensures ∙ c.in-Some.is)
+    ∙ rule_found (tree_of c.args.term.now) c.self.inside.rules.items c.self.inside.lefts c.in-Some.number c.self.invariant (sym c.in_ok-number.ensures.found ∙ c.in-Some.is)
     ∙ ap (find (λ r. is_some (rewritten_by r (tree_of c.args.term.now)))) c.self.view_is
 
-pub returns-in-None : goal.returns-in-None
-returns-in-None c =
-    sym (no_rule_found (tree_of c.args.term.now) c.self.inside.rules.items c.self.inside.lefts c.self.invariant (sym c.in_ok-number.ensures ∙ c.in-None.is))
+pub returns-in-None-clause-first : goal.returns-in-None-clause-first
+returns-in-None-clause-first c =
+    sym (no_rule_found (tree_of c.args.term.now) c.self.inside.rules.items c.self.inside.lefts c.self.invariant (sym c.in_ok-number.ensures.found ∙ c.in-None.is))
     ∙ ap (find (λ r. is_some (rewritten_by r (tree_of c.args.term.now)))) c.self.view_is
