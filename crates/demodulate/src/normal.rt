@@ -1,5 +1,5 @@
 // A clause rewritten step by step.
-ghost use Rattle.std.specs.Prelude.{◌≡◌, ◌<◌, ◌∷◌, IfOk, length};
+ghost use Rattle.std.specs.Prelude.{◌≡◌, ◌<◌, ◌≤◌, ◌∷◌, IfOk, length};
 ghost use Rattle.std.specs.Option.{option_map};
 ghost use Rattle.demodulate.specs.Resumed.{AreLiteralsNormalBefore};
 ghost use Rattle.demodulate.specs.Steps.{placed_step, IsPlaceIn, TakesAtom, tidied_of};
@@ -13,6 +13,7 @@ use crate::step::{PlacedStep, Tidied};
 use clause_index::Rules;
 use clause_limits::is_too_large;
 use derivation::{Later, Rewrite};
+use discrim_tree::Tries;
 use fol_core::{Clause, Term};
 use std::alloc::{AllocError, Global};
 
@@ -23,18 +24,26 @@ fn first_in_clause(
     rules: &Rules,
     clause: &Clause,
     from: &[u64],
+    tries: &mut Tries,
 ) -> Result<Option<PlacedStep>, AllocError>
     requires { AreLiteralsNormalBefore rules.now from.now 0 clause.now }
     ensures step { IfOk result (λ o. option_map (placed_step clause.now) o
         ≡ clause_step rules.now 0 clause.now) }
     ensures place { IfOk result (λ o. IsPlaceIn clause.now o) }
+    ensures on { tries.old ≤ tries.new }
 {
     for (place, literal) in clause.literals.iter().enumerate() {
         let number = place as u64;
         if is_passed(number, from) {
             continue;
         }
-        if let Some(step) = atom_step(alloc, rules, &literal.atom, place_within(number, from))? {
+        if let Some(step) = atom_step(
+            alloc,
+            rules,
+            &literal.atom,
+            place_within(number, from),
+            tries,
+        )? {
             return Ok(Some(PlacedStep { place, step }));
         }
     }
@@ -72,14 +81,16 @@ pub fn normal_form(
     rules: &Rules,
     limit: u32,
     clause: Clause,
+    tries: &mut Tries,
 ) -> Result<Tidied, AllocError>
-    ensures { IfOk result (λ t. tidied_of t ≡ normal_form is_too_large rules.now limit clause) }
+    ensures normal { IfOk result (λ t. tidied_of t ≡ normal_form is_too_large rules.now limit clause) }
+    ensures on { tries.old ≤ tries.new }
 {
     let mut clause = clause;
     let mut words = Vec::new(alloc);
     let mut from = Vec::new(alloc);
     for _step in 0..limit {
-        match first_in_clause(alloc, rules, &clause, from.as_slice())? {
+        match first_in_clause(alloc, rules, &clause, from.as_slice(), tries)? {
             None => return Ok(Tidied { clause, words }),
             Some(found) => {
                 let PlacedStep { place, step } = found;

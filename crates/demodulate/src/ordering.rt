@@ -1,5 +1,5 @@
 // A clause put in order: sides of equations exchanged, literals left out.
-ghost use Rattle.std.specs.Prelude.{◌≡◌, ◌<◌, [], IfOk, OnOk, length, map};
+ghost use Rattle.std.specs.Prelude.{◌≡◌, ◌<◌, ◌≤◌, [], IfOk, OnOk, length, map};
 ghost use Rattle.std.specs.List.{list_any};
 ghost use Rattle.clause_index.specs.Sets.{all_in};
 ghost use Rattle.demodulate.specs.Passes.{FlipsOn, PassGoesOn};
@@ -17,6 +17,7 @@ use crate::literals::{take_out, turn_at};
 use crate::step::Tidied;
 use clause_index::{HeldSet, HeldSets};
 use derivation::Later;
+use discrim_tree::Tries;
 use fol_core::{Clause, Literal, Term};
 use held_clauses::{Held, has_same_sides, is_equation, is_greater, left_of, right_of};
 use std::alloc::{AllocError, Global};
@@ -198,11 +199,13 @@ fn first_denying_in(
     alloc: Global,
     set: &HeldSet,
     literal: &Literal,
+    tries: &mut Tries,
 ) -> Result<Option<u64>, AllocError>
     ensures first { IfOk result (λ o. o ≡ first_denying set.now (literal_of literal.now)) }
     ensures rising { IsRising (numbers_of set.now) }
+    ensures on { tries.old ≤ tries.new }
 {
-    let units = set.generalizing(!literal.positive, &literal.atom)?;
+    let units = set.generalizing(!literal.positive, &literal.atom, tries)?;
     Ok(first_denying(alloc, units.as_slice(), literal))
 }
 
@@ -225,11 +228,13 @@ fn first_denying_of_all(
     alloc: Global,
     held: &HeldSets<'_>,
     literal: &Literal,
+    tries: &mut Tries,
 ) -> Result<Option<u64>, AllocError>
-    ensures { IfOk result (λ o. o ≡ first_denying (all_in held.now) (literal_of literal.now)) }
+    ensures first { IfOk result (λ o. o ≡ first_denying (all_in held.now) (literal_of literal.now)) }
+    ensures on { tries.old ≤ tries.new }
 {
-    let waiting = first_denying_in(alloc, held.waiting, literal)?;
-    let usable = first_denying_in(alloc, held.usable, literal)?;
+    let waiting = first_denying_in(alloc, held.waiting, literal, tries)?;
+    let usable = first_denying_in(alloc, held.usable, literal, tries)?;
     Ok(lesser(waiting, usable))
 }
 
@@ -240,12 +245,14 @@ fn delete_at(
     clause: &mut Clause,
     words: &mut Vec<Later>,
     place: usize,
+    tries: &mut Tries,
 ) -> Result<usize, AllocError>
     requires { place < length clause.old }
-    ensures { IfOk result (PassGoesOn (is_denied (all_in held.now)) clause.old
+    ensures pass { IfOk result (PassGoesOn (is_denied (all_in held.now)) clause.old
         (map later_of words.old.items) place clause.new (map later_of words.new.items)) }
+    ensures on { tries.old ≤ tries.new }
 {
-    match first_denying_of_all(alloc, held, &clause.literals[place])? {
+    match first_denying_of_all(alloc, held, &clause.literals[place], tries)? {
         Some(number) => {
             take_out(clause, place);
             words.push(Later::UnitDel(place as u64, number))?;
@@ -257,9 +264,15 @@ fn delete_at(
 
 // Leaves out literals that units deny.
 #[tactic(auto, using(crate::proofs::Passing::pass_ended))]
-fn delete_by_units(alloc: Global, held: &HeldSets<'_>, tidied: Tidied) -> Result<Tidied, AllocError>
-    ensures { IfOk result (λ t. tidied_of t ≡ followed_by (tidied_of tidied)
+fn delete_by_units(
+    alloc: Global,
+    held: &HeldSets<'_>,
+    tidied: Tidied,
+    tries: &mut Tries,
+) -> Result<Tidied, AllocError>
+    ensures left { IfOk result (λ t. tidied_of t ≡ followed_by (tidied_of tidied)
         (left_out (is_denied (all_in held.now)) [])) }
+    ensures on { tries.old ≤ tries.new }
 {
     let Tidied {
         mut clause,
@@ -267,7 +280,7 @@ fn delete_by_units(alloc: Global, held: &HeldSets<'_>, tidied: Tidied) -> Result
     } = tidied;
     let mut place = 0;
     while place < clause.len() {
-        place = delete_at(alloc, held, &mut clause, &mut words, place)?;
+        place = delete_at(alloc, held, &mut clause, &mut words, place, tries)?;
     }
     Ok(Tidied { clause, words })
 }
@@ -280,15 +293,17 @@ pub fn put_in_order(
     units: bool,
     held: &HeldSets<'_>,
     tidied: Tidied,
+    tries: &mut Tries,
 ) -> Result<Tidied, AllocError>
-    ensures { IfOk result (λ t. tidied_of t ≡ followed_by (tidied_of tidied)
+    ensures ordered { IfOk result (λ t. tidied_of t ≡ followed_by (tidied_of tidied)
         (put_in_order (greater_of precedence.now) units (all_in held.now))) }
+    ensures on { tries.old ≤ tries.new }
 {
     let flipped = flip(alloc, precedence, tidied)?;
     let merged = merge(flipped)?;
     let shortened = leave_out_false(merged)?;
     if units {
-        Ok(delete_by_units(alloc, held, shortened)?)
+        Ok(delete_by_units(alloc, held, shortened, tries)?)
     } else {
         Ok(shortened)
     }

@@ -1,6 +1,6 @@
 // The first step of rewriting: in the arguments, from the left, else of the whole, by the first rule that fits. What is left of
 // the place of the step before is in normal form, and isn't looked at again.
-ghost use Rattle.std.specs.Prelude.{◌≡◌, ◌<◌, ◌∷◌, ◌++◌, [], IfOk, OnOk, length};
+ghost use Rattle.std.specs.Prelude.{◌≡◌, ◌<◌, ◌≤◌, ◌∷◌, ◌++◌, [], IfOk, OnOk, length};
 ghost use Rattle.std.specs.Option.{option_map};
 ghost use Rattle.demodulate.specs.Resumed.{is_passed, place_within, IsNormalBefore, AreNormalBefore};
 ghost use Rattle.demodulate.specs.Steps.{step_of, step_around};
@@ -10,6 +10,7 @@ ghost use Rattle.prover_steps.specs.Rewriting.{rewritten_by, step_at_top, widene
 
 use crate::step::Step;
 use clause_index::Rules;
+use discrim_tree::Tries;
 use fol_core::{Sym, Term, Terms};
 use held_clauses::{Held, first_atom, left_of, right_of};
 use std::alloc::{AllocError, Global};
@@ -34,11 +35,17 @@ pub fn rewritten_by(alloc: Global, rule: &Held, term: &Term) -> Result<Option<Te
 
 // The step of the first rule that fits the term as a whole.
 #[tactic(auto, using(crate::proofs::Redexes::top_found, crate::proofs::Redexes::top_missed, crate::proofs::Redexes::top_none))]
-fn step_at_top(alloc: Global, rules: &Rules, term: &Term) -> Result<Option<Step>, AllocError>
-    ensures { IfOk result (λ o. option_map step_of o
+fn step_at_top(
+    alloc: Global,
+    rules: &Rules,
+    term: &Term,
+    tries: &mut Tries,
+) -> Result<Option<Step>, AllocError>
+    ensures step { IfOk result (λ o. option_map step_of o
         ≡ step_at_top rules.now (tree_of term.now)) }
+    ensures on { tries.old ≤ tries.new }
 {
-    let Some(rule) = rules.first_for(term)? else {
+    let Some(rule) = rules.first_for(term, tries)? else {
         return Ok(None);
     };
     match rewritten_by(alloc, rule, term)? {
@@ -128,17 +135,19 @@ pub fn step_within(
     head: Sym,
     terms: &Terms,
     from: &[u64],
+    tries: &mut Tries,
 ) -> Result<Option<Step>, AllocError>
     requires { AreNormalBefore rules.now from.now 1 (trees_of terms.now) }
-    ensures { IfOk result (λ o. option_map step_of o
+    ensures step { IfOk result (λ o. option_map step_of o
         ≡ option_map (widened (app head.0)) (step_in rules.now 1 (trees_of terms.now))) }
+    ensures on { tries.old ≤ tries.new }
 {
     for (i, term) in terms.items.iter().enumerate() {
         let number = i as u64 + 1;
         if is_passed(number, from) {
             continue;
         }
-        if let Some(step) = first_step(alloc, rules, term, place_within(number, from))? {
+        if let Some(step) = first_step(alloc, rules, term, place_within(number, from), tries)? {
             return Ok(Some(step_around(alloc, head, terms.as_slice(), i, step)?));
         }
     }
@@ -153,17 +162,19 @@ pub fn first_step(
     rules: &Rules,
     term: &Term,
     from: &[u64],
+    tries: &mut Tries,
 ) -> Result<Option<Step>, AllocError>
     requires { IsNormalBefore rules.now from.now (tree_of term.now) }
-    ensures { IfOk result (λ o. option_map step_of o
+    ensures step { IfOk result (λ o. option_map step_of o
         ≡ first_step rules.now (tree_of term.now)) }
+    ensures on { tries.old ≤ tries.new }
 {
     match term {
         Term::Var(_) => Ok(None),
         Term::Elem(_) => Ok(None),
-        Term::App(f, terms) => match step_within(alloc, rules, *f, terms, from)? {
+        Term::App(f, terms) => match step_within(alloc, rules, *f, terms, from, tries)? {
             Some(step) => Ok(Some(step)),
-            None => step_at_top(alloc, rules, term),
+            None => step_at_top(alloc, rules, term, tries),
         },
     }
 }
@@ -174,14 +185,16 @@ pub fn atom_step(
     rules: &Rules,
     atom: &Term,
     from: &[u64],
+    tries: &mut Tries,
 ) -> Result<Option<Step>, AllocError>
     requires { IsNormalBefore rules.now from.now (tree_of atom.now) }
-    ensures { IfOk result (λ o. option_map step_of o
+    ensures step { IfOk result (λ o. option_map step_of o
         ≡ atom_step rules.now (tree_of atom.now)) }
+    ensures on { tries.old ≤ tries.new }
 {
     match atom {
         Term::Var(_) => Ok(None),
         Term::Elem(_) => Ok(None),
-        Term::App(f, terms) => step_within(alloc, rules, *f, terms, from),
+        Term::App(f, terms) => step_within(alloc, rules, *f, terms, from, tries),
     }
 }

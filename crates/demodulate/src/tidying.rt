@@ -1,5 +1,5 @@
 // A clause rewritten and put in order.
-ghost use Rattle.std.specs.Prelude.{◌≡◌, false, IfOk};
+ghost use Rattle.std.specs.Prelude.{◌≡◌, ◌≤◌, false, IfOk};
 ghost use Rattle.clause_index.specs.Sets.{all_in};
 ghost use Rattle.demodulate.specs.Steps.{tidied_by, tidied_of};
 ghost use Rattle.held_clauses.specs.Order.{greater_of};
@@ -9,6 +9,7 @@ use crate::normal::normal_form;
 use crate::ordering::put_in_order;
 use crate::step::Tidied;
 use clause_index::{HeldSets, Rules};
+use discrim_tree::Tries;
 use fol_core::{Clause, renumber};
 use ladr_options::Options;
 use std::alloc::{AllocError, Global};
@@ -23,19 +24,22 @@ pub fn tidy(
     rules: &Rules,
     held: &HeldSets<'_>,
     clause: Clause,
+    tries: &mut Tries,
 ) -> Result<Tidied, AllocError>
     ensures tidied { IfOk result (λ t. tidied_of t ≡ tidied_by (greater_of precedence.now)
         options.now rules.now (all_in held.now) clause) }
     ensures small { is_too_large clause ≡ false
         → IfOk result (λ t. is_too_large t.clause ≡ false) }
+    ensures on { tries.old ≤ tries.new }
 {
-    let rewritten = normal_form(alloc, rules, options.demod_step_limit, clause)?;
+    let rewritten = normal_form(alloc, rules, options.demod_step_limit, clause, tries)?;
     let Tidied { clause, words } = put_in_order(
         alloc,
         precedence,
         options.unit_deletion,
         held,
         rewritten,
+        tries,
     )?;
     let clause = renumber(alloc, &clause)?;
     Ok(Tidied { clause, words })

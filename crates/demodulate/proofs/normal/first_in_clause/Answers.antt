@@ -12,7 +12,7 @@ use Rattle.demodulate.proofs.normal.first_in_clause.Goals as goal
 pub returns-in-Some-clause-step : goal.returns-in-Some-clause-step
 returns-in-Some-clause-step c =
     subst (λ d. Some (step_at d c.loop-place.place (step_of c.in-Some.step)) ≡ clause_step c.args.rules.now 0 d) (ap (map literal_of) c.deref-literal-items.ensures.value ∙ c.clause.view_is)
-    (literal_step c.args.rules.now c.deref-literal-items.result.now c.loop-place.place c.literal-item.result (step_of c.in-Some.step) c.loop-place-test.true c.literal-item.is c.loop-place.invariant (sym c.in_ok-step.ensures ∙ ap (option_map step_of) c.in-Some.is))
+    (literal_step c.args.rules.now c.deref-literal-items.result.now c.loop-place.place c.literal-item.result (step_of c.in-Some.step) c.loop-place-test.true c.literal-item.is c.loop-place.invariant.normal (sym c.in_ok-step.ensures.step ∙ ap (option_map step_of) c.in-Some.is))
 
 pub loop-place-preserved-then-is_passed : goal.loop-place-preserved-then-is_passed
 loop-place-preserved-then-is_passed c =
@@ -22,7 +22,10 @@ loop-place-preserved-then-is_passed c =
     let known : (is_passed c.loop-place.place c.args.from.now ≡ true → atom_step c.args.rules.now (tree_of c.literal-item.result.atom) ≡ None) × IsNormalBefore c.args.rules.now (place_within c.loop-place.place c.args.from.now) (tree_of c.literal-item.result.atom) =
     literal_before c.args.rules.now c.args.from.now c.deref-literal-items.result.now c.loop-place.place 0 c.loop-place.place c.literal-item.result c.loop-place-test.true c.literal-item.is (omega arith) before
     in
-    normal_literals_more c.args.rules.now c.deref-literal-items.result.now c.loop-place.place c.literal-item.result c.loop-place-test.true c.literal-item.is c.loop-place.invariant (known.0 (sym c.is_passed.ensures ∙ c.if-is_passed.true))
+    record {
+      normal = normal_literals_more c.args.rules.now c.deref-literal-items.result.now c.loop-place.place c.literal-item.result c.loop-place-test.true c.literal-item.is c.loop-place.invariant.normal (known.0 (sym c.is_passed.ensures ∙ c.if-is_passed.true));
+      on = c.loop-place.invariant.on;
+    }
 
 pub atom_step-requires : goal.atom_step-requires
 atom_step-requires c =

@@ -1,7 +1,10 @@
 -- No rule fits in the literals before.
-use Rattle.std.proofs.Common.{take}
+use Rattle.std.proofs.Common.{◌≤◌, take}
 use Rattle.demodulate.proofs.Redexes.{AreNormalLiterals}
 use Rattle.demodulate.proofs.normal.first_in_clause.Given as goal
 
 abbrev pub invariant-loop-place : goal.invariant-loop-place
-invariant-loop-place l = AreNormalLiterals l.rules (take l.place l.literal-items)
+invariant-loop-place l = record {
+  normal : AreNormalLiterals l.rules (take l.place l.literal-items);
+  on : l.fn.tries ≤ l.tries;
+}

@@ -11,8 +11,8 @@ use Rattle.prover_steps.specs.Rewriting.{simplified, clause_step}
 use Rattle.prover_steps.specs.Searching.{is_too_large}
 use Rattle.demodulate.proofs.normal.normal_form.Goals as goal
 
-pub returns-then-not-take_step : goal.returns-then-not-take_step
-returns-then-not-take_step c =
+pub returns-then-not-take_step-clause-normal : goal.returns-then-not-take_step-clause-normal
+returns-then-not-take_step-clause-normal c =
     let refused : TakesAtom c.loop-step.clause c.in-Some.found.place (tree_of c.in-Some.found.step.result) c.take_step.new.clause false =
     subst (TakesAtom c.loop-step.clause c.in-Some.found.place (tree_of c.in-Some.found.step.result) c.take_step.new.clause) c.if-not-take_step.true c.take_step.ensures
     in
@@ -41,4 +41,5 @@ loop-step-preserved c =
           subst (λ p. AreLiteralsNormalBefore c.args.rules.now p 0 c.take_step.new.clause) (sym (c.in_ok-from-in-Some.ensures ∙ ap (λ p. c.in-Some.found.place ∷ p) c.as_slice-in-Some.ensures.value))
           (subst (λ d. AreLiteralsNormalBefore c.args.rules.now (c.in-Some.found.place ∷ c.in-Some.found.step.path.items) 0 d) (sym taken.0)
           (clause_before c.args.rules.now c.loop-step.clause c.in-Some.found.step.rule c.in-Some.found.place c.in-Some.found.step.path.items (placed_step c.loop-step.clause c.in-Some.found).1 found));
+      on = omega (arith, c.loop-step.invariant.on, c.first_in_clause.ensures.on);
     }

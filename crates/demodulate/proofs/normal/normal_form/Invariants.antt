@@ -1,5 +1,5 @@
 -- The steps that are left come to the same, and no rule fits left of the last one.
-use Rattle.std.proofs.Common.{◌≡◌, ◌-◌, map, []}
+use Rattle.std.proofs.Common.{◌≡◌, ◌≤◌, ◌-◌, map, []}
 use Rattle.derivation.specs.View.{later_of}
 use Rattle.prover_steps.specs.Searching.{is_too_large}
 use Rattle.demodulate.proofs.Redexes.{steps_left}
@@ -10,4 +10,5 @@ abbrev pub invariant-loop-step : goal.invariant-loop-step
 invariant-loop-step l = record {
   same : steps_left is_too_large l.rules (l.limit - l._step) l.clause (map later_of l.words.items) ≡ steps_left is_too_large l.rules l.limit l.fn.clause [];
   before : AreLiteralsNormalBefore l.rules l.from.items 0 l.clause;
+  on : l.fn.tries ≤ l.tries;
 }

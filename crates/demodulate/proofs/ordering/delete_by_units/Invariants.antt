@@ -10,6 +10,7 @@ abbrev pub invariant-loop-place : goal.invariant-loop-place
 invariant-loop-place l = record {
   same : left_out_behind (is_denied (all_in l.held)) l.clause (map later_of l.words.items) l.place ≡ left_out_behind (is_denied (all_in l.held)) l.fn.tidied.clause (map later_of l.fn.tidied.words.items) 0;
   within : l.place ≤ length l.clause;
+  on : l.fn.tries ≤ l.tries;
 }
 
 abbrev pub decreases-loop-place : goal.decreases-loop-place

@@ -10,15 +10,15 @@ use Rattle.demodulate.proofs.Resuming.{argument_before}
 use Rattle.prover_steps.specs.Rewriting.{widened, first_step, step_in}
 use Rattle.demodulate.proofs.rewriting.+first_step.Goals as goal
 
-pub step_within-returns-in-Some : goal.step_within-returns-in-Some
-step_within-returns-in-Some t c =
+pub step_within-returns-in-Some-clause-step : goal.step_within-returns-in-Some-clause-step
+step_within-returns-in-Some-clause-step t c =
     ap Some (c.in_ok-step_around.ensures ∙ ap (λ ts. step_around c.args.head.0 ts c.loop-i.i (step_of c.in-Some.step)) (c.as_slice.ensures.trees ∙ sym c.terms.view_is ∙ ap tree_list (sym c.deref-term-items.ensures.value)))
-    ∙ argument_step c.args.rules.now c.args.head.0 c.deref-term-items.result.now c.loop-i.i c.term-item.result (step_of c.in-Some.step) c.loop-i-test.true c.term-item.is c.loop-i.invariant (sym c.in_ok-step.ensures ∙ ap (option_map step_of) c.in-Some.is)
+    ∙ argument_step c.args.rules.now c.args.head.0 c.deref-term-items.result.now c.loop-i.i c.term-item.result (step_of c.in-Some.step) c.loop-i-test.true c.term-item.is c.loop-i.invariant.normal (sym c.in_ok-step.ensures.step ∙ ap (option_map step_of) c.in-Some.is)
     ∙ ap (λ ts. option_map (widened (app c.args.head.0)) (step_in c.args.rules.now 1 (trees_of ts))) (ap tree_list c.deref-term-items.ensures.value ∙ c.terms.view_is)
 
-pub step_within-returns : goal.step_within-returns
-step_within-returns t c =
-    no_argument_step c.args.rules.now c.args.head.0 c.deref-term-items.result.now c.loop-i.i c.loop-i-test.false c.loop-i.invariant
+pub step_within-returns-clause-step : goal.step_within-returns-clause-step
+step_within-returns-clause-step t c =
+    no_argument_step c.args.rules.now c.args.head.0 c.deref-term-items.result.now c.loop-i.i c.loop-i-test.false c.loop-i.invariant.normal
     ∙ ap (λ ts. option_map (widened (app c.args.head.0)) (step_in c.args.rules.now 1 (trees_of ts))) (ap tree_list c.deref-term-items.ensures.value ∙ c.terms.view_is)
 
 pub step_within-loop-i-preserved-then-is_passed : goal.step_within-loop-i-preserved-then-is_passed
@@ -29,7 +29,10 @@ step_within-loop-i-preserved-then-is_passed t c =
     let known : (is_passed (c.loop-i.i + 1) c.args.from.now ≡ true → first_step c.args.rules.now (tree_of c.term-item.result) ≡ None) × IsNormalBefore c.args.rules.now (place_within (c.loop-i.i + 1) c.args.from.now) (tree_of c.term-item.result) =
     argument_before c.args.rules.now c.args.from.now c.deref-term-items.result.now c.loop-i.i 1 (c.loop-i.i + 1) c.term-item.result c.loop-i-test.true c.term-item.is (omega arith) before
     in
-    normal_more c.args.rules.now c.deref-term-items.result.now c.loop-i.i c.term-item.result c.loop-i-test.true c.term-item.is c.loop-i.invariant (known.0 (sym c.is_passed.ensures ∙ c.if-is_passed.true))
+    record {
+      normal = normal_more c.args.rules.now c.deref-term-items.result.now c.loop-i.i c.term-item.result c.loop-i-test.true c.term-item.is c.loop-i.invariant.normal (known.0 (sym c.is_passed.ensures ∙ c.if-is_passed.true));
+      on = c.loop-i.invariant.on;
+    }
 
 pub step_within-first_step-requires : goal.step_within-first_step-requires
 step_within-first_step-requires t c =

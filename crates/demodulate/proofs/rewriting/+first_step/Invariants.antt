@@ -1,5 +1,5 @@
 -- An argument is smaller than all of them together. No rule fits in the arguments before.
-use Rattle.std.proofs.Common.{◌+◌, take}
+use Rattle.std.proofs.Common.{◌+◌, ◌≤◌, take}
 use Rattle.fol_core.specs.Tree.{nodes, nodes_of, trees_of}
 use Rattle.fol_core.specs.TermView.{tree_of}
 use Rattle.demodulate.proofs.Redexes.{AreNormal}
@@ -12,4 +12,7 @@ abbrev pub decreases-step_within : goal.decreases-step_within
 decreases-step_within l = nodes_of (trees_of l.terms.now) + 1
 
 abbrev pub invariant-step_within-loop-i : goal.invariant-step_within-loop-i
-invariant-step_within-loop-i l = AreNormal l.rules (take l.i l.term-items)
+invariant-step_within-loop-i l = record {
+  normal : AreNormal l.rules (take l.i l.term-items);
+  on : l.fn.tries ≤ l.tries;
+}
