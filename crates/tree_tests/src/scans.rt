@@ -33,6 +33,34 @@ pub struct Scan {
     pub unifiable: Vec<u64>,
 }
 
+/// A term with a variable of its own for each occurrence of one, from a number on; the number goes on.
+pub fn linear(alloc: Global, t: &Term, next: &mut u64) -> Result<Term, AllocError> {
+    match t {
+        Term::Var(_) => {
+            let variable = *next;
+            *next = variable.saturating_add(1);
+            Ok(Term::Var(variable))
+        }
+        Term::Elem(k) => Ok(Term::Elem(*k)),
+        Term::App(f, terms) => {
+            let mut made = Terms::new(alloc);
+            for term in &terms.items {
+                made.push(linear(alloc, term, next)?)?;
+            }
+            Ok(Term::App(*f, made))
+        }
+    }
+}
+
+/// Terms, each with a variable of its own for each occurrence of one, from 0 on.
+pub fn all_linear(alloc: Global, terms: &[Term]) -> Result<Vec<Term>, AllocError> {
+    let mut made = Vec::new(alloc);
+    for term in terms {
+        made.push(linear(alloc, term, &mut 0)?)?;
+    }
+    Ok(made)
+}
+
 // A list of one term.
 fn alone(alloc: Global, term: &Term) -> Result<Terms, AllocError> {
     let mut terms = Terms::new(alloc);

@@ -1,7 +1,7 @@
 use crate::chance::Chance;
 use crate::filling::filled;
-use crate::scans::{Left, Scan, scanned};
-use discrim_tree::Index;
+use crate::scans::{Left, Scan, all_linear, linear, scanned};
+use discrim_tree::{Index, Tries};
 use fol_core::{Sym, Term, Terms};
 use std::alloc::{AllocError, Global};
 use std::test::Fail;
@@ -19,10 +19,11 @@ fn leave(index: &mut Index, left: Left) {
 
 // Whether an index finds for a term what a scan finds.
 fn agrees(index: &Index, scan: &Scan, t: &Term) -> Result<bool, AllocError> {
-    let generalizations = index.generalizations(t)?;
-    let first = index.first_generalization(t)?;
-    let instances = index.instances(t)?;
-    let unifiable = index.unifiable(t)?;
+    let mut tries = Tries::new();
+    let generalizations = index.generalizations(t, &mut tries)?;
+    let first = index.first_generalization(t, &mut tries)?;
+    let instances = index.instances(t, &mut tries)?;
+    let unifiable = index.unifiable(t, &mut tries)?;
     Ok(
         generalizations == scan.generalizations
             && first == scan.generalizations.first().copied()
@@ -31,7 +32,38 @@ fn agrees(index: &Index, scan: &Scan, t: &Term) -> Result<bool, AllocError> {
     )
 }
 
-// How many instances scans find of terms by chance, if an index finds what they find.
+// Whether a number of tests is between two others.
+fn is_between(tries: &Tries, least: &[u64], most: &[u64]) -> bool {
+    least.len() as u64 <= tries.count() && tries.count() <= most.len() as u64
+}
+
+// Whether an index tests as many entries for a term as it finds, or more, and no more than a scan finds of terms in which each
+// occurrence of a variable is a variable of its own.
+fn tests_few(
+    alloc: Global,
+    index: &Index,
+    apart: &[Term],
+    left: Left,
+    t: &Term,
+) -> Result<bool, AllocError> {
+    let most = scanned(alloc, apart, left, &linear(alloc, t, &mut 100)?)?;
+    let mut general = Tries::new();
+    let mut special = Tries::new();
+    let mut either = Tries::new();
+    let mut first = Tries::new();
+    let generalizations = index.generalizations(t, &mut general)?;
+    let instances = index.instances(t, &mut special)?;
+    let unifiable = index.unifiable(t, &mut either)?;
+    let _least = index.first_generalization(t, &mut first)?;
+    Ok(
+        is_between(&general, &generalizations, &most.generalizations)
+            && is_between(&special, &instances, &most.instances)
+            && is_between(&either, &unifiable, &most.unifiable)
+            && is_between(&first, &[], &most.generalizations),
+    )
+}
+
+// How many instances scans find of terms by chance, if an index finds what they find; of some terms its tests are counted.
 fn found(
     alloc: Global,
     chance: &mut Chance,
@@ -39,11 +71,15 @@ fn found(
     terms: &[Term],
     left: Left,
 ) -> Result<Option<usize>, AllocError> {
+    let apart = all_linear(alloc, terms)?;
     let mut count = 0usize;
-    for _query in 0..60 {
+    for query in 0..60 {
         let t = chance.term(alloc, 2, 10)?;
         let scan = scanned(alloc, terms, left, &t)?;
         if !agrees(index, &scan, &t)? {
+            return Ok(None);
+        }
+        if query % 10 == 0 && !tests_few(alloc, index, &apart, left, &t)? {
             return Ok(None);
         }
         count = count.saturating_add(scan.instances.len());
