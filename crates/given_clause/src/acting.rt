@@ -1,5 +1,5 @@
 // What a clause that is kept does to others.
-ghost use Rattle.std.specs.Prelude.{◌≡◌, ◌++◌, [], ◌∷◌, true, not, ◌&&◌, IfOk, OnOk, filter, map};
+ghost use Rattle.std.specs.Prelude.{◌≡◌, ◌≤◌, ◌++◌, [], ◌∷◌, true, not, ◌&&◌, IfOk, OnOk, filter, map};
 ghost use Rattle.std.specs.List.{list_any};
 ghost use Rattle.std.specs.Option.{option_map};
 ghost use Rattle.derivation.specs.Later.{is_unit};
@@ -226,6 +226,7 @@ fn others_held(
 fn retire(gone: &[Held], search: &mut Search)
     ensures noted { (st : Setting) → StayNoted st search.old.waiting search.new.waiting }
     ensures state { state_of search.new ≡ retires gone.now (state_of search.old) }
+    ensures on { search.old.tries ≤ search.new.tries }
 {
     search.waiting.leave_out(gone);
     search.usable.leave_out(gone);
@@ -277,6 +278,7 @@ fn queue_back(
     ensures state { OnOk result (state_of search.new ≡ record (state_of search.old) {
       queue = (state_of search.old).queue ++ map (queued_back (word_for back)) gone.items;
     }) }
+    ensures on { search.old.tries ≤ search.new.tries }
 {
     let mut queue = all_queued_back(alloc, back, gone)?;
     search.queue.append(&mut queue)
@@ -289,6 +291,7 @@ pub fn subsume_back(alloc: Global, search: &mut Search, held: &Held) -> Result<(
         ((st : Setting) → StayNoted st search.old.waiting search.new.waiting) }
     ensures state { OnOk result (state_of search.new ≡ retires (others_held held.now
         (acts_on Act.Subsumes held.now) (state_of search.old)) (state_of search.old)) }
+    ensures on { search.old.tries ≤ search.new.tries }
 {
     let gone = others_held(alloc, Act::Subsumes, search, held)?;
     retire(gone.as_slice(), search);
@@ -308,6 +311,7 @@ pub fn put_back(
     ensures state { OnOk result (state_of search.new ≡ puts_back (word_for back)
         (others_held held.now (acts_on (Act.PutsBack back) held.now) (state_of search.old))
         (state_of search.old)) }
+    ensures on { search.old.tries ≤ search.new.tries }
 {
     let gone = others_held(alloc, Act::PutsBack(back), search, held)?;
     retire(gone.as_slice(), search);
@@ -371,6 +375,7 @@ pub fn meet_units(alloc: Global, search: &mut Search, held: &Held) -> Result<(),
     requires { IsInOrder (state_of search.old) }
     ensures waiting { OnOk result (search.new.waiting ≡ search.old.waiting) }
     ensures state { OnOk result (state_of search.new ≡ unit_meets (state_of search.old) held.now) }
+    ensures on { search.old.tries ≤ search.new.tries }
 {
     if !is_unit(held.clause()) {
         return Ok(());

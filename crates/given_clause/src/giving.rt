@@ -1,5 +1,5 @@
 // A clause is given.
-ghost use Rattle.std.specs.Prelude.{◌≡◌, ◌++◌, [], IfOk, OnOk, map, filter, not};
+ghost use Rattle.std.specs.Prelude.{◌≡◌, ◌≤◌, ◌++◌, [], IfOk, OnOk, map, filter, not};
 ghost use Rattle.std.specs.List.{AllByRecursion};
 ghost use Rattle.given_clause.specs.Guides.{setting_of};
 ghost use Rattle.given_clause.specs.Noted.{AreNoted, StayNoted};
@@ -69,6 +69,7 @@ fn give(
     ensures within { OnOk result (AllByRecursion IsQueuedWithin search.new.queue.items) }
     ensures state { OnOk result (state_of search.new ≡ gives (setting_of guide.now)
         (state_of search.old) given) }
+    ensures on { search.old.tries ≤ search.new.tries }
 {
     let number = given.number();
     search.usable.put_in(given.copy(alloc)?)?;
@@ -90,6 +91,7 @@ pub fn give_next(alloc: Global, guide: &Guide<'_>, search: &mut Search) -> Resul
         → OnOk result (AllByRecursion IsQueuedWithin search.new.queue.items) }
     ensures state { OnOk result (state_of search.new ≡ given_next (setting_of guide.now)
         (state_of search.old)) }
+    ensures on { search.old.tries ≤ search.new.tries }
 {
     steps_keep_order();
     let Some(pick) = picked(guide, &search.waiting, search.turn) else {

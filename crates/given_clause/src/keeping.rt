@@ -1,5 +1,5 @@
 // Lines, proofs, and clauses that are kept.
-ghost use Rattle.std.specs.Prelude.{◌≡◌, ◌+◌, ◌++◌, ◌∷◌, [], suc, false, IfOk, OnOk, map};
+ghost use Rattle.std.specs.Prelude.{◌≡◌, ◌≤◌, ◌+◌, ◌++◌, ◌∷◌, [], suc, false, IfOk, OnOk, map};
 ghost use Rattle.std.specs.List.{AllByRecursion};
 ghost use Rattle.derivation.specs.View.{later_of};
 ghost use Rattle.given_clause.specs.Guides.{setting_of};
@@ -49,6 +49,7 @@ fn add_line(
       } ∷ [];
       next = suc search.old.next;
     }) }
+    ensures on { search.old.tries ≤ search.new.tries }
 {
     let number = search.next;
     search.next = counted(number, 1)?;
@@ -87,6 +88,7 @@ pub fn keep_line(search: &mut Search, queued: Queued) -> Result<(), AllocError>
     ensures waiting { OnOk result (search.new.waiting ≡ search.old.waiting) }
     ensures state { OnOk result (state_of search.new ≡ with_line (state_of search.old)
         (queued_of queued)) }
+    ensures on { search.old.tries ≤ search.new.tries }
 {
     if is_unchanged(&queued) {
         return Ok(());
@@ -104,6 +106,7 @@ pub fn keep_line(search: &mut Search, queued: Queued) -> Result<(), AllocError>
 pub fn add_proof(search: &mut Search, line: u64) -> Result<(), AllocError>
     ensures waiting { OnOk result (search.new.waiting ≡ search.old.waiting) }
     ensures state { OnOk result (state_of search.new ≡ with_proof line (state_of search.old)) }
+    ensures on { search.old.tries ≤ search.new.tries }
 {
     let given = search.given;
     search.proofs.push(FoundProof { line, given })?;
@@ -124,6 +127,7 @@ pub fn keep(
     requires noted { AreNoted (setting_of guide.now) search.old.waiting }
     ensures noted { OnOk result (AreNoted (setting_of guide.now) search.new.waiting) }
     ensures state { OnOk result (state_of search.new ≡ keeps (state_of search.old) held usable) }
+    ensures on { search.old.tries ≤ search.new.tries }
 {
     search.kept = counted(search.kept, 1)?;
     search.symbols = counted(search.symbols, clause_size(held.clause()))?;
@@ -150,6 +154,7 @@ pub fn keep_queued(
     ensures held { IfOk result (λ h. h ≡ held_for (state_of search.old) (queued_of queued)) }
     ensures kept { OnOk result (state_of search.new ≡ keeps (with_line (state_of search.old)
         (queued_of queued)) (held_for (state_of search.old) (queued_of queued)) queued.usable) }
+    ensures on { search.old.tries ≤ search.new.tries }
 {
     steps_keep_order();
     let number = number_for(search, &queued);

@@ -1,5 +1,5 @@
 // Processing a clause of the queue.
-ghost use Rattle.std.specs.Prelude.{◌≡◌, ◌∷◌, [], false, IfOk, OnOk};
+ghost use Rattle.std.specs.Prelude.{◌≡◌, ◌≤◌, ◌∷◌, [], false, IfOk, OnOk};
 ghost use Rattle.std.specs.List.{AllByRecursion, list_any};
 ghost use Rattle.std.specs.Option.{option_map};
 ghost use Rattle.fol_core.specs.ClauseView.{literal_of};
@@ -18,6 +18,7 @@ use crate::state::{QueueEntry, Queued, Reason, Search};
 use clause_index::{HeldSet, HeldSets};
 use clause_limits::is_too_large;
 use demodulate::{Tidied, tidy};
+use discrim_tree::Tries;
 use fol_core::{Clause, Literal};
 use held_clauses::Held;
 use paramod::is_oriented;
@@ -29,13 +30,16 @@ use subsume::{Places, is_tautology};
 fn tidied(
     alloc: Global,
     guide: &Guide<'_>,
-    search: &Search,
+    search: &mut Search,
     queued: Queued,
 ) -> Result<Queued, AllocError>
     ensures tidied { IfOk result (λ q. queued_of q ≡ tidied (setting_of guide.now)
-        (state_of search.now) (queued_of queued)) }
+        (state_of search.old) (queued_of queued)) }
     ensures small { is_too_large queued.clause ≡ false
         → IfOk result (λ q. is_too_large q.clause ≡ false) }
+    ensures waiting { search.new.waiting ≡ search.old.waiting }
+    ensures state { state_of search.new ≡ state_of search.old }
+    ensures on { search.old.tries ≤ search.new.tries }
 {
     let Queued {
         clause,
@@ -55,6 +59,7 @@ fn tidied(
         &search.rules,
         &held,
         clause,
+        &mut search.tries,
     )?;
     Ok(Queued {
         clause,
@@ -99,22 +104,30 @@ fn is_subsumed_from(
     set: &HeldSet,
     literal: &Literal,
     clause: &Clause,
+    tries: &mut Tries,
 ) -> Result<bool, AllocError>
-    ensures { IfOk result (λ b. b
+    ensures subsumed { IfOk result (λ b. b
         ≡ is_subsumed_from set.now clause.now (literal_of literal.now)) }
+    ensures on { tries.old ≤ tries.new }
 {
-    let held = set.generalizing(literal.positive, &literal.atom)?;
+    let held = set.generalizing(literal.positive, &literal.atom, tries)?;
     is_subsumed_by_lent(alloc, held.as_slice(), clause)
 }
 
 // Whether one does so from some literal of the clause.
 #[tactic(auto, using(crate::proofs::Tests::literal_here, crate::proofs::Tests::literal_behind, crate::proofs::Tests::literal_end))]
-fn is_subsumed_from_some(alloc: Global, set: &HeldSet, clause: &Clause) -> Result<bool, AllocError>
-    ensures { IfOk result (λ b. b
+fn is_subsumed_from_some(
+    alloc: Global,
+    set: &HeldSet,
+    clause: &Clause,
+    tries: &mut Tries,
+) -> Result<bool, AllocError>
+    ensures subsumed { IfOk result (λ b. b
         ≡ list_any (is_subsumed_from set.now clause.now) clause.now) }
+    ensures on { tries.old ≤ tries.new }
 {
     for literal in clause.as_slice() {
-        if is_subsumed_from(alloc, set, literal, clause)? {
+        if is_subsumed_from(alloc, set, literal, clause, tries)? {
             return Ok(true);
         }
     }
@@ -123,25 +136,38 @@ fn is_subsumed_from_some(alloc: Global, set: &HeldSet, clause: &Clause) -> Resul
 
 // Whether one of a set does so; one that subsumes a clause with literals begins with such a literal.
 #[tactic(auto, using(crate::proofs::Subsumed::from_some_literal))]
-fn is_subsumed_in(alloc: Global, set: &HeldSet, clause: &Clause) -> Result<bool, AllocError>
-    ensures { IfOk result (λ b. b ≡ list_any (λ h. subsumes h.clause clause.now) set.now) }
+fn is_subsumed_in(
+    alloc: Global,
+    set: &HeldSet,
+    clause: &Clause,
+    tries: &mut Tries,
+) -> Result<bool, AllocError>
+    ensures subsumed { IfOk result (λ b. b ≡ list_any (λ h. subsumes h.clause clause.now) set.now) }
+    ensures on { tries.old ≤ tries.new }
 {
     if clause.len() == 0 {
         return is_subsumed(alloc, set.as_slice(), clause);
     }
-    is_subsumed_from_some(alloc, set, clause)
+    is_subsumed_from_some(alloc, set, clause, tries)
 }
 
 // Whether one of the clauses that are held subsumes another one.
 #[tactic(auto, using(crate::proofs::Settling::some_held))]
-fn is_subsumed_by_held(alloc: Global, search: &Search, clause: &Clause) -> Result<bool, AllocError>
-    ensures { IfOk result (λ b. b ≡ list_any (λ h. subsumes h.clause clause.now)
-        (all_held (state_of search.now))) }
+fn is_subsumed_by_held(
+    alloc: Global,
+    search: &mut Search,
+    clause: &Clause,
+) -> Result<bool, AllocError>
+    ensures subsumed { IfOk result (λ b. b ≡ list_any (λ h. subsumes h.clause clause.now)
+        (all_held (state_of search.old))) }
+    ensures waiting { search.new.waiting ≡ search.old.waiting }
+    ensures state { state_of search.new ≡ state_of search.old }
+    ensures on { search.old.tries ≤ search.new.tries }
 {
-    if is_subsumed_in(alloc, &search.waiting.held, clause)? {
+    if is_subsumed_in(alloc, &search.waiting.held, clause, &mut search.tries)? {
         return Ok(true);
     }
-    is_subsumed_in(alloc, &search.usable, clause)
+    is_subsumed_in(alloc, &search.usable, clause, &mut search.tries)
 }
 
 // Whether a clause weighs too much and matches no hint.
@@ -160,12 +186,15 @@ fn is_too_heavy(alloc: Global, guide: &Guide<'_>, clause: &Clause) -> Result<boo
 fn is_no_use(
     alloc: Global,
     guide: &Guide<'_>,
-    search: &Search,
+    search: &mut Search,
     queued: &Queued,
 ) -> Result<bool, AllocError>
     requires { is_too_large queued.now.clause ≡ false }
-    ensures { IfOk result (λ b. b ≡ is_no_use (setting_of guide.now) (state_of search.now)
+    ensures no_use { IfOk result (λ b. b ≡ is_no_use (setting_of guide.now) (state_of search.old)
         (queued_of queued.now)) }
+    ensures waiting { search.new.waiting ≡ search.old.waiting }
+    ensures state { state_of search.new ≡ state_of search.old }
+    ensures on { search.old.tries ≤ search.new.tries }
 {
     let clause = &queued.clause;
     if is_tautology(clause) {
@@ -212,6 +241,7 @@ fn subsumed_back(
         search.new.waiting) }
     ensures state { OnOk result (state_of search.new ≡ subsumes_back (setting_of guide.now) held.now
         (state_of search.old)) }
+    ensures on { search.old.tries ≤ search.new.tries }
 {
     if guide.options.back_subsume {
         subsume_back(alloc, search, held)
@@ -232,6 +262,7 @@ fn delete_back(
         search.new.waiting) }
     ensures state { OnOk result (state_of search.new ≡ deletes_back (setting_of guide.now) held.now
         (state_of search.old)) }
+    ensures on { search.old.tries ≤ search.new.tries }
 {
     if is_unit(held.clause()) && guide.options.unit_deletion {
         put_back(alloc, Back::Deletes, search, held)
@@ -253,6 +284,7 @@ fn rules_back(
         search.new.waiting) }
     ensures state { OnOk result (state_of search.new ≡ rules_back (setting_of guide.now) held.now
         (state_of search.old)) }
+    ensures on { search.old.tries ≤ search.new.tries }
 {
     steps_keep_order();
     if !becomes_rule(alloc, guide, held.clause())? {
@@ -279,6 +311,7 @@ fn work_back(
         search.new.waiting) }
     ensures state { OnOk result (state_of search.new ≡ works_back (setting_of guide.now) held.now
         (state_of search.old)) }
+    ensures on { search.old.tries ≤ search.new.tries }
 {
     steps_keep_order();
     if has_proofs(guide, search) {
@@ -302,6 +335,7 @@ fn after_kept(
         search.new.waiting) }
     ensures state { OnOk result (state_of search.new ≡ after_kept (setting_of guide.now)
         (state_of search.old) held.now) }
+    ensures on { search.old.tries ≤ search.new.tries }
 {
     steps_keep_order();
     meet_units(alloc, search, held)?;
@@ -323,6 +357,7 @@ fn settle(
     ensures noted { OnOk result (AreNoted (setting_of guide.now) search.new.waiting) }
     ensures state { OnOk result (state_of search.new ≡ settled (setting_of guide.now)
         (state_of search.old) (queued_of queued)) }
+    ensures on { search.old.tries ≤ search.new.tries }
 {
     steps_keep_order();
     if queued.clause.len() == 0 {
@@ -351,6 +386,7 @@ fn process_built(
     ensures noted { OnOk result (AreNoted (setting_of guide.now) search.new.waiting) }
     ensures state { OnOk result (state_of search.new ≡ processed (setting_of guide.now)
         (state_of search.old) (queued_of queued)) }
+    ensures on { search.old.tries ≤ search.new.tries }
 {
     if is_too_large(&queued.clause) {
         search.large = counted_on(search.large, 1);
@@ -374,6 +410,7 @@ fn process(
     ensures noted { OnOk result (AreNoted (setting_of guide.now) search.new.waiting) }
     ensures state { OnOk result (state_of search.new ≡ processed (setting_of guide.now)
         (state_of search.old) (entry_of entry)) }
+    ensures on { search.old.tries ≤ search.new.tries }
 {
     match entry {
         QueueEntry::Built(queued) => process_built(alloc, guide, search, queued),
@@ -415,6 +452,7 @@ pub fn process_under_limits(
     ensures noted { OnOk result (AreNoted (setting_of guide.now) search.new.waiting) }
     ensures state { OnOk result (state_of search.new ≡ under_limits (setting_of guide.now)
         (processed (setting_of guide.now) (state_of search.old) (entry_of entry))) }
+    ensures on { search.old.tries ≤ search.new.tries }
 {
     process(alloc, guide, search, entry)?;
     search.ended = limit_reached(guide, search);

@@ -2,6 +2,7 @@
 use crate::waiting::Waiting;
 use clause_index::{HeldSet, Rules};
 use derivation::{First, Later, Line};
+use discrim_tree::Tries;
 use fol_core::Clause;
 use std::collections::VecDeque;
 use term_unifiers::LargeClause;
@@ -42,8 +43,8 @@ pub struct FoundProof {
 }
 
 /// The clauses that wait, those in use and the rules, by their numbers; the queue; the lines that were made, and the next number;
-/// the place of the next turn; how many clauses were given, concluded, kept and too large, and how many symbols kept; the proofs;
-/// and why the search ended, if it did.
+/// the place of the next turn; how many clauses were given, concluded, kept and too large, and how many symbols kept; how many
+/// entries of indexes were tested; the proofs; and why the search ended, if it did.
 #[derive(Drop)]
 pub struct Search {
     pub waiting: Waiting,
@@ -58,6 +59,7 @@ pub struct Search {
     pub kept: u64,
     pub large: u64,
     pub symbols: u64,
+    pub tries: Tries,
     pub proofs: Vec<FoundProof>,
     pub ended: Option<Reason>,
 }

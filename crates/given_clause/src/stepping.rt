@@ -1,5 +1,5 @@
 // One step of a search.
-ghost use Rattle.std.specs.Prelude.{◌≡◌, [], OnOk};
+ghost use Rattle.std.specs.Prelude.{◌≡◌, ◌≤◌, [], OnOk};
 ghost use Rattle.std.specs.List.{AllByRecursion};
 ghost use Rattle.given_clause.specs.Guides.{setting_of};
 ghost use Rattle.given_clause.specs.Noted.{AreNoted};
@@ -25,6 +25,7 @@ pub fn step(alloc: Global, guide: &Guide<'_>, search: &mut Search) -> Result<(),
         → OnOk result (AllByRecursion IsQueuedWithin search.new.queue.items) }
     ensures state { OnOk result (state_of search.new ≡ next_state (setting_of guide.now)
         (state_of search.old)) }
+    ensures on { search.old.tries ≤ search.new.tries }
 {
     steps_keep_order();
     if search.ended.is_some() {

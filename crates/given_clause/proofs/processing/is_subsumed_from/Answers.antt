@@ -5,8 +5,8 @@ use Rattle.prover_steps.specs.Subsuming.{subsumes}
 use Rattle.given_clause.proofs.Subsumed.{of_lent}
 use Rattle.given_clause.proofs.processing.is_subsumed_from.Goals as goal
 
-pub returns : goal.returns
-returns c =
+pub returns-clause-subsumed : goal.returns-clause-subsumed
+returns-clause-subsumed c =
     subst (λ (x : Bool). IfOk c.is_subsumed_by_lent.result (λ b. b ≡ x))
     (ap (list_any (λ h. subsumes h.now.clause c.args.clause.now)) c.as_slice.ensures.value ∙ of_lent c.args.set.now c.args.clause.now (literal_of c.args.literal.now) c.in_ok-held.held.items c.in_ok-held.ensures.found)
     c.is_subsumed_by_lent.ensures

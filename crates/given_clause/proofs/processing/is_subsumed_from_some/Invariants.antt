@@ -1,8 +1,11 @@
 -- The literals from here on decide.
-use Rattle.std.proofs.Common.{◌≡◌}
+use Rattle.std.proofs.Common.{◌≡◌, ◌≤◌}
 use Rattle.given_clause.specs.Acting.{is_subsumed_from}
 use Rattle.given_clause.proofs.Tests.{literal_from}
 use Rattle.given_clause.proofs.processing.is_subsumed_from_some.Given as goal
 
 abbrev pub invariant-loop-literal : goal.invariant-loop-literal
-invariant-loop-literal l = literal_from (is_subsumed_from l.set l.clause) l.literal-items 0 ≡ literal_from (is_subsumed_from l.set l.clause) l.literal-items l.literal-index
+invariant-loop-literal l = record {
+  same : literal_from (is_subsumed_from l.set l.clause) l.literal-items 0 ≡ literal_from (is_subsumed_from l.set l.clause) l.literal-items l.literal-index;
+  on : l.fn.tries ≤ l.tries;
+}
