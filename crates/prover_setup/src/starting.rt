@@ -11,6 +11,7 @@ ghost use Rattle.prover_steps.specs.Starting.{held_rule, queued_as, queued_input
 
 use clause_index::{HeldSet, Rules};
 use derivation::First;
+use discrim_tree::Tries;
 use fol_core::{Clause, Input, Problem, Role};
 use given_clause::{QueueEntry, Queued, Search, Waiting};
 use held_clauses::Held;
@@ -128,6 +129,7 @@ pub fn start_search(
     ensures state { IfOk result (λ s. state_of s
         ≡ start_state (all_said problem.now.inputs.items) clauses.now) }
     ensures noted { IfOk result (λ s. (st : Setting) → AreNoted st s.waiting) }
+    ensures untried { IfOk result (λ s. s.tries ≡ 0) }
 {
     let inputs = problem.inputs.as_slice();
     let first = behind(inputs.len() as u64, 1)?;
@@ -147,6 +149,7 @@ pub fn start_search(
         kept: 0,
         large: 0,
         symbols: 0,
+        tries: Tries::new(),
         proofs: Vec::new(alloc),
         ended: None,
     })
