@@ -28,6 +28,10 @@ lines_had p = p.search.lines.items
 abbrev pub proofs_had : Prover → List FoundProof
 proofs_had p = p.search.proofs.items
 
+-- how many tests the indexes of its search made of their entries
+abbrev pub tries_of : Prover → ℕ
+tries_of p = p.search.tries
+
 -- its clock; the end that it answered, if it did; and whether memory was lacking
 abbrev pub watch_of : Prover → Watch
 watch_of p = p.watch
@@ -61,3 +65,4 @@ pub record IsNew (x : SearchInput) (seconds : Option ℕ) (p : Prover) : Type 0 
   pub state : state_at p ≡ start_in x
   pub time : (watch_of p).seconds ≡ seconds
   pub unread : (watch_of p).first ≡ None
+  pub untried : tries_of p ≡ 0

@@ -22,6 +22,7 @@ fn advance(alloc: Global, guide: &Guide<'_>, search: &mut Search) -> Result<Opti
     ensures next { OnOk result (state_of search.new ≡ next_state (setting_of guide.now)
         (state_of search.old)) }
     ensures found { IfOk result (λ o. FindsAtOnce (state_of search.old) (state_of search.new) o) }
+    ensures on { search.old.tries ≤ search.new.tries }
 {
     let before = search.proofs.len();
     step(alloc, guide, search)?;
@@ -45,6 +46,7 @@ pub fn drain(
         ≤ given_left (setting_of guide.now) (state_of search.old)) }
     ensures drains { DrainsTo (setting_of guide.now) (state_of search.old) (state_of search.new)
         result }
+    ensures on { search.old.tries ≤ search.new.tries }
 {
     searches_end();
     searches_stay_in_order();
@@ -65,6 +67,7 @@ pub fn settle(alloc: Global, guide: &Guide<'_>, search: &mut Search) -> Result<(
     ensures noted { OnOk result (AreNoted (setting_of guide.now) search.new.waiting) }
     ensures settles { OnOk result (SettlesTo (setting_of guide.now) (state_of search.old)
         (state_of search.new)) }
+    ensures on { search.old.tries ≤ search.new.tries }
 {
     searches_end();
     searches_stay_in_order();

@@ -1,5 +1,5 @@
 // The search for the next answer.
-ghost use Rattle.std.specs.Prelude.{◌≡◌, ◌+◌, ℕ, [], None, Ok, OnOk, IsTrue, ◌↔◌, MatchOption};
+ghost use Rattle.std.specs.Prelude.{◌≡◌, ◌≤◌, ◌+◌, ℕ, [], None, Ok, OnOk, IsTrue, ◌↔◌, MatchOption};
 ghost use Rattle.given_clause.specs.Guides.{setting_of};
 ghost use Rattle.given_clause.specs.Noted.{AreNoted};
 ghost use Rattle.given_clause.specs.States.{state_of};
@@ -83,6 +83,7 @@ pub fn seek<C: Clock>(
         → IsWatched watch.new (C.times clock.new) }
     ensures runs { RunsTo (setting_of guide.now) watch.old.seconds 0 (state_of search.old)
         (state_of search.new) (C.times clock.old) (C.times clock.new) result }
+    ensures on { search.old.tries ≤ search.new.tries }
 {
     searches_end();
     searches_stay_in_order();

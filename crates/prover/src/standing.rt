@@ -1,7 +1,7 @@
 // A prover: where a search for proofs stands between two answers.
-ghost use Rattle.std.specs.Prelude.{◌≡◌, true, false, None, Some, Ok, IfOk, OnOk, OnErr, IsTrue, ◌↔◌};
+ghost use Rattle.std.specs.Prelude.{◌≡◌, ◌≤◌, true, false, None, Some, Ok, IfOk, OnOk, OnErr, IsTrue, ◌↔◌};
 ghost use Rattle.prover.specs.Answers.{counters_of, end_of, readings_first, IsAtGiving, IsGivenStep, RunsTo};
-ghost use Rattle.prover.specs.Provers.{setting_at, state_at, lines_had, proofs_had, watch_of, end_answered, is_short, IsFit, IsGoing, MayGoOn, IsNew};
+ghost use Rattle.prover.specs.Provers.{setting_at, state_at, lines_had, proofs_had, tries_of, watch_of, end_answered, is_short, IsFit, IsGoing, MayGoOn, IsNew};
 ghost use Rattle.prover_setup.specs.SearchInputs.{input_in, symbols_in, rows_in};
 ghost use Rattle.search_clock.specs.Watching.{HasBegun};
 
@@ -69,6 +69,14 @@ impl<'a> Prover<'a> {
         }
     }
 
+    /// How many entries of indexes were tested so far, whether they fit a term, by unification or matching; at the greatest number the
+    /// count stops.
+    pub fn tries(&self) -> u64
+        ensures { result ≡ tries_of self.now }
+    {
+        self.search.tries.count()
+    }
+
     /// The lines that were made so far, behind those of the problem.
     pub fn lines(&self) -> &[Line]
         ensures { result.now ≡ lines_had self.now }
@@ -104,6 +112,7 @@ impl<'a> Prover<'a> {
         ensures fit { OnOk result (IsFit self.new) }
         ensures sufficed { OnOk result ((is_short self.old ≡ false) × (is_short self.new ≡ false)) }
         ensures lacking { OnErr result (is_short self.new ≡ true) }
+        ensures tries { tries_of self.old ≤ tries_of self.new }
     {
         searches_stay_in_order();
         if self.short {
@@ -135,6 +144,7 @@ impl<'a> Prover<'a> {
             → (self.new ≡ self.old) × (C.times clock.new ≡ C.times clock.old) }
         ensures sufficed { OnOk result ((is_short self.old ≡ false) × (is_short self.new ≡ false)) }
         ensures lacking { OnErr result (is_short self.new ≡ true) }
+        ensures tries { tries_of self.old ≤ tries_of self.new }
     {
         searches_stay_in_order();
         if self.short {

@@ -27,6 +27,7 @@ loop-search-preserved c =
       drained = one_drained c.searches_end.ensures.queue c.searches_stay_in_order.ensures.next (setting_of c.args.guide.now) (state_of c.args.search.now) s u c.loop-search.invariant.drained going queued c.in-Ok-None.ensures.next
           (subst (λ (o : Option ℕ). FindsAtOnce s u o) c.in-Ok-None.field-0-is c.in-Ok-None.ensures.found);
       noted = c.in-Ok-None.ensures.noted;
+      on = omega (arith, c.loop-search.invariant.on, c.advance.ensures.on);
     }
 
 pub returns-in-Ok-Some-clause-left : goal.returns-in-Ok-Some-clause-left

@@ -1,4 +1,5 @@
 -- The clauses before are processed, and gave no proof; each leaves fewer.
+use Rattle.std.proofs.Common.{◌≤◌}
 use Rattle.given_clause.specs.Guides.{setting_of}
 use Rattle.given_clause.specs.Noted.{AreNoted}
 use Rattle.given_clause.specs.States.{state_of}
@@ -10,6 +11,7 @@ abbrev pub invariant-loop-search : goal.invariant-loop-search
 invariant-loop-search l = record {
   drained : IsDrainedTo (setting_of l.guide) (state_of l.fn.search) (state_of l.search);
   noted : AreNoted (setting_of l.guide) l.search.waiting;
+  on : l.fn.search.tries ≤ l.search.tries;
 }
 
 abbrev pub decreases-loop-search : goal.decreases-loop-search

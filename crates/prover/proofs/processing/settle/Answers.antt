@@ -1,5 +1,5 @@
 -- Clause by clause.
-use Rattle.std.proofs.Common.{◌≡◌, None, rules}
+use Rattle.std.proofs.Common.{◌≡◌, None, arith, rules}
 use Rattle.given_clause.specs.Guides.{setting_of}
 use Rattle.given_clause.specs.States.{state_of}
 use Rattle.prover.proofs.Draining.{one_settled}
@@ -22,4 +22,5 @@ loop-search-preserved c =
     record {
       settling = one_settled c.searches_stay_in_order.ensures.next (setting_of c.args.guide.now) (state_of c.args.search.now) s (state_of c.step.new.search) c.loop-search.invariant.settling going queued c.in-Ok.ensures.state;
       noted = c.in-Ok.ensures.noted;
+      on = omega (arith, c.loop-search.invariant.on, c.step.ensures.on);
     }

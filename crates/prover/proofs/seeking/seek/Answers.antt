@@ -1,5 +1,5 @@
 -- Answer by answer.
-use Rattle.std.proofs.Common.{◌≡◌, ◌∙◌, ℕ, Option, Ok, None, ap, subst, rules}
+use Rattle.std.proofs.Common.{◌≡◌, ◌∙◌, ℕ, Option, Ok, None, ap, subst, arith, rules}
 use Rattle.std.specs.Option.{option_map}
 use Rattle.given_clause.specs.Guides.{setting_of}
 use Rattle.given_clause.specs.States.{reason_of, state_of}
@@ -86,6 +86,7 @@ loop-line-preserved g c =
     record {
       sought = given_sought c.ends_have_reasons.ensures.picking c.searches_stay_in_order.ensures.next st seconds s u (state_of c.step.new.search) a b now sought going (queue_empty u drained.1 going) c.in-Ok.ensures.state rings;
       noted = c.in-Ok.ensures.noted;
+      on = omega (arith, c.loop-line.invariant.on, c.drain.ensures.on, c.step.ensures.on);
       seconds = ensured.seconds ∙ c.loop-line.invariant.seconds;
       watched = ensured.late;
       begun = ensured.begun;

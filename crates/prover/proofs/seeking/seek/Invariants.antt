@@ -1,5 +1,5 @@
 -- No proof was found since, and the clock is watched; each round leaves fewer clauses to be given.
-use Rattle.std.proofs.Common.{◌≡◌}
+use Rattle.std.proofs.Common.{◌≡◌, ◌≤◌}
 use Rattle.given_clause.specs.Guides.{setting_of}
 use Rattle.given_clause.specs.Noted.{AreNoted}
 use Rattle.given_clause.specs.States.{state_of}
@@ -12,6 +12,7 @@ abbrev pub invariant-loop-line : goal.invariant-loop-line
 invariant-loop-line g l = record {
   sought : IsSoughtTo (setting_of l.guide) l.fn.watch.seconds (state_of l.fn.search) (state_of l.search) (g.C.Clock.times l.fn.clock) (g.C.Clock.times l.clock);
   noted : AreNoted (setting_of l.guide) l.search.waiting;
+  on : l.fn.search.tries ≤ l.search.tries;
   seconds : l.watch.seconds ≡ l.fn.watch.seconds;
   watched : IsWatched l.watch (g.C.Clock.times l.clock);
   begun : HasBegun l.watch (g.C.Clock.times l.clock);
