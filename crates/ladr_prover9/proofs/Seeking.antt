@@ -76,7 +76,7 @@ only_proof (MaxSeconds first last) e = absurd cc
 
 -- a new prover, by the time that it has
 pub new_again : (x : SearchInput) (seconds : Option ℕ) (p : Prover) → IsNew x seconds p → IsNew x (watch_of p).seconds p
-new_again x seconds p h = record { going = h.going; fit = h.fit; setting = h.setting; state = h.state; time = refl; unread = h.unread }
+new_again x seconds p h = record { going = h.going; fit = h.fit; setting = h.setting; state = h.state; time = refl; unread = h.unread; untried = h.untried }
 
 -- how a piece went
 abbrev pub went : Result (Unit {0}) Cut
