@@ -49,8 +49,15 @@ fn streams_that_refuse_end_a_run(rt: HostRuntime) -> Result<(), Fail> {
     for (earlier, _) in CONCLUDED.iter().enumerate() {
         let (status, held) = refused(rt.alloc(), "prover9", 0, true, earlier as u64 + 1)?;
         let whole = held.len() == CONCLUDED.len();
-        assert_eq!(rt; status, if whole { 0 } else { 11 }, "after {earlier} writes");
-        assert!(rt; held.len() <= earlier.saturating_mul(7), "after {earlier} writes");
+        assert_eq!(rt;
+            status,
+            if whole { 0 } else { 11 },
+            "after {earlier} writes"
+        );
+        assert!(rt;
+            held.len() <= earlier.saturating_mul(7),
+            "after {earlier} writes"
+        );
         assert!(rt;
             CONCLUDED.starts_with(held.as_slice()),
             "after {earlier} writes"
