@@ -1,5 +1,5 @@
-mod Cut
 mod Examples
+mod Slots
 mod Numberings
 pub mod KboLemmas
 pub mod Marks

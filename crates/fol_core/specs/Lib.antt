@@ -23,7 +23,7 @@ pub mod Renumbered
 pub mod RuleView
 pub mod Stated
 pub mod StatedCodes
-pub mod SymbolRows
+pub mod SymbolSlots
 pub mod SymbolTable
 pub mod TermFalls
 pub mod TermView

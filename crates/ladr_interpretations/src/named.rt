@@ -1,5 +1,5 @@
 // Interpretations by the names of their symbols.
-ghost use Rattle.std.specs.Prelude.{◌≡◌, ◌^◌, ◌==◌, ◌≤◌, nat_lt, not, is_some, [], false, Err, IfOk, IsTrue};
+ghost use Rattle.std.specs.Prelude.{◌≡◌, ◌^◌, ◌==◌, ◌≤◌, ◌∷◌, ◌++◌, nat_lt, not, is_some, [], None, false, Err, IfOk, OnOk, IsTrue};
 ghost use Rattle.std.specs.List.{list_all};
 ghost use Rattle.fol_core.specs.SymbolTable.{number_of, symbol, is_same_kind};
 ghost use Rattle.ladr_interpretations.specs.Good.{is_filled, is_good, heads_of, are_new, values_for, tables_for};
@@ -141,6 +141,22 @@ fn is_new(heads: &Symbols, entry: &TableEntry) -> bool
     heads.find(entry.name(), entry.arity()).is_none()
 }
 
+// The entry's symbol comes to the table, unless its name and arity are there.
+fn enter_head(heads: &mut Symbols, entry: &TableEntry) -> Result<(), NamedError>
+    ensures ok { OnOk result ((heads.new ≡ heads.old ++ entry.now.head ∷ [])
+        × (number_of heads.old entry.now.head.name entry.now.head.arity ≡ None)) }
+    ensures bad { result ≡ Err Bad → IsTrue (is_some (number_of heads.old
+        entry.now.head.name entry.now.head.arity)) }
+{
+    if !is_new(heads, entry) {
+        return Err(NamedError::Bad);
+    }
+    match heads.enter(entry.name(), entry.arity(), entry.kind()) {
+        Ok(_) => Ok(()),
+        Err(_) => Err(NamedError::Memory),
+    }
+}
+
 // The table of the entries' symbols, unless one stands twice.
 fn heads(alloc: Global, entries: &[TableEntry]) -> Result<Symbols, NamedError>
     ensures ok { IfOk result (λ t. (t ≡ heads_of entries.now)
@@ -149,14 +165,9 @@ fn heads(alloc: Global, entries: &[TableEntry]) -> Result<Symbols, NamedError>
 {
     let mut heads = Symbols::new(alloc);
     for entry in entries {
-        if !is_new(&heads, entry) {
-            return Err(NamedError::Bad);
-        }
-        if heads
-            .enter(entry.name(), entry.arity(), entry.kind())
-            .is_err()
-        {
-            return Err(NamedError::Memory);
+        match enter_head(&mut heads, entry) {
+            Ok(()) => (),
+            Err(error) => return Err(error),
         }
     }
     Ok(heads)

@@ -21,7 +21,7 @@ use Rattle.ladr_formulas.proofs.VariableOrder.{variables_read}
 use Rattle.ladr_formulas.proofs.clauses.clause_of.Goals as goal
 
 -- the reader begins with the table
-start : (c : goal.After-drop-symbols-8) → c.new-reader.result ≡ record { reading = unread c.args.symbols.now; scope = [] }
+start : (c : goal.After-drop-symbols-3) → c.new-reader.result ≡ record { reading = unread c.args.symbols.now; scope = [] }
 start c = c.new-reader.ensures ∙ ap (λ (table : List Symbol). record { reading = unread table; scope = [] }) c.replace-table.ensures.value
 
 pub returns-clause-read : goal.returns-clause-read

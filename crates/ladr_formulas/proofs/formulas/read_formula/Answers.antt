@@ -15,10 +15,10 @@ use Rattle.ladr_formulas.proofs.VariableOrder.{whole_numbered}
 use Rattle.ladr_formulas.proofs.formulas.read_formula.Goals as goal
 
 -- the reader begins with the table
-start : (c : goal.After-drop-symbols-8) → c.new-reader.result ≡ record { reading = unread c.args.symbols.now; scope = [] }
+start : (c : goal.After-drop-symbols-3) → c.new-reader.result ≡ record { reading = unread c.args.symbols.now; scope = [] }
 start c = c.new-reader.ensures ∙ ap (λ (table : List Symbol). record { reading = unread table; scope = [] }) c.replace-table.ensures.value
 
-whole : (c : goal.After-drop-symbols-8) →
+whole : (c : goal.After-drop-symbols-3) →
     formula_in c.style_of.result c.new-reader.result.scope c.new-reader.result.reading (raw_of c.args.raw) ≡ formula_reading (style_of c.args.mode c.args.prolog) c.args.symbols.now (raw_of c.args.raw)
 whole c = λ i. formula_in (c.style_of.ensures i) (start c i).scope (start c i).reading (raw_of c.args.raw)
 
