@@ -1,11 +1,13 @@
 // Readings of terms, worked out.
-ghost use Rattle.std.specs.Prelude.{◌≡◌, [], ◌∷◌, codes, None, Some};
+ghost use Rattle.std.specs.Prelude.{◌≡◌, [], ◌∷◌, codes, None, Some, true, false, replicate};
+ghost use Rattle.fol_core.specs.RawTree.{named, raws_of};
 ghost use Rattle.fol_core.specs.Fol.{verum, falsum, equal, atom, negation, conjunction, disjunction, implication, equivalence, forall};
 ghost use Rattle.fol_core.specs.SymbolTable.{symbol};
 ghost use Rattle.fol_core.specs.Tree.{var, elem, app, none, more};
 ghost use Rattle.fol_core.specs.declared.symbols.Kind.TheVariants.{Function, Relation};
 ghost use Rattle.ladr_lex.specs.declared.misuse.Misuse.TheVariants.{TwoKinds, VariableAsFormula, QuantifierInTerm, UnfitAttribute, UnfitNumeral};
 ghost use Rattle.ladr_formulas.specs.Broken.{least_of};
+ghost use Rattle.ladr_formulas.specs.Counting.{is_wide, IsCounted};
 ghost use Rattle.ladr_formulas.specs.Formulas.{formula_reading, names_of_variables};
 ghost use Rattle.ladr_formulas.specs.Means.{Means};
 ghost use Rattle.ladr_formulas.specs.Occurring.{occurring, new_symbols};
@@ -101,6 +103,24 @@ pub fn worked_symbols()
         ≡ symbol (codes "f") 1 Function ∷ [] }
     ensures known { new_symbols (symbol (codes "f") 1 Function ∷ [])
         (occurring for_tester [] involution) ≡ [] }
+{}
+
+/// What is counted: symbols that are entered, and arguments.
+pub fn worked_counts()
+    // f(f(x)) = x behind no symbol, and behind f
+    ensures entered { IsCounted [] (occurring for_tester [] involution)
+        (symbol (codes "f") 1 Function ∷ []) true }
+    ensures known { IsCounted (symbol (codes "f") 1 Function ∷ [])
+        (occurring for_tester [] involution) (symbol (codes "f") 1 Function ∷ []) true }
+    // p(f,f(x),f(x,x)): three arities, four symbols
+    ensures arities { IsCounted [] (occurring for_tester [] three_arities)
+        (symbol (codes "p") 3 Relation ∷ symbol (codes "f") 0 Function ∷
+        symbol (codes "f") 1 Function ∷ symbol (codes "f") 2 Function ∷ []) true }
+    // 65,536 symbols are too many.
+    ensures over { IsCounted (replicate 65536 (symbol (codes "f") 1 Function)) [] [] false }
+    // p with 255 arguments, and with 256
+    ensures most { is_wide (named (codes "p") (raws_of (replicate 255 (leaf (codes "a"))))) ≡ false }
+    ensures wide { is_wide (named (codes "p") (raws_of (replicate 256 (leaf (codes "a"))))) ≡ true }
 {}
 
 /// The variables of terms, by number.

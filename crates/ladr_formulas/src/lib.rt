@@ -18,7 +18,8 @@ pub use arguments::{TermsRead, terms_of};
 pub use clauses::{ClauseRead, clause_of};
 pub use counting::{brings_too_many, has_large_arity};
 pub use examples::{
-    worked_formulas, worked_meanings, worked_refusals, worked_symbols, worked_variables,
+    worked_counts, worked_formulas, worked_meanings, worked_refusals, worked_symbols,
+    worked_variables,
 };
 pub use formulas::{FormulaRead, is_too_great, read_formula};
 pub use laws::{

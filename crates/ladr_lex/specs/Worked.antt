@@ -53,3 +53,13 @@ abbrev pub open_tokens : List Piece
 open_tokens =
     at 0 Unreadable (codes "\"") ∷ at 1 Ordinary (codes "a") ∷ at 3 Unreadable (codes "{")
     ∷ at 4 Unreadable (codes "%BEGIN b. %EN") ∷ []
+
+-- an item, a comment with a full stop in it, and an item that lacks one
+abbrev pub item_lines : List ℕ
+item_lines = codes "p. % q.\nr s"
+
+abbrev pub first_item : List Piece
+first_item = at 0 Ordinary (codes "p") ∷ at 1 Stop (codes ".") ∷ []
+
+abbrev pub last_item : List Piece
+last_item = at 8 Ordinary (codes "r") ∷ at 10 Ordinary (codes "s") ∷ []

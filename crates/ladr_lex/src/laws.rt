@@ -1,22 +1,32 @@
 // Laws of the definitions, and examples worked out.
-ghost use Rattle.std.specs.Prelude.{◌≡◌, ◌<◌, ◌^◌, ℕ, Bool, true, false, IsTrue, List, Option, Some, None, if◌then◌else◌, codes};
+ghost use Rattle.std.specs.Prelude.{◌≡◌, ◌+◌, ◌<◌, ◌^◌, drop, ℕ, Bool, true, false, IsTrue, List, Option, Some, None, if◌then◌else◌, codes};
 ghost use Rattle.std.specs.Str.{bytes_eq};
 ghost use Rattle.std.specs.Fmt.{decimal};
 ghost use Rattle.ladr_lex.specs.ClauseNames.{clause_variable, is_clause_name, clause_operator};
 ghost use Rattle.ladr_lex.specs.Numeral.{whole_number};
 ghost use Rattle.ladr_lex.specs.Cuts.{Piece, is_quoted, Cuts};
-ghost use Rattle.ladr_lex.specs.Lexed.{lexed};
+ghost use Rattle.ladr_lex.specs.Item.{CutsItem};
+ghost use Rattle.ladr_lex.specs.Lexed.{lexed, lexed_from};
 ghost use Rattle.ladr_lex.specs.Operators.{OperatorRow, operator_of, are_lawful, is_fixed, standard_rows, unquoted, is_unfit_operator, is_unfit_symbol, declared, with_operator_row};
 ghost use Rattle.ladr_lex.specs.Places.{line_of, column_of};
 ghost use Rattle.ladr_lex.specs.declared.operators.Operator.{Operator};
 ghost use Rattle.ladr_lex.specs.declared.operators.OperatorKind.TheVariants.{InfixLeft, Prefix};
-ghost use Rattle.ladr_lex.specs.Worked.{worked_formula, formula_tokens, special_line, special_tokens, comment_lines, comment_tokens, quoted_line, quoted_tokens, open_lines, open_tokens};
+ghost use Rattle.ladr_lex.specs.Worked.{worked_formula, formula_tokens, special_line, special_tokens, comment_lines, comment_tokens, quoted_line, quoted_tokens, open_lines, open_tokens, item_lines, first_item, last_item};
 
 /// Each text is cut by one list of tokens and no other.
 pub fn one_cutting()
     ensures some { (bytes : List ℕ) → Cuts 0 bytes (lexed bytes) }
     ensures only { (bytes : List ℕ) (ts us : List Piece) → Cuts 0 bytes ts → Cuts 0 bytes us
         → ts ≡ us }
+    // What is computed from a byte on cuts the bytes from there on, at their place.
+    ensures from { (start at : ℕ) (bytes : List ℕ) →
+        Cuts (start + at) (drop at bytes) (lexed_from start at bytes) }
+{}
+
+/// Items of a text: the first ends with its full stop, and the last with the text.
+pub fn worked_items()
+    ensures first { CutsItem 0 item_lines first_item 0 2 }
+    ensures behind { CutsItem 0 item_lines last_item 2 11 }
 {}
 
 /// Decimal digits are the numeral of their number, and no other text is.

@@ -15,7 +15,9 @@ mod token;
 
 pub use bytes::{is_ordinary, is_special};
 pub use item::item_from;
-pub use laws::{one_cutting, one_numeral, one_operator, worked, worked_clauses, worked_operators};
+pub use laws::{
+    one_cutting, one_numeral, one_operator, worked, worked_clauses, worked_items, worked_operators,
+};
 pub use limits::{MOST_ARGUMENTS, MOST_BYTES, MOST_ELEMENT, MOST_LEVELS, MOST_SYMBOLS};
 pub use misuse::Misuse;
 pub use numeral::{is_numeral, number, whole_number};
