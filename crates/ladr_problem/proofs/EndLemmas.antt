@@ -15,7 +15,7 @@ use Rattle.ladr_reader.specs.Reads as terms
 use Rattle.ladr_reader.specs.Table.{OperatorTable, table_of, right}
 use Rattle.ladr_reader.specs.declared.fault.TermFault.{TermFault}
 use Rattle.ladr_reader.specs.declared.fault.TermFault.TheVariants.{Bad, Deep, Memory}
-use Rattle.ladr_reader.specs.declared.place.Standing.TheVariants.{Operand, Named}
+use Rattle.ladr_reader.specs.Machine.{Operand, Named}
 use Rattle.ladr_reader.specs.declared.stack.Frame.{Frame}
 use Rattle.ladr_reader.specs.declared.stack.Frame.TheVariants.{Waiting}
 use Rattle.ladr_reader.specs.declared.stack.Part.TheVariants.{Prefix}

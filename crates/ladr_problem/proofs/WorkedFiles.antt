@@ -16,7 +16,7 @@ use Rattle.ladr_reader.proofs.Runs.{run_item}
 use Rattle.ladr_reader.specs.Capped.{disjuncts}
 use Rattle.ladr_reader.specs.Machine.{go, standing}
 use Rattle.ladr_reader.specs.Worked.{standard}
-use Rattle.ladr_reader.specs.declared.place.Standing.TheVariants.{Done}
+use Rattle.ladr_reader.specs.Machine.{Done}
 use Rattle.ladr_formulas.specs.declared.styles.Mode.{Mode}
 
 -- what the items say is what the bytes say

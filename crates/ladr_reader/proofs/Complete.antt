@@ -6,11 +6,9 @@ use Rattle.ladr_lex.specs.Lexeme.{Sort, Lexeme, open_paren, close_paren, comma, 
 use Rattle.ladr_lex.specs.Operators.{if_after}
 use Rattle.ladr_lex.specs.declared.operators.Operator.{Operator}
 use Rattle.ladr_reader.specs.Capped.{unless_too_deep, with_last_argument, whole_of, disjuncts_within, finished}
-use Rattle.ladr_reader.specs.Machine.{State, standing, follow_of, follow_of_symbol, may_stand_on, closes, behind_operator, behind_term, next, go}
+use Rattle.ladr_reader.specs.Machine.{State, standing, follow_of, follow_of_symbol, may_stand_on, closes, behind_operator, behind_term, next, go, Standing, Operand, Term, Done}
 use Rattle.ladr_reader.specs.Reads.{Reads, atom, applied, group, bound, prefixed, postfixed, infixed, ReadsAll, single, further, Item}
 use Rattle.ladr_reader.specs.Table.{OperatorTable, left, right, takes, grows, operator_grows, tree_grows}
-use Rattle.ladr_reader.specs.declared.place.Standing.{Standing}
-use Rattle.ladr_reader.specs.declared.place.Standing.TheVariants.{Operand, Term, Done}
 use Rattle.ladr_reader.specs.declared.roles.Follow.TheVariants.{Operates}
 use Rattle.ladr_reader.specs.declared.sides.Side.{Side}
 use Rattle.ladr_reader.specs.declared.sides.Side.TheVariants.{UpTo}

@@ -11,10 +11,8 @@ use Rattle.ladr_lex.specs.declared.operators.Operator.{Operator}
 use Rattle.ladr_reader.specs.Capped.{unless_too_deep, with_last_argument, application_within, quantification, is_bar, disjuncts, with_disjunct, disjunction_tree, all_within, disjuncts_within, single, whole_of, is_one_argument, argument_in_front, finished}
 use Rattle.ladr_reader.specs.Depths.{IsTooDeep, is_disjunct, is_spine, one_more, levels_around}
 use Rattle.ladr_reader.specs.DisjunctView.{depth_if}
-use Rattle.ladr_reader.specs.Machine.{State, standing, start_of, follow_of, variable_of, may_stand_on, closes, whole, begin, bind, behind_operator, behind_close, behind_comma, behind_stop, behind_symbol_name, act, behind_term, step, next, go}
+use Rattle.ladr_reader.specs.Machine.{State, standing, start_of, follow_of, variable_of, may_stand_on, closes, whole, begin, bind, behind_operator, behind_close, behind_comma, behind_stop, behind_symbol_name, act, behind_term, step, next, go, Standing, Operand, Named, Word, Term, Done}
 use Rattle.ladr_reader.specs.Table.{OperatorTable, left, right, takes, grows}
-use Rattle.ladr_reader.specs.declared.place.Standing.{Standing}
-use Rattle.ladr_reader.specs.declared.place.Standing.TheVariants.{Operand, Named, Word, Term, Done}
 use Rattle.ladr_reader.specs.declared.roles.Follow.{Follow}
 use Rattle.ladr_reader.specs.declared.roles.Follow.TheVariants.{Applies, Closes, Separates, Stops, Operates, FollowsNot}
 use Rattle.ladr_reader.specs.declared.roles.TermStart.{TermStart}

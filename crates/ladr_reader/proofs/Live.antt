@@ -7,11 +7,9 @@ use Rattle.fol_core.specs.RawTree.{RawTree, named, no_raws}
 use Rattle.ladr_lex.specs.Lexeme.{ordinary, Lexeme, close_paren, full_stop, symbol}
 use Rattle.ladr_lex.specs.Operators.{OperatorRow, operator_of, if_prefix}
 use Rattle.ladr_reader.specs.Capped.{disjuncts_within, finished}
-use Rattle.ladr_reader.specs.Machine.{whole}
+use Rattle.ladr_reader.specs.Machine.{whole, Standing, Operand, Named, Word, Term, Done}
 use Rattle.ladr_reader.specs.Reads.{BeginsItem}
 use Rattle.ladr_reader.specs.Table.{OperatorTable, table_of, quantifier_of}
-use Rattle.ladr_reader.specs.declared.place.Standing.{Standing}
-use Rattle.ladr_reader.specs.declared.place.Standing.TheVariants.{Operand, Named, Word, Term, Done}
 use Rattle.ladr_reader.specs.declared.sides.Side.TheVariants.{UpTo}
 use Rattle.ladr_reader.specs.declared.stack.Frame.{Frame}
 use Rattle.ladr_reader.specs.declared.stack.Frame.TheVariants.{Group, Applied, Waiting}

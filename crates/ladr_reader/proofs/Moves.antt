@@ -6,9 +6,8 @@ use Rattle.ladr_lex.specs.Lexeme.{Sort, Lexeme, symbol}
 use Rattle.ladr_lex.specs.Operators.{if_prefix, if_after}
 use Rattle.ladr_lex.specs.declared.operators.Operator.{Operator}
 use Rattle.ladr_reader.specs.Capped.{unless_too_deep, with_last_argument, whole_of, disjuncts_within, finished}
-use Rattle.ladr_reader.specs.Machine.{State, standing, may_stand_on, closes, whole, behind_operator, behind_symbol_name, behind_term, next, go}
+use Rattle.ladr_reader.specs.Machine.{State, standing, may_stand_on, closes, whole, behind_operator, behind_symbol_name, behind_term, next, go, Operand, Named}
 use Rattle.ladr_reader.specs.Table.{OperatorTable, left, right, takes, grows, ends, operator_grows}
-use Rattle.ladr_reader.specs.declared.place.Standing.TheVariants.{Operand, Named}
 use Rattle.ladr_reader.specs.declared.roles.Follow.{Follow}
 use Rattle.ladr_reader.specs.declared.roles.Follow.TheVariants.{Applies, Closes, Separates, Stops, Operates, FollowsNot}
 use Rattle.ladr_reader.specs.declared.sides.Side.{Side}

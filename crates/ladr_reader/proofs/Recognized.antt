@@ -7,11 +7,9 @@ use Rattle.ladr_lex.specs.Lexeme.{Lexeme, lexeme_of, lexemes_of}
 use Rattle.ladr_lex.specs.declared.operators.Operator.{Operator}
 use Rattle.ladr_lex.specs.declared.token.Token.{Token}
 use Rattle.ladr_reader.specs.Control.{Control, at, turn_of, waits_allow, ends_terms, start, bind_variable, turn_operator, turn_close, turn_comma, turn_stop, turn_act, turn_behind, turn_behind_name, control_step}
-use Rattle.ladr_reader.specs.Machine.{State, standing, start_of, follow_of, variable_of, may_stand_on, closes, whole, begin, bind, behind_operator, behind_close, behind_comma, behind_stop, behind_symbol_name, act, behind_term, step, go}
+use Rattle.ladr_reader.specs.Machine.{State, standing, start_of, follow_of, variable_of, may_stand_on, closes, whole, begin, bind, behind_operator, behind_close, behind_comma, behind_stop, behind_symbol_name, act, behind_term, step, go, Standing, Operand, Named, Word, Term, Done}
 use Rattle.ladr_reader.specs.Reads.{Item}
 use Rattle.ladr_reader.specs.Table.{OperatorTable, left, right, takes, grows}
-use Rattle.ladr_reader.specs.declared.place.Standing.{Standing}
-use Rattle.ladr_reader.specs.declared.place.Standing.TheVariants.{Operand, Named, Word, Term, Done}
 use Rattle.ladr_reader.specs.declared.recognizing.Place.{Place}
 use Rattle.ladr_reader.specs.declared.recognizing.Place.TheVariants.{BeforeOperand, BehindName, BehindWord, BehindTerm, BehindItem}
 use Rattle.ladr_reader.specs.declared.roles.Follow.{Follow}

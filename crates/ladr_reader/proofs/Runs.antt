@@ -9,14 +9,15 @@ use Rattle.ladr_lex.specs.Lexeme.{Lexeme, unreadable, lexeme_of, lexemes_of}
 use Rattle.ladr_lex.specs.declared.token.Token.{Token}
 use Rattle.ladr_reader.specs.Capped.{disjuncts_within, disjuncts}
 use Rattle.ladr_reader.specs.Faults.{IsTermFault, IsFaultWhere}
-use Rattle.ladr_reader.specs.Machine.{State, standing, step, next, go}
+use Rattle.ladr_reader.specs.Machine.{State, standing, step, next, go, Standing, Done}
 use Rattle.ladr_reader.specs.Nesting.{most_open, nesting}
+use Rattle.ladr_reader.specs.ReadingView.{at_spot}
 use Rattle.ladr_reader.specs.Reads.{Item, BeginsItem, IsBadToken}
 use Rattle.ladr_reader.specs.Table.{OperatorTable}
 use Rattle.ladr_reader.specs.declared.fault.TermFault.{TermFault}
 use Rattle.ladr_reader.specs.declared.fault.TermFault.TheVariants.{Bad, Deep, Memory}
-use Rattle.ladr_reader.specs.declared.place.Standing.{Standing}
-use Rattle.ladr_reader.specs.declared.place.Standing.TheVariants.{Done}
+use Rattle.ladr_reader.specs.declared.place.Spot.{Spot}
+use Rattle.ladr_reader.specs.declared.place.Spot.TheVariants.{AtOperand, AtSymbol, AtWord, AtTerm, AtStop}
 use Rattle.ladr_reader.specs.declared.stack.Frame.{Frame}
 use Rattle.ladr_reader.proofs.Complete.{item_read, place_of}
 use Rattle.ladr_reader.proofs.Lawful.{Lawful}
@@ -112,6 +113,16 @@ bad_end n g lawful names ts k place fs l e other =
       λ t item. other (disjuncts_within n t) item.precedence
           (ap place_of (sym e ∙ ap (λ (xs : List Lexeme). go n g (operand []) xs) whole ∙ item_read n g item)),
     )
+
+-- no item ends where the reader stands elsewhere
+pub unstopped :
+    (spot : Spot) (s : List ℕ) (u : Option (List RawTree)) → ((q : ℕ) → spot ≡ AtStop q → ⊥) →
+    (t : Option (List RawTree)) (q : ℕ) → at_spot spot s u ≡ Done t q → ⊥
+unstopped AtOperand s u other t q e = cc
+unstopped AtSymbol s u other t q e = cc
+unstopped (AtWord w) s u other t q e = cc
+unstopped (AtTerm p) s u other t q e = cc
+unstopped (AtStop p) s u other t q e = other p refl
 
 -- what the tokens are where the machine stands behind an item
 pub done_item :

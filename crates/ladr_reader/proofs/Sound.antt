@@ -6,11 +6,9 @@ use Rattle.ladr_lex.specs.Lexeme.{Sort, Lexeme, open_paren, close_paren, comma, 
 use Rattle.ladr_lex.specs.Operators.{if_prefix, if_after}
 use Rattle.ladr_lex.specs.declared.operators.Operator.{Operator}
 use Rattle.ladr_reader.specs.Capped.{with_last_argument, whole_of, disjuncts_within, finished}
-use Rattle.ladr_reader.specs.Machine.{State, standing, start_of, start_of_symbol, follow_of, follow_of_symbol, variable_of, may_stand_on, closes, whole, begin, bind, behind_operator, behind_close, behind_comma, behind_stop, behind_symbol_name, act, behind_term, step, next, go}
+use Rattle.ladr_reader.specs.Machine.{State, standing, start_of, start_of_symbol, follow_of, follow_of_symbol, variable_of, may_stand_on, closes, whole, begin, bind, behind_operator, behind_close, behind_comma, behind_stop, behind_symbol_name, act, behind_term, step, next, go, Standing, Operand, Named, Word, Term, Done}
 use Rattle.ladr_reader.specs.Reads.{Reads, atom, applied, group, bound, prefixed, postfixed, infixed, ReadsAll, single, further, Item}
 use Rattle.ladr_reader.specs.Table.{OperatorTable, left, right, takes, grows, ends, tree_grows}
-use Rattle.ladr_reader.specs.declared.place.Standing.{Standing}
-use Rattle.ladr_reader.specs.declared.place.Standing.TheVariants.{Operand, Named, Word, Term, Done}
 use Rattle.ladr_reader.specs.declared.sides.Side.{Side}
 use Rattle.ladr_reader.specs.declared.sides.Side.TheVariants.{Nothing, Below, UpTo}
 use Rattle.ladr_reader.specs.declared.stack.Frame.{Frame}

@@ -5,6 +5,7 @@ pub mod DisjunctView
 pub mod Faults
 pub mod Machine
 pub mod Nesting
+pub mod ReadingView
 pub mod Reads
 pub mod StackView
 pub mod Table

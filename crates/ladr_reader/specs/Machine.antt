@@ -7,8 +7,6 @@ use Rattle.ladr_lex.specs.Operators.{if_prefix, if_after}
 use Rattle.ladr_lex.specs.declared.operators.Operator.{Operator}
 use Rattle.ladr_reader.specs.Capped.{with_last_argument, quantification, whole_of, single, disjuncts_within, finished}
 use Rattle.ladr_reader.specs.Table.{OperatorTable, left, right, takes, grows, ends}
-use Rattle.ladr_reader.specs.declared.place.Standing.{Standing}
-use Rattle.ladr_reader.specs.declared.place.Standing.TheVariants.{Operand, Named, Word, Term, Done}
 use Rattle.ladr_reader.specs.declared.roles.Follow.{Follow}
 use Rattle.ladr_reader.specs.declared.roles.Follow.TheVariants.{Applies, Closes, Separates, Stops, Operates, FollowsNot}
 use Rattle.ladr_reader.specs.declared.roles.TermStart.{TermStart}
@@ -19,6 +17,16 @@ use Rattle.ladr_reader.specs.declared.stack.Frame.{Frame}
 use Rattle.ladr_reader.specs.declared.stack.Frame.TheVariants.{Group, Applied, Waiting}
 use Rattle.ladr_reader.specs.declared.stack.Part.{Part}
 use Rattle.ladr_reader.specs.declared.stack.Part.TheVariants.{Prefix, Infix, Quantified}
+
+-- where the machine stands: before an operand, behind a symbol that may get arguments, behind a
+-- quantifier's word, behind a term of this precedence, or behind the full stop of an item, which is
+-- this term of this precedence
+pub data Standing : Type 0 where
+  Operand : Standing
+  Named : List ℕ → Standing
+  Word : Quantifier → Standing
+  Term : Option (List RawTree) → ℕ → Standing
+  Done : Option (List RawTree) → ℕ → Standing
 
 -- where the machine stands, and what waits, the innermost first
 pub record State : Type 0 where

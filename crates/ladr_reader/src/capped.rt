@@ -1,6 +1,7 @@
 // Trees that are built as long as they have few levels.
-ghost use Rattle.std.specs.Prelude.{◌≡◌, [], ◌∷◌, ◌++◌, Some, IfOk};
+ghost use Rattle.std.specs.Prelude.{◌≡◌, [], ◌∷◌, ◌++◌, Some, IfOk, OnOk, OnErr};
 ghost use Rattle.std.specs.Option.{option_map};
+ghost use Rattle.fol_core.specs.RawTree.{depth};
 ghost use Rattle.fol_core.specs.RawView.{raw_of};
 ghost use Rattle.ladr_reader.specs.Capped.{with_last_argument, application_within, quantification, is_one_argument};
 
@@ -92,28 +93,33 @@ impl Arguments {
     }
 
     /// One more argument, at the end.
+    pub fn push(&mut self, argument: Capped) -> Result<(), AllocError>
+        ensures { IfOk result (λ _. self.new ≡ with_last_argument self.old argument) }
+    {
+        let Capped { tree, levels } = argument;
+        match tree {
+            Some(tree) => self.push_tree(tree, levels),
+            None => {
+                self.trees = None;
+                Ok(())
+            }
+        }
+    }
+
+    // One more tree of so many levels, at the end.
     #[tactic(auto, using(crate::proofs::Levels::depth_of_append))]
     #[inline(always)]
-    pub fn with(self, argument: Capped) -> Result<Arguments, AllocError>
-        ensures { IfOk result (λ arguments. arguments ≡ with_last_argument self argument) }
+    fn push_tree(&mut self, tree: Raw, levels: u16) -> Result<(), AllocError>
+        requires { depth (raw_of tree) ≡ levels }
+        ensures { IfOk result (λ _. self.new ≡ with_last_argument self.old (Some (raw_of tree))) }
     {
-        let Arguments { trees, levels } = self;
-        let Capped { tree, levels: more } = argument;
-        match trees {
-            None => Ok(Arguments {
-                trees: None,
-                levels: 0,
-            }),
-            Some(trees) => match tree {
-                None => Ok(Arguments {
-                    trees: None,
-                    levels: 0,
-                }),
-                Some(tree) => Ok(Arguments {
-                    trees: Some(with_tree(trees, tree)?),
-                    levels: levels.max(more),
-                }),
-            },
+        match &mut self.trees {
+            None => Ok(()),
+            Some(trees) => {
+                add_tree(trees, tree)?;
+                self.levels = self.levels.max(levels);
+                Ok(())
+            }
         }
     }
 }
@@ -176,25 +182,17 @@ impl Capped {
     }
 }
 
-// One more tree, at the end.
+// One more tree, at the end, with room for just that where there are few: most names have one or two arguments, and
+// there may be millions of them.
 #[tactic(auto, using(crate::proofs::Disjunctions::raws_append))]
 #[inline(always)]
-fn with_tree(trees: Raws, tree: Raw) -> Result<Raws, AllocError>
-    ensures { IfOk result (λ more. more ≡ trees ++ raw_of tree ∷ []) }
+fn add_tree(trees: &mut Raws, tree: Raw) -> Result<(), AllocError>
+    ensures ok { OnOk result (trees.new ≡ trees.old ++ raw_of tree ∷ []) }
+    ensures err { OnErr result (trees.new ≡ trees.old) }
 {
-    let mut items = with_room(trees.into_items())?;
-    items.push(tree)?;
-    Ok(Raws { items })
-}
-
-// The same trees with room for one more: most names have one or two arguments, and there may be millions of them.
-#[inline(always)]
-fn with_room(items: Vec<Raw>) -> Result<Vec<Raw>, AllocError>
-    ensures { IfOk result (λ roomy. roomy.items ≡ items.items) }
-{
-    let mut items = items;
-    if items.len() < 4 {
-        items.reserve_exact(1)?;
+    if trees.items.len() < 4 {
+        trees.items.reserve_exact(1)?;
     }
-    Ok(items)
+    trees.items.push(tree)?;
+    Ok(())
 }

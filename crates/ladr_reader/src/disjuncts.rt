@@ -3,13 +3,14 @@ ghost use Rattle.std.specs.Prelude.{◌≡◌, [], true, Some, None, IfOk};
 ghost use Rattle.std.specs.Option.{option_map};
 ghost use Rattle.fol_core.specs.RawTree.{named, no_raws};
 ghost use Rattle.fol_core.specs.RawView.{raw_of, raw_list};
-ghost use Rattle.ladr_reader.specs.Capped.{disjunction_tree, is_bar, is_one_argument, single, whole_of, argument_in_front, finished, disjuncts_within, quantification};
+ghost use Rattle.ladr_reader.specs.Capped.{disjunction_tree, is_bar, is_one_argument, single, whole_of, argument_in_front, finished, disjuncts_within, quantification, application_within};
 ghost use Rattle.ladr_reader.specs.DisjunctView.{in_order};
 
 use crate::capped::{Arguments, Build, Capped};
 use fol_core::{Name, Quantifier, Raw, Raws};
 use std::alloc::AllocError;
 use std::marker::Model;
+use std::mem;
 
 /// A term by its disjuncts, or nothing where one has too many levels; contracts see just that.
 #[derive(Drop)]
@@ -44,106 +45,69 @@ impl Model for Disjuncts {
 }
 
 impl Disjuncts {
-    /// A tree as its only disjunct.
-    #[inline(always)]
-    pub fn of(build: Build, tree: Capped) -> Disjuncts
-        ensures { result ≡ single tree }
+    /// Nothing.
+    pub fn none(build: Build) -> Disjuncts
+        ensures { result ≡ None }
     {
-        let Capped { tree, levels } = tree;
         Disjuncts {
-            last: tree,
+            last: None,
             before: Raws::new(build.alloc),
-            levels: u32::from(levels),
+            levels: 0,
         }
     }
 
-    /// A name without arguments.
-    #[inline(always)]
-    pub fn atom(build: Build, name: Name) -> Disjuncts
-        ensures { result ≡ disjuncts_within build.most (named name no_raws) }
+    /// A name without arguments takes the place of the term.
+    pub fn set_atom(&mut self, build: Build, name: Name)
+        ensures { self.new ≡ disjuncts_within build.most (named name no_raws) }
     {
         let none = Arguments::new(build.alloc);
-        Disjuncts::of(build, Capped::application(build, name, none))
+        self.set_application(build, name, none);
     }
 
     /// A name with arguments, of which the last is this one.
-    #[inline(always)]
-    pub fn finished(
+    pub fn finish(
+        &mut self,
         build: Build,
         name: Name,
-        arguments: Arguments,
-        last: Disjuncts,
-    ) -> Result<Disjuncts, AllocError>
-        ensures { IfOk result (λ term. term ≡ finished build.most name arguments last) }
+        mut arguments: Arguments,
+    ) -> Result<(), AllocError>
+        ensures { IfOk result (λ _. self.new ≡ finished build.most name arguments self.old) }
     {
         if is_bar(name.bytes()) && arguments.is_one() {
-            return last.behind(build, arguments);
+            return self.put_behind(arguments);
         }
-        let last = last.into_whole(build)?;
-        let tree = Capped::application(build, name, arguments.with(last)?);
-        Ok(Disjuncts::of(build, tree))
+        arguments.push(self.take_whole(build)?)?;
+        self.set_application(build, name, arguments);
+        Ok(())
     }
 
-    /// A quantifier with its variable and body.
-    pub fn quantification(
+    /// A quantifier with its variable, of which this is the body.
+    pub fn quantify(
+        &mut self,
         build: Build,
         quantifier: Quantifier,
         variable: Name,
-        body: Disjuncts,
-    ) -> Result<Disjuncts, AllocError>
-        ensures { IfOk result (λ term.
-            term ≡ single (quantification build.most quantifier variable
-            (whole_of build.most body))) }
+    ) -> Result<(), AllocError>
+        ensures { IfOk result (λ _.
+            self.new ≡ single (quantification build.most quantifier variable
+            (whole_of build.most self.old))) }
     {
-        let body = body.into_whole(build)?;
-        let tree = Capped::quantification(build, quantifier, variable, body)?;
-        Ok(Disjuncts::of(build, tree))
+        let body = self.take_whole(build)?;
+        self.set(
+            build,
+            Capped::quantification(build, quantifier, variable, body)?,
+        );
+        Ok(())
     }
 
-    // The disjuncts behind another one, which is the argument.
-    #[inline(never)]
-    fn behind(self, build: Build, first: Arguments) -> Result<Disjuncts, AllocError>
-        requires { is_one_argument first ≡ true }
-        ensures { IfOk result (λ term. term ≡ argument_in_front first self) }
+    /// The tree of the term, taken out of it.
+    pub fn take_whole(&mut self, build: Build) -> Result<Capped, AllocError>
+        ensures { IfOk result (λ tree. tree ≡ whole_of build.most self.old) }
     {
-        let Arguments {
-            trees,
-            levels: first,
-        } = first;
-        let Disjuncts {
-            last,
-            mut before,
-            levels,
-        } = self;
-        match trees {
-            None => Ok(Disjuncts::too_deep(build)),
-            Some(trees) => match trees.into_items().pop() {
-                None => Ok(Disjuncts::too_deep(build)),
-                Some(tree) => {
-                    before.push(tree)?;
-                    Ok(Disjuncts {
-                        last,
-                        before,
-                        levels: levels.max(u32::from(first)).saturating_add(1),
-                    })
-                }
-            },
-        }
-    }
-
-    /// The tree of the term.
-    #[inline(always)]
-    pub fn into_whole(self, build: Build) -> Result<Capped, AllocError>
-        ensures { IfOk result (λ tree. tree ≡ whole_of build.most self) }
-    {
-        let Disjuncts {
-            last,
-            before,
-            levels,
-        } = self;
-        match last {
+        let levels = self.levels;
+        match self.last.take() {
             Some(last) if levels <= u32::from(build.most) => {
-                let tree = nested(build, before.into_items(), last)?;
+                let tree = joined(build, &mut self.before, last)?;
                 Ok(Capped {
                     tree: Some(tree),
                     levels: levels as u16,
@@ -151,6 +115,55 @@ impl Disjuncts {
             }
             _ => Ok(Capped::too_deep()),
         }
+    }
+
+    // A name with arguments takes the place of the term.
+    fn set_application(&mut self, build: Build, name: Name, arguments: Arguments)
+        ensures { self.new ≡ single (application_within build.most name arguments) }
+    {
+        self.set(build, Capped::application(build, name, arguments));
+    }
+
+    // A tree takes the place of the term, as its only disjunct.
+    #[inline(always)]
+    fn set(&mut self, build: Build, tree: Capped)
+        ensures { self.new ≡ single tree }
+    {
+        let Capped { tree, levels } = tree;
+        self.last = tree;
+        self.before = Raws::new(build.alloc);
+        self.levels = u32::from(levels);
+    }
+
+    // The disjuncts behind another one, which is the argument.
+    #[inline(never)]
+    fn put_behind(&mut self, first: Arguments) -> Result<(), AllocError>
+        requires { is_one_argument first ≡ true }
+        ensures { IfOk result (λ _. self.new ≡ argument_in_front first self.old) }
+    {
+        let Arguments {
+            trees,
+            levels: first,
+        } = first;
+        match trees {
+            None => self.last = None,
+            Some(trees) => match trees.into_items().pop() {
+                None => self.last = None,
+                Some(tree) => {
+                    self.before.push(tree)?;
+                    self.levels = self.levels.max(u32::from(first)).saturating_add(1);
+                }
+            },
+        }
+        Ok(())
+    }
+
+    /// The tree of the term.
+    pub fn into_whole(self, build: Build) -> Result<Capped, AllocError>
+        ensures { IfOk result (λ tree. tree ≡ whole_of build.most self) }
+    {
+        let mut term = self;
+        term.take_whole(build)
     }
 
     /// The disjuncts, if they are there.
@@ -173,20 +186,23 @@ impl Disjuncts {
             None => Ok(None),
         }
     }
+}
 
-    fn too_deep(build: Build) -> Disjuncts
-        ensures { result ≡ None }
-    {
-        Disjuncts {
-            last: None,
-            before: Raws::new(build.alloc),
-            levels: 0,
-        }
+// The tree of disjuncts, which are mostly one: the last, and those before it, the last of them first.
+#[inline(always)]
+fn joined(build: Build, before: &mut Raws, last: Raw) -> Result<Raw, AllocError>
+    ensures { IfOk result (λ tree. disjunction_tree (in_order before.old (raw_of last))
+        ≡ Some (raw_of tree)) }
+{
+    if before.len() == 0 {
+        return Ok(last);
     }
+    let before = mem::replace(before, Raws::new(build.alloc));
+    nested(build, before.into_items(), last)
 }
 
 // The tree of disjuncts: the last, and those before it, the last of them first.
-#[inline(always)]
+#[inline(never)]
 fn nested(build: Build, before: Vec<Raw>, last: Raw) -> Result<Raw, AllocError>
     ensures { IfOk result (λ tree. disjunction_tree (in_order (raw_list before.items) (raw_of last))
         ≡ Some (raw_of tree)) }

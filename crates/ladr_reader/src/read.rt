@@ -14,11 +14,11 @@ use crate::capped::{Build, Capped};
 use crate::disjuncts::Disjuncts;
 use crate::fault::TermFault;
 use crate::nesting::Parentheses;
-use crate::place::Standing;
+use crate::place::{Reading, Spot};
 use crate::recognizing::recognize;
 use crate::stack::Stack;
 use crate::step::step;
-use fol_core::Raw;
+use fol_core::{Name, Raw};
 use ladr_lex::{MOST_LEVELS, Ops, Token};
 use std::alloc::Global;
 
@@ -123,22 +123,26 @@ fn read_shallow(
 {
     ops.rows_are_lawful();
     let mut stack = Stack::new(build.alloc);
-    let mut place = Standing::Operand;
+    let mut reading = Reading {
+        spot: Spot::AtOperand,
+        name: Name::new(Vec::new(build.alloc)),
+        term: Disjuncts::none(build),
+    };
     let mut parentheses = Parentheses::new();
     for (i, token) in tokens.iter().enumerate() {
         if stack.is_deeper_than(build.most, literals) {
             return Ok(None);
         }
         parentheses.note(token);
-        match step(build, ops, &mut stack, place, token)? {
-            Some(next) => place = next,
-            None => return Err(TermFault::Bad(i)),
+        let goes = step(build, ops, &mut stack, &mut reading, token)?;
+        if !goes {
+            return Err(TermFault::Bad(i));
         }
     }
-    let Standing::Done(term, _) = place else {
+    let Spot::AtStop(_) = reading.spot else {
         return Err(TermFault::Bad(tokens.len()));
     };
-    Ok(Some((term, parentheses.most())))
+    Ok(Some((reading.term, parentheses.most())))
 }
 
 // The tree, unless the item is nested too deep.

@@ -2,92 +2,107 @@
 ghost use Rattle.std.specs.Prelude.{◌≡◌, ℕ, ◌<◌, length, List, Option, IfOk, IfSome, MatchOption};
 ghost use Rattle.fol_core.specs.RawTree.{RawTree};
 ghost use Rattle.ladr_lex.specs.Lexeme.{lexeme_of};
-ghost use Rattle.ladr_reader.specs.Machine.{standing, step, begin, bind, behind_symbol_name, behind_term, act, whole, behind_operator, behind_close, behind_comma, behind_stop};
+ghost use Rattle.ladr_reader.specs.Machine.{step, begin, bind, behind_symbol_name, behind_term, act, whole, behind_operator, behind_close, behind_comma, behind_stop};
+ghost use Rattle.ladr_reader.specs.ReadingView.{standing_of, goes_on};
 ghost use Rattle.ladr_reader.specs.Table.{table_of, right};
+ghost use Rattle.ladr_reader.specs.declared.roles.TermStart.TheVariants.{Precedes};
 
 use crate::capped::{Arguments, Build};
 use crate::disjuncts::Disjuncts;
-use crate::place::Standing;
+use crate::place::{Reading, Spot};
 use crate::roles::{Follow, TermStart, variable_of};
 use crate::sides::{QUANTIFIED, Side, grows, left, right};
 use crate::stack::{Frame, Part, Stack};
 use fol_core::{Name, Quantifier};
 use ladr_lex::{Operator, Ops, Token};
 use std::alloc::AllocError;
+use std::mem;
 
-/// Where the reader stands behind the token; nothing where no term begins so.
-#[inline(always)]
+/// Goes on behind the token; answers whether a term may begin so.
 pub fn step(
     build: Build,
     ops: &Ops,
     stack: &mut Stack,
-    place: Standing,
+    reading: &mut Reading,
     token: &Token,
-) -> Result<Option<Standing>, AllocError>
-    ensures { IfOk result (λ next.
-        standing next stack.new ≡ step build.most (table_of ops.now) place stack.old
-        (lexeme_of token.now)) }
+) -> Result<bool, AllocError>
+    ensures { IfOk result (λ goes.
+        goes_on goes reading.new stack.new ≡ step build.most (table_of ops.now)
+        (standing_of reading.old) stack.old (lexeme_of token.now)) }
 {
     let alloc = build.alloc;
-    match place {
-        Standing::Operand => begin(stack, TermStart::of(alloc, ops, token)?),
-        Standing::Named(name) => behind_name(build, stack, Follow::of(alloc, ops, token)?, name),
-        Standing::Word(quantifier) => bind(stack, quantifier, variable_of(alloc, token)?),
-        Standing::Term(term, precedence) => {
+    match reading.spot {
+        Spot::AtOperand => begin(stack, reading, TermStart::of(alloc, ops, token)?),
+        Spot::AtSymbol => behind_name(build, stack, reading, Follow::of(alloc, ops, token)?),
+        Spot::AtWord(quantifier) => bind(stack, reading, quantifier, variable_of(alloc, token)?),
+        Spot::AtTerm(precedence) => {
             after(
                 build,
                 stack,
+                reading,
                 Follow::of(alloc, ops, token)?,
-                term,
                 precedence,
             )
         }
-        Standing::Done(_, _) => Ok(None),
+        Spot::AtStop(_) => Ok(false),
     }
 }
 
 // Before an operand.
-#[inline(always)]
-fn begin(stack: &mut Stack, start: TermStart) -> Result<Option<Standing>, AllocError>
-    ensures { IfOk result (λ place. standing place stack.new ≡ begin start stack.old) }
+fn begin(stack: &mut Stack, reading: &mut Reading, start: TermStart) -> Result<bool, AllocError>
+    ensures { IfOk result (λ goes. goes_on goes reading.new stack.new ≡ begin start stack.old) }
 {
     match start {
         TermStart::Opens => {
             stack.push(Frame::Group)?;
-            Ok(Some(Standing::Operand))
+            reading.spot = Spot::AtOperand;
+            Ok(true)
         }
         TermStart::Quantifies(quantifier) => {
-            if stack.allows(QUANTIFIED, false) {
-                Ok(Some(Standing::Word(quantifier)))
-            } else {
-                Ok(None)
-            }
+            reading.spot = Spot::AtWord(quantifier);
+            Ok(stack.allows(QUANTIFIED, false))
         }
-        TermStart::Precedes(name, operator) => {
-            if stack.allows(operator.precedence, false) {
-                stack.push(Frame::Waiting(
-                    Part::Prefix(name),
-                    right(operator.kind),
-                    operator.precedence,
-                ))?;
-                Ok(Some(Standing::Operand))
-            } else {
-                Ok(None)
-            }
+        TermStart::Precedes(name, operator) => begin_prefix(stack, reading, name, operator),
+        TermStart::Names(name) => {
+            reading.name = name;
+            reading.spot = Spot::AtSymbol;
+            Ok(true)
         }
-        TermStart::Names(name) => Ok(Some(Standing::Named(name))),
-        TermStart::StartsNot => Ok(None),
+        TermStart::StartsNot => Ok(false),
     }
 }
 
+// A prefix operator before an operand.
+fn begin_prefix(
+    stack: &mut Stack,
+    reading: &mut Reading,
+    name: Name,
+    operator: Operator,
+) -> Result<bool, AllocError>
+    ensures { IfOk result (λ goes. goes_on goes reading.new stack.new
+        ≡ begin (Precedes name operator) stack.old) }
+{
+    if !stack.allows(operator.precedence, false) {
+        return Ok(false);
+    }
+    stack.push(Frame::Waiting(
+        Part::Prefix(name),
+        right(operator.kind),
+        operator.precedence,
+    ))?;
+    reading.spot = Spot::AtOperand;
+    Ok(true)
+}
+
 // Behind a quantifier's word.
-#[inline(always)]
 fn bind(
     stack: &mut Stack,
+    reading: &mut Reading,
     quantifier: Quantifier,
     variable: Option<Name>,
-) -> Result<Option<Standing>, AllocError>
-    ensures { IfOk result (λ place. standing place stack.new ≡ bind quantifier variable stack.old) }
+) -> Result<bool, AllocError>
+    ensures { IfOk result (λ goes. goes_on goes reading.new stack.new
+        ≡ bind quantifier variable stack.old) }
 {
     match variable {
         Some(variable) => {
@@ -96,52 +111,53 @@ fn bind(
                 Side::UpTo,
                 QUANTIFIED,
             ))?;
-            Ok(Some(Standing::Operand))
+            reading.spot = Spot::AtOperand;
+            Ok(true)
         }
-        None => Ok(None),
+        None => Ok(false),
     }
 }
 
 // Behind a symbol: its arguments begin, or it is an atom.
-#[inline(always)]
 fn behind_name(
     build: Build,
     stack: &mut Stack,
+    reading: &mut Reading,
     follow: Follow,
-    name: Name,
-) -> Result<Option<Standing>, AllocError>
-    ensures { IfOk result (λ place. standing place stack.new
-        ≡ behind_symbol_name build.most follow name stack.old) }
+) -> Result<bool, AllocError>
+    ensures { IfOk result (λ goes. goes_on goes reading.new stack.new
+        ≡ behind_symbol_name build.most follow reading.old.name stack.old) }
 {
+    let name = mem::replace(&mut reading.name, Name::new(Vec::new(build.alloc)));
     match follow {
         Follow::Applies => {
             stack.push(Frame::Applied(name, Arguments::new(build.alloc)))?;
-            Ok(Some(Standing::Operand))
+            reading.spot = Spot::AtOperand;
+            Ok(true)
         }
         follow => {
-            let atom = Disjuncts::atom(build, name);
-            after(build, stack, follow, atom, 0)
+            reading.term.set_atom(build, name);
+            after(build, stack, reading, follow, 0)
         }
     }
 }
 
 // Behind a term: the token ends what waits as far as it may, and acts then.
-#[inline(always)]
 fn after(
     build: Build,
     stack: &mut Stack,
+    reading: &mut Reading,
     follow: Follow,
-    mut term: Disjuncts,
     mut precedence: u16,
-) -> Result<Option<Standing>, AllocError>
-    ensures { IfOk result (λ place. standing place stack.new
-        ≡ behind_term build.most follow term precedence stack.old) }
+) -> Result<bool, AllocError>
+    ensures { IfOk result (λ goes. goes_on goes reading.new stack.new
+        ≡ behind_term build.most follow reading.old.term precedence stack.old) }
 {
     while let Some((part, own)) = take_closed(build, stack, &follow) {
-        term = whole(build, part, term)?;
+        end(build, part, &mut reading.term)?;
         precedence = own;
     }
-    act(build, stack, follow, term, precedence)
+    act(build, stack, reading, follow, precedence)
 }
 
 // Takes off what is innermost, if the token ends its last argument.
@@ -167,131 +183,124 @@ fn take_closed(build: Build, stack: &mut Stack, follow: &Follow) -> Option<(Part
 }
 
 // What the token does behind a term, once it has ended what it may.
-#[inline(always)]
 fn act(
     build: Build,
     stack: &mut Stack,
+    reading: &mut Reading,
     follow: Follow,
-    term: Disjuncts,
     precedence: u16,
-) -> Result<Option<Standing>, AllocError>
-    ensures { IfOk result (λ place. standing place stack.new
-        ≡ act build.most follow term precedence stack.old) }
+) -> Result<bool, AllocError>
+    ensures { IfOk result (λ goes. goes_on goes reading.new stack.new
+        ≡ act build.most follow reading.old.term precedence stack.old) }
 {
     match follow {
-        Follow::Closes => behind_close(build, stack, term),
-        Follow::Separates => behind_comma(build, stack, term),
-        Follow::Stops => behind_stop(stack, term, precedence),
+        Follow::Closes => behind_close(build, stack, reading),
+        Follow::Separates => behind_comma(build, stack, reading),
+        Follow::Stops => Ok(behind_stop(stack, reading, precedence)),
         Follow::Operates(name, operator) => {
             if left(operator.kind).takes(operator.precedence, precedence)
                 && stack.allows(operator.precedence, grows(operator.kind))
             {
-                behind_operator(build, stack, name, operator, term)
+                behind_operator(build, stack, reading, name, operator)
             } else {
-                Ok(None)
+                Ok(false)
             }
         }
-        Follow::Applies | Follow::FollowsNot => Ok(None),
+        Follow::Applies | Follow::FollowsNot => Ok(false),
     }
 }
 
 // Behind a term and an operator.
-#[inline(always)]
 fn behind_operator(
     build: Build,
     stack: &mut Stack,
+    reading: &mut Reading,
     name: Name,
     operator: Operator,
-    term: Disjuncts,
-) -> Result<Option<Standing>, AllocError>
-    ensures { IfOk result (λ place.
-        standing place stack.new ≡ behind_operator build.most
-        (right operator.kind) name operator term stack.old) }
+) -> Result<bool, AllocError>
+    ensures { IfOk result (λ goes. goes_on goes reading.new stack.new
+        ≡ behind_operator build.most (right operator.kind) name operator
+        reading.old.term stack.old) }
 {
     match right(operator.kind) {
         Side::Nothing => {
-            let none = Arguments::new(build.alloc);
-            let term = Disjuncts::finished(build, name, none, term)?;
-            Ok(Some(Standing::Term(term, operator.precedence)))
+            reading
+                .term
+                .finish(build, name, Arguments::new(build.alloc))?;
+            reading.spot = Spot::AtTerm(operator.precedence);
+            Ok(true)
         }
         side => {
-            let left = term.into_whole(build)?;
+            let left = reading.term.take_whole(build)?;
             stack.push(Frame::Waiting(Part::Infix(name, left), side, operator.precedence))?;
-            Ok(Some(Standing::Operand))
+            reading.spot = Spot::AtOperand;
+            Ok(true)
         }
     }
 }
 
 // Behind a term and a closing parenthesis.
-#[inline(always)]
-fn behind_close(
-    build: Build,
-    stack: &mut Stack,
-    term: Disjuncts,
-) -> Result<Option<Standing>, AllocError>
-    ensures { IfOk result (λ place. standing place stack.new
-        ≡ behind_close build.most term stack.old) }
+fn behind_close(build: Build, stack: &mut Stack, reading: &mut Reading) -> Result<bool, AllocError>
+    ensures { IfOk result (λ goes. goes_on goes reading.new stack.new
+        ≡ behind_close build.most reading.old.term stack.old) }
 {
     match stack.pop() {
-        Some(Frame::Group) => Ok(Some(Standing::Term(term, 0))),
-        Some(Frame::Applied(name, arguments)) => {
-            let term = Disjuncts::finished(build, name, arguments, term)?;
-            Ok(Some(Standing::Term(term, 0)))
+        Some(Frame::Group) => {
+            reading.spot = Spot::AtTerm(0);
+            Ok(true)
         }
-        Some(Frame::Waiting(_, _, _)) => Ok(None),
-        None => Ok(None),
+        Some(Frame::Applied(name, arguments)) => {
+            reading.term.finish(build, name, arguments)?;
+            reading.spot = Spot::AtTerm(0);
+            Ok(true)
+        }
+        Some(Frame::Waiting(_, _, _)) => Ok(false),
+        None => Ok(false),
     }
 }
 
 // Behind a term and a comma.
-#[inline(always)]
-fn behind_comma(
-    build: Build,
-    stack: &mut Stack,
-    term: Disjuncts,
-) -> Result<Option<Standing>, AllocError>
-    ensures { IfOk result (λ place. standing place stack.new
-        ≡ behind_comma build.most term stack.old) }
+fn behind_comma(build: Build, stack: &mut Stack, reading: &mut Reading) -> Result<bool, AllocError>
+    ensures { IfOk result (λ goes. goes_on goes reading.new stack.new
+        ≡ behind_comma build.most reading.old.term stack.old) }
 {
     match stack.pop() {
-        Some(Frame::Applied(name, arguments)) => {
-            let term = term.into_whole(build)?;
-            stack.push(Frame::Applied(name, arguments.with(term)?))?;
-            Ok(Some(Standing::Operand))
+        Some(Frame::Applied(name, mut arguments)) => {
+            arguments.push(reading.term.take_whole(build)?)?;
+            stack.push(Frame::Applied(name, arguments))?;
+            reading.spot = Spot::AtOperand;
+            Ok(true)
         }
-        Some(Frame::Group) => Ok(None),
-        Some(Frame::Waiting(_, _, _)) => Ok(None),
-        None => Ok(None),
+        Some(Frame::Group) => Ok(false),
+        Some(Frame::Waiting(_, _, _)) => Ok(false),
+        None => Ok(false),
     }
 }
 
 // Behind a term and a full stop.
-#[inline(always)]
-fn behind_stop(
-    stack: &mut Stack,
-    term: Disjuncts,
-    precedence: u16,
-) -> Result<Option<Standing>, AllocError>
-    ensures { IfOk result (λ place. standing place stack.new
-        ≡ behind_stop term precedence stack.old) }
+fn behind_stop(stack: &mut Stack, reading: &mut Reading, precedence: u16) -> bool
+    ensures { goes_on result reading.new stack.new ≡ behind_stop reading.old.term precedence stack.old }
 {
     match stack.pop() {
-        None => Ok(Some(Standing::Done(term, precedence))),
-        Some(_) => Ok(None),
+        None => {
+            reading.spot = Spot::AtStop(precedence);
+            true
+        }
+        Some(_) => false,
     }
 }
 
-// The term that a part becomes with its last argument.
-#[inline(always)]
-fn whole(build: Build, part: Part, last: Disjuncts) -> Result<Disjuncts, AllocError>
-    ensures { IfOk result (λ term. term ≡ whole build.most part last) }
+// The term becomes that of a part whose last argument it is.
+fn end(build: Build, part: Part, term: &mut Disjuncts) -> Result<(), AllocError>
+    ensures { IfOk result (λ _. term.new ≡ whole build.most part term.old) }
 {
-    let none = Arguments::new(build.alloc);
+    let mut arguments = Arguments::new(build.alloc);
     match part {
-        Part::Prefix(name) => Disjuncts::finished(build, name, none, last),
-        Part::Infix(name, first) => Disjuncts::finished(build, name, none.with(first)?, last),
-        Part::Quantified(quantifier, variable) => Disjuncts::quantification(
-            build, quantifier, variable, last,
-        ),
+        Part::Prefix(name) => term.finish(build, name, arguments),
+        Part::Infix(name, first) => {
+            arguments.push(first)?;
+            term.finish(build, name, arguments)
+        }
+        Part::Quantified(quantifier, variable) => term.quantify(build, quantifier, variable),
     }
 }

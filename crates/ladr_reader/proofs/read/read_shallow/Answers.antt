@@ -1,32 +1,32 @@
 -- The token that stops the machine is the first bad one; a run over all tokens ends behind an item just where they are one.
 use Rattle.std.proofs.Common.{◌≡◌, ◌≤◌, ◌+◌, max, List, length, drop, sym, ap, ◌∙◌, arith}
 use Rattle.ladr_lex.specs.Lexeme.{Lexeme, lexemes_of}
-use Rattle.ladr_reader.specs.Machine.{standing}
 use Rattle.ladr_reader.specs.Nesting.{most_open}
+use Rattle.ladr_reader.specs.ReadingView.{standing_of, goes_on, at_spot}
 use Rattle.ladr_reader.specs.Table.{OperatorTable, table_of}
 use Rattle.ladr_reader.proofs.Deepening.{deep_item}
 use Rattle.ladr_reader.proofs.Lawful.{table_lawful}
 use Rattle.ladr_reader.proofs.Live.{table_names}
-use Rattle.ladr_reader.proofs.Runs.{lexemes_length, lexemes_from, run_more, bad_at, bad_end, done_item, all_noted}
+use Rattle.ladr_reader.proofs.Runs.{lexemes_length, lexemes_from, run_more, bad_at, bad_end, done_item, unstopped, all_noted}
 use Rattle.ladr_reader.proofs.read.read_shallow.Goals as goal
 
-pub returns-in-None-clause-fault : goal.returns-in-None-clause-fault
-returns-in-None-clause-fault c =
+pub returns-then-not-goes-clause-fault : goal.returns-then-not-goes-clause-fault
+returns-then-not-goes-clause-fault c =
     let rows = c.args.ops.now in
     let n = c.args.build.most in
-    bad_at n (table_of rows) (table_lawful rows c.rows_are_lawful.ensures) (table_names rows) (lexemes_of c.args.tokens.now) c.loop-i.i c.loop-i.place c.loop-i.stack
+    bad_at n (table_of rows) (table_lawful rows c.rows_are_lawful.ensures) (table_names rows) (lexemes_of c.args.tokens.now) c.loop-i.i (standing_of c.loop-i.reading) c.loop-i.stack
     (omega (arith, lexemes_length c.args.tokens.now))
     c.loop-i.invariant.run
-    (run_more n _ _ _ c.index-tokens-i.result c.loop-i.place c.loop-i.stack c.loop-i-test.true c.index-tokens-i.is c.loop-i.invariant.run
-    ∙ sym c.in_ok-next.ensures
-    ∙ ap (λ o. standing o c.step.new.stack) c.in-None.is)
+    (run_more n _ _ _ c.index-tokens-i.result (standing_of c.loop-i.reading) c.loop-i.stack c.loop-i-test.true c.index-tokens-i.is c.loop-i.invariant.run
+    ∙ sym c.in_ok-goes.ensures
+    ∙ ap (λ b. goes_on b c.step.new.reading c.step.new.stack) c.if-not-goes.true)
 
 pub loop-i-preserved : goal.loop-i-preserved
 loop-i-preserved c =
     record {
-      run = run_more c.args.build.most _ _ _ c.index-tokens-i.result c.loop-i.place c.loop-i.stack c.loop-i-test.true c.index-tokens-i.is c.loop-i.invariant.run
-          ∙ sym c.in_ok-next.ensures
-          ∙ ap (λ o. standing o c.step.new.stack) c.in-Some.is;
+      run = run_more c.args.build.most _ _ _ c.index-tokens-i.result (standing_of c.loop-i.reading) c.loop-i.stack c.loop-i-test.true c.index-tokens-i.is c.loop-i.invariant.run
+          ∙ sym c.in_ok-goes.ensures
+          ∙ ap (λ b. goes_on b c.step.new.reading c.step.new.stack) c.if-not-goes.false;
       few = omega arith;
       most = c.note.ensures.most (drop (c.loop-i.i + 1) (lexemes_of c.args.tokens.now))
           ∙ ap (λ (ts : List Lexeme). max c.loop-i.parentheses.most (most_open c.loop-i.parentheses.unclosed ts)) (sym (lexemes_from c.args.tokens.now c.loop-i.i c.index-tokens-i.result c.loop-i-test.true c.index-tokens-i.is))
@@ -37,17 +37,17 @@ pub returns-in_default-clause-fault : goal.returns-in_default-clause-fault
 returns-in_default-clause-fault c =
     let rows = c.args.ops.now in
     let k : c.loop-i.i ≡ length c.args.tokens.now = omega arith in
-    bad_end c.args.build.most (table_of rows) (table_lawful rows c.rows_are_lawful.ensures) (table_names rows) (lexemes_of c.args.tokens.now) (length c.args.tokens.now) c.loop-i.place c.loop-i.stack
+    bad_end c.args.build.most (table_of rows) (table_lawful rows c.rows_are_lawful.ensures) (table_names rows) (lexemes_of c.args.tokens.now) (length c.args.tokens.now) (standing_of c.loop-i.reading) c.loop-i.stack
     (lexemes_length c.args.tokens.now)
     (rw k at c.loop-i.invariant.run)
-    c.in_default.not-Done
+    (unstopped c.loop-i.reading.spot c.loop-i.reading.name c.loop-i.reading.term c.in_default.not-AtStop)
 
 pub returns-clause-read : goal.returns-clause-read
 returns-clause-read c =
     let g : OperatorTable = table_of c.args.ops.now in
     let ts : List Lexeme = lexemes_of c.args.tokens.now in
     let end : length ts ≤ c.loop-i.i = omega (arith, lexemes_length c.args.tokens.now) in
-    let done = done_item c.args.build.most g (table_lawful c.args.ops.now c.rows_are_lawful.ensures) ts c.loop-i.i c.loop-i.place c.loop-i.stack c.in-Done.term c.in-Done.field-1 end c.loop-i.invariant.run c.in-Done.is in
+    let done = done_item c.args.build.most g (table_lawful c.args.ops.now c.rows_are_lawful.ensures) ts c.loop-i.i (standing_of c.loop-i.reading) c.loop-i.stack c.loop-i.reading.term c.in-AtStop.field-0 end c.loop-i.invariant.run (ap (λ spot. at_spot spot c.loop-i.reading.name c.loop-i.reading.term) c.in-AtStop.is) in
     record {
       tree = done.0;
       item = done.2;
@@ -57,5 +57,5 @@ returns-clause-read c =
 
 pub returns-then-is_deeper_than-clause-read : goal.returns-then-is_deeper_than-clause-read
 returns-then-is_deeper_than-clause-read c =
-    deep_item c.args.build.most c.args.literals (table_of c.args.ops.now) (table_lawful c.args.ops.now c.rows_are_lawful.ensures) (lexemes_of c.args.tokens.now) c.loop-i.i c.loop-i.place c.loop-i.stack c.loop-i.invariant.run
+    deep_item c.args.build.most c.args.literals (table_of c.args.ops.now) (table_lawful c.args.ops.now c.rows_are_lawful.ensures) (lexemes_of c.args.tokens.now) c.loop-i.i (standing_of c.loop-i.reading) c.loop-i.stack c.loop-i.invariant.run
     (c.is_deeper_than.ensures c.if-is_deeper_than.true)

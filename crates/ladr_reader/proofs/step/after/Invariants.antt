@@ -4,7 +4,7 @@ use Rattle.ladr_reader.specs.Machine.{behind_term}
 use Rattle.ladr_reader.proofs.step.after.Given as goal
 
 abbrev pub invariant-loop-part : goal.invariant-loop-part
-invariant-loop-part l = behind_term l.build.most l.follow l.term l.precedence l.stack ≡ behind_term l.build.most l.fn.follow l.fn.term l.fn.precedence l.fn.stack
+invariant-loop-part l = behind_term l.build.most l.follow l.reading.term l.precedence l.stack ≡ behind_term l.build.most l.fn.follow l.fn.reading.term l.fn.precedence l.fn.stack
 
 abbrev pub decreases-loop-part : goal.decreases-loop-part
 decreases-loop-part l = length l.stack
