@@ -1,10 +1,12 @@
 // Clauses that are held, found by their literals and by the terms in them.
-ghost use Rattle.std.specs.Prelude.{◌≡◌, ◌≤◌, ◌==◌, not, [], IfOk, OnOk, OnErr, filter, length};
-ghost use Rattle.clause_index.specs.Entries.{begins_generally};
+ghost use Rattle.std.specs.Prelude.{◌≡◌, ◌+◌, ◌≤◌, ◌==◌, not, [], IfOk, OnOk, OnErr, filter, length};
+ghost use Rattle.clause_index.specs.Entries.{begins_generally, first_literals};
 ghost use Rattle.clause_index.specs.Filing.{AllOthersStay};
 ghost use Rattle.clause_index.specs.Finding.{has_atom_such, has_equation_such, has_inside_such, has_part_such};
 ghost use Rattle.discrim_tree.specs.Seeking.{passes};
 ghost use Rattle.discrim_tree.specs.Terms.{can_unify, has_instance};
+ghost use Rattle.discrim_tree.specs.Tries.{count_linear, HasRisen};
+ghost use Rattle.discrim_tree.specs.declared.sought.Sought.TheVariants.{Generalizations};
 ghost use Rattle.fol_core.specs.TermView.{tree_of};
 ghost use Rattle.held_clauses.specs.Holding.{lent};
 ghost use Rattle.prover_steps.specs.HeldOrder.{numbers_of, IsNoneOf, IsRising};
@@ -100,6 +102,10 @@ impl HeldSet {
             ≡ filter (begins_generally sign (tree_of atom.now)) self.now) }
         ensures rising { IsRising (numbers_of self.now) }
         ensures on { tries.old ≤ tries.new }
+        ensures within { tries.new ≤ tries.old
+            + count_linear Generalizations (tree_of atom.now) (first_literals sign self.now) }
+        ensures tested { OnOk result (HasRisen (count_linear Generalizations (tree_of atom.now) (first_literals sign self.now))
+            tries.old tries.new) }
     {
         self.listed.generalizing(sign, atom, tries)
     }

@@ -1,7 +1,9 @@
 // Clauses by rising number, found by their first literals.
-ghost use Rattle.std.specs.Prelude.{◌≡◌, ◌≤◌, ◌==◌, false, not, [], IfOk, OnOk, OnErr, filter, length};
+ghost use Rattle.std.specs.Prelude.{◌≡◌, ◌+◌, ◌≤◌, ◌==◌, false, not, [], IfOk, OnOk, OnErr, filter, length};
 ghost use Rattle.clause_index.specs.Entries.{may_begin, begins_generally, entered, first_literals};
 ghost use Rattle.discrim_tree.specs.Entries.{has_number};
+ghost use Rattle.discrim_tree.specs.Tries.{count_linear, HasRisen};
+ghost use Rattle.discrim_tree.specs.declared.sought.Sought.TheVariants.{Generalizations};
 ghost use Rattle.fol_core.specs.TermView.{tree_of};
 ghost use Rattle.held_clauses.specs.Holding.{lent};
 ghost use Rattle.prover_steps.specs.HeldOrder.{numbers_of, IsNoneOf, IsRising};
@@ -123,6 +125,10 @@ impl Listed {
             ≡ filter (begins_generally sign (tree_of atom.now)) self.now) }
         ensures rising { IsRising (numbers_of self.now) }
         ensures on { tries.old ≤ tries.new }
+        ensures within { tries.new ≤ tries.old
+            + count_linear Generalizations (tree_of atom.now) (first_literals sign self.now) }
+        ensures tested { OnOk result (HasRisen (count_linear Generalizations (tree_of atom.now) (first_literals sign self.now))
+            tries.old tries.new) }
     {
         let alloc = *self.clauses.allocator();
         let numbers = self.index(sign).generalizations(atom, tries)?;

@@ -1,7 +1,10 @@
 // Rules, found by their left sides.
-ghost use Rattle.std.specs.Prelude.{◌≡◌, ◌≤◌, ◌==◌, not, [], IfOk, OnOk, OnErr, filter, is_some};
+ghost use Rattle.std.specs.Prelude.{◌≡◌, ◌+◌, ◌≤◌, IfSome, ◌==◌, not, [], IfOk, OnOk, OnErr, filter, is_some};
 ghost use Rattle.std.specs.List.{find};
 ghost use Rattle.std.specs.Option.{option_map};
+ghost use Rattle.clause_index.specs.Entries.{left_sides};
+ghost use Rattle.discrim_tree.specs.Tries.{count_linear, HasRisen};
+ghost use Rattle.discrim_tree.specs.declared.sought.Sought.TheVariants.{Generalizations};
 ghost use Rattle.fol_core.specs.TermView.{tree_of};
 ghost use Rattle.prover_steps.specs.HeldOrder.{numbers_of, IsNoneOf};
 ghost use Rattle.prover_steps.specs.Rewriting.{rewritten_by};
@@ -53,6 +56,9 @@ impl Rules {
         ensures first { IfOk result (λ o. option_map (λ r. r.now) o
             ≡ find (λ r. is_some (rewritten_by r (tree_of term.now))) self.now) }
         ensures on { tries.old ≤ tries.new }
+        ensures within { tries.new ≤ tries.old
+            + count_linear Generalizations (tree_of term.now) (left_sides self.now) }
+        ensures tested { IfOk result (λ o. IfSome o (λ _. HasRisen 1 tries.old tries.new)) }
     {
         match self.lefts.first_generalization(term, tries)? {
             Some(number) => Ok(with_number(number, self.rules.as_slice())),

@@ -104,7 +104,7 @@ impl Index {
         ensures rise { NumbersRise self.now }
         ensures on { tries.old ≤ tries.new }
         ensures within { tries.new ≤ tries.old + count_linear Generalizations (tree_of t.now) self.now }
-        ensures tested { IfOk result (λ found. HasRisen (length found.items) tries.old tries.new) }
+        ensures tested { OnOk result (HasRisen (count_linear Generalizations (tree_of t.now) self.now) tries.old tries.new) }
     {
         found(
             *self.entries.allocator(),
@@ -145,7 +145,7 @@ impl Index {
         ensures rise { NumbersRise self.now }
         ensures on { tries.old ≤ tries.new }
         ensures within { tries.new ≤ tries.old + count_linear Instances (tree_of t.now) self.now }
-        ensures tested { IfOk result (λ found. HasRisen (length found.items) tries.old tries.new) }
+        ensures tested { OnOk result (HasRisen (count_linear Instances (tree_of t.now) self.now) tries.old tries.new) }
     {
         found(
             *self.entries.allocator(),
@@ -164,7 +164,7 @@ impl Index {
         ensures rise { NumbersRise self.now }
         ensures on { tries.old ≤ tries.new }
         ensures within { tries.new ≤ tries.old + count_linear Unifiable (tree_of t.now) self.now }
-        ensures tested { IfOk result (λ found. HasRisen (length found.items) tries.old tries.new) }
+        ensures tested { OnOk result (HasRisen (count_linear Unifiable (tree_of t.now) self.now) tries.old tries.new) }
     {
         found(
             *self.entries.allocator(),
