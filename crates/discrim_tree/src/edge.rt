@@ -6,6 +6,9 @@ ghost use Rattle.discrim_tree.specs.Paths.{step_of, path_of};
 use fol_core::Term;
 use std::alloc::{AllocError, Global};
 
+// For how many steps a path has room at first.
+const ROOM: usize = 16;
+
 /// A step: any variable, an element, or a symbol with the number of its arguments.
 #[derive(Clone, Copy, PartialEq, Eq, PartialOrd, Ord)]
 pub enum Edge {
@@ -47,7 +50,7 @@ pub fn add_steps(path: &mut Vec<Edge>, t: &Term) -> Result<(), AllocError>
 pub fn path_of(alloc: Global, t: &Term) -> Result<Vec<Edge>, AllocError>
     ensures { IfOk result (λ path. path.items ≡ path_of (tree_of t.now)) }
 {
-    let mut path = Vec::new(alloc);
+    let mut path = Vec::with_capacity(alloc, ROOM)?;
     add_steps(&mut path, t)?;
     Ok(path)
 }

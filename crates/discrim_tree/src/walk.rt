@@ -10,6 +10,9 @@ use crate::skipping::Skipping;
 use fol_core::Term;
 use std::alloc::{AllocError, Global};
 
+// For how many nodes a walk has room at first.
+const ROOM: usize = 64;
+
 // How many terms follow a step.
 fn arity(edge: Edge) -> usize
     ensures { result ≡ arity edge }
@@ -227,7 +230,7 @@ impl Nodes {
         ensures all { IfOk result (λ walk. Covers self.now.items below above (tree_of t.now) walk.items) }
         ensures fit { IfOk result (λ walk. AllFit self.now.items below above (tree_of t.now) walk.items) }
     {
-        let mut walk = Vec::new(alloc);
+        let mut walk = Vec::with_capacity(alloc, ROOM)?;
         walk.push(0)?;
         let next = self.pass(&mut walk, below, above, 0, t)?;
         Ok(walk.split_off(next)?)

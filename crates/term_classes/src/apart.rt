@@ -8,6 +8,7 @@ ghost use Rattle.term_classes.specs.Arenas.{IsArena, AreNodes};
 ghost use Rattle.unifiers.specs.Unifier.{Unifies};
 
 use crate::arena::{apply, enter_element, enter_variable, roomy_arena};
+use crate::counting::count;
 use crate::entered::Entered;
 use crate::node::Arena;
 use crate::room::enter;
@@ -15,21 +16,6 @@ use crate::unifying::have_unifier;
 use fol_core::Term;
 use std::alloc::{AllocError, Global};
 use std::marker::Model;
-
-// How many nodes a term may take, up to the greatest number: a hint of how much room to take at once.
-fn count(term: &Term) -> usize {
-    match term {
-        Term::Var(_) => 1,
-        Term::Elem(_) => 1,
-        Term::App(_, terms) => {
-            let mut all = 1usize;
-            for term in &terms.items {
-                all = all.saturating_add(count(term));
-            }
-            all
-        }
-    }
-}
 
 // The number of a variable of a term by its place among two, or want of memory where it is no number of the machine.
 fn number_apart(x: u64, place: u64) -> Result<u64, AllocError>
@@ -109,10 +95,11 @@ impl TermPair {
           substitute (interleaved 2 1) (tree_of t.now) ∷ [],
         )) }
     {
-        let mut arena = roomy_arena(alloc, count(s).saturating_add(count(t)))?;
-        let mut left_nodes = Vec::new(alloc);
+        let room = count(s).saturating_add(count(t));
+        let mut arena = roomy_arena(alloc, room)?;
+        let mut left_nodes = Vec::with_capacity(alloc, room)?;
         put_apart(&mut arena, s, 0, &mut left_nodes)?;
-        let mut right_nodes = Vec::new(alloc);
+        let mut right_nodes = Vec::with_capacity(alloc, room)?;
         put_apart(&mut arena, t, 1, &mut right_nodes)?;
         let nodes = enter(alloc, arena, left_nodes, right_nodes)?;
         Ok(TermPair { nodes })

@@ -9,18 +9,6 @@ use fol_core::Term;
 use std::alloc::{AllocError, Global};
 use std::collections::BTreeMap;
 
-/// No terms.
-pub fn new_arena(alloc: Global) -> Arena
-    ensures arena { IsArena result }
-    ensures empty { shapes_of result ≡ [] }
-{
-    Arena {
-        nodes: Vec::new(alloc),
-        arguments: Vec::new(alloc),
-        variables: BTreeMap::new(alloc),
-    }
-}
-
 // What is kept of a node.
 fn node(arena: &Arena, n: usize) -> Node
     requires arena { IsArena arena.now }

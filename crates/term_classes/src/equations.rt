@@ -5,7 +5,8 @@ ghost use Rattle.substitutions.specs.Bindings.{by_bindings};
 ghost use Rattle.term_classes.specs.Solved.{HasNoUnifier};
 ghost use Rattle.unifiers.specs.Unifier.{IsMostGeneral};
 
-use crate::arena::{new_arena, put_all};
+use crate::arena::{put_all, roomy_arena};
+use crate::counting::count_all;
 use crate::entered::Entered;
 use crate::measure::Measure;
 use crate::measuring::unmeasured;
@@ -45,10 +46,11 @@ impl Equations {
     pub fn new(alloc: Global, lefts: &Terms, rights: &Terms) -> Result<Equations, AllocError>
         ensures { IfOk result (λ e. e ≡ (lefts.now, rights.now)) }
     {
-        let mut arena = new_arena(alloc);
-        let mut left_nodes = Vec::new(alloc);
+        let room = count_all(&lefts.items).saturating_add(count_all(&rights.items));
+        let mut arena = roomy_arena(alloc, room)?;
+        let mut left_nodes = Vec::with_capacity(alloc, room)?;
         put_all(&mut arena, lefts.as_slice(), &mut left_nodes)?;
-        let mut right_nodes = Vec::new(alloc);
+        let mut right_nodes = Vec::with_capacity(alloc, room)?;
         put_all(&mut arena, rights.as_slice(), &mut right_nodes)?;
         let measures = unmeasured(alloc, arena.nodes.len())?;
         let nodes = enter(alloc, arena, left_nodes, right_nodes)?;

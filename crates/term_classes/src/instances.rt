@@ -82,7 +82,7 @@ fn class_plain(alloc: Global, found: &Found, root: usize) -> Result<Term, AllocE
         View::Variable(x) => Ok(Term::Var(x)),
         View::Element(k) => Ok(Term::Elem(k)),
         View::Application(f, arguments) => {
-            let mut terms = Terms::new(alloc);
+            let mut terms = Terms::with_capacity(alloc, arguments.len())?;
             for argument in arguments {
                 let child = found.work.links[*argument];
                 terms.push(class_plain(alloc, found, child)?)?;
@@ -105,7 +105,7 @@ pub fn plain_under(alloc: Global, found: &Found, term: &Term) -> Result<Term, Al
         },
         Term::Elem(k) => Ok(Term::Elem(*k)),
         Term::App(f, terms) => {
-            let mut made = Terms::new(alloc);
+            let mut made = Terms::with_capacity(alloc, terms.items.len())?;
             for term in &terms.items {
                 made.push(plain_under(alloc, found, term)?)?;
             }

@@ -5,6 +5,7 @@
 mod apart;
 mod arena;
 mod comparing;
+mod counting;
 mod entered;
 mod equations;
 mod found;

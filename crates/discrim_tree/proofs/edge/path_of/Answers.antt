@@ -5,4 +5,4 @@ use Rattle.discrim_tree.specs.declared.edge.Edge.{Edge}
 use Rattle.discrim_tree.proofs.edge.path_of.Goals as goal
 
 pub returns : goal.returns
-returns c = c.in_ok-add_steps.ensures ∙ ap (λ (p : List Edge). p ++ path_of (tree_of c.args.t.now)) c.new-path.ensures.items
+returns c = c.in_ok-add_steps.ensures ∙ ap (λ (p : List Edge). p ++ path_of (tree_of c.args.t.now)) c.in_ok-path.ensures.items

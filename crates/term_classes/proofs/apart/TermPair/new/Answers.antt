@@ -11,8 +11,8 @@ enter-requires-clause-lefts c =
     let left = substitute (interleaved 2 0) (tree_of c.args.s.now) ∷ [] in
     let right = substitute (interleaved 2 1) (tree_of c.args.t.now) ∷ [] in
     let ready : AreReady c.put_apart-2.new.arena c.put_apart.new.numbers.items c.put_apart-2.new.numbers.items (substitute (interleaved 2 0) (tree_of c.args.s.now) ∷ []) (substitute (interleaved 2 1) (tree_of c.args.t.now) ∷ []) =
-    are_ready c.in_ok-arena.arena c.put_apart.new.arena c.put_apart-2.new.arena c.new-left_nodes.result.items c.new-right_nodes.result.items c.put_apart.new.numbers.items c.put_apart-2.new.numbers.items left right left right
-    c.new-left_nodes.ensures.items c.new-right_nodes.ensures.items refl refl c.in_ok-put_apart.ensures c.in_ok-put_apart-2.ensures in
+    are_ready c.in_ok-arena.arena c.put_apart.new.arena c.put_apart-2.new.arena c.in_ok-left_nodes.left_nodes.items c.in_ok-right_nodes.right_nodes.items c.put_apart.new.numbers.items c.put_apart-2.new.numbers.items left right left right
+    c.in_ok-left_nodes.ensures.items c.in_ok-right_nodes.ensures.items refl refl c.in_ok-put_apart.ensures c.in_ok-put_apart-2.ensures in
     ready.lefts
 
 pub returns : goal.returns
@@ -20,6 +20,6 @@ returns c =
     let left = substitute (interleaved 2 0) (tree_of c.args.s.now) ∷ [] in
     let right = substitute (interleaved 2 1) (tree_of c.args.t.now) ∷ [] in
     let ready : AreReady c.put_apart-2.new.arena c.put_apart.new.numbers.items c.put_apart-2.new.numbers.items (substitute (interleaved 2 0) (tree_of c.args.s.now) ∷ []) (substitute (interleaved 2 1) (tree_of c.args.t.now) ∷ []) =
-    are_ready c.in_ok-arena.arena c.put_apart.new.arena c.put_apart-2.new.arena c.new-left_nodes.result.items c.new-right_nodes.result.items c.put_apart.new.numbers.items c.put_apart-2.new.numbers.items left right left right
-    c.new-left_nodes.ensures.items c.new-right_nodes.ensures.items refl refl c.in_ok-put_apart.ensures c.in_ok-put_apart-2.ensures in
+    are_ready c.in_ok-arena.arena c.put_apart.new.arena c.put_apart-2.new.arena c.in_ok-left_nodes.left_nodes.items c.in_ok-right_nodes.right_nodes.items c.put_apart.new.numbers.items c.put_apart-2.new.numbers.items left right left right
+    c.in_ok-left_nodes.ensures.items c.in_ok-right_nodes.ensures.items refl refl c.in_ok-put_apart.ensures c.in_ok-put_apart-2.ensures in
     entered_terms c.in_ok-nodes.nodes c.put_apart-2.new.arena c.put_apart.new.numbers.items c.put_apart-2.new.numbers.items left right ready c.in_ok-nodes.ensures.arena c.in_ok-nodes.ensures.lefts c.in_ok-nodes.ensures.rights
