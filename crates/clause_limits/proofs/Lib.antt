@@ -1,3 +1,5 @@
+pub mod Changing
 pub mod Maxima
 pub mod Measures
+pub mod Noting
 pub mod Numbered

@@ -3,10 +3,12 @@
 
 mod limits;
 mod measure;
+mod numbering;
 mod small;
 
 pub use limits::{MOST_LEVELS, MOST_SYMBOLS};
 pub use measure::{
     clause_size, is_clause_deeper, is_larger, is_too_large, left_behind, left_behind_clause,
 };
+pub use numbering::numbered_anew;
 pub use small::SmallClause;

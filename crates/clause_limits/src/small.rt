@@ -3,7 +3,8 @@ ghost use Rattle.std.specs.Prelude.{◌≡◌, false, IfOk};
 ghost use Rattle.clause_limits.specs.Sizes.{is_too_large};
 ghost use Rattle.fol_core.specs.Renumbered.{renumbered};
 
-use fol_core::{Clause, renumber};
+use crate::numbering::numbered_anew;
+use fol_core::Clause;
 use std::alloc::{AllocError, Global};
 use std::marker::Model;
 
@@ -31,12 +32,12 @@ impl Model for SmallClause {
 impl SmallClause {
     /// A clause that isn't too large, with its variables numbered.
     #[tactic(auto, using(crate::proofs::Numbered::numbered_as_large))]
-    pub fn numbered(alloc: Global, clause: &Clause) -> Result<SmallClause, AllocError>
-        requires { is_too_large clause.now ≡ false }
-        ensures { IfOk result (λ c. c ≡ renumbered clause.now) }
+    pub fn numbered(alloc: Global, clause: Clause) -> Result<SmallClause, AllocError>
+        requires { is_too_large clause ≡ false }
+        ensures { IfOk result (λ c. c ≡ renumbered clause) }
     {
         Ok(SmallClause {
-            clause: renumber(alloc, clause)?,
+            clause: numbered_anew(alloc, clause)?,
         })
     }
 

@@ -45,7 +45,7 @@ fn conclude(
         return Ok(Judged::Apart);
     };
     match formed {
-        Formed::Plain(clause) => Ok(Judged::Numbered(SmallClause::numbered(alloc, &clause)?)),
+        Formed::Plain(clause) => Ok(Judged::Numbered(SmallClause::numbered(alloc, clause)?)),
         Formed::Large(clause) => Ok(Judged::Large(clause)),
     }
 }
