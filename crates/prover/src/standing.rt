@@ -69,8 +69,8 @@ impl<'a> Prover<'a> {
         }
     }
 
-    /// How many entries of indexes were tested so far, whether they fit a term, by unification or matching; at the greatest number the
-    /// count stops.
+    /// How many entries of the indexes of rules and of first literals were tested so far, whether they match a term; at the greatest
+    /// number the count stops.
     pub fn tries(&self) -> u64
         ensures { result ≡ tries_of self.now }
     {
