@@ -1,5 +1,5 @@
 -- A table's symbols in their slots.
-use Rattle.std.proofs.Common.{◌≡◌, ◌≢◌, zero, ◌+◌, ◌-◌, ◌%◌, ◌^◌, ◌<◌, ◌≤◌, take, set, replicate, get_or, inl, inr, subst, ℕ, suc, Bool, true, false, ◌==◌, List, [], ◌∷◌, ◌++◌, length, Option, Some, None, unwrap_or, if◌then◌else◌, slice_get, slice_index, refl, sym, ap, ap₂, ◌∙◌, arith}
+use Rattle.std.proofs.Common.{◌≡◌, zero, ◌+◌, ◌-◌, ◌%◌, ◌^◌, ◌<◌, ◌≤◌, take, set, replicate, get_or, inl, inr, subst, ℕ, suc, Bool, true, false, ◌==◌, List, [], ◌∷◌, ◌++◌, length, Option, Some, None, unwrap_or, if◌then◌else◌, slice_get, slice_index, refl, sym, ap, ap₂, ◌∙◌, arith}
 use Rattle.std.specs.Hash.FoldHasher.{initial, write}
 use Rattle.std.specs.Option.{option_map}
 use Rattle.std.proofs.lemmas.Nat.{and_le_r}
@@ -7,9 +7,9 @@ use Rattle.std.proofs.Math.Seq.{take-append_seam, take-length}
 use Rattle.std.proofs.lemmas.Bool.Decides.{Decides-eqb}
 use Rattle.std.proofs.lemmas.Grind.{get_or-set_at}
 use Rattle.std.proofs.lemmas.List.{length-take, length-set, length-append, get_or-set_other, get_or-take, get_or-replicate, take-append-le}
-use Rattle.std.proofs.lemmas.Option.{slice_get_within, slice_get-get_or}
-use Rattle.fol_core.specs.SymbolTable.{Symbol, symbol, is_called, first_place, number_of, FindsEach}
-use Rattle.fol_core.specs.SymbolSlots.{slot_of, belongs, one_behind, last_in, AreHeads, AreLinks, IsTable}
+use Rattle.std.proofs.lemmas.Option.{slice_get_within}
+use Rattle.fol_core.specs.SymbolTable.{Symbol, is_called, first_place, number_of, FindsEach}
+use Rattle.fol_core.specs.SymbolSlots.{slot_of, belongs, with_one_in_front, last_in, AreHeads, AreLinks, IsTable}
 use Rattle.fol_core.proofs.Places.{slice_get-push_cases}
 use Rattle.fol_core.proofs.SymbolLemmas.{IsCalled, FindsEach-push}
 
@@ -58,7 +58,7 @@ module _ (count slot : ℕ) where
   last_in_within [] = omega arith
   last_in_within (s ∷ table) = by (belongs count slot s) (last_in count slot table) (last_in_within table)
     where
-      by : (b : Bool) (m : ℕ) → m ≤ length table → one_behind b m ≤ suc (length table)
+      by : (b : Bool) (m : ℕ) → m ≤ length table → with_one_in_front b m ≤ suc (length table)
       by true zero h = omega arith
       by false zero h = omega arith
       by true (suc m) h = omega (arith, h)
@@ -70,7 +70,7 @@ module _ (count slot : ℕ) where
   last_in-there (s ∷ table) m h = by (belongs count slot s) refl (last_in count slot table) (last_in-there table) h
     where
       by : (b : Bool) → belongs count slot s ≡ b → (k : ℕ) → ((j : ℕ) → k ≡ suc j → (t : Symbol) × (slice_get table j ≡ Some t) × (belongs count slot t ≡ true))
-          → one_behind b k ≡ suc m → (t : Symbol) × (slice_get (s ∷ table) m ≡ Some t) × (belongs count slot t ≡ true)
+          → with_one_in_front b k ≡ suc m → (t : Symbol) × (slice_get (s ∷ table) m ≡ Some t) × (belongs count slot t ≡ true)
       by true e zero rest h = let here : m ≡ 0 = omega (arith, h) in (s, ap (slice_get (s ∷ table)) here, e)
       by false e zero rest h = absurd (omega (arith, h))
       by true e (suc k) rest h =
@@ -86,12 +86,12 @@ module _ (count slot : ℕ) where
   pub last_in-push : (table : List Symbol) (s : Symbol) → last_in count slot (table ++ s ∷ []) ≡ (if belongs count slot s then suc (length table) else last_in count slot table)
   last_in-push [] s = by (belongs count slot s)
     where
-      by : (b : Bool) → one_behind b 0 ≡ (if b then 1 else 0)
+      by : (b : Bool) → with_one_in_front b 0 ≡ (if b then 1 else 0)
       by true = refl
       by false = refl
-  last_in-push (t ∷ table) s = ap (one_behind (belongs count slot t)) (last_in-push table s) ∙ by (belongs count slot t) (belongs count slot s)
+  last_in-push (t ∷ table) s = ap (with_one_in_front (belongs count slot t)) (last_in-push table s) ∙ by (belongs count slot t) (belongs count slot s)
     where
-      by : (a b : Bool) → one_behind a (if b then suc (length table) else last_in count slot table) ≡ (if b then suc (suc (length table)) else one_behind a (last_in count slot table))
+      by : (a b : Bool) → with_one_in_front a (if b then suc (length table) else last_in count slot table) ≡ (if b then suc (suc (length table)) else with_one_in_front a (last_in count slot table))
       by true true = refl
       by false true = refl
       by true false = refl
@@ -118,7 +118,7 @@ module _ (count : ℕ) (name : List ℕ) (arity : ℕ) where
       other false h e none = ap (option_map suc) none
 
       by : (b : Bool) → belongs count own_slot s ≡ b → (m : ℕ) → number_of table name arity ≡ number_of (take m table) name arity
-          → number_of (s ∷ table) name arity ≡ number_of (take (one_behind b m) (s ∷ table)) name arity
+          → number_of (s ∷ table) name arity ≡ number_of (take (with_one_in_front b m) (s ∷ table)) name arity
       by true e zero same = ap (λ o. if is_called name arity s then Some 0 else option_map suc o) same
       by false e zero same = other (is_called name arity s) refl e same
       by true e (suc m) same = ap (λ o. if is_called name arity s then Some 0 else option_map suc o) same

@@ -1,17 +1,16 @@
 -- A name and arity among the symbols of a table.
-use Rattle.std.proofs.Common.{◌≡◌, zero, ◌+◌, take, drop, get_or, inl, inr, subst, ℕ, suc, ◌<◌, Bool, true, false, ◌==◌, ◌&&◌, List, [], ◌∷◌, ◌++◌, length, Option, Some, None, is_some, unwrap_or, if◌then◌else◌, position, slice_get, refl, sym, ap, ap₂, ◌∙◌, arith}
+use Rattle.std.proofs.Common.{◌≡◌, zero, ◌+◌, take, drop, get_or, inl, inr, subst, ℕ, suc, ◌<◌, ◌==◌, List, [], ◌∷◌, ◌++◌, length, Option, Some, None, unwrap_or, slice_get, refl, sym, ap, ap₂, ◌∙◌, arith}
 use Rattle.std.specs.Bool.{Decides}
-use Rattle.std.specs.List.{AllByRecursion}
-use Rattle.std.specs.Option.{option_map, option_map_or}
+use Rattle.std.specs.Option.{option_map_or}
 use Rattle.std.specs.Str.{bytes_eq}
-use Rattle.std.proofs.lemmas.Bool.Decides.{same_from_decides, Decides-eqb, Decides-like, Decides-and}
+use Rattle.std.proofs.lemmas.Bool.Decides.{Decides-eqb, Decides-and}
 use Rattle.std.proofs.lemmas.Slice.Eq.{bytes_eq-Decides}
-use Rattle.std.proofs.lemmas.List.{map-append, take-append-drop, length-take}
+use Rattle.std.proofs.lemmas.List.{take-append-drop, length-take}
 use Rattle.std.proofs.lemmas.Option.{slice_get-get_or, slice_get_within}
-use Rattle.fol_core.specs.SymbolTable.{Symbol, symbol, is_called, name_at, arity_at, kind_at, first_place, number_of, FindsEach}
+use Rattle.fol_core.specs.SymbolTable.{Symbol, symbol, is_called, name_at, arity_at, kind_at, number_of, FindsEach}
 use Rattle.fol_core.specs.declared.symbols.Kind.{Kind}
 use Rattle.fol_core.specs.declared.symbols.Kind.TheVariants.{Function}
-use Rattle.fol_core.proofs.Places.{first_place_is_position, first_place-found, first_place-any, first_place-append, first_place-push, slice_get-push_cases, all_push, insert_entry-apart}
+use Rattle.fol_core.proofs.Places.{first_place-found, first_place-append, first_place-push, slice_get-push_cases}
 
 abbrev pub IsCalled : (name : List ℕ) (arity : ℕ) (s : Symbol) → Decides (is_called name arity s) ((name ≡ s.name) × (arity ≡ s.arity))
 IsCalled name arity s = Decides-and (bytes_eq name s.name) (arity == s.arity) (bytes_eq-Decides name s.name) (Decides-eqb arity s.arity)

@@ -12,16 +12,16 @@ slot_of count name arity = bit_and (((write initial name).state + arity) % 2 ^ 6
 abbrev pub belongs : ℕ → ℕ → Symbol → Bool
 belongs count slot s = slot_of count s.name s.arity == slot
 
--- one behind: 1 for a symbol in the slot where none comes after it
-abbrev pub one_behind : Bool → ℕ → ℕ
-one_behind true zero = 1
-one_behind false zero = 0
-one_behind b (suc n) = suc (suc n)
+-- one symbol more in front: numbers rise by one; where there was none it is 1 if this one belongs
+abbrev pub with_one_in_front : Bool → ℕ → ℕ
+with_one_in_front true zero = 1
+with_one_in_front false zero = 0
+with_one_in_front b (suc n) = suc (suc n)
 
 -- one more than the number of the last symbol in a slot, 0 where it has none
 abbrev pub last_in : ℕ → ℕ → List Symbol → ℕ
 last_in count slot [] = 0
-last_in count slot (s ∷ table) = one_behind (belongs count slot s) (last_in count slot table)
+last_in count slot (s ∷ table) = with_one_in_front (belongs count slot s) (last_in count slot table)
 
 -- each slot leads to its last symbol
 abbrev pub AreHeads : List ℕ → List Symbol → Type 0

@@ -129,7 +129,7 @@ fn link(heads: &mut Vec<u32>, links: &mut Vec<u32>, number: usize, row: &Row)
     heads[slot] = number as u32 + 1;
 }
 
-// Puts each symbol into its slot; there is none in them yet.
+// Puts each symbol into its slot; none is in a slot yet.
 fn link_all(heads: &mut Vec<u32>, links: &mut Vec<u32>, rows: &[Row])
     requires empty { heads.old.items ≡ replicate (length heads.old.items) 0 }
     requires linked { length links.old.items ≡ length rows.now }
@@ -145,7 +145,7 @@ fn link_all(heads: &mut Vec<u32>, links: &mut Vec<u32>, rows: &[Row])
     }
 }
 
-// Twice as many slots.
+// Twice as many slots, 16 at first.
 fn grow(heads: &mut Vec<u32>, links: &mut Vec<u32>, rows: &[Row]) -> Result<(), AllocError>
     requires table { IsTable heads.old.items links.old.items rows.now }
     requires full { length rows.now ≡ length heads.old.items }

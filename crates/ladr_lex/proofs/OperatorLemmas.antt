@@ -10,7 +10,7 @@ use Rattle.std.proofs.lemmas.List.{drop_more}
 use Rattle.std.proofs.lemmas.Slice.Eq.{bytes_eq-Decides}
 use Rattle.indexmap.specs.IndexMap.{insert_entry}
 use Rattle.ladr_lex.specs.Cuts.{is_plain_symbol, is_quoted}
-use Rattle.ladr_lex.specs.OperatorView.{row_list, with_rows, may_be_put}
+use Rattle.ladr_lex.specs.OperatorView.{row_list, begins_usually, are_unusual, with_rows, may_be_put}
 use Rattle.ladr_lex.specs.Operators.{OperatorRow, operator_of, is_quantifier_word, is_precedence, has_precedence, are_lawful, is_fixed, unquoted, is_unfit_symbol, declared, with_operator_row}
 use Rattle.ladr_lex.specs.declared.operators.Operator.{Operator}
 use Rattle.ladr_lex.specs.declared.operators.OperatorKind.{OperatorKind}
@@ -56,6 +56,20 @@ other_name name x h =
       | inl y ↦ absurd (let e = (bytes_eq-Decides name x).1 (sym ((bytes_eq-Decides x name).0 y)) in cc)
       | inr y ↦ ap not y
     ]
+
+-- a name that begins as none of them does has no operator
+pub none_usual : (rs : List OperatorRow) (name : List ℕ) → are_unusual rs ≡ true → begins_usually name ≡ true → operator_of rs name ≡ None
+none_usual [] name h b = refl
+none_usual (r ∷ rs) name h b =
+    let parts = and_parts (not (begins_usually r.name)) _ h in
+    elim (cases_Bool (bytes_eq name r.name)) [
+      | inl y ↦ absurd (both_ways (begins_usually r.name) (not-true _ parts.0) (ap (λ n. begins_usually n) (sym ((bytes_eq-Decides name r.name).0 y)) ∙ b))
+      | inr y ↦ rw y (none_usual rs name parts.1 b)
+    ]
+
+-- names stay unusual
+pub unusual_put : (name : List ℕ) (o : Option Operator) (rs : List OperatorRow) → begins_usually name ≡ false → are_unusual rs ≡ true → are_unusual (with_operator_row name o rs) ≡ true
+unusual_put name o rs h a = all_put (λ x. not (begins_usually x)) name o rs (ap not h) a
 
 -- a table stays lawful
 pub lawful_put : (name : List ℕ) (o : Option Operator) (rs : List OperatorRow) → is_plain_symbol name ≡ true → is_quantifier_word name ≡ false → has_precedence o ≡ true → are_lawful rs ≡ true → are_lawful (with_operator_row name o rs) ≡ true

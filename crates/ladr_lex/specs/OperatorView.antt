@@ -1,6 +1,7 @@
 -- The rows of the code's table.
-use Rattle.std.specs.Prelude.{ℕ, Bool, true, not, ◌&&◌, List, [], ◌∷◌, Option, Some}
+use Rattle.std.specs.Prelude.{ℕ, Bool, true, false, not, ◌&&◌, ◌||◌, nat_le, List, [], ◌∷◌, Option, Some}
 use Rattle.std.specs.Global.{Vec}
+use Rattle.std.specs.List.{list_all}
 use Rattle.std.specs.Borrow.{Bor}
 use Rattle.ladr_lex.specs.Cuts.{is_plain_symbol}
 use Rattle.ladr_lex.specs.Operators.{OperatorRow, is_quantifier_word, is_precedence, with_operator_row}
@@ -10,6 +11,15 @@ use Rattle.ladr_lex.specs.declared.operators.OperatorKind.{OperatorKind}
 abbrev pub row_list : List (Vec ℕ × Option Operator) → List OperatorRow
 row_list [] = []
 row_list (e ∷ es) = record { name = e.0.items; operator = e.1 } ∷ row_list es
+
+-- whether a name begins with a small letter that isn't `v`
+abbrev pub begins_usually : List ℕ → Bool
+begins_usually [] = false
+begins_usually (b ∷ _) = (nat_le 97 b && nat_le b 117) || (nat_le 119 b && nat_le b 122)
+
+-- whether none of the names does
+abbrev pub are_unusual : List OperatorRow → Bool
+are_unusual rs = list_all (λ (r : OperatorRow). not (begins_usually r.name)) rs
 
 -- the rows once operators are put into them one after the other
 abbrev pub with_rows : List (Bor (List ℕ) × ℕ × OperatorKind) → List OperatorRow → List OperatorRow

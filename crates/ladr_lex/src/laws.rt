@@ -16,7 +16,7 @@ ghost use Rattle.ladr_lex.specs.Worked.{worked_formula, formula_tokens, special_
 /// Each text is cut by one list of tokens and no other.
 pub fn one_cutting()
     ensures some { (bytes : List ℕ) → Cuts 0 bytes (lexed bytes) }
-    ensures only { (bytes : List ℕ) (ts us : List Piece) → Cuts 0 bytes ts → Cuts 0 bytes us
+    ensures only { (i : ℕ) (bytes : List ℕ) (ts us : List Piece) → Cuts i bytes ts → Cuts i bytes us
         → ts ≡ us }
     // What is computed from a byte on cuts the bytes from there on, at their place.
     ensures from { (start at : ℕ) (bytes : List ℕ) →

@@ -2,7 +2,7 @@
 ghost use Rattle.std.specs.Prelude.{◌≡◌, ◌↔◌, ◌&&◌, not, ℕ, IfOk, OnOk, OnErr, Err, IsTrue, List, [], Some, true, false};
 ghost use Rattle.ladr_lex.specs.ClauseNames.{clause_operator, FreesVariables};
 ghost use Rattle.ladr_lex.specs.Cuts.{is_plain_symbol};
-ghost use Rattle.ladr_lex.specs.OperatorView.{row_list, with_rows, may_be_put};
+ghost use Rattle.ladr_lex.specs.OperatorView.{row_list, begins_usually, with_rows, may_be_put};
 ghost use Rattle.ladr_lex.specs.Operators.{OperatorRow, operator_of, if_prefix, if_after, is_prefix, is_quantifier_word, has_precedence, are_lawful, standard_rows, with_operator_row, is_precedence, is_fixed, type_named, operator_with, unquoted, is_unfit_operator, is_unfit_symbol, declared};
 
 use crate::clause_names::clause_operator;
@@ -56,19 +56,24 @@ pub enum DeclareError {
 pub struct Ops {
     // A name whose operator was taken away has none.
     rows: IndexMap<Vec<u8>, Option<Operator>>,
+    // Whether one of the names may begin as most symbols do; none at the start does, so that these need no look.
+    usual: bool,
 }
 
 impl Model for Ops {
-    ghost use Rattle.std.specs.Prelude.{List, IsTrue};
+    ghost use Rattle.std.specs.Prelude.{List};
     ghost use Rattle.ladr_lex.specs.Operators.{OperatorRow, are_lawful};
 
     ghost Value = { List OperatorRow };
 
-    ghost use Rattle.ladr_lex.specs.OperatorView.{row_list};
+    ghost use Rattle.ladr_lex.specs.OperatorView.{row_list, are_unusual};
 
     ghost view = { λ a. row_list a.rows.entries };
 
-    ghost invariant = { λ a. IsTrue (are_lawful (row_list a.rows.entries)) };
+    ghost use Rattle.std.specs.Prelude.{◌≡◌, true, false};
+
+    ghost invariant = { λ a. (are_lawful (row_list a.rows.entries) ≡ true)
+        × (a.usual ≡ false → are_unusual (row_list a.rows.entries) ≡ true) };
 }
 
 impl Ops {
@@ -186,6 +191,7 @@ impl Ops {
     {
         Ops {
             rows: IndexMap::new(alloc),
+            usual: false,
         }
     }
 
@@ -209,15 +215,20 @@ impl Ops {
         ensures err { OnErr result (self.new ≡ self.old) }
     {
         let key = Vec::from_slice(*self.rows.allocator(), name)?;
+        let begins = begins_usually(name);
         self.rows.insert(key, operator)?;
+        self.usual |= begins;
         Ok(())
     }
 
-    #[tactic(auto, using(crate::proofs::OperatorLemmas::found_row))]
+    #[tactic(auto, using(crate::proofs::OperatorLemmas::found_row, crate::proofs::OperatorLemmas::none_usual))]
     #[inline(always)]
     fn operator_of(&self, name: &[u8]) -> Option<Operator>
         ensures { result ≡ operator_of self.now name.now }
     {
+        if !self.usual && begins_usually(name) {
+            return None;
+        }
         match self.rows.get(name) {
             Some(operator) => *operator,
             None => None,
@@ -253,6 +264,17 @@ impl SymbolType {
             SymbolType::Operates(kind) => kind.with(precedence),
             SymbolType::Ordinary => None,
         }
+    }
+}
+
+// Whether a name begins as most symbols do, with a small letter that isn't `v`.
+#[inline(always)]
+fn begins_usually(name: &[u8]) -> bool
+    ensures { result ≡ begins_usually name.now }
+{
+    match name {
+        [] => false,
+        [first, ..] => matches!(*first, b'a'..=b'u' | b'w'..=b'z'),
     }
 }
 

@@ -1,5 +1,5 @@
 -- The way through the slot of a name and arity.
-use Rattle.std.proofs.Common.{◌≡◌, ◌-◌, ◌<◌, Some, suc, length, slice_get, slice_index, subst, refl, sym, ap, ◌∙◌, arith}
+use Rattle.std.proofs.Common.{◌≡◌, ◌-◌, ◌<◌, Some, suc, length, slice_get, slice_index, subst, refl, sym, ◌∙◌, arith}
 use Rattle.std.proofs.lemmas.Option.{slice_get_read}
 use Rattle.fol_core.proofs.Slots.{IsOnWay, way_start, way_on, way_found}
 use Rattle.fol_core.proofs.symbols.find_row.Goals as goal

@@ -1,5 +1,5 @@
 -- The table with the symbol at its end.
-use Rattle.std.proofs.Common.{◌≡◌, ◌+◌, ◌<◌, ℕ, List, [], ◌∷◌, ◌++◌, length, set, slice_index, subst, sym, ap, ap₂, ◌∙◌, arith}
+use Rattle.std.proofs.Common.{◌≡◌, ◌+◌, [], ◌∷◌, ◌++◌, length, set, slice_index, subst, sym, ap, ap₂, ◌∙◌, arith}
 use Rattle.fol_core.specs.SymbolSlots.{slot_of, IsTable}
 use Rattle.fol_core.proofs.Slots.{table_pushed, slot_within}
 use Rattle.fol_core.proofs.symbols.put.Goals as goal

@@ -1,7 +1,7 @@
-use Rattle.std.proofs.Common.{ℕ, List, ◌+◌, drop}
+use Rattle.std.proofs.Common.{◌+◌, drop}
 use Rattle.ladr_lex.proofs.Lexing.{cuts_text, cuts_at}
 use Rattle.ladr_lex.proofs.Unique.{cut_once}
 use Rattle.ladr_lex.proofs.laws.one_cutting.Goals as goal
 
 pub returns : goal.returns
-returns c = record { some = cuts_text; only = cut_once 0; from = λ start at bytes. cuts_at (start + at) (drop at bytes) }
+returns c = record { some = cuts_text; only = cut_once; from = λ start at bytes. cuts_at (start + at) (drop at bytes) }

@@ -10,17 +10,17 @@ use Rattle.ladr_lex.proofs.operators.Ops.of_clauses.Goals.{in-Some+in_ok-put, in
 
 pub put-requires-clause-symbol : goal.put-requires-clause-symbol
 put-requires-clause-symbol c =
-    let lawful = row_lawful _ c.loop-i.i _ c.self.invariant (row_entry c.self.inside.rows.entries c.loop-i.i _ _ (sym c.in-Some.ensures.entry)) in
+    let lawful = row_lawful _ c.loop-i.i _ c.self.invariant.0 (row_entry c.self.inside.rows.entries c.loop-i.i _ _ (sym c.in-Some.ensures.entry)) in
     ap (λ (n : List ℕ). is_plain_symbol n) c.deref.ensures.value ∙ (and_parts _ _ (and_parts _ _ lawful).0).0
 
 pub put-requires-clause-word : goal.put-requires-clause-word
 put-requires-clause-word c =
-    let lawful = row_lawful _ c.loop-i.i _ c.self.invariant (row_entry c.self.inside.rows.entries c.loop-i.i _ _ (sym c.in-Some.ensures.entry)) in
+    let lawful = row_lawful _ c.loop-i.i _ c.self.invariant.0 (row_entry c.self.inside.rows.entries c.loop-i.i _ _ (sym c.in-Some.ensures.entry)) in
     ap (λ (n : List ℕ). is_quantifier_word n) c.deref.ensures.value ∙ not-true _ (and_parts _ _ (and_parts _ _ lawful).0).1
 
 pub put-requires-clause-precedence : goal.put-requires-clause-precedence
 put-requires-clause-precedence c =
-    let lawful = row_lawful _ c.loop-i.i _ c.self.invariant (row_entry c.self.inside.rows.entries c.loop-i.i _ _ (sym c.in-Some.ensures.entry)) in
+    let lawful = row_lawful _ c.loop-i.i _ c.self.invariant.0 (row_entry c.self.inside.rows.entries c.loop-i.i _ _ (sym c.in-Some.ensures.entry)) in
     ap has_precedence c.clause_operator.ensures ∙ kept_precedence c.args.prolog _ c.in-Some.operator.now (and_parts _ _ lawful).1
 
 pub loop-i-preserved : goal.loop-i-preserved
@@ -30,7 +30,7 @@ loop-i-preserved c =
           let es = c.self.inside.rows.entries in
           let r : OperatorRow = record { name = w.in-Some.name.now.items; operator = w.in-Some.operator.now } in
           let here : slice_get c.args.self.now c.loop-i.i ≡ Some r = ap (λ (rs : List OperatorRow). slice_get rs c.loop-i.i) (sym c.self.view_is) ∙ row_entry es c.loop-i.i _ _ (sym w.in-Some.ensures.entry) in
-          let lawful = subst (λ (rs : List OperatorRow). are_lawful rs ≡ true) c.self.view_is c.self.invariant in
+          let lawful = subst (λ (rs : List OperatorRow). are_lawful rs ≡ true) c.self.view_is c.self.invariant.0 in
           let named = w.deref.ensures.value in
           let operator : w.clause_operator.result ≡ clause_operator c.args.prolog r.name r.operator =
           w.clause_operator.ensures ∙ ap (λ (n : List ℕ). clause_operator c.args.prolog n r.operator) w.deref-in-Some.ensures.value in
