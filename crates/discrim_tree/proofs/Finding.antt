@@ -1,5 +1,5 @@
 -- One element more of a list, and one less.
-use Rattle.std.proofs.Common.{◌≡◌, ℕ, zero, suc, ◌⊎◌, inl, inr, arith, ◌+◌, ◌<◌, refl, List, [], ◌∷◌, ◌++◌, take, drop, length, get_or, add-one, drop-cons}
+use Rattle.std.proofs.Common.{◌≡◌, ℕ, zero, suc, inl, inr, arith, ◌+◌, ◌<◌, refl, List, [], ◌∷◌, ◌++◌, take, drop, length, get_or, add-one, drop-cons}
 use Rattle.std.proofs.Math.Seq.{take-suc}
 use Rattle.discrim_tree.specs.Nodes.{IsIn}
 

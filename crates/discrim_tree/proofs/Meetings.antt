@@ -1,12 +1,13 @@
 -- Why terms can't be made the same, and that nothing unifies them then.
 use Rattle.std.proofs.Common.{◌≡◌, ℕ, zero, suc, ◌<◌, Bool, true, false, List, [], ◌∷◌, length, get_or, refl, sym, ap, ◌∙◌, arith}
 use Rattle.fol_core.specs.Substitutions.{Substitution, substitute, substitute_all}
-use Rattle.fol_core.specs.Tree.{Tree, app, elem, trees_of}
+use Rattle.fol_core.specs.Tree.{Tree, app, elem, trees_of, var}
 use Rattle.fol_core.specs.TermView.{tree_of, tree_list}
 use Rattle.fol_core.specs.declared.term.Term.{Term}
 use Rattle.discrim_tree.specs.Meeting.{NeverMeet}
-use Rattle.discrim_tree.specs.Terms.{can_unify}
-use Rattle.discrim_tree.proofs.Terms.{unifiers_are_of_two}
+use Rattle.discrim_tree.specs.Terms.{can_unify, has_instance}
+use Rattle.discrim_tree.proofs.Terms.{instances_are_made, unifiers_are_of_two}
+use Rattle.substitutions.proofs.Composing.{substitute_variables}
 
 -- other elements, other heads
 pub apart_elements : (k n : ℕ) → (k ≡ n → ⊥) → NeverMeet (elem k) (elem n)
@@ -45,3 +46,14 @@ never_unify s t never = by (can_unify s t) refl
     by : (b : Bool) → can_unify s t ≡ b → b ≡ false
     by false e = refl
     by true e = let made = (unifiers_are_of_two s t).0 e in absurd (never made.0 made.1 made.2)
+
+-- a term and an instance of it have one
+pub instance_unifies : (s t : Tree) (b : Bool) → b ≡ has_instance s t → b ≡ true → true ≡ can_unify s t
+instance_unifies s t b is there =
+    let made = (instances_are_made s t).0 (sym is ∙ there) in
+    sym ((unifiers_are_of_two s t).1 (made.0, var, made.1 ∙ sym (substitute_variables t)))
+
+pub general_unifies : (s t : Tree) (b : Bool) → b ≡ has_instance t s → b ≡ true → true ≡ can_unify s t
+general_unifies s t b is there =
+    let made = (instances_are_made t s).0 (sym is ∙ there) in
+    sym ((unifiers_are_of_two s t).1 (var, made.0, substitute_variables s ∙ sym made.1))

@@ -1,7 +1,5 @@
 -- Nodes, as they change.
-use Rattle.std.proofs.Common.{◌≡◌, ℕ, ◌==◌, ◌⊎◌, Bool, true, false, not, if◌then◌else◌, cond, inl, inr, refl, sym, ap, ap₂, subst, ◌∙◌, List, [], ◌∷◌, ◌++◌, Some, MatchOption, arith, eqb-true, eq-eqb, Option, None, IsSome, Result, Ok, Err, OnErr}
-use Rattle.std.specs.BTreeMap as tree
-use Rattle.std.specs.Map.{lookup}
+use Rattle.std.proofs.Common.{◌≡◌, ℕ, ◌==◌, ◌⊎◌, Bool, true, false, not, if◌then◌else◌, cond, inl, inr, refl, sym, ap, ap₂, subst, ◌∙◌, List, [], ◌∷◌, ◌++◌, Some, MatchOption, arith, eqb-true, eq-eqb, Option, None, IsSome, Result, Ok, Err, OnOk, OnErr}
 use Rattle.std.specs.List.{filter}
 use Rattle.std.specs.Option.{option_and_then, option_map}
 use Rattle.std.specs.declared.cmp.Ordering.{Ordering}
@@ -10,6 +8,7 @@ use Rattle.std.specs.Ordering.{nat_cmp, ordering_then, is_eq}
 use Rattle.std.proofs.lemmas.Bool.{cases_eq}
 use Rattle.std.proofs.lemmas.Map.Lookups.{exact_unsigned}
 use Rattle.slab.specs.Slab.{get, ContainsKey, Updates}
+use Rattle.discrim_tree.specs.Contents.{target}
 use Rattle.discrim_tree.specs.Nodes.{Store, edge_cmp, branch, child, IsIn, Holds}
 use Rattle.discrim_tree.specs.Trees.{link_of, IsBranched, IsFull, IsRenumbered, IsSame}
 use Rattle.discrim_tree.specs.declared.edge.Edge.{Edge}
@@ -64,9 +63,17 @@ some_same x y e = cc
 pub none_some : {X : Type 0} (x : X) → None ≡ Some x → ⊥
 none_some x e = cc
 
-pub on_err : {X E : Type 0} {P : Type 0} (r : Result X E) → P → OnErr r P
-on_err (Ok x) p = tt
-on_err (Err e) p = p
+pub on_ok : {X E : Type 0} {P Q : Type 0} (r : Result X E) → (P → Q) → OnOk r P → OnOk r Q
+on_ok (Ok x) f p = f p
+on_ok (Err e) f p = tt
+
+pub on_err : {X E : Type 0} {P Q : Type 0} (r : Result X E) → (P → Q) → OnErr r P → OnErr r Q
+on_err (Ok x) f p = tt
+on_err (Err e) f p = f p
+
+pub on_either : {X E : Type 0} {P Q R : Type 0} (r : Result X E) → (P → R) → (Q → R) → OnOk r P → OnErr r Q → R
+on_either (Ok x) f g p q = f p
+on_either (Err e) f g p q = g q
 
 pub apart : (a b : ℕ) → (a ≡ b → ⊥) → (a == b) ≡ false
 apart a b h = by (a == b) refl
@@ -130,17 +137,17 @@ child_none nodes at e is = ap (option_and_then (λ (x : Node). branch x e)) is
 pub child_same : (old new : Store) (at : ℕ) (e : Edge) → get new at ≡ get old at → child new at e ≡ child old at e
 child_same old new at e is = ap (option_and_then (λ (x : Node). branch x e)) is
 
-pub held_there : (nodes : Store) (at n : ℕ) (node : Node) → get nodes at ≡ Some node → IsIn n node.numbers.items → Holds nodes at n
-held_there nodes at n node is h = subst (λ o. MatchOption o ⊥ (λ (x : Node). IsIn n x.numbers.items)) (sym is) h
+pub held_there : (nodes : Store) (at n : ℕ) (node : Node) → get nodes at ≡ Some node → IsIn n node.contents.numbers → Holds nodes at n
+held_there nodes at n node is h = subst (λ o. MatchOption o ⊥ (λ (x : Node). IsIn n x.contents.numbers)) (sym is) h
 
-pub held_by : (nodes : Store) (at n : ℕ) (node : Node) → get nodes at ≡ Some node → Holds nodes at n → IsIn n node.numbers.items
-held_by nodes at n node is h = subst (λ o. MatchOption o ⊥ (λ (x : Node). IsIn n x.numbers.items)) is h
+pub held_by : (nodes : Store) (at n : ℕ) (node : Node) → get nodes at ≡ Some node → Holds nodes at n → IsIn n node.contents.numbers
+held_by nodes at n node is h = subst (λ o. MatchOption o ⊥ (λ (x : Node). IsIn n x.contents.numbers)) is h
 
 pub none_held : (nodes : Store) (at n : ℕ) → get nodes at ≡ None → Holds nodes at n → ⊥
-none_held nodes at n is h = subst (λ o. MatchOption o ⊥ (λ (x : Node). IsIn n x.numbers.items)) is h
+none_held nodes at n is h = subst (λ o. MatchOption o ⊥ (λ (x : Node). IsIn n x.contents.numbers)) is h
 
 pub held_same : (old new : Store) (at n : ℕ) → get new at ≡ get old at → Holds old at n → Holds new at n
-held_same old new at n is h = subst (λ o. MatchOption o ⊥ (λ (x : Node). IsIn n x.numbers.items)) (sym is) h
+held_same old new at n is h = subst (λ o. MatchOption o ⊥ (λ (x : Node). IsIn n x.contents.numbers)) (sym is) h
 
 pub link_by : (nodes : Store) (at : ℕ) (node : Node) → get nodes at ≡ Some node → link_of nodes at ≡ Some node.link
 link_by nodes at node is = ap (option_map (λ (x : Node). x.link)) is
@@ -173,7 +180,7 @@ vacant_link nodes at above none is = none_some above (sym (link_none nodes at no
 -- ---- one node is changed
 
 -- a branch of a node comes, goes or leads elsewhere
-pub branched : (old new : Store) (at : ℕ) (edge : Edge) (node next : Node) → get old at ≡ Some node → Updates old new at (Some next) → next.numbers ≡ node.numbers → next.link ≡ node.link
+pub branched : (old new : Store) (at : ℕ) (edge : Edge) (node next : Node) → get old at ≡ Some node → Updates old new at (Some next) → next.contents.numbers ≡ node.contents.numbers → next.link ≡ node.link
     → ((e : Edge) → (e ≡ edge → ⊥) → branch next e ≡ branch node e) → IsBranched at edge old new
 branched old new at edge node next is updates numbers link branches = record {
   was = node.link;
@@ -187,13 +194,13 @@ branched old new at edge node next is updates numbers link branches = record {
   numbers = λ a n h. elim (cases_eq a at) [
     | inl s ↦
         subst (λ b. Holds new b n) (sym s)
-        (held_there new at n next updates.changed (subst (λ v. IsIn n v.items) (sym numbers) (held_by old at n node is (subst (λ b. Holds old b n) s h))))
+        (held_there new at n next updates.changed (subst (IsIn n) (sym numbers) (held_by old at n node is (subst (λ b. Holds old b n) s h))))
     | inr s ↦ held_same old new a n (updates.others a s) h
   ];
   back = λ a n h. elim (cases_eq a at) [
     | inl s ↦
         subst (λ b. Holds old b n) (sym s)
-        (held_there old at n node is (subst (λ v. IsIn n v.items) numbers (held_by new at n next updates.changed (subst (λ b. Holds new b n) s h))))
+        (held_there old at n node is (subst (IsIn n) numbers (held_by new at n next updates.changed (subst (λ b. Holds new b n) s h))))
     | inr s ↦ held_same new old a n (sym (updates.others a s)) h
   ];
   links = λ k. elim (cases_eq k at) [
@@ -203,14 +210,14 @@ branched old new at edge node next is updates numbers link branches = record {
 }
 
 -- the numbers of a node change
-pub renumbered : (old new : Store) (at : ℕ) (node next : Node) → get old at ≡ Some node → Updates old new at (Some next) → next.branches ≡ node.branches → next.link ≡ node.link → IsRenumbered at old new
+pub renumbered : (old new : Store) (at : ℕ) (node next : Node) → get old at ≡ Some node → Updates old new at (Some next) → next.contents.branches ≡ node.contents.branches → next.link ≡ node.link → IsRenumbered at old new
 renumbered old new at node next is updates branches link = record {
   was = node.link;
   there = link_by old at node is;
   branches = λ a e. elim (cases_eq a at) [
     | inl s ↦
         subst (λ b. child new b e ≡ child old b e) (sym s)
-        (child_by new at e next updates.changed ∙ ap (λ b. tree.get edge_cmp b e) branches ∙ sym (child_by old at e node is))
+        (child_by new at e next updates.changed ∙ ap (λ bs. target bs e) branches ∙ sym (child_by old at e node is))
     | inr s ↦ child_same old new a e (updates.others a s)
   ];
   numbers = λ a n s h. held_same old new a n (updates.others a s) h;
@@ -225,15 +232,15 @@ pub same_store : (nodes : Store) → IsSame nodes nodes
 same_store nodes = record { branches = λ a e. refl; numbers = λ a n h. h; back = λ a n h. h; links = λ k. refl; next = refl }
 
 -- a node has the branches and numbers that it had
-pub untouched : (old new : Store) (at : ℕ) (node next : Node) → get old at ≡ Some node → Updates old new at (Some next) → next.numbers ≡ node.numbers → next.link ≡ node.link
-    → next.branches.entries ≡ node.branches.entries → new.vacant_key ≡ old.vacant_key → IsSame old new
-untouched old new at node next is updates numbers link entries key =
-    let there = branched old new at Any node next is updates numbers link (λ e d. ap (lookup (tree.is_at (edge_cmp e))) entries) in
+pub untouched : (old new : Store) (at : ℕ) (node next : Node) → get old at ≡ Some node → Updates old new at (Some next) → next.contents.numbers ≡ node.contents.numbers → next.link ≡ node.link
+    → next.contents.branches ≡ node.contents.branches → new.vacant_key ≡ old.vacant_key → IsSame old new
+untouched old new at node next is updates numbers link branches key =
+    let there = branched old new at Any node next is updates numbers link (λ e d. ap (λ bs. target bs e) branches) in
     record {
       branches = λ a e. elim (cases_eq a at) [
         | inl s ↦
             subst (λ b. child new b e ≡ child old b e) (sym s)
-            (child_by new at e next updates.changed ∙ ap (lookup (tree.is_at (edge_cmp e))) entries ∙ sym (child_by old at e node is))
+            (child_by new at e next updates.changed ∙ ap (λ bs. target bs e) branches ∙ sym (child_by old at e node is))
         | inr s ↦ child_same old new a e (updates.others a s)
       ];
       numbers = there.numbers;
@@ -242,50 +249,27 @@ untouched old new at node next is updates numbers link entries key =
       next = key;
     }
 
-pub held_after : (old new : Store) (at n : ℕ) (next : Node) → Updates old new at (Some next) → IsIn n next.numbers.items → Holds new at n
+pub held_after : (old new : Store) (at n : ℕ) (next : Node) → Updates old new at (Some next) → IsIn n next.contents.numbers → Holds new at n
 held_after old new at n next updates h = held_there new at n next updates.changed h
 
-pub after_held : (old new : Store) (at n : ℕ) (next : Node) → Updates old new at (Some next) → Holds new at n → IsIn n next.numbers.items
+pub after_held : (old new : Store) (at n : ℕ) (next : Node) → Updates old new at (Some next) → Holds new at n → IsIn n next.contents.numbers
 after_held old new at n next updates h = held_by new at n next updates.changed h
 
--- a node has the numbers that it had
-pub unpushed : (old new : Store) (at : ℕ) (node next : Node) → get old at ≡ Some node → Updates old new at (Some next) → next.numbers.items ≡ node.numbers.items → next.branches ≡ node.branches → next.link ≡ node.link
-    → new.vacant_key ≡ old.vacant_key → IsSame old new
-unpushed old new at node next is updates numbers branches link key =
-    let there = renumbered old new at node next is updates branches link in
-    record {
-      branches = there.branches;
-      numbers = λ a n h. elim (cases_eq a at) [
-        | inl s ↦
-            subst (λ b. Holds new b n) (sym s)
-            (held_there new at n next updates.changed (subst (IsIn n) (sym numbers) (held_by old at n node is (subst (λ b. Holds old b n) s h))))
-        | inr s ↦ there.numbers a n s h
-      ];
-      back = λ a n h. elim (cases_eq a at) [
-        | inl s ↦
-            subst (λ b. Holds old b n) (sym s)
-            (held_there old at n node is (subst (IsIn n) numbers (held_by new at n next updates.changed (subst (λ b. Holds new b n) s h))))
-        | inr s ↦ there.back a n s h
-      ];
-      links = there.links;
-      next = key;
-    }
-
 -- a node that isn't empty has a number or a branch
-pub full : (nodes : Store) (at : ℕ) (node : Node) → get nodes at ≡ Some node → (node.numbers.items ≡ [] → ⊥) ⊎ (node.branches.entries ≡ [] → ⊥) → IsFull nodes at
-full nodes at node is (inl some) = by node.numbers.items refl
+pub full : (nodes : Store) (at : ℕ) (node : Node) → get nodes at ≡ Some node → (node.contents.numbers ≡ [] → ⊥) ⊎ (node.contents.branches ≡ [] → ⊥) → IsFull nodes at
+full nodes at node is (inl some) = by node.contents.numbers refl
   where
-    by : (ns : List ℕ) → node.numbers.items ≡ ns → IsFull nodes at
+    by : (ns : List ℕ) → node.contents.numbers ≡ ns → IsFull nodes at
     by [] s = absurd (some s)
     by (n ∷ ns) s = inl (n, held_there nodes at n node is (subst (IsIn n) (sym s) (inl refl)))
-full nodes at node is (inr some) = by node.branches.entries refl
+full nodes at node is (inr some) = by node.contents.branches refl
   where
-    by : (es : List (Edge × ℕ)) → node.branches.entries ≡ es → IsFull nodes at
+    by : (es : List (Edge × ℕ)) → node.contents.branches ≡ es → IsFull nodes at
     by [] s = absurd (some s)
     by (e ∷ es) s =
         inr (
           e.0,
           e.1,
-          child_by nodes at e.0 node is ∙ ap (lookup (tree.is_at (edge_cmp e.0))) s
-              ∙ ap (λ (o : Ordering). cond (is_eq o) (Some e.1) (lookup (tree.is_at (edge_cmp e.0)) es)) (same_as_itself e.0),
+          child_by nodes at e.0 node is ∙ ap (λ bs. target bs e.0) s
+              ∙ ap (λ (o : Ordering). cond (is_eq o) (Some e.1) (target es e.0)) (same_as_itself e.0),
         )

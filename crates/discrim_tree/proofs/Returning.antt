@@ -1,21 +1,20 @@
 -- Walks reach nothing but what is behind terms that fit.
 use Rattle.std.proofs.Common.{◌≡◌, ℕ, zero, suc, ◌+◌, ◌<◌, ◌≤◌, ◌⊎◌, Bool, true, inl, inr, refl, sym, ap, ap₂, subst, ◌∙◌, List, [], ◌∷◌, ◌++◌, Some, length, drop, get_or, arith, slice_get, append-nil}
-use Rattle.std.specs.BTreeMap as tree
 use Rattle.std.proofs.lemmas.Bool.{cases_lt}
-use Rattle.std.proofs.lemmas.Map.Entries.{btree_map_get_place}
 use Rattle.std.proofs.lemmas.Option.{slice_get_within, slice_get-get_or}
 use Rattle.slab.specs.Slab.{get}
 use Rattle.fol_core.specs.Tree.{Tree, var, elem, app, Trees, none, more, list_of, trees_of}
+use Rattle.discrim_tree.specs.Contents.{StepsRise}
 use Rattle.discrim_tree.specs.Fitting.{Fits, FitAll}
-use Rattle.discrim_tree.specs.Nodes.{Store, edge_cmp, child}
+use Rattle.discrim_tree.specs.Nodes.{Store, child}
 use Rattle.discrim_tree.specs.Paths.{step_of, arguments, steps_of, path_of, paths_of}
 use Rattle.discrim_tree.specs.Trees.{Leads}
 use Rattle.discrim_tree.specs.Walks.{arity, GoesOn, IsFrom, IsBetween, Came, CameByAny, IsPast, IsBeyond, IsSkipped, StartOnly, SkippedEach, Comes, ComesAll, AllFit}
-use Rattle.discrim_tree.specs.contracts.edge.EdgeOrd.TheImpl.Laws.{total-law}
 use Rattle.discrim_tree.specs.declared.edge.Edge.{Edge}
 use Rattle.discrim_tree.specs.declared.edge.Edge.TheVariants.{Any, Element, Symbol}
 use Rattle.discrim_tree.specs.declared.nodes.Node.{Node}
 use Rattle.discrim_tree.specs.declared.skipping.Skipping.{Skipping}
+use Rattle.discrim_tree.proofs.Branches.{target_at}
 use Rattle.discrim_tree.proofs.NodeSteps.{some_same, child_by}
 use Rattle.discrim_tree.proofs.Paths.{list_back, steps_begin}
 use Rattle.discrim_tree.proofs.Trees.{leads_joined}
@@ -82,9 +81,9 @@ module _ (nodes : Store) where
   abbrev pub AreBranches : ℕ → List (Edge × ℕ) → Type 0
   AreBranches at left = (i : ℕ) (e : Edge) (k : ℕ) → slice_get left i ≡ Some (e, k) → child nodes at e ≡ Some k
 
-  pub branches_there : (at : ℕ) (node : Node) (left : List (Edge × ℕ)) → get nodes at ≡ Some node → tree.IsOrdered edge_cmp node.branches → left ≡ node.branches.entries → AreBranches at left
-  branches_there at node left is ordered same i e k h =
-      child_by nodes at e node is ∙ btree_map_get_place total-law node.branches i e k ordered (ap (λ xs. slice_get xs i) (sym same) ∙ h)
+  pub branches_there : (at : ℕ) (node : Node) (left : List (Edge × ℕ)) → get nodes at ≡ Some node → StepsRise node.contents.branches → left ≡ node.contents.branches → AreBranches at left
+  branches_there at node left is rise same i e k h =
+      child_by nodes at e node is ∙ target_at node.contents.branches rise e i k (ap (λ xs. slice_get xs i) (sym same) ∙ h)
 
   pub branches_rest : (at : ℕ) (left rest : List (Edge × ℕ)) (b : Edge × ℕ) → left ≡ b ∷ rest → AreBranches at left → AreBranches at rest
   branches_rest at left rest b is all i e k h = all (suc i) e k (ap (λ xs. slice_get xs (suc i)) is ∙ h)

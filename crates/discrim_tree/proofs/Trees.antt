@@ -1,10 +1,9 @@
 -- Trees, as they change.
 use Rattle.std.proofs.Common.{◌≡◌, ℕ, zero, suc, ◌+◌, ◌-◌, ◌<◌, ◌≤◌, ◌⊎◌, Bool, true, false, IsTrue, inl, inr, refl, sym, ap, ap₂, subst, ◌∙◌, List, [], ◌∷◌, ◌++◌, Some, None, Option, is_some, Result, Ok, Err, IfOk, OnErr, length, take, drop, drop-cons, get_or, arith, append-nil, length-append}
-use Rattle.std.specs.BTreeMap as tree
-use Rattle.std.specs.Map.{lookup}
 use Rattle.std.specs.Ordering.{is_eq}
 use Rattle.std.proofs.lemmas.Bool.{cases_eq}
 use Rattle.slab.specs.Slab.{get, ContainsKey, Updates}
+use Rattle.discrim_tree.specs.Contents.{target}
 use Rattle.discrim_tree.specs.Nodes.{Store, edge_cmp, branch, child, IsIn, Holds, Reaches, Grows, KeepsOthers, KeepsPaths, IsEmptyAt}
 use Rattle.discrim_tree.specs.Trees.{link_of, AllUsed, AllUsedBut, ComesOnly, IsAlike, IsBranched, IsFresh, IsFull, IsOneMore, IsRenumbered, IsSame, IsTree, IsUsed, Leads}
 use Rattle.discrim_tree.specs.declared.edge.Edge.{Edge}
@@ -260,7 +259,7 @@ grown_more at edge k above less mid more there none fresh branched hung =
     )
   where
     nothing : (e : Edge) (j : ℕ) → branch fresh.node e ≡ Some j → ⊥
-    nothing e j h = none_some j (sym (ap (lookup (tree.is_at (edge_cmp e))) fresh.plain) ∙ h)
+    nothing e j h = none_some j (sym (ap (λ bs. target bs e) fresh.plain) ∙ h)
 
 -- an empty node loses its branch, and goes
 pub pruned_less : (at : ℕ) (edge : Edge) (k : ℕ) (more mid less : Store) → child more at edge ≡ Some k → IsEmptyAt more k → IsBranched at edge more mid → child mid at edge ≡ None → Updates mid less k None → IsOneMore at edge k less more
@@ -564,7 +563,7 @@ fresh_alike above k old new fresh none = record {
     by : (a : ℕ) (e : Edge) (j : ℕ) → child new a e ≡ Some j → child old a e ≡ Some j
     by a e j h = elim (cases_eq a k) [
       | inl s ↦
-          absurd (none_some j (sym (ap (lookup (tree.is_at (edge_cmp e))) fresh.plain) ∙ sym (child_by new k e fresh.node fresh.updates.changed)
+          absurd (none_some j (sym (ap (λ bs. target bs e) fresh.plain) ∙ sym (child_by new k e fresh.node fresh.updates.changed)
           ∙ subst (λ x. child new x e ≡ Some j) s h))
       | inr s ↦ sym (child_same old new a e (fresh.updates.others a s)) ∙ h
     ]

@@ -1,12 +1,12 @@
 -- Walks, as they go on.
 use Rattle.std.proofs.Common.{◌≡◌, ℕ, zero, suc, ◌+◌, ◌<◌, ◌≤◌, ◌-◌, ◌⊎◌, Bool, true, false, IsTrue, cond, inl, inr, refl, sym, ap, ap₂, subst, ◌∙◌, List, [], ◌∷◌, ◌++◌, Some, None, MatchOption, length, drop, arith, slice_get, append_assoc, append-nil, length-append}
-use Rattle.std.specs.BTreeMap.{is_at}
-use Rattle.std.specs.Map.{lookup}
+use Rattle.std.specs.Ordering.{is_eq}
 use Rattle.std.specs.Option.{option_and_then}
 use Rattle.std.proofs.lemmas.Bool.{cases_eq}
 use Rattle.std.proofs.lemmas.Option.{slice_get_within}
 use Rattle.slab.specs.Slab.{get}
 use Rattle.fol_core.specs.Tree.{Tree, var, elem, app, Trees, none, more, list_of}
+use Rattle.discrim_tree.specs.Contents.{target}
 use Rattle.discrim_tree.specs.Fitting.{FitAll}
 use Rattle.discrim_tree.specs.Nodes.{Store, edge_cmp, branch, child, IsIn, Reaches}
 use Rattle.discrim_tree.specs.Paths.{step_of, arguments, steps_of, path_of, paths_of}
@@ -123,7 +123,7 @@ module _ (nodes : Store) where
       nothing j e = cc
 
   pub nowhere : (at : ℕ) (path : List Edge) (n : ℕ) → get nodes at ≡ None → Reaches nodes at path n → ⊥
-  nowhere at [] n is h = subst (λ o. MatchOption o ⊥ (λ (node : Node). IsIn n node.numbers.items)) is h
+  nowhere at [] n is h = subst (λ o. MatchOption o ⊥ (λ (node : Node). IsIn n node.contents.numbers)) is h
   nowhere at (e ∷ path) n is h = let bad : None ≡ Some h.0 = ap (option_and_then (λ (node : Node). branch node e)) (sym is) ∙ h.1 in cc
 
   -- ---- the branches of a node that come to what is to be skipped
@@ -141,15 +141,15 @@ module _ (nodes : Store) where
   -- the branches that are left, or those that came
   abbrev pub AreLeft : ℕ → List (Edge × ℕ) → ℕ → List Skipping → Type 0
   AreLeft at left count waiting =
-      (e : Edge) (k : ℕ) → child nodes at e ≡ Some k → (lookup (is_at (edge_cmp e)) left ≡ Some k) ⊎ IsEntered e k count waiting
+      (e : Edge) (k : ℕ) → child nodes at e ≡ Some k → (target left e ≡ Some k) ⊎ IsEntered e k count waiting
 
-  pub all_left : (at : ℕ) (node : Node) (left : List (Edge × ℕ)) (count : ℕ) (waiting : List Skipping) → get nodes at ≡ Some node → left ≡ node.branches.entries → AreLeft at left count waiting
+  pub all_left : (at : ℕ) (node : Node) (left : List (Edge × ℕ)) (count : ℕ) (waiting : List Skipping) → get nodes at ≡ Some node → left ≡ node.contents.branches → AreLeft at left count waiting
   all_left at node left count waiting is same e k h =
-      inl (ap (lookup (is_at (edge_cmp e))) same ∙ ap (option_and_then (λ (x : Node). branch x e)) (sym is) ∙ h)
+      inl (ap (λ bs. target bs e) same ∙ ap (option_and_then (λ (x : Node). branch x e)) (sym is) ∙ h)
 
   pub none_left : (at : ℕ) (left : List (Edge × ℕ)) (count : ℕ) (waiting : List Skipping) → left ≡ [] → AreLeft at left count waiting → Enters nodes at count waiting
   none_left at left count waiting is so e k h = elim (so e k h) [
-    | inl f ↦ let bad : None ≡ Some k = sym (ap (lookup (is_at (edge_cmp e))) is) ∙ f in absurd (nothing k bad)
+    | inl f ↦ let bad : None ≡ Some k = sym (ap (λ bs. target bs e) is) ∙ f in absurd (nothing k bad)
     | inr f ↦ f
   ]
     where
@@ -159,15 +159,15 @@ module _ (nodes : Store) where
   pub branch_done : (at : ℕ) (left rest : List (Edge × ℕ)) (edge : Edge) (b count : ℕ) (now new : List Skipping) → AreLeft at left count now → left ≡ (edge, b) ∷ rest → GoesOn now new
       → IsEntered edge b count new → AreLeft at rest count new
   branch_done at left rest edge b count now new so is g done = λ e k h. elim (so e k h) [
-    | inl f ↦ by e k (is_at (edge_cmp e) edge) refl (ap (lookup (is_at (edge_cmp e))) (sym is) ∙ f)
+    | inl f ↦ by e k (is_eq (edge_cmp e edge)) refl (ap (λ bs. target bs e) (sym is) ∙ f)
     | inr f ↦ inr (entered_on e k count now new g f)
   ]
     where
-      by : (e : Edge) (k : ℕ) (c : Bool) → is_at (edge_cmp e) edge ≡ c → lookup (is_at (edge_cmp e)) ((edge, b) ∷ rest) ≡ Some k → (lookup (is_at (edge_cmp e)) rest ≡ Some k) ⊎ IsEntered e k count new
+      by : (e : Edge) (k : ℕ) (c : Bool) → is_eq (edge_cmp e edge) ≡ c → target ((edge, b) ∷ rest) e ≡ Some k → (target rest e ≡ Some k) ⊎ IsEntered e k count new
       by e k true s h =
-          let same : b ≡ k = some_same b k (sym (ap (λ c. cond c (Some b) (lookup (is_at (edge_cmp e)) rest)) s) ∙ h) in
+          let same : b ≡ k = some_same b k (sym (ap (λ c. cond c (Some b) (target rest e)) s) ∙ h) in
           inr (subst (λ i. IsEntered e i count new) same (subst (λ d. IsEntered d b count new) (sym (is_same e edge s)) done))
-      by e k false s h = inl (sym (ap (λ c. cond c (Some b) (lookup (is_at (edge_cmp e)) rest)) s) ∙ h)
+      by e k false s h = inl (sym (ap (λ c. cond c (Some b) (target rest e)) s) ∙ h)
 
   pub enters_nothing : (at count : ℕ) (waiting : List Skipping) → get nodes at ≡ None → Enters nodes at count waiting
   enters_nothing at count waiting is e k h = let bad : None ≡ Some k = ap (option_and_then (λ (node : Node). branch node e)) (sym is) ∙ h in cc

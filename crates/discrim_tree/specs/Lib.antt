@@ -1,4 +1,5 @@
 pub mod Beginnings
+pub mod Contents
 pub mod Entries
 pub mod Fitting
 pub mod Laws

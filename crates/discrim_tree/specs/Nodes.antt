@@ -1,15 +1,11 @@
 -- The nodes of a tree of paths.
 use Rattle.std.specs.Prelude.{ℕ, ◌≡◌, ◌⊎◌, List, [], ◌∷◌, Option, Some, MatchOption}
-use Rattle.std.specs.BTreeMap as tree
 use Rattle.std.specs.Option.{option_and_then}
-use Rattle.std.specs.declared.cmp.Ordering.{Ordering}
 use Rattle.slab.specs.Slab.{Slab, get}
-use Rattle.discrim_tree.specs.contracts.edge.EdgeOrd.TheImpl as edge_ord
+pub use Rattle.discrim_tree.specs.Contents.{edge_cmp}
+use Rattle.discrim_tree.specs.Contents.{target}
 use Rattle.discrim_tree.specs.declared.edge.Edge.{Edge}
 use Rattle.discrim_tree.specs.declared.nodes.Node.{Node}
-
-abbrev pub edge_cmp : Edge → Edge → Ordering
-edge_cmp = (edge_ord.ghosts).cmp
 
 -- nodes under their keys
 abbrev pub Store : Type 0
@@ -22,14 +18,14 @@ IsIn n (m ∷ ms) = (n ≡ m) ⊎ IsIn n ms
 
 -- where a step leads from a node
 abbrev pub branch : Node → Edge → Option ℕ
-branch node edge = tree.get edge_cmp node.branches edge
+branch node edge = target node.contents.branches edge
 
 abbrev pub child : Store → ℕ → Edge → Option ℕ
 child nodes at edge = option_and_then (λ node. branch node edge) (get nodes at)
 
 -- a node has a number
 abbrev pub Holds : Store → ℕ → ℕ → Type 0
-Holds nodes at n = MatchOption (get nodes at) ⊥ (λ node. IsIn n node.numbers.items)
+Holds nodes at n = MatchOption (get nodes at) ⊥ (λ node. IsIn n node.contents.numbers)
 
 -- from a node a path leads to a number
 abbrev pub Reaches : Store → ℕ → List Edge → ℕ → Type 0

@@ -63,8 +63,8 @@ pub record IsFresh (above k : ℕ) (old new : Store) : Type 0 where
   pub vacant : get old k ≡ None
   pub node : Node
   pub updates : Updates old new k (Some node)
-  pub bare : node.numbers.items ≡ []
-  pub plain : node.branches.entries ≡ []
+  pub bare : node.contents.numbers ≡ []
+  pub plain : node.contents.branches ≡ []
   pub link : node.link ≡ above
 
 -- nothing changes but what room there is

@@ -2,7 +2,7 @@
 use Rattle.std.specs.Prelude.{ℕ, ◌≡◌, ◌+◌, ◌<◌, ◌≤◌, ◌⊎◌, Bool, IsTrue, List, ◌++◌, Some, length, slice_get}
 use Rattle.fol_core.specs.Tree.{Tree, Trees}
 use Rattle.discrim_tree.specs.Fitting.{Fits, FitAll}
-use Rattle.discrim_tree.specs.Nodes.{Store, child, Holds, Reaches}
+use Rattle.discrim_tree.specs.Nodes.{Store, child, Holds, IsIn, Reaches}
 use Rattle.discrim_tree.specs.Paths.{steps_of, path_of, paths_of}
 use Rattle.discrim_tree.specs.Trees.{Leads}
 use Rattle.discrim_tree.specs.declared.edge.Edge.{Edge}
@@ -168,3 +168,12 @@ abbrev pub AllFit : Store → Bool → Bool → Tree → List ℕ → Type 0
 AllFit nodes below above t walk =
     (i : ℕ) (to : ℕ) → slice_get walk i ≡ Some to
     → (s : Tree) × Fits below above s t × Leads nodes 0 (path_of s) to
+
+-- the numbers at the ends of the paths of the terms that fit, and no others
+pub record AreFitting (nodes : Store) (below above : Bool) (t : Tree) (numbers : List ℕ) : Type 0
+  where
+    pub walk : List ℕ
+    pub covers : Covers nodes below above t walk
+    pub fit : AllFit nodes below above t walk
+    pub all : (n : ℕ) → IsFound nodes walk n → IsIn n numbers
+    pub only : (n : ℕ) → IsIn n numbers → IsFound nodes walk n

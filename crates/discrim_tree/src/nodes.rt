@@ -1,21 +1,20 @@
 // A tree of paths: nodes under their keys, the root under 0.
 ghost use Rattle.std.specs.Prelude.{ℕ, ◌≡◌, ◌⊎◌, ◌-◌, List, [], Some, None, false, IfOk, IfSome, IsTrue, OnOk, OnErr};
 ghost use Rattle.slab.specs.Slab.{get, slab_len, ContainsKey, Updates};
-ghost use Rattle.discrim_tree.specs.Nodes.{child, branch, Holds, IsIn, Reaches, Grows, IsEmptyAt, Ends, KeepsOthers, KeepsPaths};
+ghost use Rattle.discrim_tree.specs.Nodes.{child, Holds, IsIn, Reaches, Grows, IsEmptyAt, Ends, KeepsOthers, KeepsPaths};
 ghost use Rattle.discrim_tree.specs.Trees.{link_of, AllUsed, AllUsedBut, ComesOnly, IsAlike, IsBranched, IsFresh, IsFull, IsOneMore, IsRenumbered, IsSame, IsTree, Leads};
 ghost use Rattle.discrim_tree.specs.declared.edge.Edge.{Edge};
 ghost use Rattle.discrim_tree.specs.Walks.{IsFound};
 
+use crate::contents::Contents;
 use crate::edge::Edge;
 use slab::Slab;
 use std::alloc::{AllocError, Global};
-use std::collections::BTreeMap;
 
-/// A node: the numbers of the paths that end there, where each step leads, and the node above.
+/// A node: its numbers and branches, and the node above.
 #[derive(Drop)]
 pub struct Node {
-    pub numbers: Vec<u64>,
-    pub branches: BTreeMap<Edge, usize>,
+    pub contents: Contents,
     pub link: usize,
 }
 
@@ -27,42 +26,15 @@ pub struct Nodes {
 
 impl Node {
     // Neither numbers nor branches, below a node.
-    fn new(alloc: Global, above: usize) -> Node
-        ensures numbers { result.numbers.items ≡ [] }
-        ensures branches { result.branches.entries ≡ [] }
+    fn new(above: usize) -> Node
+        ensures numbers { result.contents.numbers ≡ [] }
+        ensures branches { result.contents.branches ≡ [] }
         ensures link { result.link ≡ above }
     {
         Node {
-            numbers: Vec::new(alloc),
-            branches: BTreeMap::new(alloc),
+            contents: Contents::new(),
             link: above,
         }
-    }
-
-    /// Where a step leads.
-    pub fn branch(&self, edge: Edge) -> Option<usize>
-        ensures { result ≡ branch self.now edge }
-    {
-        self.branches.get(&edge).copied()
-    }
-
-    // Neither numbers nor branches.
-    fn is_empty(&self) -> bool
-        ensures yes { IsTrue result → (self.now.numbers.items ≡ []) × (self.now.branches.entries ≡ []) }
-        ensures no { result ≡ false → (self.now.numbers.items ≡ [] → ⊥) ⊎ (self.now.branches.entries ≡ [] → ⊥) }
-    {
-        self.numbers.is_empty() && self.branches.is_empty()
-    }
-
-    // A number is in the list no more.
-    fn forget(&mut self, number: u64)
-        ensures numbers { (m : ℕ) → (m ≡ number → ⊥) → IsIn m self.old.numbers.items → IsIn m self.new.numbers.items }
-        ensures branches { self.new.branches ≡ self.old.branches }
-        ensures link { self.new.link ≡ self.old.link }
-        ensures fewer { (m : ℕ) → IsIn m self.new.numbers.items → IsIn m self.old.numbers.items }
-        ensures gone { IsIn number self.new.numbers.items → ⊥ }
-    {
-        self.numbers.retain(|n| *n != number);
     }
 }
 
@@ -83,30 +55,28 @@ impl Nodes {
     {
         match self.items.get(at) {
             None => None,
-            Some(node) => node.branch(edge),
+            Some(node) => node.contents.target(edge),
         }
     }
 
     // An empty node more, below another one.
-    fn fresh(&mut self, alloc: Global, above: usize) -> Result<usize, AllocError>
+    fn fresh(&mut self, above: usize) -> Result<usize, AllocError>
         ensures fresh { IfOk result (λ k. IsFresh above k self.old.items self.new.items) }
         ensures err { OnErr result (IsSame self.old.items self.new.items) }
     {
-        Ok(self.items.insert(Node::new(alloc, above))?)
+        Ok(self.items.insert(Node::new(above))?)
     }
 
     // One more branch of a node; want of memory also where there is no such node.
-    fn attach(&mut self, at: usize, edge: Edge, k: usize) -> Result<(), AllocError>
+    fn attach(&mut self, alloc: Global, at: usize, edge: Edge, k: usize) -> Result<(), AllocError>
+        requires { child self.old.items at edge ≡ None }
         ensures others { OnOk result (IsBranched at edge self.old.items self.new.items) }
         ensures branch { OnOk result (child self.new.items at edge ≡ Some k) }
         ensures err { OnErr result (IsSame self.old.items self.new.items) }
     {
         match self.items.get_mut(at) {
             None => Err(AllocError),
-            Some(node) => {
-                node.branches.insert(edge, k)?;
-                Ok(())
-            }
+            Some(node) => node.contents.put_branch(alloc, edge, k),
         }
     }
 
@@ -116,7 +86,7 @@ impl Nodes {
         ensures gone { child self.new.items at edge ≡ None }
     {
         if let Some(node) = self.items.get_mut(at) {
-            let _k = node.branches.remove(&edge);
+            node.contents.take_branch(edge);
         }
     }
 
@@ -136,8 +106,8 @@ impl Nodes {
         ensures link { IfOk result (λ k. link_of self.new.items k ≡ Some at) }
         ensures err { OnErr result (IsSame self.old.items self.new.items) }
     {
-        let k = self.fresh(alloc, at)?;
-        match self.attach(at, edge, k) {
+        let k = self.fresh(at)?;
+        match self.attach(alloc, at, edge, k) {
             Ok(()) => Ok(k),
             Err(error) => {
                 self.release(k);
@@ -170,7 +140,7 @@ impl Nodes {
     {
         match self.items.get(at) {
             None => false,
-            Some(node) => node.is_empty(),
+            Some(node) => node.contents.is_empty(),
         }
     }
 
@@ -223,12 +193,12 @@ impl Nodes {
     }
 
     // The root is there from now on.
-    fn plant(&mut self, alloc: Global) -> Result<(), AllocError>
+    fn plant(&mut self) -> Result<(), AllocError>
         ensures alike { IsAlike self.old.items self.new.items }
         ensures used { IsTree self.old.items → AllUsed self.old.items → AllUsed self.new.items }
     {
         if !self.items.contains(0) {
-            let _root = self.fresh(alloc, usize::MAX)?;
+            let _root = self.fresh(usize::MAX)?;
         }
         Ok(())
     }
@@ -254,7 +224,7 @@ impl Nodes {
     }
 
     // One more number at a node; want of memory also where there is no such node.
-    fn note(&mut self, at: usize, number: u64) -> Result<(), AllocError>
+    fn note(&mut self, alloc: Global, at: usize, number: u64) -> Result<(), AllocError>
         ensures others { OnOk result (IsRenumbered at self.old.items self.new.items) }
         ensures kept { OnOk result ((n : ℕ) → Holds self.old.items at n → Holds self.new.items at n) }
         ensures noted { OnOk result (Holds self.new.items at number) }
@@ -263,10 +233,7 @@ impl Nodes {
     {
         match self.items.get_mut(at) {
             None => Err(AllocError),
-            Some(node) => {
-                node.numbers.push(number)?;
-                Ok(())
-            }
+            Some(node) => node.contents.put_number(alloc, number),
         }
     }
 
@@ -279,9 +246,9 @@ impl Nodes {
         ensures tree { IsTree self.old.items → IsTree self.new.items }
         ensures used { IsTree self.old.items → AllUsed self.old.items → AllUsed self.new.items }
     {
-        self.plant(alloc)?;
+        self.plant()?;
         let end = self.made(alloc, path)?;
-        match self.note(end, number) {
+        match self.note(alloc, end, number) {
             Ok(()) => Ok(()),
             Err(error) => {
                 self.prune_back(end, path);
@@ -300,7 +267,7 @@ impl Nodes {
         ensures used { AllUsed self.old.items → AllUsedBut at self.new.items }
     {
         if let Some(node) = self.items.get_mut(at) {
-            node.forget(number);
+            node.contents.take_number(number);
         }
     }
 
@@ -345,7 +312,7 @@ impl Nodes {
         match self.items.get(at) {
             None => Ok(()),
             Some(node) => {
-                numbers.extend_from_slice(&node.numbers)?;
+                numbers.extend_from_slice(node.contents.numbers())?;
                 Ok(())
             }
         }

@@ -53,10 +53,9 @@ impl Sieve {
         ensures found { IfOk result (λ ns. LeavesOutNone self.now sought.now
             (tree_of t.now) ns.items) }
     {
-        let walk = self
+        let mut numbers = self
             .nodes
-            .reached(alloc, sought.fits_below(), sought.fits_above(), t)?;
-        let mut numbers = self.nodes.numbers_at(alloc, &walk)?;
+            .fitting(alloc, sought.fits_below(), sought.fits_above(), t)?;
         put_in_order(&mut numbers);
         Ok(numbers)
     }

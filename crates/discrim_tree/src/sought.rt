@@ -52,6 +52,12 @@ impl Sought {
                 if !may_meet(s, t) {
                     return Ok(false);
                 }
+                if is_instance(alloc, s, t) {
+                    return Ok(true);
+                }
+                if is_instance(alloc, t, s) {
+                    return Ok(true);
+                }
                 can_unify(alloc, s, t)
             }
         }

@@ -2,7 +2,7 @@
 ghost use Rattle.std.specs.Prelude.{ℕ, ◌≡◌, ◌+◌, ◌<◌, ◌≤◌, IfOk, IsTrue, OnOk, length};
 ghost use Rattle.fol_core.specs.TermView.{tree_of};
 ghost use Rattle.discrim_tree.specs.declared.edge.Edge.TheVariants.{Any};
-ghost use Rattle.discrim_tree.specs.Walks.{GoesOn, Follows, Enters, StartsAt, SkipsOne, SkipsAll, SkipsEach, Passes, Covers, Came, CameByAny, IsPast, IsBeyond, IsSkipped, StartOnly, SkippedEach, Comes, AllFit, IsFrom, arity};
+ghost use Rattle.discrim_tree.specs.Walks.{GoesOn, Follows, Enters, StartsAt, SkipsOne, SkipsAll, SkipsEach, Passes, Came, CameByAny, IsPast, IsBeyond, IsSkipped, StartOnly, SkippedEach, Comes, AreFitting, IsFrom, arity};
 
 use crate::edge::{Edge, step_of};
 use crate::nodes::Nodes;
@@ -58,6 +58,7 @@ fn starts(
 
 impl Nodes {
     // Goes by a step from the nodes between two places.
+    #[inline(always)]
     fn follow(
         &self,
         walk: &mut Vec<usize>,
@@ -115,7 +116,8 @@ impl Nodes {
         if !self.items.contains(at) {
             return Ok(());
         }
-        for (edge, k) in self.items[at].branches.iter() {
+        let branches = self.items[at].contents.branches();
+        for (edge, k) in branches {
             let count = left(count, *edge)?;
             waiting.push(Skipping { node: *k, count })?;
         }
@@ -161,6 +163,7 @@ impl Nodes {
     }
 
     // Goes to the nodes behind one term from those between two places.
+    #[inline(never)]
     fn skip_each(&self, walk: &mut Vec<usize>, low: usize, high: usize) -> Result<(), AllocError>
         requires { high ≤ length walk.old.items }
         ensures goes_on { OnOk result (GoesOn walk.old.items walk.new.items) }
@@ -219,20 +222,20 @@ impl Nodes {
         }
     }
 
-    /// The nodes to which the paths of the terms lead that fit a term.
-    pub fn reached(
+    /// The numbers at the ends of the paths of the terms that fit a term.
+    pub fn fitting(
         &self,
         alloc: Global,
         below: bool,
         above: bool,
         t: &Term,
-    ) -> Result<Vec<usize>, AllocError>
-        ensures all { IfOk result (λ walk. Covers self.now.items below above (tree_of t.now) walk.items) }
-        ensures fit { IfOk result (λ walk. AllFit self.now.items below above (tree_of t.now) walk.items) }
+    ) -> Result<Vec<u64>, AllocError>
+        ensures { IfOk result (λ numbers. AreFitting self.now.items below above (tree_of t.now) numbers.items) }
     {
         let mut walk = Vec::with_capacity(alloc, ROOM)?;
         walk.push(0)?;
         let next = self.pass(&mut walk, below, above, 0, t)?;
-        Ok(walk.split_off(next)?)
+        let numbers = self.numbers_at(alloc, &walk[next..])?;
+        Ok(numbers)
     }
 }

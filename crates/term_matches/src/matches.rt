@@ -103,6 +103,7 @@ impl<'a> Matches<'a> {
     }
 
     // A variable with a term.
+    #[inline(always)]
     fn bind(&mut self, x: u64, term: &'a Term) -> Tried
         ensures tried { IsTried result
             (bound_to (bound_term self.old.bindings x) x (tree_of term.now) self.old.bindings)
@@ -125,6 +126,7 @@ impl<'a> Matches<'a> {
 
     // Whether the bindings, with more of them, make of the first term the second one, as far as there is room. Some may have
     // been added where nothing does.
+    #[cycle(onto)]
     #[tactic(auto, using(term_unifiers::proofs::MatchSteps::match_step, term_unifiers::proofs::MatchSteps::match_fails, term_unifiers::proofs::MatchSteps::match_long, term_unifiers::proofs::MatchSteps::match_short, term_unifiers::proofs::MatchSteps::match_end, crate::proofs::Matching::front_more))]
     fn try_onto(&mut self, general: &Term, special: &'a Term) -> Tried
         ensures tried { IsTried result
@@ -151,7 +153,7 @@ impl<'a> Matches<'a> {
                     if i >= rs.items.len() {
                         return Tried::Missed;
                     }
-                    match self.try_onto(l, &rs.items[i]) {
+                    match self.try_part(l, &rs.items[i]) {
                         Tried::Found => {}
                         Tried::Missed => return Tried::Missed,
                         Tried::Full => return Tried::Full,
@@ -163,6 +165,25 @@ impl<'a> Matches<'a> {
                 Tried::Found
             }
         }
+    }
+
+    // The same of an argument: a variable takes no further call.
+    #[cycle(onto)]
+    #[inline(always)]
+    fn try_part(&mut self, general: &Term, special: &'a Term) -> Tried
+        ensures tried { IsTried result
+            (matched (tree_of general.now) (tree_of special.now) self.old.bindings)
+            self.old.bindings self.new.bindings }
+        ensures few { length self.new.bindings
+            ≤ length self.old.bindings + occurrences (tree_of general.now) }
+        ensures full { result ≡ Full
+            → self.old.room < length self.old.bindings + occurrences (tree_of general.now) }
+        ensures room { self.new.room ≡ self.old.room }
+    {
+        if let Term::Var(x) = general {
+            return self.bind(*x, special);
+        }
+        self.try_onto(general, special)
     }
 
     /// Whether the bindings, with more of them, make of the first term the second one. Some may have been added where nothing
