@@ -9,6 +9,7 @@ mod FollowSteps
 mod InferSteps
 mod JudgeSteps
 mod Leaving
+mod LendSteps
 mod PlaceSteps
 mod PutSteps
 mod RowAtoms

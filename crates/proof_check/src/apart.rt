@@ -8,8 +8,8 @@ ghost use Rattle.substitutions.specs.Apart.{interleaved, apart_of};
 use fol_core::{Clause, Literal, Term, Terms};
 use std::alloc::{AllocError, Global};
 
-// The new number of a variable, or want of memory where it is no number of the machine.
-fn number_apart(x: u64, count: u64, parent: u64) -> Result<u64, AllocError>
+/// The new number of a variable, or want of memory where it is no number of the machine.
+pub fn number_apart(x: u64, count: u64, parent: u64) -> Result<u64, AllocError>
     ensures { IfOk result (λ n. n ≡ x * count + parent) }
 {
     match x.checked_mul(count) {
@@ -21,8 +21,8 @@ fn number_apart(x: u64, count: u64, parent: u64) -> Result<u64, AllocError>
     }
 }
 
-// The term of a parent with its variables renamed.
-fn term_apart(alloc: Global, term: &Term, count: u64, parent: u64) -> Result<Term, AllocError>
+/// The term of a parent with its variables renamed.
+pub fn term_apart(alloc: Global, term: &Term, count: u64, parent: u64) -> Result<Term, AllocError>
     ensures { IfOk result (λ t. tree_of t ≡ substitute (interleaved count parent)
         (tree_of term.now)) }
 {

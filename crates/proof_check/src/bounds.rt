@@ -71,6 +71,20 @@ fn is_as_deep(clause: &Clause, large: &LargeClause) -> bool
     is_clause_deeper(clause, depth - 1)
 }
 
+/// Whether two clauses may be the same, but for the numbers of variables, by how large they are: two that are may.
+#[tactic(auto, using(crate::proofs::BoundSteps::same_sizes))]
+pub fn may_be_same(own: &Clause, other: &Clause) -> bool
+    ensures { renumbered own.now ≡ renumbered other.now → IsTrue result }
+{
+    let Some(left) = left_behind_clause(other, u64::MAX) else {
+        return true;
+    };
+    match left_behind_clause(own, u64::MAX - left) {
+        Some(rest) => rest == 0,
+        None => false,
+    }
+}
+
 /// Whether a content may be a conclusion that isn't built, by how large it is: each that is one may.
 #[tactic(auto, using(crate::proofs::BoundSteps::same_size))]
 pub fn may_be(content: &Content, large: &LargeClause) -> bool

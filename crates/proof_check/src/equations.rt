@@ -141,6 +141,17 @@ pub fn is_no_variable(atom: &Term, path: &[u64]) -> bool
     }
 }
 
+/// The term below the atom; where there is none, the term for nothing.
+pub fn term_below<'a>(atom: &'a Term, path: &[u64], nothing: &'a Term) -> &'a Term
+    requires { tree_of nothing.now ≡ var 0 }
+    ensures { tree_of result.now ≡ term_below (tree_of atom.now) path.now }
+{
+    match below(atom, path) {
+        None => nothing,
+        Some(term) => term,
+    }
+}
+
 /// A copy of the term below the atom.
 pub fn copy_below(alloc: Global, atom: &Term, path: &[u64]) -> Result<Term, AllocError>
     ensures { IfOk result (λ t. tree_of t ≡ term_below (tree_of atom.now) path.now) }

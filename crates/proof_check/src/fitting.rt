@@ -45,7 +45,8 @@ fn xx_fits(parents: &[Clause], a: u64) -> bool
     is_equation(atom_at(&parents[0], a, &nothing))
 }
 
-fn equation_into(para: &Paramodulation, from: &Clause, into: &Clause) -> bool
+/// Whether an equation of the first clause may be put into the second one.
+pub fn equation_into(para: &Paramodulation, from: &Clause, into: &Clause) -> bool
     ensures { result ≡ para_fits para.now.equation para.now.side para.now.literal
         para.now.path.items from.now into.now }
 {

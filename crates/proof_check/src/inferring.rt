@@ -10,7 +10,7 @@ ghost use Rattle.proof_check.specs.Judged.{inference_by, parents_by};
 ghost use Rattle.proof_check.specs.Found.{AfterAs, InferredAs};
 ghost use Rattle.proof_check.specs.Reached.{AreRising};
 
-use crate::bounds::{built, is_beyond, may_be};
+use crate::bounds::{built, is_beyond, may_be, may_be_same};
 use crate::earlier::{are_there, copied_clauses};
 use crate::following::{Followed, follow};
 use crate::judging::{Judged, judge};
@@ -27,6 +27,10 @@ pub fn is_clause(alloc: Global, content: &Content, clause: &Clause) -> Result<bo
     match content {
         Content::Formula(_, _) => Ok(false),
         Content::Clause(own) => {
+            // Numbering takes time, and most clauses that differ differ in size.
+            if !may_be_same(own, clause) {
+                return Ok(false);
+            }
             let own = renumber(alloc, own)?;
             let other = renumber(alloc, clause)?;
             Ok(same_clause(&own, &other))

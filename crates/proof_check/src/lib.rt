@@ -13,14 +13,18 @@ mod following;
 mod inferring;
 mod judging;
 mod laws;
+mod lending;
 mod line;
 mod places;
 mod putting;
+mod replacing;
 mod rewriting;
 mod sameness;
 mod stating;
+mod under;
 
 pub use checking::check;
 pub use error::CheckError;
 pub use judging::{Judged, judge};
 pub use laws::no_countermodel;
+pub use lending::judge_two;

@@ -10,7 +10,7 @@ ghost use Rattle.resolution.specs.Tries.{resolvents_from, resolvents_tried};
 ghost use Rattle.resolution.specs.View.{all_conclusions};
 
 use crate::conclusion::Conclusion;
-use crate::inferring::infer;
+use crate::inferring::infer_of_two;
 use crate::meeting::may_clash;
 use crate::opposing::opposing;
 use clause_index::HeldSet;
@@ -18,16 +18,6 @@ use derivation::{First, Satellite};
 use fol_core::Clause;
 use held_clauses::Held;
 use std::alloc::{AllocError, Global};
-
-/// Copies of two clauses.
-pub fn two_clauses(alloc: Global, c: &Clause, d: &Clause) -> Result<Vec<Clause>, AllocError>
-    ensures { IfOk result (λ cs. cs.items ≡ c.now ∷ d.now ∷ []) }
-{
-    let mut clauses = Vec::new(alloc);
-    clauses.push(c.copy(alloc)?)?;
-    clauses.push(d.copy(alloc)?)?;
-    Ok(clauses)
-}
 
 /// Adds what the literals of two clauses make by resolution, if anything.
 pub fn add_resolvent(
@@ -45,16 +35,16 @@ pub fn add_resolvent(
     if !may_clash(given.clause(), i, other.clause(), j) {
         return Ok(());
     }
-    let parents = two_clauses(alloc, given.clause(), other.clause())?;
     let satellite = Satellite {
         place: i,
         clause: other.number(),
         literal: j,
     };
-    infer(
+    infer_of_two(
         alloc,
         First::Resolve(given.number(), satellite),
-        parents.as_slice(),
+        given.clause(),
+        other.clause(),
         made,
     )
 }

@@ -12,8 +12,8 @@ mod nuclei;
 mod opposing;
 mod partners;
 
-pub use binary::{add_resolvent, add_resolvents, two_clauses};
+pub use binary::{add_resolvent, add_resolvents};
 pub use conclusion::{Concluded, Conclusion};
 pub use factoring::add_factors;
-pub use inferring::{conclude, infer};
+pub use inferring::{conclude, infer, infer_of_two};
 pub use nuclei::{add_hyperresolvents, add_unit_resolvents};

@@ -24,8 +24,8 @@ returns c =
     let s = site_of c.args.site.now in
     let f = s.from.clause in
     let d = s.into.clause in
-    let parents : c.as_slice.result.now ≡ f ∷ d ∷ [] = c.as_slice.ensures.value ∙ c.in_ok-parents.ensures ∙ ap₂ (λ (x : ClauseTree) (y : ClauseTree). x ∷ y ∷ []) c.clause.ensures c.clause-2.ensures in
-    c.in_ok-infer.ensures
+    let parents : c.clause.result.now ∷ c.clause-2.result.now ∷ [] ≡ f ∷ d ∷ [] = ap₂ (λ (x : ClauseTree) (y : ClauseTree). x ∷ y ∷ []) c.clause.ensures c.clause-2.ensures in
+    c.in_ok-add_step.ensures
     ∙ ap (λ ns. all_conclusions c.args.made.now.items ++ ns)
     (ap (λ (cs : List ClauseTree). inferred (by_para c.number.result s.equation s.side c.number-2.result s.literal c.in_ok-path.path.items) cs) parents
     ∙ ap (λ (p : List ℕ). inferred (by_para c.number.result s.equation s.side c.number-2.result s.literal p) (f ∷ d ∷ [])) c.in_ok-path.ensures.items

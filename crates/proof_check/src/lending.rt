@@ -1,0 +1,182 @@
+// What is found of a step with two parents that are lent.
+ghost use Rattle.std.specs.Prelude.{◌≡◌, ◌∷◌, [], IsTrue, IfOk, IfSome};
+ghost use Rattle.derivation.specs.View.{first_word_of};
+ghost use Rattle.derivation.specs.Words.{para_fits, para_rule};
+ghost use Rattle.fol_core.specs.TermView.{tree_of};
+ghost use Rattle.fol_core.specs.Tree.{trees_of};
+ghost use Rattle.proof_check.specs.Judged.{rule_by, JudgedAs};
+ghost use Rattle.proof_check.specs.Lent.{renamed_one, side_apart, place_apart};
+ghost use Rattle.substitutions.specs.Bindings.{by_bindings};
+ghost use Rattle.unifiers.specs.Unifier.{IsMostGeneral};
+
+use crate::apart::term_apart;
+use crate::equations::{side_of, term_below};
+use crate::fitting::equation_into;
+use crate::judging::{Judged, judge};
+use crate::places::atom_at;
+use crate::replacing::paramodulant;
+use crate::under::size_apart;
+use clause_limits::{MOST_SYMBOLS, SmallClause, is_too_large};
+use derivation::{First, Paramodulation};
+use fol_core::{Clause, Term, Terms};
+use std::alloc::{AllocError, Global};
+use term_classes::{Equations, Solution};
+
+// Copies of two clauses.
+fn two_clauses(alloc: Global, c: &Clause, d: &Clause) -> Result<Vec<Clause>, AllocError>
+    ensures { IfOk result (λ cs. cs.items ≡ c.now ∷ d.now ∷ []) }
+{
+    let mut clauses = Vec::with_capacity(alloc, 2)?;
+    clauses.push(c.copy(alloc)?)?;
+    clauses.push(d.copy(alloc)?)?;
+    Ok(clauses)
+}
+
+// How many symbols and variables a clause has under a unifier: a hint of whether to build what is made of it.
+fn size_under(unifier: &Solution, clause: &Clause, parent: u64) -> Result<u64, AllocError> {
+    let mut size = 0u64;
+    for literal in &clause.literals {
+        size = size.saturating_add(size_apart(unifier, &literal.atom, parent)?);
+    }
+    Ok(size)
+}
+
+// A term of one of two parents, renamed, alone.
+#[tactic(auto, using(crate::proofs::LendSteps::one_tree))]
+fn one_apart(alloc: Global, term: &Term, parent: u64) -> Result<Terms, AllocError>
+    ensures { IfOk result (λ ts. trees_of ts ≡ renamed_one parent (tree_of term.now)) }
+{
+    let mut terms = Terms::with_capacity(alloc, 1)?;
+    terms.push(term_apart(alloc, term, 2, parent)?)?;
+    Ok(terms)
+}
+
+// The conclusion under a most general unifier, unless it may be too large.
+#[tactic(auto, using(crate::proofs::LendSteps::made_of_two))]
+fn conclude_by(
+    alloc: Global,
+    para: &Paramodulation,
+    from: &Clause,
+    into: &Clause,
+    unifier: &Solution,
+) -> Result<Option<Judged>, AllocError>
+    requires fits { IsTrue (para_fits para.now.equation para.now.side para.now.literal
+        para.now.path.items from.now into.now) }
+    requires general { IsMostGeneral (by_bindings unifier.now)
+        (side_apart para.now.equation para.now.side from.now)
+        (place_apart para.now.literal para.now.path.items into.now) }
+    ensures { IfOk result (λ o. IfSome o (JudgedAs (para_rule para.now.equation para.now.side
+        para.now.literal para.now.path.items) (from.now ∷ into.now ∷ []))) }
+{
+    let size = size_under(unifier, from, 0)?.saturating_add(size_under(unifier, into, 1)?);
+    if size > MOST_SYMBOLS {
+        return Ok(None);
+    }
+    let clause = paramodulant(alloc, unifier, para, from, into)?;
+    if is_too_large(&clause) {
+        return Ok(None);
+    }
+    let small = SmallClause::numbered(alloc, clause)?;
+    Ok(Some(Judged::Numbered(small)))
+}
+
+// What it comes to, by terms that have to be equal.
+#[tactic(auto, using(crate::proofs::LendSteps::differ_both, crate::proofs::LendSteps::general_by))]
+fn conclude(
+    alloc: Global,
+    para: &Paramodulation,
+    from: &Clause,
+    into: &Clause,
+    lefts: &Terms,
+    rights: &Terms,
+) -> Result<Option<Judged>, AllocError>
+    requires fits { IsTrue (para_fits para.now.equation para.now.side para.now.literal
+        para.now.path.items from.now into.now) }
+    requires lefts { trees_of lefts.now ≡ side_apart para.now.equation para.now.side from.now }
+    requires rights { trees_of rights.now
+        ≡ place_apart para.now.literal para.now.path.items into.now }
+    ensures { IfOk result (λ o. IfSome o (JudgedAs (para_rule para.now.equation para.now.side
+        para.now.literal para.now.path.items) (from.now ∷ into.now ∷ []))) }
+{
+    let equations = Equations::new(alloc, lefts, rights)?;
+    match equations.unify() {
+        None => Ok(Some(Judged::Apart)),
+        Some(unifier) => conclude_by(alloc, para, from, into, &unifier),
+    }
+}
+
+// The side of the equation, renamed, alone.
+fn side_alone(alloc: Global, para: &Paramodulation, from: &Clause) -> Result<Terms, AllocError>
+    ensures { IfOk result (λ ts. trees_of ts
+        ≡ side_apart para.now.equation para.now.side from.now) }
+{
+    let nothing = Term::Var(0);
+    let equation = atom_at(from, para.equation, &nothing);
+    let side = side_of(para.side, equation, &nothing);
+    let alone = one_apart(alloc, side, 0)?;
+    Ok(alone)
+}
+
+// The term that it is put in for, so.
+fn place_alone(alloc: Global, para: &Paramodulation, into: &Clause) -> Result<Terms, AllocError>
+    ensures { IfOk result (λ ts. trees_of ts
+        ≡ place_apart para.now.literal para.now.path.items into.now) }
+{
+    let nothing = Term::Var(0);
+    let atom = atom_at(into, para.literal, &nothing);
+    let place = term_below(atom, para.path.as_slice(), &nothing);
+    let alone = one_apart(alloc, place, 1)?;
+    Ok(alone)
+}
+
+// What paramodulation comes to, unless its conclusion may be too large.
+fn judge_paramodulation(
+    alloc: Global,
+    para: &Paramodulation,
+    from: &Clause,
+    into: &Clause,
+) -> Result<Option<Judged>, AllocError>
+    ensures { IfOk result (λ o. IfSome o (JudgedAs (para_rule para.now.equation para.now.side
+        para.now.literal para.now.path.items) (from.now ∷ into.now ∷ []))) }
+{
+    if !equation_into(para, from, into) {
+        return Ok(Some(Judged::Unfit));
+    }
+    let lefts = side_alone(alloc, para, from)?;
+    let rights = place_alone(alloc, para, into)?;
+    conclude(alloc, para, from, into, &lefts, &rights)
+}
+
+// What the rule of a first word comes to on two parents that are lent, if that is told.
+fn judge_lent(
+    alloc: Global,
+    first: &First,
+    c: &Clause,
+    d: &Clause,
+) -> Result<Option<Judged>, AllocError>
+    ensures { IfOk result (λ o. IfSome o
+        (JudgedAs (rule_by (first_word_of first.now)) (c.now ∷ d.now ∷ []))) }
+{
+    match first {
+        First::Para(para) => judge_paramodulation(alloc, para, c, d),
+        _ => Ok(None),
+    }
+}
+
+// The same on copies of them.
+fn judge_copies(alloc: Global, first: &First, c: &Clause, d: &Clause) -> Result<Judged, AllocError>
+    ensures { IfOk result (JudgedAs (rule_by (first_word_of first.now)) (c.now ∷ d.now ∷ [])) }
+{
+    let parents = two_clauses(alloc, c, d)?;
+    judge(alloc, first, parents.as_slice())
+}
+
+/// What the rule of a first word comes to on two parents; where it is paramodulation they are mostly not copied.
+pub fn judge_two(alloc: Global, first: &First, c: &Clause, d: &Clause) -> Result<Judged, AllocError>
+    ensures { IfOk result (JudgedAs (rule_by (first_word_of first.now)) (c.now ∷ d.now ∷ [])) }
+{
+    match judge_lent(alloc, first, c, d)? {
+        Some(judged) => Ok(judged),
+        None => judge_copies(alloc, first, c, d),
+    }
+}

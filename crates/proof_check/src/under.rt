@@ -1,0 +1,52 @@
+// Terms of parents under a unifier of these renamed apart: variables are renamed as they are looked at.
+ghost use Rattle.std.specs.Prelude.{◌≡◌, IfOk};
+ghost use Rattle.fol_core.specs.Substitutions.{substitute};
+ghost use Rattle.fol_core.specs.TermView.{tree_of};
+ghost use Rattle.proof_check.specs.Lent.{own_by};
+ghost use Rattle.substitutions.specs.Bindings.{by_bindings};
+
+use crate::apart::number_apart;
+use fol_core::{Term, Terms};
+use std::alloc::{AllocError, Global};
+use term_classes::Solution;
+
+/// How many symbols and variables a term of one of two parents has: a hint of how large what is built of it gets.
+pub fn size_apart(unifier: &Solution, term: &Term, parent: u64) -> Result<u64, AllocError> {
+    match term {
+        Term::Var(x) => Ok(unifier.size(&Term::Var(number_apart(*x, 2, parent)?))),
+        Term::Elem(_) => Ok(1),
+        Term::App(_, terms) => {
+            let mut size = 1u64;
+            for term in &terms.items {
+                size = size.saturating_add(size_apart(unifier, term, parent)?);
+            }
+            Ok(size)
+        }
+    }
+}
+
+/// The term of one of two parents.
+pub fn plain_apart(
+    alloc: Global,
+    unifier: &Solution,
+    term: &Term,
+    parent: u64,
+) -> Result<Term, AllocError>
+    ensures { IfOk result (λ made. tree_of made
+        ≡ substitute (own_by (by_bindings unifier.now) parent) (tree_of term.now)) }
+{
+    match term {
+        Term::Var(x) => {
+            let own = Term::Var(number_apart(*x, 2, parent)?);
+            unifier.plain(alloc, &own)
+        }
+        Term::Elem(k) => Ok(Term::Elem(*k)),
+        Term::App(head, terms) => {
+            let mut made = Terms::with_capacity(alloc, terms.items.len())?;
+            for term in &terms.items {
+                made.push(plain_apart(alloc, unifier, term, parent)?)?;
+            }
+            Ok(Term::App(*head, made))
+        }
+    }
+}
