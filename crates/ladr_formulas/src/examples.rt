@@ -116,7 +116,7 @@ pub fn worked_counts()
     ensures arities { IsCounted [] (occurring for_tester [] three_arities)
         (symbol (codes "p") 3 Relation ∷ symbol (codes "f") 0 Function ∷
         symbol (codes "f") 1 Function ∷ symbol (codes "f") 2 Function ∷ []) true }
-    // 65,536 symbols are too many.
+    // A list of 65,536 symbols is too long; what is entered then is not said.
     ensures over { IsCounted (replicate 65536 (symbol (codes "f") 1 Function)) [] [] false }
     // p with 255 arguments, and with 256
     ensures most { is_wide (named (codes "p") (raws_of (replicate 255 (leaf (codes "a"))))) ≡ false }

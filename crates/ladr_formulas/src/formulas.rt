@@ -1,5 +1,5 @@
 // From terms as they are read to formulas.
-ghost use Rattle.std.specs.Prelude.{◌≡◌, [], ◌∷◌, ◌++◌, length, None, IfOk, OnOk};
+ghost use Rattle.std.specs.Prelude.{◌≡◌, ◌≤◌, [], ◌∷◌, ◌++◌, length, true, None, IfOk, OnOk};
 ghost use Rattle.fol_core.specs.declared.symbols.Kind.TheVariants.{Function};
 ghost use Rattle.fol_core.specs.Bound.{BindsOnce, HasSymbolsBelow};
 ghost use Rattle.fol_core.specs.Fol.{Fol};
@@ -177,8 +177,27 @@ fn taken_term(
     }
 }
 
+// So many arguments are few.
+const FEW: usize = 16;
+
+// Whether arguments are few, and names alone: then they take little room.
+fn are_few_names(args: &Raws) -> bool
+    ensures { result ≡ true → length args.now ≤ FEW }
+{
+    if args.len() > FEW {
+        return false;
+    }
+    for arg in &args.items {
+        match arg {
+            Raw::App(_, parts) if parts.len() == 0 => {}
+            _ => return false,
+        }
+    }
+    true
+}
+
 #[tactic(auto, using(crate::proofs::TermLemmas::kept_both))]
-// The terms that are read from arguments, which are given back bit by bit.
+// The terms that are read from arguments, which are given back bit by bit where they may take much room.
 fn taken_terms(
     alloc: Global,
     args: Raws,
@@ -190,6 +209,9 @@ fn taken_terms(
     ensures scope { OnOk result (reader.new.scope ≡ reader.old.scope) }
     ensures kept { KeepsNumbers reader.old.reading.symbols reader.new.reading.symbols }
 {
+    if are_few_names(&args) {
+        return terms(alloc, &args, style, reader);
+    }
     let mut terms = room(alloc, args.len())?;
     let mut waiting = Waiting::of(args);
     while let Some(arg) = waiting.next() {
@@ -200,7 +222,7 @@ fn taken_terms(
 
 #[tactic(auto, using(crate::proofs::TermLemmas::kept_both, crate::proofs::TermLemmas::arity_is_length))]
 // A relation with its arguments.
-#[inline(always)]
+#[inline(never)]
 fn relation(
     alloc: Global,
     name: &[u8],
@@ -222,6 +244,7 @@ fn relation(
 
 #[tactic(auto, using(crate::proofs::TermLemmas::kept_both))]
 // An equation.
+#[inline(never)]
 fn equation(
     alloc: Global,
     left: Raw,
@@ -242,7 +265,7 @@ fn equation(
 
 #[tactic(auto, using(crate::proofs::TermLemmas::kept_both))]
 // A formula without arguments; `args` has none.
-#[inline(always)]
+#[inline(never)]
 fn sentence(
     alloc: Global,
     name: &[u8],
@@ -270,7 +293,7 @@ fn sentence(
 }
 
 // An equation, its denial, or a relation of two terms.
-#[inline(always)]
+#[inline(never)]
 fn comparison(
     alloc: Global,
     name: &[u8],
@@ -308,7 +331,6 @@ fn quantified(word: Quantifier, number: u64, body: Sub) -> Shape
     }
 }
 
-#[tactic(auto, using(crate::proofs::TermLemmas::kept_both))]
 /// The formula that is read from a term, which is given back bit by bit.
 pub fn formula(
     alloc: Global,
@@ -322,9 +344,37 @@ pub fn formula(
     ensures kept { KeepsNumbers reader.old.reading.symbols reader.new.reading.symbols }
 {
     match raw {
+        Raw::App(name, args) => {
+            // Most formulas are atoms, for which what other ones need would be made ready in vain.
+            if args.len() == 1 && !is_denial(name.bytes()) {
+                relation(alloc, name.bytes(), args, style, reader)
+            } else {
+                any_formula(alloc, Raw::App(name, args), style, reader)
+            }
+        }
+        Raw::Quant(word, name, body) => {
+            any_formula(alloc, Raw::Quant(word, name, body), style, reader)
+        }
+    }
+}
+
+#[tactic(auto, using(crate::proofs::TermLemmas::kept_both))]
+// The same, of whatever kind it is.
+fn any_formula(
+    alloc: Global,
+    raw: Raw,
+    style: Style,
+    reader: &mut Reader,
+) -> Result<Shape, AllocError>
+    ensures read { IfOk result (λ shape. formula_in style reader.old.scope reader.old.reading
+        (raw_of raw) ≡ record { tree = fol_of shape; reading = reader.new.reading }) }
+    ensures scope { OnOk result (reader.new.scope ≡ reader.old.scope) }
+    ensures kept { KeepsNumbers reader.old.reading.symbols reader.new.reading.symbols }
+{
+    match raw {
         Raw::Quant(word, name, body) => {
             let number = reader.bind(alloc, name.bytes())?;
-            let shape = formula(alloc, Box::into_inner(body.raw), style, reader)?;
+            let shape = any_formula(alloc, Box::into_inner(body.raw), style, reader)?;
             reader.unbind();
             let body = Sub::new(alloc, shape)?;
             Ok(quantified(word, number, body))
@@ -333,7 +383,7 @@ pub fn formula(
             0 => sentence(alloc, name.bytes(), args, style, reader),
             1 => {
                 if is_denial(name.bytes()) {
-                    let shape = formula(alloc, one(args), style, reader)?;
+                    let shape = any_formula(alloc, one(args), style, reader)?;
                     let part = Sub::new(alloc, shape)?;
                     Ok(Shape::Not(part))
                 } else {
@@ -345,13 +395,13 @@ pub fn formula(
                     let (first, second) = two(args);
                     match connective {
                         Connective::ThenIf => {
-                            let premise = formula(alloc, second, style, reader)?;
-                            let conclusion = formula(alloc, first, style, reader)?;
+                            let premise = any_formula(alloc, second, style, reader)?;
+                            let conclusion = any_formula(alloc, first, style, reader)?;
                             joined(alloc, Connective::ThenIf, premise, conclusion)
                         }
                         other => {
-                            let first = formula(alloc, first, style, reader)?;
-                            let second = formula(alloc, second, style, reader)?;
+                            let first = any_formula(alloc, first, style, reader)?;
+                            let second = any_formula(alloc, second, style, reader)?;
                             joined(alloc, other, first, second)
                         }
                     }

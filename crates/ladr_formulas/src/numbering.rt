@@ -55,6 +55,7 @@ impl Variables {
     }
 
     /// The number of the free variable of this name.
+    #[inline(never)]
     pub fn free_number(&self, alloc: Global, name: &[u8]) -> Result<Option<u64>, AllocError>
         ensures { IfOk result (λ n. n ≡ free_number 0 self.now name.now) }
     {
@@ -75,6 +76,7 @@ impl Variables {
     }
 
     /// One more variable, which is free.
+    #[inline(never)]
     pub fn push_free(&mut self, alloc: Global, name: &[u8]) -> Result<(), AllocError>
         requires { free_number 0 self.old name.now ≡ None }
         ensures { OnOk result (self.new ≡ self.old
@@ -91,7 +93,7 @@ impl Variables {
     }
 
     /// The names by number.
-    #[inline(always)]
+    #[inline(never)]
     pub fn into_names(self, alloc: Global) -> Result<Names, AllocError>
         ensures { IfOk result (λ names. names ≡ names_of_variables self) }
     {

@@ -176,13 +176,16 @@ impl Reader {
         self.large
     }
 
-    /// The names of the variables, which are forgotten.
+    /// The names of the variables, which are forgotten. Most formulas of long inputs have none.
     #[inline(always)]
     pub fn take_names(&mut self, alloc: Global) -> Result<Names, AllocError>
         ensures names { IfOk result (λ names. names
             ≡ names_of_variables self.old.reading.variables) }
         ensures symbols { self.new.reading.symbols ≡ self.old.reading.symbols }
     {
+        if self.variables.len() == 0 {
+            return Ok(Names::new(alloc));
+        }
         let variables = mem::replace(&mut self.variables, Variables::new(alloc));
         variables.into_names(alloc)
     }

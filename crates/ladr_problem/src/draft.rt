@@ -63,6 +63,7 @@ impl Draft {
         Ok(())
     }
 
+    #[inline(never)]
     fn add_hint(
         &mut self,
         formula: Formula,

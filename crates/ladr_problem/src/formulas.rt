@@ -98,6 +98,7 @@ impl Draft {
     }
 
     // Why a formula is refused that has too large an arity: nothing is made of it, since it may be long.
+    #[inline(never)]
     fn refusal_of_large(&mut self, alloc: Global, program: Mode, formula: &Raw) -> Refusal
         ensures { IsNo (if nat_lt MOST_SYMBOLS (length (formula_reading
             (style_in program (sofar_of self.old)) (sofar_of self.old).symbols

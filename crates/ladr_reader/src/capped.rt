@@ -106,10 +106,10 @@ impl Arguments {
         }
     }
 
-    // One more tree of so many levels, at the end.
+    /// One more tree of so many levels, at the end.
     #[tactic(auto, using(crate::proofs::Levels::depth_of_append))]
     #[inline(always)]
-    fn push_tree(&mut self, tree: Raw, levels: u16) -> Result<(), AllocError>
+    pub fn push_tree(&mut self, tree: Raw, levels: u16) -> Result<(), AllocError>
         requires { depth (raw_of tree) ≡ levels }
         ensures { IfOk result (λ _. self.new ≡ with_last_argument self.old (Some (raw_of tree))) }
     {

@@ -3,7 +3,7 @@ ghost use Rattle.std.specs.Prelude.{◌≡◌, [], true, Some, None, IfOk};
 ghost use Rattle.std.specs.Option.{option_map};
 ghost use Rattle.fol_core.specs.RawTree.{named, no_raws};
 ghost use Rattle.fol_core.specs.RawView.{raw_of, raw_list};
-ghost use Rattle.ladr_reader.specs.Capped.{disjunction_tree, is_bar, is_one_argument, single, whole_of, argument_in_front, finished, disjuncts_within, quantification, application_within};
+ghost use Rattle.ladr_reader.specs.Capped.{disjunction_tree, is_bar, is_one_argument, with_last_argument, single, whole_of, argument_in_front, finished, disjuncts_within, quantification, application_within};
 ghost use Rattle.ladr_reader.specs.DisjunctView.{in_order};
 
 use crate::capped::{Arguments, Build, Capped};
@@ -76,7 +76,7 @@ impl Disjuncts {
         if is_bar(name.bytes()) && arguments.is_one() {
             return self.put_behind(arguments);
         }
-        arguments.push(self.take_whole(build)?)?;
+        self.move_behind(build, &mut arguments)?;
         self.set_application(build, name, arguments);
         Ok(())
     }
@@ -114,6 +114,25 @@ impl Disjuncts {
                 })
             }
             _ => Ok(Capped::too_deep()),
+        }
+    }
+
+    /// The tree of the term, taken out of it and put behind arguments.
+    #[inline(always)]
+    pub fn move_behind(&mut self, build: Build, arguments: &mut Arguments) -> Result<(), AllocError>
+        ensures { IfOk result (λ _. arguments.new
+            ≡ with_last_argument arguments.old (whole_of build.most self.old)) }
+    {
+        let levels = self.levels;
+        match self.last.take() {
+            Some(last) if levels <= u32::from(build.most) => {
+                let tree = joined(build, &mut self.before, last)?;
+                arguments.push_tree(tree, levels as u16)
+            }
+            _ => {
+                arguments.trees = None;
+                Ok(())
+            }
         }
     }
 
@@ -156,14 +175,6 @@ impl Disjuncts {
             },
         }
         Ok(())
-    }
-
-    /// The tree of the term.
-    pub fn into_whole(self, build: Build) -> Result<Capped, AllocError>
-        ensures { IfOk result (λ tree. tree ≡ whole_of build.most self) }
-    {
-        let mut term = self;
-        term.take_whole(build)
     }
 
     /// The disjuncts, if they are there.

@@ -1,4 +1,8 @@
 // Where the reader stands.
+ghost use Rattle.std.specs.Prelude.{◌≡◌};
+ghost use Rattle.ladr_reader.specs.declared.place.Spot.TheVariants.{AtOperand};
+
+use crate::capped::Build;
 use crate::disjuncts::Disjuncts;
 use fol_core::{Name, Quantifier};
 
@@ -20,4 +24,18 @@ pub struct Reading {
     pub spot: Spot,
     pub name: Name,
     pub term: Disjuncts,
+}
+
+impl Reading {
+    /// Before an item.
+    #[inline(always)]
+    pub fn new(build: Build) -> Reading
+        ensures { result.spot ≡ AtOperand }
+    {
+        Reading {
+            spot: Spot::AtOperand,
+            name: Name::new(Vec::new(build.alloc)),
+            term: Disjuncts::none(build),
+        }
+    }
 }

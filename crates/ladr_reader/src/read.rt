@@ -9,16 +9,16 @@ ghost use Rattle.ladr_reader.specs.Faults.{IsTermFault, IsFaultWhere, IsTermRead
 ghost use Rattle.ladr_reader.specs.Nesting.{nesting, most_open};
 ghost use Rattle.ladr_reader.specs.Reads.{Item};
 ghost use Rattle.ladr_reader.specs.Table.{table_of};
+ghost use Rattle.ladr_reader.specs.declared.place.Spot.TheVariants.{AtOperand};
 
 use crate::capped::{Build, Capped};
-use crate::disjuncts::Disjuncts;
 use crate::fault::TermFault;
 use crate::nesting::Parentheses;
 use crate::place::{Reading, Spot};
 use crate::recognizing::recognize;
 use crate::stack::Stack;
 use crate::step::step;
-use fol_core::{Name, Raw};
+use fol_core::Raw;
 use ladr_lex::{MOST_LEVELS, Ops, Token};
 use std::alloc::Global;
 
@@ -37,8 +37,9 @@ pub fn read_term(alloc: Global, ops: &Ops, tokens: &[Token]) -> Result<Raw, Term
         alloc,
         most: MOST_LEVELS,
     };
-    let (term, most_open) = read_disjuncts(build, ops, tokens, false)?;
-    let tree = term.into_whole(build)?;
+    let mut reading = Reading::new(build);
+    let most_open = read_disjuncts(build, ops, tokens, false, &mut reading)?;
+    let tree = reading.term.take_whole(build)?;
     shallow(tree, most_open)
 }
 
@@ -51,8 +52,9 @@ pub fn read_tree(alloc: Global, ops: &Ops, tokens: &[Token], most: u16) -> Resul
         (IsFaultWhere (λ t. most < depth t) (table_of ops.now) (lexemes_of tokens.now)) }
 {
     let build = Build { alloc, most };
-    let (term, _) = read_disjuncts(build, ops, tokens, false)?;
-    let tree = term.into_whole(build)?;
+    let mut reading = Reading::new(build);
+    let _open = read_disjuncts(build, ops, tokens, false, &mut reading)?;
+    let tree = reading.term.take_whole(build)?;
     match tree.into_tree() {
         Some(raw) => Ok(raw),
         None => Err(TermFault::Deep),
@@ -76,65 +78,68 @@ pub fn read_literals(
         (lexemes_of tokens.now)) }
 {
     let build = Build { alloc, most };
-    let (term, _) = read_disjuncts(build, ops, tokens, true)?;
+    let mut reading = Reading::new(build);
+    let _open = read_disjuncts(build, ops, tokens, true, &mut reading)?;
+    let Reading { term, .. } = reading;
     match term.into_literals()? {
         Some(literals) => Ok(literals),
         None => Err(TermFault::Deep),
     }
 }
 
-// The term that the tokens are, by its disjuncts, and how many parentheses are open at once. Where `literals` says so, just the
-// disjuncts are to have few levels.
+// Reads the term that the tokens are, by its disjuncts, and answers how many parentheses are open at once. Where `literals`
+// says so, just the disjuncts are to have few levels. The term is left where it was built, since it takes time to move it.
 fn read_disjuncts(
     build: Build,
     ops: &Ops,
     tokens: &[Token],
     literals: bool,
-) -> Result<(Disjuncts, usize), TermFault>
-    ensures read { IfOk result (λ r.
-        IsTermRead build.most (table_of ops.now) (lexemes_of tokens.now) r.0 r.1) }
+    reading: &mut Reading,
+) -> Result<usize, TermFault>
+    requires { reading.old.spot ≡ AtOperand }
+    ensures read { IfOk result (λ most_open. IsTermRead build.most (table_of ops.now)
+        (lexemes_of tokens.now) reading.new.term most_open) }
     ensures fault { IfErr result (IsFaultWhere (IsTooDeep literals build.most) (table_of ops.now)
         (lexemes_of tokens.now)) }
 {
-    let found = read_shallow(build, ops, tokens, literals)?;
+    let found = read_shallow(build, ops, tokens, literals, reading)?;
     match found {
-        Some(read) => Ok(read),
+        Some(most_open) => Ok(most_open),
         None => {
+            *reading = Reading::new(build);
             recognize(build.alloc, ops, tokens)?;
             Err(TermFault::Deep)
         }
     }
 }
 
-// The same, but nothing as soon as so much waits that an item can only be too deep: what was built is freed then.
+// The same, but nothing as soon as so much waits that an item can only be too deep: what waits is freed then, and what was built is left to be freed.
 #[inline(always)]
 fn read_shallow(
     build: Build,
     ops: &Ops,
     tokens: &[Token],
     literals: bool,
-) -> Result<Option<(Disjuncts, usize)>, TermFault>
+    reading: &mut Reading,
+) -> Result<Option<usize>, TermFault>
+    requires { reading.old.spot ≡ AtOperand }
     ensures read { IfOk result (λ read. MatchOption read
         ((t : RawTree) → Item (table_of ops.now) (lexemes_of tokens.now) t
         → IsTooDeep literals build.most t)
-        (λ r. IsTermRead build.most (table_of ops.now) (lexemes_of tokens.now) r.0 r.1)) }
+        (λ most_open. IsTermRead build.most (table_of ops.now) (lexemes_of tokens.now)
+        reading.new.term most_open)) }
     ensures fault { IfErr result (IsFaultWhere (λ _. ⊥) (table_of ops.now)
         (lexemes_of tokens.now)) }
 {
     ops.rows_are_lawful();
     let mut stack = Stack::new(build.alloc);
-    let mut reading = Reading {
-        spot: Spot::AtOperand,
-        name: Name::new(Vec::new(build.alloc)),
-        term: Disjuncts::none(build),
-    };
     let mut parentheses = Parentheses::new();
     for (i, token) in tokens.iter().enumerate() {
         if stack.is_deeper_than(build.most, literals) {
             return Ok(None);
         }
         parentheses.note(token);
-        let goes = step(build, ops, &mut stack, &mut reading, token)?;
+        let goes = step(build, ops, &mut stack, reading, token)?;
         if !goes {
             return Err(TermFault::Bad(i));
         }
@@ -142,7 +147,7 @@ fn read_shallow(
     let Spot::AtStop(_) = reading.spot else {
         return Err(TermFault::Bad(tokens.len()));
     };
-    Ok(Some((reading.term, parentheses.most())))
+    Ok(Some(parentheses.most()))
 }
 
 // The tree, unless the item is nested too deep.

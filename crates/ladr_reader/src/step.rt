@@ -1,8 +1,7 @@
 // One token more, and all that it ends.
-ghost use Rattle.std.specs.Prelude.{◌≡◌, ℕ, ◌<◌, length, List, Option, IfOk, IfSome, MatchOption};
-ghost use Rattle.fol_core.specs.RawTree.{RawTree};
+ghost use Rattle.std.specs.Prelude.{◌≡◌, ◌<◌, length, true, OnOk, IfOk};
 ghost use Rattle.ladr_lex.specs.Lexeme.{lexeme_of};
-ghost use Rattle.ladr_reader.specs.Machine.{step, begin, bind, behind_symbol_name, behind_term, act, whole, behind_operator, behind_close, behind_comma, behind_stop};
+ghost use Rattle.ladr_reader.specs.Machine.{step, begin, bind, behind_symbol_name, behind_term, last_is_closed, act, whole, behind_operator, behind_close, behind_comma, behind_stop};
 ghost use Rattle.ladr_reader.specs.ReadingView.{standing_of, goes_on};
 ghost use Rattle.ladr_reader.specs.Table.{table_of, right};
 ghost use Rattle.ladr_reader.specs.declared.roles.TermStart.TheVariants.{Precedes};
@@ -73,6 +72,7 @@ fn begin(stack: &mut Stack, reading: &mut Reading, start: TermStart) -> Result<b
 }
 
 // A prefix operator before an operand.
+#[inline(never)]
 fn begin_prefix(
     stack: &mut Stack,
     reading: &mut Reading,
@@ -95,6 +95,7 @@ fn begin_prefix(
 }
 
 // Behind a quantifier's word.
+#[inline(never)]
 fn bind(
     stack: &mut Stack,
     reading: &mut Reading,
@@ -153,32 +154,36 @@ fn after(
     ensures { IfOk result (λ goes. goes_on goes reading.new stack.new
         ≡ behind_term build.most follow reading.old.term precedence stack.old) }
 {
-    while let Some((part, own)) = take_closed(build, stack, &follow) {
-        end(build, part, &mut reading.term)?;
-        precedence = own;
+    while stack.is_closed_by(&follow) {
+        precedence = end_innermost(build, stack, &mut reading.term, &follow, precedence)?;
     }
     act(build, stack, reading, follow, precedence)
 }
 
-// Takes off what is innermost, if the token ends its last argument.
-#[inline(always)]
-fn take_closed(build: Build, stack: &mut Stack, follow: &Follow) -> Option<(Part, u16)>
-    ensures shorter { IfSome result (λ _. length stack.new < length stack.old) }
-    ensures same { MatchOption result
-        ((t : Option (List RawTree)) (q : ℕ) → behind_term build.most follow.now t q stack.old
-        ≡ act build.most follow.now t q stack.new)
-        (λ r. (t : Option (List RawTree)) (q : ℕ) →
-        behind_term build.most follow.now t q stack.old
-        ≡ behind_term build.most follow.now (whole build.most r.0 t) r.1 stack.new) }
+// Ends what is innermost, whose last argument the token ends, and answers the precedence of the term that it becomes.
+#[inline(never)]
+fn end_innermost(
+    build: Build,
+    stack: &mut Stack,
+    term: &mut Disjuncts,
+    follow: &Follow,
+    precedence: u16,
+) -> Result<u16, AllocError>
+    requires { last_is_closed follow.now stack.old ≡ true }
+    ensures shorter { OnOk result (length stack.new < length stack.old) }
+    ensures same { IfOk result (λ own.
+        behind_term build.most follow.now term.old precedence stack.old
+        ≡ behind_term build.most follow.now term.new own stack.new) }
 {
-    if !stack.is_closed_by(follow) {
-        return None;
-    }
     match stack.pop() {
-        Some(Frame::Waiting(part, _, own)) => Some((part, own)),
-        Some(Frame::Group) => None,
-        Some(Frame::Applied(_, _)) => None,
-        None => None,
+        Some(Frame::Waiting(part, _, own)) => {
+            end(build, part, term)?;
+            Ok(own)
+        }
+        // Nothing else waits for a last argument.
+        Some(Frame::Group) => Ok(precedence),
+        Some(Frame::Applied(_, _)) => Ok(precedence),
+        None => Ok(precedence),
     }
 }
 
@@ -211,6 +216,7 @@ fn act(
 }
 
 // Behind a term and an operator.
+#[inline(never)]
 fn behind_operator(
     build: Build,
     stack: &mut Stack,
@@ -240,6 +246,7 @@ fn behind_operator(
 }
 
 // Behind a term and a closing parenthesis.
+#[inline(never)]
 fn behind_close(build: Build, stack: &mut Stack, reading: &mut Reading) -> Result<bool, AllocError>
     ensures { IfOk result (λ goes. goes_on goes reading.new stack.new
         ≡ behind_close build.most reading.old.term stack.old) }
@@ -260,13 +267,14 @@ fn behind_close(build: Build, stack: &mut Stack, reading: &mut Reading) -> Resul
 }
 
 // Behind a term and a comma.
+#[inline(never)]
 fn behind_comma(build: Build, stack: &mut Stack, reading: &mut Reading) -> Result<bool, AllocError>
     ensures { IfOk result (λ goes. goes_on goes reading.new stack.new
         ≡ behind_comma build.most reading.old.term stack.old) }
 {
     match stack.pop() {
         Some(Frame::Applied(name, mut arguments)) => {
-            arguments.push(reading.term.take_whole(build)?)?;
+            reading.term.move_behind(build, &mut arguments)?;
             stack.push(Frame::Applied(name, arguments))?;
             reading.spot = Spot::AtOperand;
             Ok(true)

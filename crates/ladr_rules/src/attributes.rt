@@ -53,6 +53,7 @@ pub struct Notes {
 
 impl Notes {
     // Of the attributes behind a formula's `#`.
+    #[inline(never)]
     fn of(raw: Raw) -> Notes
         ensures label { option_map raw_of result.label ≡ label_of (attributes_in (raw_of raw)) }
         ensures misused { result.misused ≡ has_unfit_weight (attributes_in (raw_of raw)) }

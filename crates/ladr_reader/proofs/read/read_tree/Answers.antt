@@ -11,21 +11,21 @@ use Rattle.ladr_reader.proofs.Levels.{whole_built, capped_some, capped_none}
 use Rattle.ladr_reader.proofs.Runs.{deep_as}
 use Rattle.ladr_reader.proofs.read.read_tree.Goals as goal
 
-pub returns-in_err-term-clause-fault : goal.returns-in_err-term-clause-fault
-returns-in_err-term-clause-fault c =
+pub returns-in_err-_open-clause-fault : goal.returns-in_err-_open-clause-fault
+returns-in_err-_open-clause-fault c =
     let p = err_from_is_err_and c.from_residual.result c.from_residual.ensures.1 in
-    rw (p.1, p.2) (deep_as (λ t d. d) _ _ _ c.in_err-term.ensures.fault)
+    rw (p.1, p.2) (deep_as (λ t d. d) _ _ _ c.in_err-_open.ensures.fault)
 
 pub returns-in-Some : goal.returns-in-Some
 returns-in-Some c =
-    let read = c.in_ok-term.ensures.read in
+    let read = c.in_ok-_open.ensures.read in
     let tree = c.in_ok-tree.ensures ∙ ap (whole_of c.args.most) read.term_is ∙ whole_built c.args.most read.tree in
     let some = capped_some c.args.most read.tree (raw_of c.in-Some.raw) (ap (option_map raw_of) (sym c.in-Some.is) ∙ c.into_tree.ensures ∙ tree) in
     record { read = subst (λ (t : RawTree). Item (table_of c.args.ops.now) (lexemes_of c.args.tokens.now) t) some.0 read.item; shallow = some.1; fault = tt }
 
-pub returns-in-None : goal.returns-in-None
-returns-in-None c =
-    let read = c.in_ok-term.ensures.read in
+pub returns : goal.returns
+returns c =
+    let read = c.in_ok-_open.ensures.read in
     let tree = c.in_ok-tree.ensures ∙ ap (whole_of c.args.most) read.term_is ∙ whole_built c.args.most read.tree in
     let deep = capped_none c.args.most read.tree (ap (option_map raw_of) (sym c.in-None.is) ∙ c.into_tree.ensures ∙ tree) in
     record { read = tt; shallow = tt; fault = (read.tree, read.item, deep) }

@@ -7,7 +7,7 @@ use Rattle.fol_core.specs.declared.raw.Raw.{Raw}
 use Rattle.ladr_formulas.specs.Formulas.{is_denial, connective_of, formula_in, relation_of, comparison}
 use Rattle.ladr_formulas.proofs.TermLemmas.{kept_both}
 use Rattle.ladr_formulas.proofs.FormulaLemmas.{if_ok_same, if_ok_made, on_ok_so, formula_two, formula_alone, formula_many, formula_compared, two_of}
-use Rattle.ladr_formulas.proofs.formulas.+formula.Goals as goal
+use Rattle.ladr_formulas.proofs.formulas.+any_formula.Goals as goal
 
 pub returns-in-1-clause-read : goal.returns-in-1-clause-read
 returns-in-1-clause-read t c =
