@@ -133,8 +133,12 @@ fn formula_seen(alloc: Global, ops: &Ops, tokens: &[Token]) -> Result<Option<Raw
     }
 }
 
-// The literals of a clause that the tokens are.
-fn clause_seen(alloc: Global, ops: &Ops, tokens: &[Token]) -> Result<Option<Vec<Raw>>, PartFault>
+/// The literals of a clause that the tokens are.
+pub fn clause_seen(
+    alloc: Global,
+    ops: &Ops,
+    tokens: &[Token],
+) -> Result<Option<Vec<Raw>>, PartFault>
     ensures read { IfOk result (λ o. (t : RawTree) × IsClauseItem (table_of ops.now)
         (lexemes_of tokens.now) t × AreLiteralsRead t o) }
     ensures fault { IfErr result (IsPartFault (IsNoClause (table_of ops.now)

@@ -10,7 +10,7 @@ ghost use Rattle.proof_words.specs.Faults.{AreFirstWords, IsBadWordToken};
 ghost use Rattle.proof_words.specs.Spelling.{line_words};
 ghost use Rattle.proof_words.specs.Written.{written_of, written_first, states_formula, suits};
 
-use crate::content::{Terms, content_end, read_content, terms_seen};
+use crate::content::{Terms, clause_seen, content_end, read_content, terms_seen};
 use crate::fault::PartFault;
 use crate::operators::LineOperators;
 use derivation::{First, Just};
@@ -76,12 +76,8 @@ fn words_behind(
     }
 }
 
-/// What stands behind a line's number.
-pub fn read_behind(
-    alloc: Global,
-    operators: &LineOperators,
-    tokens: &[Token],
-) -> Result<Behind, PartFault>
+// What stands behind a line's number, whether the content is a formula, a clause, or may be either.
+fn read_any(alloc: Global, operators: &LineOperators, tokens: &[Token]) -> Result<Behind, PartFault>
     ensures read { IfOk result (λ b. IsBehindRead (tables_of operators.now)
         (lexemes_of tokens.now) b) }
     ensures within { IfErr result (IsPartFault (λ k. k ≤ length tokens.now)) }
@@ -108,6 +104,33 @@ pub fn read_behind(
         }),
         Err(_) => Err(PartFault::Memory),
     }
+}
+
+/// What stands behind a line's number. Where the words are those of a clause and the content is one, it is read once, and whether
+/// it is a formula too isn't asked.
+pub fn read_behind(
+    alloc: Global,
+    operators: &LineOperators,
+    tokens: &[Token],
+) -> Result<Behind, PartFault>
+    ensures read { IfOk result (λ b. IsBehindRead (tables_of operators.now)
+        (lexemes_of tokens.now) b) }
+    ensures within { IfErr result (IsPartFault (λ k. k ≤ length tokens.now)) }
+    ensures len { IfOk result (λ b. b.len ≤ length tokens.now) }
+    ensures fault { IfErr result (IsPartFault (IsBadBehindNumber (tables_of operators.now)
+        (lexemes_of tokens.now))) }
+{
+    let end = content_end(tokens);
+    if let Ok((just, len)) = words_behind(alloc, ContentKind::Clause, &tokens[end..]) {
+        if let Ok(clause) = clause_seen(alloc, &operators.clauses, &tokens[..end]) {
+            return Ok(Behind {
+                terms: Terms::Clause(clause),
+                just,
+                len: end + len,
+            });
+        }
+    }
+    read_any(alloc, operators, tokens)
 }
 
 /// The number of a line, and what stands behind it.

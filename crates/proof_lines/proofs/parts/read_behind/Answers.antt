@@ -1,25 +1,26 @@
-use Rattle.std.proofs.Common.{◌-◌, length, subst, take, drop}
+use Rattle.std.proofs.Common.{◌≡◌, Bool, true, false, not, refl, subst, take}
 use Rattle.ladr_lex.specs.Lexeme.{lexemes_of}
 use Rattle.proof_lines.specs.ContentTokens.{tables_of}
-use Rattle.proof_lines.specs.Parsed.{AreTermsSeen, IsPartFault}
-use Rattle.proof_lines.proofs.PartLemmas.{rest_is, behind_read, bad_behind}
-use Rattle.proof_words.specs.Faults.{AreFirstWords, IsBadWordToken}
+use Rattle.proof_lines.specs.Parsed.{AreTermsSeen}
+use Rattle.proof_lines.specs.declared.content.Terms.TheVariants.{Clause}
+use Rattle.proof_lines.proofs.PartLemmas.{rest_is, behind_read}
+use Rattle.proof_words.specs.Faults.{AreFirstWords}
 use Rattle.proof_words.specs.Spelling.{line_words}
-use Rattle.proof_words.specs.Written.{written_of}
+use Rattle.proof_words.specs.Written.{written_of, written_first, states_formula}
+use Rattle.proof_words.specs.declared.names.ContentKind.TheVariants as kind
 use Rattle.proof_lines.proofs.parts.read_behind.Goals as goal
 
-pub returns-in-Ok-terms_seen-clause-read : goal.returns-in-Ok-terms_seen-clause-read
-returns-in-Ok-terms_seen-clause-read c =
-    let g = tables_of c.args.operators.now in
-    let item = lexemes_of (take c.content_end-end.result c.args.tokens.now) in
-    let seen = subst (λ b. AreTermsSeen g b item c.in-Ok-terms_seen.terms) c.states_formula-by_formula.ensures c.in-Ok-terms_seen.ensures.terms in
-    let words = subst (λ us. AreFirstWords (line_words c.kind.result) (lexemes_of us) (written_of c.in-Ok-words_behind.read.0) c.in-Ok-words_behind.read.1) (rest_is c.content_end-end.result c.args.tokens.now) c.in-Ok-words_behind.ensures.read in
-    behind_read g c.args.tokens.now c.content_end-end.result c.in-Ok-words_behind.read.1 c.kind.result c.in-Ok-terms_seen.terms c.in-Ok-words_behind.read.0 c.content_end-end.ensures.within seen words
+-- words of a clause state no formula
+denied : (b : Bool) → not b ≡ true → false ≡ b
+denied true e = absurd cc
+denied false e = refl
 
-pub returns-in-Err-Bad-clause-fault : goal.returns-in-Err-Bad-clause-fault
-returns-in-Err-Bad-clause-fault c =
-    let rest = take (length c.args.tokens.now - c.content_end-end.result) (drop c.content_end-end.result c.args.tokens.now) in
-    let told = subst (IsPartFault (IsBadWordToken (line_words c.kind.result) (lexemes_of rest))) c.in-Err-Bad.field-0-is c.in-Err-Bad.ensures.fault in
-    let bad = subst (λ us. IsBadWordToken (line_words c.kind.result) (lexemes_of us) c.in-Err-Bad.k) (rest_is c.content_end-end.result c.args.tokens.now) told in
-    rw c.in-Err-Bad.field-0-is (bad_behind (tables_of c.args.operators.now) c.args.tokens.now c.content_end-end.result c.in-Err-Bad.k c.in-Ok.content c.kind.result c.content_end-end.ensures.within c.kind.ensures
-    c.content_end-end.ensures.content c.content_end-end.ensures.behind c.in-Ok.ensures.read bad)
+pub returns-in-Ok-clause_seen-clause-read : goal.returns-in-Ok-clause_seen-clause-read
+returns-in-Ok-clause_seen-clause-read c =
+    let g = tables_of c.args.operators.now in
+    let end = c.content_end-end.result in
+    let terms = Clause c.in-Ok-clause_seen.clause in
+    let by_formula = states_formula (written_first c.in-Ok.just.first) in
+    let seen = subst (λ b. AreTermsSeen g b (lexemes_of (take end c.args.tokens.now)) terms) (denied by_formula c.in-Ok.ensures.suits) c.in-Ok-clause_seen.ensures.read in
+    let words = subst (λ us. AreFirstWords (line_words kind.Clause) (lexemes_of us) (written_of c.in-Ok.just) c.in-Ok.len) (rest_is end c.args.tokens.now) c.in-Ok.ensures.read in
+    behind_read g c.args.tokens.now end c.in-Ok.len kind.Clause terms c.in-Ok.just c.content_end-end.ensures.within seen words
