@@ -177,7 +177,7 @@ fn taken_term(
     }
 }
 
-// So many arguments are few.
+// Up to so many arguments are few.
 const FEW: usize = 16;
 
 // Whether arguments are few, and names alone: then they take little room.
@@ -345,7 +345,7 @@ pub fn formula(
 {
     match raw {
         Raw::App(name, args) => {
-            // Most formulas are atoms, for which what other ones need would be made ready in vain.
+            // Many formulas are atoms with one argument, for which what other ones need would be made ready in vain.
             if args.len() == 1 && !is_denial(name.bytes()) {
                 relation(alloc, name.bytes(), args, style, reader)
             } else {

@@ -56,7 +56,7 @@ pub enum DeclareError {
 pub struct Ops {
     // A name whose operator was taken away has none.
     rows: IndexMap<Vec<u8>, Option<Operator>>,
-    // Whether one of the names may begin as most symbols do; none at the start does, so that these need no look.
+    // Whether one of the names may begin as most symbols do. At the start none does, and then no such symbol is looked up.
     usual: bool,
 }
 

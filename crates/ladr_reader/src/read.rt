@@ -113,7 +113,8 @@ fn read_disjuncts(
     }
 }
 
-// The same, but nothing as soon as so much waits that an item can only be too deep: what waits is freed then, and what was built is left to be freed.
+// The same, but nothing as soon as so much waits that an item can only be too deep: what waits is freed then, and what was built is
+// left to be freed.
 #[inline(always)]
 fn read_shallow(
     build: Build,
