@@ -219,10 +219,6 @@ differ_both a n b path c d ss ts fits left right never =
 pub general_by : (s : Substitution) (ss ts us vs : Trees) → IsMostGeneral s ss ts → ss ≡ us → ts ≡ vs → IsMostGeneral s us vs
 general_by s ss ts us vs general left right = subst (λ xs. IsMostGeneral s xs vs) left (subst (λ ys. IsMostGeneral s ss ys) right general)
 
--- a tree alone
-pub one_tree : (ts start : List Tree) (t u : Tree) → start ≡ [] → t ≡ u → ts ≡ start ++ t ∷ [] → trees_of ts ≡ more u none
-one_tree ts start t u e f is = ap trees_of (is ∙ ap₂ (λ l v. l ++ v ∷ []) e f)
-
 -- a path that is at its end, and one that isn't there
 pub replaced_here : (s : Substitution) (t : Tree) (path : List ℕ) (new made : Tree) → path ≡ [] → made ≡ substitute (own_by s 0) new → made ≡ replaced_by s t path new
 replaced_here s t path new made e is = is ∙ ap (λ p. replaced (substitute (own_by s 1) t) p (substitute (own_by s 0) new)) (sym e)

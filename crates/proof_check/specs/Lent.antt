@@ -1,4 +1,4 @@
--- Two clauses that are renamed apart by a unifier as they are looked at.
+-- Two clauses under a unifier of these renamed apart, whose variables are renamed as they are looked at.
 use Rattle.fol_core.specs.Literals.{ClauseTree}
 use Rattle.fol_core.specs.Substitutions.{Substitution, substitute}
 use Rattle.fol_core.specs.Tree.{Tree, Trees, none, more}

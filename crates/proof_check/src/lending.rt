@@ -1,24 +1,24 @@
 // What is found of a step with two parents that are lent.
 ghost use Rattle.std.specs.Prelude.{◌≡◌, ◌∷◌, [], IsTrue, IfOk, IfSome};
+ghost use Rattle.derivation.specs.Equations.{term_below};
+ghost use Rattle.derivation.specs.Places.{atom_at};
 ghost use Rattle.derivation.specs.View.{first_word_of};
-ghost use Rattle.derivation.specs.Words.{para_fits, para_rule};
+ghost use Rattle.derivation.specs.Words.{para_fits, para_rule, side_of};
 ghost use Rattle.fol_core.specs.TermView.{tree_of};
-ghost use Rattle.fol_core.specs.Tree.{trees_of};
 ghost use Rattle.proof_check.specs.Judged.{rule_by, JudgedAs};
-ghost use Rattle.proof_check.specs.Lent.{renamed_one, side_apart, place_apart};
+ghost use Rattle.proof_check.specs.Lent.{side_apart, place_apart};
 ghost use Rattle.substitutions.specs.Bindings.{by_bindings};
 ghost use Rattle.unifiers.specs.Unifier.{IsMostGeneral};
 
-use crate::apart::term_apart;
 use crate::equations::{side_of, term_below};
 use crate::fitting::equation_into;
 use crate::judging::{Judged, judge};
 use crate::places::atom_at;
 use crate::replacing::paramodulant;
-use crate::under::size_apart;
-use clause_limits::{MOST_SYMBOLS, SmallClause, is_too_large};
+use crate::under::{depth_apart, size_apart};
+use clause_limits::{MOST_LEVELS, MOST_SYMBOLS, SmallClause, is_too_large, left_behind_clause};
 use derivation::{First, Paramodulation};
-use fol_core::{Clause, Term, Terms};
+use fol_core::{Clause, Term};
 use std::alloc::{AllocError, Global};
 use term_classes::{Equations, Solution};
 
@@ -41,14 +41,34 @@ fn size_under(unifier: &Solution, clause: &Clause, parent: u64) -> Result<u64, A
     Ok(size)
 }
 
-// A term of one of two parents, renamed, alone.
-#[tactic(auto, using(crate::proofs::LendSteps::one_tree))]
-fn one_apart(alloc: Global, term: &Term, parent: u64) -> Result<Terms, AllocError>
-    ensures { IfOk result (λ ts. trees_of ts ≡ renamed_one parent (tree_of term.now)) }
-{
-    let mut terms = Terms::with_capacity(alloc, 1)?;
-    terms.push(term_apart(alloc, term, 2, parent)?)?;
-    Ok(terms)
+// Whether a clause has more levels under a unifier than one of a search may have.
+fn is_deep_under(unifier: &Solution, clause: &Clause, parent: u64) -> Result<bool, AllocError> {
+    for literal in &clause.literals {
+        if depth_apart(unifier, &literal.atom, parent)? > MOST_LEVELS {
+            return Ok(true);
+        }
+    }
+    Ok(false)
+}
+
+// Whether two clauses have so few symbols and variables that what is made of them can't be too deep to be built: no part of
+// them stands twice on a way down it, so it has no more levels than they have symbols and variables.
+fn are_flat(c: &Clause, d: &Clause) -> bool {
+    match left_behind_clause(c, MOST_LEVELS) {
+        Some(left) => left_behind_clause(d, left).is_some(),
+        None => false,
+    }
+}
+
+// Whether what is made of two clauses under a unifier may have too many levels to be built by recursion.
+fn may_be_deep(unifier: &Solution, from: &Clause, into: &Clause) -> Result<bool, AllocError> {
+    if are_flat(from, into) {
+        return Ok(false);
+    }
+    if is_deep_under(unifier, from, 0)? {
+        return Ok(true);
+    }
+    is_deep_under(unifier, into, 1)
 }
 
 // The conclusion under a most general unifier, unless it may be too large.
@@ -68,6 +88,9 @@ fn conclude_by(
     ensures { IfOk result (λ o. IfSome o (JudgedAs (para_rule para.now.equation para.now.side
         para.now.literal para.now.path.items) (from.now ∷ into.now ∷ []))) }
 {
+    if may_be_deep(unifier, from, into)? {
+        return Ok(None);
+    }
     let size = size_under(unifier, from, 0)?.saturating_add(size_under(unifier, into, 1)?);
     if size > MOST_SYMBOLS {
         return Ok(None);
@@ -80,53 +103,29 @@ fn conclude_by(
     Ok(Some(Judged::Numbered(small)))
 }
 
-// What it comes to, by terms that have to be equal.
+// What it comes to, by the side of the equation and the term that it is put in for.
 #[tactic(auto, using(crate::proofs::LendSteps::differ_both, crate::proofs::LendSteps::general_by))]
 fn conclude(
     alloc: Global,
     para: &Paramodulation,
     from: &Clause,
     into: &Clause,
-    lefts: &Terms,
-    rights: &Terms,
+    side: &Term,
+    place: &Term,
 ) -> Result<Option<Judged>, AllocError>
     requires fits { IsTrue (para_fits para.now.equation para.now.side para.now.literal
         para.now.path.items from.now into.now) }
-    requires lefts { trees_of lefts.now ≡ side_apart para.now.equation para.now.side from.now }
-    requires rights { trees_of rights.now
-        ≡ place_apart para.now.literal para.now.path.items into.now }
+    requires side { tree_of side.now ≡ side_of para.now.side (atom_at from.now para.now.equation) }
+    requires place { tree_of place.now
+        ≡ term_below (atom_at into.now para.now.literal) para.now.path.items }
     ensures { IfOk result (λ o. IfSome o (JudgedAs (para_rule para.now.equation para.now.side
         para.now.literal para.now.path.items) (from.now ∷ into.now ∷ []))) }
 {
-    let equations = Equations::new(alloc, lefts, rights)?;
+    let equations = Equations::apart(alloc, side, place)?;
     match equations.unify() {
         None => Ok(Some(Judged::Apart)),
         Some(unifier) => conclude_by(alloc, para, from, into, &unifier),
     }
-}
-
-// The side of the equation, renamed, alone.
-fn side_alone(alloc: Global, para: &Paramodulation, from: &Clause) -> Result<Terms, AllocError>
-    ensures { IfOk result (λ ts. trees_of ts
-        ≡ side_apart para.now.equation para.now.side from.now) }
-{
-    let nothing = Term::Var(0);
-    let equation = atom_at(from, para.equation, &nothing);
-    let side = side_of(para.side, equation, &nothing);
-    let alone = one_apart(alloc, side, 0)?;
-    Ok(alone)
-}
-
-// The term that it is put in for, so.
-fn place_alone(alloc: Global, para: &Paramodulation, into: &Clause) -> Result<Terms, AllocError>
-    ensures { IfOk result (λ ts. trees_of ts
-        ≡ place_apart para.now.literal para.now.path.items into.now) }
-{
-    let nothing = Term::Var(0);
-    let atom = atom_at(into, para.literal, &nothing);
-    let place = term_below(atom, para.path.as_slice(), &nothing);
-    let alone = one_apart(alloc, place, 1)?;
-    Ok(alone)
 }
 
 // What paramodulation comes to, unless its conclusion may be too large.
@@ -142,9 +141,12 @@ fn judge_paramodulation(
     if !equation_into(para, from, into) {
         return Ok(Some(Judged::Unfit));
     }
-    let lefts = side_alone(alloc, para, from)?;
-    let rights = place_alone(alloc, para, into)?;
-    conclude(alloc, para, from, into, &lefts, &rights)
+    let nothing = Term::Var(0);
+    let equation = atom_at(from, para.equation, &nothing);
+    let side = side_of(para.side, equation, &nothing);
+    let atom = atom_at(into, para.literal, &nothing);
+    let place = term_below(atom, para.path.as_slice(), &nothing);
+    conclude(alloc, para, from, into, side, place)
 }
 
 // What the rule of a first word comes to on two parents that are lent, if that is told.

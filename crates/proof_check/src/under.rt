@@ -25,6 +25,21 @@ pub fn size_apart(unifier: &Solution, term: &Term, parent: u64) -> Result<u64, A
     }
 }
 
+/// How many levels a term of one of two parents has: a hint of how deep what is built of it gets.
+pub fn depth_apart(unifier: &Solution, term: &Term, parent: u64) -> Result<u64, AllocError> {
+    match term {
+        Term::Var(x) => Ok(unifier.depth(&Term::Var(number_apart(*x, 2, parent)?))),
+        Term::Elem(_) => Ok(1),
+        Term::App(_, terms) => {
+            let mut depth = 0u64;
+            for term in &terms.items {
+                depth = depth.max(depth_apart(unifier, term, parent)?);
+            }
+            Ok(depth.saturating_add(1))
+        }
+    }
+}
+
 /// The term of one of two parents.
 pub fn plain_apart(
     alloc: Global,

@@ -12,6 +12,7 @@ use Rattle.unifiers.specs.Unifier.{IsMostGeneral}
 use Rattle.term_classes.specs.Arenas.{node_of}
 use Rattle.term_classes.specs.Classes.{In, class_terms, found_terms, node_terms, term_or_variable}
 use Rattle.term_classes.specs.Merging.{nth}
+use Rattle.term_classes.specs.Named.{named_nodes}
 use Rattle.term_classes.specs.Solutions.{bindings_of, classes_in, IsFound, HasClass}
 use Rattle.term_classes.specs.declared.found.Found.{Found}
 use Rattle.term_classes.proofs.Entering.{at_other}
@@ -37,7 +38,7 @@ bound terms x (e ∷ es) = elim (cases_eq x e.0) [
 
 -- the bindings are what is found
 pub bindings_found : (f : Found) (x : ℕ) → by_bindings (bindings_of f) x ≡ found_terms f.arena (classes_in f) f.order.items x
-bindings_found f x = bound (node_terms (classes_in f) f.order.items) x f.arena.variables.entries
+bindings_found f x = bound (node_terms (classes_in f) f.order.items) x (named_nodes f.arena.variables)
 
 -- a variable that has a node has the term of its class
 pub class_bound : (f : Found) (x n root : ℕ) → IsFound f → node_of f.arena x ≡ Some n → root ≡ nth f.work.links.items n → HasClass f x root

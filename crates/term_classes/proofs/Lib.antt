@@ -4,6 +4,7 @@ pub mod Compares
 pub mod Entering
 pub mod Growing
 pub mod Links
+pub mod Looking
 pub mod Measured
 pub mod Merges
 pub mod Orders

@@ -1,9 +1,8 @@
 -- Arenas of nodes.
-use Rattle.std.specs.BTreeMap as tree
-use Rattle.std.specs.Ordering.{nat_cmp}
 use Rattle.std.specs.Prelude.{ℕ, ◌+◌, ◌<◌, ◌≤◌, ◌≡◌, List, [], ◌∷◌, ◌++◌, length, map, take, drop, Option, Some}
 use Rattle.fol_core.specs.Tree.{Tree}
 use Rattle.term_classes.specs.Merging.{arities}
+use Rattle.term_classes.specs.Named.{node_named}
 use Rattle.term_classes.specs.Shapes.{Shape, variable, element, application, shape_at, AreBelow, AreInPostorder, tree_at}
 use Rattle.term_classes.specs.declared.node.Arena.{Arena}
 use Rattle.term_classes.specs.declared.node.Node.{Node}
@@ -37,7 +36,7 @@ ArePlaced n (x ∷ xs) = IsPlaced n x × ArePlaced n xs
 
 -- the node of a variable
 abbrev pub node_of : Arena → ℕ → Option ℕ
-node_of a x = tree.get nat_cmp a.variables x
+node_of a x = node_named a.variables x
 
 pub record IsArena (a : Arena) : Type 0 where
   pub placed : ArePlaced (length a.arguments.items) a.nodes.items

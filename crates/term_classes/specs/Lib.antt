@@ -5,6 +5,7 @@ pub mod Entered
 pub mod Equated
 pub mod Measures
 pub mod Merging
+pub mod Named
 pub mod Rooms
 pub mod Shapes
 pub mod Solutions

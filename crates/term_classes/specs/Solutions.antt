@@ -6,6 +6,7 @@ use Rattle.term_classes.specs.Arenas.{IsArena, shapes_of}
 use Rattle.term_classes.specs.Classes.{Classes, AreClasses, In, OrdersAll, class_terms, classes_of, node_terms}
 use Rattle.term_classes.specs.Measures.{AreMeasured}
 use Rattle.term_classes.specs.Merging.{merging_of}
+use Rattle.term_classes.specs.Named.{named_nodes}
 use Rattle.term_classes.specs.declared.found.Found.{Found}
 
 -- the classes of an arena's nodes
@@ -15,7 +16,7 @@ classes_in f = classes_of (shapes_of f.arena) (merging_of f.work)
 -- each variable that has a node, with its term
 abbrev pub bindings_of : Found → List Binding
 bindings_of f =
-    map (λ e. (e.0, node_terms (classes_in f) f.order.items e.1)) f.arena.variables.entries
+    map (λ e. (e.0, node_terms (classes_in f) f.order.items e.1)) (named_nodes f.arena.variables)
 
 pub record IsFound (f : Found) : Type 0 where
   pub arena : IsArena f.arena

@@ -5,6 +5,7 @@ ghost use Rattle.fol_core.specs.TermView.{tree_of};
 ghost use Rattle.fol_core.specs.Tree.{trees_of};
 ghost use Rattle.substitutions.specs.Apart.{interleaved};
 ghost use Rattle.term_classes.specs.Arenas.{IsArena, AreNodes};
+ghost use Rattle.term_classes.specs.Entered.{IsEntered, left_terms, right_terms};
 ghost use Rattle.unifiers.specs.Unifier.{Unifies};
 
 use crate::arena::{apply, enter_element, enter_variable, roomy_arena};
@@ -64,6 +65,22 @@ fn put_apart(
     }
 }
 
+/// Two terms with variables of their own each, renamed apart, in an arena with room.
+pub fn entered_apart(alloc: Global, s: &Term, t: &Term) -> Result<Entered, AllocError>
+    ensures entered { IfOk result IsEntered }
+    ensures left { IfOk result (λ e. left_terms e ≡ substitute (interleaved 2 0) (tree_of s.now) ∷ []) }
+    ensures right { IfOk result (λ e. right_terms e ≡ substitute (interleaved 2 1) (tree_of t.now) ∷ []) }
+{
+    let room = count(s).saturating_add(count(t));
+    let mut arena = roomy_arena(alloc, room)?;
+    let mut left_nodes = Vec::with_capacity(alloc, room)?;
+    put_apart(&mut arena, s, 0, &mut left_nodes)?;
+    let mut right_nodes = Vec::with_capacity(alloc, room)?;
+    put_apart(&mut arena, t, 1, &mut right_nodes)?;
+    let nodes = enter(alloc, arena, left_nodes, right_nodes)?;
+    Ok(nodes)
+}
+
 /// Two terms with variables of their own each, renamed apart, with the room that it takes to find out whether they unify;
 /// contracts see a list of each alone.
 #[derive(Drop)]
@@ -95,13 +112,7 @@ impl TermPair {
           substitute (interleaved 2 1) (tree_of t.now) ∷ [],
         )) }
     {
-        let room = count(s).saturating_add(count(t));
-        let mut arena = roomy_arena(alloc, room)?;
-        let mut left_nodes = Vec::with_capacity(alloc, room)?;
-        put_apart(&mut arena, s, 0, &mut left_nodes)?;
-        let mut right_nodes = Vec::with_capacity(alloc, room)?;
-        put_apart(&mut arena, t, 1, &mut right_nodes)?;
-        let nodes = enter(alloc, arena, left_nodes, right_nodes)?;
+        let nodes = entered_apart(alloc, s, t)?;
         Ok(TermPair { nodes })
     }
 

@@ -4,10 +4,10 @@ ghost use Rattle.fol_core.specs.TermView.{tree_of, tree_list};
 ghost use Rattle.term_classes.specs.Arenas.{IsArena, IsNode, AreNodes, IsApplied, IsPlaced, shape_of, shapes_of, view_shape};
 ghost use Rattle.term_classes.specs.Shapes.{AreBelow, variable, element, application, shape_at};
 
+use crate::naming::{name_node, no_variables, node_of};
 use crate::node::{Arena, Node, View};
 use fol_core::Term;
 use std::alloc::{AllocError, Global};
-use std::collections::BTreeMap;
 
 // What is kept of a node.
 fn node(arena: &Arena, n: usize) -> Node
@@ -51,7 +51,7 @@ pub fn roomy_arena(alloc: Global, room: usize) -> Result<Arena, AllocError>
     Ok(Arena {
         nodes: Vec::with_capacity(alloc, room)?,
         arguments: Vec::with_capacity(alloc, room)?,
-        variables: BTreeMap::new(alloc),
+        variables: no_variables(alloc, room)?,
     })
 }
 
@@ -60,12 +60,12 @@ pub fn enter_variable(arena: &mut Arena, x: u64) -> Result<usize, AllocError>
     requires { IsArena arena.old }
     ensures { IfOk result (IsNode arena.old arena.new (variable x)) }
 {
-    match arena.variables.get(&x).copied() {
+    match node_of(&arena.variables, x) {
         Some(n) => Ok(n),
         None => {
             let n = arena.nodes.len();
             arena.nodes.push(Node::Variable(x))?;
-            arena.variables.insert(x, n)?;
+            name_node(&mut arena.variables, x, n)?;
             Ok(n)
         }
     }

@@ -1,10 +1,14 @@
 // Terms to be unified.
-ghost use Rattle.std.specs.Prelude.{◌≡◌, IfOk, MatchOption};
+ghost use Rattle.std.specs.Prelude.{◌≡◌, [], ◌∷◌, IfOk, MatchOption};
+ghost use Rattle.fol_core.specs.Substitutions.{substitute};
+ghost use Rattle.fol_core.specs.TermView.{tree_of};
 ghost use Rattle.fol_core.specs.Tree.{trees_of};
+ghost use Rattle.substitutions.specs.Apart.{interleaved};
 ghost use Rattle.substitutions.specs.Bindings.{by_bindings};
 ghost use Rattle.term_classes.specs.Solved.{HasNoUnifier};
 ghost use Rattle.unifiers.specs.Unifier.{IsMostGeneral};
 
+use crate::apart::entered_apart;
 use crate::arena::{put_all, roomy_arena};
 use crate::counting::count_all;
 use crate::entered::Entered;
@@ -13,7 +17,7 @@ use crate::measuring::unmeasured;
 use crate::room::enter;
 use crate::solution::Solution;
 use crate::unifying::unifier_of;
-use fol_core::Terms;
+use fol_core::{Term, Terms};
 use std::alloc::{AllocError, Global};
 use std::marker::Model;
 
@@ -54,6 +58,18 @@ impl Equations {
         put_all(&mut arena, rights.as_slice(), &mut right_nodes)?;
         let measures = unmeasured(alloc, arena.nodes.len())?;
         let nodes = enter(alloc, arena, left_nodes, right_nodes)?;
+        Ok(Equations { nodes, measures })
+    }
+
+    /// Two terms with variables of their own each, renamed apart, with room for unifying them.
+    pub fn apart(alloc: Global, s: &Term, t: &Term) -> Result<Equations, AllocError>
+        ensures { IfOk result (λ e. e ≡ (
+          substitute (interleaved 2 0) (tree_of s.now) ∷ [],
+          substitute (interleaved 2 1) (tree_of t.now) ∷ [],
+        )) }
+    {
+        let nodes = entered_apart(alloc, s, t)?;
+        let measures = unmeasured(alloc, nodes.arena.nodes.len())?;
         Ok(Equations { nodes, measures })
     }
 

@@ -10,6 +10,7 @@ ghost use Rattle.term_classes.specs.Solutions.{IsFound, HasClass, bindings_of, c
 
 use crate::arena::view;
 use crate::found::Found;
+use crate::naming::node_of;
 use crate::node::View;
 use fol_core::{Sym, Term, Terms};
 use std::alloc::{AllocError, Global};
@@ -21,7 +22,7 @@ fn class_of(found: &Found, x: u64) -> Option<usize>
         (by_bindings (bindings_of found.now) x ≡ var x)
         (HasClass found.now x) }
 {
-    match found.arena.variables.get(&x).copied() {
+    match node_of(&found.arena.variables, x) {
         Some(n) => Some(found.work.links[n]),
         None => None,
     }

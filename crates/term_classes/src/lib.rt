@@ -15,6 +15,7 @@ mod linking;
 mod measure;
 mod measuring;
 mod merging;
+mod naming;
 mod node;
 mod ordering;
 mod room;

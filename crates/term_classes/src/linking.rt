@@ -42,7 +42,7 @@ pub fn apart(alloc: Global, count: usize) -> Result<Vec<usize>, AllocError>
 {
     let mut numbers = Vec::with_capacity(alloc, count)?;
     for n in 0..count {
-        numbers.push(n)?;
+        numbers.push_reserved(n);
     }
     Ok(numbers)
 }

@@ -1,5 +1,5 @@
 // Nodes of terms.
-use std::collections::BTreeMap;
+use crate::naming::VariableNodes;
 
 /// A variable, an element, or a symbol with the place and the number of its arguments.
 #[derive(Clone, Copy)]
@@ -22,5 +22,5 @@ pub enum View<'a> {
 pub struct Arena {
     pub nodes: Vec<Node>,
     pub arguments: Vec<usize>,
-    pub variables: BTreeMap<u64, usize>,
+    pub variables: VariableNodes,
 }

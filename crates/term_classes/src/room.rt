@@ -20,9 +20,7 @@ fn start(alloc: Global, count: usize) -> Result<Walk, AllocError>
     let order = Vec::with_capacity(alloc, count)?;
     let frames = Vec::with_capacity(alloc, count)?;
     let mut marks = Vec::with_capacity(alloc, count)?;
-    for _n in 0..count {
-        marks.push(Mark::New)?;
-    }
+    marks.resize(count, Mark::New)?;
     Ok(Walk {
         marks,
         order,

@@ -1,16 +1,23 @@
 -- All marks say that nothing was looked at.
-use Rattle.std.proofs.Common.{◌≡◌, ap, length, arith}
+use Rattle.std.proofs.Common.{◌≡◌, ap, length, refl, arith, inl, inr}
+use Rattle.std.proofs.lemmas.Bool.{cases_lt}
+use Rattle.std.proofs.lemmas.List.{get_or_past}
+use Rattle.term_classes.specs.declared.walk.Mark.TheVariants.{New}
 use Rattle.term_classes.proofs.Rooms.{few_marks}
 use Rattle.term_classes.proofs.room.start.Goals as goal
 
 pub returns : goal.returns
 returns c =
-    let few = few_marks c.loop-n.marks.items in
-    let all : length c.loop-n.marks.items ≡ c.args.count = omega (arith, c.loop-n.invariant.as_many, c.loop-n-test.false, c.loop-n.auto._n-end) in
+    let few = few_marks c.resize.new.self.items in
+    let all : length c.resize.new.self.items ≡ c.args.count = omega (arith, c.in_ok-resize.ensures.len, c.resize.new.self.ok.0) in
+    let no_marks = c.in_ok-marks.ensures.len in
     let no_order : length c.in_ok-order.order.items ≡ 0 = ap length c.in_ok-order.ensures.items in
     let no_frames : length c.in_ok-frames.frames.items ≡ 0 = ap length c.in_ok-frames.ensures.items in
     record {
-      marks = c.loop-n.invariant.new;
+      marks = λ n. elim (cases_lt n c.args.count) [
+        | inl l ↦ c.in_ok-resize.ensures.by_index.1 n New refl (omega (arith, no_marks)) l
+        | inr g ↦ get_or_past c.resize.new.self.items n New (omega (arith, g, all))
+      ];
       as_many = all;
       order = c.in_ok-order.ensures.items;
       frames = c.in_ok-frames.ensures.items;
