@@ -1,5 +1,5 @@
 -- Branches by rising step: where a step's stands, where it comes in, and what is left without it.
-use Rattle.std.proofs.Common.{◌≡◌, ℕ, zero, suc, ◌+◌, ◌<◌, ◌≤◌, cond, refl, sym, ap, ap₂, subst, ◌∙◌, List, [], ◌∷◌, Some, None, Result, Ok, Err, IfOk, IfErr, length, get_or, slice_get, arith}
+use Rattle.std.proofs.Common.{◌≡◌, ℕ, zero, suc, ◌+◌, ◌<◌, ◌≤◌, cond, refl, sym, ap, ap₂, subst, ◌∙◌, List, [], ◌∷◌, Some, None, Result, Ok, Err, IfOk, IfErr, length, drop, get_or, slice_get, arith}
 use Rattle.std.specs.Cmp.{IsEquivalence}
 use Rattle.std.specs.List.{AllByRecursion, insert, remove}
 use Rattle.std.specs.List.Sorted.{IsBinarySearchResult, IsNonDecreasingBy, IsPartitionPoint, IsSearchInRange, IsSortedBy, IsStrictlySortedBy}
@@ -77,6 +77,26 @@ module _ (branches : List (Edge × ℕ)) (rise : StepsRise branches) where
 
     pub target_in_gap : (at : ℕ) → IsGapFor branches edge at → target branches edge ≡ None
     target_in_gap at gap = lookup_at_gap total-law edge branches at rise (λ j b lt is. greater_back b.0 edge (gap.lesser j b lt is)) (λ b is. gap.greater at b (omega arith) is)
+
+-- ---- steps below a branch's
+
+above_first : (b : Edge × ℕ) (bs : List (Edge × ℕ)) (edge : Edge) → StepsRise (b ∷ bs) → edge_cmp edge b.0 ≡ Less → (j : ℕ) (c : Edge × ℕ) → slice_get (b ∷ bs) j ≡ Some c → edge_cmp edge c.0 ≡ Less
+above_first b bs edge rise l zero c is = let same : b ≡ c = cc in subst (λ (x : Edge × ℕ). edge_cmp edge x.0 ≡ Less) same l
+above_first b bs edge rise l (suc j) c is =
+    total-law.trans edge b.0 c.0 l
+    (subst (λ (x : Edge × ℕ). edge_cmp b.0 x.0 ≡ Less) (get_or_from_slice_get (b ∷ bs) (suc j) c c is)
+    (rises (b ∷ bs) rise 0 (suc j) c (omega arith) (slice_get_within (b ∷ bs) (suc j) c is)))
+
+-- where a branch has a greater step, neither it nor one behind it has the step
+pub none_behind : (bs : List (Edge × ℕ)) (edge : Edge) (i : ℕ) (d : Edge × ℕ) → StepsRise bs → i < length bs → edge_cmp edge (get_or bs i d).0 ≡ Less → target (drop i bs) edge ≡ None
+unfolding IsStrictlySortedBy
+none_behind [] edge i d rise lt l = absurd (omega (arith, lt))
+none_behind (b ∷ bs) edge zero d rise lt l = target_in_gap (b ∷ bs) rise edge 0 (record {
+  within = omega arith;
+  lesser = λ i c low is. absurd (omega (arith, low));
+  greater = λ i c le is. above_first b bs edge rise l i c is;
+})
+none_behind (b ∷ bs) edge (suc i) d rise lt l = none_behind bs edge i d rise.1 (omega (arith, lt)) l
 
 -- ---- a branch more
 

@@ -10,9 +10,6 @@ raised_on n = grind (arith, nat_tests)
 pub raised_within : (n : ℕ) → raised n ≤ n + 1
 raised_within n = grind (arith, nat_tests)
 
-pub raised_risen : (n : ℕ) → HasRisen 1 n (raised n)
-raised_risen n = grind (arith, nat_tests)
-
 pub raised_more : (i old now : ℕ) → HasRisen i old now → HasRisen (i + 1) old (raised now)
 raised_more i old now h = by (cases_lt now greatest)
   where

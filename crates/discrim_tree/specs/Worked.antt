@@ -1,10 +1,10 @@
 -- Retrievals worked out.
-use Rattle.std.specs.Prelude.{◌≡◌, List, [], ◌∷◌, Some, slice_get}
+use Rattle.std.specs.Prelude.{◌≡◌, List, [], ◌∷◌, None, Some, slice_get}
 use Rattle.fol_core.specs.Tree.{Tree, var, app, none, more}
 use Rattle.discrim_tree.specs.Beginnings.{count_beginnings}
 use Rattle.discrim_tree.specs.Entries.{Indexed, indexed, with_entry, without_entry, numbers_found}
 use Rattle.discrim_tree.specs.Terms.{has_instance, can_unify}
-use Rattle.discrim_tree.specs.Tries.{count_linear, greatest, raised}
+use Rattle.discrim_tree.specs.Tries.{count_linear, count_up_to, greatest, raised}
 use Rattle.discrim_tree.specs.declared.sought.Sought.TheVariants.{Generalizations, Instances, Unifiable}
 
 abbrev a : Tree
@@ -30,12 +30,16 @@ WorkedRetrievals =
     × (numbers_found (λ s. can_unify s (f (f (var 0) a) (var 0))) three ≡ 5 ∷ [])
 
 -- one entry is found where two or three are tested, since each occurrence of a variable counts there
--- as a variable of its own
+-- as a variable of its own; for the least the tests up to it are counted, with one that fails, and
+-- where there is none all of them
 abbrev pub WorkedTries : Type 0
 WorkedTries =
     (count_linear Generalizations (f (f a a) a) three ≡ 2)
     × (count_linear Instances (f (var 3) (var 3)) three ≡ 3)
     × (count_linear Unifiable (f (f (var 0) a) (var 0)) three ≡ 2)
+    × (count_up_to Generalizations (f (f a a) a) three (Some 5) ≡ 2)
+    × (count_up_to Generalizations (f a a) three (Some 2) ≡ 1)
+    × (count_up_to Generalizations (f (f a a) (var 0)) three None ≡ 1)
     × (raised 2 ≡ 3) × (raised greatest ≡ greatest)
 
 -- an entry comes to its place, and one is taken out

@@ -6,8 +6,12 @@ ghost use Rattle.discrim_tree.specs.declared.edge.Edge.{Edge};
 
 use crate::edge::Edge;
 use std::alloc::{AllocError, Global};
+use std::cmp::Ordering;
 use std::marker::Model;
 use std::slice;
+
+// So many branches are gone through; among more a step is found by halves.
+const FEW: usize = 4;
 
 /// A step, and the node to which it leads.
 pub type Branch = (Edge, usize);
@@ -80,10 +84,14 @@ impl Contents {
     }
 
     /// Where a step leads.
+    #[inline(always)]
     pub fn target(&self, edge: Edge) -> Option<usize>
         ensures { result ≡ target self.now.branches edge }
     {
         let branches = self.form.branches();
+        if branches.len() <= FEW {
+            return target_among(branches, edge);
+        }
         match place_of(branches, edge) {
             Ok(at) => Some(branches[at].1),
             Err(_) => None,
@@ -245,7 +253,24 @@ impl Lists {
     }
 }
 
+// Where a step leads among few branches; none behind a greater step is looked at.
+#[inline(always)]
+fn target_among(branches: &[Branch], edge: Edge) -> Option<usize>
+    requires { StepsRise branches.now }
+    ensures { result ≡ target branches.now edge }
+{
+    for (step, node) in branches {
+        match edge.cmp(step) {
+            Ordering::Less => return None,
+            Ordering::Equal => return Some(*node),
+            Ordering::Greater => {}
+        }
+    }
+    None
+}
+
 // The place of a step's branch, or the place where it would come.
+#[inline(never)]
 fn place_of(branches: &[Branch], edge: Edge) -> Result<usize, usize>
     requires { StepsRise branches.now }
     ensures found { IfOk result (IsAt branches.now edge) }

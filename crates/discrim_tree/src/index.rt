@@ -1,10 +1,10 @@
 // The index.
-ghost use Rattle.std.specs.Prelude.{◌≡◌, ◌+◌, ◌≤◌, [], false, length, slice_get, IfOk, IfSome, OnOk, OnErr};
+ghost use Rattle.std.specs.Prelude.{◌≡◌, ◌+◌, ◌≤◌, [], false, length, slice_get, IfOk, OnOk, OnErr};
 ghost use Rattle.fol_core.specs.TermView.{tree_of};
 ghost use Rattle.discrim_tree.specs.Beginnings.{count_beginnings};
 ghost use Rattle.discrim_tree.specs.Entries.{indexed, has_number, with_entry, without_entry, numbers_found, NumbersRise};
 ghost use Rattle.discrim_tree.specs.Terms.{has_instance, can_unify};
-ghost use Rattle.discrim_tree.specs.Tries.{count_linear, HasRisen};
+ghost use Rattle.discrim_tree.specs.Tries.{count_linear, count_up_to, HasRisen};
 ghost use Rattle.discrim_tree.specs.declared.sought.Sought.TheVariants.{Generalizations, Instances, Unifiable};
 
 use crate::edge::path_of;
@@ -126,7 +126,9 @@ impl Index {
             ≡ slice_get (numbers_found (λ s. has_instance s (tree_of t.now)) self.now) 0) }
         ensures on { tries.old ≤ tries.new }
         ensures within { tries.new ≤ tries.old + count_linear Generalizations (tree_of t.now) self.now }
-        ensures tested { IfOk result (λ found. IfSome found (λ _. HasRisen 1 tries.old tries.new)) }
+        ensures no_more { IfOk result (λ found. tries.new
+            ≤ tries.old + count_up_to Generalizations (tree_of t.now) self.now found) }
+        ensures tested { IfOk result (λ found. HasRisen (count_up_to Generalizations (tree_of t.now) self.now found) tries.old tries.new) }
     {
         first(
             *self.entries.allocator(),

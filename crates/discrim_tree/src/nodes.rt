@@ -50,6 +50,7 @@ impl Nodes {
     }
 
     /// Where a step leads from a node.
+    #[inline(always)]
     pub fn child(&self, at: usize, edge: Edge) -> Option<usize>
         ensures { result ≡ child self.now.items at edge }
     {
@@ -318,16 +319,16 @@ impl Nodes {
         }
     }
 
-    /// The numbers at the nodes of a walk.
-    pub fn numbers_at(&self, alloc: Global, walk: &[usize]) -> Result<Vec<u64>, AllocError>
-        ensures all { IfOk result (λ numbers. (n : ℕ) → IsFound self.now.items walk.now n → IsIn n numbers.items) }
-        ensures only { IfOk result (λ numbers. (n : ℕ) → IsIn n numbers.items → IsFound self.now.items walk.now n) }
+    /// The numbers at the nodes of a walk; what stood in the list is gone.
+    pub fn numbers_at(&self, numbers: &mut Vec<u64>, walk: &[usize]) -> Result<(), AllocError>
+        ensures all { OnOk result ((n : ℕ) → IsFound self.now.items walk.now n → IsIn n numbers.new.items) }
+        ensures only { OnOk result ((n : ℕ) → IsIn n numbers.new.items → IsFound self.now.items walk.now n) }
     {
-        let mut numbers = Vec::new(alloc);
+        numbers.clear();
         for at in walk {
-            self.add_numbers(&mut numbers, *at)?;
+            self.add_numbers(numbers, *at)?;
         }
-        Ok(numbers)
+        Ok(())
     }
 
     /// How many nodes there are, but for the root.

@@ -12,6 +12,9 @@ use crate::sought::Sought;
 use fol_core::Term;
 use std::alloc::{AllocError, Global};
 
+// For how many nodes a walk has room at first.
+const ROOM: usize = 64;
+
 /// Numbers under terms. Only the paths of the terms are kept, so a retrieval answers the numbers under terms that are sought
 /// and may answer others: whoever asks tests what stands under them.
 #[derive(Drop)]
@@ -53,9 +56,12 @@ impl Sieve {
         ensures found { IfOk result (λ ns. LeavesOutNone self.now sought.now
             (tree_of t.now) ns.items) }
     {
-        let mut numbers = self
-            .nodes
-            .fitting(alloc, sought.fits_below(), sought.fits_above(), t)?;
+        let mut walk = Vec::with_capacity(alloc, ROOM)?;
+        let mut numbers = Vec::new(alloc);
+        let below = sought.fits_below();
+        let above = sought.fits_above();
+        self.nodes
+            .fitting(&mut walk, &mut numbers, below, above, t)?;
         put_in_order(&mut numbers);
         Ok(numbers)
     }

@@ -10,9 +10,6 @@ use crate::skipping::Skipping;
 use fol_core::Term;
 use std::alloc::{AllocError, Global};
 
-// For how many nodes a walk has room at first.
-const ROOM: usize = 64;
-
 // How many terms follow a step.
 fn arity(edge: Edge) -> usize
     ensures { result ≡ arity edge }
@@ -222,20 +219,21 @@ impl Nodes {
         }
     }
 
-    /// The numbers at the ends of the paths of the terms that fit a term.
+    /// The numbers at the ends of the paths of the terms that fit a term. What stood in the lists is gone.
     pub fn fitting(
         &self,
-        alloc: Global,
+        walk: &mut Vec<usize>,
+        numbers: &mut Vec<u64>,
         below: bool,
         above: bool,
         t: &Term,
-    ) -> Result<Vec<u64>, AllocError>
-        ensures { IfOk result (λ numbers. AreFitting self.now.items below above (tree_of t.now) numbers.items) }
+    ) -> Result<(), AllocError>
+        ensures { OnOk result (AreFitting self.now.items below above (tree_of t.now) numbers.new.items) }
     {
-        let mut walk = Vec::with_capacity(alloc, ROOM)?;
+        walk.clear();
         walk.push(0)?;
-        let next = self.pass(&mut walk, below, above, 0, t)?;
-        let numbers = self.numbers_at(alloc, &walk[next..])?;
-        Ok(numbers)
+        let next = self.pass(walk, below, above, 0, t)?;
+        self.numbers_at(numbers, &walk[next..])?;
+        Ok(())
     }
 }

@@ -149,7 +149,7 @@ pub fn start_search(
         kept: 0,
         large: 0,
         symbols: 0,
-        tries: Tries::new(),
+        tries: Tries::new(alloc),
         proofs: Vec::new(alloc),
         ended: None,
     })

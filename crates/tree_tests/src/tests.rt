@@ -18,8 +18,8 @@ fn leave(index: &mut Index, left: Left) {
 }
 
 // Whether an index finds for a term what a scan finds.
-fn agrees(index: &Index, scan: &Scan, t: &Term) -> Result<bool, AllocError> {
-    let mut tries = Tries::new();
+fn agrees(alloc: Global, index: &Index, scan: &Scan, t: &Term) -> Result<bool, AllocError> {
+    let mut tries = Tries::new(alloc);
     let generalizations = index.generalizations(t, &mut tries)?;
     let first = index.first_generalization(t, &mut tries)?;
     let instances = index.instances(t, &mut tries)?;
@@ -47,10 +47,10 @@ fn tests_few(
     t: &Term,
 ) -> Result<bool, AllocError> {
     let most = scanned(alloc, apart, left, &linear(alloc, t, &mut 100)?)?;
-    let mut general = Tries::new();
-    let mut special = Tries::new();
-    let mut either = Tries::new();
-    let mut first = Tries::new();
+    let mut general = Tries::new(alloc);
+    let mut special = Tries::new(alloc);
+    let mut either = Tries::new(alloc);
+    let mut first = Tries::new(alloc);
     let generalizations = index.generalizations(t, &mut general)?;
     let instances = index.instances(t, &mut special)?;
     let unifiable = index.unifiable(t, &mut either)?;
@@ -76,7 +76,7 @@ fn found(
     for query in 0..60 {
         let t = chance.term(alloc, 2, 10)?;
         let scan = scanned(alloc, terms, left, &t)?;
-        if !agrees(index, &scan, &t)? {
+        if !agrees(alloc, index, &scan, &t)? {
             return Ok(None);
         }
         if query % 10 == 0 && !tests_few(alloc, index, &apart, left, &t)? {

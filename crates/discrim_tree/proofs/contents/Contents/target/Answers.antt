@@ -6,6 +6,9 @@ use Rattle.discrim_tree.specs.declared.edge.Edge.TheVariants.{Any}
 use Rattle.discrim_tree.proofs.Branches.{target_at, target_in_gap}
 use Rattle.discrim_tree.proofs.contents.Contents.target.Goals as goal
 
+pub target_among-requires : goal.target_among-requires
+target_among-requires c = subst StepsRise (sym c.branches-branches.ensures) c.self.invariant
+
 pub returns-in-Ok : goal.returns-in-Ok
 returns-in-Ok c =
     let branches = c.branches-branches.result.now in

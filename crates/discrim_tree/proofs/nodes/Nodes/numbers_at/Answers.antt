@@ -7,7 +7,7 @@ use Rattle.discrim_tree.proofs.nodes.Nodes.numbers_at.Goals as goal
 pub loop-at-init : goal.loop-at-init
 loop-at-init c = record {
   all = λ n i at lt is h. absurd (omega (arith, lt));
-  only = λ n h. absurd (subst (IsIn n) c.new-numbers.ensures.items h);
+  only = λ n h. absurd (subst (IsIn n) c.clear.ensures.items h);
 }
 
 pub loop-at-preserved : goal.loop-at-preserved
