@@ -1,5 +1,5 @@
 -- Clauses that are filed, as others come and go.
-use Rattle.std.proofs.Common.{◌≡◌, ℕ, ◌==◌, Bool, true, false, IsTrue, not, nat_lt, if◌then◌else◌, List, [], ◌∷◌, Some, refl, sym, ap, ◌∙◌, subst, eqb-true, eq-eqb}
+use Rattle.std.proofs.Common.{◌≡◌, ℕ, ◌==◌, Bool, true, false, IsTrue, not, nat_lt, if◌then◌else◌, List, [], ◌∷◌, Some, filter, inl, inr, refl, sym, ap, ◌∙◌, subst, eqb-true, eq-eqb}
 use Rattle.std.specs.Prelude.{Result, Ok, Err, OnOk, OnErr}
 use Rattle.std.specs.List.{AllByRecursion, Contains}
 use Rattle.clause_index.specs.Filing.{AllStay, AllOthersStay, IsFiled, AreFiled, LeavesOutNoClause}
@@ -9,6 +9,8 @@ use Rattle.clause_index.specs.declared.finder.Finder.{Finder}
 use Rattle.clause_index.specs.declared.parts.Part.{Part}
 use Rattle.clause_index.proofs.Filing.{stay_filed, others_filed}
 use Rattle.clause_index.proofs.Removals.{but_for}
+use Rattle.discrim_tree.proofs.Ordered.{in_contains}
+use Rattle.discrim_tree.specs.Nodes.{IsIn}
 use Rattle.fol_core.specs.Tree.{Tree}
 use Rattle.prover_steps.specs.Clashing.{Held}
 use Rattle.prover_steps.specs.HeldOrder.{numbers_of, IsNoneOf}
@@ -65,3 +67,17 @@ pub all_covered : (f : Finder) (part : Part) (test : Tree → Bool) (ns : List �
     → AllByRecursion (λ h. IsTrue (has_part_such part test h) → Contains ns h.number) hs
 all_covered f part test ns [] none filed = tt
 all_covered f part test ns (h ∷ hs) none filed = ((λ pass. none h filed.0 pass), all_covered f part test ns hs none filed.1)
+
+-- and their numbers are among them
+pub all_near : (f : Finder) (part : Part) (test : Tree → Bool) (ns : List ℕ) (hs : List Held) → LeavesOutNoClause f part test ns → AreFiled f hs
+    → (n : ℕ) → IsIn n (numbers_of (filter (has_part_such part test) hs)) → IsIn n ns
+all_near f part test ns [] none filed n there = absurd there
+all_near f part test ns (h ∷ hs) none filed n there = by (has_part_such part test h) refl (λ behind. all_near f part test ns hs none filed.1 n behind) there
+  where
+    passing : List Held
+    passing = filter (has_part_such part test) hs
+
+    by : (b : Bool) → has_part_such part test h ≡ b → (IsIn n (numbers_of passing) → IsIn n ns) → IsIn n (numbers_of (if b then h ∷ passing else passing)) → IsIn n ns
+    by true e rest (inl same) = subst (λ (m : ℕ). IsIn m ns) (sym same) (in_contains h.number ns (none h filed.0 e))
+    by true e rest (inr behind) = rest behind
+    by false e rest behind = rest behind

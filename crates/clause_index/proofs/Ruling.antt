@@ -1,5 +1,5 @@
 -- Rules with the index of their left sides.
-use Rattle.std.proofs.Common.{◌≡◌, ℕ, ◌==◌, true, false, not, ◌&&◌, is_some, List, [], Option, Some, None, slice_get, filter, refl, sym, ap, ap₂, ◌∙◌, subst}
+use Rattle.std.proofs.Common.{◌≡◌, ℕ, ◌==◌, Bool, if◌then◌else◌, true, false, not, ◌&&◌, is_some, List, [], ◌∷◌, Option, Some, None, slice_get, filter, refl, sym, ap, ap₂, ◌∙◌, subst}
 use Rattle.std.specs.List.{find}
 use Rattle.std.specs.Option.{option_map}
 use Rattle.clause_index.proofs.Entries.{none_entered, entered, entries_left, numbers_are, first_none, first_some, find_same}
@@ -10,6 +10,8 @@ use Rattle.derivation.specs.Equations.{right_of}
 use Rattle.derivation.specs.Places.{atom_at}
 use Rattle.discrim_tree.specs.Entries.{Indexed, indexed, has_number, with_entry, without_entry, numbers_found}
 use Rattle.discrim_tree.specs.Terms.{has_instance}
+use Rattle.discrim_tree.specs.Tries.{count_up_to}
+use Rattle.discrim_tree.specs.declared.sought.Sought.TheVariants.{Generalizations}
 use Rattle.fol_core.specs.Substitutions.{substitute}
 use Rattle.fol_core.specs.Tree.{Tree}
 use Rattle.prover_steps.proofs.Rising.{put_rises, kept_rises}
@@ -43,6 +45,26 @@ pub no_rule_found : (t : Tree) (rs : List Held) (es : List Indexed) → AreIndex
 no_rule_found t rs es are e =
     sym (find_same (λ r. true && has_instance (rule_left r) t) (λ r. is_some (rewritten_by r t)) (fits_instance t) rs)
     ∙ first_none (λ r. true && has_instance (rule_left r) t) rs (sym (ap (λ ns. slice_get ns 0) (fitting_are t rs es are)) ∙ e)
+
+-- the number that is found is that of the first rule that rewrites the term
+first_number : (test : Held → Bool) (rs : List Held) → slice_get (numbers_of (filter test rs)) 0 ≡ option_map (λ r. r.number) (find test rs)
+first_number test [] = refl
+first_number test (r ∷ rs) = by (test r) (first_number test rs)
+  where
+    by : (b : Bool) → slice_get (numbers_of (filter test rs)) 0 ≡ option_map (λ q. q.number) (find test rs)
+        → slice_get (numbers_of (if b then r ∷ filter test rs else filter test rs)) 0 ≡ option_map (λ q. q.number) (if b then Some r else find test rs)
+    by true rest = refl
+    by false rest = rest
+
+-- so many tests are those up to it
+pub tests_counted : (P : ℕ → Type 0) (t : Tree) (rs now : List Held) (es : List Indexed) (found : Option ℕ) → AreIndexed rs es → rs ≡ now → found ≡ slice_get (fitting t es) 0 → P (count_up_to Generalizations t es found)
+    → P (count_up_to Generalizations t (left_sides now) (option_map (λ r. r.number) (find (λ r. is_some (rewritten_by r t)) now)))
+tests_counted P t rs now es found are same is h =
+    subst (λ (qs : List Held). P (count_up_to Generalizations t (left_sides qs) (option_map (λ r. r.number) (find (λ r. is_some (rewritten_by r t)) qs)))) same
+    (subst (λ (o : Option ℕ). P (count_up_to Generalizations t (left_sides rs) o))
+    (is ∙ ap (λ ns. slice_get ns 0) (fitting_are t rs es are) ∙ first_number (λ r. true && has_instance (rule_left r) t) rs
+    ∙ ap (option_map (λ (r : Held). r.number)) (find_same (λ r. true && has_instance (rule_left r) t) (λ r. is_some (rewritten_by r t)) (fits_instance t) rs))
+    (subst (λ (ds : List Indexed). P (count_up_to Generalizations t ds found)) are.tied h))
 
 -- no rule has the number of another one
 pub no_left : (n : ℕ) (r : Held) (rs : List Held) (es : List Indexed) → AreIndexed rs es → n ≡ r.number → IsNoneOf r.number (numbers_of rs) → has_number n es ≡ false

@@ -3,6 +3,7 @@ ghost use Rattle.std.specs.Prelude.{◌≡◌, ◌+◌, ◌≤◌, ◌==◌, not
 ghost use Rattle.clause_index.specs.Entries.{begins_generally, first_literals};
 ghost use Rattle.clause_index.specs.Filing.{AllOthersStay};
 ghost use Rattle.clause_index.specs.Finding.{has_atom_such, has_equation_such, has_inside_such, has_part_such};
+ghost use Rattle.clause_index.specs.Numbered.{AddsAll};
 ghost use Rattle.discrim_tree.specs.Seeking.{passes};
 ghost use Rattle.discrim_tree.specs.Terms.{can_unify, has_instance};
 ghost use Rattle.discrim_tree.specs.Tries.{count_linear, HasRisen};
@@ -150,22 +151,38 @@ impl HeldSet {
         self.found(&Part::Inside, &Sought::Instances, term)
     }
 
-    /// The clauses with a term below an atom that unifies with this one, variables apart; variables there don't count.
-    pub fn with_unifiable_inside(&self, term: &Term) -> Result<Vec<&Held>, AllocError>
-        ensures found { IfOk result (λ hs. lent hs.items
-            ≡ filter (has_inside_such (λ s. can_unify (tree_of term.now) s)) self.now) }
-        ensures rising { IsRising (numbers_of self.now) }
+    // Adds the numbers of the clauses that may have a term that is sought.
+    fn add_near(
+        &self,
+        part: &Part,
+        sought: &Sought,
+        t: &Term,
+        numbers: &mut Vec<u64>,
+    ) -> Result<(), AllocError>
+        ensures { OnOk result (AddsAll numbers.old.items (numbers_of (filter (has_part_such part.now
+            (passes sought.now (tree_of t.now))) self.now)) numbers.new.items) }
     {
-        self.found(&Part::Inside, &Sought::Unifiable, term)
+        let alloc = self.listed.allocator();
+        let found = self.finder.numbers(alloc, part, sought, t)?;
+        numbers.extend_from_slice(found.as_slice())?;
+        Ok(())
     }
 
-    /// The clauses with a positive equation a side of which unifies with the term, variables apart.
-    pub fn with_unifiable_side(&self, term: &Term) -> Result<Vec<&Held>, AllocError>
-        ensures found { IfOk result (λ hs. lent hs.items
-            ≡ filter (has_equation_such (λ s. can_unify s (tree_of term.now))) self.now) }
-        ensures rising { IsRising (numbers_of self.now) }
+    /// Adds the numbers of the clauses with a term below an atom that unifies with this one, and maybe of others, without a look
+    /// at the clauses.
+    pub fn add_near_inside(&self, term: &Term, numbers: &mut Vec<u64>) -> Result<(), AllocError>
+        ensures { OnOk result (AddsAll numbers.old.items (numbers_of (filter
+            (has_inside_such (λ s. can_unify (tree_of term.now) s)) self.now)) numbers.new.items) }
     {
-        self.found(&Part::Sides, &Sought::Unifiable, term)
+        self.add_near(&Part::Inside, &Sought::Unifiable, term, numbers)
+    }
+
+    /// Those of the clauses with a positive equation a side of which unifies with the term, and maybe of others.
+    pub fn add_near_side(&self, term: &Term, numbers: &mut Vec<u64>) -> Result<(), AllocError>
+        ensures { OnOk result (AddsAll numbers.old.items (numbers_of (filter
+            (has_equation_such (λ s. can_unify s (tree_of term.now))) self.now)) numbers.new.items) }
+    {
+        self.add_near(&Part::Sides, &Sought::Unifiable, term, numbers)
     }
 
     /// Puts in a clause under a number that no other one has.

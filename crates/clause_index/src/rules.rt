@@ -1,9 +1,9 @@
 // Rules, found by their left sides.
-ghost use Rattle.std.specs.Prelude.{◌≡◌, ◌+◌, ◌≤◌, IfSome, ◌==◌, not, [], IfOk, OnOk, OnErr, filter, is_some};
+ghost use Rattle.std.specs.Prelude.{◌≡◌, ◌+◌, ◌≤◌, ◌==◌, not, [], IfOk, OnOk, OnErr, filter, is_some};
 ghost use Rattle.std.specs.List.{find};
 ghost use Rattle.std.specs.Option.{option_map};
 ghost use Rattle.clause_index.specs.Entries.{left_sides};
-ghost use Rattle.discrim_tree.specs.Tries.{count_linear, HasRisen};
+ghost use Rattle.discrim_tree.specs.Tries.{count_linear, count_up_to, HasRisen};
 ghost use Rattle.discrim_tree.specs.declared.sought.Sought.TheVariants.{Generalizations};
 ghost use Rattle.fol_core.specs.TermView.{tree_of};
 ghost use Rattle.prover_steps.specs.HeldOrder.{numbers_of, IsNoneOf};
@@ -58,7 +58,12 @@ impl Rules {
         ensures on { tries.old ≤ tries.new }
         ensures within { tries.new ≤ tries.old
             + count_linear Generalizations (tree_of term.now) (left_sides self.now) }
-        ensures tested { IfOk result (λ o. IfSome o (λ _. HasRisen 1 tries.old tries.new)) }
+        ensures no_more { OnOk result (tries.new ≤ tries.old
+            + count_up_to Generalizations (tree_of term.now) (left_sides self.now)
+            (option_map (λ r. r.number) (find (λ r. is_some (rewritten_by r (tree_of term.now))) self.now))) }
+        ensures tested { OnOk result (HasRisen (count_up_to Generalizations (tree_of term.now) (left_sides self.now)
+            (option_map (λ r. r.number) (find (λ r. is_some (rewritten_by r (tree_of term.now))) self.now)))
+            tries.old tries.new) }
     {
         match self.lefts.first_generalization(term, tries)? {
             Some(number) => Ok(with_number(number, self.rules.as_slice())),

@@ -1,3 +1,4 @@
+pub mod Gathered
 pub mod Missing
 pub mod Paths
 pub mod Taken

@@ -1,30 +1,27 @@
 -- Clauses that have no term for a side of the given clause, nor a side for its terms, give nothing with it.
-use Rattle.std.proofs.Common.{◌≡◌, ◌⊎◌, inl, inr, ℕ, zero, suc, ◌+◌, ◌-◌, Bool, true, false, not, ◌==◌, ◌&&◌, ◌||◌, if◌then◌else◌, IsTrue, List, [], ◌∷◌, ◌++◌, map, filter, flat_map, Option, Some, None, refl, sym, ap, ap₂, ◌∙◌, subst}
+use Rattle.std.proofs.Common.{◌≡◌, inl, inr, ℕ, zero, suc, ◌-◌, Bool, true, false, ◌==◌, ◌&&◌, ◌||◌, if◌then◌else◌, IsTrue, List, [], ◌∷◌, ◌++◌, map, flat_map, Option, Some, None, refl, sym, ap, ap₂, ◌∙◌, subst}
 use Rattle.std.specs.List.{list_any}
 use Rattle.std.specs.Option.{option_and_then}
 use Rattle.std.proofs.lemmas.Bool.{and_parts, false≢true}
 use Rattle.std.proofs.lemmas.List.Folds.{list_any-append}
-use Rattle.fol_core.specs.Literals.{Lit, literal, ClauseTree}
+use Rattle.fol_core.specs.Literals.{Lit, ClauseTree}
 use Rattle.fol_core.specs.Tree.{Tree, var, elem, app, Trees, none, more}
 use Rattle.clause_index.specs.Finding.{has_term_such, has_argument_such, has_such_below, has_side_such, has_inside_such, has_equation_such}
 use Rattle.clause_index.specs.Numbered.{is_numbered}
 use Rattle.clause_index.proofs.Numbers.{IsAmong, left_out, either_false, each_numbered, fails_too}
 use Rattle.derivation.specs.Equations.{is_equation, left_of, right_of, below, is_no_variable}
-use Rattle.derivation.specs.Lines.{paramodulated, para_inference}
-use Rattle.derivation.specs.Places.{atom_at, has_literal, same_sign}
+use Rattle.derivation.specs.Places.{atom_at, has_literal}
 use Rattle.derivation.specs.Words.{side_of}
-use Rattle.derivation.proofs.Lawful.{para_parts}
 use Rattle.discrim_tree.specs.Terms.{can_unify}
 use Rattle.substitutions.specs.Paths.{argument, part_at, subterm_at}
 use Rattle.prover_steps.specs.Clashing.{Held, is_same_held, places_of}
 use Rattle.prover_steps.specs.Concluded.{Conclusion}
 use Rattle.prover_steps.specs.Equalities.{paths_of, paths_below, into_paths, from_sides, is_oriented, paramodulants_into, paramodulants_with, paramodulants_of}
-use Rattle.prover_steps.specs.HeldOrder.{numbers_of}
-use Rattle.discrim_tree.specs.Meeting.{NeverMeet}
 use Rattle.resolution.proofs.Going.{flat_none, flat_mapped}
 use Rattle.resolution.proofs.Unopposed.{never_meets}
-use Rattle.paramod.specs.Partners.{terms_in, terms_among, terms_below, terms_into, replaced_by, replacing, by_side, by_sides, by_terms, partner_numbers}
-use Rattle.paramod.specs.Sites.{SiteTree, site, replacing_side, atom_into, paramodulant_at, paramodulants_in, paramodulants_by, takes_side, side_tried, literal_tried, NeverReplaced}
+use Rattle.paramod.specs.Partners.{terms_in, terms_among, terms_below, terms_into, replaced_by, replacing, by_side, by_sides, by_terms, partner_numbers, HavePartners}
+use Rattle.paramod.specs.Sites.{site, paramodulant_at, paramodulants_in, paramodulants_by, takes_side, side_tried, literal_tried}
+use Rattle.paramod.proofs.Gathered.{none_of_fewer}
 use Rattle.paramod.proofs.Missing.{none_beside}
 use Rattle.paramod.proofs.Taken.{both_sides}
 
@@ -291,5 +288,8 @@ module _ (greater : Tree → Tree → Bool) where
         (sym (list_any-append (λ n. d.number == n) (flat_map (by_sides greater hs) g.clause) (flat_map (by_terms greater hs) g.clause)) ∙ out) in
         none_with g d (replaces_none g.clause (sym (each_numbered (by_sides greater hs) d g.clause) ∙ parts.0)) (all_stay g.clause (sym (each_numbered (by_terms greater hs) d g.clause) ∙ parts.1))
 
-  pub paramodulants_left : (hs : List Held) (g : Held) → flat_map (paramodulants_with greater g) (filter (is_numbered (partner_numbers greater hs g.clause)) hs) ≡ paramodulants_of greater hs g
-  paramodulants_left hs g = left_out (paramodulants_with greater g) (is_numbered (partner_numbers greater hs g.clause)) hs (λ d among out. none_left hs d among g out)
+  pub paramodulants_left : (hs found : List Held) (g : Held) → HavePartners greater hs g.clause found → flat_map (paramodulants_with greater g) found ≡ paramodulants_of greater hs g
+  paramodulants_left hs found g partners =
+      ap (flat_map (paramodulants_with greater g)) partners.are
+      ∙ left_out (paramodulants_with greater g) (is_numbered partners.numbers) hs
+      (λ d among out. none_left hs d among g (none_of_fewer (partner_numbers greater hs g.clause) partners.numbers d partners.all out))

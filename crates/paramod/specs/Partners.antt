@@ -1,10 +1,12 @@
 -- Clauses that may give something with a given clause, by their numbers.
-use Rattle.std.specs.Prelude.{ℕ, Bool, ◌&&◌, if◌then◌else◌, List, [], ◌∷◌, ◌++◌, filter, flat_map}
+use Rattle.std.specs.Prelude.{◌≡◌, ℕ, Bool, ◌&&◌, if◌then◌else◌, List, [], ◌∷◌, ◌++◌, filter, flat_map}
 use Rattle.fol_core.specs.Literals.{Lit, ClauseTree}
 use Rattle.fol_core.specs.Tree.{Tree, var, elem, app, Trees, none, more}
 use Rattle.clause_index.specs.Finding.{has_inside_such, has_equation_such}
+use Rattle.clause_index.specs.Numbered.{is_numbered}
 use Rattle.derivation.specs.Equations.{is_equation, left_of}
 use Rattle.derivation.specs.Words.{side_of}
+use Rattle.discrim_tree.specs.Nodes.{IsIn}
 use Rattle.discrim_tree.specs.Terms.{can_unify}
 use Rattle.paramod.specs.Sites.{takes_side}
 use Rattle.prover_steps.specs.Clashing.{Held}
@@ -58,3 +60,10 @@ module _ (greater : Tree → Tree → Bool) where
   -- by all literals of a clause
   abbrev pub partner_numbers : List Held → ClauseTree → List ℕ
   partner_numbers hs c = flat_map (by_sides hs) c ++ flat_map (by_terms hs) c
+
+-- clauses are those with one of some numbers, among which are all of these
+pub record HavePartners (greater : Tree → Tree → Bool) (hs : List Held) (c : ClauseTree) (found : List Held) : Type 0
+  where
+    pub numbers : List ℕ
+    pub are : found ≡ filter (is_numbered numbers) hs
+    pub all : (n : ℕ) → IsIn n (partner_numbers greater hs c) → IsIn n numbers

@@ -1,25 +1,19 @@
 // Terms of a literal replaced by a side of an equation.
-ghost use Rattle.std.specs.Prelude.{◌≡◌, ◌+◌, ◌<◌, ◌≤◌, ◌++◌, ◌∷◌, [], true, Some, IfOk, IsSome, OnOk, length};
+ghost use Rattle.std.specs.Prelude.{◌≡◌, ◌<◌, ◌++◌, Some, OnOk, length};
 ghost use Rattle.std.specs.List.{flat_map};
-ghost use Rattle.clause_limits.specs.Sizes.{clause_size};
-ghost use Rattle.derivation.specs.Lines.{inference_of};
-ghost use Rattle.derivation.specs.View.{first_word_of};
 ghost use Rattle.fol_core.specs.TermView.{tree_of};
 ghost use Rattle.fol_core.specs.Tree.{app, trees_of};
 ghost use Rattle.paramod.specs.Replacing.{site_of};
 ghost use Rattle.paramod.specs.Sites.{replacing_side, atom_into, paramodulant_at};
-ghost use Rattle.proof_words.specs.Written.{written_first};
-ghost use Rattle.prover_steps.specs.Concluded.{inferred};
 ghost use Rattle.prover_steps.specs.Equalities.{paths_of, paths_below};
 ghost use Rattle.resolution.specs.View.{all_conclusions};
 ghost use Rattle.substitutions.specs.Paths.{subterm_at};
 
 use crate::sides::may_be_replaced;
 use crate::site::Site;
-use clause_limits::left_behind_clause;
 use derivation::{First, Paramodulation};
-use fol_core::{Clause, Term};
-use resolution::{Conclusion, infer, infer_of_two};
+use fol_core::Term;
+use resolution::{Conclusion, infer_of_two};
 use std::alloc::{AllocError, Global};
 
 // At a path where a term is.
@@ -48,7 +42,7 @@ fn add_at(
         literal: site.literal,
         path,
     };
-    add_step(
+    infer_of_two(
         alloc,
         First::Para(step),
         site.from.clause(),
@@ -56,49 +50,6 @@ fn add_at(
         made,
     )?;
     Ok(())
-}
-
-// Two clauses with so many symbols and variables are small.
-const SMALL: u64 = 4000;
-
-// Whether two clauses are small.
-fn are_small(c: &Clause, d: &Clause) -> bool
-    ensures { result ≡ true → clause_size c.now + clause_size d.now ≤ SMALL }
-{
-    match left_behind_clause(c, SMALL) {
-        Some(left) => left_behind_clause(d, left).is_some(),
-        None => false,
-    }
-}
-
-// Copies of two clauses.
-fn two_clauses(alloc: Global, c: &Clause, d: &Clause) -> Result<Vec<Clause>, AllocError>
-    ensures { IfOk result (λ cs. cs.items ≡ c.now ∷ d.now ∷ []) }
-{
-    let mut clauses = Vec::with_capacity(alloc, 2)?;
-    clauses.push(c.copy(alloc)?)?;
-    clauses.push(d.copy(alloc)?)?;
-    Ok(clauses)
-}
-
-// Adds what the step of a first word makes of two clauses, if anything. Small ones are lent, since what comes of them has no more
-// levels than they have symbols, so that it can be built at once; of others it is measured before.
-fn add_step(
-    alloc: Global,
-    first: First,
-    c: &Clause,
-    d: &Clause,
-    made: &mut Vec<Conclusion>,
-) -> Result<(), AllocError>
-    requires { IsSome (inference_of (first_word_of first)) }
-    ensures { OnOk result (all_conclusions made.new.items ≡ all_conclusions made.old.items
-        ++ inferred (written_first first) (c.now ∷ d.now ∷ [])) }
-{
-    if are_small(c, d) {
-        return infer_of_two(alloc, first, c, d, made);
-    }
-    let parents = two_clauses(alloc, c, d)?;
-    infer(alloc, first, parents.as_slice(), made)
 }
 
 /// Adds what comes of the terms from a path on: of the one there, and of those below it.

@@ -1,43 +1,24 @@
-// Clauses that may give something with a given clause, found by sides of equations and by terms.
-ghost use Rattle.std.specs.Prelude.{◌≡◌, ◌++◌, IfOk, OnOk, filter};
+// Clauses that may give something with a given clause, found by sides of equations and by terms. Others may be among them,
+// which give nothing.
+ghost use Rattle.std.specs.Prelude.{◌≡◌, IfOk, OnOk};
 ghost use Rattle.std.specs.List.{flat_map};
-ghost use Rattle.clause_index.specs.Numbered.{is_numbered};
+ghost use Rattle.clause_index.specs.Numbered.{AddsAll};
 ghost use Rattle.derivation.specs.Words.{side_of};
 ghost use Rattle.fol_core.specs.ClauseView.{literal_of};
 ghost use Rattle.fol_core.specs.TermView.{tree_of, tree_list};
 ghost use Rattle.fol_core.specs.Tree.{trees_of};
 ghost use Rattle.held_clauses.specs.Holding.{lent};
 ghost use Rattle.held_clauses.specs.Order.{greater_of};
-ghost use Rattle.paramod.specs.Partners.{terms_in, terms_among, terms_below, replaced_by, replacing, by_side, by_sides, by_terms, partner_numbers};
+ghost use Rattle.paramod.specs.Partners.{terms_in, terms_among, terms_below, replacing, by_side, by_sides, by_terms, HavePartners};
 
 use crate::sides::{is_oriented, is_taken};
-use clause_index::{HeldSet, add_numbers, all_numbered};
+use clause_index::{HeldSet, all_numbered};
 use fol_core::{Literal, Term};
 use held_clauses::{Held, is_equation, left_of, right_of};
 use std::alloc::{AllocError, Global};
 use term_order::Precedence;
 
-// Adds the numbers of the clauses with a term that a side may replace.
-fn add_replaced(held: &HeldSet, side: &Term, numbers: &mut Vec<u64>) -> Result<(), AllocError>
-    ensures { OnOk result (numbers.new.items ≡ numbers.old.items
-        ++ replaced_by held.now (tree_of side.now)) }
-{
-    let found = held.with_unifiable_inside(side)?;
-    add_numbers(found.as_slice(), numbers)?;
-    Ok(())
-}
-
-// Of those with a side that may replace a term.
-fn add_replacing(held: &HeldSet, term: &Term, numbers: &mut Vec<u64>) -> Result<(), AllocError>
-    ensures { OnOk result (numbers.new.items ≡ numbers.old.items
-        ++ replacing held.now (tree_of term.now)) }
-{
-    let found = held.with_unifiable_side(term)?;
-    add_numbers(found.as_slice(), numbers)?;
-    Ok(())
-}
-
-// By one side of an equation, if it is taken.
+// Adds the numbers of the clauses with a term that one side of an equation may replace, if it is taken.
 fn add_by_side(
     precedence: &Precedence,
     held: &HeldSet,
@@ -47,14 +28,14 @@ fn add_by_side(
     numbers: &mut Vec<u64>,
 ) -> Result<(), AllocError>
     requires { tree_of term.now ≡ side_of side (tree_of atom.now) }
-    ensures { OnOk result (numbers.new.items ≡ numbers.old.items
-        ++ by_side (greater_of precedence.now) held.now (tree_of atom.now) side) }
+    ensures { OnOk result (AddsAll numbers.old.items
+        (by_side (greater_of precedence.now) held.now (tree_of atom.now) side) numbers.new.items) }
 {
     let alloc = *numbers.allocator();
     if !is_taken(alloc, precedence, side, term, atom)? {
         return Ok(());
     }
-    add_replaced(held, term, numbers)?;
+    held.add_near_inside(term, numbers)?;
     Ok(())
 }
 
@@ -65,8 +46,8 @@ fn add_by_sides(
     literal: &Literal,
     numbers: &mut Vec<u64>,
 ) -> Result<(), AllocError>
-    ensures { OnOk result (numbers.new.items ≡ numbers.old.items
-        ++ by_sides (greater_of precedence.now) held.now (literal_of literal.now)) }
+    ensures { OnOk result (AddsAll numbers.old.items
+        (by_sides (greater_of precedence.now) held.now (literal_of literal.now)) numbers.new.items) }
 {
     if !literal.positive {
         return Ok(());
@@ -83,20 +64,20 @@ fn add_by_sides(
     Ok(())
 }
 
-// By a term and those in it.
+// By a term and those in it, of the clauses with a side that may replace it.
 #[cycle(inside)]
 fn add_inside(held: &HeldSet, term: &Term, numbers: &mut Vec<u64>) -> Result<(), AllocError>
-    ensures { OnOk result (numbers.new.items ≡ numbers.old.items
-        ++ flat_map (replacing held.now) (terms_in (tree_of term.now))) }
+    ensures { OnOk result (AddsAll numbers.old.items
+        (flat_map (replacing held.now) (terms_in (tree_of term.now))) numbers.new.items) }
 {
     match term {
         Term::Var(_) => Ok(()),
         Term::Elem(_) => {
-            add_replacing(held, term, numbers)?;
+            held.add_near_side(term, numbers)?;
             Ok(())
         }
         Term::App(_, terms) => {
-            add_replacing(held, term, numbers)?;
+            held.add_near_side(term, numbers)?;
             add_inside_each(held, &terms.items, numbers)?;
             Ok(())
         }
@@ -106,8 +87,8 @@ fn add_inside(held: &HeldSet, term: &Term, numbers: &mut Vec<u64>) -> Result<(),
 // By each of some terms and those in it.
 #[cycle(inside)]
 fn add_inside_each(held: &HeldSet, terms: &[Term], numbers: &mut Vec<u64>) -> Result<(), AllocError>
-    ensures { OnOk result (numbers.new.items ≡ numbers.old.items
-        ++ flat_map (replacing held.now) (terms_among (trees_of (tree_list terms.now)))) }
+    ensures { OnOk result (AddsAll numbers.old.items
+        (flat_map (replacing held.now) (terms_among (trees_of (tree_list terms.now)))) numbers.new.items) }
 {
     for term in terms {
         add_inside(held, term, numbers)?;
@@ -117,8 +98,8 @@ fn add_inside_each(held: &HeldSet, terms: &[Term], numbers: &mut Vec<u64>) -> Re
 
 // By the terms below an atom.
 fn add_below(held: &HeldSet, atom: &Term, numbers: &mut Vec<u64>) -> Result<(), AllocError>
-    ensures { OnOk result (numbers.new.items ≡ numbers.old.items
-        ++ flat_map (replacing held.now) (terms_below (tree_of atom.now))) }
+    ensures { OnOk result (AddsAll numbers.old.items
+        (flat_map (replacing held.now) (terms_below (tree_of atom.now))) numbers.new.items) }
 {
     match atom {
         Term::Var(_) => Ok(()),
@@ -137,8 +118,8 @@ fn add_by_terms(
     literal: &Literal,
     numbers: &mut Vec<u64>,
 ) -> Result<(), AllocError>
-    ensures { OnOk result (numbers.new.items ≡ numbers.old.items
-        ++ by_terms (greater_of precedence.now) held.now (literal_of literal.now)) }
+    ensures { OnOk result (AddsAll numbers.old.items
+        (by_terms (greater_of precedence.now) held.now (literal_of literal.now)) numbers.new.items) }
 {
     let alloc = *numbers.allocator();
     let atom = &literal.atom;
@@ -159,9 +140,9 @@ fn add_by_sides_each(
     literals: &[Literal],
     numbers: &mut Vec<u64>,
 ) -> Result<(), AllocError>
-    ensures { OnOk result (numbers.new.items ≡ numbers.old.items
-        ++ flat_map (λ l. by_sides (greater_of precedence.now) held.now (literal_of l))
-        literals.now) }
+    ensures { OnOk result (AddsAll numbers.old.items
+        (flat_map (λ l. by_sides (greater_of precedence.now) held.now (literal_of l))
+        literals.now) numbers.new.items) }
 {
     for literal in literals {
         add_by_sides(precedence, held, literal, numbers)?;
@@ -176,9 +157,9 @@ fn add_by_terms_each(
     literals: &[Literal],
     numbers: &mut Vec<u64>,
 ) -> Result<(), AllocError>
-    ensures { OnOk result (numbers.new.items ≡ numbers.old.items
-        ++ flat_map (λ l. by_terms (greater_of precedence.now) held.now (literal_of l))
-        literals.now) }
+    ensures { OnOk result (AddsAll numbers.old.items
+        (flat_map (λ l. by_terms (greater_of precedence.now) held.now (literal_of l))
+        literals.now) numbers.new.items) }
 {
     for literal in literals {
         add_by_terms(precedence, held, literal, numbers)?;
@@ -186,15 +167,15 @@ fn add_by_terms_each(
     Ok(())
 }
 
-/// The clauses into which a given clause may give something, or out of which, by rising number.
+/// Clauses by rising number: all into which a given clause may give something, or out of which, and maybe others.
 pub fn partners<'a>(
     alloc: Global,
     precedence: &Precedence,
     held: &'a HeldSet,
     given: &Held,
 ) -> Result<Vec<&'a Held>, AllocError>
-    ensures { IfOk result (λ hs. lent hs.items ≡ filter (is_numbered
-        (partner_numbers (greater_of precedence.now) held.now given.now.clause)) held.now) }
+    ensures { IfOk result (λ hs. HavePartners (greater_of precedence.now) held.now given.now.clause
+        (lent hs.items)) }
 {
     let literals = given.clause().as_slice();
     let mut numbers = Vec::new(alloc);

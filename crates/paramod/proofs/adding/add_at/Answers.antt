@@ -25,7 +25,7 @@ returns c =
     let f = s.from.clause in
     let d = s.into.clause in
     let parents : c.clause.result.now ∷ c.clause-2.result.now ∷ [] ≡ f ∷ d ∷ [] = ap₂ (λ (x : ClauseTree) (y : ClauseTree). x ∷ y ∷ []) c.clause.ensures c.clause-2.ensures in
-    c.in_ok-add_step.ensures
+    c.in_ok-infer_of_two.ensures
     ∙ ap (λ ns. all_conclusions c.args.made.now.items ++ ns)
     (ap (λ (cs : List ClauseTree). inferred (by_para c.number.result s.equation s.side c.number-2.result s.literal c.in_ok-path.path.items) cs) parents
     ∙ ap (λ (p : List ℕ). inferred (by_para c.number.result s.equation s.side c.number-2.result s.literal p) (f ∷ d ∷ [])) c.in_ok-path.ensures.items

@@ -12,6 +12,4 @@ returns c =
     let g = c.args.given.now in
     c.in_ok-add_with_each.ensures
     ∙ ap (λ ns. all_conclusions c.args.made.now.items ++ ns)
-    (ap (λ ks. flat_map (paramodulants_with greater g) (lent ks)) c.as_slice.ensures.value
-    ∙ ap (flat_map (paramodulants_with greater g)) c.in_ok-others.ensures
-    ∙ paramodulants_left greater c.args.held.now g)
+    (ap (λ ks. flat_map (paramodulants_with greater g) (lent ks)) c.as_slice.ensures.value ∙ paramodulants_left greater c.args.held.now (lent c.in_ok-others.others.items) g c.in_ok-others.ensures)

@@ -1,9 +1,9 @@
-use Rattle.std.proofs.Common.{Bool, false, true, ◌&&◌, ◌++◌, ap, ap₂, sym, ◌∙◌, append_assoc}
+use Rattle.std.proofs.Common.{◌&&◌, ◌++◌, ap, ap₂, sym, ◌∙◌}
 use Rattle.fol_core.specs.TermView.{tree_of}
 use Rattle.derivation.specs.Equations.{is_equation}
 use Rattle.held_clauses.specs.Order.{greater_of}
 use Rattle.paramod.specs.Partners.{by_side}
-use Rattle.resolution.proofs.Going.{tried_none, tried_some}
+use Rattle.paramod.proofs.Gathered.{asked, unasked, both_asked}
 use Rattle.paramod.proofs.partners.add_by_sides.Goals as goal
 
 pub returns-then-not-literal : goal.returns-then-not-literal
@@ -11,15 +11,14 @@ returns-then-not-literal c =
     let l = c.args.literal.now in
     let atom = tree_of l.atom in
     let greater = greater_of c.args.precedence.now in
-    tried_none (l.positive && is_equation atom) c.args.numbers.now.items (by_side greater c.args.held.now atom 1 ++ by_side greater c.args.held.now atom 2)
-    (ap (λ b. b && is_equation atom) c.if-not-literal.true)
+    unasked (l.positive && is_equation atom) c.args.numbers.now.items (by_side greater c.args.held.now atom 1 ++ by_side greater c.args.held.now atom 2) (ap (λ b. b && is_equation atom) c.if-not-literal.true)
 
 pub returns-then-not-is_equation : goal.returns-then-not-is_equation
 returns-then-not-is_equation c =
     let l = c.args.literal.now in
     let atom = tree_of l.atom in
     let greater = greater_of c.args.precedence.now in
-    tried_none (l.positive && is_equation atom) c.args.numbers.now.items (by_side greater c.args.held.now atom 1 ++ by_side greater c.args.held.now atom 2)
+    unasked (l.positive && is_equation atom) c.args.numbers.now.items (by_side greater c.args.held.now atom 1 ++ by_side greater c.args.held.now atom 2)
     (ap₂ (λ p q. p && q) c.if-not-literal.false (sym c.is_equation.ensures ∙ c.if-not-is_equation.true))
 
 pub returns : goal.returns
@@ -27,8 +26,8 @@ returns c =
     let l = c.args.literal.now in
     let atom = tree_of l.atom in
     let greater = greater_of c.args.precedence.now in
-    let old = c.args.numbers.now.items in
-    tried_some (l.positive && is_equation atom) old (by_side greater c.args.held.now atom 1 ++ by_side greater c.args.held.now atom 2) _
+    let first = by_side greater c.args.held.now atom 1 in
+    let second = by_side greater c.args.held.now atom 2 in
+    asked (l.positive && is_equation atom) c.args.numbers.now.items (first ++ second) _
     (ap₂ (λ p q. p && q) c.if-not-literal.false (sym c.is_equation.ensures ∙ c.if-not-is_equation.false))
-    (c.in_ok-add_by_side-2.ensures ∙ ap (λ ns. ns ++ by_side greater c.args.held.now atom 2) c.in_ok-add_by_side.ensures
-    ∙ append_assoc old (by_side greater c.args.held.now atom 1) (by_side greater c.args.held.now atom 2))
+    (both_asked c.args.numbers.now.items c.add_by_side.new.numbers.items _ first second c.in_ok-add_by_side.ensures c.in_ok-add_by_side-2.ensures)
