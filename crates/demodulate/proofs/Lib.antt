@@ -1,4 +1,5 @@
 pub mod Denying
+pub mod Exchanging
 pub mod Fits
 pub mod Passing
 pub mod Placing

@@ -7,8 +7,10 @@ use Rattle.fol_core.specs.TermView.{tree_of, tree_list}
 use Rattle.fol_core.specs.Tree.{Tree, app, trees_of}
 use Rattle.fol_core.specs.declared.clause.Literal.{Literal}
 use Rattle.fol_core.specs.declared.term.Term.{Term}
+use Rattle.demodulate.specs.Steps.{with_part_at}
 use Rattle.derivation.specs.Equations.{is_equation}
 use Rattle.derivation.specs.Places.{atom_at, with_atom}
+use Rattle.substitutions.specs.Paths.{replaced}
 
 pub put_there : (ls : List Literal) (i : ℕ) (l : Literal) (b : Bool) (t : Term) → i < length ls → l ≡ get_or ls i l → b ≡ l.positive
     → map literal_of (set ls i (record { positive = b; atom = t })) ≡ with_atom (map literal_of ls) i (tree_of t)
@@ -25,6 +27,11 @@ pub with_atom_back : (c : ClauseTree) (i : ℕ) (t : Tree) → with_atom (with_a
 with_atom_back [] i t = refl
 with_atom_back (l ∷ c) zero t = refl
 with_atom_back (l ∷ c) (suc i) t = ap (λ d. l ∷ d) (with_atom_back c i t)
+
+atom_put : (c : ClauseTree) (i : ℕ) (t : Tree) → i < length c → atom_at (with_atom c i t) i ≡ t
+atom_put [] i t h = absurd (omega (arith, h))
+atom_put (l ∷ c) zero t h = refl
+atom_put (l ∷ c) (suc i) t h = atom_put c i t (omega (arith, h))
 
 pub with_atom_length : (c : ClauseTree) (i : ℕ) (t : Tree) → length (with_atom c i t) ≡ length c
 with_atom_length [] i t = refl
@@ -53,3 +60,11 @@ module _ (ls : List Literal) (c : ClauseTree) (view : map literal_of ls ≡ c) (
 
   pub atom_is_at : atom_at c i ≡ tree_of l.atom
   atom_is_at = ap (λ d. atom_at d i) (sym view) ∙ atom_there ls i l within is
+
+  -- what is put there for the clause as it was
+  pub put_back : (t : Term) (path : List ℕ) (old : Tree) → tree_of l.atom ≡ replaced (tree_of t) path old
+      → c ≡ with_part_at (map literal_of (set ls i (record { positive = l.positive; atom = t }))) i path old
+  put_back t path old e =
+      let put : map literal_of (set ls i (record { positive = l.positive; atom = t })) ≡ with_atom c i (tree_of t) = put_at t (tree_of t) refl in
+      sym (ap (λ d. with_part_at d i path old) put ∙ ap (λ u. with_atom (with_atom c i (tree_of t)) i (replaced u path old)) (atom_put c i (tree_of t) h)
+      ∙ ap (with_atom (with_atom c i (tree_of t)) i) (sym e ∙ sym atom_is_at) ∙ with_atom_back c i (tree_of t))

@@ -1,6 +1,6 @@
 -- The first place at which a rule fits.
-use Rattle.std.proofs.Common.{◌≡◌, ℕ, zero, suc, ◌+◌, ◌-◌, ◌<◌, ◌≤◌, Bool, true, false, if◌then◌else◌, is_some, length, List, [], ◌∷◌, ◌++◌, Option, Some, None, get_or, take, drop, map, refl, sym, ap, subst, ◌∙◌, add-one, append-nil, append_assoc, arith}
-use Rattle.std.proofs.lemmas.List.{take_all, take_rest}
+use Rattle.std.proofs.Common.{◌≡◌, ℕ, zero, suc, ◌+◌, ◌<◌, ◌≤◌, Bool, true, false, if◌then◌else◌, is_some, length, List, [], ◌∷◌, ◌++◌, Option, Some, None, get_or, take, map, refl, sym, ap, ap₂, subst, ◌∙◌, append-nil, append_assoc, arith}
+use Rattle.std.proofs.lemmas.List.{take_all}
 use Rattle.std.specs.List.{AllByRecursion, find}
 use Rattle.std.specs.Option.{option_map, option_map_or}
 use Rattle.fol_core.specs.ClauseView.{literal_of}
@@ -9,11 +9,13 @@ use Rattle.fol_core.specs.TermView.{tree_of, tree_list}
 use Rattle.fol_core.specs.Tree.{Tree, Trees, more, app, trees_of}
 use Rattle.fol_core.specs.declared.clause.Literal.{Literal}
 use Rattle.fol_core.specs.declared.term.Term.{Term}
+use Rattle.demodulate.proofs.Exchanging.{later_argument}
 use Rattle.demodulate.specs.Passes.{words_then}
-use Rattle.demodulate.specs.Steps.{step_around, step_at}
+use Rattle.demodulate.specs.Steps.{step_below, whole_step, step_at}
 use Rattle.derivation.specs.Later.{LaterWord, rewritten}
 use Rattle.derivation.specs.Places.{with_atom}
 use Rattle.prover_steps.specs.Clashing.{Held}
+use Rattle.substitutions.specs.Paths.{with_argument, replaced}
 use Rattle.prover_steps.specs.Rewriting.{RewriteStep, first_of, rewritten_by, step_at_top, widened, in_argument, first_step, step_in, atom_step, Simplified, simplified, then_word, clause_step, normal_form}
 
 -- by the first rule that fits
@@ -64,20 +66,26 @@ normal_more rs ts i t h is all e =
 abbrev arguments_step : ℕ → List ℕ → Trees → RewriteStep Trees
 arguments_step rule path ts = record { rule = rule; path = path; result = ts }
 
-step_there : (rs : List Held) (ts : List Term) (i k n : ℕ) (t : Term) (r : RewriteStep Tree) → i < length ts → t ≡ get_or ts i t → n ≡ i + k → AreNormal rs (take i ts) → first_step rs (tree_of t) ≡ Some r
-    → step_in rs k (trees_of (tree_list ts)) ≡ Some (arguments_step r.rule (n ∷ r.path) (trees_of (take i (tree_list ts) ++ r.result ∷ drop (suc i) (tree_list ts))))
-step_there rs [] i k n t r h is e all s = absurd (omega (arith, h))
-step_there rs (u ∷ ts) zero k n t r h is e all s =
+step_there : (rs : List Held) (ts : List Term) (i k n : ℕ) (t : Term) (rule : ℕ) (path : List ℕ) (change : Tree → Tree) → i < length ts → t ≡ get_or ts i t → n ≡ i + k → AreNormal rs (take i ts)
+    → first_step rs (tree_of t) ≡ Some (record { rule = rule; path = path; result = change (tree_of t) })
+    → step_in rs k (trees_of (tree_list ts)) ≡ Some (arguments_step rule (n ∷ path) (with_argument change (trees_of (tree_list ts)) (suc i)))
+step_there rs [] i k n t rule path change h is e all s = absurd (omega (arith, h))
+step_there rs (u ∷ ts) zero k n t rule path change h is e all s =
     let same : k ≡ n = omega (arith, e) in
     ap (λ o. first_of (option_map (in_argument k (trees_of (tree_list ts))) o) (option_map (widened (more (tree_of u))) (step_in rs (suc k) (trees_of (tree_list ts))))) (ap (λ v. first_step rs (tree_of v)) (sym is) ∙ s)
-    ∙ ap (λ m. Some (arguments_step r.rule (m ∷ r.path) (more r.result (trees_of (tree_list ts))))) same
-step_there rs (u ∷ ts) (suc i) k n t r h is e all s =
+    ∙ ap₂ (λ m v. Some (arguments_step rule (m ∷ path) (more (change (tree_of v)) (trees_of (tree_list ts))))) same is
+step_there rs (u ∷ ts) (suc i) k n t rule path change h is e all s =
     ap (λ o. first_of (option_map (in_argument k (trees_of (tree_list ts))) o) (option_map (widened (more (tree_of u))) (step_in rs (suc k) (trees_of (tree_list ts))))) all.0
-    ∙ ap (option_map (widened (more (tree_of u)))) (step_there rs ts i (suc k) n t r (omega (arith, h)) is (omega (arith, e)) all.1 s)
+    ∙ ap (option_map (widened (more (tree_of u)))) (step_there rs ts i (suc k) n t rule path change (omega (arith, h)) is (omega (arith, e)) all.1 s)
+    ∙ ap (λ us. Some (arguments_step rule (n ∷ path) us)) (sym (later_argument change (tree_of u) (tree_list ts) i))
 
-pub argument_step : (rs : List Held) (f : ℕ) (ts : List Term) (i : ℕ) (t : Term) (r : RewriteStep Tree) → i < length ts → t ≡ get_or ts i t → AreNormal rs (take i ts) → first_step rs (tree_of t) ≡ Some r
-    → Some (step_around f (tree_list ts) i r) ≡ option_map (widened (app f)) (step_in rs 1 (trees_of (tree_list ts)))
-argument_step rs f ts i t r h is all s = sym (ap (option_map (widened (app f))) (step_there rs ts i 1 (suc i) t r h is (omega arith) all s))
+pub argument_step : (rs : List Held) (f : ℕ) (ts : List Term) (i n : ℕ) (t : Term) (r : RewriteStep Tree) → i < length ts → t ≡ get_or ts i t → n ≡ i + 1 → AreNormal rs (take i ts)
+    → Some (whole_step (tree_of t) r) ≡ first_step rs (tree_of t)
+    → Some (whole_step (app f (trees_of (tree_list ts))) (step_below n r)) ≡ option_map (widened (app f)) (step_in rs 1 (trees_of (tree_list ts)))
+argument_step rs f ts i n t r h is e all s =
+    let same : n ≡ suc i = omega (arith, e) in
+    ap (λ m. Some (record { rule = r.rule; path = n ∷ r.path; result = app f (with_argument (λ u. replaced u r.path r.result) (trees_of (tree_list ts)) m) })) same
+    ∙ sym (ap (option_map (widened (app f))) (step_there rs ts i 1 n t r.rule r.path (λ u. replaced u r.path r.result) h is e all (sym s)))
 
 none_in : (rs : List Held) (ts : List Term) (k : ℕ) → AreNormal rs ts → step_in rs k (trees_of (tree_list ts)) ≡ None
 none_in rs [] k all = refl
@@ -154,18 +162,3 @@ module _ (too_large : ClauseTree → Bool) (rs : List Held) where
   steps_on m k c ws w d vs e small next words =
       ap (λ n. steps_left n c ws) next ∙ ap (λ o. words_then ws (one_step k c o)) (sym e) ∙ ap (λ b. words_then ws (if b then simplified c [] else then_word w (normal_form too_large rs k d))) small
       ∙ ap (simplified (normal_form too_large rs k d).clause) (sym (append_assoc ws (w ∷ []) (normal_form too_large rs k d).words)) ∙ ap (λ us. steps_left k d us) (sym words)
-
--- a term between others
-pub between_is : (ts : List Term) (i : ℕ) (u : Tree) → (tree_list (take i ts) ++ u ∷ []) ++ tree_list (take (length ts - (i + 1)) (drop (i + 1) ts)) ≡ take i (tree_list ts) ++ u ∷ drop (suc i) (tree_list ts)
-between_is ts i u =
-    append_assoc (tree_list (take i ts)) (u ∷ []) (tree_list (take (length ts - (i + 1)) (drop (i + 1) ts)))
-    ∙ ap (λ us. tree_list (take i ts) ++ u ∷ tree_list us) (take_rest ts (i + 1)) ∙ halves ts i u
-  where
-    halves : (vs : List Term) (n : ℕ) (w : Tree) → tree_list (take n vs) ++ w ∷ tree_list (drop (n + 1) vs) ≡ take n (tree_list vs) ++ w ∷ drop (suc n) (tree_list vs)
-    halves [] zero w = refl
-    halves [] (suc n) w = rw add-one refl
-    halves (v ∷ vs) zero w = refl
-    halves (v ∷ vs) (suc n) w = rw add-one (ap (λ us. tree_of v ∷ us) (rw add-one at (halves vs n w)))
-
-abbrev pub step_with : ℕ → List ℕ → Tree → RewriteStep Tree
-step_with rule path t = record { rule = rule; path = path; result = t }

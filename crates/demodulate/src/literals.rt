@@ -1,8 +1,10 @@
 // Literals of a clause changed in place.
 ghost use Rattle.std.specs.Prelude.{◌≡◌, ◌<◌, ◌+◌, ◌++◌, true, drop, length, take};
+ghost use Rattle.demodulate.specs.Steps.{with_part_at};
 ghost use Rattle.derivation.specs.Equations.{equation, is_equation, left_of, right_of};
 ghost use Rattle.derivation.specs.Places.{atom_at, with_atom};
 ghost use Rattle.fol_core.specs.TermView.{tree_of};
+ghost use Rattle.substitutions.specs.Paths.{replaced};
 
 use fol_core::{Clause, Term};
 use std::mem;
@@ -29,13 +31,36 @@ pub fn turn_at(clause: &mut Clause, place: usize)
     turn(&mut clause.literals[place].atom);
 }
 
-/// Another atom at a place; the one that was there is handed out.
-pub fn exchange(clause: &mut Clause, place: usize, atom: Term) -> Term
-    requires { place < length clause.old }
-    ensures clause { clause.new ≡ with_atom clause.old place (tree_of atom) }
-    ensures old { tree_of result ≡ atom_at clause.old place }
+// Another term at a path; the one that was there is handed out, and where the path isn't there, the new one.
+fn put_at(term: &mut Term, path: &[u64], part: Term) -> Term
+    ensures changed { tree_of term.new ≡ replaced (tree_of term.old) path.now (tree_of part) }
+    ensures back { tree_of term.old ≡ replaced (tree_of term.new) path.now (tree_of result) }
 {
-    mem::replace(&mut clause.literals[place].atom, atom)
+    let Some((number, rest)) = path.split_first() else {
+        return mem::replace(term, part);
+    };
+    match term {
+        Term::Var(_) => part,
+        Term::Elem(_) => part,
+        Term::App(_, terms) => {
+            if *number == 0 {
+                return part;
+            }
+            if *number > terms.items.len() as u64 {
+                return part;
+            }
+            put_at(&mut terms.items[(*number - 1) as usize], rest, part)
+        }
+    }
+}
+
+/// Another term at a path of the atom at a place; what has to be put there for the clause as it was is handed out.
+pub fn exchange(clause: &mut Clause, place: usize, path: &[u64], part: Term) -> Term
+    requires { place < length clause.old }
+    ensures changed { clause.new ≡ with_part_at clause.old place path.now (tree_of part) }
+    ensures back { clause.old ≡ with_part_at clause.new place path.now (tree_of result) }
+{
+    put_at(&mut clause.literals[place].atom, path, part)
 }
 
 /// The literal at a place is left out.

@@ -2,14 +2,14 @@
 ghost use Rattle.std.specs.Prelude.{◌≡◌, ◌<◌, ◌≤◌, ◌∷◌, IfOk, length};
 ghost use Rattle.std.specs.Option.{option_map};
 ghost use Rattle.demodulate.specs.Resumed.{AreLiteralsNormalBefore};
-ghost use Rattle.demodulate.specs.Steps.{placed_step, IsPlaceIn, TakesAtom, tidied_of};
+ghost use Rattle.demodulate.specs.Steps.{placed_step, IsPlaceIn, TakesClause, tidied_of, with_part_at};
 ghost use Rattle.fol_core.specs.TermView.{tree_of};
 ghost use Rattle.prover_steps.specs.Rewriting.{clause_step, normal_form};
 ghost use Rattle.prover_steps.specs.Searching.{is_too_large};
 
 use crate::literals::exchange;
 use crate::rewriting::{atom_step, is_passed, place_within};
-use crate::step::{PlacedStep, Tidied};
+use crate::step::{PlacedStep, Step, Tidied};
 use clause_index::Rules;
 use clause_limits::is_too_large;
 use derivation::{Later, Rewrite};
@@ -61,14 +61,15 @@ fn place_below(alloc: Global, literal: usize, path: &[u64]) -> Result<Vec<u64>, 
 }
 
 // A step is taken, unless it makes the clause too large.
-#[tactic(auto, using(crate::proofs::Placing::with_atom_length, crate::proofs::Placing::with_atom_back))]
-fn take_step(clause: &mut Clause, place: usize, atom: Term) -> bool
+#[tactic(auto, using(crate::proofs::Placing::with_atom_length))]
+fn take_step(clause: &mut Clause, place: usize, path: &[u64], part: Term) -> bool
     requires { place < length clause.old }
-    ensures { TakesAtom clause.old place (tree_of atom) clause.new result }
+    ensures { TakesClause clause.old (with_part_at clause.old place path.now (tree_of part))
+        clause.new result }
 {
-    let old = exchange(clause, place, atom);
+    let old = exchange(clause, place, path, part);
     if is_too_large(clause) {
-        exchange(clause, place, old);
+        exchange(clause, place, path, old);
         return false;
     }
     true
@@ -94,14 +95,15 @@ pub fn normal_form(
             None => return Ok(Tidied { clause, words }),
             Some(found) => {
                 let PlacedStep { place, step } = found;
-                if !take_step(&mut clause, place, step.result) {
+                let Step { rule, path, part } = step;
+                if !take_step(&mut clause, place, path.as_slice(), part) {
                     return Ok(Tidied { clause, words });
                 }
-                from = place_below(alloc, place, step.path.as_slice())?;
+                from = place_below(alloc, place, path.as_slice())?;
                 words.push(Later::Rewrite(Rewrite {
-                    rule: step.rule,
+                    rule,
                     literal: place as u64,
-                    path: step.path,
+                    path,
                 }))?;
             }
         }

@@ -1,17 +1,17 @@
 // The first step of rewriting: in the arguments, from the left, else of the whole, by the first rule that fits. What is left of
 // the place of the step before is in normal form, and isn't looked at again.
-ghost use Rattle.std.specs.Prelude.{◌≡◌, ◌<◌, ◌≤◌, ◌∷◌, ◌++◌, [], IfOk, OnOk, length};
+ghost use Rattle.std.specs.Prelude.{ℕ, ◌≡◌, ◌≤◌, IfOk};
 ghost use Rattle.std.specs.Option.{option_map};
 ghost use Rattle.demodulate.specs.Resumed.{is_passed, place_within, IsNormalBefore, AreNormalBefore};
-ghost use Rattle.demodulate.specs.Steps.{step_of, step_around};
-ghost use Rattle.fol_core.specs.TermView.{tree_of, tree_list};
+ghost use Rattle.demodulate.specs.Steps.{part_step, step_below, step_in_term};
+ghost use Rattle.fol_core.specs.TermView.{tree_of};
 ghost use Rattle.fol_core.specs.Tree.{app, trees_of};
 ghost use Rattle.prover_steps.specs.Rewriting.{rewritten_by, step_at_top, widened, first_step, step_in, atom_step};
 
 use crate::step::Step;
 use clause_index::Rules;
 use discrim_tree::Tries;
-use fol_core::{Sym, Term, Terms};
+use fol_core::{Term, Terms};
 use held_clauses::{Held, first_atom, left_of, right_of};
 use std::alloc::{AllocError, Global};
 use term_matches::Matches;
@@ -41,7 +41,7 @@ fn step_at_top(
     term: &Term,
     tries: &mut Tries,
 ) -> Result<Option<Step>, AllocError>
-    ensures step { IfOk result (λ o. option_map step_of o
+    ensures step { IfOk result (λ o. option_map (step_in_term (tree_of term.now)) o
         ≡ step_at_top rules.now (tree_of term.now)) }
     ensures on { tries.old ≤ tries.new }
 {
@@ -49,61 +49,22 @@ fn step_at_top(
         return Ok(None);
     };
     match rewritten_by(alloc, rule, term)? {
-        Some(result) => Ok(Some(Step {
+        Some(part) => Ok(Some(Step {
             rule: rule.number,
             path: Vec::new(alloc),
-            result,
+            part,
         })),
         None => Ok(None),
     }
 }
 
-// Copies of terms, at the end.
-fn push_copies(made: &mut Terms, alloc: Global, terms: &[Term]) -> Result<(), AllocError>
-    ensures { OnOk result (made.new ≡ made.old ++ tree_list terms.now) }
+// A step of an argument, by its number, is one of the application.
+fn step_below(number: u64, step: Step) -> Result<Step, AllocError>
+    ensures { IfOk result (λ s. part_step s ≡ step_below number (part_step step)) }
 {
-    for term in terms {
-        made.push(term.copy(alloc)?)?;
-    }
-    Ok(())
-}
-
-// Terms between others.
-fn between(alloc: Global, before: &[Term], new: Term, after: &[Term]) -> Result<Terms, AllocError>
-    ensures { IfOk result (λ made. made ≡ (tree_list before.now ++ tree_of new ∷ [])
-        ++ tree_list after.now) }
-{
-    let mut made = Terms::new(alloc);
-    push_copies(&mut made, alloc, before)?;
-    made.push(new)?;
-    push_copies(&mut made, alloc, after)?;
-    Ok(made)
-}
-
-// A step of an argument is one of the application.
-fn step_around(
-    alloc: Global,
-    head: Sym,
-    terms: &[Term],
-    place: usize,
-    step: Step,
-) -> Result<Step, AllocError>
-    requires { place < length terms.now }
-    ensures { IfOk result (λ s. step_of s ≡ step_around head.0 (tree_list terms.now) place
-        (step_of step)) }
-{
-    let Step {
-        rule,
-        mut path,
-        result,
-    } = step;
-    path.insert(0, place as u64 + 1)?;
-    let made = between(alloc, &terms[..place], result, &terms[place + 1..])?;
-    Ok(Step {
-        rule,
-        path,
-        result: Term::App(head, made),
-    })
+    let mut step = step;
+    step.path.insert(0, number)?;
+    Ok(step)
 }
 
 /// Whether a part is left of a place.
@@ -132,14 +93,14 @@ pub fn place_within(number: u64, place: &[u64]) -> &[u64]
 pub fn step_within(
     alloc: Global,
     rules: &Rules,
-    head: Sym,
     terms: &Terms,
     from: &[u64],
     tries: &mut Tries,
 ) -> Result<Option<Step>, AllocError>
     requires { AreNormalBefore rules.now from.now 1 (trees_of terms.now) }
-    ensures step { IfOk result (λ o. option_map step_of o
-        ≡ option_map (widened (app head.0)) (step_in rules.now 1 (trees_of terms.now))) }
+    ensures step { IfOk result (λ o. (f : ℕ)
+        → option_map (step_in_term (app f (trees_of terms.now))) o
+        ≡ option_map (widened (app f)) (step_in rules.now 1 (trees_of terms.now))) }
     ensures on { tries.old ≤ tries.new }
 {
     for (i, term) in terms.items.iter().enumerate() {
@@ -148,7 +109,7 @@ pub fn step_within(
             continue;
         }
         if let Some(step) = first_step(alloc, rules, term, place_within(number, from), tries)? {
-            return Ok(Some(step_around(alloc, head, terms.as_slice(), i, step)?));
+            return Ok(Some(step_below(number, step)?));
         }
     }
     Ok(None)
@@ -165,14 +126,14 @@ pub fn first_step(
     tries: &mut Tries,
 ) -> Result<Option<Step>, AllocError>
     requires { IsNormalBefore rules.now from.now (tree_of term.now) }
-    ensures step { IfOk result (λ o. option_map step_of o
+    ensures step { IfOk result (λ o. option_map (step_in_term (tree_of term.now)) o
         ≡ first_step rules.now (tree_of term.now)) }
     ensures on { tries.old ≤ tries.new }
 {
     match term {
         Term::Var(_) => Ok(None),
         Term::Elem(_) => Ok(None),
-        Term::App(f, terms) => match step_within(alloc, rules, *f, terms, from, tries)? {
+        Term::App(_, terms) => match step_within(alloc, rules, terms, from, tries)? {
             Some(step) => Ok(Some(step)),
             None => step_at_top(alloc, rules, term, tries),
         },
@@ -188,13 +149,13 @@ pub fn atom_step(
     tries: &mut Tries,
 ) -> Result<Option<Step>, AllocError>
     requires { IsNormalBefore rules.now from.now (tree_of atom.now) }
-    ensures step { IfOk result (λ o. option_map step_of o
+    ensures step { IfOk result (λ o. option_map (step_in_term (tree_of atom.now)) o
         ≡ atom_step rules.now (tree_of atom.now)) }
     ensures on { tries.old ≤ tries.new }
 {
     match atom {
         Term::Var(_) => Ok(None),
         Term::Elem(_) => Ok(None),
-        Term::App(f, terms) => step_within(alloc, rules, *f, terms, from, tries),
+        Term::App(_, terms) => step_within(alloc, rules, terms, from, tries),
     }
 }

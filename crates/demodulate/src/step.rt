@@ -2,12 +2,12 @@
 use derivation::Later;
 use fol_core::{Clause, Term};
 
-/// The number of a rule, the place of a term by the numbers of its arguments, and what becomes of the whole.
+/// The number of a rule, the place of a term by the numbers of its arguments, and what becomes of the term there.
 #[derive(Drop)]
 pub struct Step {
     pub rule: u64,
     pub path: Vec<u64>,
-    pub result: Term,
+    pub part: Term,
 }
 
 /// A step of the literal at a place.

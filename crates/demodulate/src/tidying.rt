@@ -9,8 +9,9 @@ use crate::normal::normal_form;
 use crate::ordering::put_in_order;
 use crate::step::Tidied;
 use clause_index::{HeldSets, Rules};
+use clause_limits::numbered_anew;
 use discrim_tree::Tries;
-use fol_core::{Clause, renumber};
+use fol_core::Clause;
 use ladr_options::Options;
 use std::alloc::{AllocError, Global};
 use term_order::Precedence;
@@ -41,6 +42,6 @@ pub fn tidy(
         rewritten,
         tries,
     )?;
-    let clause = renumber(alloc, &clause)?;
+    let clause = numbered_anew(alloc, clause)?;
     Ok(Tidied { clause, words })
 }

@@ -3,7 +3,8 @@ use Rattle.std.specs.Option.{option_map}
 use Rattle.fol_core.specs.ClauseView.{literal_of}
 use Rattle.fol_core.specs.TermView.{tree_of}
 use Rattle.demodulate.specs.Resumed.{is_passed, place_within, IsNormalBefore, AreLiteralsNormalBefore}
-use Rattle.demodulate.specs.Steps.{step_of, step_at}
+use Rattle.demodulate.specs.Steps.{step_in_term, step_at, placed_step}
+use Rattle.demodulate.proofs.Placing.{atom_there}
 use Rattle.demodulate.proofs.Redexes.{literal_step, normal_literals_more}
 use Rattle.demodulate.proofs.Resuming.{literal_before}
 use Rattle.prover_steps.specs.Rewriting.{atom_step, clause_step}
@@ -11,8 +12,10 @@ use Rattle.demodulate.proofs.normal.first_in_clause.Goals as goal
 
 pub returns-in-Some-clause-step : goal.returns-in-Some-clause-step
 returns-in-Some-clause-step c =
-    subst (λ d. Some (step_at d c.loop-place.place (step_of c.in-Some.step)) ≡ clause_step c.args.rules.now 0 d) (ap (map literal_of) c.deref-literal-items.ensures.value ∙ c.clause.view_is)
-    (literal_step c.args.rules.now c.deref-literal-items.result.now c.loop-place.place c.literal-item.result (step_of c.in-Some.step) c.loop-place-test.true c.literal-item.is c.loop-place.invariant.normal (sym c.in_ok-step.ensures.step ∙ ap (option_map step_of) c.in-Some.is))
+    subst (λ d. Some (placed_step d (record { place = c.loop-place.place; step = c.in-Some.step })) ≡ clause_step c.args.rules.now 0 d) (ap (map literal_of) c.deref-literal-items.ensures.value ∙ c.clause.view_is)
+    (ap (λ t. Some (step_at (map literal_of c.deref-literal-items.result.now) c.loop-place.place (step_in_term t c.in-Some.step))) (atom_there c.deref-literal-items.result.now c.loop-place.place c.literal-item.result c.loop-place-test.true c.literal-item.is)
+    ∙ literal_step c.args.rules.now c.deref-literal-items.result.now c.loop-place.place c.literal-item.result (step_in_term (tree_of c.literal-item.result.atom) c.in-Some.step) c.loop-place-test.true c.literal-item.is c.loop-place.invariant.normal
+    (sym c.in_ok-step.ensures.step ∙ ap (option_map (step_in_term (tree_of c.literal-item.result.atom))) c.in-Some.is))
 
 pub loop-place-preserved-then-is_passed : goal.loop-place-preserved-then-is_passed
 loop-place-preserved-then-is_passed c =

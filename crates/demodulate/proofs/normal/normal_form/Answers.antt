@@ -4,7 +4,7 @@ use Rattle.std.proofs.lemmas.Grind.{common_steps}
 use Rattle.derivation.specs.View.{later_of}
 use Rattle.fol_core.specs.TermView.{tree_of}
 use Rattle.demodulate.specs.Resumed.{AreLiteralsNormalBefore}
-use Rattle.demodulate.specs.Steps.{placed_step, TakesAtom}
+use Rattle.demodulate.specs.Steps.{placed_step, TakesClause, with_part_at}
 use Rattle.demodulate.proofs.Redexes.{steps_left, steps_large, steps_on}
 use Rattle.demodulate.proofs.Resuming.{clause_before}
 use Rattle.prover_steps.specs.Rewriting.{simplified, clause_step}
@@ -13,8 +13,9 @@ use Rattle.demodulate.proofs.normal.normal_form.Goals as goal
 
 pub returns-then-not-take_step-clause-normal : goal.returns-then-not-take_step-clause-normal
 returns-then-not-take_step-clause-normal c =
-    let refused : TakesAtom c.loop-step.clause c.in-Some.found.place (tree_of c.in-Some.found.step.result) c.take_step.new.clause false =
-    subst (TakesAtom c.loop-step.clause c.in-Some.found.place (tree_of c.in-Some.found.step.result) c.take_step.new.clause) c.if-not-take_step.true c.take_step.ensures
+    let refused : TakesClause c.loop-step.clause (with_part_at c.loop-step.clause c.in-Some.found.place c.in-Some.found.step.path.items (tree_of c.in-Some.found.step.part)) c.take_step.new.clause false =
+    subst (λ p. TakesClause c.loop-step.clause (with_part_at c.loop-step.clause c.in-Some.found.place p (tree_of c.in-Some.found.step.part)) c.take_step.new.clause false) c.as_slice-in-Some.ensures.value
+    (subst (TakesClause c.loop-step.clause (with_part_at c.loop-step.clause c.in-Some.found.place c.as_slice-in-Some.result.now (tree_of c.in-Some.found.step.part)) c.take_step.new.clause) c.if-not-take_step.true c.take_step.ensures)
     in
     ap (λ d. simplified d (map later_of c.loop-step.words.items)) refused.0
     ∙ sym (steps_large is_too_large c.args.rules.now (c.args.limit - c.loop-step._step) c.loop-step.clause (map later_of c.loop-step.words.items) (placed_step c.loop-step.clause c.in-Some.found).0 (placed_step c.loop-step.clause c.in-Some.found).1
@@ -23,8 +24,9 @@ returns-then-not-take_step-clause-normal c =
 
 pub loop-step-preserved : goal.loop-step-preserved
 loop-step-preserved c =
-    let taken : TakesAtom c.loop-step.clause c.in-Some.found.place (tree_of c.in-Some.found.step.result) c.take_step.new.clause true =
-    subst (TakesAtom c.loop-step.clause c.in-Some.found.place (tree_of c.in-Some.found.step.result) c.take_step.new.clause) c.if-not-take_step.false c.take_step.ensures
+    let taken : TakesClause c.loop-step.clause (with_part_at c.loop-step.clause c.in-Some.found.place c.in-Some.found.step.path.items (tree_of c.in-Some.found.step.part)) c.take_step.new.clause true =
+    subst (λ p. TakesClause c.loop-step.clause (with_part_at c.loop-step.clause c.in-Some.found.place p (tree_of c.in-Some.found.step.part)) c.take_step.new.clause true) c.as_slice-in-Some.ensures.value
+    (subst (TakesClause c.loop-step.clause (with_part_at c.loop-step.clause c.in-Some.found.place c.as_slice-in-Some.result.now (tree_of c.in-Some.found.step.part)) c.take_step.new.clause) c.if-not-take_step.false c.take_step.ensures)
     in
     let found : clause_step c.args.rules.now 0 c.loop-step.clause ≡ Some (placed_step c.loop-step.clause c.in-Some.found) =
     sym (sym (ap (option_map (placed_step c.loop-step.clause)) c.in-Some.is) ∙ c.in_ok-first_in_clause.ensures.step)
@@ -38,7 +40,7 @@ loop-step-preserved c =
           (grind (arith, common_steps, c.in_ok-push-in-Some.ensures.items)))
           ∙ c.loop-step.invariant.same;
       before =
-          subst (λ p. AreLiteralsNormalBefore c.args.rules.now p 0 c.take_step.new.clause) (sym (c.in_ok-from-in-Some.ensures ∙ ap (λ p. c.in-Some.found.place ∷ p) c.as_slice-in-Some.ensures.value))
+          subst (λ p. AreLiteralsNormalBefore c.args.rules.now p 0 c.take_step.new.clause) (sym (c.in_ok-from-in-Some.ensures ∙ ap (λ p. c.in-Some.found.place ∷ p) c.as_slice-in-Some-2.ensures.value))
           (subst (λ d. AreLiteralsNormalBefore c.args.rules.now (c.in-Some.found.place ∷ c.in-Some.found.step.path.items) 0 d) (sym taken.0)
           (clause_before c.args.rules.now c.loop-step.clause c.in-Some.found.step.rule c.in-Some.found.place c.in-Some.found.step.path.items (placed_step c.loop-step.clause c.in-Some.found).1 found));
       on = omega (arith, c.loop-step.invariant.on, c.first_in_clause.ensures.on);

@@ -1,9 +1,9 @@
-use Rattle.std.proofs.Common.{◌≡◌, ◌+◌, ap, subst, sym, ◌∙◌, Some, true, None, arith}
+use Rattle.std.proofs.Common.{◌≡◌, ◌+◌, refl, ap, subst, sym, ◌∙◌, Some, true, None, arith}
 use Rattle.std.specs.Option.{option_map}
 use Rattle.fol_core.specs.TermView.{tree_of, tree_list}
 use Rattle.fol_core.specs.Tree.{app, nodes_of, trees_of}
 use Rattle.demodulate.specs.Resumed.{is_passed, place_within, IsNormalBefore, AreNormalBefore}
-use Rattle.demodulate.specs.Steps.{step_of, step_around}
+use Rattle.demodulate.specs.Steps.{part_step, step_below, whole_step, step_in_term}
 use Rattle.demodulate.proofs.Redexes.{normal_more, argument_step, no_argument_step}
 use Rattle.term_matches.proofs.Standing.{argument_nodes}
 use Rattle.demodulate.proofs.Resuming.{argument_before}
@@ -11,15 +11,16 @@ use Rattle.prover_steps.specs.Rewriting.{widened, first_step, step_in}
 use Rattle.demodulate.proofs.rewriting.+first_step.Goals as goal
 
 pub step_within-returns-in-Some-clause-step : goal.step_within-returns-in-Some-clause-step
-step_within-returns-in-Some-clause-step t c =
-    ap Some (c.in_ok-step_around.ensures ∙ ap (λ ts. step_around c.args.head.0 ts c.loop-i.i (step_of c.in-Some.step)) (c.as_slice.ensures.trees ∙ sym c.terms.view_is ∙ ap tree_list (sym c.deref-term-items.ensures.value)))
-    ∙ argument_step c.args.rules.now c.args.head.0 c.deref-term-items.result.now c.loop-i.i c.term-item.result (step_of c.in-Some.step) c.loop-i-test.true c.term-item.is c.loop-i.invariant.normal (sym c.in_ok-step.ensures.step ∙ ap (option_map step_of) c.in-Some.is)
-    ∙ ap (λ ts. option_map (widened (app c.args.head.0)) (step_in c.args.rules.now 1 (trees_of ts))) (ap tree_list c.deref-term-items.ensures.value ∙ c.terms.view_is)
+step_within-returns-in-Some-clause-step t c = λ f.
+    ap (λ r. Some (whole_step (app f (trees_of c.args.terms.now)) r)) c.in_ok-step_below.ensures
+    ∙ subst (λ ts. Some (whole_step (app f (trees_of ts)) (step_below (c.loop-i.i + 1) (part_step c.in-Some.step))) ≡ option_map (widened (app f)) (step_in c.args.rules.now 1 (trees_of ts))) (ap tree_list c.deref-term-items.ensures.value ∙ c.terms.view_is)
+    (argument_step c.args.rules.now f c.deref-term-items.result.now c.loop-i.i (c.loop-i.i + 1) c.term-item.result (part_step c.in-Some.step) c.loop-i-test.true c.term-item.is refl c.loop-i.invariant.normal
+    (ap (option_map (step_in_term (tree_of c.term-item.result))) (sym c.in-Some.is) ∙ c.in_ok-step.ensures.step))
 
 pub step_within-returns-clause-step : goal.step_within-returns-clause-step
-step_within-returns-clause-step t c =
-    no_argument_step c.args.rules.now c.args.head.0 c.deref-term-items.result.now c.loop-i.i c.loop-i-test.false c.loop-i.invariant.normal
-    ∙ ap (λ ts. option_map (widened (app c.args.head.0)) (step_in c.args.rules.now 1 (trees_of ts))) (ap tree_list c.deref-term-items.ensures.value ∙ c.terms.view_is)
+step_within-returns-clause-step t c = λ f.
+    no_argument_step c.args.rules.now f c.deref-term-items.result.now c.loop-i.i c.loop-i-test.false c.loop-i.invariant.normal
+    ∙ ap (λ ts. option_map (widened (app f)) (step_in c.args.rules.now 1 (trees_of ts))) (ap tree_list c.deref-term-items.ensures.value ∙ c.terms.view_is)
 
 pub step_within-loop-i-preserved-then-is_passed : goal.step_within-loop-i-preserved-then-is_passed
 step_within-loop-i-preserved-then-is_passed t c =
