@@ -1,13 +1,14 @@
 -- A clause that subsumes one with literals begins with a literal of which one of those is an instance, or has none.
-use Rattle.std.proofs.Common.{◌≡◌, ◌≢◌, ℕ, zero, suc, Bool, true, false, not, ◌==◌, ◌&&◌, ◌||◌, if◌then◌else◌, is_some, length, slice_get, List, [], ◌∷◌, Option, Some, None, filter, refl, ap, ap₂, ◌∙◌}
+use Rattle.std.proofs.Common.{◌≡◌, ◌≢◌, ℕ, zero, suc, Bool, true, false, not, ◌==◌, ◌&&◌, ◌||◌, if◌then◌else◌, is_some, length, slice_get, List, [], ◌∷◌, Option, Some, None, filter, refl, sym, ap, ap₂, ◌∙◌, arith}
 use Rattle.std.specs.Borrow.{Bor}
 use Rattle.std.specs.List.{list_any}
 use Rattle.std.specs.Option.{option_map_or}
 use Rattle.clause_index.specs.Entries.{begins_generally}
 use Rattle.derivation.specs.Places.{same_sign, others, atom_at, has_literal}
 use Rattle.fol_core.specs.Literals.{Lit, ClauseTree}
-use Rattle.given_clause.specs.Acting.{is_subsumed_from}
+use Rattle.given_clause.specs.Acting.{StandsIn, is_short, is_subsumed_from}
 use Rattle.held_clauses.specs.Holding.{lent}
+use Rattle.prover_steps.proofs.Subsumption.{place_passes}
 use Rattle.prover_steps.specs.Clashing.{Held, places_of}
 use Rattle.prover_steps.specs.Subsuming.{matched_literal, literal_matches, subsumes_with, subsumes}
 use Rattle.substitutions.specs.Bindings.{Binding}
@@ -140,3 +141,42 @@ kept_any p q (h ∷ hs) = by (q h) (kept_any p q hs)
 pub of_lent : (hs : List Held) (d : ClauseTree) (k : Lit) (bs : List (Bor Held)) → lent bs ≡ filter (begins_generally k.positive k.atom) hs → list_any (λ b. subsumes b.now.clause d) bs ≡ is_subsumed_from hs d k
 of_lent hs d k bs found =
     lent_any (λ h. subsumes h.clause d) bs ∙ ap (list_any (λ h. subsumes h.clause d)) found ∙ kept_any (λ h. subsumes h.clause d) (begins_generally k.positive k.atom) hs
+
+-- a literal of a clause that begins generally is matched
+matches_back : (l k : Lit) (c : ClauseTree) → (not (has_literal (not k.positive) (l ∷ c) 0) && is_some (matched l.atom k.atom [])) ≡ true → is_some (matched_literal l k []) ≡ true
+matches_back l k c e = by l.positive k.positive e
+  where
+    by : (p q : Bool) → (not (same_sign (not q) p) && is_some (matched l.atom k.atom [])) ≡ true → is_some (if same_sign p q then matched l.atom k.atom [] else None) ≡ true
+    by true true f = f
+    by true false f = false_is f
+    by false true f = false_is f
+    by false false f = f
+
+one_way : (o : Option (List Binding)) → is_some o ≡ true → option_map_or (λ (more : List Binding). true) o false ≡ true
+one_way None e = false_is e
+one_way (Some bs) e = refl
+
+-- a clause of one literal at most that begins with a literal of which one of another clause is an instance subsumes that
+short_subsumes : (c d : ClauseTree) (a : ℕ) (k : Lit) → slice_get d a ≡ Some k → (not (has_literal (not k.positive) c 0) && is_some (matched (atom_at c 0) k.atom [])) ≡ true → is_short c ≡ true → subsumes c d ≡ true
+short_subsumes [] d a k there e short = refl
+short_subsumes (l ∷ []) d a k there e short = place_passes at 0 a a d k (omega arith) there (ap way there ∙ one_way (matched_literal l k []) (matches_back l k [] e))
+  where
+    way : Option Lit → Bool
+    way o = option_map_or (λ (more : List Binding). true) (option_map_or (λ j. matched_literal l j []) o None) false
+
+    at : ℕ → Bool
+    at n = way (slice_get d n)
+short_subsumes (l ∷ j ∷ c) d a k there e short = false_is short
+
+-- so one of those that are lent does, if it has one literal at most
+pub of_short : (hs : List Held) (d : ClauseTree) (k : Lit) (bs : List (Bor Held)) → StandsIn d k → lent bs ≡ filter (begins_generally k.positive k.atom) hs → list_any (λ b. is_short b.now.clause) bs ≡ true → is_subsumed_from hs d k ≡ true
+of_short hs d k bs (a, there) found e =
+    any_so (λ h. begins_generally k.positive k.atom h && is_short h.clause) (λ h. begins_generally k.positive k.atom h && subsumes h.clause d) each hs
+    (sym (lent_any (λ h. is_short h.clause) bs ∙ ap (list_any (λ h. is_short h.clause)) found ∙ kept_any (λ h. is_short h.clause) (begins_generally k.positive k.atom) hs) ∙ e)
+  where
+    by : (h : Held) (b : Bool) → begins_generally k.positive k.atom h ≡ b → (b && is_short h.clause) ≡ true → (begins_generally k.positive k.atom h && subsumes h.clause d) ≡ true
+    by h true begins short = ap (λ b. b && subsumes h.clause d) begins ∙ short_subsumes h.clause d a k there begins short
+    by h false begins short = false_is short
+
+    each : (h : Held) → (begins_generally k.positive k.atom h && is_short h.clause) ≡ true → (begins_generally k.positive k.atom h && subsumes h.clause d) ≡ true
+    each h short = by h (begins_generally k.positive k.atom h) refl short

@@ -1,5 +1,5 @@
 -- What a clause that is kept does to others.
-use Rattle.std.specs.Prelude.{ℕ, Bool, true, not, ◌&&◌, List, [], ◌∷◌, Option, Some, None, filter, flat_map}
+use Rattle.std.specs.Prelude.{◌≡◌, ℕ, Bool, true, false, not, ◌&&◌, List, [], ◌∷◌, Option, Some, None, slice_get, filter, flat_map}
 use Rattle.std.specs.List.{list_any}
 use Rattle.clause_index.specs.Entries.{begins_generally}
 use Rattle.clause_index.specs.Finding.{has_atom_such, has_inside_such}
@@ -51,6 +51,16 @@ word_for Rewrites n = by_back_rewrite n
 abbrev pub is_subsumed_from : List Held → ClauseTree → Lit → Bool
 is_subsumed_from hs c k =
     list_any (λ h. begins_generally k.positive k.atom h && subsumes h.clause c) hs
+
+-- whether a clause has one literal at most
+abbrev pub is_short : ClauseTree → Bool
+is_short [] = true
+is_short (l ∷ []) = true
+is_short (l ∷ k ∷ c) = false
+
+-- whether a literal stands somewhere in a clause
+abbrev pub StandsIn : ClauseTree → Lit → Type 0
+StandsIn c k = (a : ℕ) × (slice_get c a ≡ Some k)
 
 -- what a clause makes of units
 abbrev pub conflicts_with : List Held → Held → List Conclusion

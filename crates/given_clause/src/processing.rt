@@ -3,7 +3,7 @@ ghost use Rattle.std.specs.Prelude.{◌≡◌, ◌≤◌, ◌∷◌, [], false, 
 ghost use Rattle.std.specs.List.{AllByRecursion, list_any};
 ghost use Rattle.std.specs.Option.{option_map};
 ghost use Rattle.fol_core.specs.ClauseView.{literal_of};
-ghost use Rattle.given_clause.specs.Acting.{is_subsumed_from};
+ghost use Rattle.given_clause.specs.Acting.{StandsIn, is_short, is_subsumed_from};
 ghost use Rattle.given_clause.specs.Guides.{setting_of};
 ghost use Rattle.given_clause.specs.Noted.{AreNoted, StayNoted};
 ghost use Rattle.given_clause.specs.States.{entry_of, queued_of, reason_of, state_of};
@@ -98,7 +98,28 @@ fn is_subsumed_by_lent(alloc: Global, held: &[&Held], clause: &Clause) -> Result
     Ok(false)
 }
 
-// Whether one of a set does so that begins with a literal of which this one is an instance.
+// Whether a clause has one literal at most.
+fn is_short(clause: &Clause) -> bool
+    ensures { result ≡ is_short clause.now }
+{
+    clause.len() <= 1
+}
+
+// Whether one of some clauses that are lent has.
+#[tactic(auto, using(crate::proofs::Tests::some_here, crate::proofs::Tests::some_behind, crate::proofs::Tests::some_end))]
+fn has_short(held: &[&Held]) -> bool
+    ensures { result ≡ list_any (λ h. is_short h.now.clause) held.now }
+{
+    for one in held {
+        if is_short(one.clause()) {
+            return true;
+        }
+    }
+    false
+}
+
+// Whether one of a set does so that begins with a literal of which this one of the clause is an instance. One that is found
+// and has no other literal does so without a test.
 fn is_subsumed_from(
     alloc: Global,
     set: &HeldSet,
@@ -106,11 +127,15 @@ fn is_subsumed_from(
     clause: &Clause,
     tries: &mut Tries,
 ) -> Result<bool, AllocError>
+    requires { StandsIn clause.now (literal_of literal.now) }
     ensures subsumed { IfOk result (λ b. b
         ≡ is_subsumed_from set.now clause.now (literal_of literal.now)) }
     ensures on { tries.old ≤ tries.new }
 {
     let held = set.generalizing(literal.positive, &literal.atom, tries)?;
+    if has_short(held.as_slice()) {
+        return Ok(true);
+    }
     is_subsumed_by_lent(alloc, held.as_slice(), clause)
 }
 
