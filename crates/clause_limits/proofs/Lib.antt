@@ -1,4 +1,5 @@
 pub mod Changing
+pub mod Few
 pub mod Maxima
 pub mod Measures
 pub mod Noting

@@ -83,11 +83,15 @@ pub fn left_behind_clause(clause: &Clause, room: u64) -> Option<u64>
     Some(left)
 }
 
-/// Whether a clause has more levels, or more symbols and variables: the levels are counted first.
+/// Whether a clause has more levels, or more symbols and variables: levels are counted only where it has so many symbols and
+/// variables that they may be too many.
 pub fn is_larger(clause: &Clause, levels: u64, symbols: u64) -> bool
     ensures { result
         ≡ (nat_lt levels (clause_depth clause.now) || nat_lt symbols (clause_size clause.now)) }
 {
+    if let Some(_left) = left_behind_clause(clause, levels.min(symbols)) {
+        return false;
+    }
     if is_clause_deeper(clause, levels) {
         return true;
     }
