@@ -8,6 +8,7 @@ pub mod Looking
 pub mod Measured
 pub mod Merges
 pub mod Orders
+pub mod Pairing
 pub mod Renamed
 pub mod Rooms
 pub mod Solving

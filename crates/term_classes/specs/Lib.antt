@@ -6,6 +6,7 @@ pub mod Equated
 pub mod Measures
 pub mod Merging
 pub mod Named
+pub mod Paired
 pub mod Rooms
 pub mod Shapes
 pub mod Solutions

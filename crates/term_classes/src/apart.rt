@@ -18,12 +18,12 @@ use fol_core::Term;
 use std::alloc::{AllocError, Global};
 use std::marker::Model;
 
-// The number of a variable of a term by its place among two, or want of memory where it is no number of the machine.
-fn number_apart(x: u64, place: u64) -> Result<u64, AllocError>
-    ensures { IfOk result (λ n. n ≡ x * 2 + place) }
+// The number of a variable of a term by its place among so many, or want of memory where it is no number of the machine.
+fn number_apart(x: u64, many: u64, place: u64) -> Result<u64, AllocError>
+    ensures { IfOk result (λ n. n ≡ x * many + place) }
 {
-    match x.checked_mul(2) {
-        Some(twice) => match twice.checked_add(place) {
+    match x.checked_mul(many) {
+        Some(product) => match product.checked_add(place) {
             Some(number) => Ok(number),
             None => Err(AllocError),
         },
@@ -31,20 +31,21 @@ fn number_apart(x: u64, place: u64) -> Result<u64, AllocError>
     }
 }
 
-// Puts a term into an arena with its variables renamed, by its place among two.
-fn put_apart(
+/// Puts a term into an arena with its variables renamed, by its place among so many.
+pub fn put_apart(
     arena: &mut Arena,
     term: &Term,
+    many: u64,
     place: u64,
     numbers: &mut Vec<usize>,
 ) -> Result<(), AllocError>
     requires { IsArena arena.old }
     ensures { IfOk result (λ r. AreNodes arena.old arena.new numbers.old.items numbers.new.items
-        (substitute (interleaved 2 place) (tree_of term.now) ∷ [])) }
+        (substitute (interleaved many place) (tree_of term.now) ∷ [])) }
 {
     match term {
         Term::Var(x) => {
-            let own = number_apart(*x, place)?;
+            let own = number_apart(*x, many, place)?;
             let n = enter_variable(arena, own)?;
             numbers.push(n)?;
             Ok(())
@@ -57,7 +58,7 @@ fn put_apart(
         Term::App(f, terms) => {
             let first = numbers.len();
             for term in &terms.items {
-                put_apart(arena, term, place, numbers)?;
+                put_apart(arena, term, many, place, numbers)?;
             }
             apply(arena, f.0, first, numbers)?;
             Ok(())
@@ -74,9 +75,9 @@ pub fn entered_apart(alloc: Global, s: &Term, t: &Term) -> Result<Entered, Alloc
     let room = count(s).saturating_add(count(t));
     let mut arena = roomy_arena(alloc, room)?;
     let mut left_nodes = Vec::with_capacity(alloc, room)?;
-    put_apart(&mut arena, s, 0, &mut left_nodes)?;
+    put_apart(&mut arena, s, 2, 0, &mut left_nodes)?;
     let mut right_nodes = Vec::with_capacity(alloc, room)?;
-    put_apart(&mut arena, t, 1, &mut right_nodes)?;
+    put_apart(&mut arena, t, 2, 1, &mut right_nodes)?;
     let nodes = enter(alloc, arena, left_nodes, right_nodes)?;
     Ok(nodes)
 }

@@ -14,6 +14,7 @@ use crate::counting::count_all;
 use crate::entered::Entered;
 use crate::measure::Measure;
 use crate::measuring::unmeasured;
+use crate::pairs::{Pairs, entered_pairs};
 use crate::room::enter;
 use crate::solution::Solution;
 use crate::unifying::unifier_of;
@@ -69,6 +70,15 @@ impl Equations {
         )) }
     {
         let nodes = entered_apart(alloc, s, t)?;
+        let measures = unmeasured(alloc, nodes.arena.nodes.len())?;
+        Ok(Equations { nodes, measures })
+    }
+
+    /// Terms of several clauses, renamed apart, with room for unifying them.
+    pub fn paired(alloc: Global, pairs: Pairs) -> Result<Equations, AllocError>
+        ensures { IfOk result (λ e. e ≡ pairs) }
+    {
+        let nodes = entered_pairs(alloc, pairs)?;
         let measures = unmeasured(alloc, nodes.arena.nodes.len())?;
         Ok(Equations { nodes, measures })
     }

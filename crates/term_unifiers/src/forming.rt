@@ -59,7 +59,7 @@ fn literal_under(
 fn clause_under(alloc: Global, unifier: &Solution, clause: &Clause) -> Result<Clause, AllocError>
     ensures { IfOk result (λ c. c ≡ substitute_clause (by_bindings unifier.now) clause.now) }
 {
-    let mut made = Clause::new(alloc);
+    let mut made = Clause::with_capacity(alloc, clause.literals.len())?;
     for literal in &clause.literals {
         made.push(literal_under(alloc, unifier, literal)?)?;
     }

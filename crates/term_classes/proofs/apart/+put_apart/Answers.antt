@@ -12,24 +12,24 @@ use Rattle.term_classes.proofs.apart.+put_apart.Goals as goal
 
 pub loop-term-preserved : goal.loop-term-preserved
 loop-term-preserved t c =
-    let renamed = substitute (interleaved 2 c.args.place) in
+    let renamed = substitute (interleaved c.args.many c.args.place) in
     subst (AreNodes c.args.arena.now c.put_apart.new.arena c.args.numbers.now.items c.put_apart.new.numbers.items) (made_next renamed c.deref-term-items.result.now c.loop-term.term-index c.term-item.result c.loop-term-test.true c.term-item.is)
     (nodes_next c.args.arena.now c.loop-term.arena c.put_apart.new.arena c.args.numbers.now.items c.loop-term.numbers.items c.put_apart.new.numbers.items (map (λ u. renamed (tree_of u)) (take c.loop-term.term-index c.deref-term-items.result.now)) (renamed (tree_of c.term-item.result))
     c.loop-term.invariant c.in_ok-put_apart-in-App.ensures)
 
 pub returns-in_ok-push-in-Var : goal.returns-in_ok-push-in-Var
 returns-in_ok-push-in-Var t c =
-    leaf_node c.args.arena.now c.enter_variable.new.arena c.args.numbers.now.items c.push.new.self.items (variable c.in_ok-own-in-Var.own) c.in_ok-n-in-Var.n (substitute (interleaved 2 c.args.place) (tree_of c.args.term.now)) c.in_ok-n-in-Var.ensures c.in_ok-push-in-Var.ensures.items
-    (ap var c.in_ok-own-in-Var.ensures ∙ sym (ap (λ u. substitute (interleaved 2 c.args.place) (tree_of u)) c.in-Var.is))
+    leaf_node c.args.arena.now c.enter_variable.new.arena c.args.numbers.now.items c.push.new.self.items (variable c.in_ok-own-in-Var.own) c.in_ok-n-in-Var.n (substitute (interleaved c.args.many c.args.place) (tree_of c.args.term.now)) c.in_ok-n-in-Var.ensures c.in_ok-push-in-Var.ensures.items
+    (ap var c.in_ok-own-in-Var.ensures ∙ sym (ap (λ u. substitute (interleaved c.args.many c.args.place) (tree_of u)) c.in-Var.is))
 
 pub returns-in_ok-push-in-Elem : goal.returns-in_ok-push-in-Elem
 returns-in_ok-push-in-Elem t c =
-    leaf_node c.args.arena.now c.enter_element.new.arena c.args.numbers.now.items c.push-in-Elem.new.self.items (element c.in-Elem.k) c.in_ok-n-in-Elem.n (substitute (interleaved 2 c.args.place) (tree_of c.args.term.now)) c.in_ok-n-in-Elem.ensures c.in_ok-push-in-Elem.ensures.items
-    (sym (ap (λ u. substitute (interleaved 2 c.args.place) (tree_of u)) c.in-Elem.is))
+    leaf_node c.args.arena.now c.enter_element.new.arena c.args.numbers.now.items c.push-in-Elem.new.self.items (element c.in-Elem.k) c.in_ok-n-in-Elem.n (substitute (interleaved c.args.many c.args.place) (tree_of c.args.term.now)) c.in_ok-n-in-Elem.ensures c.in_ok-push-in-Elem.ensures.items
+    (sym (ap (λ u. substitute (interleaved c.args.many c.args.place) (tree_of u)) c.in-Elem.is))
 
 pub returns-in_ok-apply-in-App : goal.returns-in_ok-apply-in-App
 returns-in_ok-apply-in-App t c =
-    let terms = interleaved 2 c.args.place in
+    let terms = interleaved c.args.many c.args.place in
     let first : c.len-first.result ≡ length c.args.numbers.now.items = omega (arith, c.len-first.ensures, c.args.numbers.now.ok.0) in
     let us = map (λ u. substitute terms (tree_of u)) (take c.loop-term.term-index c.deref-term-items.result.now) in
     let all : app c.in-App.f.0 (trees_of us) ≡ substitute terms (tree_of c.args.term.now) =

@@ -10,4 +10,4 @@ abbrev pub decreases-put_apart : goal.decreases-put_apart
 decreases-put_apart l = goal.size-put_apart l
 
 abbrev pub invariant-loop-term : goal.invariant-loop-term
-invariant-loop-term l = AreNodes l.fn.arena l.arena l.fn.numbers.items l.numbers.items (map (λ t. substitute (interleaved 2 l.place) (tree_of t)) (take l.term-index l.term-items))
+invariant-loop-term l = AreNodes l.fn.arena l.arena l.fn.numbers.items l.numbers.items (map (λ t. substitute (interleaved l.many l.place) (tree_of t)) (take l.term-index l.term-items))
