@@ -2,6 +2,7 @@ mod ApartSteps
 mod BoundSteps
 mod BuildSteps
 mod CheckSteps
+mod ClashSteps
 mod EarlierSteps
 mod EquationSteps
 mod FitSteps
@@ -15,4 +16,5 @@ mod PutSteps
 mod RowAtoms
 mod RuleSteps
 mod SameSteps
+pub mod Shallow
 mod StateSteps

@@ -70,9 +70,9 @@ fn para_rule_fits(parents: &[Clause], para: &Paramodulation) -> bool
     equation_into(para, &parents[0], &parents[1])
 }
 
-// Whether a place of the nucleus is that of one of the satellites.
+/// Whether a place of the nucleus is that of one of the satellites.
 #[tactic(auto, using(crate::proofs::FitSteps::taken_here, crate::proofs::FitSteps::taken_behind, crate::proofs::FitSteps::taken_end))]
-fn is_taken(place: u64, satellites: &[Satellite]) -> bool
+pub fn is_taken(place: u64, satellites: &[Satellite]) -> bool
     ensures { result ≡ is_in place (map (λ k. k.0) (map clash_of satellites.now)) }
 {
     for s in satellites {

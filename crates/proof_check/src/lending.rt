@@ -1,4 +1,4 @@
-// What is found of a step with two parents that are lent.
+// What is found of a step with parents that are lent.
 ghost use Rattle.std.specs.Prelude.{◌≡◌, ◌∷◌, [], IsTrue, IfOk, IfSome};
 ghost use Rattle.derivation.specs.Equations.{term_below};
 ghost use Rattle.derivation.specs.Places.{atom_at};
@@ -6,69 +6,33 @@ ghost use Rattle.derivation.specs.View.{first_word_of};
 ghost use Rattle.derivation.specs.Words.{para_fits, para_rule, side_of};
 ghost use Rattle.fol_core.specs.TermView.{tree_of};
 ghost use Rattle.proof_check.specs.Judged.{rule_by, JudgedAs};
-ghost use Rattle.proof_check.specs.Lent.{side_apart, place_apart};
+ghost use Rattle.proof_check.specs.Lent.{side_apart, place_apart, lent_clauses};
 ghost use Rattle.substitutions.specs.Bindings.{by_bindings};
 ghost use Rattle.unifiers.specs.Unifier.{IsMostGeneral};
 
+use crate::clashing::judge_clash;
 use crate::equations::{side_of, term_below};
 use crate::fitting::equation_into;
 use crate::judging::{Judged, judge};
 use crate::places::atom_at;
 use crate::replacing::paramodulant;
-use crate::under::{depth_apart, size_apart};
-use clause_limits::{MOST_LEVELS, MOST_SYMBOLS, SmallClause, is_too_large, left_behind_clause};
+use crate::sizing::may_be_large;
+use clause_limits::{SmallClause, is_too_large};
 use derivation::{First, Paramodulation};
 use fol_core::{Clause, Term};
 use std::alloc::{AllocError, Global};
 use term_classes::{Equations, Solution};
 
-// Copies of two clauses.
-fn two_clauses(alloc: Global, c: &Clause, d: &Clause) -> Result<Vec<Clause>, AllocError>
-    ensures { IfOk result (λ cs. cs.items ≡ c.now ∷ d.now ∷ []) }
+// Copies of clauses that are lent.
+#[tactic(auto, using(crate::proofs::ClashSteps::copied_next, crate::proofs::ClashSteps::copied_end))]
+fn copies(alloc: Global, parents: &[&Clause]) -> Result<Vec<Clause>, AllocError>
+    ensures { IfOk result (λ cs. cs.items ≡ lent_clauses parents.now) }
 {
-    let mut clauses = Vec::with_capacity(alloc, 2)?;
-    clauses.push(c.copy(alloc)?)?;
-    clauses.push(d.copy(alloc)?)?;
+    let mut clauses = Vec::with_capacity(alloc, parents.len())?;
+    for parent in parents {
+        clauses.push(parent.copy(alloc)?)?;
+    }
     Ok(clauses)
-}
-
-// How many symbols and variables a clause has under a unifier: a hint of whether to build what is made of it.
-fn size_under(unifier: &Solution, clause: &Clause, parent: u64) -> Result<u64, AllocError> {
-    let mut size = 0u64;
-    for literal in &clause.literals {
-        size = size.saturating_add(size_apart(unifier, &literal.atom, parent)?);
-    }
-    Ok(size)
-}
-
-// Whether a clause has more levels under a unifier than one of a search may have.
-fn is_deep_under(unifier: &Solution, clause: &Clause, parent: u64) -> Result<bool, AllocError> {
-    for literal in &clause.literals {
-        if depth_apart(unifier, &literal.atom, parent)? > MOST_LEVELS {
-            return Ok(true);
-        }
-    }
-    Ok(false)
-}
-
-// Whether two clauses have so few symbols and variables that what is made of them can't be too deep to be built: no part of
-// them stands twice on a way down it, so it has no more levels than they have symbols and variables.
-fn are_flat(c: &Clause, d: &Clause) -> bool {
-    match left_behind_clause(c, MOST_LEVELS) {
-        Some(left) => left_behind_clause(d, left).is_some(),
-        None => false,
-    }
-}
-
-// Whether what is made of two clauses under a unifier may have too many levels to be built by recursion.
-fn may_be_deep(unifier: &Solution, from: &Clause, into: &Clause) -> Result<bool, AllocError> {
-    if are_flat(from, into) {
-        return Ok(false);
-    }
-    if is_deep_under(unifier, from, 0)? {
-        return Ok(true);
-    }
-    is_deep_under(unifier, into, 1)
 }
 
 // The conclusion under a most general unifier, unless it may be too large.
@@ -88,11 +52,7 @@ fn conclude_by(
     ensures { IfOk result (λ o. IfSome o (JudgedAs (para_rule para.now.equation para.now.side
         para.now.literal para.now.path.items) (from.now ∷ into.now ∷ []))) }
 {
-    if may_be_deep(unifier, from, into)? {
-        return Ok(None);
-    }
-    let size = size_under(unifier, from, 0)?.saturating_add(size_under(unifier, into, 1)?);
-    if size > MOST_SYMBOLS {
+    if may_be_large(unifier, &[from, into])? {
         return Ok(None);
     }
     let clause = paramodulant(alloc, unifier, para, from, into)?;
@@ -149,7 +109,24 @@ fn judge_paramodulation(
     conclude(alloc, para, from, into, side, place)
 }
 
-// What the rule of a first word comes to on two parents that are lent, if that is told.
+// What the rule of a first word comes to on parents that are lent, if it is a clash and that is told.
+fn judge_clashing(
+    alloc: Global,
+    first: &First,
+    parents: &[&Clause],
+) -> Result<Option<Judged>, AllocError>
+    ensures { IfOk result (λ o. IfSome o
+        (JudgedAs (rule_by (first_word_of first.now)) (lent_clauses parents.now))) }
+{
+    match first {
+        First::Resolve(_, satellite) => judge_clash(alloc, &[*satellite], parents),
+        First::Hyper(_, satellites) => judge_clash(alloc, satellites.as_slice(), parents),
+        First::Ur(_, satellites) => judge_clash(alloc, satellites.as_slice(), parents),
+        _ => Ok(None),
+    }
+}
+
+// The same with two parents, or paramodulation.
 fn judge_lent(
     alloc: Global,
     first: &First,
@@ -161,24 +138,36 @@ fn judge_lent(
 {
     match first {
         First::Para(para) => judge_paramodulation(alloc, para, c, d),
-        _ => Ok(None),
+        _ => judge_clashing(alloc, first, &[c, d]),
     }
 }
 
-// The same on copies of them.
-fn judge_copies(alloc: Global, first: &First, c: &Clause, d: &Clause) -> Result<Judged, AllocError>
-    ensures { IfOk result (JudgedAs (rule_by (first_word_of first.now)) (c.now ∷ d.now ∷ [])) }
+// What it comes to on copies of them.
+fn judge_copies(alloc: Global, first: &First, parents: &[&Clause]) -> Result<Judged, AllocError>
+    ensures { IfOk result (JudgedAs (rule_by (first_word_of first.now))
+        (lent_clauses parents.now)) }
 {
-    let parents = two_clauses(alloc, c, d)?;
+    let parents = copies(alloc, parents)?;
     judge(alloc, first, parents.as_slice())
 }
 
-/// What the rule of a first word comes to on two parents; where it is paramodulation they are mostly not copied.
+/// What the rule of a first word comes to on two parents; where it is a clash or paramodulation they are mostly not copied.
 pub fn judge_two(alloc: Global, first: &First, c: &Clause, d: &Clause) -> Result<Judged, AllocError>
     ensures { IfOk result (JudgedAs (rule_by (first_word_of first.now)) (c.now ∷ d.now ∷ [])) }
 {
     match judge_lent(alloc, first, c, d)? {
         Some(judged) => Ok(judged),
-        None => judge_copies(alloc, first, c, d),
+        None => judge_copies(alloc, first, &[c, d]),
+    }
+}
+
+/// What it comes to on parents that are lent; where it is a clash they are mostly not copied.
+pub fn judge_many(alloc: Global, first: &First, parents: &[&Clause]) -> Result<Judged, AllocError>
+    ensures { IfOk result (JudgedAs (rule_by (first_word_of first.now))
+        (lent_clauses parents.now)) }
+{
+    match judge_clashing(alloc, first, parents)? {
+        Some(judged) => Ok(judged),
+        None => judge_copies(alloc, first, parents),
     }
 }

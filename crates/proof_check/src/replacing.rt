@@ -1,6 +1,6 @@
-// Terms and literals of two clauses under a unifier of them renamed apart: nothing is built but what stays.
+// What paramodulation makes of two clauses under a unifier of them renamed apart: nothing is built but what stays.
 ghost use Rattle.std.specs.Prelude.{◌≡◌, ◌<◌, ◌+◌, ◌++◌, ◌∷◌, ◌==◌, [], Some, IsTrue, IfOk, OnOk, map, length, take, drop};
-ghost use Rattle.derivation.specs.Places.{others, with_atom};
+ghost use Rattle.derivation.specs.Places.{with_atom};
 ghost use Rattle.derivation.specs.Words.{para_fits};
 ghost use Rattle.fol_core.specs.ClauseView.{literal_of};
 ghost use Rattle.fol_core.specs.Substitutions.{substitute};
@@ -13,6 +13,7 @@ ghost use Rattle.substitutions.specs.Paths.{subterm_at};
 
 use crate::equations::other_side_of;
 use crate::places::atom_at;
+use crate::pushing::{push_literals, push_others};
 use crate::under::plain_apart;
 use derivation::Paramodulation;
 use fol_core::{Clause, Literal, Term, Terms};
@@ -30,7 +31,7 @@ fn push_terms(
         ++ map (λ t. substitute (own_by (by_bindings unifier.now) 1) (tree_of t)) terms.now) }
 {
     for term in terms {
-        made.push(plain_apart(alloc, unifier, term, 1)?)?;
+        made.push(plain_apart(alloc, unifier, term, 2, 1)?)?;
     }
     Ok(())
 }
@@ -72,18 +73,18 @@ pub fn replaced_apart(
         (tree_of new.now)) }
 {
     let Some((number, rest)) = path.split_first() else {
-        return plain_apart(alloc, unifier, new, 0);
+        return plain_apart(alloc, unifier, new, 2, 0);
     };
     match term {
-        Term::Var(_) => plain_apart(alloc, unifier, term, 1),
-        Term::Elem(_) => plain_apart(alloc, unifier, term, 1),
+        Term::Var(_) => plain_apart(alloc, unifier, term, 2, 1),
+        Term::Elem(_) => plain_apart(alloc, unifier, term, 2, 1),
         Term::App(head, terms) => {
             let all = terms.as_slice();
             if *number == 0 {
-                return plain_apart(alloc, unifier, term, 1);
+                return plain_apart(alloc, unifier, term, 2, 1);
             }
             if *number > all.len() as u64 {
-                return plain_apart(alloc, unifier, term, 1);
+                return plain_apart(alloc, unifier, term, 2, 1);
             }
             let place = (*number - 1) as usize;
             let changed = replaced_apart(alloc, unifier, &all[place], rest, new)?;
@@ -91,46 +92,6 @@ pub fn replaced_apart(
             Ok(Term::App(*head, made))
         }
     }
-}
-
-// Literals of one of the clauses, at the end.
-fn push_literals(
-    alloc: Global,
-    unifier: &Solution,
-    literals: &[Literal],
-    parent: u64,
-    made: &mut Clause,
-) -> Result<(), AllocError>
-    ensures { OnOk result (made.new ≡ made.old
-        ++ substitute_clause (own_by (by_bindings unifier.now) parent)
-        (map literal_of literals.now)) }
-{
-    for literal in literals {
-        let atom = plain_apart(alloc, unifier, &literal.atom, parent)?;
-        made.push(Literal {
-            positive: literal.positive,
-            atom,
-        })?;
-    }
-    Ok(())
-}
-
-// Those of the first clause but for the one at a place.
-#[tactic(auto, using(crate::proofs::LendSteps::others_pushed))]
-fn push_others(
-    alloc: Global,
-    unifier: &Solution,
-    literals: &[Literal],
-    place: usize,
-    made: &mut Clause,
-) -> Result<(), AllocError>
-    requires { place < length literals.now }
-    ensures { OnOk result (made.new ≡ made.old ++ others (λ k. k == place)
-        (substitute_clause (own_by (by_bindings unifier.now) 0) (map literal_of literals.now))) }
-{
-    push_literals(alloc, unifier, &literals[..place], 0, made)?;
-    push_literals(alloc, unifier, &literals[place + 1..], 0, made)?;
-    Ok(())
 }
 
 // Those of the second clause, with another atom at a place, and room for more.
@@ -148,12 +109,12 @@ fn with_changed(
         (own_by (by_bindings unifier.now) 1) (map literal_of literals.now)) place (tree_of changed)) }
 {
     let mut made = Clause::with_capacity(alloc, room)?;
-    push_literals(alloc, unifier, &literals[..place], 1, &mut made)?;
+    push_literals(alloc, unifier, &literals[..place], 2, 1, &mut made)?;
     made.push(Literal {
         positive: literals[place].positive,
         atom: changed,
     })?;
-    push_literals(alloc, unifier, &literals[place + 1..], 1, &mut made)?;
+    push_literals(alloc, unifier, &literals[place + 1..], 2, 1, &mut made)?;
     Ok(made)
 }
 
@@ -180,6 +141,14 @@ pub fn paramodulant(
     let intos = into.as_slice();
     let room = froms.len().saturating_add(intos.len());
     let mut made = with_changed(alloc, unifier, intos, para.literal as usize, changed, room)?;
-    push_others(alloc, unifier, froms, para.equation as usize, &mut made)?;
+    push_others(
+        alloc,
+        unifier,
+        froms,
+        para.equation as usize,
+        2,
+        0,
+        &mut made,
+    )?;
     Ok(made)
 }

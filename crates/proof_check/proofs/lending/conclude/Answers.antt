@@ -1,8 +1,7 @@
 -- Nothing unifies, or what is found is most general.
-use Rattle.std.proofs.Common.{ap, subst, ◌∙◌}
+use Rattle.std.proofs.Common.{ap, ◌∙◌}
 use Rattle.fol_core.specs.Tree.{trees_of}
 use Rattle.substitutions.specs.Bindings.{by_bindings}
-use Rattle.term_classes.specs.Solved.{HasNoUnifier}
 use Rattle.proof_check.specs.Lent.{renamed_one, side_apart, place_apart}
 use Rattle.proof_check.proofs.LendSteps.{differ_both, general_by}
 use Rattle.proof_check.proofs.lending.conclude.Goals as goal

@@ -3,8 +3,8 @@ use Rattle.std.proofs.Common.{◌≡◌, map, take}
 use Rattle.fol_core.specs.Substitutions.{substitute}
 use Rattle.fol_core.specs.TermView.{tree_of}
 use Rattle.substitutions.specs.Bindings.{by_bindings}
-use Rattle.proof_check.specs.Lent.{own_by}
+use Rattle.proof_check.specs.Lent.{own_among}
 use Rattle.proof_check.proofs.under.+plain_apart.Given as goal
 
 abbrev pub invariant-loop-term : goal.invariant-loop-term
-invariant-loop-term l = l.made ≡ map (λ t. substitute (own_by (by_bindings l.unifier) l.parent) (tree_of t)) (take l.term-index l.term-items)
+invariant-loop-term l = l.made ≡ map (λ t. substitute (own_among l.many (by_bindings l.unifier) l.parent) (tree_of t)) (take l.term-index l.term-items)
