@@ -231,17 +231,17 @@ module _ (nodes : Store) where
   beginning_leads (e ∷ es) p r h = elim (in_either p (beginnings (path_of (tree_of e.tree))) (all_beginnings (all_indexed es)) h) [
     | inl g ↦
         let rest = beginnings_in p (path_of (tree_of e.tree)) g in
-        let way = reaches_parted nodes 0 p rest.0 e.number (subst (λ (x : List Edge). Reaches nodes 0 x e.number) (r.1 ∙ rest.1) r.0) in
+        let way = reaches_parted nodes 0 p rest.0 e.number (subst (λ (x : List Edge). Reaches nodes 0 x e.number) rest.1 r.0) in
         (way.0, reached_key way.0 rest.0 e.number way.2, way.1)
-    | inr g ↦ beginning_leads es p r.2 g
+    | inr g ↦ beginning_leads es p r.1 g
   ]
 
   entry_begins : (es : List IndexEntry) (p q : List Edge) (n : ℕ) → AreReached nodes es → (p ≡ [] → ⊥) → IsEntry (p ++ q) n es → In p (all_beginnings (all_indexed es))
   entry_begins [] p q n r some h = absurd h
   entry_begins (e ∷ es) p q n r some (inl h) =
-      in_left p (beginnings (path_of (tree_of e.tree))) (all_beginnings (all_indexed es)) (subst (λ (x : List Edge). In p (beginnings x)) (h.0 ∙ r.1) (in_beginnings p q some))
+      in_left p (beginnings (path_of (tree_of e.tree))) (all_beginnings (all_indexed es)) (subst (λ (x : List Edge). In p (beginnings x)) h.0 (in_beginnings p q some))
   entry_begins (e ∷ es) p q n r some (inr h) =
-      in_right p (beginnings (path_of (tree_of e.tree))) (all_beginnings (all_indexed es)) (entry_begins es p q n r.2 some h)
+      in_right p (beginnings (path_of (tree_of e.tree))) (all_beginnings (all_indexed es)) (entry_begins es p q n r.1 some h)
 
   module _ (es : List IndexEntry) (tree : IsTree nodes) (used : AllUsed nodes) (r : AreReached nodes es) (only : AreOnly nodes es) where
     abbrev Ps : List (List Edge)

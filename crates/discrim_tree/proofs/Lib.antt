@@ -4,6 +4,7 @@ pub mod Counting
 pub mod Finding
 pub mod Fitted
 pub mod Linear
+pub mod Lone
 pub mod Meetings
 pub mod NodeSteps
 pub mod Only

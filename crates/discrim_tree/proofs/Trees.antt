@@ -1,14 +1,17 @@
 -- Trees, as they change.
-use Rattle.std.proofs.Common.{◌≡◌, ℕ, zero, suc, ◌+◌, ◌-◌, ◌<◌, ◌≤◌, ◌⊎◌, Bool, true, false, IsTrue, inl, inr, refl, sym, ap, ap₂, subst, ◌∙◌, List, [], ◌∷◌, ◌++◌, Some, None, Option, is_some, Result, Ok, Err, IfOk, OnErr, length, take, drop, drop-cons, get_or, arith, append-nil, length-append}
+use Rattle.std.proofs.Common.{◌≡◌, ℕ, suc, ◌+◌, ◌<◌, ◌⊎◌, Bool, true, false, IsTrue, inl, inr, refl, sym, ap, ap₂, subst, ◌∙◌, List, [], ◌∷◌, ◌++◌, Some, None, Option, is_some, Result, Ok, Err, IfOk, OnErr, length, take, drop, drop-cons, get_or, arith, append_assoc, append-nil, length-append}
 use Rattle.std.specs.Ordering.{is_eq}
 use Rattle.std.proofs.lemmas.Bool.{cases_eq}
 use Rattle.slab.specs.Slab.{get, ContainsKey, Updates}
+use Rattle.fol_core.specs.Tree.{Tree}
 use Rattle.discrim_tree.specs.Contents.{target}
-use Rattle.discrim_tree.specs.Nodes.{Store, edge_cmp, branch, child, IsIn, Holds, Reaches, Grows, KeepsOthers, KeepsPaths, IsEmptyAt}
+use Rattle.discrim_tree.specs.Nodes.{Store, edge_cmp, branch, child, IsIn, Holds, Reaches, Grows, Ends, EndsFrom, KeepsOthers, KeepsPaths, IsEmptyAt}
+use Rattle.discrim_tree.specs.Paths.{step_of, arguments, path_of, steps_of}
 use Rattle.discrim_tree.specs.Trees.{link_of, AllUsed, AllUsedBut, ComesOnly, IsAlike, IsBranched, IsFresh, IsFull, IsOneMore, IsRenumbered, IsSame, IsTree, IsUsed, Leads}
 use Rattle.discrim_tree.specs.declared.edge.Edge.{Edge}
 use Rattle.discrim_tree.specs.declared.nodes.Node.{Node}
 use Rattle.discrim_tree.proofs.Finding.{take_next}
+use Rattle.discrim_tree.proofs.Paths.{path_begins}
 use Rattle.discrim_tree.proofs.NodeSteps.{is_same, same_as_itself, some_same, none_some, child_none, child_same, held_same, none_held, there_with, vacant_link, link_none, link_same, child_by, held_by, link_by}
 
 -- ---- paths from node to node
@@ -39,11 +42,6 @@ leads_step nodes a p b e k h is = leads_joined nodes a p b (e ∷ []) k h (k, is
 
 pub leads_next : (nodes : Store) (a : ℕ) (p : List Edge) (i : ℕ) (d : Edge) (b k : ℕ) → i < length p → Leads nodes a (take i p) b → child nodes b (get_or p i d) ≡ Some k → Leads nodes a (take (i + 1) p) k
 leads_next nodes a p i d b k lt h is = subst (λ q. Leads nodes a q k) (sym (take_next p i d lt)) (leads_step nodes a (take i p) b (get_or p i d) k h is)
-
-pub leads_last : (nodes : Store) (a : ℕ) (p : List Edge) (i : ℕ) (d : Edge) (k : ℕ) → i < length p → Leads nodes a (take (suc i) p) k → (b : ℕ) × Leads nodes a (take i p) b × (child nodes b (get_or p i d) ≡ Some k)
-leads_last nodes a [] i d k lt h = absurd (omega (arith, lt))
-leads_last nodes a (e ∷ p) zero d k lt h = (a, refl, h.1 ∙ ap Some h.2)
-leads_last nodes a (e ∷ p) (suc i) d k lt h = let rest = leads_last nodes h.0 p i d k (omega (arith, lt)) h.2 in (rest.0, (h.0, h.1, rest.1), rest.2)
 
 pub reaches_joined : (nodes : Store) (a : ℕ) (p : List Edge) (b : ℕ) (q : List Edge) (n : ℕ) → Leads nodes a p b → Reaches nodes b q n → Reaches nodes a (p ++ q) n
 reaches_joined nodes a [] b q n h g = subst (λ x. Reaches nodes x q n) (sym h) g
@@ -302,7 +300,7 @@ module _ (at : ℕ) (edge : Edge) (k : ℕ) (less more : Store) (one : IsOneMore
     | inr f ↦ (h.0, f, paths_less h.0 path n h.2)
   ]
 
-  pub leads_less : (a : ℕ) (path : List Edge) (j : ℕ) → (j ≡ k → ⊥) → Leads more a path j → Leads less a path j
+  leads_less : (a : ℕ) (path : List Edge) (j : ℕ) → (j ≡ k → ⊥) → Leads more a path j → Leads less a path j
   leads_less a [] j ne h = h
   leads_less a (e ∷ path) j ne h = elim (from_less a e h.0 h.1) [
     | inl p ↦ absurd (nowhere h.0 path p.2 h.2)
@@ -313,7 +311,7 @@ module _ (at : ℕ) (edge : Edge) (k : ℕ) (less more : Store) (one : IsOneMore
       nowhere x [] s g = ne (sym g ∙ s)
       nowhere x (d ∷ q) s g = one.empty.1 d g.0 (subst (λ y. child more y d ≡ Some g.0) s g.1)
 
-  pub not_above : at ≡ k → ⊥
+  not_above : at ≡ k → ⊥
   not_above s = none_some one.above (sym one.vacant ∙ subst (λ x. link_of less x ≡ Some one.above) s one.there)
 
   not_vacant : (j above : ℕ) → link_of less j ≡ Some above → j ≡ k → ⊥
@@ -423,8 +421,8 @@ module _ (at : ℕ) (edge : Edge) (k : ℕ) (less more : Store) (one : IsOneMore
 -- ---- numbers come and go
 
 -- a node that leads to a number is used, and so is each that leads to it
-pub used_full : (nodes : Store) (at : ℕ) (edge : Edge) (k : ℕ) → IsTree nodes → child nodes at edge ≡ Some k → IsFull nodes k → AllUsedBut k nodes → AllUsed nodes
-used_full nodes at edge k tree hung full so j above some is = elim (so j above some is) [
+used_full : (nodes : Store) (k above : ℕ) → IsTree nodes → link_of nodes k ≡ Some above → IsFull nodes k → AllUsedBut k nodes → AllUsed nodes
+used_full nodes k above tree link full so j up some is = elim (so j up some is) [
   | inl h ↦ h
   | inr h ↦ let end = here full in (h.0 ++ end.0, end.1, reaches_joined nodes j h.0 k end.0 end.1 h.1 end.2)
 ]
@@ -433,19 +431,47 @@ used_full nodes at edge k tree hung full so j above some is = elim (so j above s
     here (inl h) = ([], h.0, h.1)
     here (inr h) = elim (so h.1 k (λ s. tree.below k h.0 h.1 h.2 s) (tree.linked k h.0 h.1 h.2)) [
       | inl u ↦ (h.0 ∷ u.0, u.1, (h.1, h.2, u.2))
-      | inr u ↦ absurd (no_cycle nodes tree k at h.0 h.1 u.0 (tree.linked at edge k hung) h.2 u.1)
+      | inr u ↦ absurd (no_cycle nodes tree k above h.0 h.1 u.0 link h.2 u.1)
     ]
 
--- where only nodes that lead to the root may be without use, none is
-pub used_at_root : (nodes : Store) → IsTree nodes → AllUsedBut 0 nodes → AllUsed nodes
-used_at_root nodes tree so j above some is = elim (so j above some is) [
+last_child : (nodes : Store) (x : ℕ) (e : Edge) (p : List Edge) (to : ℕ) → Leads nodes x (e ∷ p) to → (b : ℕ) × (d : Edge) × (child nodes b d ≡ Some to)
+last_child nodes x e [] to h = (x, e, h.1 ∙ ap Some h.2)
+last_child nodes x e (d ∷ p) to h = last_child nodes h.0 d p to h.2
+
+-- where only nodes that lead to one may be without use, and no branch leads to that one, none is
+pub used_unhung : (nodes : Store) (at : ℕ) → IsTree nodes → ((a : ℕ) (e : Edge) → child nodes a e ≡ Some at → ⊥) → AllUsedBut at nodes → AllUsed nodes
+used_unhung nodes at tree none so k above some is = elim (so k above some is) [
   | inl h ↦ h
-  | inr h ↦ absurd (no_root j h.0 some h.1)
+  | inr h ↦ absurd (nowhere h.0 h.1)
 ]
   where
-    no_root : (x : ℕ) (p : List Edge) → (x ≡ 0 → ⊥) → Leads nodes x p 0 → ⊥
-    no_root x [] ne h = ne h
-    no_root x (e ∷ p) ne h = no_root h.0 p (λ s. tree.below x e h.0 h.1 s) h.2
+    hung : k ≡ at → (p : List Edge) → Leads nodes 0 p k → ⊥
+    hung s [] g = some (sym g)
+    hung s (e ∷ p) g = let last = last_child nodes 0 e p k g in none last.0 last.1 (last.2 ∙ ap Some s)
+
+    nowhere : (p : List Edge) → Leads nodes k p at → ⊥
+    nowhere [] s = let way = tree.reached k above is in hung s way.0 way.1
+    nowhere (e ∷ p) g = let last = last_child nodes k e p at g in none last.0 last.1 last.2
+
+-- nor is one where that one isn't there, or has a number or a branch
+pub used_unlinked : (nodes : Store) (at : ℕ) → IsTree nodes → link_of nodes at ≡ None → AllUsedBut at nodes → AllUsed nodes
+used_unlinked nodes at tree none so = used_unhung nodes at tree (λ a e is. none_some a (sym none ∙ tree.linked a e at is)) so
+
+pub used_filled : (nodes : Store) (at : ℕ) → IsTree nodes → (ContainsKey nodes at → IsFull nodes at) → AllUsedBut at nodes → AllUsed nodes
+used_filled nodes at tree full so = by (get nodes at) refl
+  where
+    by : (o : Option Node) → get nodes at ≡ o → AllUsed nodes
+    by None s = used_unlinked nodes at tree (link_none nodes at s) so
+    by (Some node) s = used_full nodes at node.link tree (link_by nodes at node s) (full (ap is_some s)) so
+
+-- or where no step leads to it from the node above
+pub used_apart : (nodes : Store) (at above : ℕ) → IsTree nodes → link_of nodes at ≡ Some above → ((e : Edge) → child nodes above e ≡ Some at → ⊥) → AllUsedBut at nodes → AllUsed nodes
+used_apart nodes at above tree link none so = used_unhung nodes at tree unhung so
+  where
+    unhung : (a : ℕ) (e : Edge) → child nodes a e ≡ Some at → ⊥
+    unhung a e is =
+        let same : a ≡ above = some_same a above (sym (tree.linked a e at is) ∙ link) in
+        none e (subst (λ x. child nodes x e ≡ Some at) same is)
 
 pub used_all : (nodes : Store) (at : ℕ) → AllUsed nodes → AllUsedBut at nodes
 used_all nodes at so k above some is = inl (so k above some is)
@@ -611,6 +637,31 @@ none_taken nodes fewer path i d at n lt g c r =
     let there = subst (λ p. Reaches fewer at p n) (drop-cons path i d lt) r in
     none_some there.0 (sym c ∙ g.0 at (get_or path i d) there.0 there.1)
 
+-- along a term's path: by its first step, and then by its arguments
+pub term_entered : (nodes fewer : Store) (at k : ℕ) (t : Tree) (path : List Edge) (n : ℕ) → Grows fewer nodes → child nodes at (step_of t) ≡ Some k → Reaches fewer at (path_of t ++ path) n
+    → Reaches fewer k (steps_of (arguments t) ++ path) n
+term_entered nodes fewer at k t path n g c r =
+    let there = subst (λ (p : List Edge). Reaches fewer at (p ++ path) n) (path_begins t) r in
+    let same : there.0 ≡ k = some_same there.0 k (sym (g.0 at (step_of t) there.0 there.1) ∙ c) in
+    subst (λ j. Reaches fewer j (steps_of (arguments t) ++ path) n) same there.2
+
+pub term_barred : (nodes fewer : Store) (at : ℕ) (t : Tree) (path : List Edge) (n : ℕ) → Grows fewer nodes → child nodes at (step_of t) ≡ None → Reaches fewer at (path_of t ++ path) n → ⊥
+term_barred nodes fewer at t path n g c r =
+    let there = subst (λ (p : List Edge). Reaches fewer at (p ++ path) n) (path_begins t) r in
+    none_some there.0 (sym c ∙ g.0 at (step_of t) there.0 there.1)
+
+pub argument_next : (fewer : Store) (k n : ℕ) (t : Tree) (all ts : List Tree) (path : List Edge) → all ≡ t ∷ ts → Reaches fewer k (steps_of all ++ path) n → Reaches fewer k (path_of t ++ (steps_of ts ++ path)) n
+argument_next fewer k n t all ts path is r =
+    subst (λ (p : List Edge). Reaches fewer k p n) (append_assoc (path_of t) (steps_of ts) path)
+    (subst (λ us. Reaches fewer k (steps_of us ++ path) n) is r)
+
+pub arguments_done : (fewer : Store) (k n : ℕ) (ts : List Tree) (path : List Edge) → ts ≡ [] → Reaches fewer k (steps_of ts ++ path) n → Reaches fewer k path n
+arguments_done fewer k n ts path is r = subst (λ us. Reaches fewer k (steps_of us ++ path) n) is r
+
+pub ends_whole : (nodes : Store) (path : List Edge) (end : Option ℕ) → EndsFrom nodes 0 path end → Ends nodes path end
+ends_whole nodes path None so fewer n g r = so fewer [] n g (subst (λ p. Reaches fewer 0 p n) (sym (append-nil path)) r)
+ends_whole nodes path (Some k) so fewer n g r = so fewer [] n g (subst (λ p. Reaches fewer 0 p n) (sym (append-nil path)) r)
+
 -- ---- what a function answers
 
 -- a node more, or want of memory
@@ -648,28 +699,6 @@ key_linked nodes k above is = by (get nodes k) refl
     by : (o : Option Node) → get nodes k ≡ o → ContainsKey nodes k
     by None s = absurd (none_some above (sym (link_none nodes k s) ∙ is))
     by (Some node) s = ap is_some s
-
--- the last step of a path comes from the node above
-pub last_step : (nodes : Store) → IsTree nodes → (path : List Edge) (left : ℕ) (d : Edge) (at above : ℕ) → 0 < left → left ≤ length path → Leads nodes 0 (take left path) at → link_of nodes at ≡ Some above
-    → Leads nodes 0 (take (left - 1) path) above × (child nodes above (get_or path (left - 1) d) ≡ Some at)
-last_step nodes tree path zero d at above some within h is = absurd (omega (arith, some))
-last_step nodes tree path (suc i) d at above some within h is =
-    let less : i ≡ suc i - 1 = omega arith in
-    let last = leads_last nodes 0 path i d at (omega (arith, within)) h in
-    let same : last.0 ≡ above = some_same last.0 above (sym (tree.linked last.0 (get_or path i d) at last.2) ∙ is) in (
-      subst (λ j. Leads nodes 0 (take j path) above) less (subst (λ a. Leads nodes 0 (take i path) a) same last.1),
-      subst (λ j. child nodes above (get_or path j d) ≡ Some at) less (subst (λ a. child nodes a (get_or path i d) ≡ Some at) same last.2),
-    )
-
--- the end of a path that has a step is there
-pub last_linked : (nodes : Store) → IsTree nodes → (path : List Edge) (left : ℕ) (d : Edge) (at : ℕ) → 0 < left → left ≤ length path → Leads nodes 0 (take left path) at → link_of nodes at ≡ None → ⊥
-last_linked nodes tree path zero d at some within h is = omega (arith, some)
-last_linked nodes tree path (suc i) d at some within h is =
-    let last = leads_last nodes 0 path i d at (omega (arith, within)) h in
-    none_some last.0 (sym is ∙ tree.linked last.0 (get_or path i d) at last.2)
-
-pub no_steps : (nodes : Store) (path : List Edge) (left at : ℕ) → left ≡ 0 → Leads nodes 0 (take left path) at → at ≡ 0
-no_steps nodes path left at none h = sym (subst (λ j. Leads nodes 0 (take j path) at) none h)
 
 -- ---- no nodes
 

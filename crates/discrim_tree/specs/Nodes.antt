@@ -1,5 +1,5 @@
 -- The nodes of a tree of paths.
-use Rattle.std.specs.Prelude.{ℕ, ◌≡◌, ◌⊎◌, List, [], ◌∷◌, Option, Some, MatchOption}
+use Rattle.std.specs.Prelude.{ℕ, ◌≡◌, ◌⊎◌, List, [], ◌∷◌, ◌++◌, Option, Some, MatchOption}
 use Rattle.std.specs.Option.{option_and_then}
 use Rattle.slab.specs.Slab.{Slab, get}
 pub use Rattle.discrim_tree.specs.Contents.{edge_cmp}
@@ -59,3 +59,9 @@ abbrev pub Ends : Store → List Edge → Option ℕ → Type 0
 Ends nodes path end =
     (fewer : Store) (n : ℕ) → Grows fewer nodes → Reaches fewer 0 path n
     → MatchOption end ⊥ (λ k. Holds fewer k n)
+
+-- the same from any node: a longer path leads on from there
+abbrev pub EndsFrom : Store → ℕ → List Edge → Option ℕ → Type 0
+EndsFrom nodes at path end =
+    (fewer : Store) (rest : List Edge) (n : ℕ) → Grows fewer nodes
+    → Reaches fewer at (path ++ rest) n → MatchOption end ⊥ (λ k. Reaches fewer k rest n)

@@ -34,13 +34,13 @@ passes Unifiable t s = can_unify s t
 abbrev pub AreReached : Store → List IndexEntry → Type 0
 AreReached nodes [] = Unit {0}
 AreReached nodes (e ∷ es) =
-    Reaches nodes 0 e.path.items e.number × (e.path.items ≡ path_of (tree_of e.tree))
-    × AreReached nodes es
+    Reaches nodes 0 (path_of (tree_of e.tree)) e.number × AreReached nodes es
 
 -- a path and a number are those of an entry
 abbrev pub IsEntry : List Edge → ℕ → List IndexEntry → Type 0
 IsEntry path n [] = ⊥
-IsEntry path n (e ∷ es) = ((path ≡ e.path.items) × (n ≡ e.number)) ⊎ IsEntry path n es
+IsEntry path n (e ∷ es) =
+    ((path ≡ path_of (tree_of e.tree)) × (n ≡ e.number)) ⊎ IsEntry path n es
 
 -- no path leads to a number but those of the entries
 abbrev pub AreOnly : Store → List IndexEntry → Type 0

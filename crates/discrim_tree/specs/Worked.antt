@@ -1,8 +1,9 @@
 -- Retrievals worked out.
-use Rattle.std.specs.Prelude.{◌≡◌, List, [], ◌∷◌, None, Some, slice_get}
+use Rattle.std.specs.Prelude.{◌≡◌, true, false, List, [], ◌∷◌, None, Some, slice_get}
 use Rattle.fol_core.specs.Tree.{Tree, var, app, none, more}
 use Rattle.discrim_tree.specs.Beginnings.{count_beginnings}
 use Rattle.discrim_tree.specs.Entries.{Indexed, indexed, with_entry, without_entry, numbers_found}
+use Rattle.discrim_tree.specs.Linear.{is_linear}
 use Rattle.discrim_tree.specs.Terms.{has_instance, can_unify}
 use Rattle.discrim_tree.specs.Tries.{count_linear, count_up_to, greatest, raised}
 use Rattle.discrim_tree.specs.declared.sought.Sought.TheVariants.{Generalizations, Instances, Unifiable}
@@ -57,3 +58,10 @@ paths =
 -- five nodes, and without the last entry three
 abbrev pub WorkedNodes : Type 0
 WorkedNodes = (count_beginnings paths ≡ 5) × (count_beginnings (without_entry 3 paths) ≡ 3)
+
+-- f(x,a) and f(x,f(a,y)) have no variable twice, f(x,x) and f(f(x,y),x) have
+abbrev pub WorkedLinear : Type 0
+WorkedLinear =
+    (is_linear (f (var 0) a) ≡ true) × (is_linear (f (var 0) (f a (var 1))) ≡ true)
+    × (is_linear (f (var 0) (var 0)) ≡ false)
+    × (is_linear (f (f (var 0) (var 1)) (var 0)) ≡ false)

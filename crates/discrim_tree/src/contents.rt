@@ -1,5 +1,5 @@
 // What a node of a tree of paths has: numbers and branches.
-ghost use Rattle.std.specs.Prelude.{ℕ, ◌≡◌, ◌==◌, ◌<◌, ◌≤◌, ◌⊎◌, List, [], ◌∷◌, ◌++◌, None, Some, false, length, not, insert, remove, IfErr, IfOk, IsTrue, OnOk, OnErr};
+ghost use Rattle.std.specs.Prelude.{ℕ, ◌≡◌, ◌==◌, ◌<◌, ◌≤◌, ◌⊎◌, List, [], ◌∷◌, ◌++◌, None, Some, false, length, not, insert, remove, IfErr, IfOk, IfSome, IsTrue, OnOk, OnErr};
 ghost use Rattle.std.specs.List.{filter};
 ghost use Rattle.discrim_tree.specs.Contents.{target, numbers_of, branches_of, IsAt, IsGapFor, StepsRise};
 ghost use Rattle.discrim_tree.specs.declared.edge.Edge.{Edge};
@@ -96,6 +96,20 @@ impl Contents {
             Ok(at) => Some(branches[at].1),
             Err(_) => None,
         }
+    }
+
+    /// The step of the branch that leads to a node.
+    pub fn step_to(&self, node: usize) -> Option<Edge>
+        ensures step { IfSome result (λ edge. target self.now.branches edge ≡ Some node) }
+        ensures none { result ≡ None → (edge : Edge) → target self.now.branches edge ≡ Some node → ⊥ }
+    {
+        let branches = self.form.branches();
+        for (step, k) in branches {
+            if *k == node {
+                return Some(*step);
+            }
+        }
+        None
     }
 
     /// One more number.

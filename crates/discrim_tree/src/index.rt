@@ -1,5 +1,5 @@
 // The index.
-ghost use Rattle.std.specs.Prelude.{◌≡◌, ◌+◌, ◌≤◌, [], false, length, slice_get, IfOk, OnOk, OnErr};
+ghost use Rattle.std.specs.Prelude.{◌≡◌, ◌+◌, ◌<◌, ◌≤◌, [], false, length, remove, slice_get, IfOk, OnOk, OnErr};
 ghost use Rattle.fol_core.specs.TermView.{tree_of};
 ghost use Rattle.discrim_tree.specs.Beginnings.{count_beginnings};
 ghost use Rattle.discrim_tree.specs.Entries.{indexed, has_number, with_entry, without_entry, numbers_found, NumbersRise};
@@ -10,6 +10,7 @@ ghost use Rattle.discrim_tree.specs.declared.sought.Sought.TheVariants.{Generali
 use crate::edge::path_of;
 use crate::entry::IndexEntry;
 use crate::nodes::Nodes;
+use crate::once::is_linear;
 use crate::seeking::{first, found, place_of};
 use crate::sought::Sought;
 use crate::tries::Tries;
@@ -38,11 +39,13 @@ impl Model for Index {
 
     ghost view = { λ a. all_indexed a.entries.items };
 
+    ghost use Rattle.discrim_tree.specs.Linear.{TellLinear};
     ghost use Rattle.discrim_tree.specs.Seeking.{AreReached, AreOnly};
     ghost use Rattle.discrim_tree.specs.Trees.{AllUsed, IsTree};
 
     ghost invariant = { λ a. NumbersRise (all_indexed a.entries.items) × AreReached a.nodes.items a.entries.items
-        × AreOnly a.nodes.items a.entries.items × IsTree a.nodes.items × AllUsed a.nodes.items };
+        × AreOnly a.nodes.items a.entries.items × IsTree a.nodes.items × AllUsed a.nodes.items
+        × TellLinear a.entries.items };
 }
 
 impl Index {
@@ -68,11 +71,18 @@ impl Index {
         let alloc = *self.entries.allocator();
         let tree = term.copy(alloc)?;
         let path = path_of(alloc, term)?;
+        let is_linear = is_linear(alloc, term)?;
         let place = place_of(&self.entries, number);
         self.entries.reserve(1)?;
         self.nodes.put(alloc, &path, number)?;
-        self.entries
-            .insert(place, IndexEntry { number, tree, path })?;
+        self.entries.insert(
+            place,
+            IndexEntry {
+                number,
+                tree,
+                is_linear,
+            },
+        )?;
         Ok(())
     }
 
@@ -83,9 +93,10 @@ impl Index {
     {
         let place = place_of(&self.entries, number);
         if place < self.entries.len() {
-            if self.entries[place].number == number {
-                let entry = self.entries.remove(place);
-                self.nodes.take(&entry.path, number);
+            let entry = &self.entries[place];
+            if entry.number == number {
+                self.nodes.take_term(&entry.tree, number);
+                take_out(&mut self.entries, place);
             }
         }
     }
@@ -177,4 +188,12 @@ impl Index {
             tries,
         )
     }
+}
+
+// The entry at a place goes.
+fn take_out(entries: &mut Vec<IndexEntry>, place: usize)
+    requires { place < length entries.old.items }
+    ensures { entries.new.items ≡ remove entries.old.items place }
+{
+    let _entry = entries.remove(place);
 }

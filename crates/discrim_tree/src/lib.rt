@@ -9,6 +9,7 @@ mod index;
 mod laws;
 mod meeting;
 mod nodes;
+mod once;
 mod seeking;
 mod sieve;
 mod skipping;

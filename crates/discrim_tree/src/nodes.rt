@@ -1,13 +1,16 @@
 // A tree of paths: nodes under their keys, the root under 0.
-ghost use Rattle.std.specs.Prelude.{ℕ, ◌≡◌, ◌⊎◌, ◌-◌, List, [], Some, None, false, IfOk, IfSome, IsTrue, OnOk, OnErr};
+ghost use Rattle.std.specs.Prelude.{ℕ, ◌≡◌, ◌⊎◌, ◌+◌, ◌-◌, ◌<◌, List, [], Some, None, false, IfOk, IfSome, IsTrue, OnOk, OnErr};
 ghost use Rattle.slab.specs.Slab.{get, slab_len, ContainsKey, Updates};
-ghost use Rattle.discrim_tree.specs.Nodes.{child, Holds, IsIn, Reaches, Grows, IsEmptyAt, Ends, KeepsOthers, KeepsPaths};
+ghost use Rattle.fol_core.specs.TermView.{tree_of};
+ghost use Rattle.discrim_tree.specs.Nodes.{child, Holds, IsIn, Reaches, Grows, IsEmptyAt, Ends, EndsFrom, KeepsOthers, KeepsPaths};
+ghost use Rattle.discrim_tree.specs.Paths.{path_of};
 ghost use Rattle.discrim_tree.specs.Trees.{link_of, AllUsed, AllUsedBut, ComesOnly, IsAlike, IsBranched, IsFresh, IsFull, IsOneMore, IsRenumbered, IsSame, IsTree, Leads};
 ghost use Rattle.discrim_tree.specs.declared.edge.Edge.{Edge};
 ghost use Rattle.discrim_tree.specs.Walks.{IsFound};
 
 use crate::contents::Contents;
-use crate::edge::Edge;
+use crate::edge::{Edge, step_of};
+use fol_core::Term;
 use slab::Slab;
 use std::alloc::{AllocError, Global};
 
@@ -85,6 +88,7 @@ impl Nodes {
     fn cut(&mut self, at: usize, edge: Edge)
         ensures others { ContainsKey self.old.items at → IsBranched at edge self.old.items self.new.items }
         ensures gone { child self.new.items at edge ≡ None }
+        ensures as_many { slab_len self.new.items ≡ slab_len self.old.items }
     {
         if let Some(node) = self.items.get_mut(at) {
             node.contents.take_branch(edge);
@@ -95,6 +99,7 @@ impl Nodes {
     fn release(&mut self, k: usize)
         ensures updates { Updates self.old.items self.new.items k None }
         ensures next { ContainsKey self.old.items k → self.new.items.vacant_key ≡ k }
+        ensures fewer { ContainsKey self.old.items k → slab_len self.new.items + 1 ≡ slab_len self.old.items }
     {
         let _node = self.items.try_remove(k);
     }
@@ -145,23 +150,6 @@ impl Nodes {
         }
     }
 
-    // A branch to an empty node is taken away, and the node; whether there was one.
-    fn prune(&mut self, at: usize, edge: Edge) -> bool
-        ensures alike { IsAlike self.old.items self.new.items }
-        ensures leads { (path : List Edge) → Leads self.old.items 0 path at → Leads self.new.items 0 path at }
-        ensures pruned { IsTrue result → IsTree self.old.items → (k : ℕ) → child self.old.items at edge ≡ Some k → AllUsedBut k self.old.items → AllUsedBut at self.new.items }
-        ensures full { result ≡ false → IsTree self.old.items → (k : ℕ) → child self.old.items at edge ≡ Some k → AllUsedBut k self.old.items → AllUsed self.new.items }
-    {
-        if let Some(k) = self.child(at, edge) {
-            if self.is_empty_at(k) {
-                self.cut(at, edge);
-                self.release(k);
-                return true;
-            }
-        }
-        false
-    }
-
     // The node above a node.
     fn above(&self, at: usize) -> Option<usize>
         ensures { result ≡ link_of self.now.items at }
@@ -172,24 +160,42 @@ impl Nodes {
         }
     }
 
-    // From the end of a path on, branches to empty nodes are taken away.
-    fn prune_back(&mut self, end: usize, path: &[Edge])
+    // The step that leads from a node to another.
+    fn step_to(&self, at: usize, k: usize) -> Option<Edge>
+        ensures step { IfSome result (λ edge. child self.now.items at edge ≡ Some k) }
+        ensures none { result ≡ None → (edge : Edge) → child self.now.items at edge ≡ Some k → ⊥ }
+    {
+        match self.items.get(at) {
+            None => None,
+            Some(node) => node.contents.step_to(k),
+        }
+    }
+
+    // An empty node is taken away, and the branch that leads to it; the node above it, where it went.
+    fn prune(&mut self, at: usize) -> Option<usize>
         ensures alike { IsAlike self.old.items self.new.items }
-        ensures used { IsTree self.old.items → Leads self.old.items 0 path.now end → AllUsedBut end self.old.items → AllUsed self.new.items }
+        ensures fewer { IfSome result (λ above. slab_len self.new.items < slab_len self.old.items) }
+        ensures pruned { IfSome result (λ above. IsTree self.old.items → AllUsedBut at self.old.items → AllUsedBut above self.new.items) }
+        ensures stays { result ≡ None → IsTree self.old.items → AllUsedBut at self.old.items → AllUsed self.new.items }
+    {
+        if !self.is_empty_at(at) {
+            return None;
+        }
+        let above = self.above(at)?;
+        let edge = self.step_to(above, at)?;
+        self.cut(above, edge);
+        self.release(at);
+        Some(above)
+    }
+
+    // From a node up empty nodes are taken away.
+    fn prune_up(&mut self, end: usize)
+        ensures alike { IsAlike self.old.items self.new.items }
+        ensures used { IsTree self.old.items → AllUsedBut end self.old.items → AllUsed self.new.items }
     {
         let mut at = end;
-        let mut left = path.len();
-        while left > 0 {
-            left -= 1;
-            match self.above(at) {
-                None => return,
-                Some(above) => {
-                    if !self.prune(above, path[left]) {
-                        return;
-                    }
-                    at = above;
-                }
-            }
+        while let Some(above) = self.prune(at) {
+            at = above;
         }
     }
 
@@ -216,7 +222,7 @@ impl Nodes {
             match self.entered(alloc, at, path[i]) {
                 Ok(k) => at = k,
                 Err(error) => {
-                    self.prune_back(at, &path[..i]);
+                    self.prune_up(at);
                     return Err(error);
                 }
             }
@@ -252,7 +258,7 @@ impl Nodes {
         match self.note(alloc, end, number) {
             Ok(()) => Ok(()),
             Err(error) => {
-                self.prune_back(end, path);
+                self.prune_up(end);
                 Err(error)
             }
         }
@@ -274,8 +280,7 @@ impl Nodes {
 
     // The node to which a path leads.
     fn end_of(&self, path: &[Edge]) -> Option<usize>
-        ensures ends { Ends self.now.items path.now result }
-        ensures leads { IfSome result (λ end. Leads self.now.items 0 path.now end) }
+        ensures { Ends self.now.items path.now result }
     {
         let mut at = 0;
         for edge in path {
@@ -285,6 +290,35 @@ impl Nodes {
             }
         }
         Some(at)
+    }
+
+    // The node to which a term's path leads from a node.
+    fn end_of_term(&self, at: usize, t: &Term) -> Option<usize>
+        ensures { EndsFrom self.now.items at (path_of (tree_of t.now)) result }
+    {
+        let mut end = self.child(at, step_of(t))?;
+        match t {
+            Term::Var(_) => Some(end),
+            Term::Elem(_) => Some(end),
+            Term::App(_, terms) => {
+                for term in &terms.items {
+                    end = self.end_of_term(end, term)?;
+                }
+                Some(end)
+            }
+        }
+    }
+
+    // A number leaves a node; nodes without numbers and branches go.
+    fn take_at(&mut self, at: usize, number: u64)
+        ensures others { KeepsOthers number self.old.items self.new.items }
+        ensures fewer { KeepsPaths self.new.items self.old.items }
+        ensures gone { (path : List Edge) → Ends self.old.items path (Some at) → Reaches self.new.items 0 path number → ⊥ }
+        ensures tree { IsTree self.old.items → IsTree self.new.items }
+        ensures used { IsTree self.old.items → AllUsed self.old.items → AllUsed self.new.items }
+    {
+        self.forget(at, number);
+        self.prune_up(at);
     }
 
     /// A number leaves the end of a path; nodes without numbers and branches go.
@@ -297,10 +331,21 @@ impl Nodes {
     {
         match self.end_of(path) {
             None => {}
-            Some(end) => {
-                self.forget(end, number);
-                self.prune_back(end, path);
-            }
+            Some(end) => self.take_at(end, number),
+        }
+    }
+
+    /// A number leaves the end of a term's path; nodes without numbers and branches go.
+    pub fn take_term(&mut self, t: &Term, number: u64)
+        ensures others { KeepsOthers number self.old.items self.new.items }
+        ensures fewer { KeepsPaths self.new.items self.old.items }
+        ensures gone { Reaches self.new.items 0 (path_of (tree_of t.now)) number → ⊥ }
+        ensures tree { IsTree self.old.items → IsTree self.new.items }
+        ensures used { IsTree self.old.items → AllUsed self.old.items → AllUsed self.new.items }
+    {
+        match self.end_of_term(0, t) {
+            None => {}
+            Some(end) => self.take_at(end, number),
         }
     }
 

@@ -8,7 +8,7 @@ use crate::edge::{Edge, step_of};
 use crate::nodes::Nodes;
 use crate::skipping::Skipping;
 use fol_core::Term;
-use std::alloc::{AllocError, Global};
+use std::alloc::AllocError;
 
 // How many terms follow a step.
 fn arity(edge: Edge) -> usize
@@ -32,25 +32,25 @@ fn left(count: usize, edge: Edge) -> Result<usize, AllocError>
     }
 }
 
-// One term is to be skipped from each node between two places.
+// One term is to be skipped from each node between two places; what was to be skipped before is gone.
 fn starts(
-    alloc: Global,
+    waiting: &mut Vec<Skipping>,
     walk: &[usize],
     low: usize,
     high: usize,
-) -> Result<Vec<Skipping>, AllocError>
+) -> Result<(), AllocError>
     requires { high ≤ length walk.now }
-    ensures all { IfOk result (λ waiting. StartsAt low high walk.now waiting.items) }
-    ensures only { IfOk result (λ waiting. StartOnly low walk.now waiting.items) }
+    ensures all { OnOk result (StartsAt low high walk.now waiting.new.items) }
+    ensures only { OnOk result (StartOnly low walk.now waiting.new.items) }
 {
-    let mut waiting = Vec::new(alloc);
+    waiting.clear();
     for i in low..high {
         waiting.push(Skipping {
             node: walk[i],
             count: 1,
         })?;
     }
-    Ok(waiting)
+    Ok(())
 }
 
 impl Nodes {
@@ -161,23 +161,30 @@ impl Nodes {
 
     // Goes to the nodes behind one term from those between two places.
     #[inline(never)]
-    fn skip_each(&self, walk: &mut Vec<usize>, low: usize, high: usize) -> Result<(), AllocError>
+    fn skip_each(
+        &self,
+        walk: &mut Vec<usize>,
+        waiting: &mut Vec<Skipping>,
+        low: usize,
+        high: usize,
+    ) -> Result<(), AllocError>
         requires { high ≤ length walk.old.items }
         ensures goes_on { OnOk result (GoesOn walk.old.items walk.new.items) }
         ensures longer { OnOk result (length walk.old.items ≤ length walk.new.items) }
         ensures skips { OnOk result (SkipsEach self.now.items low high walk.old.items walk.new.items) }
         ensures behind { OnOk result (SkippedEach self.now.items low walk.old.items walk.new.items) }
     {
-        let mut waiting = starts(*walk.allocator(), walk, low, high)?;
-        self.skip(walk, &mut waiting)?;
+        starts(waiting, walk, low, high)?;
+        self.skip(walk, waiting)?;
         Ok(())
     }
 
     // Goes to the nodes behind the terms that fit a term, from those from a place on; they stand from the place on that
-    // is returned.
+    // is returned. The second list is room for what is to be skipped.
     fn pass(
         &self,
         walk: &mut Vec<usize>,
+        waiting: &mut Vec<Skipping>,
         below: bool,
         above: bool,
         low: usize,
@@ -196,7 +203,7 @@ impl Nodes {
         match t {
             Term::Var(_) => {
                 if above {
-                    self.skip_each(walk, low, high)?;
+                    self.skip_each(walk, waiting, low, high)?;
                     return Ok(high);
                 }
                 self.follow(walk, low, high, Edge::Any)?;
@@ -211,7 +218,7 @@ impl Nodes {
                 self.follow(walk, low, high, step_of(t))?;
                 let mut next = high;
                 for term in &terms.items {
-                    next = self.pass(walk, below, above, next, term)?;
+                    next = self.pass(walk, waiting, below, above, next, term)?;
                 }
                 self.follow_any(walk, below, low, high)?;
                 Ok(next)
@@ -232,7 +239,8 @@ impl Nodes {
     {
         walk.clear();
         walk.push(0)?;
-        let next = self.pass(walk, below, above, 0, t)?;
+        let mut waiting = Vec::new(*walk.allocator());
+        let next = self.pass(walk, &mut waiting, below, above, 0, t)?;
         self.numbers_at(numbers, &walk[next..])?;
         Ok(())
     }

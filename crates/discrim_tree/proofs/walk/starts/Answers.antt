@@ -9,8 +9,8 @@ use Rattle.discrim_tree.proofs.walk.starts.Goals as goal
 pub loop-i-init : goal.loop-i-init
 loop-i-init c = record {
   from = omega arith;
-  all = starts_nowhere c.args.low c.args.walk.now c.new-waiting.result.items;
-  only = subst (λ (w : List Skipping). StartOnly c.args.low c.args.walk.now w) (sym c.new-waiting.ensures.items) (start_none c.args.low c.args.walk.now);
+  all = starts_nowhere c.args.low c.args.walk.now c.clear.new.self.items;
+  only = subst (λ (w : List Skipping). StartOnly c.args.low c.args.walk.now w) (sym c.clear.ensures.items) (start_none c.args.low c.args.walk.now);
 }
 
 pub loop-i-preserved : goal.loop-i-preserved

@@ -5,10 +5,7 @@ use Rattle.discrim_tree.proofs.nodes.Nodes.made.Goals as goal
 pub returns-in-Err-clause-err : goal.returns-in-Err-clause-err
 returns-in-Err-clause-err c = λ tree used.
     let so = c.loop-i.invariant in
-    let path = take c.loop-i.i c.args.path.now in
-    c.prune_back.ensures.used (c.entered.ensures.alike.tree (so.alike.tree tree))
-    (leads_on c.loop-i.self.items c.entered.new.self.items c.entered.ensures.grows.0 0 path c.loop-i.at so.leads)
-    (c.in-Err.ensures.err (so.used used))
+    c.prune_up.ensures.used (c.entered.ensures.alike.tree (so.alike.tree tree)) (c.in-Err.ensures.err (so.used used))
 
 pub loop-i-preserved : goal.loop-i-preserved
 loop-i-preserved c =

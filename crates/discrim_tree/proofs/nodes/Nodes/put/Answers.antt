@@ -1,5 +1,5 @@
 use Rattle.std.proofs.Common.{inl, inr}
-use Rattle.discrim_tree.proofs.Trees.{alike_on, leads_on, noted_only, paths_grown, paths_on, reaches_end, renumbered_grows, renumbered_leads, renumbered_tree, same_alike, same_grows, same_used, used_noted}
+use Rattle.discrim_tree.proofs.Trees.{alike_on, leads_on, noted_only, paths_grown, paths_on, reaches_end, renumbered_grows, renumbered_leads, renumbered_tree, same_alike, same_used, used_noted}
 use Rattle.discrim_tree.proofs.nodes.Nodes.put.Goals as goal
 
 pub returns-in-Ok-clause-kept : goal.returns-in-Ok-clause-kept
@@ -44,7 +44,7 @@ returns-in-Err-clause-kept c =
     let mid = c.made.new.self.items in
     let new = c.note.new.self.items in
     let same = same_alike mid new c.in-Err.ensures.err in
-    (alike_on old mid c.prune_back.new.self.items (alike_on old c.plant.new.self.items mid c.plant.ensures.alike c.made.ensures.alike) (alike_on mid new c.prune_back.new.self.items same c.prune_back.ensures.alike)).stay
+    (alike_on old mid c.prune_up.new.self.items (alike_on old c.plant.new.self.items mid c.plant.ensures.alike c.made.ensures.alike) (alike_on mid new c.prune_up.new.self.items same c.prune_up.ensures.alike)).stay
 
 pub returns-in-Err-clause-err : goal.returns-in-Err-clause-err
 returns-in-Err-clause-err c =
@@ -52,18 +52,17 @@ returns-in-Err-clause-err c =
     let mid = c.made.new.self.items in
     let new = c.note.new.self.items in
     let same = same_alike mid new c.in-Err.ensures.err in
-    (alike_on old mid c.prune_back.new.self.items (alike_on old c.plant.new.self.items mid c.plant.ensures.alike c.made.ensures.alike) (alike_on mid new c.prune_back.new.self.items same c.prune_back.ensures.alike)).came
+    (alike_on old mid c.prune_up.new.self.items (alike_on old c.plant.new.self.items mid c.plant.ensures.alike c.made.ensures.alike) (alike_on mid new c.prune_up.new.self.items same c.prune_up.ensures.alike)).came
 
 pub returns-in-Err-clause-tree : goal.returns-in-Err-clause-tree
 returns-in-Err-clause-tree c = λ tree.
     let same = same_alike c.made.new.self.items c.note.new.self.items c.in-Err.ensures.err in
-    c.prune_back.ensures.alike.tree (same.tree (c.made.ensures.alike.tree (c.plant.ensures.alike.tree tree)))
+    c.prune_up.ensures.alike.tree (same.tree (c.made.ensures.alike.tree (c.plant.ensures.alike.tree tree)))
 
 pub returns-in-Err-clause-used : goal.returns-in-Err-clause-used
 returns-in-Err-clause-used c = λ tree used.
     let mid = c.made.new.self.items in
     let new = c.note.new.self.items in
     let same = same_alike mid new c.in-Err.ensures.err in
-    c.prune_back.ensures.used (same.tree (c.made.ensures.alike.tree (c.plant.ensures.alike.tree tree)))
-    (leads_on mid new (same_grows mid new c.in-Err.ensures.err).0 0 c.args.path.now c.in_ok-end.end c.in_ok-end.ensures.leads)
+    c.prune_up.ensures.used (same.tree (c.made.ensures.alike.tree (c.plant.ensures.alike.tree tree)))
     (same_used c.in_ok-end.end mid new c.in-Err.ensures.err (c.in_ok-end.ensures.used (c.plant.ensures.used tree used)))
