@@ -49,7 +49,7 @@ fn queued_all(alloc: Global, mut new: Vec<Conclusion>) -> Result<VecDeque<QueueE
         ≡ map queued_for (map conclusion_of new.items)) }
     ensures within { IfOk result (λ qs. AllByRecursion IsQueuedWithin qs.items) }
 {
-    let mut queue = VecDeque::new(alloc);
+    let mut queue = VecDeque::with_capacity(alloc, new.len())?;
     while let Some(conclusion) = new.pop() {
         queue.push_front(queued(alloc, conclusion))?;
     }

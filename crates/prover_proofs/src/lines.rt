@@ -41,13 +41,14 @@ fn clausal_word(inputs: &[Input], number: u64) -> First
     }
 }
 
-// The clause of a line that was made, which has no formula.
-fn clause_of_line(alloc: Global, content: &Content) -> Result<Clause, AllocError>
-    ensures { IfOk result (λ c. c ≡ clause_of_line content.now) }
+// The clause of a line that was made, which has no formula; of a formula a clause without literals.
+fn clause_of_line<'a>(content: &'a Content, nothing: &'a Clause) -> &'a Clause
+    requires { nothing.now ≡ [] }
+    ensures { result.now ≡ clause_of_line content.now }
 {
     match content {
-        Content::Clause(clause) => clause.copy(alloc),
-        Content::Formula(_, _) => Ok(Clause::new(alloc)),
+        Content::Clause(clause) => clause,
+        Content::Formula(_, _) => nothing,
     }
 }
 
@@ -92,9 +93,10 @@ impl SearchLines {
             → AreStoredLines self.new.bank self.new.store.lines.items
             (lines ++ numbered_lines (suc (length lines)) (line.now ∷ []))) }
     {
-        let clause = clause_of_line(alloc, &line.content)?;
+        let nothing = Clause::new(alloc);
+        let clause = clause_of_line(&line.content, &nothing);
         let just = copy_just(alloc, &line.just)?;
-        self.add(alloc, &clause, just)?;
+        self.add(alloc, clause, just)?;
         Ok(())
     }
 
