@@ -1,21 +1,26 @@
 -- Ways gone through place by place.
-use Rattle.std.proofs.Common.{◌≡◌, ℕ, suc, ◌+◌, ◌<◌, ◌≤◌, Bool, true, false, ◌==◌, ◌||◌, if◌then◌else◌, List, [], ◌∷◌, ◌++◌, length, get_or, map, flat_map, drop, Some, None, refl, sym, ap, ap₂, ◌∙◌, arith, append_assoc, add-one, drop-cons}
+use Rattle.std.proofs.Common.{◌≡◌, ℕ, suc, ◌+◌, ◌<◌, ◌≤◌, Bool, true, false, ◌==◌, ◌||◌, if◌then◌else◌, IsTrue, List, [], ◌∷◌, ◌++◌, length, get_or, map, flat_map, drop, Some, refl, sym, ap, ap₂, ◌∙◌, arith, append_assoc, add-one, drop-cons}
+use Rattle.std.specs.Borrow.{Bor}
 use Rattle.std.specs.List.{list_any}
-use Rattle.std.proofs.lemmas.List.{append-nil, drop_all}
+use Rattle.std.proofs.lemmas.List.{append-nil, drop_all, map-append}
 use Rattle.fol_core.specs.Literals.{ClauseTree}
-use Rattle.derivation.specs.Lines.{FirstWord, resolved, inference_of, clash_inference}
+use Rattle.derivation.specs.Lines.{resolved, inference_of, clash_inference}
+use Rattle.derivation.specs.Rule.{UnifiesFamily}
+use Rattle.derivation.specs.Words.{clash_rule}
+use Rattle.substitutions.specs.Apart.{Own}
 use Rattle.derivation.specs.declared.words.Satellite.{Satellite}
-use Rattle.proof_check.specs.Judged.{rule_by}
+use Rattle.proof_check.specs.Judged.{clash_of}
+use Rattle.proof_check.specs.Lent.{lent_clauses}
 use Rattle.proof_words.specs.Written.{meant, satellite}
 use Rattle.prover_steps.specs.Clashing.{Partner, Clashing, satellites_in}
-use Rattle.prover_steps.specs.Concluded.{Conclusion, concluded, inferred}
+use Rattle.prover_steps.specs.Concluded.{Conclusion, inferred}
 use Rattle.resolution.specs.Trying.{clashing_word, partner_of, all_tried}
 use Rattle.resolution.specs.Ways.{Tried, ways_of, takes_number, is_tried, comes_of, IsStuck}
 use Rattle.resolution.specs.declared.partners.Candidate.{Candidate}
 use Rattle.resolution.specs.declared.partners.ClashKind.{ClashKind}
 use Rattle.resolution.specs.declared.partners.ClashKind.TheVariants.{Hyper, Units}
 use Rattle.resolution.specs.declared.partners.Meetings.{Meetings}
-use Rattle.resolution.proofs.Failing.{none_inferred, front_concluded}
+use Rattle.resolution.proofs.Failing.{none_concluded, none_inferred, front_concluded}
 use Rattle.resolution.proofs.Going.{flat_same, flat_mapped, flat_flat}
 
 -- what comes of the ways with one partner for a place
@@ -129,6 +134,13 @@ tried_behind g ms i m h is was from = from ∙ tried_step g ms i m false h is wa
 pub tried_end : (g : ℕ) (ms : List Meetings) (i : ℕ) → length ms ≤ i → tried_from g ms 0 ≡ tried_from g ms i → false ≡ is_tried g (all_tried ms)
 tried_end g ms i h from = sym (from ∙ ap (λ ns. is_tried g (all_tried ns)) (drop_all i ms h))
 
--- where nothing is concluded it isn't gone on
-pub is_stuck : (w : FirstWord) (n : ℕ) (ss : List Satellite) (cs : List ClauseTree) → w ≡ resolved n ss → None ≡ concluded (rule_by w) cs → (length ss ≡ 0 → ⊥) → IsStuck ss cs
-is_stuck w n ss cs is none some = (omega arith, sym (ap (λ v. concluded (rule_by v) cs) is) ∙ sym none)
+-- where nothing unifies it isn't gone on
+abbrev pub NeverUnified : List Satellite → List ClauseTree → Type 0
+NeverUnified ss cs = IsTrue ((clash_rule (map clash_of ss)).fits cs) → (own : Own) → UnifiesFamily (clash_rule (map clash_of ss)) cs own → ⊥
+
+pub is_stuck : (ss : List Satellite) (cs : List ClauseTree) → 0 < length ss → NeverUnified ss cs → IsStuck ss cs
+is_stuck ss cs some never = (some, none_concluded (resolved 0 ss) (clash_inference 0 ss) cs refl never)
+
+-- one clause more that is lent
+pub lent_more : (bs new : List (Bor ClauseTree)) (b : Bor ClauseTree) (c : ClauseTree) → new ≡ bs ++ b ∷ [] → b.now ≡ c → lent_clauses new ≡ lent_clauses bs ++ c ∷ []
+lent_more bs new b c is same = ap lent_clauses is ∙ map-append (λ (d : Bor ClauseTree). d.now) bs (b ∷ []) ∙ ap (λ d. lent_clauses bs ++ d ∷ []) same

@@ -1,5 +1,5 @@
 -- Nuclei of which nothing comes with the given clause, and partners that are no candidates.
-use Rattle.std.proofs.Common.{◌≡◌, ◌⊎◌, inl, inr, ℕ, zero, suc, ◌<◌, ◌≤◌, Bool, true, false, not, ◌==◌, nat_lt, ◌||◌, if◌then◌else◌, List, [], ◌∷◌, ◌++◌, length, get_or, map, filter, flat_map, refl, sym, ap, ap₂, ◌∙◌, subst, eqb-true, eq-eqb, ne_eqb}
+use Rattle.std.proofs.Common.{◌≡◌, ◌⊎◌, inl, inr, ℕ, ◌<◌, ◌≤◌, Bool, true, false, not, ◌==◌, nat_lt, ◌||◌, if◌then◌else◌, List, [], ◌∷◌, ◌++◌, length, get_or, map, filter, flat_map, refl, sym, ap, ap₂, ◌∙◌, subst, eqb-true, eq-eqb}
 use Rattle.std.specs.List.{list_any}
 use Rattle.std.proofs.lemmas.Bool.{false≢true}
 use Rattle.fol_core.specs.ClauseView.{literal_of}
@@ -7,13 +7,13 @@ use Rattle.fol_core.specs.Literals.{ClauseTree}
 use Rattle.fol_core.specs.declared.clause.Literal.{Literal}
 use Rattle.clause_index.specs.Numbered.{is_numbered}
 use Rattle.clause_index.proofs.Numbers.{IsAmong, left_out, either_false, each_numbered}
-use Rattle.proof_words.specs.Written.{by_hyper, by_ur}
-use Rattle.prover_steps.specs.Clashing.{Held, Partner, Clashing, is_same_held, clashings, clashes_of, satellites_in, places_of, places_with, has_negative, positive_partners, unit_partners, unit_clashings, hyperresolvents_of, unit_resolvents_of}
-use Rattle.prover_steps.specs.Concluded.{Conclusion, inferred}
+use Rattle.proof_words.specs.Written.{by_ur}
+use Rattle.prover_steps.specs.Clashing.{Held, Partner, is_same_held, clashings, clashes_of, satellites_in, places_of, places_with, has_negative, hyperresolvents_of, unit_resolvents_of}
+use Rattle.prover_steps.specs.Concluded.{inferred}
 use Rattle.resolution.specs.Meeting.{NeverClash}
 use Rattle.resolution.specs.Opposing.{opposes, numbers_against, numbers_by, nuclei_numbers}
 use Rattle.resolution.specs.Trying.{clashing_word, is_satellite, partners_in, partners_by}
-use Rattle.resolution.specs.Ways.{Tried, ways_of, takes_number, is_tried, comes_of, StandFor, StandForEach}
+use Rattle.resolution.specs.Ways.{Tried, is_tried, comes_of, StandFor, StandForEach}
 use Rattle.resolution.specs.declared.partners.ClashKind.{ClashKind}
 use Rattle.resolution.specs.declared.partners.ClashKind.TheVariants.{Hyper, Units}
 use Rattle.resolution.proofs.AllWays.{clashes_made, units_are}

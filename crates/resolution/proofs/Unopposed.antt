@@ -1,19 +1,17 @@
 -- Clauses that don't oppose each other give nothing together.
-use Rattle.std.proofs.Common.{◌≡◌, ◌⊎◌, inl, inr, ℕ, zero, suc, ◌+◌, ◌<◌, ◌≤◌, Bool, true, false, not, ◌==◌, ◌&&◌, ◌||◌, if◌then◌else◌, IsTrue, List, [], ◌∷◌, ◌++◌, length, get_or, map, filter, flat_map, refl, sym, ap, ap₂, ◌∙◌, subst, arith, eqb-true, eq-eqb, ne_eqb}
+use Rattle.std.proofs.Common.{◌≡◌, ℕ, zero, suc, ◌<◌, ◌≤◌, Bool, true, false, not, ◌&&◌, ◌||◌, if◌then◌else◌, IsTrue, List, [], ◌∷◌, length, get_or, map, filter, flat_map, refl, sym, ap, ◌∙◌, arith}
 use Rattle.std.specs.List.{list_any}
 use Rattle.std.proofs.lemmas.Bool.{false≢true}
 use Rattle.fol_core.specs.ClauseView.{literal_of}
-use Rattle.fol_core.specs.Literals.{Lit, literal, ClauseTree}
-use Rattle.fol_core.specs.Substitutions.{substitute}
+use Rattle.fol_core.specs.Literals.{ClauseTree}
 use Rattle.fol_core.specs.Tree.{Tree}
 use Rattle.fol_core.specs.declared.clause.Literal.{Literal}
 use Rattle.clause_index.specs.Numbered.{is_numbered}
 use Rattle.clause_index.proofs.Numbers.{IsAmong, left_out, fails_too, each_numbered, fail_each, either_false}
-use Rattle.derivation.specs.Places.{has_literal, same_sign, atom_at, are_opposite}
+use Rattle.derivation.specs.Places.{has_literal, same_sign, atom_at}
 use Rattle.discrim_tree.specs.Terms.{can_unify}
 use Rattle.discrim_tree.proofs.Terms.{unifiers_are_of_two}
-use Rattle.prover_steps.specs.Clashing.{Held, Partner, Clashing, is_same_held, clashings, clashes_of, places_of, places_with, has_negative, resolvents_with, resolvents_of, unit_partners}
-use Rattle.prover_steps.specs.Concluded.{Conclusion}
+use Rattle.prover_steps.specs.Clashing.{Held, is_same_held, places_of, places_with, resolvents_with, resolvents_of}
 use Rattle.prover_steps.specs.HeldOrder.{numbers_of}
 use Rattle.discrim_tree.specs.Meeting.{NeverMeet}
 use Rattle.resolution.specs.Meeting.{NeverClash}

@@ -3,16 +3,18 @@ ghost use Rattle.std.specs.Prelude.{◌≡◌, ◌++◌, ◌∷◌, [], ◌+◌,
 ghost use Rattle.std.specs.List.{flat_map, list_any};
 ghost use Rattle.derivation.specs.Lines.{resolved};
 ghost use Rattle.derivation.specs.View.{first_word_of};
+ghost use Rattle.proof_check.specs.Lent.{lent_clauses};
 ghost use Rattle.proof_words.specs.Written.{written_first};
 ghost use Rattle.resolution.specs.Trying.{clashing_word, partner_of, all_tried};
 ghost use Rattle.resolution.specs.View.{all_conclusions};
 ghost use Rattle.resolution.specs.Ways.{ways_of, is_tried, comes_of, IsStuck};
 
 use crate::conclusion::Conclusion;
-use crate::inferring::{conclude, infer};
+use crate::inferring::infer_of_many;
 use crate::partners::{Candidate, ClashKind, Meetings};
 use derivation::{First, Satellite};
 use fol_core::Clause;
+use proof_check::can_clash;
 use std::alloc::{AllocError, Global};
 
 /// A nucleus by its number, and the number of the given clause.
@@ -25,9 +27,9 @@ pub struct Nucleus {
 
 /// The satellites that are taken so far, and the clauses of the nucleus and of these.
 #[derive(Drop)]
-pub struct Taken {
+pub struct Taken<'a> {
     pub satellites: Vec<Satellite>,
-    pub clauses: Vec<Clause>,
+    pub clauses: Vec<&'a Clause>,
 }
 
 // The word of a step.
@@ -45,19 +47,15 @@ fn word_for(alloc: Global, nucleus: Nucleus, satellites: &[Satellite]) -> Result
 }
 
 // Whether it may be gone on with the satellites that are taken: no only where nothing is concluded with them alone.
-#[tactic(auto, using(crate::proofs::Clashes::is_stuck))]
-fn may_go_on(alloc: Global, nucleus: Nucleus, taken: &Taken) -> Result<bool, AllocError>
+fn may_go_on(alloc: Global, taken: &Taken) -> Result<bool, AllocError>
     ensures { IfOk result (λ on. on ≡ false
-        → IsStuck taken.now.satellites.items taken.now.clauses.items) }
+        → IsStuck taken.now.satellites.items (lent_clauses taken.now.clauses.items)) }
 {
     if taken.satellites.is_empty() {
         return Ok(true);
     }
-    let word = word_for(alloc, nucleus, taken.satellites.as_slice())?;
-    match conclude(alloc, &word, taken.clauses.as_slice())? {
-        Some(_) => Ok(true),
-        None => Ok(false),
-    }
+    let can = can_clash(alloc, taken.satellites.as_slice(), taken.clauses.as_slice())?;
+    Ok(can)
 }
 
 // Whether the clause of a number is among some literals.
@@ -104,23 +102,23 @@ fn finish(
 ) -> Result<(), AllocError>
     ensures { OnOk result (all_conclusions made.new.items ≡ all_conclusions made.old.items
         ++ comes_of (clashing_word nucleus.kind nucleus.number) nucleus.given used
-        taken.now.satellites.items taken.now.clauses.items []) }
+        taken.now.satellites.items (lent_clauses taken.now.clauses.items) []) }
 {
     if !used {
         return Ok(());
     }
     let word = word_for(alloc, nucleus, taken.satellites.as_slice())?;
-    infer(alloc, word, taken.clauses.as_slice(), made)
+    infer_of_many(alloc, word, taken.clauses.as_slice(), made)
 }
 
 /// Adds what comes of the satellites that are taken and all ways to go on.
 #[cycle(clash)]
-pub fn clash_on(
+pub fn clash_on<'a>(
     alloc: Global,
     nucleus: Nucleus,
-    places: &[Meetings],
+    places: &[Meetings<'a>],
     used: bool,
-    taken: &mut Taken,
+    taken: &mut Taken<'a>,
     made: &mut Vec<Conclusion>,
 ) -> Result<(), AllocError>
     requires { length taken.old.clauses.items ≡ length taken.old.satellites.items + 1 }
@@ -128,12 +126,12 @@ pub fn clash_on(
     ensures clauses { OnOk result (taken.new.clauses.items ≡ taken.old.clauses.items) }
     ensures made { OnOk result (all_conclusions made.new.items ≡ all_conclusions made.old.items
         ++ flat_map (comes_of (clashing_word nucleus.kind nucleus.number) nucleus.given used
-        taken.old.satellites.items taken.old.clauses.items) (ways_of (all_tried places.now))) }
+        taken.old.satellites.items (lent_clauses taken.old.clauses.items)) (ways_of (all_tried places.now))) }
 {
     let Some((place, rest)) = places.split_first() else {
         return finish(alloc, nucleus, used, taken, made);
     };
-    if !may_go_on(alloc, nucleus, taken)? {
+    if !may_go_on(alloc, taken)? {
         return Ok(());
     }
     for candidate in &place.candidates {
@@ -153,14 +151,14 @@ pub fn clash_on(
 
 // The ways with one partner for the first place that is left.
 #[cycle(clash)]
-fn take_on(
+fn take_on<'a>(
     alloc: Global,
     nucleus: Nucleus,
     place: u64,
-    candidate: &Candidate,
-    rest: &[Meetings],
+    candidate: &Candidate<'a>,
+    rest: &[Meetings<'a>],
     used: bool,
-    taken: &mut Taken,
+    taken: &mut Taken<'a>,
     made: &mut Vec<Conclusion>,
 ) -> Result<(), AllocError>
     requires { length taken.old.clauses.items ≡ length taken.old.satellites.items + 1 }
@@ -168,7 +166,7 @@ fn take_on(
     ensures clauses { OnOk result (taken.new.clauses.items ≡ taken.old.clauses.items) }
     ensures made { OnOk result (all_conclusions made.new.items ≡ all_conclusions made.old.items
         ++ flat_map (λ ms. comes_of (clashing_word nucleus.kind nucleus.number) nucleus.given used
-        taken.old.satellites.items taken.old.clauses.items
+        taken.old.satellites.items (lent_clauses taken.old.clauses.items)
         ((place, partner_of candidate.now) ∷ ms)) (ways_of (all_tried rest.now))) }
 {
     let number = candidate.held.number();
@@ -181,7 +179,7 @@ fn take_on(
         clause: number,
         literal: candidate.literal,
     })?;
-    taken.clauses.push(candidate.held.clause().copy(alloc)?)?;
+    taken.clauses.push(candidate.held.clause())?;
     clash_on(alloc, nucleus, rest, uses, taken, made)?;
     let _satellite = taken.satellites.pop();
     let _clause = taken.clauses.pop();

@@ -105,12 +105,12 @@ fn other_places<'a>(
 }
 
 // What becomes of a nucleus in all ways in which the given clause takes part.
-fn add_clashes(
+fn add_clashes<'a>(
     alloc: Global,
     kind: ClashKind,
     given: &Held,
-    nucleus: &Held,
-    places: &[Meetings],
+    nucleus: &'a Held,
+    places: &[Meetings<'a>],
     made: &mut Vec<Conclusion>,
 ) -> Result<(), AllocError>
     ensures { OnOk result ((ks : List ℕ) (partners : List Partner)
@@ -118,9 +118,8 @@ fn add_clashes(
         → all_conclusions made.new.items ≡ all_conclusions made.old.items
         ++ clashes_of (clashing_word kind) given.now nucleus.now (clashings ks partners)) }
 {
-    let clause = nucleus.clause().copy(alloc)?;
     let mut clauses = Vec::new(alloc);
-    clauses.push(clause)?;
+    clauses.push(nucleus.clause())?;
     let satellites = Vec::new(alloc);
     let mut taken = Taken {
         satellites,

@@ -1,5 +1,6 @@
 -- Fewer places are left; what is taken stays, and what the partners so far give is made.
 use Rattle.std.proofs.Common.{◌≡◌, ◌+◌, ◌*◌, ◌++◌, flat_map, take, length}
+use Rattle.proof_check.specs.Lent.{lent_clauses}
 use Rattle.resolution.specs.Trying.{partner_of, all_tried}
 use Rattle.resolution.specs.View.{all_conclusions}
 use Rattle.resolution.specs.declared.partners.Candidate.{Candidate}
@@ -19,6 +20,6 @@ invariant-clash_on-loop-candidate l = record {
   made : all_conclusions l.made.items
       ≡ all_conclusions l.fn.made.items
       ++ flat_map
-      (λ (c : Candidate). ways_with l.nucleus.kind l.nucleus.number l.nucleus.given l.used l.fn.taken.satellites.items l.fn.taken.clauses.items l.place.place (all_tried l.rest) (partner_of c))
+      (λ (c : Candidate). ways_with l.nucleus.kind l.nucleus.number l.nucleus.given l.used l.fn.taken.satellites.items (lent_clauses l.fn.taken.clauses.items) l.place.place (all_tried l.rest) (partner_of c))
       (take l.candidate-index l.candidate-items);
 }

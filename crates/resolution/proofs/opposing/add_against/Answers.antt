@@ -1,4 +1,4 @@
-use Rattle.std.proofs.Common.{◌++◌, filter, flat_map, ap, sym, ◌∙◌}
+use Rattle.std.proofs.Common.{◌++◌, filter, ap, sym, ◌∙◌}
 use Rattle.fol_core.specs.ClauseView.{literal_of}
 use Rattle.fol_core.specs.Literals.{Lit, ClauseTree}
 use Rattle.prover_steps.specs.HeldOrder.{numbers_of}

@@ -1,4 +1,4 @@
-use Rattle.std.proofs.Common.{arith, map, ap, subst}
+use Rattle.std.proofs.Common.{arith, map, subst}
 use Rattle.std.proofs.lemmas.List.{take_all}
 use Rattle.held_clauses.specs.Holding.{lent}
 use Rattle.resolution.specs.Trying.{partner_of, partners_by}

@@ -1,7 +1,6 @@
-use Rattle.std.proofs.Common.{map, ap, subst, ◌∙◌, arith}
+use Rattle.std.proofs.Common.{map, ap, ◌∙◌, arith}
 use Rattle.held_clauses.specs.Holding.{lent}
-use Rattle.resolution.specs.Trying.{partner_of, partners_by}
-use Rattle.resolution.specs.Ways.{StandFor}
+use Rattle.resolution.specs.Trying.{partner_of}
 use Rattle.resolution.proofs.Idle.{stand_found, stand_past}
 use Rattle.resolution.proofs.partners.candidates_at.Goals as goal
 
