@@ -3,13 +3,15 @@ use Rattle.std.proofs.Common.{◌≡◌, ℕ, suc, ◌+◌, ◌<◌, ◌≤◌, 
 use Rattle.std.specs.List.{list_any}
 use Rattle.std.proofs.lemmas.Bool.{cases_eq}
 use Rattle.std.proofs.lemmas.Option.{slice_get_read}
-use Rattle.clause_index.specs.Filing.{Shows, AllStay, AllOthersStay, IsFiledLiteral, IsFiled, sieve_of}
+use Rattle.clause_index.specs.Filing.{Shows, AllStay, AllOthersStay, IsFiledLiteral, IsFiled, IsUnderMarks, sieve_of}
 use Rattle.clause_index.specs.Finding.{has_term_such, has_argument_such, has_such_below, has_side_such, has_part_such}
 use Rattle.clause_index.specs.declared.finder.Finder.{Finder}
 use Rattle.clause_index.specs.declared.parts.Part.{Part}
 use Rattle.clause_index.specs.declared.parts.Part.TheVariants.{Atoms, Inside, Sides}
 use Rattle.derivation.specs.Places.{same_sign}
+use Rattle.discrim_tree.specs.Marks.{StayMarked, OthersStayMarked}
 use Rattle.discrim_tree.specs.Sieves.{IsUnder, StayUnder, OthersStay}
+use Rattle.discrim_tree.specs.declared.marks.MarkSieve.{MarkSieve}
 use Rattle.discrim_tree.specs.declared.sieve.Sieve.{Sieve}
 use Rattle.fol_core.specs.ClauseView.{literal_of}
 use Rattle.fol_core.specs.Literals.{Lit}
@@ -74,7 +76,7 @@ terms_any : (test : Test) (ts : List Term) → list_any (λ t. has_term_such tes
 terms_any test [] = refl
 terms_any test (t ∷ ts) = ap (λ b. has_term_such test (tree_of t) || b) (terms_any test ts)
 
-literals_any : (test : Lit → Bool) (ls : List Literal) → list_any (λ l. test (literal_of l)) ls ≡ list_any test (map literal_of ls)
+pub literals_any : (test : Lit → Bool) (ls : List Literal) → list_any (λ l. test (literal_of l)) ls ≡ list_any test (map literal_of ls)
 literals_any test [] = refl
 literals_any test (l ∷ ls) = ap (λ b. test (literal_of l) || b) (literals_any test ls)
 
@@ -119,6 +121,13 @@ literal_on a b n l stay filed = record {
   sides = shows_on a.sides b.sides n _ stay.sides filed.sides;
 }
 
+-- marks
+under_on : (a b : MarkSieve) (h : Held) → StayMarked a b → IsUnderMarks a h → IsUnderMarks b h
+under_on a b h stay under long = let w = under long in (w.0, w.1, stay w.0 h.number w.2)
+
+under_other : (n : ℕ) (a b : MarkSieve) (h : Held) → OthersStayMarked n a b → (h.number ≡ n → ⊥) → IsUnderMarks a h → IsUnderMarks b h
+under_other n a b h stay apart under long = let w = under long in (w.0, w.1, stay w.0 h.number apart w.2)
+
 pub record LiteralsFiled (old now : Finder) (n : ℕ) (ls : List Literal) (i : ℕ) : Type 0 where
   pub stay : AllStay old now
   pub each : UpTo (λ l. IsFiledLiteral now n (literal_of l)) ls i
@@ -129,6 +138,7 @@ stay_on a b c f g = record {
   negatives = λ t m h. g.negatives t m (f.negatives t m h);
   inside = λ t m h. g.inside t m (f.inside t m h);
   sides = λ t m h. g.sides t m (f.sides t m h);
+  long = λ ms m h. g.long ms m (f.long ms m h);
 }
 
 pub others_on : (n : ℕ) (a b c : Finder) → AllOthersStay n a b → AllOthersStay n b c → AllOthersStay n a c
@@ -137,6 +147,7 @@ others_on n a b c f g = record {
   negatives = λ t m d h. g.negatives t m d (f.negatives t m d h);
   inside = λ t m d h. g.inside t m d (f.inside t m d h);
   sides = λ t m d h. g.sides t m d (f.sides t m d h);
+  long = λ ms m d h. g.long ms m d (f.long ms m d h);
 }
 
 pub next_literal : (old a b : Finder) (n : ℕ) (ls : List Literal) (i : ℕ) (l : Literal) → i < length ls → l ≡ get_or ls i l → LiteralsFiled old a n ls i → AllStay a b → IsFiledLiteral b n (literal_of l) → LiteralsFiled old b n ls (i + 1)
@@ -150,13 +161,14 @@ literals_shown has s n ls i past each =
     shows_same s n (λ test. list_any (λ l. has (literal_of l) test) ls) (λ test. list_any (λ l. has l test) (map literal_of ls)) (λ test. literals_any (λ l. has l test) ls)
     (any_shown (λ l test. has (literal_of l) test) s n ls (λ j l lt at. each j l (omega (arith, lt, past)) at))
 
-pub clause_filed : (old f : Finder) (h : Held) (ls : List Literal) (i : ℕ) → map literal_of ls ≡ h.clause → length ls ≤ i → LiteralsFiled old f h.number ls i → IsFiled f h
-clause_filed old f h ls i is past filed = subst (λ c. IsFiled f (record { number = h.number; clause = c })) is (record {
+pub clause_filed : (old f : Finder) (h : Held) (ls : List Literal) (i : ℕ) → map literal_of ls ≡ h.clause → length ls ≤ i → LiteralsFiled old f h.number ls i → IsUnderMarks old.long h → IsFiled f h
+clause_filed old f h ls i is past filed under = subst (λ c. IsUnderMarks old.long (record { number = h.number; clause = c }) → IsFiled f (record { number = h.number; clause = c })) is (λ before. record {
   positives = literals_shown (λ l test. same_sign true l.positive && test l.atom) f.positives h.number ls i past (λ j l lt at. (filed.each j l lt at).positives);
   negatives = literals_shown (λ l test. same_sign false l.positive && test l.atom) f.negatives h.number ls i past (λ j l lt at. (filed.each j l lt at).negatives);
   inside = literals_shown (λ l test. has_such_below test l.atom) f.inside h.number ls i past (λ j l lt at. (filed.each j l lt at).inside);
   sides = literals_shown (λ l test. has_side_such test l) f.sides h.number ls i past (λ j l lt at. (filed.each j l lt at).sides);
-})
+  long = under_on old.long f.long (record { number = h.number; clause = map literal_of ls }) filed.stay.long before;
+}) under
 
 -- places in clauses
 pub filed_at : (f : Finder) (h : Held) → IsFiled f h → (part : Part) → Shows (sieve_of part f) h.number (λ test. has_part_such part test h)
@@ -171,6 +183,7 @@ stay_filed a b h stay filed = record {
   negatives = shows_on a.negatives b.negatives h.number _ stay.negatives filed.negatives;
   inside = shows_on a.inside b.inside h.number _ stay.inside filed.inside;
   sides = shows_on a.sides b.sides h.number _ stay.sides filed.sides;
+  long = under_on a.long b.long h stay.long filed.long;
 }
 
 pub others_filed : (n : ℕ) (a b : Finder) (h : Held) → AllOthersStay n a b → (h.number ≡ n → ⊥) → IsFiled a h → IsFiled b h
@@ -179,4 +192,5 @@ others_filed n a b h stay apart filed = record {
   negatives = shows_other a.negatives b.negatives h.number _ n stay.negatives apart filed.negatives;
   inside = shows_other a.inside b.inside h.number _ n stay.inside apart filed.inside;
   sides = shows_other a.sides b.sides h.number _ n stay.sides apart filed.sides;
+  long = under_other n a.long b.long h stay.long apart filed.long;
 }

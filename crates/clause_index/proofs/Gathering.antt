@@ -1,14 +1,13 @@
 -- Clauses with the indexes of their first literals.
-use Rattle.std.proofs.Common.{◌≡◌, ℕ, ◌+◌, ◌<◌, ◌==◌, Bool, true, false, not, if◌then◌else◌, List, [], ◌∷◌, ◌++◌, Option, Some, None, length, get_or, take, filter, refl, sym, ap, ap₂, ◌∙◌, subst, eq-eqb, ne_eqb, arith}
+use Rattle.std.proofs.Common.{◌≡◌, ℕ, ◌+◌, ◌<◌, ◌==◌, Bool, true, false, not, ◌&&◌, if◌then◌else◌, List, [], ◌∷◌, ◌++◌, Option, Some, None, length, get_or, take, filter, refl, sym, ap, ap₂, ◌∙◌, subst, eq-eqb, ne_eqb, arith}
 use Rattle.std.specs.Borrow.{Bor}
 use Rattle.std.specs.List.{AllByRecursion, filter_map, cons_option}
 use Rattle.std.proofs.lemmas.List.{append-nil, map-append, take_more}
 use Rattle.clause_index.proofs.Entries.{entered as entered_once, passed_over, entries_left, none_entered, numbers_are}
 use Rattle.clause_index.proofs.Removals.{but_for, taken_back}
-use Rattle.clause_index.specs.Entries.{may_begin, first_atom, first_literals, entered, begins_generally, AreIndexedBySign}
+use Rattle.clause_index.specs.Entries.{is_short_of, first_atom, short_atoms, entered, AreIndexedBySign}
 use Rattle.clause_index.specs.Places.{with_number}
 use Rattle.discrim_tree.specs.Entries.{Indexed, indexed, has_number, with_entry, without_entry, numbers_found}
-use Rattle.discrim_tree.specs.Terms.{has_instance}
 use Rattle.fol_core.specs.Tree.{Tree}
 use Rattle.held_clauses.specs.Holding.{lent}
 use Rattle.prover_steps.proofs.Rising.{put_rises, kept_rises, kept_each}
@@ -17,24 +16,24 @@ use Rattle.prover_steps.specs.HeldOrder.{numbers_of, IsNoneOf, IsRising}
 use Rattle.prover_steps.specs.Searching.{put_in}
 
 -- the index of one sign
-entered_there : (sign : Bool) (h : Held) (hs : List Held) → IsRising (numbers_of hs) → IsNoneOf h.number (numbers_of hs) → entered sign h (first_literals sign hs) ≡ first_literals sign (put_in h hs)
-entered_there sign h hs rising none = by (may_begin sign h) refl
+entered_there : (sign : Bool) (h : Held) (hs : List Held) → IsRising (numbers_of hs) → IsNoneOf h.number (numbers_of hs) → entered sign h (short_atoms sign hs) ≡ short_atoms sign (put_in h hs)
+entered_there sign h hs rising none = by (is_short_of sign h) refl
   where
-    by : (b : Bool) → may_begin sign h ≡ b → entered sign h (first_literals sign hs) ≡ first_literals sign (put_in h hs)
-    by true e = ap (λ b. if b then with_entry (indexed h.number (first_atom h)) (first_literals sign hs) else first_literals sign hs) e ∙ entered_once (may_begin sign) first_atom h hs rising none e
-    by false e = ap (λ b. if b then with_entry (indexed h.number (first_atom h)) (first_literals sign hs) else first_literals sign hs) e ∙ sym (passed_over (may_begin sign) first_atom h hs e)
+    by : (b : Bool) → is_short_of sign h ≡ b → entered sign h (short_atoms sign hs) ≡ short_atoms sign (put_in h hs)
+    by true e = ap (λ b. if b then with_entry (indexed h.number (first_atom h)) (short_atoms sign hs) else short_atoms sign hs) e ∙ entered_once (is_short_of sign) first_atom h hs rising none e
+    by false e = ap (λ b. if b then with_entry (indexed h.number (first_atom h)) (short_atoms sign hs) else short_atoms sign hs) e ∙ sym (passed_over (is_short_of sign) first_atom h hs e)
 
-gone_again : (sign : Bool) (h : Held) (hs : List Held) → IsRising (numbers_of hs) → IsNoneOf h.number (numbers_of hs) → without_entry h.number (entered sign h (first_literals sign hs)) ≡ first_literals sign hs
+gone_again : (sign : Bool) (h : Held) (hs : List Held) → IsRising (numbers_of hs) → IsNoneOf h.number (numbers_of hs) → without_entry h.number (entered sign h (short_atoms sign hs)) ≡ short_atoms sign hs
 gone_again sign h hs rising none =
-    ap (without_entry h.number) (entered_there sign h hs rising none) ∙ entries_left (may_begin sign) first_atom h.number (put_in h hs) ∙ ap (first_literals sign) (taken_back h hs none)
+    ap (without_entry h.number) (entered_there sign h hs rising none) ∙ entries_left (is_short_of sign) first_atom h.number (put_in h hs) ∙ ap (short_atoms sign) (taken_back h hs none)
 
 -- both of them
 module _ (h : Held) (n : ℕ) (hs : List Held) (ps ns : List Indexed) (are : AreIndexedBySign hs ps ns) (none : IsNoneOf h.number (numbers_of hs)) (number : n ≡ h.number) where
   pub none_positive : has_number h.number ps ≡ false
-  none_positive = ap (has_number h.number) are.positive ∙ none_entered (may_begin true) first_atom h.number hs none
+  none_positive = ap (has_number h.number) are.positive ∙ none_entered (is_short_of true) first_atom h.number hs none
 
   pub none_negative : has_number h.number ns ≡ false
-  none_negative = ap (has_number h.number) are.negative ∙ none_entered (may_begin false) first_atom h.number hs none
+  none_negative = ap (has_number h.number) are.negative ∙ none_entered (is_short_of false) first_atom h.number hs none
 
   pub set_with : (now : List Held) (qs ms : List Indexed) → now ≡ put_in h hs → qs ≡ entered true h ps → ms ≡ entered false h ns → AreIndexedBySign now qs ms
   set_with now qs ms is grown more =
@@ -44,10 +43,10 @@ module _ (h : Held) (n : ℕ) (hs : List Held) (ps ns : List Indexed) (are : Are
         negative = more ∙ ap (entered false h) are.negative ∙ entered_there false h hs are.rising none;
       })
 
-  positive_back : (qs : List Indexed) → qs ≡ entered true h ps → without_entry n qs ≡ first_literals true hs
+  positive_back : (qs : List Indexed) → qs ≡ entered true h ps → without_entry n qs ≡ short_atoms true hs
   positive_back qs grown = ap₂ without_entry number (grown ∙ ap (entered true h) are.positive) ∙ gone_again true h hs are.rising none
 
-  negative_back : (ms : List Indexed) → ms ≡ entered false h ns → without_entry n ms ≡ first_literals false hs
+  negative_back : (ms : List Indexed) → ms ≡ entered false h ns → without_entry n ms ≡ short_atoms false hs
   negative_back ms more = ap₂ without_entry number (more ∙ ap (entered false h) are.negative) ∙ gone_again false h hs are.rising none
 
   pub one_back : (qs left ms : List Indexed) → qs ≡ entered true h ps → left ≡ without_entry n qs → ms ≡ ns → AreIndexedBySign hs left ms
@@ -61,8 +60,8 @@ pub set_out : (n : ℕ) (hs now : List Held) (ps left ns rest : List Indexed) �
 set_out n hs now ps left ns rest are taken gone is =
     subst (λ ks. AreIndexedBySign ks left rest) (sym is) (record {
       rising = kept_rises (λ h. not (h.number == n)) hs are.rising;
-      positive = taken ∙ ap (without_entry n) are.positive ∙ entries_left (may_begin true) first_atom n hs;
-      negative = gone ∙ ap (without_entry n) are.negative ∙ entries_left (may_begin false) first_atom n hs;
+      positive = taken ∙ ap (without_entry n) are.positive ∙ entries_left (is_short_of true) first_atom n hs;
+      negative = gone ∙ ap (without_entry n) are.negative ∙ entries_left (is_short_of false) first_atom n hs;
     })
 
 -- clauses by the numbers that were found
@@ -104,8 +103,8 @@ all_found test (h ∷ hs) rising = by (test h) (behind_first h hs (numbers_of (f
     by true rest = ap₂ (λ o ks. cons_option o ks) (ap (λ b. if b then Some h else with_number h.number hs) (eq-eqb h.number h.number refl)) rest
     by false rest = rest
 
-pub general_found : (sign : Bool) (t : Tree) (hs : List Held) (es : List Indexed) (ns : List ℕ) → IsRising (numbers_of hs) → es ≡ first_literals sign hs → ns ≡ numbers_found (λ s. has_instance s t) es
-    → filter_map (λ n. with_number n hs) ns ≡ filter (begins_generally sign t) hs
-general_found sign t hs es ns rising tied found =
-    ap (filter_map (λ n. with_number n hs)) (found ∙ ap (numbers_found (λ s. has_instance s t)) tied ∙ numbers_are (may_begin sign) first_atom (λ s. has_instance s t) hs)
-    ∙ all_found (begins_generally sign t) hs rising
+pub short_found : (sign : Bool) (test : Tree → Bool) (hs : List Held) (es : List Indexed) (ns : List ℕ) → IsRising (numbers_of hs) → es ≡ short_atoms sign hs → ns ≡ numbers_found test es
+    → filter_map (λ n. with_number n hs) ns ≡ filter (λ h. is_short_of sign h && test (first_atom h)) hs
+short_found sign test hs es ns rising tied found =
+    ap (filter_map (λ n. with_number n hs)) (found ∙ ap (numbers_found test) tied ∙ numbers_are (is_short_of sign) first_atom test hs)
+    ∙ all_found (λ h. is_short_of sign h && test (first_atom h)) hs rising

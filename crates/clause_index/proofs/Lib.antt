@@ -2,9 +2,14 @@ pub mod Candidates
 pub mod Entries
 pub mod Filed
 pub mod Filing
+pub mod Firsts
 pub mod Gathering
+pub mod General
+pub mod MarkSteps
+pub mod Marking
 pub mod Numbers
 pub mod Places
 pub mod Removals
 pub mod Ruling
+pub mod Subsumers
 pub mod TermTests

@@ -1,14 +1,21 @@
--- Clauses whose numbers stand under their terms.
-use Rattle.std.specs.Prelude.{ℕ, Bool, true, false, IsTrue, ◌&&◌, List}
+-- Clauses whose numbers stand under their terms and marks.
+use Rattle.std.specs.Prelude.{ℕ, ◌≡◌, Bool, true, false, IsTrue, ◌&&◌, List}
 use Rattle.std.specs.List.{AllByRecursion, Contains}
+use Rattle.std.specs.List.Sorted.{IsStrictlyIncreasing}
+use Rattle.clause_index.specs.Entries.{is_short}
+use Rattle.clause_index.specs.Marks.{marks_of}
+use Rattle.clause_index.specs.Subsumers.{is_long_above, is_below}
 use Rattle.clause_index.specs.Finding.{has_part_such, has_such_below, has_side_such, has_atom_such, has_inside_such, has_equation_such}
 use Rattle.clause_index.specs.declared.finder.Finder.{Finder}
 use Rattle.clause_index.specs.declared.parts.Part.{Part}
 use Rattle.clause_index.specs.declared.parts.Part.TheVariants.{Atoms, Inside, Sides}
 use Rattle.derivation.specs.Places.{same_sign}
+use Rattle.discrim_tree.specs.Marks.{IsMarked, StayMarked, OthersStayMarked}
 use Rattle.discrim_tree.specs.Sieves.{IsUnder, StayUnder, OthersStay}
+use Rattle.discrim_tree.specs.declared.marks.MarkSieve.{MarkSieve}
 use Rattle.discrim_tree.specs.declared.sieve.Sieve.{Sieve}
-use Rattle.fol_core.specs.Literals.{Lit}
+use Rattle.discrim_tree.specs.Terms.{has_instance}
+use Rattle.fol_core.specs.Literals.{Lit, ClauseTree}
 use Rattle.fol_core.specs.Tree.{Tree}
 use Rattle.prover_steps.specs.Clashing.{Held}
 
@@ -18,12 +25,25 @@ Shows sieve n has =
     (test : Tree → Bool) → IsTrue (has test)
     → (s : Tree) × IsTrue (test s) × IsUnder sieve s n
 
--- numbers stay under their terms
+-- the marks of a clause, each once, rising
+pub record AreMarksOf (ms : List ℕ) (c : ClauseTree) : Type 0 where
+  pub rise : IsStrictlyIncreasing ms
+  pub all : (m : ℕ) → Contains (marks_of c) m → Contains ms m
+  pub only : (m : ℕ) → Contains ms m → Contains (marks_of c) m
+
+-- a number stands under the marks of a clause, if that has two literals or more
+abbrev pub IsUnderMarks : MarkSieve → Held → Type 0
+IsUnderMarks sieve h =
+    is_short h.clause ≡ false
+    → (ms : List ℕ) × AreMarksOf ms h.clause × IsMarked sieve ms h.number
+
+-- numbers stay under their terms and marks
 pub record AllStay (old new : Finder) : Type 0 where
   pub positives : StayUnder old.positives new.positives
   pub negatives : StayUnder old.negatives new.negatives
   pub inside : StayUnder old.inside new.inside
   pub sides : StayUnder old.sides new.sides
+  pub long : StayMarked old.long new.long
 
 -- those but for one do
 pub record AllOthersStay (n : ℕ) (old new : Finder) : Type 0 where
@@ -31,6 +51,7 @@ pub record AllOthersStay (n : ℕ) (old new : Finder) : Type 0 where
   pub negatives : OthersStay n old.negatives new.negatives
   pub inside : OthersStay n old.inside new.inside
   pub sides : OthersStay n old.sides new.sides
+  pub long : OthersStayMarked n old.long new.long
 
 -- a number stands under the terms of a literal
 pub record IsFiledLiteral (f : Finder) (n : ℕ) (l : Lit) : Type 0 where
@@ -39,12 +60,13 @@ pub record IsFiledLiteral (f : Finder) (n : ℕ) (l : Lit) : Type 0 where
   pub inside : Shows f.inside n (λ test. has_such_below test l.atom)
   pub sides : Shows f.sides n (λ test. has_side_such test l)
 
--- a clause's number stands under its terms
+-- a clause's number stands under its terms and marks
 pub record IsFiled (f : Finder) (h : Held) : Type 0 where
   pub positives : Shows f.positives h.number (λ test. has_atom_such test true h)
   pub negatives : Shows f.negatives h.number (λ test. has_atom_such test false h)
   pub inside : Shows f.inside h.number (λ test. has_inside_such test h)
   pub sides : Shows f.sides h.number (λ test. has_equation_such test h)
+  pub long : IsUnderMarks f.long h
 
 -- those of all clauses do
 abbrev pub AreFiled : Finder → List Held → Type 0
@@ -61,3 +83,21 @@ sieve_of Sides f = f.sides
 abbrev pub LeavesOutNoClause : Finder → Part → (Tree → Bool) → List ℕ → Type 0
 LeavesOutNoClause f part test ns =
     (h : Held) → IsFiled f h → IsTrue (has_part_such part test h) → Contains ns h.number
+
+-- none is left out of those of two literals or more that subsume a clause
+abbrev pub LeavesOutNoSubsumer : Finder → ClauseTree → List ℕ → Type 0
+LeavesOutNoSubsumer f c ns =
+    (h : Held) → IsFiled f h → IsTrue (is_long_above c h) → Contains ns h.number
+
+-- and none of those that one of two literals or more subsumes
+abbrev pub LeavesOutNoSubsumed : Finder → ClauseTree → List ℕ → Type 0
+LeavesOutNoSubsumed f c ns =
+    is_short c ≡ false → (h : Held) → IsFiled f h → IsTrue (is_below c h) → Contains ns h.number
+
+-- numbers come to others, and none is left out of those of clauses with a literal of which another
+-- is an instance
+pub record AddsGeneral (f : Finder) (k : Lit) (old new : List ℕ) : Type 0 where
+  pub kept : (n : ℕ) → Contains old n → Contains new n
+  pub added :
+      (h : Held) → IsFiled f h → IsTrue (has_atom_such (λ s. has_instance s k.atom) k.positive h)
+      → Contains new h.number

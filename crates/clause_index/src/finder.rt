@@ -1,28 +1,38 @@
-// Clauses found by their terms.
-ghost use Rattle.std.specs.Prelude.{◌≡◌, ◌&&◌, IfOk, OnOk};
+// Clauses found by their terms and marks.
+ghost use Rattle.std.specs.Prelude.{◌≡◌, ◌&&◌, IfOk, IfSome, OnOk};
 ghost use Rattle.std.specs.List.Sorted.{IsStrictlyIncreasing};
-ghost use Rattle.clause_index.specs.Filing.{Shows, AllStay, AllOthersStay, IsFiledLiteral, IsFiled, LeavesOutNoClause, sieve_of};
+ghost use Rattle.clause_index.specs.Filing.{Shows, AddsGeneral, AllStay, AllOthersStay, IsFiledLiteral, IsFiled, IsUnderMarks, LeavesOutNoClause, LeavesOutNoSubsumer, LeavesOutNoSubsumed, sieve_of};
 ghost use Rattle.clause_index.specs.Finding.{has_term_such, has_such_below, has_side_such};
 ghost use Rattle.derivation.specs.Places.{same_sign};
 ghost use Rattle.discrim_tree.specs.Seeking.{passes};
+ghost use Rattle.discrim_tree.specs.Marks.{StayMarked, OthersStayMarked};
 ghost use Rattle.discrim_tree.specs.Sieves.{StayUnder, OthersStay};
 ghost use Rattle.fol_core.specs.ClauseView.{literal_of};
 ghost use Rattle.fol_core.specs.TermView.{tree_of};
 
+use crate::marks::marks_of;
 use crate::parts::Part;
-use discrim_tree::{Sieve, Sought};
-use fol_core::{Literal, Term};
+use crate::short::is_short;
+use discrim_tree::{MarkSieve, Sieve, Sought, put_in_order};
+use fol_core::{Clause, Literal, Term};
 use held_clauses::{Held, is_equation, left_of, right_of};
 use std::alloc::{AllocError, Global};
 
+// So much work is done at most to find clauses by their marks: nodes that are gone through, times the marks.
+const WORK: usize = 65_536;
+
+// So many marks are at least reckoned with.
+const FEW: usize = 32;
+
 /// Numbers of clauses under their terms, by where these stand: the atoms of literals by their signs, the terms below atoms, and
-/// the sides of positive equations.
+/// the sides of positive equations; and of clauses of two literals or more under their marks.
 #[derive(Drop)]
 pub struct Finder {
     positives: Sieve,
     negatives: Sieve,
     inside: Sieve,
     sides: Sieve,
+    long: MarkSieve,
 }
 
 // A number under a term and those in it, variables left out.
@@ -85,23 +95,23 @@ fn put_sides(
 }
 
 // A number is taken from under a term and those in it.
-fn take_terms(alloc: Global, sieve: &mut Sieve, term: &Term, number: u64)
+fn take_terms(sieve: &mut Sieve, term: &Term, number: u64)
     ensures { OthersStay number sieve.old sieve.new }
 {
     match term {
         Term::Var(_) => {}
-        Term::Elem(_) => sieve.take(alloc, term, number),
+        Term::Elem(_) => sieve.take(term, number),
         Term::App(_, terms) => {
-            sieve.take(alloc, term, number);
+            sieve.take(term, number);
             for term in &terms.items {
-                take_terms(alloc, sieve, term, number);
+                take_terms(sieve, term, number);
             }
         }
     }
 }
 
 // A number is taken from under the terms below an atom.
-fn take_below(alloc: Global, sieve: &mut Sieve, atom: &Term, number: u64)
+fn take_below(sieve: &mut Sieve, atom: &Term, number: u64)
     ensures { OthersStay number sieve.old sieve.new }
 {
     match atom {
@@ -109,20 +119,20 @@ fn take_below(alloc: Global, sieve: &mut Sieve, atom: &Term, number: u64)
         Term::Elem(_) => {}
         Term::App(_, terms) => {
             for term in &terms.items {
-                take_terms(alloc, sieve, term, number);
+                take_terms(sieve, term, number);
             }
         }
     }
 }
 
 // A number is taken from under the sides of a positive equation.
-fn take_sides(alloc: Global, sieve: &mut Sieve, literal: &Literal, number: u64)
+fn take_sides(sieve: &mut Sieve, literal: &Literal, number: u64)
     ensures { OthersStay number sieve.old sieve.new }
 {
     if literal.positive && is_equation(&literal.atom) {
         let nothing = Term::Var(0);
-        sieve.take(alloc, left_of(&literal.atom, &nothing), number);
-        sieve.take(alloc, right_of(&literal.atom, &nothing), number);
+        sieve.take(left_of(&literal.atom, &nothing), number);
+        sieve.take(right_of(&literal.atom, &nothing), number);
     }
 }
 
@@ -145,11 +155,35 @@ fn put_atom(
 }
 
 // It is taken from there.
-fn take_atom(alloc: Global, sieve: &mut Sieve, sign: bool, literal: &Literal, number: u64)
+fn take_atom(sieve: &mut Sieve, sign: bool, literal: &Literal, number: u64)
     ensures { OthersStay number sieve.old sieve.new }
 {
     if literal.positive == sign {
-        sieve.take(alloc, &literal.atom, number);
+        sieve.take(&literal.atom, number);
+    }
+}
+
+// A clause's number under its marks, if it has two literals or more.
+fn put_marks(alloc: Global, sieve: &mut MarkSieve, held: &Held) -> Result<(), AllocError>
+    ensures others { StayMarked sieve.old sieve.new }
+    ensures put { OnOk result (IsUnderMarks sieve.new held.now) }
+{
+    if is_short(held.clause()) {
+        return Ok(());
+    }
+    let marks = marks_of(alloc, held.clause())?;
+    sieve.put(alloc, &marks, held.number())
+}
+
+// It is taken from there; for want of memory it may stay.
+fn take_marks(alloc: Global, sieve: &mut MarkSieve, held: &Held)
+    ensures { OthersStayMarked held.now.number sieve.old sieve.new }
+{
+    if is_short(held.clause()) {
+        return;
+    }
+    if let Ok(marks) = marks_of(alloc, held.clause()) {
+        sieve.take(&marks, held.number());
     }
 }
 
@@ -161,6 +195,7 @@ impl Finder {
             negatives: Sieve::new(alloc),
             inside: Sieve::new(alloc),
             sides: Sieve::new(alloc),
+            long: MarkSieve::new(alloc),
         }
     }
 
@@ -192,10 +227,11 @@ impl Finder {
         put_sides(alloc, &mut self.sides, literal, number)
     }
 
-    /// A clause that is to be found.
-    pub fn enter(&mut self, alloc: Global, held: &Held) -> Result<(), AllocError>
+    // A number under the terms of a clause.
+    fn put_literals(&mut self, alloc: Global, held: &Held) -> Result<(), AllocError>
         ensures others { AllStay self.old self.new }
-        ensures filed { OnOk result (IsFiled self.new held.now) }
+        ensures filed { OnOk result (IsUnderMarks self.old.long held.now
+            → IsFiled self.new held.now) }
     {
         let number = held.number();
         for literal in held.clause().as_slice() {
@@ -204,14 +240,23 @@ impl Finder {
         Ok(())
     }
 
+    /// A clause that is to be found.
+    pub fn enter(&mut self, alloc: Global, held: &Held) -> Result<(), AllocError>
+        ensures others { AllStay self.old self.new }
+        ensures filed { OnOk result (IsFiled self.new held.now) }
+    {
+        put_marks(alloc, &mut self.long, held)?;
+        self.put_literals(alloc, held)
+    }
+
     // A number is taken from under the terms of a literal.
-    fn take_literal(&mut self, alloc: Global, literal: &Literal, number: u64)
+    fn take_literal(&mut self, literal: &Literal, number: u64)
         ensures { AllOthersStay number self.old self.new }
     {
-        take_atom(alloc, &mut self.positives, true, literal, number);
-        take_atom(alloc, &mut self.negatives, false, literal, number);
-        take_below(alloc, &mut self.inside, &literal.atom, number);
-        take_sides(alloc, &mut self.sides, literal, number);
+        take_atom(&mut self.positives, true, literal, number);
+        take_atom(&mut self.negatives, false, literal, number);
+        take_below(&mut self.inside, &literal.atom, number);
+        take_sides(&mut self.sides, literal, number);
     }
 
     /// A clause that is not to be found any more; others still are.
@@ -219,8 +264,9 @@ impl Finder {
         ensures { AllOthersStay held.now.number self.old self.new }
     {
         let number = held.number();
+        take_marks(alloc, &mut self.long, held);
         for literal in held.clause().as_slice() {
-            self.take_literal(alloc, literal, number);
+            self.take_literal(literal, number);
         }
     }
 
@@ -237,6 +283,62 @@ impl Finder {
             (passes sought.now (tree_of t.now)) ns.items) }
     {
         let numbers = self.sieve(part).found(alloc, sought, t)?;
+        Ok(numbers)
+    }
+
+    // The numbers of the clauses with a literal of which this one is an instance come to others, and maybe those of others.
+    fn add_general(
+        &self,
+        alloc: Global,
+        literal: &Literal,
+        numbers: &mut Vec<u64>,
+    ) -> Result<(), AllocError>
+        ensures { OnOk result (AddsGeneral self.now (literal_of literal.now) numbers.old.items
+            numbers.new.items) }
+    {
+        let part = Part::Atoms(literal.positive);
+        let found = self.numbers(alloc, &part, &Sought::Generalizations, &literal.atom)?;
+        numbers.extend_from_slice(&found)?;
+        Ok(())
+    }
+
+    // The numbers of the clauses with a literal of which one of the clause is an instance, and maybe of others, rising.
+    fn general(&self, alloc: Global, clause: &Clause) -> Result<Vec<u64>, AllocError>
+        ensures rise { IfOk result (λ ns. IsStrictlyIncreasing ns.items) }
+        ensures found { IfOk result (λ ns. LeavesOutNoSubsumer self.now clause.now ns.items) }
+    {
+        let mut numbers = Vec::new(alloc);
+        for literal in clause.as_slice() {
+            self.add_general(alloc, literal, &mut numbers)?;
+        }
+        put_in_order(&mut numbers);
+        Ok(numbers)
+    }
+
+    /// The numbers of the clauses of two literals or more that subsume a clause, and maybe of others, rising: by their marks, or
+    /// where too many have no others than the clause, by their literals.
+    pub fn above(&self, alloc: Global, clause: &Clause) -> Result<Vec<u64>, AllocError>
+        ensures rise { IfOk result (λ ns. IsStrictlyIncreasing ns.items) }
+        ensures found { IfOk result (λ ns. LeavesOutNoSubsumer self.now clause.now ns.items) }
+    {
+        let marks = marks_of(alloc, clause)?;
+        let most = WORK / marks.len().saturating_add(FEW);
+        match self.long.within(alloc, &marks, most)? {
+            Some(numbers) => Ok(numbers),
+            None => self.general(alloc, clause),
+        }
+    }
+
+    /// The numbers of the clauses that one of two literals or more subsumes, and maybe of others, rising; none where it takes
+    /// long to find those that have its marks.
+    pub fn below(&self, alloc: Global, clause: &Clause) -> Result<Option<Vec<u64>>, AllocError>
+        ensures rise { IfOk result (λ o. IfSome o (λ ns. IsStrictlyIncreasing ns.items)) }
+        ensures found { IfOk result (λ o. IfSome o (λ ns. LeavesOutNoSubsumed self.now clause.now
+            ns.items)) }
+    {
+        let marks = marks_of(alloc, clause)?;
+        let most = WORK / marks.len().saturating_add(FEW);
+        let numbers = self.long.over(alloc, &marks, most)?;
         Ok(numbers)
     }
 }

@@ -1,13 +1,16 @@
 // Clauses that are held, found by their literals and by the terms in them.
-ghost use Rattle.std.specs.Prelude.{◌≡◌, ◌+◌, ◌≤◌, ◌==◌, not, [], IfOk, OnOk, OnErr, filter, length};
-ghost use Rattle.clause_index.specs.Entries.{begins_generally, first_literals};
+ghost use Rattle.std.specs.Prelude.{◌≡◌, ◌+◌, ◌≤◌, ◌==◌, false, not, [], IfOk, OnOk, OnErr, filter, length};
+ghost use Rattle.std.specs.List.Sorted.{IsStrictlyIncreasing};
+ghost use Rattle.clause_index.specs.Entries.{is_short, is_short_above, is_short_unifiable, short_atoms};
 ghost use Rattle.clause_index.specs.Filing.{AllOthersStay};
 ghost use Rattle.clause_index.specs.Finding.{has_atom_such, has_equation_such, has_inside_such, has_part_such};
 ghost use Rattle.clause_index.specs.Numbered.{AddsAll};
+ghost use Rattle.clause_index.specs.Subsumers.{BeginsWith, is_below, is_long_above, HasAllBelow};
 ghost use Rattle.discrim_tree.specs.Seeking.{passes};
 ghost use Rattle.discrim_tree.specs.Terms.{can_unify, has_instance};
 ghost use Rattle.discrim_tree.specs.Tries.{count_linear, HasRisen};
-ghost use Rattle.discrim_tree.specs.declared.sought.Sought.TheVariants.{Generalizations};
+ghost use Rattle.discrim_tree.specs.declared.sought.Sought.TheVariants.{Generalizations, Unifiable};
+ghost use Rattle.fol_core.specs.ClauseView.{literal_of};
 ghost use Rattle.fol_core.specs.TermView.{tree_of};
 ghost use Rattle.held_clauses.specs.Holding.{lent};
 ghost use Rattle.prover_steps.specs.HeldOrder.{numbers_of, IsNoneOf, IsRising};
@@ -15,20 +18,20 @@ ghost use Rattle.prover_steps.specs.Searching.{put_in, held_without};
 
 use crate::finder::Finder;
 use crate::listed::Listed;
-use crate::lists::{all_with, with_number};
+use crate::lists::{all_of, all_with, with_number};
 use crate::parts::{Part, all_found};
 use discrim_tree::{Sought, Tries};
-use fol_core::Term;
+use fol_core::{Clause, Literal, Term};
 use held_clauses::Held;
 use std::alloc::{AllocError, Global};
 use std::marker::Model;
 
-/// Clauses by rising number, with an index of their first literals and another one of all their terms. Contracts see the list
-/// of clauses.
+/// Clauses by rising number, with an index of those that have one literal, and sieves of all their terms and marks. Contracts
+/// see the list of clauses.
 #[derive(Drop)]
 pub struct HeldSet {
     listed: Listed,
-    // Each clause's number stands under its terms; others may stand there too.
+    // Each clause's number stands under its terms and marks; others may stand there too.
     finder: Finder,
 }
 
@@ -92,23 +95,55 @@ impl HeldSet {
         self.listed.as_slice()
     }
 
-    /// The clauses whose first literal has this sign and the atom as an instance of its own, and those without literals.
-    pub fn generalizing(
+    /// The clauses of one literal that has this sign and the atom as an instance of its own, and those without literals.
+    pub fn short_above(
         &self,
         sign: bool,
         atom: &Term,
         tries: &mut Tries,
     ) -> Result<Vec<&Held>, AllocError>
         ensures found { IfOk result (λ hs. lent hs.items
-            ≡ filter (begins_generally sign (tree_of atom.now)) self.now) }
+            ≡ filter (is_short_above sign (tree_of atom.now)) self.now) }
         ensures rising { IsRising (numbers_of self.now) }
         ensures on { tries.old ≤ tries.new }
         ensures within { tries.new ≤ tries.old
-            + count_linear Generalizations (tree_of atom.now) (first_literals sign self.now) }
-        ensures tested { OnOk result (HasRisen (count_linear Generalizations (tree_of atom.now) (first_literals sign self.now))
+            + count_linear Generalizations (tree_of atom.now) (short_atoms sign self.now) }
+        ensures tested { OnOk result (HasRisen (count_linear Generalizations (tree_of atom.now) (short_atoms sign self.now))
             tries.old tries.new) }
     {
-        self.listed.generalizing(sign, atom, tries)
+        self.listed.short_above(sign, atom, tries)
+    }
+
+    /// The clauses of one literal that has this sign and an atom that unifies with this one, variables apart, and those without
+    /// literals.
+    pub fn short_unifiable(
+        &self,
+        sign: bool,
+        atom: &Term,
+        tries: &mut Tries,
+    ) -> Result<Vec<&Held>, AllocError>
+        ensures found { IfOk result (λ hs. lent hs.items
+            ≡ filter (is_short_unifiable sign (tree_of atom.now)) self.now) }
+        ensures rising { IsRising (numbers_of self.now) }
+        ensures on { tries.old ≤ tries.new }
+        ensures within { tries.new ≤ tries.old
+            + count_linear Unifiable (tree_of atom.now) (short_atoms sign self.now) }
+        ensures tested { OnOk result (HasRisen (count_linear Unifiable (tree_of atom.now) (short_atoms sign self.now))
+            tries.old tries.new) }
+    {
+        self.listed.short_unifiable(sign, atom, tries)
+    }
+
+    /// Clauses of two literals or more, among which are all such that subsume this one.
+    pub fn long_above(&self, clause: &Clause) -> Result<Vec<&Held>, AllocError>
+        ensures found { IfOk result (λ hs. filter (is_long_above clause.now) (lent hs.items)
+            ≡ filter (is_long_above clause.now) self.now) }
+        ensures rising { IsRising (numbers_of self.now) }
+    {
+        let alloc = self.listed.allocator();
+        let list = self.listed.as_slice();
+        let numbers = self.finder.above(alloc, clause)?;
+        all_with(alloc, numbers.as_slice(), list)
     }
 
     // The clauses that have a term that is sought.
@@ -131,6 +166,43 @@ impl HeldSet {
         ensures rising { IsRising (numbers_of self.now) }
     {
         self.found(&Part::Atoms(sign), &Sought::Instances, atom)
+    }
+
+    // The numbers of clauses among which are all that one of two literals or more subsumes: by its marks, or where that takes
+    // long, by an instance of its first literal.
+    fn numbers_below(&self, clause: &Clause, first: &Literal) -> Result<Vec<u64>, AllocError>
+        requires long { is_short clause.now ≡ false }
+        requires first { BeginsWith clause.now (literal_of first.now) }
+        ensures rise { IfOk result (λ ns. IsStrictlyIncreasing ns.items) }
+        ensures found { IfOk result (λ ns. HasAllBelow clause.now self.now ns.items) }
+    {
+        let alloc = self.listed.allocator();
+        if let Some(numbers) = self.finder.below(alloc, clause)? {
+            return Ok(numbers);
+        }
+        let part = Part::Atoms(first.positive);
+        let numbers = self
+            .finder
+            .numbers(alloc, &part, &Sought::Instances, &first.atom)?;
+        Ok(numbers)
+    }
+
+    /// Clauses among which are all that this one subsumes.
+    pub fn near_below(&self, clause: &Clause) -> Result<Vec<&Held>, AllocError>
+        ensures found { IfOk result (λ hs. filter (is_below clause.now) (lent hs.items)
+            ≡ filter (is_below clause.now) self.now) }
+        ensures rising { IsRising (numbers_of self.now) }
+    {
+        let alloc = self.listed.allocator();
+        let list = self.listed.as_slice();
+        match clause.as_slice() {
+            [] => all_of(alloc, list),
+            [one] => self.with_instance(one.positive, &one.atom),
+            [first, ..] => {
+                let numbers = self.numbers_below(clause, first)?;
+                all_with(alloc, numbers.as_slice(), list)
+            }
+        }
     }
 
     /// The clauses some literal of which has this sign and an atom that unifies with this one, variables apart.

@@ -5,10 +5,13 @@ mod finder;
 mod held_set;
 mod listed;
 mod lists;
+mod marks;
 mod numbered;
 mod parts;
 mod rules;
+mod short;
 
 pub use held_set::{HeldSet, HeldSets};
 pub use numbered::{add_numbers, all_numbered};
 pub use rules::Rules;
+pub use short::is_short;

@@ -1,22 +1,23 @@
-// Clauses by rising number, found by their first literals.
+// Clauses by rising number; those of one literal are found by it.
 ghost use Rattle.std.specs.Prelude.{◌≡◌, ◌+◌, ◌≤◌, ◌==◌, false, not, [], IfOk, OnOk, OnErr, filter, length};
-ghost use Rattle.clause_index.specs.Entries.{may_begin, begins_generally, entered, first_literals};
+ghost use Rattle.clause_index.specs.Entries.{is_short_above, is_short_unifiable, entered, short_atoms};
 ghost use Rattle.discrim_tree.specs.Entries.{has_number};
 ghost use Rattle.discrim_tree.specs.Tries.{count_linear, HasRisen};
-ghost use Rattle.discrim_tree.specs.declared.sought.Sought.TheVariants.{Generalizations};
+ghost use Rattle.discrim_tree.specs.declared.sought.Sought.TheVariants.{Generalizations, Unifiable};
 ghost use Rattle.fol_core.specs.TermView.{tree_of};
 ghost use Rattle.held_clauses.specs.Holding.{lent};
 ghost use Rattle.prover_steps.specs.HeldOrder.{numbers_of, IsNoneOf, IsRising};
 ghost use Rattle.prover_steps.specs.Searching.{put_in};
 
 use crate::lists::{all_with, leave_out_one, put_in};
+use crate::short::is_short_of;
 use discrim_tree::{Index, Tries};
 use fol_core::Term;
 use held_clauses::{Held, first_atom};
 use std::alloc::{AllocError, Global};
 use std::marker::Model;
 
-/// Clauses by rising number, with an index of the atoms of their first literals for each sign; a clause without literals
+/// Clauses by rising number, with an index for each sign of the atoms of those that have one literal; a clause without literals
 /// stands in both, under a variable. Contracts see the list of clauses.
 #[derive(Drop)]
 pub struct Listed {
@@ -41,23 +42,13 @@ impl Model for Listed {
     ghost invariant = { λ a. AreIndexedBySign a.clauses.items a.positives a.negatives };
 }
 
-// Whether the first literal of a clause has this sign, or it has none.
-fn may_begin(sign: bool, held: &Held) -> bool
-    ensures { result ≡ may_begin sign held.now }
-{
-    match held.clause.as_slice() {
-        [] => true,
-        [first, ..] => first.positive == sign,
-    }
-}
-
 // Puts the clause in the index of one sign, if it belongs there.
 fn enter(sign: bool, held: &Held, index: &mut Index) -> Result<(), AllocError>
     requires { has_number held.now.number index.old ≡ false }
     ensures ok { OnOk result (index.new ≡ entered sign held.now index.old) }
     ensures err { OnErr result (index.new ≡ index.old) }
 {
-    if !may_begin(sign, held) {
+    if !is_short_of(sign, held) {
         return Ok(());
     }
     let nothing = Term::Var(0);
@@ -105,7 +96,7 @@ impl Listed {
 
     // The index of a sign.
     fn index(&self, sign: bool) -> &Index
-        ensures { result.now ≡ first_literals sign self.now }
+        ensures { result.now ≡ short_atoms sign self.now }
     {
         if sign {
             &self.positives
@@ -114,24 +105,46 @@ impl Listed {
         }
     }
 
-    /// The clauses whose first literal has this sign and the atom as an instance of its own, and those without literals.
-    pub fn generalizing(
+    /// The clauses of one literal that has this sign and the atom as an instance of its own, and those without literals.
+    pub fn short_above(
         &self,
         sign: bool,
         atom: &Term,
         tries: &mut Tries,
     ) -> Result<Vec<&Held>, AllocError>
         ensures found { IfOk result (λ hs. lent hs.items
-            ≡ filter (begins_generally sign (tree_of atom.now)) self.now) }
+            ≡ filter (is_short_above sign (tree_of atom.now)) self.now) }
         ensures rising { IsRising (numbers_of self.now) }
         ensures on { tries.old ≤ tries.new }
         ensures within { tries.new ≤ tries.old
-            + count_linear Generalizations (tree_of atom.now) (first_literals sign self.now) }
-        ensures tested { OnOk result (HasRisen (count_linear Generalizations (tree_of atom.now) (first_literals sign self.now))
+            + count_linear Generalizations (tree_of atom.now) (short_atoms sign self.now) }
+        ensures tested { OnOk result (HasRisen (count_linear Generalizations (tree_of atom.now) (short_atoms sign self.now))
             tries.old tries.new) }
     {
         let alloc = *self.clauses.allocator();
         let numbers = self.index(sign).generalizations(atom, tries)?;
+        all_with(alloc, numbers.as_slice(), self.clauses.as_slice())
+    }
+
+    /// The clauses of one literal that has this sign and an atom that unifies with this one, variables apart, and those without
+    /// literals.
+    pub fn short_unifiable(
+        &self,
+        sign: bool,
+        atom: &Term,
+        tries: &mut Tries,
+    ) -> Result<Vec<&Held>, AllocError>
+        ensures found { IfOk result (λ hs. lent hs.items
+            ≡ filter (is_short_unifiable sign (tree_of atom.now)) self.now) }
+        ensures rising { IsRising (numbers_of self.now) }
+        ensures on { tries.old ≤ tries.new }
+        ensures within { tries.new ≤ tries.old
+            + count_linear Unifiable (tree_of atom.now) (short_atoms sign self.now) }
+        ensures tested { OnOk result (HasRisen (count_linear Unifiable (tree_of atom.now) (short_atoms sign self.now))
+            tries.old tries.new) }
+    {
+        let alloc = *self.clauses.allocator();
+        let numbers = self.index(sign).unifiable(atom, tries)?;
         all_with(alloc, numbers.as_slice(), self.clauses.as_slice())
     }
 

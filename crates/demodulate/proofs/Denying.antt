@@ -1,7 +1,7 @@
--- The first unit that denies a literal, among clauses that are found by their first literals, and of two sets.
+-- The first unit that denies a literal, among short clauses that are found by their atoms, and of two sets.
 use Rattle.std.proofs.Common.{◌≡◌, ℕ, ◌<◌, ◌≤◌, Bool, true, false, not, ◌&&◌, nat_lt, min, if◌then◌else◌, is_some, List, [], ◌∷◌, Option, Some, None, filter, refl, sym, ap, ◌∙◌, ltb-true, ltb-false, arith}
 use Rattle.std.specs.List.{AllByRecursion}
-use Rattle.clause_index.specs.Entries.{begins_generally}
+use Rattle.clause_index.specs.Entries.{is_short, is_short_above}
 use Rattle.demodulate.specs.Steps.{lesser}
 use Rattle.derivation.specs.Later.{is_unit}
 use Rattle.derivation.specs.Places.{same_sign, atom_at, has_literal}
@@ -110,30 +110,27 @@ module _ (l : Lit) where
   pub denied_by_either : (ws us : List Held) → IsRising (numbers_of ws) → IsRising (numbers_of us) → lesser (first ws) (first us) ≡ first (put_all_in ws us)
   denied_by_either ws us rises more = sym (all_lesser ws us (grows (numbers_of ws) rises) (grows (numbers_of us) more))
 
-  -- a unit that denies a literal has the other sign, and its atom as an instance
+  -- a unit that denies a literal is short, has the other sign, and its atom as an instance
   begins_so : (c : ClauseTree) → (is_unit c && (has_literal (not l.positive) c 0 && is_some (matched (atom_at c 0) l.atom []))) ≡ true
-      → (not (has_literal (not (not l.positive)) c 0) && is_some (matched (atom_at c 0) l.atom [])) ≡ true
+      → ((is_short c && not (has_literal (not (not l.positive)) c 0)) && is_some (matched (atom_at c 0) l.atom [])) ≡ true
   begins_so [] e = cc
-  begins_so (k ∷ c) e = by l.positive k.positive (is_unit (k ∷ c)) (is_some (matched k.atom l.atom [])) e
+  begins_so (k ∷ []) e = by l.positive k.positive (is_some (matched k.atom l.atom [])) e
     where
-      by : (p q u m : Bool) → (u && (same_sign (not p) q && m)) ≡ true → (not (same_sign (not (not p)) q) && m) ≡ true
-      by true true true m f = cc
-      by true true false m f = cc
-      by true false true m f = f
-      by true false false m f = cc
-      by false true true m f = f
-      by false true false m f = cc
-      by false false true m f = cc
-      by false false false m f = cc
+      by : (p q m : Bool) → (same_sign (not p) q && m) ≡ true → (not (same_sign (not (not p)) q) && m) ≡ true
+      by true true m f = cc
+      by true false m f = f
+      by false true m f = f
+      by false false m f = cc
+  begins_so (k ∷ j ∷ c) e = cc
 
-  pub denied_among : (hs : List Held) → first (filter (begins_generally (not l.positive) l.atom) hs) ≡ first hs
+  pub denied_among : (hs : List Held) → first (filter (is_short_above (not l.positive) l.atom) hs) ≡ first hs
   denied_among [] = refl
-  denied_among (h ∷ hs) = by (begins_generally (not l.positive) l.atom h) refl (denies h l) refl (denied_among hs)
+  denied_among (h ∷ hs) = by (is_short_above (not l.positive) l.atom h) refl (denies h l) refl (denied_among hs)
     where
       found : List Held
-      found = filter (begins_generally (not l.positive) l.atom) hs
+      found = filter (is_short_above (not l.positive) l.atom) hs
 
-      by : (b : Bool) → begins_generally (not l.positive) l.atom h ≡ b → (d : Bool) → denies h l ≡ d → first found ≡ first hs
+      by : (b : Bool) → is_short_above (not l.positive) l.atom h ≡ b → (d : Bool) → denies h l ≡ d → first found ≡ first hs
           → first (if b then h ∷ found else found) ≡ (if denies h l then Some h.number else first hs)
       by true e d f rest = ap (λ o. if denies h l then Some h.number else o) rest
       by false e true f rest = let same : true ≡ false = sym (begins_so h.clause f) ∙ e in cc

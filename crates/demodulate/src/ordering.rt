@@ -205,7 +205,7 @@ fn first_denying_in(
     ensures rising { IsRising (numbers_of set.now) }
     ensures on { tries.old ≤ tries.new }
 {
-    let units = set.generalizing(!literal.positive, &literal.atom, tries)?;
+    let units = set.short_above(!literal.positive, &literal.atom, tries)?;
     Ok(first_denying(alloc, units.as_slice(), literal))
 }
 

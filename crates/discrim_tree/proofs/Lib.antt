@@ -5,6 +5,7 @@ pub mod Finding
 pub mod Fitted
 pub mod Linear
 pub mod Lone
+pub mod Marked
 pub mod Meetings
 pub mod NodeSteps
 pub mod Only

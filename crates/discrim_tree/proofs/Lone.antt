@@ -1,15 +1,22 @@
 -- Terms in which no variable stands twice.
-use Rattle.std.proofs.Common.{◌≡◌, ℕ, zero, suc, ◌+◌, ◌<◌, ◌≤◌, ◌==◌, ◌&&◌, ◌||◌, Bool, true, false, IsTrue, cond, not, refl, sym, ap, ap₂, ◌∙◌, subst, List, [], ◌∷◌, ◌++◌, take, drop, length, get_or, arith, append_assoc, append-nil, eqb-true, eq-eqb}
+use Rattle.std.proofs.Common.{◌≡◌, ℕ, zero, suc, ◌+◌, ◌-◌, ◌<◌, ◌≤◌, ◌==◌, ◌&&◌, ◌||◌, Bool, true, false, IsTrue, cond, not, refl, sym, ap, ap₂, ◌∙◌, subst, List, [], ◌∷◌, ◌++◌, Option, Some, take, drop, length, get_or, arith, append_assoc, append-nil, eqb-true, eq-eqb}
 use Rattle.std.specs.List.{list_any}
+use Rattle.std.specs.Option.{option_and_then}
 use Rattle.std.proofs.lemmas.List.{drop_all}
 use Rattle.std.proofs.lemmas.List.Folds.{list_any-append}
 use Rattle.fol_core.specs.Substitutions.{Substitution, substitute, substitute_all}
 use Rattle.fol_core.specs.Tree.{Tree, var, elem, app, Trees, none, more, trees_of}
-use Rattle.fol_core.specs.TermView.{tree_of}
+use Rattle.fol_core.specs.TermView.{tree_of, tree_list}
+use Rattle.fol_core.specs.declared.term.Term.{Term}
+use Rattle.substitutions.proofs.PathLemmas.{argument_item}
+use Rattle.substitutions.proofs.Replacing.{subterm_substituted}
+use Rattle.substitutions.specs.Paths.{subterm_at}
 use Rattle.discrim_tree.specs.Fitting.{Fits, FitAll}
-use Rattle.discrim_tree.specs.Linear.{occurring, all_occurring, are_distinct, is_linear, passes_linear, TellLinear}
+use Rattle.discrim_tree.specs.Linear.{occurring, all_occurring, are_distinct, is_linear, passes_linear, AreTold, Differ, IsTold, Leads, StandsTwice}
 use Rattle.discrim_tree.specs.Seeking.{fits_above, passes}
 use Rattle.discrim_tree.specs.declared.entry.IndexEntry.{IndexEntry}
+use Rattle.discrim_tree.specs.Terms.{has_instance}
+use Rattle.discrim_tree.specs.declared.once.TwoPlaces.{TwoPlaces}
 use Rattle.discrim_tree.specs.declared.sought.Sought.{Sought}
 use Rattle.discrim_tree.specs.declared.sought.Sought.TheVariants.{Generalizations, Instances, Unifiable}
 use Rattle.discrim_tree.proofs.Finding.{drop_next}
@@ -143,27 +150,70 @@ linear_passes Generalizations t s above d h = (instances_are_made s t).1 (made s
 linear_passes Instances t s above d h = absurd (clash above)
 linear_passes Unifiable t s above d h = absurd (clash above)
 
--- ---- entries that tell whether their terms are so
+-- nor one in which a variable stands at two places at which the other term has different parts
+same_part : (o : Option Tree) (u v : Tree) → o ≡ Some u → o ≡ Some v → u ≡ v
+same_part o u v e f = let same : Some u ≡ Some v = sym e ∙ f in cc
 
-pub told_at : (es : List IndexEntry) (k : ℕ) (d : IndexEntry) → TellLinear es → k < length es → (IsTrue (get_or es k d).is_linear → IsTrue (is_linear (tree_of (get_or es k d).tree)))
+-- that parts differ is what the test of them tells
+pub tells_differ : (t : Tree) (p q : List ℕ) (u v : Tree) → subterm_at t p ≡ Some u → subterm_at t q ≡ Some v → (b : Bool) → (IsTrue b → u ≡ v) → (u ≡ v → IsTrue b)
+    → (IsTrue (not b) → Differ t p q) × (Differ t p q → IsTrue (not b))
+tells_differ t p q u v first second true so back = ((λ h. absurd (clash (sym h))), λ d. absurd (d.apart (sym (same_part (subterm_at t p) u d.left first d.first) ∙ so refl ∙ same_part (subterm_at t q) v d.right second d.second)))
+tells_differ t p q u v first second false so back = ((λ h. record { left = u; right = v; first = first; second = second; apart = λ e. clash (sym (back e)) }), λ d. refl)
+
+pub differing_fails : (k : Sought) (t s : Tree) (w : TwoPlaces) → fits_above k ≡ false → StandsTwice s w → Differ t w.first.items w.second.items → passes k t s ≡ false
+differing_fails Instances t s w above twice differ = absurd (clash above)
+differing_fails Unifiable t s w above twice differ = absurd (clash above)
+differing_fails Generalizations t s w above twice differ = by (has_instance s t) refl
+  where
+    by : (b : Bool) → has_instance s t ≡ b → b ≡ false
+    by false e = refl
+    by true e =
+        let made = (instances_are_made s t).0 e in
+        let value : Tree = made.0 twice.variable in
+        absurd (differ.apart (
+        same_part (subterm_at t w.first.items) differ.left value differ.first
+        (subst (λ u. subterm_at u w.first.items ≡ Some value) made.1 (subterm_substituted made.0 s w.first.items (var twice.variable) twice.first))
+        ∙ sym (same_part (subterm_at t w.second.items) differ.right value differ.second
+        (subst (λ u. subterm_at u w.second.items ≡ Some value) made.1 (subterm_substituted made.0 s w.second.items (var twice.variable) twice.second)))
+        ))
+
+-- a path that goes on from an argument goes on from the application
+pub leads_on : (old now new : List ℕ) (f i : ℕ) (ts : List Term) (part : Term) (u : Tree) → now ≡ old ++ (i + 1) ∷ [] → i < length ts → part ≡ get_or ts i part → Leads now new (tree_of part) u
+    → Leads old new (app f (trees_of (tree_list ts))) u
+leads_on old now new f i ts part u grown within is on = record {
+  path = (i + 1) ∷ on.path;
+  behind = on.behind ∙ ap (λ xs. xs ++ on.path) grown ∙ append_assoc old ((i + 1) ∷ []) on.path;
+  there = ap (option_and_then (λ v. subterm_at v on.path)) (argument_item ts (i + 1) part (omega arith) (omega (arith, within)) ∙ ap (λ k. Some (tree_of (get_or ts k part))) before ∙ sym (ap (λ v. Some (tree_of v)) is)) ∙ on.there;
+}
+  where
+    before : i + 1 - 1 ≡ i
+    before = omega arith
+
+-- one from the start leads there by itself
+pub from_start : (old new : List ℕ) (t u : Tree) → old ≡ [] → Leads old new t u → subterm_at t new ≡ Some u
+from_start old new t u bare on = ap (subterm_at t) (on.behind ∙ ap (λ xs. xs ++ on.path) bare) ∙ on.there
+
+-- ---- entries of which is told what their variables do
+
+pub told_at : (es : List IndexEntry) (k : ℕ) (d : IndexEntry) → AreTold es → k < length es → IsTold (tree_of (get_or es k d).tree) (get_or es k d).told
 told_at [] k d so h = absurd (omega (arith, h))
 told_at (e ∷ es) zero d so h = so.0
 told_at (e ∷ es) (suc k) d so h = told_at es k d so.1 (omega (arith, h))
 
-one_more : (k : ℕ) (e : IndexEntry) (es : List IndexEntry) → (IsTrue e.is_linear → IsTrue (is_linear (tree_of e.tree))) → TellLinear es → TellLinear (take k es ++ e ∷ drop k es)
+one_more : (k : ℕ) (e : IndexEntry) (es : List IndexEntry) → IsTold (tree_of e.tree) e.told → AreTold es → AreTold (take k es ++ e ∷ drop k es)
 one_more zero e [] is so = (is, tt)
 one_more (suc k) e [] is so = (is, tt)
 one_more zero e (d ∷ ds) is so = (is, so)
 one_more (suc k) e (d ∷ ds) is so = (so.0, one_more k e ds is so.1)
 
-pub told_placed : (es placed : List IndexEntry) (k : ℕ) (e : IndexEntry) → placed ≡ take k es ++ e ∷ drop k es → (IsTrue e.is_linear → IsTrue (is_linear (tree_of e.tree))) → TellLinear es → TellLinear placed
-told_placed es placed k e is tells so = subst TellLinear (sym is) (one_more k e es tells so)
+pub told_placed : (es placed : List IndexEntry) (k : ℕ) (e : IndexEntry) → placed ≡ take k es ++ e ∷ drop k es → IsTold (tree_of e.tree) e.told → AreTold es → AreTold placed
+told_placed es placed k e is tells so = subst AreTold (sym is) (one_more k e es tells so)
 
-one_less : (k : ℕ) (es : List IndexEntry) → TellLinear es → TellLinear (take k es ++ drop (suc k) es)
+one_less : (k : ℕ) (es : List IndexEntry) → AreTold es → AreTold (take k es ++ drop (suc k) es)
 one_less zero [] so = tt
 one_less (suc k) [] so = tt
 one_less zero (d ∷ ds) so = so.1
 one_less (suc k) (d ∷ ds) so = (so.0, one_less k ds so.1)
 
-pub told_out : (es left : List IndexEntry) (k : ℕ) → left ≡ take k es ++ drop (suc k) es → TellLinear es → TellLinear left
-told_out es left k is so = subst TellLinear (sym is) (one_less k es so)
+pub told_out : (es left : List IndexEntry) (k : ℕ) → left ≡ take k es ++ drop (suc k) es → AreTold es → AreTold left
+told_out es left k is so = subst AreTold (sym is) (one_less k es so)

@@ -4,6 +4,8 @@ pub mod Entries
 pub mod Fitting
 pub mod Laws
 pub mod Linear
+pub mod Marking
+pub mod Marks
 pub mod Meeting
 pub mod Nodes
 pub mod Paths

@@ -1,10 +1,11 @@
 // An entry of an index.
+use crate::once::Told;
 use fol_core::Term;
 
-/// An entry: a term under a number, and whether it is told that no variable stands twice in it.
+/// An entry: a term under a number, and what is told of its variables.
 #[derive(Drop)]
 pub struct IndexEntry {
     pub number: u64,
     pub tree: Term,
-    pub is_linear: bool,
+    pub told: Told,
 }

@@ -10,7 +10,7 @@ ghost use Rattle.discrim_tree.specs.declared.sought.Sought.TheVariants.{Generali
 use crate::edge::path_of;
 use crate::entry::IndexEntry;
 use crate::nodes::Nodes;
-use crate::once::is_linear;
+use crate::once::tell;
 use crate::seeking::{first, found, place_of};
 use crate::sought::Sought;
 use crate::tries::Tries;
@@ -39,13 +39,13 @@ impl Model for Index {
 
     ghost view = { λ a. all_indexed a.entries.items };
 
-    ghost use Rattle.discrim_tree.specs.Linear.{TellLinear};
+    ghost use Rattle.discrim_tree.specs.Linear.{AreTold};
     ghost use Rattle.discrim_tree.specs.Seeking.{AreReached, AreOnly};
     ghost use Rattle.discrim_tree.specs.Trees.{AllUsed, IsTree};
 
     ghost invariant = { λ a. NumbersRise (all_indexed a.entries.items) × AreReached a.nodes.items a.entries.items
         × AreOnly a.nodes.items a.entries.items × IsTree a.nodes.items × AllUsed a.nodes.items
-        × TellLinear a.entries.items };
+        × AreTold a.entries.items };
 }
 
 impl Index {
@@ -71,18 +71,12 @@ impl Index {
         let alloc = *self.entries.allocator();
         let tree = term.copy(alloc)?;
         let path = path_of(alloc, term)?;
-        let is_linear = is_linear(alloc, term)?;
+        let told = tell(alloc, term)?;
         let place = place_of(&self.entries, number);
         self.entries.reserve(1)?;
         self.nodes.put(alloc, &path, number)?;
-        self.entries.insert(
-            place,
-            IndexEntry {
-                number,
-                tree,
-                is_linear,
-            },
-        )?;
+        self.entries
+            .insert(place, IndexEntry { number, tree, told })?;
         Ok(())
     }
 

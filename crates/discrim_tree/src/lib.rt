@@ -7,6 +7,8 @@ mod edge;
 mod entry;
 mod index;
 mod laws;
+mod marking;
+mod marks;
 mod meeting;
 mod nodes;
 mod once;
@@ -19,6 +21,7 @@ mod walk;
 
 pub use index::Index;
 pub use laws::{tests_are_exact, worked};
+pub use marks::MarkSieve;
 pub use meeting::may_meet;
 pub use seeking::put_in_order;
 pub use sieve::Sieve;

@@ -278,20 +278,6 @@ impl Nodes {
         }
     }
 
-    // The node to which a path leads.
-    fn end_of(&self, path: &[Edge]) -> Option<usize>
-        ensures { Ends self.now.items path.now result }
-    {
-        let mut at = 0;
-        for edge in path {
-            match self.child(at, *edge) {
-                None => return None,
-                Some(k) => at = k,
-            }
-        }
-        Some(at)
-    }
-
     // The node to which a term's path leads from a node.
     fn end_of_term(&self, at: usize, t: &Term) -> Option<usize>
         ensures { EndsFrom self.now.items at (path_of (tree_of t.now)) result }
@@ -309,8 +295,8 @@ impl Nodes {
         }
     }
 
-    // A number leaves a node; nodes without numbers and branches go.
-    fn take_at(&mut self, at: usize, number: u64)
+    /// A number leaves a node; nodes without numbers and branches go.
+    pub fn take_at(&mut self, at: usize, number: u64)
         ensures others { KeepsOthers number self.old.items self.new.items }
         ensures fewer { KeepsPaths self.new.items self.old.items }
         ensures gone { (path : List Edge) → Ends self.old.items path (Some at) → Reaches self.new.items 0 path number → ⊥ }
@@ -319,20 +305,6 @@ impl Nodes {
     {
         self.forget(at, number);
         self.prune_up(at);
-    }
-
-    /// A number leaves the end of a path; nodes without numbers and branches go.
-    pub fn take(&mut self, path: &[Edge], number: u64)
-        ensures others { KeepsOthers number self.old.items self.new.items }
-        ensures fewer { KeepsPaths self.new.items self.old.items }
-        ensures gone { Reaches self.new.items 0 path.now number → ⊥ }
-        ensures tree { IsTree self.old.items → IsTree self.new.items }
-        ensures used { IsTree self.old.items → AllUsed self.old.items → AllUsed self.new.items }
-    {
-        match self.end_of(path) {
-            None => {}
-            Some(end) => self.take_at(end, number),
-        }
     }
 
     /// A number leaves the end of a term's path; nodes without numbers and branches go.

@@ -41,13 +41,12 @@ impl Sieve {
         self.nodes.put(alloc, &path, number)
     }
 
-    /// A number is taken from under a term; for want of memory it may stay there.
-    pub fn take(&mut self, alloc: Global, term: &Term, number: u64)
-        ensures { OthersStay number self.old self.new }
+    /// A number is taken from under a term.
+    pub fn take(&mut self, term: &Term, number: u64)
+        ensures others { OthersStay number self.old self.new }
+        ensures gone { IsUnder self.new (tree_of term.now) number → ⊥ }
     {
-        if let Ok(path) = path_of(alloc, term) {
-            self.nodes.take(&path, number);
-        }
+        self.nodes.take_term(term, number);
     }
 
     /// The numbers under terms that are sought with a term, and others, rising.

@@ -4,7 +4,7 @@ ghost use Rattle.std.specs.List.{list_any};
 ghost use Rattle.std.specs.Option.{option_map};
 ghost use Rattle.derivation.specs.Later.{is_unit};
 ghost use Rattle.derivation.specs.Places.{has_literal};
-ghost use Rattle.given_clause.specs.Acting.{acts_on, may_act, may_subsume, may_conflict, word_for, conflicts_with, first_in};
+ghost use Rattle.given_clause.specs.Acting.{acts_on, may_put_back, may_conflict, word_for, conflicts_with, first_in};
 ghost use Rattle.given_clause.specs.Noted.{StayNoted};
 ghost use Rattle.given_clause.specs.States.{entry_of, state_of};
 ghost use Rattle.held_clauses.specs.Holding.{lent};
@@ -21,6 +21,7 @@ use crate::state::{QueueEntry, Queued, Search};
 use clause_index::HeldSet;
 use demodulate::{denies, rewrites_clause};
 use derivation::First;
+use discrim_tree::Tries;
 use fol_core::{Clause, Term};
 use held_clauses::{Held, first_atom, left_of};
 use resolution::{Conclusion, add_resolvent};
@@ -96,17 +97,6 @@ fn acts_on_other(alloc: Global, act: Act, held: &Held, other: &Held) -> Result<b
     acts_on(alloc, act, held, other.clause())
 }
 
-// All clauses of a list.
-fn all_of(alloc: Global, list: &[Held]) -> Result<Vec<&Held>, AllocError>
-    ensures { IfOk result (λ hs. lent hs.items ≡ list.now) }
-{
-    let mut all = Vec::new(alloc);
-    for held in list {
-        all.push(held)?;
-    }
-    Ok(all)
-}
-
 // Whether the first literal of a clause is positive; of one without literals it isn't.
 fn begins_positive(clause: &Clause) -> bool
     ensures { result ≡ has_literal true clause.now 0 }
@@ -117,25 +107,11 @@ fn begins_positive(clause: &Clause) -> bool
     }
 }
 
-// The clauses of a set that a clause may subsume: those with an instance of its first literal.
-fn near_subsumed<'a>(
-    alloc: Global,
-    set: &'a HeldSet,
-    clause: &Clause,
-) -> Result<Vec<&'a Held>, AllocError>
-    ensures { IfOk result (λ hs. lent hs.items ≡ filter (may_subsume clause.now) set.now) }
-{
-    match clause.as_slice() {
-        [] => all_of(alloc, set.as_slice()),
-        [first, ..] => set.with_instance(first.positive, &first.atom),
-    }
-}
-
 // The clauses of a set that a clause may put back: those with a literal of the other sign that is an instance of its first
 // one, or with an instance of the left side of its equation.
 fn near_put_back<'a>(back: Back, set: &'a HeldSet, held: &Held) -> Result<Vec<&'a Held>, AllocError>
     ensures { IfOk result (λ hs. lent hs.items
-        ≡ filter (may_act (Act.PutsBack back) held.now) set.now) }
+        ≡ filter (may_put_back back held.now) set.now) }
 {
     let clause = held.clause();
     let nothing = Term::Var(0);
@@ -146,17 +122,13 @@ fn near_put_back<'a>(back: Back, set: &'a HeldSet, held: &Held) -> Result<Vec<&'
     }
 }
 
-// The clauses of a set to which a clause may do so.
-fn near<'a>(
-    alloc: Global,
-    act: Act,
-    set: &'a HeldSet,
-    held: &Held,
-) -> Result<Vec<&'a Held>, AllocError>
-    ensures { IfOk result (λ hs. lent hs.items ≡ filter (may_act act held.now) set.now) }
+// Clauses of a set, among them all to which a clause does so.
+fn near<'a>(act: Act, set: &'a HeldSet, held: &Held) -> Result<Vec<&'a Held>, AllocError>
+    ensures { IfOk result (λ hs. filter (λ d. acts_on act held.now d.clause) (lent hs.items)
+        ≡ filter (λ d. acts_on act held.now d.clause) set.now) }
 {
     match act {
-        Act::Subsumes => near_subsumed(alloc, set, held.clause()),
+        Act::Subsumes => set.near_below(held.clause()),
         Act::PutsBack(back) => near_put_back(back, set, held),
     }
 }
@@ -190,7 +162,7 @@ fn others_in<'a>(
     ensures { IfOk result (λ hs. lent hs.items ≡ filter (λ d. not (is_same_held held.now d)
         && acts_on act held.now d.clause) set.now) }
 {
-    let near = near(alloc, act, set, held)?;
+    let near = near(act, set, held)?;
     others_among(alloc, act, near.as_slice(), held)
 }
 
@@ -349,23 +321,39 @@ fn first_conflict(
     Ok(None)
 }
 
-// The clauses of a set with a literal that may meet the first one of a clause.
-fn opposing<'a>(set: &'a HeldSet, held: &Held) -> Result<Vec<&'a Held>, AllocError>
-    ensures { IfOk result (λ hs. lent hs.items ≡ filter (may_conflict held.now) set.now) }
+// The units of a set that may meet the first literal of a clause, and the clauses without literals.
+fn opposing<'a>(
+    set: &'a HeldSet,
+    held: &Held,
+    tries: &mut Tries,
+) -> Result<Vec<&'a Held>, AllocError>
+    ensures found { IfOk result (λ hs. lent hs.items ≡ filter (may_conflict held.now) set.now) }
+    ensures on { tries.old ≤ tries.new }
 {
     let clause = held.clause();
     let nothing = Term::Var(0);
-    set.with_unifiable(!begins_positive(clause), first_atom(clause, &nothing))
+    set.short_unifiable(
+        !begins_positive(clause),
+        first_atom(clause, &nothing),
+        tries,
+    )
 }
 
 // What a clause makes of the first unit that is held with which it makes something.
-fn conflict(alloc: Global, search: &Search, held: &Held) -> Result<Option<Conclusion>, AllocError>
-    requires { IsInOrder (state_of search.now) }
-    ensures { IfOk result (λ o. option_map conclusion_of o
-        ≡ first_in (conflicts_with (all_held (state_of search.now)) held.now)) }
+fn conflict(
+    alloc: Global,
+    search: &mut Search,
+    held: &Held,
+) -> Result<Option<Conclusion>, AllocError>
+    requires { IsInOrder (state_of search.old) }
+    ensures made { IfOk result (λ o. option_map conclusion_of o
+        ≡ first_in (conflicts_with (all_held (state_of search.old)) held.now)) }
+    ensures waiting { search.new.waiting ≡ search.old.waiting }
+    ensures state { state_of search.new ≡ state_of search.old }
+    ensures on { search.old.tries ≤ search.new.tries }
 {
-    let waiting = opposing(&search.waiting.held, held)?;
-    let usable = opposing(&search.usable, held)?;
+    let waiting = opposing(&search.waiting.held, held, &mut search.tries)?;
+    let usable = opposing(&search.usable, held, &mut search.tries)?;
     let units = merged(alloc, waiting.as_slice(), usable.as_slice())?;
     first_conflict(alloc, units.as_slice(), held)
 }

@@ -2,8 +2,9 @@
 ghost use Rattle.std.specs.Prelude.{◌≡◌, ◌≤◌, ◌∷◌, [], false, IfOk, OnOk};
 ghost use Rattle.std.specs.List.{AllByRecursion, list_any};
 ghost use Rattle.std.specs.Option.{option_map};
+ghost use Rattle.clause_index.specs.Subsumers.{is_long_above};
 ghost use Rattle.fol_core.specs.ClauseView.{literal_of};
-ghost use Rattle.given_clause.specs.Acting.{StandsIn, is_short, is_subsumed_from};
+ghost use Rattle.given_clause.specs.Acting.{has_short_above};
 ghost use Rattle.given_clause.specs.Guides.{setting_of};
 ghost use Rattle.given_clause.specs.Noted.{AreNoted, StayNoted};
 ghost use Rattle.given_clause.specs.States.{entry_of, queued_of, reason_of, state_of};
@@ -15,7 +16,7 @@ use crate::acting::{Back, is_subsumed_by, is_unit, meet_units, put_back, subsume
 use crate::guide::{Guide, room_for};
 use crate::keeping::{add_proof, counted_on, keep_line, keep_queued, number_for};
 use crate::state::{QueueEntry, Queued, Reason, Search};
-use clause_index::{HeldSet, HeldSets};
+use clause_index::{HeldSet, HeldSets, is_short};
 use clause_limits::is_too_large;
 use demodulate::{Tidied, tidy};
 use discrim_tree::Tries;
@@ -84,83 +85,71 @@ fn is_subsumed(alloc: Global, held: &[Held], clause: &Clause) -> Result<bool, Al
     Ok(false)
 }
 
-// The same of clauses that are lent.
-#[tactic(auto, using(crate::proofs::Tests::some_here, crate::proofs::Tests::some_behind, crate::proofs::Tests::some_end))]
-fn is_subsumed_by_lent(alloc: Global, held: &[&Held], clause: &Clause) -> Result<bool, AllocError>
-    ensures { IfOk result (λ b. b ≡ list_any (λ h. subsumes h.now.clause clause.now) held.now) }
-{
-    let mut places = Places::new(alloc);
-    for one in held {
-        if is_subsumed_by(&mut places, one.clause(), clause)? {
-            return Ok(true);
-        }
-    }
-    Ok(false)
-}
-
-// Whether a clause has one literal at most.
-fn is_short(clause: &Clause) -> bool
-    ensures { result ≡ is_short clause.now }
-{
-    clause.len() <= 1
-}
-
-// Whether one of some clauses that are lent has.
-#[tactic(auto, using(crate::proofs::Tests::some_here, crate::proofs::Tests::some_behind, crate::proofs::Tests::some_end))]
-fn has_short(held: &[&Held]) -> bool
-    ensures { result ≡ list_any (λ h. is_short h.now.clause) held.now }
-{
-    for one in held {
-        if is_short(one.clause()) {
-            return true;
-        }
-    }
-    false
-}
-
-// Whether one of a set does so that begins with a literal of which this one of the clause is an instance. One that is found
-// and has no other literal does so without a test.
-fn is_subsumed_from(
-    alloc: Global,
-    set: &HeldSet,
-    literal: &Literal,
-    clause: &Clause,
-    tries: &mut Tries,
-) -> Result<bool, AllocError>
-    requires { StandsIn clause.now (literal_of literal.now) }
-    ensures subsumed { IfOk result (λ b. b
-        ≡ is_subsumed_from set.now clause.now (literal_of literal.now)) }
+// Whether one of a set has one literal, of which this one is an instance, or none: each that is found so subsumes a clause that
+// has this literal.
+fn has_short_above(set: &HeldSet, literal: &Literal, tries: &mut Tries) -> Result<bool, AllocError>
+    ensures above { IfOk result (λ b. b ≡ has_short_above set.now (literal_of literal.now)) }
     ensures on { tries.old ≤ tries.new }
 {
-    let held = set.generalizing(literal.positive, &literal.atom, tries)?;
-    if has_short(held.as_slice()) {
-        return Ok(true);
-    }
-    is_subsumed_by_lent(alloc, held.as_slice(), clause)
+    let held = set.short_above(literal.positive, &literal.atom, tries)?;
+    Ok(!held.is_empty())
 }
 
-// Whether one does so from some literal of the clause.
+// Whether there is one for some literal of a clause.
 #[tactic(auto, using(crate::proofs::Tests::literal_here, crate::proofs::Tests::literal_behind, crate::proofs::Tests::literal_end))]
-fn is_subsumed_from_some(
-    alloc: Global,
+fn is_subsumed_by_short(
     set: &HeldSet,
     clause: &Clause,
     tries: &mut Tries,
 ) -> Result<bool, AllocError>
-    ensures subsumed { IfOk result (λ b. b
-        ≡ list_any (is_subsumed_from set.now clause.now) clause.now) }
+    ensures subsumed { IfOk result (λ b. b ≡ list_any (has_short_above set.now) clause.now) }
     ensures on { tries.old ≤ tries.new }
 {
     for literal in clause.as_slice() {
-        if is_subsumed_from(alloc, set, literal, clause, tries)? {
+        if has_short_above(set, literal, tries)? {
             return Ok(true);
         }
     }
     Ok(false)
 }
 
-// Whether one of a set does so; one that subsumes a clause with literals begins with such a literal.
-#[tactic(auto, using(crate::proofs::Subsumed::from_some_literal))]
+// Whether a clause has two literals or more and subsumes another one.
+fn is_long_above(places: &mut Places, held: &Held, clause: &Clause) -> Result<bool, AllocError>
+    ensures { IfOk result (λ b. b ≡ is_long_above clause.now held.now) }
+{
+    if is_short(held.clause()) {
+        return Ok(false);
+    }
+    is_subsumed_by(places, held.clause(), clause)
+}
+
+// Whether one of some clauses that are lent does.
+#[tactic(auto, using(crate::proofs::Tests::some_here, crate::proofs::Tests::some_behind, crate::proofs::Tests::some_end))]
+fn has_long_above(alloc: Global, held: &[&Held], clause: &Clause) -> Result<bool, AllocError>
+    ensures { IfOk result (λ b. b ≡ list_any (λ h. is_long_above clause.now h.now) held.now) }
+{
+    let mut places = Places::new(alloc);
+    for one in held {
+        if is_long_above(&mut places, one, clause)? {
+            return Ok(true);
+        }
+    }
+    Ok(false)
+}
+
+// Whether one of a set does; none subsumes a clause that has one literal at most.
+fn is_subsumed_by_long(alloc: Global, set: &HeldSet, clause: &Clause) -> Result<bool, AllocError>
+    ensures { IfOk result (λ b. b ≡ list_any (is_long_above clause.now) set.now) }
+{
+    if is_short(clause) {
+        return Ok(false);
+    }
+    let held = set.long_above(clause)?;
+    has_long_above(alloc, held.as_slice(), clause)
+}
+
+// Whether one of a set subsumes a clause.
+#[tactic(auto, using(crate::proofs::Subsumed::by_long))]
 fn is_subsumed_in(
     alloc: Global,
     set: &HeldSet,
@@ -173,7 +162,10 @@ fn is_subsumed_in(
     if clause.len() == 0 {
         return is_subsumed(alloc, set.as_slice(), clause);
     }
-    is_subsumed_from_some(alloc, set, clause, tries)
+    if is_subsumed_by_short(set, clause, tries)? {
+        return Ok(true);
+    }
+    is_subsumed_by_long(alloc, set, clause)
 }
 
 // Whether one of the clauses that are held subsumes another one.

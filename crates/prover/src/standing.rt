@@ -69,7 +69,7 @@ impl<'a> Prover<'a> {
         }
     }
 
-    /// How many entries of the indexes of rules and of first literals were reached by walks so far and told whether they match a
+    /// How many entries of the indexes of rules and of units were reached by walks so far and told whether they match a
     /// term; at the greatest number the count stops. Other tests aren't counted.
     pub fn tries(&self) -> u64
         ensures { result ≡ tries_of self.now }

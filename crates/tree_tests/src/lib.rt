@@ -1,11 +1,13 @@
-// An index of terms against scans of all its entries. Tests are proved with all that they stand on, so these have a crate of
-// their own.
+// An index of terms against scans of all its entries, and a sieve of marks. Tests are proved with all that they stand on, so
+// these have a crate of their own.
 #![tactic(auto)]
 
 #[cfg(test)]
 mod chance;
 #[cfg(test)]
 mod filling;
+#[cfg(test)]
+mod marks;
 #[cfg(test)]
 mod scans;
 #[cfg(test)]

@@ -11,14 +11,14 @@ use Rattle.given_clause.proofs.Narrowed.{conflicts_there}
 use Rattle.given_clause.proofs.Others.{kept_of_both}
 use Rattle.given_clause.proofs.acting.conflict.Goals as goal
 
-pub returns : goal.returns
-returns c =
+pub returns-clause-made : goal.returns-clause-made
+returns-clause-made c =
     let s = state_of c.args.search.now in
     let h = c.args.held.now in
     subst (λ (ns : List Conclusion). IfOk c.first_conflict.result (λ o. option_map conclusion_of o ≡ first_in ns))
     (ap (λ us. conflicts_with us h)
     (ap lent c.as_slice-3.ensures.value ∙ c.in_ok-units.ensures
-    ∙ ap₂ merged_held (ap lent c.as_slice.ensures.value ∙ c.in_ok-waiting.ensures) (ap lent c.as_slice-2.ensures.value ∙ c.in_ok-usable.ensures)
+    ∙ ap₂ merged_held (ap lent c.as_slice.ensures.value ∙ c.in_ok-waiting.ensures.found) (ap lent c.as_slice-2.ensures.value ∙ c.in_ok-usable.ensures.found)
     ∙ kept_of_both (may_conflict h) s c.requires)
     ∙ conflicts_there h (all_held s))
     c.first_conflict.ensures

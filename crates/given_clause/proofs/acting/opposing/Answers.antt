@@ -1,17 +1,16 @@
 use Rattle.std.proofs.Common.{◌≡◌, IfOk, Bool, true, not, List, filter, subst, ap, ap₂, ◌∙◌}
-use Rattle.clause_index.specs.Finding.{has_atom_such}
+use Rattle.clause_index.specs.Entries.{is_short_unifiable}
 use Rattle.derivation.specs.Places.{atom_at, has_literal}
-use Rattle.discrim_tree.specs.Terms.{can_unify}
 use Rattle.fol_core.specs.Literals.{ClauseTree}
 use Rattle.fol_core.specs.Tree.{Tree}
 use Rattle.held_clauses.specs.Holding.{lent}
 use Rattle.prover_steps.specs.Clashing.{Held}
 use Rattle.given_clause.proofs.acting.opposing.Goals as goal
 
-pub returns : goal.returns
-returns c =
-    subst (λ (hs : List Held). IfOk c.with_unifiable.result (λ ls. lent ls.items ≡ hs))
-    (ap₂ (λ (t : Tree) (b : Bool). filter (has_atom_such (can_unify t) (not b)) c.args.set.now)
+pub returns-clause-found : goal.returns-clause-found
+returns-clause-found c =
+    subst (λ (hs : List Held). IfOk c.short_unifiable.result (λ ls. lent ls.items ≡ hs))
+    (ap₂ (λ (t : Tree) (b : Bool). filter (is_short_unifiable (not b) t) c.args.set.now)
     (c.first_atom.ensures ∙ ap (λ (d : ClauseTree). atom_at d 0) c.clause-clause.ensures)
     (c.begins_positive.ensures ∙ ap (λ (d : ClauseTree). has_literal true d 0) c.clause-clause.ensures))
-    c.with_unifiable.ensures.found
+    c.short_unifiable.ensures.found

@@ -9,5 +9,5 @@ pub returns : goal.returns
 returns c =
     let test = λ (d : Held). not (is_same_held c.args.held.now d) && acts_on c.args.act c.args.held.now d.clause in
     subst (λ (ks : List Held). IfOk c.others_among.result (λ hs. lent hs.items ≡ ks))
-    (ap (λ ls. filter test (lent ls)) c.as_slice.ensures.value ∙ ap (filter test) c.in_ok-near.ensures ∙ others_there c.args.act c.args.held.now c.args.set.now)
+    (ap (λ ls. filter test (lent ls)) c.as_slice.ensures.value ∙ others_there c.args.act c.args.held.now (lent c.in_ok-near.near.items) c.args.set.now c.in_ok-near.ensures)
     c.others_among.ensures

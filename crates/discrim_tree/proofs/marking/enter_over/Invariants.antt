@@ -1,0 +1,12 @@
+-- The branches that are left, and those that came.
+use Rattle.std.proofs.Common.{drop}
+use Rattle.std.specs.List.Sorted.{IsStrictlyIncreasing}
+use Rattle.discrim_tree.specs.Marks.{AreAmong}
+use Rattle.discrim_tree.proofs.Marked.{AreLeft, HasMet}
+use Rattle.discrim_tree.proofs.marking.enter_over.Given as goal
+
+abbrev pub invariant-loop-edge : goal.invariant-loop-edge
+invariant-loop-edge l = record {
+  kept : AreAmong l.fn.waiting.items l.waiting.items;
+  enters : IsStrictlyIncreasing l.marks → AreLeft (HasMet l.marks l.met l.waiting.items) l.branches (drop l.edge-index l.branches);
+}
