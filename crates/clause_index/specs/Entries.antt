@@ -39,6 +39,7 @@ is_short_of sign h = is_short h.clause && not (has_literal (not sign) h.clause 0
 abbrev pub first_atom : Held → Tree
 first_atom h = atom_at h.clause 0
 
+-- those clauses, with their atoms
 abbrev pub short_atoms : Bool → List Held → List Indexed
 short_atoms sign hs = entries_of (is_short_of sign) first_atom hs
 
@@ -46,11 +47,11 @@ short_atoms sign hs = entries_of (is_short_of sign) first_atom hs
 abbrev pub entered : Bool → Held → List Indexed → List Indexed
 entered sign h es = if is_short_of sign h then with_entry (indexed h.number (first_atom h)) es else es
 
--- those of them that have an atom as an instance of that
+-- whether a clause is such a one and has an atom as an instance of its own
 abbrev pub is_short_above : Bool → Tree → Held → Bool
 is_short_above sign t h = is_short_of sign h && has_instance (first_atom h) t
 
--- and those of which that unifies with an atom
+-- and whether it is one whose atom unifies with an atom
 abbrev pub is_short_unifiable : Bool → Tree → Held → Bool
 is_short_unifiable sign t h = is_short_of sign h && can_unify (first_atom h) t
 

@@ -18,10 +18,10 @@ use fol_core::{Clause, Literal, Term};
 use held_clauses::{Held, is_equation, left_of, right_of};
 use std::alloc::{AllocError, Global};
 
-// So much work is done at most to find clauses by their marks: nodes that are gone through, times the marks.
+// So many nodes are gone through at most to find clauses by their marks, times the marks and some more.
 const WORK: usize = 65_536;
 
-// So many marks are at least reckoned with.
+// So many marks are reckoned with besides the clause's.
 const FEW: usize = 32;
 
 /// Numbers of clauses under their terms, by where these stand: the atoms of literals by their signs, the terms below atoms, and

@@ -1,4 +1,4 @@
-// Clauses that are held, found by their literals and by the terms in them.
+// Clauses that are held, found by their literals, by the terms in them and by their marks.
 ghost use Rattle.std.specs.Prelude.{◌≡◌, ◌+◌, ◌≤◌, ◌==◌, false, not, [], IfOk, OnOk, OnErr, filter, length};
 ghost use Rattle.std.specs.List.Sorted.{IsStrictlyIncreasing};
 ghost use Rattle.clause_index.specs.Entries.{is_short, is_short_above, is_short_unifiable, short_atoms};
@@ -134,7 +134,7 @@ impl HeldSet {
         self.listed.short_unifiable(sign, atom, tries)
     }
 
-    /// Clauses of two literals or more, among which are all such that subsume this one.
+    /// Clauses among which are all of two literals or more that subsume this one.
     pub fn long_above(&self, clause: &Clause) -> Result<Vec<&Held>, AllocError>
         ensures found { IfOk result (λ hs. filter (is_long_above clause.now) (lent hs.items)
             ≡ filter (is_long_above clause.now) self.now) }

@@ -150,7 +150,7 @@ linear_passes Generalizations t s above d h = (instances_are_made s t).1 (made s
 linear_passes Instances t s above d h = absurd (clash above)
 linear_passes Unifiable t s above d h = absurd (clash above)
 
--- nor one in which a variable stands at two places at which the other term has different parts
+-- a part is one alone
 same_part : (o : Option Tree) (u v : Tree) → o ≡ Some u → o ≡ Some v → u ≡ v
 same_part o u v e f = let same : Some u ≡ Some v = sym e ∙ f in cc
 
@@ -160,6 +160,7 @@ pub tells_differ : (t : Tree) (p q : List ℕ) (u v : Tree) → subterm_at t p �
 tells_differ t p q u v first second true so back = ((λ h. absurd (clash (sym h))), λ d. absurd (d.apart (sym (same_part (subterm_at t p) u d.left first d.first) ∙ so refl ∙ same_part (subterm_at t q) v d.right second d.second)))
 tells_differ t p q u v first second false so back = ((λ h. record { left = u; right = v; first = first; second = second; apart = λ e. clash (sym (back e)) }), λ d. refl)
 
+-- one in which a variable stands at two places at which the other term has different parts isn't sought
 pub differing_fails : (k : Sought) (t s : Tree) (w : TwoPlaces) → fits_above k ≡ false → StandsTwice s w → Differ t w.first.items w.second.items → passes k t s ≡ false
 differing_fails Instances t s w above twice differ = absurd (clash above)
 differing_fails Unifiable t s w above twice differ = absurd (clash above)

@@ -54,7 +54,7 @@ pub record Leads (old new : List ℕ) (t u : Tree) : Type 0 where
   pub behind : new ≡ old ++ path
   pub there : subterm_at t path ≡ Some u
 
--- a variable stands at both of two places
+-- a variable stands at both of two places, which may be the same
 pub record StandsTwice (t : Tree) (w : TwoPlaces) : Type 0 where
   pub variable : ℕ
   pub first : subterm_at t w.first.items ≡ Some (var variable)

@@ -49,8 +49,8 @@ IsOver nodes marks s n =
     (ms : List ℕ) × IsStrictlyIncreasing ms × AreAmong (drop s.met marks) ms
     × Reaches nodes s.node (map mark_step ms) n
 
--- of a rising list that has the marks that are left, those that are left behind its first one are
--- in the rest
+-- how many marks are met behind the first one of a rising list that has all that are left: those that
+-- are left then are in its rest; where it is none, there is no such list
 abbrev pub MeetsBehind : List ℕ → ℕ → ℕ → Option ℕ → Type 0
 MeetsBehind marks met m behind =
     (ms : List ℕ) → IsStrictlyIncreasing (m ∷ ms) → AreAmong (drop met marks) (m ∷ ms)

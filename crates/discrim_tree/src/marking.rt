@@ -221,7 +221,7 @@ impl Nodes {
     }
 
     /// The numbers at and below the nodes that wait come to others, where all marks on the way are among these; whether they have
-    /// all come, which is told where neither nodes nor numbers are more than so many.
+    /// all come. Fewer nodes than so many are gone through, and none that has more numbers than that.
     pub fn within(
         &self,
         waiting: &mut Vec<usize>,
@@ -267,7 +267,7 @@ impl Nodes {
     }
 
     /// The numbers at and below the nodes that wait come to others, where the marks that are left are met on a rising way; whether
-    /// they have all come, which is told where neither nodes nor what they have are more than so many.
+    /// they have all come. Fewer nodes than so many are gone through, and none that has more numbers or branches than that.
     pub fn over(
         &self,
         waiting: &mut Vec<Meeting>,

@@ -1,4 +1,4 @@
-// Numbers under lists of marks, of which a retrieval leaves out none.
+// Numbers under lists of marks, of which a retrieval leaves out none where it answers.
 ghost use Rattle.std.specs.Prelude.{ℕ, List, IfOk, IfSome, OnOk};
 ghost use Rattle.std.specs.List.{Contains};
 ghost use Rattle.std.specs.List.Sorted.{IsStrictlyIncreasing};
@@ -47,8 +47,8 @@ impl MarkSieve {
         self.nodes.take_marked(marks, number);
     }
 
-    /// The numbers under lists all of whose marks are among these, rising; others may be among them. None where more nodes or
-    /// numbers than so many would have to be gone through.
+    /// The numbers under lists all of whose marks are among these, rising; others may be among them. None where it would take
+    /// long: fewer nodes than so many are gone through.
     pub fn within(
         &self,
         alloc: Global,
@@ -69,8 +69,8 @@ impl MarkSieve {
         Ok(Some(numbers))
     }
 
-    /// The numbers under rising lists that have all of these marks, which rise; others may be among them. None where more nodes,
-    /// or more of what they have, would have to be gone through than so many.
+    /// The numbers under rising lists that have all of these marks, which rise; others may be among them. None where it
+    /// would take long: fewer nodes than so many are gone through.
     pub fn over(
         &self,
         alloc: Global,

@@ -12,7 +12,7 @@ use substitutions::{same, subterm_at};
 // So many occurrences of variables are compared with each other at most.
 const MOST: usize = 64;
 
-/// Two places at which a variable stands: the numbers of arguments, from the outermost inwards.
+/// Places at which a variable stands, one of them twice maybe: the numbers of arguments, from the outermost inwards.
 #[derive(Drop)]
 pub struct TwoPlaces {
     pub first: Vec<u64>,
@@ -77,7 +77,7 @@ fn add_occurring(variables: &mut Vec<u64>, t: &Term) -> Result<(), AllocError>
     }
 }
 
-// A number that stands twice.
+// A number that stands twice, if one does.
 #[tactic(auto, using(crate::proofs::Lone::distinct_next, crate::proofs::Lone::distinct_fails, crate::proofs::Lone::distinct_end))]
 fn repeated(numbers: &[u64]) -> Option<u64>
     ensures { is_none result ≡ are_distinct numbers.now }

@@ -137,7 +137,7 @@ fn has_long_above(alloc: Global, held: &[&Held], clause: &Clause) -> Result<bool
     Ok(false)
 }
 
-// Whether one of a set does; none subsumes a clause that has one literal at most.
+// Whether one of a set with two literals or more subsumes a clause; where that has one at most, none does.
 fn is_subsumed_by_long(alloc: Global, set: &HeldSet, clause: &Clause) -> Result<bool, AllocError>
     ensures { IfOk result (λ b. b ≡ list_any (is_long_above clause.now) set.now) }
 {

@@ -44,7 +44,7 @@ pub struct FoundProof {
 
 /// The clauses that wait, those in use and the rules, by their numbers; the queue; the lines that were made, and the next number;
 /// the place of the next turn; how many clauses were given, concluded, kept and too large, and how many symbols kept; how many
-/// entries of the indexes of rules and of short clauses were tested; the proofs; and why the search ended, if it did.
+/// entries of the indexes of rules and of units were tested; the proofs; and why the search ended, if it did.
 #[derive(Drop)]
 pub struct Search {
     pub waiting: Waiting,

@@ -69,8 +69,8 @@ impl<'a> Prover<'a> {
         }
     }
 
-    /// How many entries of the indexes of rules and of units were reached by walks so far and told whether they match a
-    /// term; at the greatest number the count stops. Other tests aren't counted.
+    /// How many entries of the indexes of rules and of units were reached by walks so far and told whether they match a term, or
+    /// unify with it; at the greatest number the count stops. Other tests aren't counted.
     pub fn tries(&self) -> u64
         ensures { result ≡ tries_of self.now }
     {
