@@ -119,7 +119,8 @@ fn clash_made(
         (map clash_of satellites.now) (nucleus.now ∷ lent_clauses others.now)) }
 {
     let many = others.len() as u64 + 1;
-    let mut made = Clause::with_capacity(alloc, nucleus.len())?;
+    let left = nucleus.len().saturating_sub(satellites.len());
+    let mut made = Clause::with_capacity(alloc, left)?;
     let first = nucleus.as_slice();
     push_untaken(alloc, unifier, first, satellites, many, &mut made)?;
     for (i, s) in satellites.iter().enumerate() {

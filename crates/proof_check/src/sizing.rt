@@ -1,6 +1,6 @@
 // Whether what is made of clauses under a unifier of them renamed apart may be too large to be built.
 ghost use Rattle.std.specs.List.{sum_by};
-ghost use Rattle.std.specs.Prelude.{◌≡◌, ◌≤◌, true, false, IfOk, length};
+ghost use Rattle.std.specs.Prelude.{◌≡◌, ◌≤◌, false, IfOk, IfSome, length};
 ghost use Rattle.clause_limits.specs.Sizes.{clause_size};
 ghost use Rattle.proof_check.specs.Lent.{own_among, lent_clauses, AllShallow, EachShallow, AreShallow};
 ghost use Rattle.substitutions.specs.Bindings.{by_bindings};
@@ -70,31 +70,30 @@ fn are_deep_under(unifier: &Solution, parents: &[&Clause]) -> Result<bool, Alloc
     Ok(false)
 }
 
-// Whether clauses have so few symbols and variables that what is made of them can't be too deep to be built: no part of them
-// stands twice on a way down it, so it has no more levels than they have symbols and variables.
+// How many symbols and variables clauses have together, if these are so few that what is made of them can't be too deep to be
+// built: no part of them stands twice on a way down it, so it has no more levels than they have symbols and variables.
 #[tactic(auto, using(crate::proofs::Shallow::sizes_next, crate::proofs::Shallow::sizes_end))]
-fn are_flat(parents: &[&Clause]) -> bool
-    ensures { result ≡ true → sum_by clause_size (lent_clauses parents.now) ≤ 1000 }
+fn few_symbols(parents: &[&Clause]) -> Option<u64>
+    ensures counted { IfSome result (λ n. n ≡ sum_by clause_size (lent_clauses parents.now)) }
+    ensures few { IfSome result (λ n. n ≤ 1000) }
 {
     let mut left = MOST_LEVELS;
     for parent in parents {
         match left_behind_clause(parent, left) {
             Some(rest) => left = rest,
-            None => return false,
+            None => return None,
         }
     }
-    true
+    Some(MOST_LEVELS - left)
 }
 
-// Whether what is made of clauses under a unifier may have too many levels to be built by recursion.
-fn may_be_deep(unifier: &Solution, parents: &[&Clause]) -> Result<bool, AllocError>
-    ensures { IfOk result (λ b. b ≡ false
-        → AreShallow (by_bindings unifier.now) (lent_clauses parents.now)) }
-{
-    if are_flat(parents) {
+// Whether so many symbols and variables may become too many under a unifier: those of the parents are counted under it only
+// where they were too many if each became as many as a variable becomes at most.
+fn grow_large(unifier: &Solution, parents: &[&Clause], symbols: u64) -> Result<bool, AllocError> {
+    if symbols.saturating_mul(unifier.most_symbols()) <= MOST_SYMBOLS {
         return Ok(false);
     }
-    Ok(are_deep_under(unifier, parents)?)
+    Ok(sizes_under(unifier, parents)? > MOST_SYMBOLS)
 }
 
 /// Whether what is made of clauses under a unifier may be too large to be built.
@@ -102,8 +101,13 @@ pub fn may_be_large(unifier: &Solution, parents: &[&Clause]) -> Result<bool, All
     ensures { IfOk result (λ b. b ≡ false
         → AreShallow (by_bindings unifier.now) (lent_clauses parents.now)) }
 {
-    if may_be_deep(unifier, parents)? {
-        return Ok(true);
+    match few_symbols(parents) {
+        Some(symbols) => grow_large(unifier, parents, symbols),
+        None => {
+            if are_deep_under(unifier, parents)? {
+                return Ok(true);
+            }
+            Ok(sizes_under(unifier, parents)? > MOST_SYMBOLS)
+        }
     }
-    Ok(sizes_under(unifier, parents)? > MOST_SYMBOLS)
 }

@@ -69,10 +69,7 @@ pub fn plain_apart(
         ≡ substitute (own_among many (by_bindings unifier.now) parent) (tree_of term.now)) }
 {
     match term {
-        Term::Var(x) => {
-            let own = Term::Var(number_apart(*x, many, parent)?);
-            unifier.plain(alloc, &own)
-        }
+        Term::Var(x) => unifier.variable(alloc, number_apart(*x, many, parent)?),
         Term::Elem(k) => Ok(Term::Elem(*k)),
         Term::App(head, terms) => {
             let mut made = Terms::with_capacity(alloc, terms.items.len())?;

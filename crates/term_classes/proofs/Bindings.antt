@@ -2,7 +2,7 @@
 use Rattle.std.specs.BTreeMap.{is_at}
 use Rattle.std.specs.Map.{lookup}
 use Rattle.std.specs.Ordering.{nat_cmp}
-use Rattle.std.proofs.Common.{◌≡◌, ℕ, ◌<◌, ◌==◌, true, false, refl, sym, ap, ap₂, subst, ◌∙◌, List, [], ◌∷◌, length, map, arith, inl, inr, Some, None, cond, if◌then◌else◌, eq-eqb}
+use Rattle.std.proofs.Common.{◌≡◌, ℕ, ◌<◌, ◌≤◌, ◌==◌, true, false, refl, sym, ap, ap₂, subst, ◌∙◌, List, [], ◌∷◌, length, map, arith, inl, inr, Option, Some, None, cond, if◌then◌else◌, eq-eqb}
 use Rattle.std.proofs.lemmas.Bool.{cases_eq, ne_eqb}
 use Rattle.std.proofs.lemmas.Bool.Decides.{nat_tests}
 use Rattle.fol_core.specs.Substitutions.{Substitution, substitute, substitute_all}
@@ -11,6 +11,7 @@ use Rattle.substitutions.specs.Bindings.{by_bindings}
 use Rattle.unifiers.specs.Unifier.{IsMostGeneral}
 use Rattle.term_classes.specs.Arenas.{node_of}
 use Rattle.term_classes.specs.Classes.{In, class_terms, found_terms, node_terms, term_or_variable}
+use Rattle.term_classes.specs.Measures.{size_of, saturated, measure_at}
 use Rattle.term_classes.specs.Merging.{nth}
 use Rattle.term_classes.specs.Named.{named_nodes}
 use Rattle.term_classes.specs.Solutions.{bindings_of, classes_in, IsFound, HasClass}
@@ -55,6 +56,23 @@ class_bound f x n root is e r =
 -- and the others stay
 pub none_bound : (f : Found) (x : ℕ) → node_of f.arena x ≡ None → by_bindings (bindings_of f) x ≡ var x
 none_bound f x e = bindings_found f x ∙ ap (term_or_variable x (node_terms (classes_in f) f.order.items)) e
+
+-- no variable's term is greater than all that is measured
+most_bound : (f : Found) (m x : ℕ) (o : Option ℕ) → IsFound f → 1 ≤ m → ((n : ℕ) → n < length f.measures.items → (measure_at f.measures.items n).size ≤ m) → node_of f.arena x ≡ o → saturated (size_of (by_bindings (bindings_of f) x)) ≤ m
+most_bound f m x None is one all e =
+    let same = ap (λ t. saturated (size_of t)) (none_bound f x e) in
+    omega (arith, same, one)
+most_bound f m x (Some n) is one all e =
+    let root : ℕ = nth f.work.links.items n in
+    let has = class_bound f x n root is e refl in
+    let same = ap (λ t. saturated (size_of t)) has.bound in
+    let sized = (is.measured.measured root has.ordered).sized in
+    let within : root < length f.measures.items = let h = has.within in let k = is.measured.as_many in omega (arith, h, k) in
+    let below = all root within in
+    omega (arith, same, sized, below)
+
+pub most_found : (f : Found) (m : ℕ) → IsFound f → 1 ≤ m → ((n : ℕ) → n < length f.measures.items → (measure_at f.measures.items n).size ≤ m) → (x : ℕ) → saturated (size_of (by_bindings (bindings_of f) x)) ≤ m
+most_found f m is one all x = most_bound f m x (node_of f.arena x) is one all refl
 
 mutual
   same_put : (s u : Substitution) → ((x : ℕ) → s x ≡ u x) → (t : Tree) → substitute s t ≡ substitute u t

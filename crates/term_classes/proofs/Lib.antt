@@ -1,4 +1,5 @@
 pub mod Advances
+pub mod AtOnce
 pub mod Bindings
 pub mod Compares
 pub mod Entering

@@ -1,5 +1,5 @@
 -- Terms that were put into an arena, and what is found of them.
-use Rattle.std.proofs.Common.{◌≡◌, ℕ, ◌≤◌, refl, sym, ap, ap₂, subst, ◌∙◌, List, [], ◌++◌, length, map}
+use Rattle.std.proofs.Common.{◌≡◌, ℕ, ◌≤◌, refl, sym, ap, ap₂, subst, ◌∙◌, List, [], ◌++◌, length, map, Result, Ok, Err, IfOk}
 use Rattle.std.proofs.lemmas.List.{length-map}
 use Rattle.fol_core.specs.Tree.{Tree, trees_of}
 use Rattle.substitutions.specs.Bindings.{Binding, by_bindings}
@@ -59,6 +59,14 @@ are_ready a b c front back ls rs us vs ss ts no_front no_back left right first s
 pub entered_terms : (e : Entered) (a : Arena) (ls rs : List ℕ) (ss ts : List Tree) → AreReady a ls rs ss ts → e.arena ≡ a → e.work.lefts.items ≡ ls → e.work.rights.items ≡ rs → ◌≡◌ {A = List Tree × List Tree} (left_terms e, right_terms e) (ss, ts)
 entered_terms e a ls rs ss ts is arena left right =
     ap₂ (λ (us vs : List Tree). (us, vs)) (ap₂ (λ (b : Arena) (l : List ℕ). map (tree_at (shapes_of b)) l) arena left ∙ is.left) (ap₂ (λ (b : Arena) (l : List ℕ). map (tree_at (shapes_of b)) l) arena right ∙ is.right)
+
+pub entered_left : {E : Type 0} (r : Result Entered E) (a : Arena) (ls rs : List ℕ) (ss ts : List Tree) → AreReady a ls rs ss ts → IfOk r (λ e. e.arena ≡ a) → IfOk r (λ e. e.work.lefts.items ≡ ls) → IfOk r (λ e. e.work.rights.items ≡ rs) → IfOk r (λ e. left_terms e ≡ ss)
+entered_left (Ok e) a ls rs ss ts is arena left right = ap (λ (p : List Tree × List Tree). p.0) (entered_terms e a ls rs ss ts is arena left right)
+entered_left (Err x) a ls rs ss ts is arena left right = tt
+
+pub entered_right : {E : Type 0} (r : Result Entered E) (a : Arena) (ls rs : List ℕ) (ss ts : List Tree) → AreReady a ls rs ss ts → IfOk r (λ e. e.arena ≡ a) → IfOk r (λ e. e.work.lefts.items ≡ ls) → IfOk r (λ e. e.work.rights.items ≡ rs) → IfOk r (λ e. right_terms e ≡ ts)
+entered_right (Ok e) a ls rs ss ts is arena left right = ap (λ (p : List Tree × List Tree). p.1) (entered_terms e a ls rs ss ts is arena left right)
+entered_right (Err x) a ls rs ss ts is arena left right = tt
 
 -- where not as many stand on both sides nothing unifies them
 pub entered_uneven : (e : Entered) → (length e.work.lefts.items ≡ length e.work.rights.items → ⊥) → HasNoUnifier (trees_of (left_terms e)) (trees_of (right_terms e))

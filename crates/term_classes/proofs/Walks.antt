@@ -34,13 +34,13 @@ before_or_last xs x i h = elim (cases_lt i (length xs)) [
   | inr g ↦ let e : length xs ≡ i = omega (arith, g, h, length_push xs x) in inr e
 ]
 
-not_both : (m : Mark) → m ≡ Open → m ≡ Done → ⊥
+pub not_both : (m : Mark) → m ≡ Open → m ≡ Done → ⊥
 not_both m o d = cc
 
 pub not_new : (m : Mark) → m ≡ Open → m ≡ New → ⊥
 not_new m o d = cc
 
-not_done : (m : Mark) → m ≡ Done → m ≡ New → ⊥
+pub not_done : (m : Mark) → m ≡ Done → m ≡ New → ⊥
 not_done m o d = cc
 
 -- what is known of the innermost class on the way
@@ -49,7 +49,7 @@ innermost c marks order frames f is =
     let inside : length frames < length (frames ++ f ∷ []) = let l = length_push frames f in omega (arith, l) in
     subst (IsFrame c marks order) (get_or_push frames f f (length frames) refl) (is.framed (length frames) f inside)
 
-order_push : (c : Classes) (before order : List ℕ) (r : ℕ) → IsOrder c before order → AllIn (children c r) (before ++ order) → (In r (before ++ order) → ⊥) → IsOrder c before (order ++ r ∷ [])
+pub order_push : (c : Classes) (before order : List ℕ) (r : ℕ) → IsOrder c before order → AllIn (children c r) (before ++ order) → (In r (before ++ order) → ⊥) → IsOrder c before (order ++ r ∷ [])
 order_push c before [] r o all fresh = (subst (AllIn (children c r)) (no_more before) all, (λ i. fresh (subst (In r) (sym (no_more before)) i)), tt)
   where
     no_more : (xs : List ℕ) → xs ++ [] ≡ xs
@@ -59,7 +59,7 @@ order_push c before (s ∷ order) r o all fresh =
     let e : (before ++ s ∷ []) ++ order ≡ before ++ s ∷ order = append_assoc before (s ∷ []) order in
     (o.0, o.1, order_push c (before ++ s ∷ []) order r o.2 (subst (AllIn (children c r)) (sym e) all) (λ i. fresh (subst (In r) e i)))
 
-all_by_index : (xs ys : List ℕ) → ((k : ℕ) → k < length xs → In (nth xs k) ys) → AllIn xs ys
+pub all_by_index : (xs ys : List ℕ) → ((k : ℕ) → k < length xs → In (nth xs k) ys) → AllIn xs ys
 all_by_index [] ys h = tt
 all_by_index (x ∷ xs) ys h = (h 0 (omega arith), all_by_index xs ys (λ k g. let inner : suc k < length (x ∷ xs) = omega (arith, g) in h (suc k) inner))
 

@@ -9,7 +9,6 @@ ghost use Rattle.term_classes.specs.Entered.{IsEntered, left_terms, right_terms}
 ghost use Rattle.unifiers.specs.Unifier.{Unifies};
 
 use crate::arena::{apply, enter_element, enter_variable, roomy_arena};
-use crate::counting::count;
 use crate::entered::Entered;
 use crate::node::Arena;
 use crate::room::enter;
@@ -17,6 +16,9 @@ use crate::unifying::have_unifier;
 use fol_core::Term;
 use std::alloc::{AllocError, Global};
 use std::marker::Model;
+
+// How many nodes there is room for at first.
+const FEW: usize = 32;
 
 // The number of a variable of a term by its place among so many, or want of memory where it is no number of the machine.
 fn number_apart(x: u64, many: u64, place: u64) -> Result<u64, AllocError>
@@ -72,14 +74,12 @@ pub fn entered_apart(alloc: Global, s: &Term, t: &Term) -> Result<Entered, Alloc
     ensures left { IfOk result (λ e. left_terms e ≡ substitute (interleaved 2 0) (tree_of s.now) ∷ []) }
     ensures right { IfOk result (λ e. right_terms e ≡ substitute (interleaved 2 1) (tree_of t.now) ∷ []) }
 {
-    let room = count(s).saturating_add(count(t));
-    let mut arena = roomy_arena(alloc, room)?;
-    let mut left_nodes = Vec::with_capacity(alloc, room)?;
+    let mut arena = roomy_arena(alloc, FEW)?;
+    let mut left_nodes = Vec::with_capacity(alloc, FEW)?;
     put_apart(&mut arena, s, 2, 0, &mut left_nodes)?;
-    let mut right_nodes = Vec::with_capacity(alloc, room)?;
+    let mut right_nodes = Vec::with_capacity(alloc, FEW)?;
     put_apart(&mut arena, t, 2, 1, &mut right_nodes)?;
-    let nodes = enter(alloc, arena, left_nodes, right_nodes)?;
-    Ok(nodes)
+    enter(alloc, arena, left_nodes, right_nodes)
 }
 
 /// Two terms with variables of their own each, renamed apart, with the room that it takes to find out whether they unify;

@@ -1,5 +1,5 @@
 // Terms under what is found: how great they are, and as trees.
-ghost use Rattle.std.specs.Prelude.{◌≡◌, ◌<◌, IfOk, MatchOption, length};
+ghost use Rattle.std.specs.Prelude.{ℕ, ◌≡◌, ◌<◌, ◌≤◌, IfOk, MatchOption, length};
 ghost use Rattle.fol_core.specs.Substitutions.{substitute};
 ghost use Rattle.fol_core.specs.TermView.{tree_of};
 ghost use Rattle.fol_core.specs.Tree.{var};
@@ -10,6 +10,7 @@ ghost use Rattle.term_classes.specs.Solutions.{IsFound, HasClass, bindings_of, c
 
 use crate::arena::view;
 use crate::found::Found;
+use crate::measuring::most_symbols;
 use crate::naming::node_of;
 use crate::node::View;
 use fol_core::{Sym, Term, Terms};
@@ -48,6 +49,16 @@ pub fn size_under(found: &Found, term: &Term) -> u64
             size
         }
     }
+}
+
+/// A number of symbols and variables that no variable's term has more of, up to the greatest number.
+#[tactic(auto, using(crate::proofs::Bindings::most_found))]
+pub fn most_under(found: &Found) -> u64
+    requires { IsFound found.now }
+    ensures one { 1 ≤ result }
+    ensures all { (x : ℕ) → saturated (size_of (by_bindings (bindings_of found.now) x)) ≤ result }
+{
+    most_symbols(found.measures.as_slice())
 }
 
 /// How many levels a term has under what is found, up to the greatest number.
@@ -93,6 +104,17 @@ fn class_plain(alloc: Global, found: &Found, root: usize) -> Result<Term, AllocE
     }
 }
 
+/// The term of a variable under what is found, as a tree.
+pub fn variable_under(alloc: Global, found: &Found, x: u64) -> Result<Term, AllocError>
+    requires { IsFound found.now }
+    ensures { IfOk result (λ made. tree_of made ≡ by_bindings (bindings_of found.now) x) }
+{
+    match class_of(found, x) {
+        Some(root) => class_plain(alloc, found, root),
+        None => Ok(Term::Var(x)),
+    }
+}
+
 /// A term under what is found, as a tree.
 pub fn plain_under(alloc: Global, found: &Found, term: &Term) -> Result<Term, AllocError>
     requires { IsFound found.now }
@@ -100,10 +122,7 @@ pub fn plain_under(alloc: Global, found: &Found, term: &Term) -> Result<Term, Al
         ≡ substitute (by_bindings (bindings_of found.now)) (tree_of term.now)) }
 {
     match term {
-        Term::Var(x) => match class_of(found, *x) {
-            Some(root) => Ok(class_plain(alloc, found, root)?),
-            None => Ok(Term::Var(*x)),
-        },
+        Term::Var(x) => variable_under(alloc, found, *x),
         Term::Elem(k) => Ok(Term::Elem(*k)),
         Term::App(f, terms) => {
             let mut made = Terms::with_capacity(alloc, terms.items.len())?;

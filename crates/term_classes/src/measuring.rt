@@ -1,9 +1,9 @@
 // How great the terms of classes are.
-ghost use Rattle.std.specs.Prelude.{ℕ, ◌<◌, ◌≡◌, IfOk, length};
+ghost use Rattle.std.specs.Prelude.{ℕ, ◌<◌, ◌≤◌, ◌≡◌, IfOk, length};
 ghost use Rattle.fol_core.specs.Tree.{var};
 ghost use Rattle.term_classes.specs.Arenas.{IsArena, shapes_of};
 ghost use Rattle.term_classes.specs.Classes.{AreClasses, OrdersAll, arguments_of, class_terms, classes_of};
-ghost use Rattle.term_classes.specs.Measures.{AreMeasured, IsAbove};
+ghost use Rattle.term_classes.specs.Measures.{AreMeasured, IsAbove, measure_at};
 ghost use Rattle.term_classes.specs.Merging.{merging_of, nth};
 ghost use Rattle.term_classes.specs.Shapes.{AreBelow, shape_at};
 
@@ -69,6 +69,18 @@ pub fn measures_of(
         measures[*root] = measure;
     }
     measures
+}
+
+/// The most symbols and variables that are noted, and no fewer than one.
+pub fn most_symbols(measures: &[Measure]) -> u64
+    ensures one { 1 ≤ result }
+    ensures all { (n : ℕ) → n < length measures.now → (measure_at measures.now n).size ≤ result }
+{
+    let mut most = 1u64;
+    for measure in measures {
+        most = most.max(measure.size);
+    }
+    most
 }
 
 /// Room for measures by node.

@@ -1,7 +1,7 @@
 // An order of classes: each stands behind those of its schema's arguments.
-ghost use Rattle.std.specs.Prelude.{◌<◌, ◌≤◌, ◌≡◌, ◌++◌, ◌∷◌, [], IfSome, MatchOption, length};
+ghost use Rattle.std.specs.Prelude.{true, ◌<◌, ◌≤◌, ◌≡◌, ◌++◌, ◌∷◌, [], IfSome, MatchOption, length};
 ghost use Rattle.term_classes.specs.Arenas.{IsArena, shapes_of};
-ghost use Rattle.term_classes.specs.Classes.{AreClasses, IsCyclic, OrdersAll, arguments_of, children, classes_of};
+ghost use Rattle.term_classes.specs.Classes.{AllIn, AreClasses, IsCyclic, OrdersAll, arguments_of, children, classes_of};
 ghost use Rattle.term_classes.specs.Merging.{merging_of};
 ghost use Rattle.term_classes.specs.Rooms.{HasPlaces, IsUnstarted, KeepsPlaces};
 ghost use Rattle.term_classes.specs.Shapes.{shape_at};
@@ -109,7 +109,27 @@ fn walk_from(arena: &Arena, work: &Work, walk: &mut Walk, root: usize) -> bool
     true
 }
 
-// The same of any class.
+// Whether the classes of all arguments are in the order.
+fn is_next(arena: &Arena, work: &Work, walk: &Walk, root: usize) -> bool
+    requires arena { IsArena arena.now }
+    requires classes { AreClasses (classes_of (shapes_of arena.now) (merging_of work.now)) }
+    requires walk { Rests (classes_of (shapes_of arena.now) (merging_of work.now)) walk.now }
+    requires root { root < length (shapes_of arena.now) }
+    ensures { result ≡ true
+        → AllIn (children (classes_of (shapes_of arena.now) (merging_of work.now)) root)
+        walk.now.order.items }
+{
+    for argument in arguments_at(arena, work.schemas[root]) {
+        let child = work.links[*argument];
+        match walk.marks[child] {
+            Mark::Done => {}
+            _ => return false,
+        }
+    }
+    true
+}
+
+// The same of any class: where it is next, it is put into the order at once.
 fn visit(arena: &Arena, work: &Work, walk: &mut Walk, root: usize) -> bool
     requires arena { IsArena arena.now }
     requires classes { AreClasses (classes_of (shapes_of arena.now) (merging_of work.now)) }
@@ -123,7 +143,14 @@ fn visit(arena: &Arena, work: &Work, walk: &mut Walk, root: usize) -> bool
     match walk.marks[root] {
         Mark::Done => true,
         Mark::Open => true,
-        Mark::New => walk_from(arena, work, walk, root),
+        Mark::New => {
+            if !is_next(arena, work, walk, root) {
+                return walk_from(arena, work, walk, root);
+            }
+            walk.order.push_reserved(root);
+            walk.marks[root] = Mark::Done;
+            true
+        }
     }
 }
 

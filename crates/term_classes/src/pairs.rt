@@ -107,6 +107,5 @@ pub fn entered_pairs(alloc: Global, pairs: Pairs) -> Result<Entered, AllocError>
         lefts,
         rights,
     } = nodes;
-    let nodes = enter(alloc, arena, lefts, rights)?;
-    Ok(nodes)
+    enter(alloc, arena, lefts, rights)
 }

@@ -1,5 +1,5 @@
 // A most general unifier.
-ghost use Rattle.std.specs.Prelude.{◌≡◌, IfOk};
+ghost use Rattle.std.specs.Prelude.{ℕ, ◌≡◌, ◌≤◌, IfOk};
 ghost use Rattle.fol_core.specs.Substitutions.{substitute};
 ghost use Rattle.fol_core.specs.TermView.{tree_of};
 ghost use Rattle.substitutions.specs.Bindings.{by_bindings};
@@ -7,7 +7,7 @@ ghost use Rattle.term_classes.specs.Measures.{size_of, depth_of, saturated};
 ghost use Rattle.term_classes.specs.Solutions.{IsFound, bindings_of};
 
 use crate::found::Found;
-use crate::instances::{depth_under, plain_under, size_under};
+use crate::instances::{depth_under, most_under, plain_under, size_under, variable_under};
 use fol_core::Term;
 use std::alloc::{AllocError, Global};
 use std::marker::Model;
@@ -49,6 +49,14 @@ impl Solution {
         size_under(&self.found, term)
     }
 
+    /// A number of symbols and variables that no variable's term has more of, up to the greatest number.
+    pub fn most_symbols(&self) -> u64
+        ensures one { 1 ≤ result }
+        ensures all { (x : ℕ) → saturated (size_of (by_bindings self.now x)) ≤ result }
+    {
+        most_under(&self.found)
+    }
+
     /// How many levels the term has under the unifier, up to the greatest number.
     pub fn depth(&self, term: &Term) -> u64
         ensures { result ≡ saturated (depth_of
@@ -57,11 +65,18 @@ impl Solution {
         depth_under(&self.found, term)
     }
 
+    /// The term of a variable under the unifier, as a tree.
+    pub fn variable(&self, alloc: Global, x: u64) -> Result<Term, AllocError>
+        ensures { IfOk result (λ made. tree_of made ≡ by_bindings self.now x) }
+    {
+        variable_under(alloc, &self.found, x)
+    }
+
     /// The term under the unifier, as a tree.
     pub fn plain(&self, alloc: Global, term: &Term) -> Result<Term, AllocError>
         ensures { IfOk result (λ made. tree_of made
             ≡ substitute (by_bindings self.now) (tree_of term.now)) }
     {
-        Ok(plain_under(alloc, &self.found, term)?)
+        plain_under(alloc, &self.found, term)
     }
 }

@@ -17,8 +17,8 @@ use term_classes::Solution;
 /// A clause that is too large to be built; contracts see the clause.
 #[derive(Drop)]
 pub struct LargeClause {
-    // It is the second under the first.
-    unifier: Solution,
+    // It is the second under the first, which stands in a place of its own, so that what may be such a clause is small.
+    unifier: Box<Solution>,
     rest: Clause,
 }
 
@@ -34,9 +34,10 @@ impl Model for LargeClause {
 
     ghost coded = { coded_clause };
 
-    ghost view = { λ a. substitute_clause (by_bindings a.unifier) a.rest };
+    ghost view = { λ a. substitute_clause (by_bindings a.unifier.value) a.rest };
 
-    ghost invariant = { λ a. is_too_large (substitute_clause (by_bindings a.unifier) a.rest) ≡ true };
+    ghost invariant = { λ a. is_too_large (substitute_clause (by_bindings a.unifier.value) a.rest)
+        ≡ true };
 }
 
 // The literal under a unifier.
@@ -146,6 +147,7 @@ pub fn form(alloc: Global, unifier: Solution, rest: Clause) -> Result<Formed, Al
     ensures built { IfOk result IsBuiltWithin }
 {
     if exceeds(&unifier, &rest) {
+        let unifier = Box::new(alloc, unifier)?;
         return Ok(Formed::Large(LargeClause { unifier, rest }));
     }
     let clause = clause_under(alloc, &unifier, &rest)?;

@@ -1,10 +1,9 @@
 -- The terms have nodes.
-use Rattle.std.proofs.Common.{List, [], ◌∷◌, ap, refl}
+use Rattle.std.proofs.Common.{[], ◌∷◌, refl}
 use Rattle.fol_core.specs.Substitutions.{substitute}
-use Rattle.fol_core.specs.Tree.{Tree}
 use Rattle.fol_core.specs.TermView.{tree_of}
 use Rattle.substitutions.specs.Apart.{interleaved}
-use Rattle.term_classes.proofs.Unified.{AreReady, are_ready, entered_terms}
+use Rattle.term_classes.proofs.Unified.{AreReady, are_ready, entered_left, entered_right}
 use Rattle.term_classes.proofs.apart.entered_apart.Goals as goal
 
 pub enter-requires-clause-lefts : goal.enter-requires-clause-lefts
@@ -23,7 +22,7 @@ returns-clause-left c =
     let ready : AreReady c.put_apart-2.new.arena c.put_apart.new.numbers.items c.put_apart-2.new.numbers.items (substitute (interleaved 2 0) (tree_of c.args.s.now) ∷ []) (substitute (interleaved 2 1) (tree_of c.args.t.now) ∷ []) =
     are_ready c.in_ok-arena.arena c.put_apart.new.arena c.put_apart-2.new.arena c.in_ok-left_nodes.left_nodes.items c.in_ok-right_nodes.right_nodes.items c.put_apart.new.numbers.items c.put_apart-2.new.numbers.items left right left right
     c.in_ok-left_nodes.ensures.items c.in_ok-right_nodes.ensures.items refl refl c.in_ok-put_apart.ensures c.in_ok-put_apart-2.ensures in
-    ap (λ (p : List Tree × List Tree). p.0) (entered_terms c.in_ok-nodes.nodes c.put_apart-2.new.arena c.put_apart.new.numbers.items c.put_apart-2.new.numbers.items left right ready c.in_ok-nodes.ensures.arena c.in_ok-nodes.ensures.lefts c.in_ok-nodes.ensures.rights)
+    entered_left c.enter.result c.put_apart-2.new.arena c.put_apart.new.numbers.items c.put_apart-2.new.numbers.items left right ready c.enter.ensures.arena c.enter.ensures.lefts c.enter.ensures.rights
 
 pub returns-clause-right : goal.returns-clause-right
 returns-clause-right c =
@@ -32,4 +31,4 @@ returns-clause-right c =
     let ready : AreReady c.put_apart-2.new.arena c.put_apart.new.numbers.items c.put_apart-2.new.numbers.items (substitute (interleaved 2 0) (tree_of c.args.s.now) ∷ []) (substitute (interleaved 2 1) (tree_of c.args.t.now) ∷ []) =
     are_ready c.in_ok-arena.arena c.put_apart.new.arena c.put_apart-2.new.arena c.in_ok-left_nodes.left_nodes.items c.in_ok-right_nodes.right_nodes.items c.put_apart.new.numbers.items c.put_apart-2.new.numbers.items left right left right
     c.in_ok-left_nodes.ensures.items c.in_ok-right_nodes.ensures.items refl refl c.in_ok-put_apart.ensures c.in_ok-put_apart-2.ensures in
-    ap (λ (p : List Tree × List Tree). p.1) (entered_terms c.in_ok-nodes.nodes c.put_apart-2.new.arena c.put_apart.new.numbers.items c.put_apart-2.new.numbers.items left right ready c.in_ok-nodes.ensures.arena c.in_ok-nodes.ensures.lefts c.in_ok-nodes.ensures.rights)
+    entered_right c.enter.result c.put_apart-2.new.arena c.put_apart.new.numbers.items c.put_apart-2.new.numbers.items left right ready c.enter.ensures.arena c.enter.ensures.lefts c.enter.ensures.rights
