@@ -4,7 +4,6 @@ pub mod Counting
 pub mod Finding
 pub mod Fitted
 pub mod Linear
-pub mod Lone
 pub mod Marked
 pub mod Meetings
 pub mod NodeSteps
@@ -13,7 +12,9 @@ pub mod Ordered
 pub mod Paths
 pub mod Placing
 pub mod Raised
+pub mod Repeated
 pub mod Returning
 pub mod Terms
+pub mod Told
 pub mod Trees
 pub mod WalkSteps

@@ -9,6 +9,7 @@ pub mod Marks
 pub mod Meeting
 pub mod Nodes
 pub mod Paths
+pub mod Places
 pub mod Seeking
 pub mod Sieves
 pub mod Terms

@@ -1,9 +1,9 @@
 -- Retrievals worked out.
-use Rattle.std.specs.Prelude.{◌≡◌, true, false, List, [], ◌∷◌, None, Some, slice_get}
+use Rattle.std.specs.Prelude.{◌≡◌, List, [], ◌∷◌, None, Some, slice_get}
 use Rattle.fol_core.specs.Tree.{Tree, var, app, none, more}
 use Rattle.discrim_tree.specs.Beginnings.{count_beginnings}
 use Rattle.discrim_tree.specs.Entries.{Indexed, indexed, with_entry, without_entry, numbers_found}
-use Rattle.discrim_tree.specs.Linear.{is_linear}
+use Rattle.discrim_tree.specs.Places.{at_place, repeat, repeated}
 use Rattle.discrim_tree.specs.Terms.{has_instance, can_unify}
 use Rattle.discrim_tree.specs.Tries.{count_linear, count_up_to, greatest, raised}
 use Rattle.discrim_tree.specs.declared.sought.Sought.TheVariants.{Generalizations, Instances, Unifiable}
@@ -59,9 +59,19 @@ paths =
 abbrev pub WorkedNodes : Type 0
 WorkedNodes = (count_beginnings paths ≡ 5) × (count_beginnings (without_entry 3 paths) ≡ 3)
 
--- f(x,a) and f(x,f(a,y)) have no variable twice, f(x,x) and f(f(x,y),x) have
-abbrev pub WorkedLinear : Type 0
-WorkedLinear =
-    (is_linear (f (var 0) a) ≡ true) × (is_linear (f (var 0) (f a (var 1))) ≡ true)
-    × (is_linear (f (var 0) (var 0)) ≡ false)
-    × (is_linear (f (f (var 0) (var 1)) (var 0)) ≡ false)
+-- in f(x,a) and f(x,f(a,y)) no variable stands twice; in f(x,x) one stands at the places 1 and 2, in
+-- f(f(x,y),x) at 17 and 2, and in f(x,f(x,x)) at 1, 18 and 34
+abbrev pub WorkedRepeats : Type 0
+WorkedRepeats =
+    (repeated (f (var 0) a) ≡ []) × (repeated (f (var 0) (f a (var 1))) ≡ [])
+    × (repeated (f (var 0) (var 0)) ≡ repeat 1 2 ∷ [])
+    × (repeated (f (f (var 0) (var 1)) (var 0)) ≡ repeat 17 2 ∷ [])
+    × (repeated (f (var 0) (f (var 0) (var 0))) ≡ repeat 1 18 ∷ repeat 18 34 ∷ [])
+
+-- the parts of f(f(a,x),a) at its own place and at the places 1, 2, 17 and 33; there is none at 3
+abbrev pub WorkedPlaces : Type 0
+WorkedPlaces =
+    (at_place (f (f a (var 0)) a) 0 ≡ Some (f (f a (var 0)) a))
+    × (at_place (f (f a (var 0)) a) 1 ≡ Some (f a (var 0)))
+    × (at_place (f (f a (var 0)) a) 2 ≡ Some a) × (at_place (f (f a (var 0)) a) 17 ≡ Some a)
+    × (at_place (f (f a (var 0)) a) 33 ≡ Some (var 0)) × (at_place (f (f a (var 0)) a) 3 ≡ None)

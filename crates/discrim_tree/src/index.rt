@@ -1,17 +1,22 @@
 // The index.
-ghost use Rattle.std.specs.Prelude.{◌≡◌, ◌+◌, ◌<◌, ◌≤◌, [], false, length, remove, slice_get, IfOk, OnOk, OnErr};
+ghost use Rattle.std.specs.Prelude.{ℕ, ◌≡◌, ◌+◌, ◌<◌, ◌≤◌, [], false, length, remove, slice_get, IfOk, OnOk, OnErr};
+ghost use Rattle.std.specs.List.{Contains};
+ghost use Rattle.std.specs.List.Sorted.{IsStrictlyIncreasing};
 ghost use Rattle.fol_core.specs.TermView.{tree_of};
 ghost use Rattle.discrim_tree.specs.Beginnings.{count_beginnings};
 ghost use Rattle.discrim_tree.specs.Entries.{indexed, has_number, with_entry, without_entry, numbers_found, NumbersRise};
+ghost use Rattle.discrim_tree.specs.Linear.{passes_linear};
+ghost use Rattle.discrim_tree.specs.Seeking.{passes};
 ghost use Rattle.discrim_tree.specs.Terms.{has_instance, can_unify};
 ghost use Rattle.discrim_tree.specs.Tries.{count_linear, count_up_to, HasRisen};
 ghost use Rattle.discrim_tree.specs.declared.sought.Sought.TheVariants.{Generalizations, Instances, Unifiable};
 
 use crate::edge::path_of;
 use crate::entry::IndexEntry;
+use crate::hints::Hints;
 use crate::nodes::Nodes;
 use crate::once::tell;
-use crate::seeking::{first, found, place_of};
+use crate::seeking::{first, found, near, place_of};
 use crate::sought::Sought;
 use crate::tries::Tries;
 use fol_core::Term;
@@ -23,6 +28,8 @@ use std::marker::Model;
 pub struct Index {
     // By rising number.
     entries: Vec<IndexEntry>,
+    // Where they may stand; most of it is right.
+    hints: Hints,
     // A tree whose paths lead to the entries' numbers and to no others, and that has a number at each node or below it.
     nodes: Nodes,
 }
@@ -56,6 +63,7 @@ impl Index {
     {
         Index {
             entries: Vec::new(alloc),
+            hints: Hints::new(alloc),
             nodes: Nodes::new(alloc),
         }
     }
@@ -77,6 +85,7 @@ impl Index {
         self.nodes.put(alloc, &path, number)?;
         self.entries
             .insert(place, IndexEntry { number, tree, told })?;
+        self.hints.renew(&self.entries, place);
         Ok(())
     }
 
@@ -91,6 +100,7 @@ impl Index {
             if entry.number == number {
                 self.nodes.take_term(&entry.tree, number);
                 take_out(&mut self.entries, place);
+                self.hints.renew(&self.entries, place);
             }
         }
     }
@@ -100,6 +110,24 @@ impl Index {
         ensures { result ≡ count_beginnings self.now }
     {
         self.nodes.count()
+    }
+
+    /// The numbers of the entries that would be sought if each occurrence of a variable were a variable of its own, rising, with
+    /// no test of an entry. Those that are sought are among them.
+    pub fn near(&self, sought: &Sought, t: &Term) -> Result<Vec<u64>, AllocError>
+        ensures near { IfOk result (λ near. near.items
+            ≡ numbers_found (passes_linear sought.now (tree_of t.now)) self.now) }
+        ensures rise { IfOk result (λ near. IsStrictlyIncreasing near.items) }
+        ensures whole { IfOk result (λ near. (n : ℕ) → Contains (numbers_found (λ s. passes sought.now (tree_of t.now) s) self.now) n
+            → Contains near.items n) }
+    {
+        near(
+            *self.entries.allocator(),
+            &self.entries,
+            &self.nodes,
+            sought,
+            t,
+        )
     }
 
     /// The numbers of the entries of which the term is an instance, rising.
@@ -114,6 +142,7 @@ impl Index {
         found(
             *self.entries.allocator(),
             &self.entries,
+            &self.hints,
             &self.nodes,
             &Sought::Generalizations,
             t,
@@ -138,6 +167,7 @@ impl Index {
         first(
             *self.entries.allocator(),
             &self.entries,
+            &self.hints,
             &self.nodes,
             &Sought::Generalizations,
             t,
@@ -157,6 +187,7 @@ impl Index {
         found(
             *self.entries.allocator(),
             &self.entries,
+            &self.hints,
             &self.nodes,
             &Sought::Instances,
             t,
@@ -176,6 +207,7 @@ impl Index {
         found(
             *self.entries.allocator(),
             &self.entries,
+            &self.hints,
             &self.nodes,
             &Sought::Unifiable,
             t,

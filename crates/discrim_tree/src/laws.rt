@@ -1,6 +1,6 @@
 // Laws of the tests of an index, and retrievals worked out: the functions do nothing, and their contracts are the laws.
 ghost use Rattle.discrim_tree.specs.Laws.{InstancesAreMade, UnifiersAreOfTwo, StepsAreLinear};
-ghost use Rattle.discrim_tree.specs.Worked.{WorkedEntries, WorkedLinear, WorkedNodes, WorkedRetrievals, WorkedTries};
+ghost use Rattle.discrim_tree.specs.Worked.{WorkedEntries, WorkedNodes, WorkedPlaces, WorkedRepeats, WorkedRetrievals, WorkedTries};
 
 /// A term is an instance of another exactly where a substitution makes it of that, and two terms unify exactly where a
 /// substitution for each makes them the same. Steps alone tell whether a term is sought, if each occurrence of a variable is a
@@ -11,11 +11,12 @@ pub fn tests_are_exact()
     ensures linear { StepsAreLinear }
 {}
 
-/// Retrievals, their tests, entries, nodes and linear terms.
+/// Retrievals, their tests, entries, nodes, and variables that stand twice.
 pub fn worked()
     ensures retrievals { WorkedRetrievals }
     ensures tries { WorkedTries }
     ensures entries { WorkedEntries }
     ensures nodes { WorkedNodes }
-    ensures linear { WorkedLinear }
+    ensures repeats { WorkedRepeats }
+    ensures places { WorkedPlaces }
 {}

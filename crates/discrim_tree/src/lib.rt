@@ -5,6 +5,7 @@ mod comparing;
 mod contents;
 mod edge;
 mod entry;
+mod hints;
 mod index;
 mod laws;
 mod marking;

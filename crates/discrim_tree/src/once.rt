@@ -1,137 +1,199 @@
-// What is told of the variables of a term: that none stands twice, or where one does.
-ghost use Rattle.std.specs.Prelude.{◌≡◌, ◌++◌, ◌↔◌, false, IfOk, IsTrue, OnOk, is_none};
+// What is told of the variables of a term: the places at which one stands that stands at others too.
+ghost use Rattle.std.specs.Prelude.{◌≡◌, ◌+◌, ◌*◌, ◌≤◌, ◌↔◌, ◌++◌, IfOk, IfSome, IsTrue};
+ghost use Rattle.std.specs.Option.{option_map};
 ghost use Rattle.fol_core.specs.TermView.{tree_of};
-ghost use Rattle.fol_core.specs.Tree.{var};
-ghost use Rattle.substitutions.specs.Paths.{subterm_at};
-ghost use Rattle.discrim_tree.specs.Linear.{are_distinct, occurring, Differ, IsTold, Leads};
+ghost use Rattle.fol_core.specs.Tree.{trees_of};
+ghost use Rattle.substitutions.specs.Paths.{argument, part_at};
+ghost use Rattle.discrim_tree.specs.Linear.{IsTold};
+ghost use Rattle.discrim_tree.specs.Places.{at_place, occurrences, next_place, repeats, AreAlike, IsAlike, IsNarrow};
 
-use fol_core::Term;
+use fol_core::{Term, Terms};
 use std::alloc::{AllocError, Global};
-use substitutions::{same, subterm_at};
+use substitutions::same;
 
 // So many occurrences of variables are compared with each other at most.
 const MOST: usize = 64;
 
-/// Places at which a variable stands, one of them twice maybe: the numbers of arguments, from the outermost inwards.
-#[derive(Drop)]
-pub struct TwoPlaces {
-    pub first: Vec<u64>,
-    pub second: Vec<u64>,
+// The greatest number of an argument that four bits have room for.
+const WIDEST: u64 = 15;
+
+/// A variable and a place where it stands. The number of a place has that of the outermost argument in its lowest four bits,
+/// counted from 1, above them the number of the one within that, and so on.
+#[derive(Clone, Copy)]
+pub struct Occurrence {
+    pub variable: u64,
+    pub place: u64,
 }
 
-/// That no variable stands twice in a term, or where one does, or neither.
+/// Two places at which one variable stands.
+#[derive(Clone, Copy)]
+pub struct Repeat {
+    pub first: u64,
+    pub second: u64,
+}
+
+/// Each place of a variable with the next one of the same variable, or nothing.
 #[derive(Drop)]
 pub enum Told {
     Nothing,
-    Linear,
-    Twice(TwoPlaces),
+    Repeats(Vec<Repeat>),
 }
 
-impl TwoPlaces {
-    /// Whether a term has different parts at the two places.
-    pub fn differ_in(&self, t: &Term) -> bool
-        ensures { IsTrue result
-            ↔ Differ (tree_of t.now) self.now.first.items self.now.second.items }
+// An argument by its number, counted from 1.
+#[tactic(auto, using(substitutions::proofs::PathLemmas::argument_item, substitutions::proofs::PathLemmas::argument_past, substitutions::proofs::PathLemmas::argument_zero))]
+fn argument(terms: &Terms, number: u64) -> Option<&Term>
+    ensures { option_map (λ t. tree_of t.now) result ≡ argument (trees_of terms.now) number }
+{
+    let all = terms.as_slice();
+    if number == 0 {
+        return None;
+    }
+    if number > all.len() as u64 {
+        return None;
+    }
+    Some(&all[(number - 1) as usize])
+}
+
+// An argument of an application.
+fn part(t: &Term, number: u64) -> Option<&Term>
+    ensures { option_map (λ t. tree_of t.now) result ≡ part_at (tree_of t.now) number }
+{
+    match t {
+        Term::Var(_) => None,
+        Term::Elem(_) => None,
+        Term::App(_, terms) => argument(terms, number),
+    }
+}
+
+// The part of a term at a place, if it's there.
+#[tactic(auto, using(crate::proofs::Repeated::at_start, crate::proofs::Repeated::goes_in, crate::proofs::Repeated::goes_out))]
+fn at_place(t: &Term, place: u64) -> Option<&Term>
+    ensures { option_map (λ u. tree_of u.now) result ≡ at_place (tree_of t.now) place }
+{
+    let mut here = t;
+    let mut rest = place;
+    while rest > 0 {
+        match part(here, rest % 16) {
+            Some(next) => here = next,
+            None => return None,
+        }
+        rest = rest / 16;
+    }
+    Some(here)
+}
+
+impl Repeat {
+    // Whether a term has the same part at both places.
+    fn is_alike(&self, t: &Term) -> bool
+        ensures { IsTrue result ↔ IsAlike (tree_of t.now) self.now }
     {
-        match subterm_at(t, &self.first) {
+        match at_place(t, self.first) {
             None => false,
-            Some(first) => match subterm_at(t, &self.second) {
+            Some(first) => match at_place(t, self.second) {
                 None => false,
-                Some(second) => !same(first, second),
+                Some(second) => same(first, second),
             },
         }
     }
 }
 
-/// What is told of a term's variables; nothing where many stand in it.
+/// Whether a term has the same part at both places, for each two of them.
+pub fn are_alike(repeats: &[Repeat], t: &Term) -> bool
+    ensures { IsTrue result ↔ AreAlike (tree_of t.now) repeats.now }
+{
+    for repeat in repeats {
+        if !repeat.is_alike(t) {
+            return false;
+        }
+    }
+    true
+}
+
+/// What is told of a term's variables; nothing where many stand in it, or one so deep or wide that there is no number for its place.
 pub fn tell(alloc: Global, t: &Term) -> Result<Told, AllocError>
     ensures { IfOk result (IsTold (tree_of t.now)) }
 {
-    let mut variables = Vec::new(alloc);
-    add_occurring(&mut variables, t)?;
-    if variables.len() > MOST {
+    let mut found = Vec::new(alloc);
+    if !add_occurring(&mut found, t, 0, 1)? {
         return Ok(Told::Nothing);
     }
-    match repeated(&variables) {
-        None => Ok(Told::Linear),
-        Some(x) => standing_twice(alloc, t, x),
+    if found.len() > MOST {
+        return Ok(Told::Nothing);
     }
+    Ok(Told::Repeats(repeats(alloc, &found)?))
 }
 
-// The variables of one more term come to others, each as often as it stands there.
-fn add_occurring(variables: &mut Vec<u64>, t: &Term) -> Result<(), AllocError>
-    ensures { OnOk result (variables.new.items ≡ variables.old.items ++ occurring (tree_of t.now)) }
+// The place of an argument of a term at a place, and what counts for one within it, if there are numbers for them.
+fn within(place: u64, unit: u64, number: u64) -> Option<(u64, u64)>
+    ensures { IfSome result (λ p. (p.0 ≡ place + number * unit) × (p.1 ≡ 16 * unit) × (number ≤ 15)) }
+{
+    if number > WIDEST {
+        return None;
+    }
+    let deeper = unit.checked_mul(16)?;
+    let place = number.checked_mul(unit)?.checked_add(place)?;
+    Some((place, deeper))
+}
+
+// The occurrences of variables in a part of a term come to others, or it answers false where there is no number for a place.
+fn add_occurring(
+    found: &mut Vec<Occurrence>,
+    t: &Term,
+    place: u64,
+    unit: u64,
+) -> Result<bool, AllocError>
+    ensures added { IfOk result (λ b. IsTrue b → found.new.items ≡ found.old.items ++ occurrences place unit (tree_of t.now)) }
+    ensures narrow { IfOk result (λ b. IsTrue b → IsNarrow (tree_of t.now)) }
 {
     match t {
         Term::Var(x) => {
-            variables.push(*x)?;
-            Ok(())
+            found.push(Occurrence {
+                variable: *x,
+                place,
+            })?;
+            Ok(true)
         }
-        Term::Elem(_) => Ok(()),
+        Term::Elem(_) => Ok(true),
         Term::App(_, terms) => {
-            for term in &terms.items {
-                add_occurring(variables, term)?;
-            }
-            Ok(())
-        }
-    }
-}
-
-// A number that stands twice, if one does.
-#[tactic(auto, using(crate::proofs::Lone::distinct_next, crate::proofs::Lone::distinct_fails, crate::proofs::Lone::distinct_end))]
-fn repeated(numbers: &[u64]) -> Option<u64>
-    ensures { is_none result ≡ are_distinct numbers.now }
-{
-    for (i, number) in numbers.iter().enumerate() {
-        if numbers[i + 1..].contains(number) {
-            return Some(*number);
-        }
-    }
-    None
-}
-
-// Where a variable stands first in a term, and where it does again.
-fn standing_twice(alloc: Global, t: &Term, x: u64) -> Result<Told, AllocError>
-    ensures { IfOk result (IsTold (tree_of t.now)) }
-{
-    let mut first = Vec::new(alloc);
-    let mut second = Vec::new(alloc);
-    if !goes_to(&mut first, t, x, &mut 0)? {
-        return Ok(Told::Nothing);
-    }
-    if !goes_to(&mut second, t, x, &mut 1)? {
-        return Ok(Told::Nothing);
-    }
-    Ok(Told::Twice(TwoPlaces { first, second }))
-}
-
-// Goes on from a term to an occurrence of a variable, behind as many others as are to be passed.
-fn goes_to(path: &mut Vec<u64>, t: &Term, x: u64, passed: &mut u64) -> Result<bool, AllocError>
-    ensures there { IfOk result (λ b. IsTrue b
-        → Leads path.old.items path.new.items (tree_of t.now) (var x)) }
-    ensures back { IfOk result (λ b. b ≡ false → path.new.items ≡ path.old.items) }
-{
-    match t {
-        Term::Var(y) => {
-            if *y != x {
-                return Ok(false);
-            }
-            if *passed > 0 {
-                *passed -= 1;
-                return Ok(false);
+            for (i, term) in terms.items.iter().enumerate() {
+                let Some((inner, deeper)) = within(place, unit, i as u64 + 1) else {
+                    return Ok(false);
+                };
+                if !add_occurring(found, term, inner, deeper)? {
+                    return Ok(false);
+                }
             }
             Ok(true)
         }
-        Term::Elem(_) => Ok(false),
-        Term::App(_, terms) => {
-            for (i, part) in terms.items.iter().enumerate() {
-                path.push(i as u64 + 1)?;
-                if goes_to(path, part, x, passed)? {
-                    return Ok(true);
-                }
-                let _number = path.pop();
-            }
-            Ok(false)
+    }
+}
+
+// Each place with the next one of the same variable.
+fn repeats(alloc: Global, occurrences: &[Occurrence]) -> Result<Vec<Repeat>, AllocError>
+    ensures { IfOk result (λ made. made.items ≡ repeats occurrences.now) }
+{
+    let mut made = Vec::new(alloc);
+    for (i, occurrence) in occurrences.iter().enumerate() {
+        if let Some(second) = next_place(occurrence.variable, &occurrences[i + 1..]) {
+            made.reserve_exact(1)?;
+            made.push(Repeat {
+                first: occurrence.place,
+                second,
+            })?;
         }
     }
+    Ok(made)
+}
+
+// The first place of a variable.
+#[tactic(auto, using(crate::proofs::Repeated::next_here, crate::proofs::Repeated::next_behind, crate::proofs::Repeated::next_end))]
+fn next_place(x: u64, occurrences: &[Occurrence]) -> Option<u64>
+    ensures { result ≡ next_place x occurrences.now }
+{
+    for occurrence in occurrences {
+        if occurrence.variable == x {
+            return Some(occurrence.place);
+        }
+    }
+    None
 }

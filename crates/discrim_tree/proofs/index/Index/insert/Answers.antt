@@ -11,7 +11,7 @@ use Rattle.discrim_tree.specs.Trees.{AllUsed, IsTree}
 use Rattle.discrim_tree.specs.View.{all_indexed}
 use Rattle.discrim_tree.specs.declared.edge.Edge.{Edge}
 use Rattle.discrim_tree.specs.declared.entry.IndexEntry.{IndexEntry}
-use Rattle.discrim_tree.proofs.Lone.{told_placed}
+use Rattle.discrim_tree.proofs.Told.{told_placed}
 use Rattle.discrim_tree.proofs.Only.{only_on, only_placed}
 use Rattle.discrim_tree.proofs.Ordered.{reached_on, reached_placed}
 use Rattle.discrim_tree.proofs.Placing.{count_below, count_within, entry_placed, rise_placed}

@@ -2,7 +2,7 @@ use Rattle.std.proofs.Common.{◌≡◌, ◌∙◌, ◌<◌, ap, sym, subst, len
 use Rattle.discrim_tree.specs.Entries.{without_entry}
 use Rattle.discrim_tree.specs.View.{all_indexed}
 use Rattle.discrim_tree.specs.declared.entry.IndexEntry.{IndexEntry}
-use Rattle.discrim_tree.proofs.Lone.{told_out}
+use Rattle.discrim_tree.proofs.Told.{told_out}
 use Rattle.discrim_tree.proofs.Only.{only_out}
 use Rattle.discrim_tree.proofs.Ordered.{reached_out}
 use Rattle.discrim_tree.proofs.Placing.{count_below, entry_out, none_past, none_to_take, rise_out}
