@@ -1,9 +1,10 @@
 -- Numbers under terms, as clauses come and go.
-use Rattle.std.proofs.Common.{◌≡◌, ℕ, suc, ◌+◌, ◌<◌, ◌≤◌, ◌⊎◌, ◌&&◌, ◌||◌, Bool, true, false, IsTrue, inl, inr, refl, sym, ap, subst, ◌∙◌, List, [], ◌∷◌, Some, length, get_or, slice_get, map, arith}
+use Rattle.std.proofs.Common.{◌≡◌, ℕ, suc, ◌+◌, ◌<◌, ◌≤◌, ◌⊎◌, ◌&&◌, ◌||◌, Bool, true, false, not, IsTrue, inl, inr, refl, sym, ap, subst, ◌∙◌, List, [], ◌∷◌, Some, length, get_or, slice_get, map, arith}
 use Rattle.std.specs.List.{list_any}
 use Rattle.std.proofs.lemmas.Bool.{cases_eq}
 use Rattle.std.proofs.lemmas.Option.{slice_get_read}
-use Rattle.clause_index.specs.Filing.{Shows, AllStay, AllOthersStay, IsFiledLiteral, IsFiled, IsUnderMarks, sieve_of}
+use Rattle.clause_index.specs.Entries.{is_short}
+use Rattle.clause_index.specs.Filing.{Shows, AllStay, AllOthersStay, IsFiledLiteral, IsFiled, IsUnderMarks, is_kept, is_sought, sieve_of}
 use Rattle.clause_index.specs.Finding.{has_term_such, has_argument_such, has_such_below, has_side_such, has_part_such}
 use Rattle.clause_index.specs.declared.finder.Finder.{Finder}
 use Rattle.clause_index.specs.declared.parts.Part.{Part}
@@ -113,11 +114,11 @@ application_shown first old s n f ts i past under on filed =
     (arguments_shown old s n ts i past filed)
 
 -- literals
-pub literal_on : (a b : Finder) (n : ℕ) (l : Lit) → AllStay a b → IsFiledLiteral a n l → IsFiledLiteral b n l
-literal_on a b n l stay filed = record {
-  positives = shows_on a.positives b.positives n _ stay.positives filed.positives;
-  negatives = shows_on a.negatives b.negatives n _ stay.negatives filed.negatives;
-  inside = shows_on a.inside b.inside n _ stay.inside filed.inside;
+pub literal_on : (long : Bool) (a b : Finder) (n : ℕ) (l : Lit) → AllStay a b → IsFiledLiteral long a n l → IsFiledLiteral long b n l
+literal_on long a b n l stay filed = record {
+  positives = λ is. shows_on a.positives b.positives n _ stay.positives (filed.positives is);
+  negatives = λ is. shows_on a.negatives b.negatives n _ stay.negatives (filed.negatives is);
+  inside = λ keeps. shows_on a.inside b.inside n _ stay.inside (filed.inside (stay.kept ∙ keeps));
   sides = shows_on a.sides b.sides n _ stay.sides filed.sides;
 }
 
@@ -128,14 +129,15 @@ under_on a b h stay under long = let w = under long in (w.0, w.1, stay w.0 h.num
 under_other : (n : ℕ) (a b : MarkSieve) (h : Held) → OthersStayMarked n a b → (h.number ≡ n → ⊥) → IsUnderMarks a h → IsUnderMarks b h
 under_other n a b h stay apart under long = let w = under long in (w.0, w.1, stay w.0 h.number apart w.2)
 
-pub record LiteralsFiled (old now : Finder) (n : ℕ) (ls : List Literal) (i : ℕ) : Type 0 where
+pub record LiteralsFiled (long : Bool) (old now : Finder) (n : ℕ) (ls : List Literal) (i : ℕ) : Type 0 where
   pub stay : AllStay old now
-  pub each : UpTo (λ l. IsFiledLiteral now n (literal_of l)) ls i
+  pub each : UpTo (λ l. IsFiledLiteral long now n (literal_of l)) ls i
 
 pub stay_on : (a b c : Finder) → AllStay a b → AllStay b c → AllStay a c
 stay_on a b c f g = record {
   positives = λ t m h. g.positives t m (f.positives t m h);
   negatives = λ t m h. g.negatives t m (f.negatives t m h);
+  kept = f.kept ∙ g.kept;
   inside = λ t m h. g.inside t m (f.inside t m h);
   sides = λ t m h. g.sides t m (f.sides t m h);
   long = λ ms m h. g.long ms m (f.long ms m h);
@@ -145,15 +147,16 @@ pub others_on : (n : ℕ) (a b c : Finder) → AllOthersStay n a b → AllOthers
 others_on n a b c f g = record {
   positives = λ t m d h. g.positives t m d (f.positives t m d h);
   negatives = λ t m d h. g.negatives t m d (f.negatives t m d h);
+  kept = f.kept ∙ g.kept;
   inside = λ t m d h. g.inside t m d (f.inside t m d h);
   sides = λ t m d h. g.sides t m d (f.sides t m d h);
   long = λ ms m d h. g.long ms m d (f.long ms m d h);
 }
 
-pub next_literal : (old a b : Finder) (n : ℕ) (ls : List Literal) (i : ℕ) (l : Literal) → i < length ls → l ≡ get_or ls i l → LiteralsFiled old a n ls i → AllStay a b → IsFiledLiteral b n (literal_of l) → LiteralsFiled old b n ls (i + 1)
-next_literal old a b n ls i l within is filed stay here = record {
+pub next_literal : (long : Bool) (old a b : Finder) (n : ℕ) (ls : List Literal) (i : ℕ) (l : Literal) → i < length ls → l ≡ get_or ls i l → LiteralsFiled long old a n ls i → AllStay a b → IsFiledLiteral long b n (literal_of l) → LiteralsFiled long old b n ls (i + 1)
+next_literal long old a b n ls i l within is filed stay here = record {
   stay = stay_on old a b filed.stay stay;
-  each = next_too (λ k. IsFiledLiteral a n (literal_of k)) (λ k. IsFiledLiteral b n (literal_of k)) ls i l (λ k f. literal_on a b n (literal_of k) stay f) within is filed.each here;
+  each = next_too (λ k. IsFiledLiteral long a n (literal_of k)) (λ k. IsFiledLiteral long b n (literal_of k)) ls i l (λ k f. literal_on long a b n (literal_of k) stay f) within is filed.each here;
 }
 
 literals_shown : (has : Lit → Test → Bool) (s : Sieve) (n : ℕ) (ls : List Literal) (i : ℕ) → length ls ≤ i → UpTo (λ l. Shows s n (has (literal_of l))) ls i → Shows s n (λ test. list_any (λ l. has l test) (map literal_of ls))
@@ -161,36 +164,40 @@ literals_shown has s n ls i past each =
     shows_same s n (λ test. list_any (λ l. has (literal_of l) test) ls) (λ test. list_any (λ l. has l test) (map literal_of ls)) (λ test. literals_any (λ l. has l test) ls)
     (any_shown (λ l test. has (literal_of l) test) s n ls (λ j l lt at. each j l (omega (arith, lt, past)) at))
 
-pub clause_filed : (old f : Finder) (h : Held) (ls : List Literal) (i : ℕ) → map literal_of ls ≡ h.clause → length ls ≤ i → LiteralsFiled old f h.number ls i → IsUnderMarks old.long h → IsFiled f h
-clause_filed old f h ls i is past filed under = subst (λ c. IsUnderMarks old.long (record { number = h.number; clause = c }) → IsFiled f (record { number = h.number; clause = c })) is (λ before. record {
-  positives = literals_shown (λ l test. same_sign true l.positive && test l.atom) f.positives h.number ls i past (λ j l lt at. (filed.each j l lt at).positives);
-  negatives = literals_shown (λ l test. same_sign false l.positive && test l.atom) f.negatives h.number ls i past (λ j l lt at. (filed.each j l lt at).negatives);
-  inside = literals_shown (λ l test. has_such_below test l.atom) f.inside h.number ls i past (λ j l lt at. (filed.each j l lt at).inside);
+pub clause_filed : (old f : Finder) (h : Held) (ls : List Literal) (i : ℕ) → map literal_of ls ≡ h.clause → length ls ≤ i → LiteralsFiled (not (is_short h.clause)) old f h.number ls i → IsUnderMarks old.long h → IsFiled f h
+clause_filed old f h ls i is past given under = subst (λ c. LiteralsFiled (not (is_short c)) old f h.number ls i → IsUnderMarks old.long (record { number = h.number; clause = c }) → IsFiled f (record { number = h.number; clause = c })) is (λ filed before. record {
+  positives = λ long. literals_shown (λ l test. same_sign true l.positive && test l.atom) f.positives h.number ls i past (λ j l lt at. (filed.each j l lt at).positives (ap not long));
+  negatives = λ long. literals_shown (λ l test. same_sign false l.positive && test l.atom) f.negatives h.number ls i past (λ j l lt at. (filed.each j l lt at).negatives (ap not long));
+  inside = λ keeps. literals_shown (λ l test. has_such_below test l.atom) f.inside h.number ls i past (λ j l lt at. (filed.each j l lt at).inside keeps);
   sides = literals_shown (λ l test. has_side_such test l) f.sides h.number ls i past (λ j l lt at. (filed.each j l lt at).sides);
   long = under_on old.long f.long (record { number = h.number; clause = map literal_of ls }) filed.stay.long before;
-}) under
+}) given under
 
 -- places in clauses
-pub filed_at : (f : Finder) (h : Held) → IsFiled f h → (part : Part) → Shows (sieve_of part f) h.number (λ test. has_part_such part test h)
-filed_at f h filed (Atoms true) = filed.positives
-filed_at f h filed (Atoms false) = filed.negatives
-filed_at f h filed Inside = filed.inside
-filed_at f h filed Sides = filed.sides
+pub turned_false : (b : Bool) → not b ≡ true → b ≡ false
+turned_false true e = sym e
+turned_false false e = refl
+
+pub filed_at : (f : Finder) (h : Held) → IsFiled f h → (part : Part) → is_kept part f ≡ true → IsTrue (is_sought part h) → Shows (sieve_of part f) h.number (λ test. has_part_such part test h)
+filed_at f h filed (Atoms true) keeps sought = filed.positives (turned_false (is_short h.clause) sought)
+filed_at f h filed (Atoms false) keeps sought = filed.negatives (turned_false (is_short h.clause) sought)
+filed_at f h filed Inside keeps sought = filed.inside keeps
+filed_at f h filed Sides keeps sought = filed.sides
 
 pub stay_filed : (a b : Finder) (h : Held) → AllStay a b → IsFiled a h → IsFiled b h
 stay_filed a b h stay filed = record {
-  positives = shows_on a.positives b.positives h.number _ stay.positives filed.positives;
-  negatives = shows_on a.negatives b.negatives h.number _ stay.negatives filed.negatives;
-  inside = shows_on a.inside b.inside h.number _ stay.inside filed.inside;
+  positives = λ long. shows_on a.positives b.positives h.number _ stay.positives (filed.positives long);
+  negatives = λ long. shows_on a.negatives b.negatives h.number _ stay.negatives (filed.negatives long);
+  inside = λ keeps. shows_on a.inside b.inside h.number _ stay.inside (filed.inside (stay.kept ∙ keeps));
   sides = shows_on a.sides b.sides h.number _ stay.sides filed.sides;
   long = under_on a.long b.long h stay.long filed.long;
 }
 
 pub others_filed : (n : ℕ) (a b : Finder) (h : Held) → AllOthersStay n a b → (h.number ≡ n → ⊥) → IsFiled a h → IsFiled b h
 others_filed n a b h stay apart filed = record {
-  positives = shows_other a.positives b.positives h.number _ n stay.positives apart filed.positives;
-  negatives = shows_other a.negatives b.negatives h.number _ n stay.negatives apart filed.negatives;
-  inside = shows_other a.inside b.inside h.number _ n stay.inside apart filed.inside;
+  positives = λ long. shows_other a.positives b.positives h.number _ n stay.positives apart (filed.positives long);
+  negatives = λ long. shows_other a.negatives b.negatives h.number _ n stay.negatives apart (filed.negatives long);
+  inside = λ keeps. shows_other a.inside b.inside h.number _ n stay.inside apart (filed.inside (stay.kept ∙ keeps));
   sides = shows_other a.sides b.sides h.number _ n stay.sides apart filed.sides;
   long = under_other n a.long b.long h stay.long apart filed.long;
 }

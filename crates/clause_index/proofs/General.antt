@@ -24,21 +24,21 @@ generalizes h k = has_atom_such (λ s. has_instance s k.atom) k.positive h
 
 -- the numbers of those are there that have one of which one of the first literals is an instance
 abbrev pub HaveGeneral : Finder → List Literal → ℕ → List ℕ → Type 0
-HaveGeneral f ls i ns = (h : Held) → IsFiled f h → list_any (λ l. generalizes h (literal_of l)) (take i ls) ≡ true → Contains ns h.number
+HaveGeneral f ls i ns = (h : Held) → IsFiled f h → is_short h.clause ≡ false → list_any (λ l. generalizes h (literal_of l)) (take i ls) ≡ true → Contains ns h.number
 
 pub general_first : (f : Finder) (ls : List Literal) (ns : List ℕ) → HaveGeneral f ls 0 ns
-general_first f ls ns h filed e = false_is e
+general_first f ls ns h filed long e = false_is e
 
 pub general_next : (f : Finder) (ls : List Literal) (i : ℕ) (l : Literal) (now new : List ℕ) → i < length ls → l ≡ get_or ls i l → HaveGeneral f ls i now → AddsGeneral f (literal_of l) now new → HaveGeneral f ls (i + 1) new
-general_next f ls i l now new within is so adds h filed e =
+general_next f ls i l now new within is so adds h filed long e =
     by (list_any test (take i ls)) refl (test l) refl (ap (λ b. list_any test (take i ls) || b) (ap test is) ∙ sym (list_any_more test ls i l within) ∙ e)
   where
     test : Literal → Bool
     test k = generalizes h (literal_of k)
 
     by : (a : Bool) → list_any test (take i ls) ≡ a → (b : Bool) → test l ≡ b → (a || b) ≡ true → Contains new h.number
-    by true there b here d = adds.kept h.number (so h filed there)
-    by false there true here d = adds.added h filed here
+    by true there b here d = adds.kept h.number (so h filed long there)
+    by false there true here d = adds.added h filed long here
     by false there false here d = false_is d
 
 turned : (p q m : Bool) → (same_sign p q && m) ≡ true → (same_sign q p && m) ≡ true
@@ -70,9 +70,13 @@ has_general h d e = by h.clause refl
         (turned l.positive k.positive (has_instance l.atom k.atom) (same_signed l k m)))
         d (first_matches l rest d (longer h.clause e l rest is))
 
+long_above : (a b : Bool) → (not a && b) ≡ true → a ≡ false
+long_above true b e = sym e
+long_above false b e = refl
+
 pub general_found : (f : Finder) (d : ClauseTree) (ls : List Literal) (i : ℕ) (numbers ns : List ℕ) → map literal_of ls ≡ d → length ls ≤ i → HaveGeneral f ls i numbers → ((n : ℕ) → Contains numbers n → Contains ns n) → LeavesOutNoSubsumer f d ns
 general_found f d ls i numbers ns is past so kept h filed pass =
-    kept h.number (so h filed (
+    kept h.number (so h filed (long_above (is_short h.clause) (subsumes h.clause d) pass) (
     ap (list_any (λ l. generalizes h (literal_of l))) (take_all i ls past)
     ∙ literals_any (generalizes h) ls ∙ ap (list_any (generalizes h)) is ∙ has_general h d pass
     ))

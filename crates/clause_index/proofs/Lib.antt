@@ -1,5 +1,6 @@
 pub mod Candidates
 pub mod Entries
+pub mod Fewer
 pub mod Filed
 pub mod Filing
 pub mod Firsts
@@ -7,6 +8,7 @@ pub mod Gathering
 pub mod General
 pub mod MarkSteps
 pub mod Marking
+pub mod Noting
 pub mod Numbers
 pub mod Places
 pub mod Removals

@@ -2,6 +2,7 @@ pub mod Entries
 pub mod Filing
 pub mod Finding
 pub mod Marks
+pub mod Normal
 pub mod Numbered
 pub mod Places
 pub mod Sets

@@ -1,7 +1,7 @@
 // Clauses found by their terms and marks.
-ghost use Rattle.std.specs.Prelude.{◌≡◌, ◌&&◌, IfOk, IfSome, OnOk};
+ghost use Rattle.std.specs.Prelude.{◌≡◌, ◌&&◌, true, IfOk, IfSome, OnOk};
 ghost use Rattle.std.specs.List.Sorted.{IsStrictlyIncreasing};
-ghost use Rattle.clause_index.specs.Filing.{Shows, AddsGeneral, AllStay, AllOthersStay, IsFiledLiteral, IsFiled, IsUnderMarks, LeavesOutNoClause, LeavesOutNoSubsumer, LeavesOutNoSubsumed, sieve_of};
+ghost use Rattle.clause_index.specs.Filing.{Shows, AddsGeneral, AllStay, AllOthersStay, IsFiledLiteral, IsFiled, IsUnderMarks, LeavesOutNoClause, LeavesOutNoSubsumer, LeavesOutNoSubsumed, is_kept, sieve_of};
 ghost use Rattle.clause_index.specs.Finding.{has_term_such, has_such_below, has_side_such};
 ghost use Rattle.derivation.specs.Places.{same_sign};
 ghost use Rattle.discrim_tree.specs.Seeking.{passes};
@@ -24,12 +24,14 @@ const WORK: usize = 65_536;
 // So many marks are reckoned with besides the clause's.
 const FEW: usize = 32;
 
-/// Numbers of clauses under their terms, by where these stand: the atoms of literals by their signs, the terms below atoms, and
-/// the sides of positive equations; and of clauses of two literals or more under their marks.
+/// Numbers of clauses under their terms, by where these stand: the terms below atoms, and the sides of positive equations; and
+/// of clauses of two literals or more under the atoms of their literals, by the signs, and under their marks.
 #[derive(Drop)]
 pub struct Finder {
     positives: Sieve,
     negatives: Sieve,
+    // Whether numbers are kept under terms below atoms; there is none there else.
+    keeps_inside: bool,
     inside: Sieve,
     sides: Sieve,
     long: MarkSieve,
@@ -70,6 +72,25 @@ fn put_below(alloc: Global, sieve: &mut Sieve, atom: &Term, number: u64) -> Resu
             Ok(())
         }
     }
+}
+
+// The same where those are kept.
+fn put_inside(
+    alloc: Global,
+    keeps: bool,
+    sieve: &mut Sieve,
+    atom: &Term,
+    number: u64,
+) -> Result<(), AllocError>
+    ensures others { StayUnder sieve.old sieve.new }
+    ensures put { OnOk result (keeps ≡ true → Shows sieve.new number (λ test. has_such_below test
+        (tree_of atom.now))) }
+{
+    if !keeps {
+        return Ok(());
+    }
+    put_below(alloc, sieve, atom, number)?;
+    Ok(())
 }
 
 // A number under the sides of a positive equation.
@@ -125,6 +146,15 @@ fn take_below(sieve: &mut Sieve, atom: &Term, number: u64)
     }
 }
 
+// The same where those are kept.
+fn take_inside(keeps: bool, sieve: &mut Sieve, atom: &Term, number: u64)
+    ensures { OthersStay number sieve.old sieve.new }
+{
+    if keeps {
+        take_below(sieve, atom, number);
+    }
+}
+
 // A number is taken from under the sides of a positive equation.
 fn take_sides(sieve: &mut Sieve, literal: &Literal, number: u64)
     ensures { OthersStay number sieve.old sieve.new }
@@ -154,11 +184,31 @@ fn put_atom(
     sieve.put(alloc, &literal.atom, number)
 }
 
+// The same where the clause has two literals or more.
+fn put_long(
+    alloc: Global,
+    long: bool,
+    sieve: &mut Sieve,
+    sign: bool,
+    literal: &Literal,
+    number: u64,
+) -> Result<(), AllocError>
+    ensures others { StayUnder sieve.old sieve.new }
+    ensures put { OnOk result (long ≡ true → Shows sieve.new number (λ test.
+        same_sign sign literal.now.positive && test (tree_of literal.now.atom))) }
+{
+    if !long {
+        return Ok(());
+    }
+    put_atom(alloc, sieve, sign, literal, number)?;
+    Ok(())
+}
+
 // It is taken from there.
-fn take_atom(sieve: &mut Sieve, sign: bool, literal: &Literal, number: u64)
+fn take_long(long: bool, sieve: &mut Sieve, sign: bool, literal: &Literal, number: u64)
     ensures { OthersStay number sieve.old sieve.new }
 {
-    if literal.positive == sign {
+    if long && literal.positive == sign {
         sieve.take(&literal.atom, number);
     }
 }
@@ -188,14 +238,26 @@ fn take_marks(alloc: Global, sieve: &mut MarkSieve, held: &Held)
 }
 
 impl Finder {
-    /// No clauses.
-    pub fn new(alloc: Global) -> Finder {
+    /// No clauses; whether numbers are to be kept under terms below atoms.
+    pub fn new(alloc: Global, keeps_inside: bool) -> Finder {
         Finder {
             positives: Sieve::new(alloc),
             negatives: Sieve::new(alloc),
+            keeps_inside,
             inside: Sieve::new(alloc),
             sides: Sieve::new(alloc),
             long: MarkSieve::new(alloc),
+        }
+    }
+
+    /// Whether numbers are kept under the terms of a place in clauses.
+    pub fn keeps(&self, part: &Part) -> bool
+        ensures { result ≡ is_kept part.now self.now }
+    {
+        match part {
+            Part::Atoms(_) => true,
+            Part::Inside => self.keeps_inside,
+            Part::Sides => true,
         }
     }
 
@@ -211,19 +273,26 @@ impl Finder {
         }
     }
 
-    // A number under the terms of a literal.
+    // A number under the terms of a literal, with its atom if the clause has two literals or more.
     fn put_literal(
         &mut self,
         alloc: Global,
+        long: bool,
         literal: &Literal,
         number: u64,
     ) -> Result<(), AllocError>
         ensures others { AllStay self.old self.new }
-        ensures put { OnOk result (IsFiledLiteral self.new number (literal_of literal.now)) }
+        ensures put { OnOk result (IsFiledLiteral long self.new number (literal_of literal.now)) }
     {
-        put_atom(alloc, &mut self.positives, true, literal, number)?;
-        put_atom(alloc, &mut self.negatives, false, literal, number)?;
-        put_below(alloc, &mut self.inside, &literal.atom, number)?;
+        put_long(alloc, long, &mut self.positives, true, literal, number)?;
+        put_long(alloc, long, &mut self.negatives, false, literal, number)?;
+        put_inside(
+            alloc,
+            self.keeps_inside,
+            &mut self.inside,
+            &literal.atom,
+            number,
+        )?;
         put_sides(alloc, &mut self.sides, literal, number)
     }
 
@@ -234,8 +303,9 @@ impl Finder {
             → IsFiled self.new held.now) }
     {
         let number = held.number();
+        let long = !is_short(held.clause());
         for literal in held.clause().as_slice() {
-            self.put_literal(alloc, literal, number)?;
+            self.put_literal(alloc, long, literal, number)?;
         }
         Ok(())
     }
@@ -250,12 +320,12 @@ impl Finder {
     }
 
     // A number is taken from under the terms of a literal.
-    fn take_literal(&mut self, literal: &Literal, number: u64)
+    fn take_literal(&mut self, long: bool, literal: &Literal, number: u64)
         ensures { AllOthersStay number self.old self.new }
     {
-        take_atom(&mut self.positives, true, literal, number);
-        take_atom(&mut self.negatives, false, literal, number);
-        take_below(&mut self.inside, &literal.atom, number);
+        take_long(long, &mut self.positives, true, literal, number);
+        take_long(long, &mut self.negatives, false, literal, number);
+        take_inside(self.keeps_inside, &mut self.inside, &literal.atom, number);
         take_sides(&mut self.sides, literal, number);
     }
 
@@ -264,13 +334,15 @@ impl Finder {
         ensures { AllOthersStay held.now.number self.old self.new }
     {
         let number = held.number();
+        let long = !is_short(held.clause());
         take_marks(alloc, &mut self.long, held);
         for literal in held.clause().as_slice() {
-            self.take_literal(literal, number);
+            self.take_literal(long, literal, number);
         }
     }
 
-    /// The numbers of the clauses that have a term there that is sought with this one, and others, rising.
+    /// The numbers of the clauses that have a term there that is sought with this one, and others, rising; those of one literal
+    /// are not found by its atom.
     pub fn numbers(
         &self,
         alloc: Global,
@@ -278,6 +350,7 @@ impl Finder {
         sought: &Sought,
         t: &Term,
     ) -> Result<Vec<u64>, AllocError>
+        requires { is_kept part.now self.now ≡ true }
         ensures rise { IfOk result (λ ns. IsStrictlyIncreasing ns.items) }
         ensures found { IfOk result (λ ns. LeavesOutNoClause self.now part.now
             (passes sought.now (tree_of t.now)) ns.items) }
@@ -286,7 +359,8 @@ impl Finder {
         Ok(numbers)
     }
 
-    // The numbers of the clauses with a literal of which this one is an instance come to others, and maybe those of others.
+    // The numbers of the clauses of two literals or more with one of which this one is an instance come to others, and maybe
+    // those of others.
     fn add_general(
         &self,
         alloc: Global,
@@ -302,7 +376,8 @@ impl Finder {
         Ok(())
     }
 
-    // The numbers of the clauses with a literal of which one of the clause is an instance, and maybe of others, rising.
+    // The numbers of the clauses of two literals or more with one of which one of the clause is an instance, and maybe of
+    // others, rising.
     fn general(&self, alloc: Global, clause: &Clause) -> Result<Vec<u64>, AllocError>
         ensures rise { IfOk result (λ ns. IsStrictlyIncreasing ns.items) }
         ensures found { IfOk result (λ ns. LeavesOutNoSubsumer self.now clause.now ns.items) }

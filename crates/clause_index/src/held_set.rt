@@ -1,11 +1,13 @@
 // Clauses that are held, found by their literals, by the terms in them and by their marks.
-ghost use Rattle.std.specs.Prelude.{◌≡◌, ◌+◌, ◌≤◌, ◌==◌, false, not, [], IfOk, OnOk, OnErr, filter, length};
+ghost use Rattle.std.specs.Prelude.{IsTrue, ◌≡◌, ◌+◌, ◌≤◌, ◌==◌, false, not, [], IfOk, OnOk, OnErr, filter, length};
+ghost use Rattle.std.specs.List.{list_any};
 ghost use Rattle.std.specs.List.Sorted.{IsStrictlyIncreasing};
 ghost use Rattle.clause_index.specs.Entries.{is_short, is_short_above, is_short_unifiable, short_atoms};
-ghost use Rattle.clause_index.specs.Filing.{AllOthersStay};
+ghost use Rattle.clause_index.specs.Filing.{AllOthersStay, HasAllSuch, is_sought};
 ghost use Rattle.clause_index.specs.Finding.{has_atom_such, has_equation_such, has_inside_such, has_part_such};
 ghost use Rattle.clause_index.specs.Numbered.{AddsAll};
 ghost use Rattle.clause_index.specs.Subsumers.{BeginsWith, is_below, is_long_above, HasAllBelow};
+ghost use Rattle.clause_index.specs.declared.parts.Part.TheVariants.{Atoms};
 ghost use Rattle.discrim_tree.specs.Seeking.{passes};
 ghost use Rattle.discrim_tree.specs.Terms.{can_unify, has_instance};
 ghost use Rattle.discrim_tree.specs.Tries.{count_linear, HasRisen};
@@ -13,25 +15,26 @@ ghost use Rattle.discrim_tree.specs.declared.sought.Sought.TheVariants.{Generali
 ghost use Rattle.fol_core.specs.ClauseView.{literal_of};
 ghost use Rattle.fol_core.specs.TermView.{tree_of};
 ghost use Rattle.held_clauses.specs.Holding.{lent};
+ghost use Rattle.prover_steps.specs.Clashing.{Held as HeldClause};
 ghost use Rattle.prover_steps.specs.HeldOrder.{numbers_of, IsNoneOf, IsRising};
 ghost use Rattle.prover_steps.specs.Searching.{put_in, held_without};
 
 use crate::finder::Finder;
 use crate::listed::Listed;
-use crate::lists::{all_of, all_with, with_number};
+use crate::lists::{all_numbers, all_of, all_with, with_number};
 use crate::parts::{Part, all_found};
-use discrim_tree::{Sought, Tries};
+use discrim_tree::{Sought, Tries, put_in_order};
 use fol_core::{Clause, Literal, Term};
 use held_clauses::Held;
 use std::alloc::{AllocError, Global};
 use std::marker::Model;
 
-/// Clauses by rising number, with an index of those that have one literal, and sieves of all their terms and marks. Contracts
+/// Clauses by rising number, with an index of those that have one literal, and sieves of their terms and marks. Contracts
 /// see the list of clauses.
 #[derive(Drop)]
 pub struct HeldSet {
     listed: Listed,
-    // Each clause's number stands under its terms and marks; others may stand there too.
+    // Each clause's number stands under its terms and marks, a unit's not under its atom; others may stand there too.
     finder: Finder,
 }
 
@@ -63,13 +66,13 @@ fn leave(alloc: Global, number: u64, list: &[Held], finder: &mut Finder)
 }
 
 impl HeldSet {
-    /// No clauses.
-    pub fn new(alloc: Global) -> HeldSet
+    /// No clauses. Where terms inside atoms are not kept, all clauses are looked at for those that have one.
+    pub fn new(alloc: Global, keeps_inside: bool) -> HeldSet
         ensures { result ≡ [] }
     {
         HeldSet {
             listed: Listed::new(alloc),
-            finder: Finder::new(alloc),
+            finder: Finder::new(alloc, keeps_inside),
         }
     }
 
@@ -114,6 +117,22 @@ impl HeldSet {
         self.listed.short_above(sign, atom, tries)
     }
 
+    /// Whether there is a clause of one literal that has this sign and the atom as an instance of its own, or one without
+    /// literals; no more are tested than up to the first of them.
+    pub fn has_short_above(
+        &self,
+        sign: bool,
+        atom: &Term,
+        tries: &mut Tries,
+    ) -> Result<bool, AllocError>
+        ensures found { IfOk result (λ b. b ≡ list_any (is_short_above sign (tree_of atom.now)) self.now) }
+        ensures on { tries.old ≤ tries.new }
+        ensures within { tries.new ≤ tries.old
+            + count_linear Generalizations (tree_of atom.now) (short_atoms sign self.now) }
+    {
+        self.listed.has_short_above(sign, atom, tries)
+    }
+
     /// The clauses of one literal that has this sign and an atom that unifies with this one, variables apart, and those without
     /// literals.
     pub fn short_unifiable(
@@ -146,6 +165,49 @@ impl HeldSet {
         all_with(alloc, numbers.as_slice(), list)
     }
 
+    // The numbers of the clauses with a literal of this sign whose atom is sought, and maybe of others, rising: those of one
+    // literal by the index, the others by the sieve.
+    fn near_atoms(&self, sign: bool, sought: &Sought, t: &Term) -> Result<Vec<u64>, AllocError>
+        ensures rise { IfOk result (λ ns. IsStrictlyIncreasing ns.items) }
+        ensures found { IfOk result (λ ns. HasAllSuch (Atoms sign) (passes sought.now (tree_of t.now))
+            self.now ns.items) }
+    {
+        let alloc = self.listed.allocator();
+        let long = self.finder.numbers(alloc, &Part::Atoms(sign), sought, t)?;
+        let mut numbers = self.listed.near(sign, sought, t)?;
+        numbers.extend_from_slice(long.as_slice())?;
+        put_in_order(&mut numbers);
+        Ok(numbers)
+    }
+
+    // The same for terms below atoms or for sides of equations: where no numbers are kept there, those of all clauses.
+    fn near_terms(&self, part: &Part, sought: &Sought, t: &Term) -> Result<Vec<u64>, AllocError>
+        requires { (h : HeldClause) → IsTrue (is_sought part.now h) }
+        ensures rise { IfOk result (λ ns. IsStrictlyIncreasing ns.items) }
+        ensures found { IfOk result (λ ns. HasAllSuch part.now (passes sought.now (tree_of t.now))
+            self.now ns.items) }
+    {
+        let alloc = self.listed.allocator();
+        if self.finder.keeps(part) {
+            return self.finder.numbers(alloc, part, sought, t);
+        }
+        let numbers = all_numbers(alloc, self.listed.as_slice())?;
+        Ok(numbers)
+    }
+
+    // The numbers of the clauses that have a term that is sought, and maybe of others, rising.
+    fn near(&self, part: &Part, sought: &Sought, t: &Term) -> Result<Vec<u64>, AllocError>
+        ensures rise { IfOk result (λ ns. IsStrictlyIncreasing ns.items) }
+        ensures found { IfOk result (λ ns. HasAllSuch part.now (passes sought.now (tree_of t.now))
+            self.now ns.items) }
+    {
+        match part {
+            Part::Atoms(sign) => self.near_atoms(*sign, sought, t),
+            Part::Inside => self.near_terms(&Part::Inside, sought, t),
+            Part::Sides => self.near_terms(&Part::Sides, sought, t),
+        }
+    }
+
     // The clauses that have a term that is sought.
     fn found(&self, part: &Part, sought: &Sought, t: &Term) -> Result<Vec<&Held>, AllocError>
         ensures found { IfOk result (λ hs. lent hs.items
@@ -154,7 +216,7 @@ impl HeldSet {
     {
         let alloc = self.listed.allocator();
         let list = self.listed.as_slice();
-        let numbers = self.finder.numbers(alloc, part, sought, t)?;
+        let numbers = self.near(part, sought, t)?;
         let held = all_with(alloc, numbers.as_slice(), list)?;
         all_found(alloc, part, sought, t, held.as_slice())
     }
@@ -181,9 +243,7 @@ impl HeldSet {
             return Ok(numbers);
         }
         let part = Part::Atoms(first.positive);
-        let numbers = self
-            .finder
-            .numbers(alloc, &part, &Sought::Instances, &first.atom)?;
+        let numbers = self.near(&part, &Sought::Instances, &first.atom)?;
         Ok(numbers)
     }
 
@@ -234,8 +294,7 @@ impl HeldSet {
         ensures { OnOk result (AddsAll numbers.old.items (numbers_of (filter (has_part_such part.now
             (passes sought.now (tree_of t.now))) self.now)) numbers.new.items) }
     {
-        let alloc = self.listed.allocator();
-        let found = self.finder.numbers(alloc, part, sought, t)?;
+        let found = self.near(part, sought, t)?;
         numbers.extend_from_slice(found.as_slice())?;
         Ok(())
     }

@@ -1,7 +1,11 @@
 // Clauses by rising number; those of one literal are found by it.
 ghost use Rattle.std.specs.Prelude.{◌≡◌, ◌+◌, ◌≤◌, ◌==◌, false, not, [], IfOk, OnOk, OnErr, filter, length};
+ghost use Rattle.std.specs.List.{list_any};
+ghost use Rattle.std.specs.List.Sorted.{IsStrictlyIncreasing};
 ghost use Rattle.clause_index.specs.Entries.{is_short_above, is_short_unifiable, entered, short_atoms};
+ghost use Rattle.clause_index.specs.Filing.{HasAllShort};
 ghost use Rattle.discrim_tree.specs.Entries.{has_number};
+ghost use Rattle.discrim_tree.specs.Seeking.{passes};
 ghost use Rattle.discrim_tree.specs.Tries.{count_linear, HasRisen};
 ghost use Rattle.discrim_tree.specs.declared.sought.Sought.TheVariants.{Generalizations, Unifiable};
 ghost use Rattle.fol_core.specs.TermView.{tree_of};
@@ -11,7 +15,7 @@ ghost use Rattle.prover_steps.specs.Searching.{put_in};
 
 use crate::lists::{all_with, leave_out_one, put_in};
 use crate::short::is_short_of;
-use discrim_tree::{Index, Tries};
+use discrim_tree::{Index, Sought, Tries};
 use fol_core::Term;
 use held_clauses::{Held, first_atom};
 use std::alloc::{AllocError, Global};
@@ -126,6 +130,23 @@ impl Listed {
         all_with(alloc, numbers.as_slice(), self.clauses.as_slice())
     }
 
+    /// Whether there is a clause of one literal that has this sign and the atom as an instance of its own, or one without
+    /// literals; no more are tested than up to the first of them.
+    pub fn has_short_above(
+        &self,
+        sign: bool,
+        atom: &Term,
+        tries: &mut Tries,
+    ) -> Result<bool, AllocError>
+        ensures found { IfOk result (λ b. b ≡ list_any (is_short_above sign (tree_of atom.now)) self.now) }
+        ensures on { tries.old ≤ tries.new }
+        ensures within { tries.new ≤ tries.old
+            + count_linear Generalizations (tree_of atom.now) (short_atoms sign self.now) }
+    {
+        let first = self.index(sign).first_generalization(atom, tries)?;
+        Ok(first.is_some())
+    }
+
     /// The clauses of one literal that has this sign and an atom that unifies with this one, variables apart, and those without
     /// literals.
     pub fn short_unifiable(
@@ -146,6 +167,15 @@ impl Listed {
         let alloc = *self.clauses.allocator();
         let numbers = self.index(sign).unifiable(atom, tries)?;
         all_with(alloc, numbers.as_slice(), self.clauses.as_slice())
+    }
+
+    /// The numbers of the clauses of one literal that has this sign and an atom that is sought, and maybe of others, rising.
+    pub fn near(&self, sign: bool, sought: &Sought, atom: &Term) -> Result<Vec<u64>, AllocError>
+        ensures rise { IfOk result (λ ns. IsStrictlyIncreasing ns.items) }
+        ensures found { IfOk result (λ ns. HasAllShort sign (passes sought.now (tree_of atom.now)) self.now ns.items) }
+    {
+        let numbers = self.index(sign).near(sought, atom)?;
+        Ok(numbers)
     }
 
     /// Puts in a clause under a number that no other one has.

@@ -1,8 +1,9 @@
-// Rules, found by their left sides.
-ghost use Rattle.std.specs.Prelude.{◌≡◌, ◌+◌, ◌≤◌, ◌==◌, not, [], IfOk, OnOk, OnErr, filter, is_some};
+// Rules, found by their left sides, and the terms that are known to be in normal form by them.
+ghost use Rattle.std.specs.Prelude.{◌≡◌, ◌+◌, ◌≤◌, ◌==◌, not, [], IfOk, OnOk, OnErr, filter, is_some, true};
 ghost use Rattle.std.specs.List.{find};
 ghost use Rattle.std.specs.Option.{option_map};
 ghost use Rattle.clause_index.specs.Entries.{left_sides};
+ghost use Rattle.clause_index.specs.Normal.{HaveNoStep};
 ghost use Rattle.discrim_tree.specs.Tries.{count_linear, count_up_to, HasRisen};
 ghost use Rattle.discrim_tree.specs.declared.sought.Sought.TheVariants.{Generalizations};
 ghost use Rattle.fol_core.specs.TermView.{tree_of};
@@ -11,17 +12,20 @@ ghost use Rattle.prover_steps.specs.Rewriting.{rewritten_by};
 ghost use Rattle.prover_steps.specs.Searching.{put_in, held_without};
 
 use crate::lists::{leave_out_one, put_in, with_number};
+use crate::normal_terms::NormalTerms;
 use discrim_tree::{Index, Tries};
 use fol_core::Term;
 use held_clauses::{Held, first_atom, left_of};
 use std::alloc::{AllocError, Global};
 use std::marker::Model;
+use std::mem;
 
-/// Rules by rising number, with an index of their left sides; contracts see the list of them.
+/// Rules by rising number, with an index of their left sides, and terms that no rule fits in; contracts see the list of rules.
 #[derive(Drop)]
 pub struct Rules {
     rules: Vec<Held>,
     lefts: Index,
+    known: NormalTerms,
 }
 
 impl Model for Rules {
@@ -33,11 +37,11 @@ impl Model for Rules {
 
     ghost coded = { coded_list coded_held };
 
-    ghost use Rattle.clause_index.specs.Entries.{AreIndexed};
+    ghost use Rattle.clause_index.specs.Normal.{AreRules};
 
     ghost view = { λ a. a.rules.items };
 
-    ghost invariant = { λ a. AreIndexed a.rules.items a.lefts };
+    ghost invariant = { λ a. AreRules a.rules.items a.lefts a.known };
 }
 
 impl Rules {
@@ -48,7 +52,15 @@ impl Rules {
         Rules {
             rules: Vec::new(alloc),
             lefts: Index::new(alloc),
+            known: NormalTerms::new(alloc),
         }
+    }
+
+    /// Whether there are none.
+    pub fn is_empty(&self) -> bool
+        ensures { result ≡ true → self.now ≡ [] }
+    {
+        self.rules.is_empty()
     }
 
     /// The first rule that fits the term as a whole.
@@ -81,6 +93,7 @@ impl Rules {
         let nothing = Term::Var(0);
         let left = left_of(first_atom(rule.clause(), &nothing), &nothing);
         self.lefts.insert(number, left)?;
+        self.known.forget();
         match put_in(rule, &mut self.rules) {
             Ok(()) => Ok(()),
             Err(error) => {
@@ -88,6 +101,22 @@ impl Rules {
                 Err(error)
             }
         }
+    }
+
+    /// The terms that are known to be in normal form, handed out till they are handed in again.
+    pub fn hand_out(&mut self, alloc: Global) -> NormalTerms
+        ensures normal { HaveNoStep self.old result }
+        ensures same { self.new ≡ self.old }
+    {
+        mem::replace(&mut self.known, NormalTerms::new(alloc))
+    }
+
+    /// Terms in normal form are handed in.
+    pub fn hand_in(&mut self, known: NormalTerms)
+        requires { HaveNoStep self.old known }
+        ensures { self.new ≡ self.old }
+    {
+        self.known = known;
     }
 
     /// Takes out the rule with a number, if there is one.

@@ -5,4 +5,4 @@ mod concluding;
 mod rules;
 
 pub use concluding::conclusions_of;
-pub use rules::{RulesInForce, rules_in_force};
+pub use rules::{RulesInForce, has_equation, rules_in_force};

@@ -18,9 +18,9 @@ pub struct RulesInForce {
     pub equalities: bool,
 }
 
-// Whether a clause has an equation.
+/// Whether a clause has an equation.
 #[tactic(auto, using(held_clauses::proofs::LiteralTests::some_here, held_clauses::proofs::LiteralTests::some_behind, held_clauses::proofs::LiteralTests::some_end))]
-fn has_equation(clause: &Clause) -> bool
+pub fn has_equation(clause: &Clause) -> bool
     ensures { result ≡ has_equation clause.now }
 {
     for literal in &clause.literals {

@@ -5,4 +5,5 @@ pub mod Passing
 pub mod Placing
 pub mod Redexes
 pub mod Resuming
+pub mod Ruleless
 pub mod Smaller

@@ -1,6 +1,7 @@
 // A clause rewritten step by step.
 ghost use Rattle.std.specs.Prelude.{◌≡◌, ◌<◌, ◌≤◌, ◌∷◌, IfOk, length};
 ghost use Rattle.std.specs.Option.{option_map};
+ghost use Rattle.clause_index.specs.Normal.{HaveNoStep};
 ghost use Rattle.demodulate.specs.Resumed.{AreLiteralsNormalBefore};
 ghost use Rattle.demodulate.specs.Steps.{placed_step, IsPlaceIn, TakesClause, tidied_of, with_part_at};
 ghost use Rattle.fol_core.specs.TermView.{tree_of};
@@ -10,7 +11,7 @@ ghost use Rattle.prover_steps.specs.Searching.{is_too_large};
 use crate::literals::exchange;
 use crate::rewriting::{atom_step, is_passed, place_within};
 use crate::step::{PlacedStep, Step, Tidied};
-use clause_index::Rules;
+use clause_index::{NormalTerms, Rules};
 use clause_limits::is_too_large;
 use derivation::{Later, Rewrite};
 use discrim_tree::Tries;
@@ -22,13 +23,16 @@ use std::alloc::{AllocError, Global};
 fn first_in_clause(
     alloc: Global,
     rules: &Rules,
+    known: &mut NormalTerms,
     clause: &Clause,
     from: &[u64],
     tries: &mut Tries,
 ) -> Result<Option<PlacedStep>, AllocError>
-    requires { AreLiteralsNormalBefore rules.now from.now 0 clause.now }
+    requires before { AreLiteralsNormalBefore rules.now from.now 0 clause.now }
+    requires known { HaveNoStep rules.now known.old }
     ensures step { IfOk result (λ o. option_map (placed_step clause.now) o
         ≡ clause_step rules.now 0 clause.now) }
+    ensures known { HaveNoStep rules.now known.new }
     ensures place { IfOk result (λ o. IsPlaceIn clause.now o) }
     ensures on { tries.old ≤ tries.new }
 {
@@ -40,6 +44,7 @@ fn first_in_clause(
         if let Some(step) = atom_step(
             alloc,
             rules,
+            known,
             &literal.atom,
             place_within(number, from),
             tries,
@@ -75,23 +80,26 @@ fn take_step(clause: &mut Clause, place: usize, path: &[u64], part: Term) -> boo
     true
 }
 
-/// A clause after so many steps, or after as many as there are, or as don't make it too large; with their words.
+// A clause after so many steps, or after as many as there are, or as don't make it too large; with their words.
 #[tactic(auto, using(crate::proofs::Redexes::steps_end, crate::proofs::Redexes::steps_none, crate::proofs::Redexes::steps_large, crate::proofs::Redexes::steps_on, crate::proofs::Resuming::nothing_before_literals))]
-pub fn normal_form(
+fn after_steps(
     alloc: Global,
     rules: &Rules,
+    known: &mut NormalTerms,
     limit: u32,
     clause: Clause,
     tries: &mut Tries,
 ) -> Result<Tidied, AllocError>
+    requires { HaveNoStep rules.now known.old }
     ensures normal { IfOk result (λ t. tidied_of t ≡ normal_form is_too_large rules.now limit clause) }
+    ensures known { HaveNoStep rules.now known.new }
     ensures on { tries.old ≤ tries.new }
 {
     let mut clause = clause;
     let mut words = Vec::new(alloc);
     let mut from = Vec::new(alloc);
     for _step in 0..limit {
-        match first_in_clause(alloc, rules, &clause, from.as_slice(), tries)? {
+        match first_in_clause(alloc, rules, known, &clause, from.as_slice(), tries)? {
             None => return Ok(Tidied { clause, words }),
             Some(found) => {
                 let PlacedStep { place, step } = found;
@@ -109,4 +117,29 @@ pub fn normal_form(
         }
     }
     Ok(Tidied { clause, words })
+}
+
+/// The same; the terms that turn out to be in normal form stay known.
+#[tactic(auto, using(crate::proofs::Ruleless::no_rules))]
+pub fn normal_form(
+    alloc: Global,
+    rules: &mut Rules,
+    limit: u32,
+    clause: Clause,
+    tries: &mut Tries,
+) -> Result<Tidied, AllocError>
+    ensures normal { IfOk result (λ t. tidied_of t ≡ normal_form is_too_large rules.old limit clause) }
+    ensures rules { rules.new ≡ rules.old }
+    ensures on { tries.old ≤ tries.new }
+{
+    if rules.is_empty() {
+        return Ok(Tidied {
+            clause,
+            words: Vec::new(alloc),
+        });
+    }
+    let mut known = rules.hand_out(alloc);
+    let tidied = after_steps(alloc, rules, &mut known, limit, clause, tries);
+    rules.hand_in(known);
+    tidied
 }

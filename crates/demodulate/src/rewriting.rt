@@ -1,7 +1,8 @@
 // The first step of rewriting: in the arguments, from the left, else of the whole, by the first rule that fits. What is left of
-// the place of the step before is in normal form, and isn't looked at again.
+// the place of the step before is in normal form, and isn't looked at again, and neither are terms that are known to be so.
 ghost use Rattle.std.specs.Prelude.{ℕ, ◌≡◌, ◌≤◌, IfOk};
 ghost use Rattle.std.specs.Option.{option_map};
+ghost use Rattle.clause_index.specs.Normal.{HaveNoStep};
 ghost use Rattle.demodulate.specs.Resumed.{is_passed, place_within, IsNormalBefore, AreNormalBefore};
 ghost use Rattle.demodulate.specs.Steps.{part_step, step_below, step_in_term};
 ghost use Rattle.fol_core.specs.TermView.{tree_of};
@@ -9,7 +10,7 @@ ghost use Rattle.fol_core.specs.Tree.{app, trees_of};
 ghost use Rattle.prover_steps.specs.Rewriting.{rewritten_by, step_at_top, widened, first_step, step_in, atom_step};
 
 use crate::step::Step;
-use clause_index::Rules;
+use clause_index::{NormalTerms, Rules};
 use discrim_tree::Tries;
 use fol_core::{Term, Terms};
 use held_clauses::{Held, first_atom, left_of, right_of};
@@ -93,14 +94,17 @@ pub fn place_within(number: u64, place: &[u64]) -> &[u64]
 pub fn step_within(
     alloc: Global,
     rules: &Rules,
+    known: &mut NormalTerms,
     terms: &Terms,
     from: &[u64],
     tries: &mut Tries,
 ) -> Result<Option<Step>, AllocError>
-    requires { AreNormalBefore rules.now from.now 1 (trees_of terms.now) }
+    requires before { AreNormalBefore rules.now from.now 1 (trees_of terms.now) }
+    requires known { HaveNoStep rules.now known.old }
     ensures step { IfOk result (λ o. (f : ℕ)
         → option_map (step_in_term (app f (trees_of terms.now))) o
         ≡ option_map (widened (app f)) (step_in rules.now 1 (trees_of terms.now))) }
+    ensures known { HaveNoStep rules.now known.new }
     ensures on { tries.old ≤ tries.new }
 {
     for (i, term) in terms.items.iter().enumerate() {
@@ -108,7 +112,14 @@ pub fn step_within(
         if is_passed(number, from) {
             continue;
         }
-        if let Some(step) = first_step(alloc, rules, term, place_within(number, from), tries)? {
+        if let Some(step) = first_step(
+            alloc,
+            rules,
+            known,
+            term,
+            place_within(number, from),
+            tries,
+        )? {
             return Ok(Some(step_below(number, step)?));
         }
     }
@@ -121,22 +132,36 @@ pub fn step_within(
 pub fn first_step(
     alloc: Global,
     rules: &Rules,
+    known: &mut NormalTerms,
     term: &Term,
     from: &[u64],
     tries: &mut Tries,
 ) -> Result<Option<Step>, AllocError>
-    requires { IsNormalBefore rules.now from.now (tree_of term.now) }
+    requires before { IsNormalBefore rules.now from.now (tree_of term.now) }
+    requires known { HaveNoStep rules.now known.old }
     ensures step { IfOk result (λ o. option_map (step_in_term (tree_of term.now)) o
         ≡ first_step rules.now (tree_of term.now)) }
+    ensures known { HaveNoStep rules.now known.new }
     ensures on { tries.old ≤ tries.new }
 {
     match term {
         Term::Var(_) => Ok(None),
         Term::Elem(_) => Ok(None),
-        Term::App(_, terms) => match step_within(alloc, rules, terms, from, tries)? {
-            Some(step) => Ok(Some(step)),
-            None => step_at_top(alloc, rules, term, tries),
-        },
+        Term::App(_, terms) => {
+            if known.has(term) {
+                return Ok(None);
+            }
+            if let Some(step) = step_within(alloc, rules, known, terms, from, tries)? {
+                return Ok(Some(step));
+            }
+            match step_at_top(alloc, rules, term, tries)? {
+                Some(step) => Ok(Some(step)),
+                None => {
+                    known.note(alloc, term);
+                    Ok(None)
+                }
+            }
+        }
     }
 }
 
@@ -144,18 +169,21 @@ pub fn first_step(
 pub fn atom_step(
     alloc: Global,
     rules: &Rules,
+    known: &mut NormalTerms,
     atom: &Term,
     from: &[u64],
     tries: &mut Tries,
 ) -> Result<Option<Step>, AllocError>
-    requires { IsNormalBefore rules.now from.now (tree_of atom.now) }
+    requires before { IsNormalBefore rules.now from.now (tree_of atom.now) }
+    requires known { HaveNoStep rules.now known.old }
     ensures step { IfOk result (λ o. option_map (step_in_term (tree_of atom.now)) o
         ≡ atom_step rules.now (tree_of atom.now)) }
+    ensures known { HaveNoStep rules.now known.new }
     ensures on { tries.old ≤ tries.new }
 {
     match atom {
         Term::Var(_) => Ok(None),
         Term::Elem(_) => Ok(None),
-        Term::App(_, terms) => step_within(alloc, rules, terms, from, tries),
+        Term::App(_, terms) => step_within(alloc, rules, known, terms, from, tries),
     }
 }

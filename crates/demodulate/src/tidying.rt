@@ -22,13 +22,14 @@ pub fn tidy(
     alloc: Global,
     precedence: &Precedence,
     options: &Options,
-    rules: &Rules,
+    rules: &mut Rules,
     held: &HeldSets<'_>,
     clause: Clause,
     tries: &mut Tries,
 ) -> Result<Tidied, AllocError>
     ensures tidied { IfOk result (λ t. tidied_of t ≡ tidied_by (greater_of precedence.now)
-        options.now rules.now (all_in held.now) clause) }
+        options.now rules.old (all_in held.now) clause) }
+    ensures rules { rules.new ≡ rules.old }
     ensures small { is_too_large clause ≡ false
         → IfOk result (λ t. is_too_large t.clause ≡ false) }
     ensures on { tries.old ≤ tries.new }

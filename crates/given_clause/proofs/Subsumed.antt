@@ -1,5 +1,5 @@
 -- A clause with literals is subsumed by a short one that has one of those as an instance, or by a longer one.
-use Rattle.std.proofs.Common.{◌≡◌, ◌≢◌, ℕ, suc, Bool, true, false, not, ◌==◌, ◌&&◌, ◌||◌, if◌then◌else◌, is_some, length, slice_get, List, [], ◌∷◌, Option, Some, None, filter, refl, sym, ap, ap₂, ◌∙◌, ne_eqb, arith}
+use Rattle.std.proofs.Common.{◌≡◌, ◌≢◌, ℕ, suc, Bool, true, false, not, ◌&&◌, ◌||◌, if◌then◌else◌, is_some, length, slice_get, List, [], ◌∷◌, Option, Some, None, filter, refl, sym, ap, ap₂, ◌∙◌, arith}
 use Rattle.std.specs.Borrow.{Bor}
 use Rattle.std.specs.List.{list_any}
 use Rattle.std.specs.Option.{option_map_or}
@@ -50,21 +50,7 @@ any_kept p (h ∷ hs) = by (p h) refl (any_kept p hs)
     by true e rest = ap (λ a. a || list_any p (filter p hs)) e
     by false e rest = rest
 
-all_pass : (p : Held → Bool) (h : Held) (hs ks : List Held) → h ∷ hs ≡ filter p ks → p h ≡ true
-all_pass p h hs [] e = cc
-all_pass p h hs (k ∷ ks) e = by (p k) refl e (all_pass p h hs ks)
-  where
-    by : (b : Bool) → p k ≡ b → h ∷ hs ≡ (if b then k ∷ filter p ks else filter p ks) → (h ∷ hs ≡ filter p ks → p h ≡ true) → p h ≡ true
-    by true f g rest = let same : h ≡ k = cc in ap p same ∙ f
-    by false f g rest = rest g
-
 -- clauses that are lent
-pub found_some : (p : Held → Bool) (hs : List Held) (bs : List (Bor Held)) → lent bs ≡ filter p hs → not (length bs == 0) ≡ list_any p hs
-found_some p hs [] e = ap (list_any p) e ∙ any_kept p hs
-found_some p hs (b ∷ bs) e =
-    ap not (ne_eqb (length (b ∷ bs)) 0 (λ none. omega (arith, none)))
-    ∙ sym (sym (any_kept p hs) ∙ sym (ap (list_any p) e) ∙ ap (λ a. a || list_any p (lent bs)) (all_pass p b.now (lent bs) hs e))
-
 lent_any : (test : Held → Bool) (bs : List (Bor Held)) → list_any (λ b. test b.now) bs ≡ list_any test (lent bs)
 lent_any test [] = refl
 lent_any test (b ∷ bs) = ap (λ a. test b.now || a) (lent_any test bs)

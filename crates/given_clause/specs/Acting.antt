@@ -1,5 +1,5 @@
 -- What a clause that is kept does to others.
-use Rattle.std.specs.Prelude.{ℕ, Bool, true, not, List, [], ◌∷◌, Option, Some, None, filter, flat_map}
+use Rattle.std.specs.Prelude.{ℕ, Bool, true, not, ◌&&◌, ◌||◌, nat_le, List, [], ◌∷◌, length, Option, Some, None, is_some, filter, flat_map}
 use Rattle.std.specs.List.{list_any}
 use Rattle.clause_index.specs.Entries.{is_short_above, is_short_unifiable}
 use Rattle.clause_index.specs.Finding.{has_atom_such, has_inside_such}
@@ -15,6 +15,7 @@ use Rattle.given_clause.specs.declared.acting.Back.TheVariants.{Deletes, Rewrite
 use Rattle.proof_words.specs.Written.{WrittenFirst, satellite, by_resolve, by_back_rewrite, by_back_unit_del}
 use Rattle.prover_steps.specs.Clashing.{Held}
 use Rattle.prover_steps.specs.Concluded.{Conclusion, inferred}
+use Rattle.prover_steps.specs.Searching.{Queued, SearchState, Setting, is_too_heavy}
 use Rattle.prover_steps.specs.Shortening.{denies}
 use Rattle.prover_steps.specs.Subsuming.{subsumes, rewrites_clause}
 
@@ -42,6 +43,12 @@ word_for Rewrites n = by_back_rewrite n
 -- whether one of some clauses has one literal, of which this one is an instance, or none
 abbrev pub has_short_above : List Held → Lit → Bool
 has_short_above hs k = list_any (is_short_above k.positive k.atom) hs
+
+-- whether a clause that is no input clause weighs too much, or comes while enough wait
+abbrev pub is_unwanted : Setting → SearchState → Queued → Bool
+is_unwanted st s q =
+    not (is_some q.input)
+    && (is_too_heavy st q.clause || nat_le st.options.sos_limit (length s.waiting))
 
 -- what a clause makes of units
 abbrev pub conflicts_with : List Held → Held → List Conclusion

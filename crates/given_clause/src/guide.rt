@@ -17,6 +17,9 @@ pub struct Guide<'a> {
     pub rules: RulesInForce,
     pub precedence: Precedence,
     pub weights: Rules<'a>,
+    // Whether a clause is weighed before it is sought what subsumes it: that is told sooner where there are neither rules of
+    // weights nor hints.
+    pub weighs_first: bool,
     pub options: Options,
 }
 

@@ -4,7 +4,7 @@ ghost use Rattle.std.specs.List.{AllByRecursion, list_any};
 ghost use Rattle.std.specs.Option.{option_map};
 ghost use Rattle.clause_index.specs.Subsumers.{is_long_above};
 ghost use Rattle.fol_core.specs.ClauseView.{literal_of};
-ghost use Rattle.given_clause.specs.Acting.{has_short_above};
+ghost use Rattle.given_clause.specs.Acting.{has_short_above, is_unwanted};
 ghost use Rattle.given_clause.specs.Guides.{setting_of};
 ghost use Rattle.given_clause.specs.Noted.{AreNoted, StayNoted};
 ghost use Rattle.given_clause.specs.States.{entry_of, queued_of, reason_of, state_of};
@@ -57,7 +57,7 @@ fn tidied(
         alloc,
         &guide.precedence,
         &guide.options,
-        &search.rules,
+        &mut search.rules,
         &held,
         clause,
         &mut search.tries,
@@ -91,8 +91,7 @@ fn has_short_above(set: &HeldSet, literal: &Literal, tries: &mut Tries) -> Resul
     ensures above { IfOk result (λ b. b ≡ has_short_above set.now (literal_of literal.now)) }
     ensures on { tries.old ≤ tries.new }
 {
-    let held = set.short_above(literal.positive, &literal.atom, tries)?;
-    Ok(!held.is_empty())
+    set.has_short_above(literal.positive, &literal.atom, tries)
 }
 
 // Whether there is one for some literal of a clause.
@@ -199,7 +198,27 @@ fn is_too_heavy(alloc: Global, guide: &Guide<'_>, clause: &Clause) -> Result<boo
     Ok(!guide.is_hinted(&mut room, clause))
 }
 
-// Whether a clause is of no use.
+// Whether a clause that is no input clause comes while enough wait, or weighs too much.
+fn is_unwanted(
+    alloc: Global,
+    guide: &Guide<'_>,
+    search: &Search,
+    queued: &Queued,
+) -> Result<bool, AllocError>
+    requires { is_too_large queued.now.clause ≡ false }
+    ensures { IfOk result (λ b. b ≡ is_unwanted (setting_of guide.now) (state_of search.now)
+        (queued_of queued.now)) }
+{
+    if queued.input.is_some() {
+        return Ok(false);
+    }
+    if guide.options.sos_limit as usize <= search.waiting.len() {
+        return Ok(true);
+    }
+    is_too_heavy(alloc, guide, &queued.clause)
+}
+
+// Whether a clause is of no use: what is told sooner is asked before.
 fn is_no_use(
     alloc: Global,
     guide: &Guide<'_>,
@@ -217,16 +236,16 @@ fn is_no_use(
     if is_tautology(clause) {
         return Ok(true);
     }
+    if guide.weighs_first {
+        if is_unwanted(alloc, guide, search, queued)? {
+            return Ok(true);
+        }
+        return is_subsumed_by_held(alloc, search, clause);
+    }
     if is_subsumed_by_held(alloc, search, clause)? {
         return Ok(true);
     }
-    if queued.input.is_some() {
-        return Ok(false);
-    }
-    if guide.options.sos_limit as usize <= search.waiting.len() {
-        return Ok(true);
-    }
-    is_too_heavy(alloc, guide, clause)
+    is_unwanted(alloc, guide, search, queued)
 }
 
 // Whether there are as many proofs as were wanted.

@@ -42,6 +42,7 @@ pub fn guide_of<'a>(
         rules,
         precedence,
         weights,
+        weighs_first: problem.hints.is_empty() && problem.weights.is_empty(),
         options,
     })
 }

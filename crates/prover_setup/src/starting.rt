@@ -1,15 +1,17 @@
 // Where a search begins.
 ghost use Rattle.std.specs.Prelude.{◌≡◌, ◌+◌, ◌<◌, ◌++◌, ◌∷◌, [], ℕ, IfOk, OnOk, Some, map};
-ghost use Rattle.std.specs.List.{AllByRecursion};
+ghost use Rattle.std.specs.List.{AllByRecursion, list_any};
 ghost use Rattle.fol_core.specs.Stated.{all_said};
 ghost use Rattle.given_clause.specs.Noted.{AreNoted};
 ghost use Rattle.given_clause.specs.States.{entry_of, state_of};
 ghost use Rattle.proof_words.specs.Written.{by_copy};
+ghost use Rattle.prover_steps.specs.Conclusions.{has_equation};
 ghost use Rattle.prover_steps.specs.HeldOrder.{numbers_of};
 ghost use Rattle.prover_steps.specs.Searching.{Setting};
 ghost use Rattle.prover_steps.specs.Starting.{held_rule, queued_as, queued_input, queued_inputs, rules_of, start_state};
 
 use clause_index::{HeldSet, Rules};
+use conclusions::has_equation;
 use derivation::First;
 use discrim_tree::Tries;
 use fol_core::{Clause, Input, Problem, Role};
@@ -120,6 +122,13 @@ fn rules_of(
     Ok(rules)
 }
 
+// Whether some clause has an equation; else none is rewritten or paramodulated.
+fn any_has_equation(clauses: &[(u64, Clause)]) -> bool
+    ensures { result ≡ list_any (λ r. has_equation r.1) clauses.now }
+{
+    clauses.iter().any(|row| has_equation(&row.1))
+}
+
 /// A search for proofs of a problem with these clauses, as it begins.
 pub fn start_search(
     alloc: Global,
@@ -136,9 +145,10 @@ pub fn start_search(
     let next = behind(first, clauses.len() as u64)?;
     let queue = queued_inputs(alloc, inputs, first, clauses)?;
     let rules = rules_of(alloc, inputs, first, clauses)?;
+    let keeps_inside = any_has_equation(clauses);
     Ok(Search {
-        waiting: Waiting::new(alloc),
-        usable: HeldSet::new(alloc),
+        waiting: Waiting::new(alloc, keeps_inside),
+        usable: HeldSet::new(alloc, keeps_inside),
         rules,
         queue,
         lines: Vec::new(alloc),

@@ -20,20 +20,21 @@ returns-in-Some-clause-step c =
 pub loop-place-preserved-then-is_passed : goal.loop-place-preserved-then-is_passed
 loop-place-preserved-then-is_passed c =
     let before : AreLiteralsNormalBefore c.args.rules.now c.args.from.now 0 (map literal_of c.deref-literal-items.result.now) =
-    subst (AreLiteralsNormalBefore c.args.rules.now c.args.from.now 0) (sym (ap (map literal_of) c.deref-literal-items.ensures.value ∙ c.clause.view_is)) c.requires
+    subst (AreLiteralsNormalBefore c.args.rules.now c.args.from.now 0) (sym (ap (map literal_of) c.deref-literal-items.ensures.value ∙ c.clause.view_is)) c.requires.before
     in
     let known : (is_passed c.loop-place.place c.args.from.now ≡ true → atom_step c.args.rules.now (tree_of c.literal-item.result.atom) ≡ None) × IsNormalBefore c.args.rules.now (place_within c.loop-place.place c.args.from.now) (tree_of c.literal-item.result.atom) =
     literal_before c.args.rules.now c.args.from.now c.deref-literal-items.result.now c.loop-place.place 0 c.loop-place.place c.literal-item.result c.loop-place-test.true c.literal-item.is (omega arith) before
     in
     record {
       normal = normal_literals_more c.args.rules.now c.deref-literal-items.result.now c.loop-place.place c.literal-item.result c.loop-place-test.true c.literal-item.is c.loop-place.invariant.normal (known.0 (sym c.is_passed.ensures ∙ c.if-is_passed.true));
+      known = c.loop-place.invariant.known;
       on = c.loop-place.invariant.on;
     }
 
-pub atom_step-requires : goal.atom_step-requires
-atom_step-requires c =
+pub atom_step-requires-clause-before : goal.atom_step-requires-clause-before
+atom_step-requires-clause-before c =
     let before : AreLiteralsNormalBefore c.args.rules.now c.args.from.now 0 (map literal_of c.deref-literal-items.result.now) =
-    subst (AreLiteralsNormalBefore c.args.rules.now c.args.from.now 0) (sym (ap (map literal_of) c.deref-literal-items.ensures.value ∙ c.clause.view_is)) c.requires
+    subst (AreLiteralsNormalBefore c.args.rules.now c.args.from.now 0) (sym (ap (map literal_of) c.deref-literal-items.ensures.value ∙ c.clause.view_is)) c.requires.before
     in
     let known : (is_passed c.loop-place.place c.args.from.now ≡ true → atom_step c.args.rules.now (tree_of c.literal-item.result.atom) ≡ None) × IsNormalBefore c.args.rules.now (place_within c.loop-place.place c.args.from.now) (tree_of c.literal-item.result.atom) =
     literal_before c.args.rules.now c.args.from.now c.deref-literal-items.result.now c.loop-place.place 0 c.loop-place.place c.literal-item.result c.loop-place-test.true c.literal-item.is (omega arith) before

@@ -25,20 +25,21 @@ step_within-returns-clause-step t c = λ f.
 pub step_within-loop-i-preserved-then-is_passed : goal.step_within-loop-i-preserved-then-is_passed
 step_within-loop-i-preserved-then-is_passed t c =
     let before : AreNormalBefore c.args.rules.now c.args.from.now 1 (trees_of (tree_list c.deref-term-items.result.now)) =
-    subst (λ ts. AreNormalBefore c.args.rules.now c.args.from.now 1 (trees_of ts)) (sym (ap tree_list c.deref-term-items.ensures.value ∙ c.terms.view_is)) c.requires
+    subst (λ ts. AreNormalBefore c.args.rules.now c.args.from.now 1 (trees_of ts)) (sym (ap tree_list c.deref-term-items.ensures.value ∙ c.terms.view_is)) c.requires.before
     in
     let known : (is_passed (c.loop-i.i + 1) c.args.from.now ≡ true → first_step c.args.rules.now (tree_of c.term-item.result) ≡ None) × IsNormalBefore c.args.rules.now (place_within (c.loop-i.i + 1) c.args.from.now) (tree_of c.term-item.result) =
     argument_before c.args.rules.now c.args.from.now c.deref-term-items.result.now c.loop-i.i 1 (c.loop-i.i + 1) c.term-item.result c.loop-i-test.true c.term-item.is (omega arith) before
     in
     record {
       normal = normal_more c.args.rules.now c.deref-term-items.result.now c.loop-i.i c.term-item.result c.loop-i-test.true c.term-item.is c.loop-i.invariant.normal (known.0 (sym c.is_passed.ensures ∙ c.if-is_passed.true));
+      known = c.loop-i.invariant.known;
       on = c.loop-i.invariant.on;
     }
 
 pub step_within-first_step-requires : goal.step_within-first_step-requires
 step_within-first_step-requires t c =
     let before : AreNormalBefore c.args.rules.now c.args.from.now 1 (trees_of (tree_list c.deref-term-items.result.now)) =
-    subst (λ ts. AreNormalBefore c.args.rules.now c.args.from.now 1 (trees_of ts)) (sym (ap tree_list c.deref-term-items.ensures.value ∙ c.terms.view_is)) c.requires
+    subst (λ ts. AreNormalBefore c.args.rules.now c.args.from.now 1 (trees_of ts)) (sym (ap tree_list c.deref-term-items.ensures.value ∙ c.terms.view_is)) c.requires.before
     in
     let known : (is_passed (c.loop-i.i + 1) c.args.from.now ≡ true → first_step c.args.rules.now (tree_of c.term-item.result) ≡ None) × IsNormalBefore c.args.rules.now (place_within (c.loop-i.i + 1) c.args.from.now) (tree_of c.term-item.result) =
     argument_before c.args.rules.now c.args.from.now c.deref-term-items.result.now c.loop-i.i 1 (c.loop-i.i + 1) c.term-item.result c.loop-i-test.true c.term-item.is (omega arith) before
@@ -46,4 +47,4 @@ step_within-first_step-requires t c =
     let least = argument_nodes c.deref-term-items.result.now c.loop-i.i c.term-item.result c.loop-i-test.true c.term-item.is in
     let size : nodes_of (trees_of (tree_list c.deref-term-items.result.now)) ≡ nodes_of (trees_of c.args.terms.now) =
     ap (λ ts. nodes_of (trees_of (tree_list ts))) c.deref-term-items.ensures.value ∙ ap (λ ts. nodes_of (trees_of ts)) c.terms.view_is in
-    (omega (arith, least, size, c.decreases), subst (λ p. IsNormalBefore c.args.rules.now p (tree_of c.term-item.result)) (sym c.place_within.ensures) known.1)
+    (omega (arith, least, size, c.decreases), (subst (λ p. IsNormalBefore c.args.rules.now p (tree_of c.term-item.result)) (sym c.place_within.ensures) known.1, c.loop-i.invariant.known))

@@ -1,13 +1,9 @@
 use Rattle.std.proofs.Common.{List, subst}
 use Rattle.clause_index.specs.Filing.{LeavesOutNoSubsumed}
 use Rattle.clause_index.specs.Subsumers.{HasAllBelow}
-use Rattle.clause_index.specs.declared.parts.Part.TheVariants.{Atoms}
-use Rattle.clause_index.proofs.Filed.{all_covered}
 use Rattle.clause_index.proofs.Firsts.{first_covered}
 use Rattle.clause_index.proofs.Subsumers.{below_covered, some_is}
-use Rattle.discrim_tree.specs.Terms.{has_instance}
 use Rattle.fol_core.specs.ClauseView.{literal_of}
-use Rattle.fol_core.specs.TermView.{tree_of}
 use Rattle.prover_steps.specs.Clashing.{Held}
 use Rattle.clause_index.proofs.held_set.HeldSet.numbers_below.Goals as goal
 
@@ -23,7 +19,4 @@ returns-in-Some-clause-found c =
 pub returns-clause-found : goal.returns-clause-found
 returns-clause-found c =
     let numbers = c.in_ok-numbers-2.numbers.items in
-    let list = c.self.inside.listed in
-    subst (λ (hs : List Held). HasAllBelow c.args.clause.now hs numbers) c.self.view_is
-    (first_covered (literal_of c.args.first.now) c.args.clause.now numbers list c.requires.first
-    (all_covered c.self.inside.finder (Atoms c.args.first.now.positive) (has_instance (tree_of c.args.first.now.atom)) numbers list c.in_ok-numbers-2.ensures.found c.self.invariant))
+    first_covered (literal_of c.args.first.now) c.args.clause.now numbers c.args.self.now c.requires.first c.in_ok-numbers-2.ensures.found

@@ -7,17 +7,23 @@ use Rattle.clause_index.proofs.rules.Rules.put_in.Goals as goal
 
 pub insert-requires : goal.insert-requires
 insert-requires c =
-    no_left c.number-number.result c.args.rule c.self.inside.rules.items c.self.inside.lefts c.self.invariant c.number-number.ensures
+    no_left c.number-number.result c.args.rule c.self.inside.rules.items c.self.inside.lefts c.self.invariant.indexed c.number-number.ensures
     (subst (λ rs. IsNoneOf c.args.rule.number (numbers_of rs)) (sym c.self.view_is) c.requires)
 
 pub invariant_of-self-in-Ok : goal.invariant_of-self-in-Ok
-invariant_of-self-in-Ok c =
-    rule_put c.number-number.result _ c.args.rule c.self.inside.rules.items c.self.inside.lefts c.insert.new.self c.self.invariant
-    (subst (λ rs. IsNoneOf c.args.rule.number (numbers_of rs)) (sym c.self.view_is) c.requires)
-    c.number-number.ensures (c.left_of-left.ensures ∙ ap left_of (c.first_atom.ensures ∙ ap (λ d. atom_at d 0) c.clause.ensures)) c.in_ok-insert.ensures.ok c.put_in.new.list.items c.in-Ok.ensures.ok
+invariant_of-self-in-Ok c = record {
+  indexed =
+      rule_put c.number-number.result _ c.args.rule c.self.inside.rules.items c.self.inside.lefts c.insert.new.self c.self.invariant.indexed
+      (subst (λ rs. IsNoneOf c.args.rule.number (numbers_of rs)) (sym c.self.view_is) c.requires)
+      c.number-number.ensures (c.left_of-left.ensures ∙ ap left_of (c.first_atom.ensures ∙ ap (λ d. atom_at d 0) c.clause.ensures)) c.in_ok-insert.ensures.ok c.put_in.new.list.items c.in-Ok.ensures.ok;
+  normal = c.forget.ensures c.put_in.new.list.items;
+}
 
 pub invariant_of-self-in-Err : goal.invariant_of-self-in-Err
-invariant_of-self-in-Err c =
-    rule_taken_back c.number-number.result _ c.args.rule c.self.inside.rules.items c.self.inside.lefts c.insert.new.self c.self.invariant
-    (subst (λ rs. IsNoneOf c.args.rule.number (numbers_of rs)) (sym c.self.view_is) c.requires)
-    c.number-number.ensures (c.left_of-left.ensures ∙ ap left_of (c.first_atom.ensures ∙ ap (λ d. atom_at d 0) c.clause.ensures)) c.in_ok-insert.ensures.ok c.put_in.new.list.items c.remove.new.self c.in-Err.ensures.err c.remove.ensures
+invariant_of-self-in-Err c = record {
+  indexed =
+      rule_taken_back c.number-number.result _ c.args.rule c.self.inside.rules.items c.self.inside.lefts c.insert.new.self c.self.invariant.indexed
+      (subst (λ rs. IsNoneOf c.args.rule.number (numbers_of rs)) (sym c.self.view_is) c.requires)
+      c.number-number.ensures (c.left_of-left.ensures ∙ ap left_of (c.first_atom.ensures ∙ ap (λ d. atom_at d 0) c.clause.ensures)) c.in_ok-insert.ensures.ok c.put_in.new.list.items c.remove.new.self c.in-Err.ensures.err c.remove.ensures;
+  normal = c.forget.ensures c.put_in.new.list.items;
+}

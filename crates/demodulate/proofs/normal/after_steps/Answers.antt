@@ -9,7 +9,7 @@ use Rattle.demodulate.proofs.Redexes.{steps_left, steps_large, steps_on}
 use Rattle.demodulate.proofs.Resuming.{clause_before}
 use Rattle.prover_steps.specs.Rewriting.{simplified, clause_step}
 use Rattle.prover_steps.specs.Searching.{is_too_large}
-use Rattle.demodulate.proofs.normal.normal_form.Goals as goal
+use Rattle.demodulate.proofs.normal.after_steps.Goals as goal
 
 pub returns-then-not-take_step-clause-normal : goal.returns-then-not-take_step-clause-normal
 returns-then-not-take_step-clause-normal c =
@@ -43,5 +43,6 @@ loop-step-preserved c =
           subst (λ p. AreLiteralsNormalBefore c.args.rules.now p 0 c.take_step.new.clause) (sym (c.in_ok-from-in-Some.ensures ∙ ap (λ p. c.in-Some.found.place ∷ p) c.as_slice-in-Some-2.ensures.value))
           (subst (λ d. AreLiteralsNormalBefore c.args.rules.now (c.in-Some.found.place ∷ c.in-Some.found.step.path.items) 0 d) (sym taken.0)
           (clause_before c.args.rules.now c.loop-step.clause c.in-Some.found.step.rule c.in-Some.found.place c.in-Some.found.step.path.items (placed_step c.loop-step.clause c.in-Some.found).1 found));
+      known = c.first_in_clause.ensures.known;
       on = omega (arith, c.loop-step.invariant.on, c.first_in_clause.ensures.on);
     }
