@@ -5,7 +5,6 @@ use Rattle.std.specs.Set.{is_member, unique_keys}
 use Rattle.std.proofs.lemmas.Bool.{cases_eq}
 use Rattle.std.proofs.lemmas.List.Sums.{sum_by-cons}
 use Rattle.slab.specs.Slab.{get, slab_len}
-use Rattle.fol_core.specs.TermView.{tree_of}
 use Rattle.discrim_tree.specs.Beginnings.{is_same_path, beginnings, all_beginnings, count_beginnings}
 use Rattle.discrim_tree.specs.Entries.{Indexed}
 use Rattle.discrim_tree.specs.Nodes.{Store, edge_cmp, Reaches}
@@ -228,9 +227,9 @@ module _ (nodes : Store) where
   -- a beginning leads to a node
   beginning_leads : (es : List IndexEntry) (p : List Edge) → AreReached nodes es → In p (all_beginnings (all_indexed es)) → (k : ℕ) × In k (keys 0 nodes.slots) × Leads nodes 0 p k
   beginning_leads [] p r h = absurd h
-  beginning_leads (e ∷ es) p r h = elim (in_either p (beginnings (path_of (tree_of e.tree))) (all_beginnings (all_indexed es)) h) [
+  beginning_leads (e ∷ es) p r h = elim (in_either p (beginnings (path_of e.tree)) (all_beginnings (all_indexed es)) h) [
     | inl g ↦
-        let rest = beginnings_in p (path_of (tree_of e.tree)) g in
+        let rest = beginnings_in p (path_of e.tree) g in
         let way = reaches_parted nodes 0 p rest.0 e.number (subst (λ (x : List Edge). Reaches nodes 0 x e.number) rest.1 r.0) in
         (way.0, reached_key way.0 rest.0 e.number way.2, way.1)
     | inr g ↦ beginning_leads es p r.1 g
@@ -239,9 +238,9 @@ module _ (nodes : Store) where
   entry_begins : (es : List IndexEntry) (p q : List Edge) (n : ℕ) → AreReached nodes es → (p ≡ [] → ⊥) → IsEntry (p ++ q) n es → In p (all_beginnings (all_indexed es))
   entry_begins [] p q n r some h = absurd h
   entry_begins (e ∷ es) p q n r some (inl h) =
-      in_left p (beginnings (path_of (tree_of e.tree))) (all_beginnings (all_indexed es)) (subst (λ (x : List Edge). In p (beginnings x)) h.0 (in_beginnings p q some))
+      in_left p (beginnings (path_of e.tree)) (all_beginnings (all_indexed es)) (subst (λ (x : List Edge). In p (beginnings x)) h.0 (in_beginnings p q some))
   entry_begins (e ∷ es) p q n r some (inr h) =
-      in_right p (beginnings (path_of (tree_of e.tree))) (all_beginnings (all_indexed es)) (entry_begins es p q n r.1 some h)
+      in_right p (beginnings (path_of e.tree)) (all_beginnings (all_indexed es)) (entry_begins es p q n r.1 some h)
 
   module _ (es : List IndexEntry) (tree : IsTree nodes) (used : AllUsed nodes) (r : AreReached nodes es) (only : AreOnly nodes es) where
     abbrev Ps : List (List Edge)

@@ -3,6 +3,7 @@ pub mod Candidates
 pub mod Counting
 pub mod Finding
 pub mod Fitted
+pub mod Heads
 pub mod Linear
 pub mod Marked
 pub mod Meetings

@@ -6,6 +6,7 @@ use Rattle.fol_core.specs.Substitutions.{Substitution, substitute, substitute_al
 use Rattle.fol_core.specs.Tree.{Tree, var, elem, app, Trees, none, more, trees_of}
 use Rattle.substitutions.specs.Paths.{argument, part_at}
 use Rattle.discrim_tree.specs.Fitting.{Fits, FitAll}
+use Rattle.discrim_tree.specs.Laws.{RepeatsDecide}
 use Rattle.discrim_tree.specs.Linear.{passes_linear}
 use Rattle.discrim_tree.specs.Places.{at_place, at_argument, occurrences, all_occurrences, next_place, repeats, repeated, with_repeat, AreAlike, AreNarrow, IsNarrow}
 use Rattle.discrim_tree.specs.Seeking.{fits_above, passes}
@@ -295,6 +296,9 @@ alike_instance s t w h alike =
     let os = occurrences 0 1 s in
     let u : Substitution = value t (occurrences 0 1 s) in
     (instances_are_made s t).1 (u, made t u s t 0 1 w h (itself t) (each_on (Stands t os) (Gives t u) (λ o k. k.1) os (all_stand t os alike)))
+
+pub repeats_decide : RepeatsDecide
+repeats_decide s t narrow fits = (instance_alike s t narrow, alike_instance s t narrow (linear_fitted Generalizations s t fits))
 
 same_truth : (a b : Bool) → (IsTrue a → IsTrue b) → (IsTrue b → IsTrue a) → a ≡ b
 same_truth true true on back = refl

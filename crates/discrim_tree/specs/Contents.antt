@@ -6,9 +6,12 @@ use Rattle.std.specs.Ordering.{is_eq}
 use Rattle.std.specs.declared.cmp.Ordering.{Ordering}
 use Rattle.std.specs.declared.cmp.Ordering.TheVariants.{Less}
 use Rattle.discrim_tree.specs.contracts.edge.EdgeOrd.TheImpl as edge_ord
+use Rattle.discrim_tree.specs.declared.contents.Branches.{Branches}
+use Rattle.discrim_tree.specs.declared.contents.Branches.TheVariants.{One, Many}
 use Rattle.discrim_tree.specs.declared.contents.Form.{Form}
-use Rattle.discrim_tree.specs.declared.contents.Form.TheVariants.{Nothing, Number, Branch, Lists}
+use Rattle.discrim_tree.specs.declared.contents.Form.TheVariants.{Nothing, Number, ByAny, ByElement, BySymbol, Lists}
 use Rattle.discrim_tree.specs.declared.edge.Edge.{Edge}
+use Rattle.discrim_tree.specs.declared.edge.Edge.TheVariants.{Any, Element, Symbol}
 
 abbrev pub edge_cmp : Edge → Edge → Ordering
 edge_cmp = (edge_ord.ghosts).cmp
@@ -43,11 +46,20 @@ pub record IsGapFor (branches : List (Edge × ℕ)) (edge : Edge) (at : ℕ) : T
 abbrev pub numbers_of : Form → List ℕ
 numbers_of Nothing = []
 numbers_of (Number n) = n ∷ []
-numbers_of (Branch b) = []
+numbers_of (ByAny node) = []
+numbers_of (ByElement k node) = []
+numbers_of (BySymbol count node symbol) = []
 numbers_of (Lists lists) = lists.value.numbers.items
 
 abbrev pub branches_of : Form → List (Edge × ℕ)
 branches_of Nothing = []
 branches_of (Number n) = []
-branches_of (Branch b) = b ∷ []
+branches_of (ByAny node) = (Any, node) ∷ []
+branches_of (ByElement k node) = (Element k, node) ∷ []
+branches_of (BySymbol count node symbol) = (Symbol symbol count, node) ∷ []
 branches_of (Lists lists) = lists.value.branches.items
+
+-- one branch, or those that are lent
+abbrev pub listed : Branches → List (Edge × ℕ)
+listed (One b) = b ∷ []
+listed (Many branches) = branches.now

@@ -7,7 +7,7 @@ use Rattle.discrim_tree.specs.Places.{repeated, IsNarrow}
 use Rattle.discrim_tree.specs.Seeking.{passes}
 use Rattle.discrim_tree.specs.declared.entry.IndexEntry.{IndexEntry}
 use Rattle.discrim_tree.specs.declared.once.Told.{Told}
-use Rattle.discrim_tree.specs.declared.once.Told.TheVariants.{Nothing, Repeats}
+use Rattle.discrim_tree.specs.declared.once.Told.TheVariants.{Whole, Repeats}
 use Rattle.discrim_tree.specs.declared.sought.Sought.{Sought}
 
 -- variables from a number on, in the order of their occurrences
@@ -26,12 +26,12 @@ abbrev mutual
 abbrev pub passes_linear : Sought → Tree → Tree → Bool
 passes_linear sought t s = passes sought (linear 0 t) (linear 0 s)
 
--- what is told of a term's variables is so
+-- what is told of a term's variables is so, or the term is told
 abbrev pub IsTold : Tree → Told → Type 0
-IsTold t Nothing = Unit {0}
+IsTold t (Whole s) = tree_of s.value ≡ t
 IsTold t (Repeats rs) = (rs.items ≡ repeated t) × IsNarrow t
 
 -- what is told of each entry is so
 abbrev pub AreTold : List IndexEntry → Type 0
 AreTold [] = Unit {0}
-AreTold (e ∷ es) = IsTold (tree_of e.tree) e.told × AreTold es
+AreTold (e ∷ es) = IsTold e.tree e.told × AreTold es

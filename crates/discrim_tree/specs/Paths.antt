@@ -1,6 +1,8 @@
 -- The paths of terms: their steps from the left.
 use Rattle.std.specs.Prelude.{List, [], ◌∷◌, ◌++◌, length}
 use Rattle.fol_core.specs.Tree.{Tree, var, elem, app, Trees, none, more, list_of}
+use Rattle.packed_terms.specs.declared.head.Head.{Head}
+use Rattle.packed_terms.specs.declared.head.Head.TheVariants as head
 use Rattle.discrim_tree.specs.declared.edge.Edge.{Edge}
 use Rattle.discrim_tree.specs.declared.edge.Edge.TheVariants.{Any, Element, Symbol}
 
@@ -30,3 +32,9 @@ abbrev mutual
 abbrev pub steps_of : List Tree → List Edge
 steps_of [] = []
 steps_of (t ∷ ts) = path_of t ++ steps_of ts
+
+-- the step of what stands at a node
+abbrev pub edge_of : Head → Edge
+edge_of (head.Variable x) = Any
+edge_of (head.Element k) = Element k
+edge_of (head.Symbol f n) = Symbol f n

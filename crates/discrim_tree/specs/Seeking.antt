@@ -2,7 +2,6 @@
 use Rattle.std.specs.Prelude.{ℕ, ◌≡◌, ◌⊎◌, Bool, true, false, ◌==◌, ◌&&◌, List, [], ◌∷◌}
 use Rattle.std.specs.List.{list_any}
 use Rattle.fol_core.specs.Tree.{Tree}
-use Rattle.fol_core.specs.TermView.{tree_of}
 use Rattle.discrim_tree.specs.Entries.{Indexed}
 use Rattle.discrim_tree.specs.Nodes.{Store, Reaches}
 use Rattle.discrim_tree.specs.Paths.{path_of}
@@ -34,13 +33,13 @@ passes Unifiable t s = can_unify s t
 abbrev pub AreReached : Store → List IndexEntry → Type 0
 AreReached nodes [] = Unit {0}
 AreReached nodes (e ∷ es) =
-    Reaches nodes 0 (path_of (tree_of e.tree)) e.number × AreReached nodes es
+    Reaches nodes 0 (path_of e.tree) e.number × AreReached nodes es
 
 -- a path and a number are those of an entry
 abbrev pub IsEntry : List Edge → ℕ → List IndexEntry → Type 0
 IsEntry path n [] = ⊥
 IsEntry path n (e ∷ es) =
-    ((path ≡ path_of (tree_of e.tree)) × (n ≡ e.number)) ⊎ IsEntry path n es
+    ((path ≡ path_of e.tree) × (n ≡ e.number)) ⊎ IsEntry path n es
 
 -- no path leads to a number but those of the entries
 abbrev pub AreOnly : Store → List IndexEntry → Type 0

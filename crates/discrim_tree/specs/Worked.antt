@@ -3,7 +3,7 @@ use Rattle.std.specs.Prelude.{◌≡◌, List, [], ◌∷◌, None, Some, slice_
 use Rattle.fol_core.specs.Tree.{Tree, var, app, none, more}
 use Rattle.discrim_tree.specs.Beginnings.{count_beginnings}
 use Rattle.discrim_tree.specs.Entries.{Indexed, indexed, with_entry, without_entry, numbers_found}
-use Rattle.discrim_tree.specs.Places.{at_place, repeat, repeated}
+use Rattle.discrim_tree.specs.Places.{at_place, repeat, repeated, AreAlike}
 use Rattle.discrim_tree.specs.Terms.{has_instance, can_unify}
 use Rattle.discrim_tree.specs.Tries.{count_linear, count_up_to, greatest, raised}
 use Rattle.discrim_tree.specs.declared.sought.Sought.TheVariants.{Generalizations, Instances, Unifiable}
@@ -75,3 +75,9 @@ WorkedPlaces =
     × (at_place (f (f a (var 0)) a) 1 ≡ Some (f a (var 0)))
     × (at_place (f (f a (var 0)) a) 2 ≡ Some a) × (at_place (f (f a (var 0)) a) 17 ≡ Some a)
     × (at_place (f (f a (var 0)) a) 33 ≡ Some (var 0)) × (at_place (f (f a (var 0)) a) 3 ≡ None)
+
+-- f(a,a) has the same part at the two places of the variable of f(x,x), and f(a,f(a,a)) hasn't
+abbrev pub WorkedAlike : Type 0
+WorkedAlike =
+    AreAlike (f a a) (repeated (f (var 0) (var 0)))
+    × (AreAlike (f a (f a a)) (repeated (f (var 0) (var 0))) → ⊥)

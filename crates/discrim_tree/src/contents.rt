@@ -1,7 +1,7 @@
 // What a node of a tree of paths has: numbers and branches.
 ghost use Rattle.std.specs.Prelude.{ℕ, ◌≡◌, ◌==◌, ◌<◌, ◌≤◌, ◌⊎◌, List, [], ◌∷◌, ◌++◌, None, Some, false, length, not, insert, remove, IfErr, IfOk, IfSome, IsTrue, OnOk, OnErr};
 ghost use Rattle.std.specs.List.{filter};
-ghost use Rattle.discrim_tree.specs.Contents.{target, numbers_of, branches_of, IsAt, IsGapFor, StepsRise};
+ghost use Rattle.discrim_tree.specs.Contents.{target, numbers_of, branches_of, listed, IsAt, IsGapFor, StepsRise};
 ghost use Rattle.discrim_tree.specs.declared.edge.Edge.{Edge};
 
 use crate::edge::Edge;
@@ -23,11 +23,22 @@ pub struct Contents {
     form: Form,
 }
 
+/// One branch, or a list of branches that is lent.
+#[derive(Clone, Copy)]
+pub enum Branches<'a> {
+    One(Branch),
+    Many(&'a [Branch]),
+}
+
+// A form takes 16 bytes, so one branch stands there by the kind of its step. Of a symbol's branch it has the number of arguments,
+// the node and the symbol; where the first two are too large for that, the branch stands in lists.
 #[derive(Drop)]
 enum Form {
     Nothing,
     Number(u64),
-    Branch(Branch),
+    ByAny(usize),
+    ByElement(u32, usize),
+    BySymbol(u16, u32, u64),
     Lists(Box<Lists>),
 }
 
@@ -65,7 +76,8 @@ impl Contents {
         ensures yes { IsTrue result → (self.now.numbers ≡ []) × (self.now.branches ≡ []) }
         ensures no { result ≡ false → (self.now.numbers ≡ [] → ⊥) ⊎ (self.now.branches ≡ [] → ⊥) }
     {
-        self.form.numbers().is_empty() && self.form.branches().is_empty()
+        let branches = self.form.branches();
+        self.form.numbers().is_empty() && branches.as_slice().is_empty()
     }
 
     /// The numbers.
@@ -76,8 +88,8 @@ impl Contents {
     }
 
     /// The branches.
-    pub fn branches(&self) -> &[Branch]
-        ensures all { result.now ≡ self.now.branches }
+    pub fn branches(&self) -> Branches<'_>
+        ensures all { listed result ≡ self.now.branches }
         ensures rise { StepsRise self.now.branches }
     {
         self.form.branches()
@@ -88,13 +100,9 @@ impl Contents {
     pub fn target(&self, edge: Edge) -> Option<usize>
         ensures { result ≡ target self.now.branches edge }
     {
-        let branches = self.form.branches();
-        if branches.len() <= FEW {
-            return target_among(branches, edge);
-        }
-        match place_of(branches, edge) {
-            Ok(at) => Some(branches[at].1),
-            Err(_) => None,
+        match self.form.branches() {
+            Branches::One((step, node)) => if edge == step { Some(node) } else { None },
+            Branches::Many(branches) => target_in(branches, edge),
         }
     }
 
@@ -104,7 +112,7 @@ impl Contents {
         ensures none { result ≡ None → (edge : Edge) → target self.now.branches edge ≡ Some node → ⊥ }
     {
         let branches = self.form.branches();
-        for (step, k) in branches {
+        for (step, k) in branches.as_slice() {
             if *k == node {
                 return Some(*step);
             }
@@ -130,7 +138,8 @@ impl Contents {
             ≡ target self.old.branches e) }
         ensures err { OnErr result (self.new.branches ≡ self.old.branches) }
     {
-        match place_of(self.form.branches(), edge) {
+        let branches = self.form.branches();
+        match place_of(branches.as_slice(), edge) {
             Ok(_) => unreachable!(),
             Err(at) => self.form.insert(alloc, at, (edge, node)),
         }
@@ -151,32 +160,83 @@ impl Contents {
         ensures others { (e : Edge) → (e ≡ edge → ⊥) → target self.new.branches e
             ≡ target self.old.branches e }
     {
-        if let Ok(at) = place_of(self.form.branches(), edge) {
+        let branches = self.form.branches();
+        if let Ok(at) = place_of(branches.as_slice(), edge) {
             self.form.remove(at);
         }
     }
 }
 
+impl Branches<'_> {
+    /// All of them.
+    #[inline(always)]
+    pub fn as_slice(&self) -> &[Branch]
+        ensures { result.now ≡ listed self.now }
+    {
+        match self {
+            Branches::One(branch) => slice::from_ref(branch),
+            Branches::Many(branches) => branches,
+        }
+    }
+}
+
 impl Form {
+    // One branch, where it needs no lists.
+    fn of(branch: Branch) -> Option<Form>
+        ensures numbers { IfSome result (λ form. numbers_of form ≡ []) }
+        ensures branches { IfSome result (λ form. branches_of form ≡ branch ∷ []) }
+    {
+        let (step, node) = branch;
+        match step {
+            Edge::Any => Some(Form::ByAny(node)),
+            Edge::Element(k) => Some(Form::ByElement(k, node)),
+            Edge::Symbol(symbol, count) => {
+                let count = u16::try_from(count).ok()?;
+                let node = u32::try_from(node).ok()?;
+                Some(Form::BySymbol(count, node, symbol))
+            }
+        }
+    }
+
+    // One branch.
+    fn made(alloc: Global, branch: Branch) -> Result<Form, AllocError>
+        ensures numbers { IfOk result (λ form. numbers_of form ≡ []) }
+        ensures branches { IfOk result (λ form. branches_of form ≡ branch ∷ []) }
+    {
+        match Form::of(branch) {
+            Some(form) => Ok(form),
+            None => {
+                let mut lists = Lists::of(alloc, &Form::Nothing)?;
+                lists.branches.reserve_exact(1)?;
+                lists.branches.push(branch)?;
+                Ok(Form::Lists(Box::new(alloc, lists)?))
+            }
+        }
+    }
+
     fn numbers(&self) -> &[u64]
         ensures { result.now ≡ numbers_of self.now }
     {
         match self {
-            Form::Nothing => &[],
             Form::Number(number) => slice::from_ref(number),
-            Form::Branch(_) => &[],
             Form::Lists(lists) => &lists.numbers,
+            _ => &[],
         }
     }
 
-    fn branches(&self) -> &[Branch]
-        ensures { result.now ≡ branches_of self.now }
+    #[inline(always)]
+    fn branches(&self) -> Branches<'_>
+        ensures { listed result ≡ branches_of self.now }
     {
         match self {
-            Form::Nothing => &[],
-            Form::Number(_) => &[],
-            Form::Branch(branch) => slice::from_ref(branch),
-            Form::Lists(lists) => &lists.branches,
+            Form::Nothing => Branches::Many(&[]),
+            Form::Number(_) => Branches::Many(&[]),
+            Form::ByAny(node) => Branches::One((Edge::Any, *node)),
+            Form::ByElement(k, node) => Branches::One((Edge::Element(*k), *node)),
+            Form::BySymbol(count, node, symbol) => {
+                Branches::One((Edge::Symbol(*symbol, *count as usize), *node as usize))
+            }
+            Form::Lists(lists) => Branches::Many(&lists.branches),
         }
     }
 
@@ -191,6 +251,7 @@ impl Form {
             Form::Lists(lists) => lists.numbers.push(number)?,
             _ => {
                 let mut lists = Lists::of(alloc, self)?;
+                lists.numbers.reserve_exact(1)?;
                 lists.numbers.push(number)?;
                 *self = Form::Lists(Box::new(alloc, lists)?);
             }
@@ -206,7 +267,7 @@ impl Form {
         ensures err { OnErr result (branches_of self.new ≡ branches_of self.old) }
     {
         match self {
-            Form::Nothing => *self = Form::Branch(branch),
+            Form::Nothing => *self = Form::made(alloc, branch)?,
             Form::Lists(lists) => lists.branches.insert(at, branch)?,
             _ => {
                 let mut lists = Lists::of(alloc, self)?;
@@ -224,14 +285,13 @@ impl Form {
         ensures branches { branches_of self.new ≡ branches_of self.old }
     {
         match self {
-            Form::Nothing => {}
             Form::Number(n) => {
                 if *n == number {
                     *self = Form::Nothing;
                 }
             }
-            Form::Branch(_) => {}
             Form::Lists(lists) => lists.numbers.retain(|n| *n != number),
+            _ => {}
         }
     }
 
@@ -242,17 +302,18 @@ impl Form {
         ensures branches { branches_of self.new ≡ remove (branches_of self.old) at }
     {
         match self {
-            Form::Branch(_) => *self = Form::Nothing,
+            Form::Nothing => unreachable!(),
+            Form::Number(_) => unreachable!(),
             Form::Lists(lists) => {
                 let _branch = lists.branches.remove(at);
             }
-            _ => unreachable!(),
+            _ => *self = Form::Nothing,
         }
     }
 }
 
 impl Lists {
-    // A form's numbers and branches.
+    // A form's numbers and branches, without room for more.
     fn of(alloc: Global, form: &Form) -> Result<Lists, AllocError>
         ensures numbers { IfOk result (λ lists. lists.numbers.items ≡ numbers_of form.now) }
         ensures branches { IfOk result (λ lists. lists.branches.items ≡ branches_of form.now) }
@@ -261,9 +322,27 @@ impl Lists {
             numbers: Vec::new(alloc),
             branches: Vec::new(alloc),
         };
+        lists.numbers.reserve_exact(form.numbers().len())?;
         lists.numbers.extend_from_slice(form.numbers())?;
-        lists.branches.extend_from_slice(form.branches())?;
+        let branches = form.branches();
+        lists.branches.reserve_exact(branches.as_slice().len())?;
+        lists.branches.extend_from_slice(branches.as_slice())?;
         Ok(lists)
+    }
+}
+
+// Where a step leads.
+#[inline(always)]
+fn target_in(branches: &[Branch], edge: Edge) -> Option<usize>
+    requires { StepsRise branches.now }
+    ensures { result ≡ target branches.now edge }
+{
+    if branches.len() <= FEW {
+        return target_among(branches, edge);
+    }
+    match place_of(branches, edge) {
+        Ok(at) => Some(branches[at].1),
+        Err(_) => None,
     }
 }
 

@@ -1,9 +1,10 @@
 // The steps of a term's path.
 ghost use Rattle.std.specs.Prelude.{◌≡◌, ◌++◌, IfOk, OnOk};
 ghost use Rattle.fol_core.specs.TermView.{tree_of};
-ghost use Rattle.discrim_tree.specs.Paths.{step_of, path_of};
+ghost use Rattle.discrim_tree.specs.Paths.{edge_of, step_of, path_of};
 
 use fol_core::Term;
+use packed_terms::Head;
 use std::alloc::{AllocError, Global};
 
 // For how many steps a path has room at first.
@@ -26,6 +27,17 @@ pub fn step_of(t: &Term) -> Edge
         Term::Var(_) => Edge::Any,
         Term::Elem(k) => Edge::Element(*k),
         Term::App(f, terms) => Edge::Symbol(f.0, terms.len()),
+    }
+}
+
+/// The step of what stands at a node of a term.
+pub fn edge_of(head: Head) -> Edge
+    ensures { result ≡ edge_of head }
+{
+    match head {
+        Head::Variable(_) => Edge::Any,
+        Head::Element(k) => Edge::Element(k),
+        Head::Symbol(f, count) => Edge::Symbol(f, count),
     }
 }
 

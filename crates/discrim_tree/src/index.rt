@@ -20,6 +20,7 @@ use crate::seeking::{first, found, near, place_of};
 use crate::sought::Sought;
 use crate::tries::Tries;
 use fol_core::Term;
+use packed_terms::PackedTerm;
 use std::alloc::{AllocError, Global};
 use std::marker::Model;
 
@@ -77,7 +78,7 @@ impl Index {
         ensures err { OnErr result (self.new ≡ self.old) }
     {
         let alloc = *self.entries.allocator();
-        let tree = term.copy(alloc)?;
+        let tree = PackedTerm::new(alloc, term)?;
         let path = path_of(alloc, term)?;
         let told = tell(alloc, term)?;
         let place = place_of(&self.entries, number);
@@ -98,7 +99,7 @@ impl Index {
         if place < self.entries.len() {
             let entry = &self.entries[place];
             if entry.number == number {
-                self.nodes.take_term(&entry.tree, number);
+                self.nodes.take_packed(&entry.tree, number);
                 take_out(&mut self.entries, place);
                 self.hints.renew(&self.entries, place);
             }

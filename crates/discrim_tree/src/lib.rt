@@ -13,6 +13,7 @@ mod marks;
 mod meeting;
 mod nodes;
 mod once;
+mod packed;
 mod seeking;
 mod sieve;
 mod skipping;

@@ -87,8 +87,9 @@ fn enter_within(
     ensures enters { OnOk result (EntersWithin contents.now.branches marks.now waiting.new.items) }
 {
     let branches = contents.branches();
-    if branches.len() <= FEW {
-        return enter_branches(waiting, branches, marks);
+    let listed = branches.as_slice();
+    if listed.len() <= FEW {
+        return enter_branches(waiting, listed, marks);
     }
     enter_marks(waiting, contents, marks)
 }
@@ -215,7 +216,8 @@ impl Nodes {
         match self.items.get(at) {
             None => false,
             Some(node) => {
-                node.contents.numbers().len() > most || node.contents.branches().len() > most
+                let branches = node.contents.branches();
+                node.contents.numbers().len() > most || branches.as_slice().len() > most
             }
         }
     }
@@ -261,7 +263,8 @@ impl Nodes {
             None => Ok(()),
             Some(node) => {
                 add_met(numbers, node.contents.numbers(), marks, next.met)?;
-                enter_over(waiting, node.contents.branches(), marks, next.met)
+                let branches = node.contents.branches();
+                enter_over(waiting, branches.as_slice(), marks, next.met)
             }
         }
     }

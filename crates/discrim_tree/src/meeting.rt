@@ -1,4 +1,4 @@
-// Terms that may be made the same: a test that needs no memory, before anything is copied.
+// Terms that may be made the same: a test that needs no memory, before a unifier is sought.
 ghost use Rattle.std.specs.Prelude.{◌≡◌, false};
 ghost use Rattle.fol_core.specs.TermView.{tree_of};
 ghost use Rattle.discrim_tree.specs.Meeting.{NeverMeet};

@@ -32,10 +32,10 @@ pub struct Repeat {
     pub second: u64,
 }
 
-/// Each place of a variable with the next one of the same variable, or nothing.
+/// Each place of a variable with the next one of the same variable, or the term itself.
 #[derive(Drop)]
 pub enum Told {
-    Nothing,
+    Whole(Box<Term>),
     Repeats(Vec<Repeat>),
 }
 
@@ -109,16 +109,25 @@ pub fn are_alike(repeats: &[Repeat], t: &Term) -> bool
     true
 }
 
-/// What is told of a term's variables; nothing where many stand in it, or one so deep or wide that there is no number for its place.
+// The term itself is told.
+fn whole(alloc: Global, t: &Term) -> Result<Told, AllocError>
+    ensures { IfOk result (IsTold (tree_of t.now)) }
+{
+    let copy = t.copy(alloc)?;
+    Ok(Told::Whole(Box::new(alloc, copy)?))
+}
+
+/// What is told of a term's variables; the term itself where many stand in it, or where it is so deep or wide that a place has
+/// no number.
 pub fn tell(alloc: Global, t: &Term) -> Result<Told, AllocError>
     ensures { IfOk result (IsTold (tree_of t.now)) }
 {
     let mut found = Vec::new(alloc);
     if !add_occurring(&mut found, t, 0, 1)? {
-        return Ok(Told::Nothing);
+        return whole(alloc, t);
     }
     if found.len() > MOST {
-        return Ok(Told::Nothing);
+        return whole(alloc, t);
     }
     Ok(Told::Repeats(repeats(alloc, &found)?))
 }

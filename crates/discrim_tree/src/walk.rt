@@ -4,6 +4,7 @@ ghost use Rattle.fol_core.specs.TermView.{tree_of};
 ghost use Rattle.discrim_tree.specs.declared.edge.Edge.TheVariants.{Any};
 ghost use Rattle.discrim_tree.specs.Walks.{GoesOn, Follows, Enters, StartsAt, SkipsOne, SkipsAll, SkipsEach, Passes, Came, CameByAny, IsPast, IsBeyond, IsSkipped, StartOnly, SkippedEach, Comes, AreFitting, IsFrom, arity};
 
+use crate::contents::Branches;
 use crate::edge::{Edge, step_of};
 use crate::nodes::Nodes;
 use crate::skipping::Skipping;
@@ -113,12 +114,20 @@ impl Nodes {
         if !self.items.contains(at) {
             return Ok(());
         }
-        let branches = self.items[at].contents.branches();
-        for (edge, k) in branches {
-            let count = left(count, *edge)?;
-            waiting.push(Skipping { node: *k, count })?;
+        match self.items[at].contents.branches() {
+            Branches::One((edge, node)) => {
+                let count = left(count, edge)?;
+                waiting.push(Skipping { node, count })?;
+                Ok(())
+            }
+            Branches::Many(branches) => {
+                for (edge, k) in branches {
+                    let count = left(count, *edge)?;
+                    waiting.push(Skipping { node: *k, count })?;
+                }
+                Ok(())
+            }
         }
-        Ok(())
     }
 
     // Goes a step further where terms are to be skipped from a node.

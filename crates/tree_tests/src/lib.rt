@@ -1,5 +1,5 @@
-// An index of terms against scans of all its entries, and a sieve of marks. Tests are proved with all that they stand on, so
-// these have a crate of their own.
+// An index of terms against scans of all its entries, a sieve of marks, and packed terms. Tests are proved with all that they
+// stand on, so these have a crate of their own.
 #![tactic(auto)]
 
 #[cfg(test)]
@@ -8,6 +8,8 @@ mod chance;
 mod filling;
 #[cfg(test)]
 mod marks;
+#[cfg(test)]
+mod packing;
 #[cfg(test)]
 mod scans;
 #[cfg(test)]

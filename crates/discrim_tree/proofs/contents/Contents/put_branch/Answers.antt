@@ -7,18 +7,19 @@ use Rattle.discrim_tree.proofs.contents.Contents.put_branch.Goals as goal
 
 pub unreachable-requires : goal.unreachable-requires
 unreachable-requires c =
-    let branches = c.branches.result.now in
+    let branches = c.as_slice.result.now in
+    let listed = c.as_slice.ensures ∙ c.branches-branches.ensures in
     let edge = c.args.edge in
     let found = c.in-Ok.ensures.found in
-    let same = c.branches.ensures ∙ ap (λ (v : Contents). v.branches) c.self.view_is in
-    let rise = subst StepsRise (sym c.branches.ensures) c.self.invariant in
+    let same = listed ∙ ap (λ (v : Contents). v.branches) c.self.view_is in
+    let rise = subst StepsRise (sym listed) c.self.invariant in
     none_some found.0
     (sym (ap (λ (bs : List (Edge × ℕ)). target bs edge) same ∙ c.requires) ∙ target_at branches rise edge c.in-Ok.field-0 found.0 found.1)
 
 pub invariant_of-self : goal.invariant_of-self
 invariant_of-self c =
     let old = branches_of c.self.inside.form in
-    let gap = subst (λ (bs : List (Edge × ℕ)). IsGapFor bs c.args.edge c.in-Err.at) c.branches.ensures c.in-Err.ensures.absent in
+    let gap = subst (λ (bs : List (Edge × ℕ)). IsGapFor bs c.args.edge c.in-Err.at) (c.as_slice.ensures ∙ c.branches-branches.ensures) c.in-Err.ensures.absent in
     on_either c.insert.result
     (λ more. subst StepsRise (sym more) (put_rise old c.args.edge c.args.node c.in-Err.at c.self.invariant gap))
     (λ same. subst StepsRise (sym same) c.self.invariant)

@@ -8,11 +8,12 @@ use Rattle.discrim_tree.proofs.contents.Contents.step_to.Goals as goal
 
 pub returns-then-k-node-clause-step : goal.returns-then-k-node-clause-step
 returns-then-k-node-clause-step c =
-    let branches = c.branches-branches.result.now in
+    let branches = c.as_slice-step-items.result.now in
+    let listed = c.as_slice-step-items.ensures ∙ c.branches-branches.ensures in
     let i = c.loop-step.step-index in
     let b = get_or branches i (Any, 0) in
-    let same = c.branches-branches.ensures ∙ ap (λ (v : Contents). v.branches) c.self.view_is in
-    let rise = subst StepsRise (sym c.branches-branches.ensures) c.self.invariant in
+    let same = listed ∙ ap (λ (v : Contents). v.branches) c.self.view_is in
+    let rise = subst StepsRise (sym listed) c.self.invariant in
     sym (ap (λ (bs : List (Edge × ℕ)). target bs b.0) same)
     ∙ target_at branches rise b.0 i b.1 (slice_get-get_or branches i (Any, 0) c.loop-step-test.true)
     ∙ ap Some c.if-k-node.true

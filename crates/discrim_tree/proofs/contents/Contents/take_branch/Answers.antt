@@ -12,7 +12,7 @@ returns-in-Ok-clause-gone c =
     let old = branches_of c.self.inside.form in
     let at = c.in-Ok.at in
     let found = c.in-Ok.ensures.found in
-    let is = ap (λ (bs : List (Edge × ℕ)). slice_get bs at) (sym c.branches.ensures) ∙ found.1 in
+    let is = ap (λ (bs : List (Edge × ℕ)). slice_get bs at) (sym (c.as_slice.ensures ∙ c.branches-branches.ensures)) ∙ found.1 in
     ap (λ (bs : List (Edge × ℕ)). target bs c.args.edge) c.remove.ensures.branches ∙ cut_gone old c.args.edge found.0 at c.self.invariant is
 
 pub returns-in-Ok-clause-others : goal.returns-in-Ok-clause-others
@@ -20,13 +20,14 @@ returns-in-Ok-clause-others c = λ e apart.
     let old = branches_of c.self.inside.form in
     let at = c.in-Ok.at in
     let found = c.in-Ok.ensures.found in
-    let is = ap (λ (bs : List (Edge × ℕ)). slice_get bs at) (sym c.branches.ensures) ∙ found.1 in
+    let is = ap (λ (bs : List (Edge × ℕ)). slice_get bs at) (sym (c.as_slice.ensures ∙ c.branches-branches.ensures)) ∙ found.1 in
     ap (λ (bs : List (Edge × ℕ)). target bs e) c.remove.ensures.branches ∙ cut_others old c.args.edge found.0 at c.self.invariant is e apart
     ∙ ap (λ (v : Contents). target v.branches e) c.self.view_is
 
 pub returns-in_default-clause-gone : goal.returns-in_default-clause-gone
 returns-in_default-clause-gone c =
-    let branches = c.branches.result.now in
-    let same = c.branches.ensures ∙ ap (λ (v : Contents). v.branches) c.self.view_is in
-    let rise = subst StepsRise (sym c.branches.ensures) c.self.invariant in
+    let branches = c.as_slice.result.now in
+    let listed = c.as_slice.ensures ∙ c.branches-branches.ensures in
+    let same = listed ∙ ap (λ (v : Contents). v.branches) c.self.view_is in
+    let rise = subst StepsRise (sym listed) c.self.invariant in
     sym (ap (λ (bs : List (Edge × ℕ)). target bs c.args.edge) same) ∙ target_in_gap branches rise c.args.edge c.in_default.field-0 c.in_default.ensures.absent

@@ -1,7 +1,6 @@
 use Rattle.std.proofs.Common.{◌∙◌, ap, ap₂, subst, sym, arith, List}
 use Rattle.std.specs.List.{insert}
-use Rattle.fol_core.specs.TermView.{tree_of}
-use Rattle.fol_core.specs.declared.term.Term.{Term}
+use Rattle.fol_core.specs.Tree.{Tree}
 use Rattle.discrim_tree.specs.Entries.{Indexed, NumbersRise, indexed, has_number, with_entry}
 use Rattle.discrim_tree.specs.Linear.{IsTold, AreTold}
 use Rattle.discrim_tree.specs.Nodes.{Reaches}
@@ -42,7 +41,7 @@ invariant_of-self-2 c =
     let place = c.place_of-place.result in
     let so = c.self.invariant in
     let entry : IndexEntry = record { number = c.args.number; tree = c.in_ok-tree.tree; told = c.in_ok-told.told } in
-    let path = c.deref-2.ensures.value ∙ c.in_ok-path.ensures ∙ ap (λ (t : Term). path_of (tree_of t)) (sym c.in_ok-tree.ensures) in
+    let path = c.deref-2.ensures.value ∙ c.in_ok-path.ensures ∙ ap path_of (sym c.in_ok-tree.ensures) in
     let is = c.in_ok-insert.ensures.items ∙ ap (λ (xs : List IndexEntry). insert xs place entry) c.in_ok-reserve.ensures.items in (
       rise_placed es entry place c.insert.new.self.items is so.0
           (ap (has_number c.args.number) c.self.view_is ∙ c.requires) (c.place_of-place.ensures ∙ ap (count_below c.args.number) c.deref.ensures.value),
@@ -51,7 +50,7 @@ invariant_of-self-2 c =
       only_placed old new es c.insert.new.self.items place entry c.deref-2.result.now is path (c.in_ok-put.ensures.only so.3) so.2,
       c.put.ensures.tree so.3,
       c.put.ensures.used so.3 so.4,
-      told_placed es c.insert.new.self.items place entry is (subst (λ (t : Term). IsTold (tree_of t) c.in_ok-told.told) (sym c.in_ok-tree.ensures) c.in_ok-told.ensures) so.5,
+      told_placed es c.insert.new.self.items place entry is (subst (λ (t : Tree). IsTold t c.in_ok-told.told) (sym c.in_ok-tree.ensures) c.in_ok-told.ensures) so.5,
     )
 
 pub returns-clause-ok : goal.returns-clause-ok
@@ -61,4 +60,4 @@ returns-clause-ok c =
     ap all_indexed (c.in_ok-insert.ensures.items ∙ ap (λ (xs : List IndexEntry). insert xs place entry) c.in_ok-reserve.ensures.items)
     ∙ entry_placed c.self.inside.entries.items entry place c.self.invariant.0
     (ap (has_number c.args.number) c.self.view_is ∙ c.requires) (c.place_of-place.ensures ∙ ap (count_below c.args.number) c.deref.ensures.value)
-    ∙ ap₂ (λ (t : Term) (es : List Indexed). with_entry (indexed c.args.number (tree_of t)) es) c.in_ok-tree.ensures c.self.view_is
+    ∙ ap₂ (λ (t : Tree) (es : List Indexed). with_entry (indexed c.args.number t) es) c.in_ok-tree.ensures c.self.view_is

@@ -14,7 +14,7 @@ invariant_of-self c =
     let es = c.self.inside.entries.items in
     let left = c.take_out.new.entries.items in
     let old = c.self.inside.nodes.items in
-    let new = c.take_term.new.self.items in
+    let new = c.take_packed.new.self.items in
     let so = c.self.invariant in
     let entry = c.index-entry.result.now in
     let at = place.ensures ∙ ap (count_below c.args.number) c.deref.ensures.value in
@@ -22,10 +22,10 @@ invariant_of-self c =
     let here = sym (ap (λ (e : IndexEntry). e.number) c.index-entry.ensures) ∙ c.if-entry-number.true in (
       rise_out c.args.number es place.result entry left c.take_out.ensures so.0 at within c.index-entry.ensures c.if-entry-number.true,
       reached_out c.args.number old new es left place.result c.take_out.ensures (ap all_indexed c.take_out.ensures ∙ entry_out c.args.number es place.result entry so.0 at within here)
-          c.take_term.ensures.others so.1,
-      only_out old new es left place.result c.args.number entry c.take_out.ensures within c.index-entry.ensures c.if-entry-number.true c.take_term.ensures.fewer c.take_term.ensures.gone so.2,
-      c.take_term.ensures.tree so.3,
-      c.take_term.ensures.used so.3 so.4,
+          c.take_packed.ensures.others so.1,
+      only_out old new es left place.result c.args.number entry c.take_out.ensures within c.index-entry.ensures c.if-entry-number.true c.take_packed.ensures.fewer c.take_packed.ensures.gone so.2,
+      c.take_packed.ensures.tree so.3,
+      c.take_packed.ensures.used so.3 so.4,
       told_out es left place.result c.take_out.ensures so.5,
     )
 

@@ -18,5 +18,5 @@ returns-in_ok-add_met-in-Some-clause-yields c =
     (λ enters rise.
     over_there c.args.self.now.items c.args.marks.now c.args.next node numbers c.enter_over.new.waiting.items (sym c.get.ensures ∙ ap option_copied c.in-Some.is)
     (λ met. subst (λ (ns : List ℕ). AreAmong ns numbers) c.numbers.ensures (c.in_ok-add_met-in-Some.ensures.added met))
-    (subst (λ bs. EntersOver bs c.args.marks.now c.args.next.met c.enter_over.new.waiting.items) c.branches.ensures.all (enters rise)))
+    (subst (λ bs. EntersOver bs c.args.marks.now c.args.next.met c.enter_over.new.waiting.items) (c.as_slice.ensures ∙ c.branches-branches.ensures.all) (enters rise)))
     c.enter_over.ensures.enters

@@ -1,0 +1,4 @@
+pub mod Building
+pub mod Codes
+pub mod Heads
+pub mod Worked
