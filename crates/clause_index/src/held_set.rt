@@ -1,5 +1,5 @@
 // Clauses that are held, found by their literals, by the terms in them and by their marks.
-ghost use Rattle.std.specs.Prelude.{IsTrue, ◌≡◌, ◌+◌, ◌≤◌, ◌==◌, false, not, [], IfOk, OnOk, OnErr, filter, length};
+ghost use Rattle.std.specs.Prelude.{IsTrue, ◌≡◌, ◌+◌, ◌≤◌, ◌==◌, false, not, [], IfOk, OnOk, OnErr, filter, length, slice_get};
 ghost use Rattle.std.specs.List.{list_any};
 ghost use Rattle.std.specs.List.Sorted.{IsStrictlyIncreasing};
 ghost use Rattle.clause_index.specs.Entries.{is_short, is_short_above, is_short_unifiable, short_atoms};
@@ -8,9 +8,10 @@ ghost use Rattle.clause_index.specs.Finding.{has_atom_such, has_equation_such, h
 ghost use Rattle.clause_index.specs.Numbered.{AddsAll};
 ghost use Rattle.clause_index.specs.Subsumers.{BeginsWith, is_below, is_long_above, HasAllBelow};
 ghost use Rattle.clause_index.specs.declared.parts.Part.TheVariants.{Atoms};
+ghost use Rattle.discrim_tree.specs.Entries.{numbers_found};
 ghost use Rattle.discrim_tree.specs.Seeking.{passes};
 ghost use Rattle.discrim_tree.specs.Terms.{can_unify, has_instance};
-ghost use Rattle.discrim_tree.specs.Tries.{count_linear, HasRisen};
+ghost use Rattle.discrim_tree.specs.Tries.{count_linear, count_up_to, HasRisen};
 ghost use Rattle.discrim_tree.specs.declared.sought.Sought.TheVariants.{Generalizations, Unifiable};
 ghost use Rattle.fol_core.specs.ClauseView.{literal_of};
 ghost use Rattle.fol_core.specs.TermView.{tree_of};
@@ -129,6 +130,9 @@ impl HeldSet {
         ensures on { tries.old ≤ tries.new }
         ensures within { tries.new ≤ tries.old
             + count_linear Generalizations (tree_of atom.now) (short_atoms sign self.now) }
+        ensures no_more { OnOk result (tries.new ≤ tries.old
+            + count_up_to Generalizations (tree_of atom.now) (short_atoms sign self.now)
+            (slice_get (numbers_found (λ s. has_instance s (tree_of atom.now)) (short_atoms sign self.now)) 0)) }
     {
         self.listed.has_short_above(sign, atom, tries)
     }

@@ -1,12 +1,13 @@
 // Clauses by rising number; those of one literal are found by it.
-ghost use Rattle.std.specs.Prelude.{◌≡◌, ◌+◌, ◌≤◌, ◌==◌, false, not, [], IfOk, OnOk, OnErr, filter, length};
+ghost use Rattle.std.specs.Prelude.{◌≡◌, ◌+◌, ◌≤◌, ◌==◌, false, not, [], IfOk, OnOk, OnErr, filter, length, slice_get};
 ghost use Rattle.std.specs.List.{list_any};
 ghost use Rattle.std.specs.List.Sorted.{IsStrictlyIncreasing};
 ghost use Rattle.clause_index.specs.Entries.{is_short_above, is_short_unifiable, entered, short_atoms};
 ghost use Rattle.clause_index.specs.Filing.{HasAllShort};
-ghost use Rattle.discrim_tree.specs.Entries.{has_number};
+ghost use Rattle.discrim_tree.specs.Entries.{has_number, numbers_found};
 ghost use Rattle.discrim_tree.specs.Seeking.{passes};
-ghost use Rattle.discrim_tree.specs.Tries.{count_linear, HasRisen};
+ghost use Rattle.discrim_tree.specs.Terms.{has_instance};
+ghost use Rattle.discrim_tree.specs.Tries.{count_linear, count_up_to, HasRisen};
 ghost use Rattle.discrim_tree.specs.declared.sought.Sought.TheVariants.{Generalizations, Unifiable};
 ghost use Rattle.fol_core.specs.TermView.{tree_of};
 ghost use Rattle.held_clauses.specs.Holding.{lent};
@@ -56,7 +57,7 @@ fn enter(sign: bool, held: &Held, index: &mut Index) -> Result<(), AllocError>
         return Ok(());
     }
     let nothing = Term::Var(0);
-    index.insert(held.number, first_atom(&held.clause, &nothing))
+    index.insert(held.number(), first_atom(held.clause(), &nothing))
 }
 
 impl Listed {
@@ -142,6 +143,9 @@ impl Listed {
         ensures on { tries.old ≤ tries.new }
         ensures within { tries.new ≤ tries.old
             + count_linear Generalizations (tree_of atom.now) (short_atoms sign self.now) }
+        ensures no_more { OnOk result (tries.new ≤ tries.old
+            + count_up_to Generalizations (tree_of atom.now) (short_atoms sign self.now)
+            (slice_get (numbers_found (λ s. has_instance s (tree_of atom.now)) (short_atoms sign self.now)) 0)) }
     {
         let first = self.index(sign).first_generalization(atom, tries)?;
         Ok(first.is_some())

@@ -83,7 +83,7 @@ impl NormalTerms {
         }
     }
 
-    /// Whether a term is one of them.
+    /// Whether a term is known to be one of them; where it isn't, it may be one all the same.
     pub fn has(&self, term: &Term) -> bool
         ensures { (rules : List Held) → HaveNoStep rules self.now → result ≡ true
             → first_step rules (tree_of term.now) ≡ None }

@@ -29,13 +29,14 @@ use Rattle.clause_store.specs.Ancestors.{IsAncestry, AreAncestors, IsWay, first_
 use Rattle.clause_store.specs.Laws.{LinesMean, LinesStay}
 use Rattle.clause_store.specs.Stored.{stored_clause, AreLiteralsIn, IsStoredAs}
 use Rattle.clause_store.specs.Lines.{PlainLine, plain_clause, line_under, stored_content, stored_line, lines_from, store_lines, plain_line, plain_tree, plain_trees, content_tree, plain_content, formula_line, formula_lines, IsLineOfInput, IsContentIn, AreStoredIn}
-use Rattle.clause_store.specs.Marks.{just_parents, steps_parents, stored_parents, has_mark, IsNumberOf, MarkAncestors}
+use Rattle.clause_store.specs.Marks.{stored_parents, has_mark, IsNumberOf, MarkAncestors}
+use Rattle.clause_store.specs.Parents.{just_parents, steps_parents}
 use Rattle.clause_store.specs.declared.lines.StoredContent.{StoredContent}
 use Rattle.clause_store.specs.declared.lines.StoredContent.TheVariants as stored
 use Rattle.clause_store.specs.declared.lines.StoredLine.{StoredLine}
 
 -- what a first word means is what it stands for in a derivation
-means_first : (f : First) → meant (written_first f) ≡ first_word_of f
+pub means_first : (f : First) → meant (written_first f) ≡ first_word_of f
 means_first Assumption = refl
 means_first Goal = refl
 means_first (Clausify n) = refl
@@ -153,12 +154,12 @@ same_parents bank ls (suc k) = by (slice_get ls k) ∙ ap (λ o. option_map_or l
     by None = refl
     by (Some l) = ap (λ w. first_parents w ++ steps_parents l.just.steps.items) (sym (means_first l.just.first))
 
-way_same : (p q : ℕ → List ℕ) → ((k : ℕ) → p k ≡ q k) → (n m : ℕ) (ks : List ℕ) → IsWay p n ks m → IsWay q n ks m
+pub way_same : (p q : ℕ → List ℕ) → ((k : ℕ) → p k ≡ q k) → (n m : ℕ) (ks : List ℕ) → IsWay p n ks m → IsWay q n ks m
 way_same p q e n m [] h = h
 way_same p q e n m (k ∷ ks) h = (way_same p q e n k ks h.0, ap (is_in m) (sym (e k)) ∙ h.1)
 
 -- marks tell the ancestors
-pub marks_tell : (bank : List Tree) (ls : List StoredLine) (n : ℕ) (marks : List Bool) → MarkAncestors ls n marks → IsAncestry (plain_trees (store_lines bank ls)) n (has_mark marks)
+pub marks_tell : (bank : List Tree) (ls : List StoredLine) (n : ℕ) (marks : List Bool) → MarkAncestors (length ls) (stored_parents ls) n marks → IsAncestry (plain_trees (store_lines bank ls)) n (has_mark marks)
 marks_tell bank ls n marks h = record {
   rests = λ m i. let r = h.rests m i in (r.0, way_same (stored_parents ls) (parents_in (plain_trees (store_lines bank ls))) (same_parents bank ls) n m r.0 r.1);
   all = λ m l e r. h.all m (number m l e) (r.0, way_same (parents_in (plain_trees (store_lines bank ls))) (stored_parents ls) (λ k. sym (same_parents bank ls k)) n m r.0 r.1);
@@ -248,10 +249,10 @@ module _ (bank : List Tree) (marks : List Bool) (ls ks : List StoredLine) (i : �
       ap (map plain_line) grown ∙ old
       ∙ sym (marked_next bank marks ks i l false lt is (mark_read marks i r within read ∙ tells) ∙ append-nil (marked_lines bank marks (take i ks)))
 
-pub lines_found : (bank : List Tree) (ls ks js : List StoredLine) (n : ℕ) (marks : List Bool) (i : ℕ) (lines : List Line) → js ≡ ls → MarkAncestors js n marks → ks ≡ ls → length ks ≤ i
+pub lines_found : (bank : List Tree) (ls ks js : List StoredLine) (n : ℕ) (marks : List Bool) (i : ℕ) (lines : List Line) → js ≡ ls → MarkAncestors (length js) (stored_parents js) n marks → ks ≡ ls → length ks ≤ i
     → map plain_line lines ≡ marked_lines bank marks (take i ks) → AreAncestors (store_lines bank ls) n (map plain_line lines)
 lines_found bank ls ks js n marks i lines one marked other past found = record {
   among = has_mark marks;
-  ancestry = marks_tell bank ls n marks (subst (λ x. MarkAncestors x n marks) one marked);
+  ancestry = marks_tell bank ls n marks (subst (λ x. MarkAncestors (length x) (stored_parents x) n marks) one marked);
   lines = found ∙ ap (marked_lines bank marks) (take_all i ks past ∙ other);
 }

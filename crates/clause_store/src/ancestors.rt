@@ -1,6 +1,6 @@
 // The lines that a line rests on, marked.
 ghost use Rattle.std.specs.Prelude.{◌≡◌, IfOk, OnOk, length};
-ghost use Rattle.clause_store.specs.Marks.{MarkAncestors, VisitsLine};
+ghost use Rattle.clause_store.specs.Marks.{stored_parents, MarkAncestors, VisitsLine};
 
 use crate::lines::StoredLine;
 use crate::parents::add_parents;
@@ -14,8 +14,8 @@ fn look_at(
     waiting: &mut Vec<u64>,
 ) -> Result<(), AllocError>
     requires { length marks.old.items ≡ length lines.now }
-    ensures { OnOk result (VisitsLine lines.now m marks.old.items waiting.old.items
-        marks.new.items waiting.new.items) }
+    ensures { OnOk result (VisitsLine (length lines.now) (stored_parents lines.now) m
+        marks.old.items waiting.old.items marks.new.items waiting.new.items) }
 {
     if m == 0 {
         return Ok(());
@@ -32,9 +32,10 @@ fn look_at(
 }
 
 /// Marks the lines that the one of a number rests on, itself among them.
-#[tactic(auto, using(crate::proofs::Marking::way_begins, crate::proofs::Marking::way_ends))]
+#[tactic(auto, using(crate::proofs::Marking::way_begins))]
 pub fn marked(alloc: Global, lines: &[StoredLine], n: u64) -> Result<Vec<bool>, AllocError>
-    ensures { IfOk result (λ marks. MarkAncestors lines.now n marks.items) }
+    ensures { IfOk result (λ marks. MarkAncestors (length lines.now) (stored_parents lines.now) n
+        marks.items) }
 {
     let mut marks: Vec<bool> = vec![in alloc; false; lines.len()]?;
     let mut waiting = Vec::new(alloc);

@@ -1,4 +1,4 @@
-// The lines of a search: the formulas of a problem, and clauses as terms of a bank.
+// Lines as they are written, the lines that one takes and rests on, and a store of lines.
 #![tactic(auto)]
 
 mod ancestors;
@@ -9,7 +9,7 @@ mod parents;
 mod store;
 mod stored;
 
-pub use copying::copy_just;
+pub use copying::{copy_just, copy_label};
 pub use laws::{ancestors_are_one, ancestors_derive, lines_say_the_same, worked};
 pub use lines::{StoredContent, StoredLine};
 pub use parents::add_parents;

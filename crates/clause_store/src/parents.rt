@@ -3,7 +3,7 @@ ghost use Rattle.std.specs.Prelude.{◌≡◌, ◌++◌, ◌∷◌, [], OnOk, ma
 ghost use Rattle.derivation.specs.Later.{later_parents};
 ghost use Rattle.derivation.specs.View.{first_word_of, later_of};
 ghost use Rattle.clause_store.specs.Ancestors.{first_parents};
-ghost use Rattle.clause_store.specs.Marks.{just_parents};
+ghost use Rattle.clause_store.specs.Parents.{just_parents};
 
 use derivation::{First, Just, Later, Satellite};
 use std::alloc::AllocError;

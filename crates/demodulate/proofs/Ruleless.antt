@@ -1,5 +1,5 @@
 -- Without rules nothing is rewritten.
-use Rattle.std.proofs.Common.{◌≡◌, ℕ, zero, suc, Bool, if◌then◌else◌, List, [], ◌∷◌, Some, None, refl, sym, ap, ap₂, subst}
+use Rattle.std.proofs.Common.{◌≡◌, ℕ, zero, suc, Bool, if◌then◌else◌, List, [], ◌∷◌, length, Some, None, sym, ap, ap₂, refl, arith}
 use Rattle.std.specs.Option.{option_map, option_map_or}
 use Rattle.derivation.specs.Later.{rewritten}
 use Rattle.fol_core.specs.Literals.{literal, ClauseTree}
@@ -28,8 +28,7 @@ no_clause_step a (l ∷ c) =
     ap₂ (λ o p. option_map_or (λ r. Some (rewritten r.rule a r.path, literal l.positive r.result ∷ c)) o (option_map (λ s. (s.0, l ∷ s.1)) p))
     (no_atom_step l.atom) (no_clause_step (suc a) c)
 
-pub no_rules : (large : ClauseTree → Bool) (rs : List Held) (k : ℕ) (c : ClauseTree) → rs ≡ [] → simplified c [] ≡ normal_form large rs k c
-no_rules large rs zero c e = refl
-no_rules large rs (suc k) c e =
-    subst (λ qs. simplified c [] ≡ normal_form large qs (suc k) c) (sym e)
-    (sym (ap (λ o. option_map_or (λ s. if large s.1 then simplified c [] else then_word s.0 (normal_form large [] k s.1)) o (simplified c [])) (no_clause_step 0 c)))
+pub no_rules : (large : ClauseTree → Bool) (rs : List Held) (k : ℕ) (c : ClauseTree) → length rs ≡ 0 → simplified c [] ≡ normal_form large rs k c
+no_rules large [] zero c e = refl
+no_rules large [] (suc k) c e = sym (ap (λ o. option_map_or (λ s. if large s.1 then simplified c [] else then_word s.0 (normal_form large [] k s.1)) o (simplified c [])) (no_clause_step 0 c))
+no_rules large (r ∷ rs) k c e = absurd (omega (arith, e))

@@ -38,7 +38,7 @@ fn fits_in(alloc: Global, rule: &Held, term: &Term) -> bool
             let nothing = Term::Var(0);
             if is_instance(
                 alloc,
-                left_of(first_atom(&rule.clause, &nothing), &nothing),
+                left_of(first_atom(rule.clause(), &nothing), &nothing),
                 term,
             ) {
                 return true;
@@ -76,7 +76,7 @@ pub fn rewrites_clause(alloc: Global, rule: &Held, clause: &Clause) -> bool
 pub fn denies(alloc: Global, unit: &Held, literal: &Literal) -> bool
     ensures { result ≡ denies unit.now (literal_of literal.now) }
 {
-    let literals = unit.clause.literals.as_slice();
+    let literals = unit.clause().as_slice();
     if literals.len() != 1 {
         return false;
     }

@@ -119,7 +119,8 @@ fn after_steps(
     Ok(Tidied { clause, words })
 }
 
-/// The same; the terms that turn out to be in normal form stay known.
+/// A clause after so many steps, or after as many as there are, or as don't make it too large; with their words. Terms that turn
+/// out to be in normal form stay known to the rules.
 #[tactic(auto, using(crate::proofs::Ruleless::no_rules))]
 pub fn normal_form(
     alloc: Global,

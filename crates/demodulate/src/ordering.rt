@@ -187,7 +187,7 @@ fn first_denying(alloc: Global, held: &[&Held], literal: &Literal) -> Option<u64
 {
     for unit in held {
         if denies(alloc, unit, literal) {
-            return Some(unit.number);
+            return Some(unit.number());
         }
     }
     None

@@ -23,7 +23,7 @@ pub fn rewritten_by(alloc: Global, rule: &Held, term: &Term) -> Result<Option<Te
         ≡ rewritten_by rule.now (tree_of term.now)) }
 {
     let nothing = Term::Var(0);
-    let atom = first_atom(&rule.clause, &nothing);
+    let atom = first_atom(rule.clause(), &nothing);
     let left = left_of(atom, &nothing);
     let mut values = Matches::new(alloc);
     values.reserve(left)?;
@@ -51,7 +51,7 @@ fn step_at_top(
     };
     match rewritten_by(alloc, rule, term)? {
         Some(part) => Ok(Some(Step {
-            rule: rule.number,
+            rule: rule.number(),
             path: Vec::new(alloc),
             part,
         })),

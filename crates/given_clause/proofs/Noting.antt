@@ -1,11 +1,10 @@
 -- Notes of clauses that wait.
-use Rattle.std.proofs.Common.{◌≡◌, ℕ, zero, suc, ◌<◌, ◌==◌, Bool, true, false, not, if◌then◌else◌, List, [], ◌∷◌, ◌++◌, length, get_or, take, drop, map, filter, refl, sym, ap, ◌∙◌, arith}
+use Rattle.std.proofs.Common.{◌≡◌, ℕ, zero, suc, ◌<◌, ◌==◌, Bool, true, false, not, if◌then◌else◌, List, [], ◌∷◌, length, get_or, map, filter, refl, sym, ap, ◌∙◌, arith}
 use Rattle.std.specs.List.{insert}
 use Rattle.clause_index.proofs.Places.{put_there}
 use Rattle.clause_index.specs.Places.{IsPlaceOf}
-use Rattle.given_clause.specs.Noted.{note_of, AreNoted}
+use Rattle.given_clause.specs.Noted.{note_of}
 use Rattle.given_clause.specs.declared.waiting.Note.{Note}
-use Rattle.given_clause.specs.declared.waiting.Waiting.{Waiting}
 use Rattle.prover_steps.specs.Clashing.{Held}
 use Rattle.prover_steps.specs.HeldOrder.{numbers_of, IsNoneOf}
 use Rattle.prover_steps.specs.Searching.{Setting, put_in}

@@ -1,6 +1,5 @@
 -- Those of the clauses that are held that pass a test, by those that wait and those in use.
-use Rattle.std.proofs.Common.{◌≡◌, ◌<◌, ◌≤◌, Bool, true, false, nat_lt, if◌then◌else◌, List, [], ◌∷◌, filter, refl, sym, ap, ◌∙◌, ltb-true, arith}
-use Rattle.std.specs.List.{AllByRecursion}
+use Rattle.std.proofs.Common.{◌≡◌, ◌<◌, Bool, true, false, nat_lt, if◌then◌else◌, List, [], ◌∷◌, filter, refl, sym, ap, ◌∙◌, ltb-true, arith}
 use Rattle.prover_steps.proofs.Rising.{above_lower, put_first, put_all_rises, kept_each, kept_rises, merges}
 use Rattle.prover_steps.specs.Clashing.{Held}
 use Rattle.prover_steps.specs.HeldOrder.{numbers_of, IsRising, ShareNone, IsInOrder, merged_held}

@@ -1,11 +1,7 @@
 -- The states of the code.
-use Rattle.std.specs.Prelude.{◌≡◌, true, false, [], map}
+use Rattle.std.specs.Prelude.{◌≡◌, true, false, map}
 use Rattle.clause_limits.specs.Sizes.{is_too_large}
 use Rattle.derivation.specs.View.{later_of}
-use Rattle.derivation.specs.declared.line.Content.{Content}
-use Rattle.derivation.specs.declared.line.Content.TheVariants.{Formula, Clause}
-use Rattle.derivation.specs.declared.line.Line.{Line}
-use Rattle.fol_core.specs.Literals.{ClauseTree}
 use Rattle.fol_core.specs.Renumbered.{renumbered}
 use Rattle.given_clause.specs.declared.state.FoundProof as found
 use Rattle.given_clause.specs.declared.state.QueueEntry.{QueueEntry}
@@ -14,6 +10,7 @@ use Rattle.given_clause.specs.declared.state.Queued as queued
 use Rattle.given_clause.specs.declared.state.Reason as why
 use Rattle.given_clause.specs.declared.state.Reason.TheVariants.{Proved, Spent, GaveAll, KeptAll, Filled}
 use Rattle.given_clause.specs.declared.state.Search.{Search}
+use Rattle.held_clauses.specs.declared.made.MadeLine as made
 use Rattle.proof_words.specs.Written.{written_first}
 use Rattle.prover_steps.specs.Searching.{Queued, queued_for, MadeLine, Reason, proved, spent, gave_all, kept_all, filled, FoundProof, SearchState}
 use Rattle.std.specs.Option.{option_map}
@@ -37,17 +34,12 @@ abbrev pub IsQueuedWithin : QueueEntry → Type 0
 IsQueuedWithin (Built q) = is_too_large q.clause ≡ false
 IsQueuedWithin (Large c f) = is_too_large c ≡ true
 
--- a line's clause
-abbrev pub line_clause : Content → ClauseTree
-line_clause (Formula f label) = []
-line_clause (Clause c) = c
-
-abbrev pub made_line_of : Line → MadeLine
+abbrev pub made_line_of : made.MadeLine → MadeLine
 made_line_of l = record {
   number = l.number;
-  clause = line_clause l.content;
-  first = written_first l.just.first;
-  later = map later_of l.just.steps.items;
+  clause = l.clause.value;
+  first = written_first l.just.value.first;
+  later = map later_of l.just.value.steps.items;
 }
 
 abbrev pub found_of : found.FoundProof → FoundProof

@@ -172,7 +172,7 @@ fn copies_of(alloc: Global, held: &[&Held]) -> Result<Vec<Held>, AllocError>
 {
     let mut copies = Vec::new(alloc);
     for one in held {
-        copies.push(one.copy(alloc)?)?;
+        copies.push(one.copy()?)?;
     }
     Ok(copies)
 }
@@ -206,21 +206,21 @@ fn retire(gone: &[Held], search: &mut Search)
 }
 
 // A clause that is put back, with the word for it.
-fn queued_back(alloc: Global, back: Back, held: Held) -> QueueEntry
-    ensures { entry_of result ≡ queued_back (word_for back) held }
+fn queued_back(alloc: Global, back: Back, held: &Held) -> Result<QueueEntry, AllocError>
+    ensures { IfOk result (λ entry. entry_of entry ≡ queued_back (word_for back) held.now) }
 {
-    let Held { number, clause } = held;
+    let number = held.number();
     let first = match back {
         Back::Deletes => First::BackUnitDel(number),
         Back::Rewrites => First::BackRewrite(number),
     };
-    QueueEntry::Built(Queued {
-        clause,
+    Ok(QueueEntry::Built(Queued {
+        clause: held.clause().copy(alloc)?,
         first,
         later: Vec::new(alloc),
         input: None,
         usable: false,
-    })
+    }))
 }
 
 // Clauses that are put back, in their order.
@@ -234,7 +234,7 @@ fn all_queued_back(
 {
     let mut queue = VecDeque::new(alloc);
     while let Some(held) = gone.pop() {
-        queue.push_front(queued_back(alloc, back, held))?;
+        queue.push_front(queued_back(alloc, back, &held)?)?;
     }
     Ok(queue)
 }
@@ -371,7 +371,6 @@ pub fn meet_units(alloc: Global, search: &mut Search, held: &Held) -> Result<(),
     let Some(Conclusion { clause, first }) = conflict(alloc, search, held)? else {
         return Ok(());
     };
-    let number = search.next;
     let queued = Queued {
         clause: clause.numbered(alloc)?,
         first,
@@ -379,6 +378,6 @@ pub fn meet_units(alloc: Global, search: &mut Search, held: &Held) -> Result<(),
         input: None,
         usable: false,
     };
-    keep_line(search, queued)?;
-    add_proof(search, number)
+    let line = keep_line(alloc, search, queued)?;
+    add_proof(search, line.number())
 }

@@ -72,7 +72,7 @@ fn give(
     ensures on { search.old.tries ≤ search.new.tries }
 {
     let number = given.number();
-    search.usable.put_in(given.copy(alloc)?)?;
+    search.usable.put_in(given.copy()?)?;
     let usable = &search.usable;
     let new = conclusions_of(alloc, &guide.rules, &guide.precedence, usable, &given)?;
     search.waiting.leave_out_one(number);
@@ -103,7 +103,7 @@ pub fn give_next(alloc: Global, guide: &Guide<'_>, search: &mut Search) -> Resul
         return Ok(());
     }
     let turn = pick.turn;
-    let given = pick.held.copy(alloc)?;
+    let given = pick.held.copy()?;
     give(alloc, guide, search, given)?;
     search.turn = turn;
     Ok(())

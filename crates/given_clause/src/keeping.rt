@@ -12,11 +12,12 @@ ghost use Rattle.prover_steps.specs.Searching.{counted_on, is_unchanged, number_
 use crate::guide::Guide;
 use crate::state::{FoundProof, Queued, Search};
 use clause_limits::clause_size;
-use derivation::{Content, First, Just, Later, Line};
+use derivation::{First, Just, Later};
 use fol_core::Clause;
-use held_clauses::Held;
+use held_clauses::{Held, MadeLine};
 use prover_steps::steps_keep_order;
 use std::alloc::{AllocError, Global};
+use std::rc::Rc;
 
 /// A number and so many more.
 pub fn counted(n: u64, more: u64) -> Result<u64, AllocError>
@@ -34,8 +35,9 @@ pub fn counted_on(n: u64, more: u64) -> u64
 
 // A line under the next number.
 fn add_line(
+    alloc: Global,
     search: &mut Search,
-    clause: Clause,
+    clause: Rc<Clause>,
     first: First,
     later: Vec<Later>,
 ) -> Result<(), AllocError>
@@ -43,7 +45,7 @@ fn add_line(
     ensures state { OnOk result (state_of search.new ≡ record (state_of search.old) {
       lines = (state_of search.old).lines ++ record {
         number = search.old.next;
-        clause = clause;
+        clause = clause.value;
         first = written_first first;
         later = map later_of later.items;
       } ∷ [];
@@ -53,15 +55,14 @@ fn add_line(
 {
     let number = search.next;
     search.next = counted(number, 1)?;
-    let content = Content::Clause(clause);
     let just = Just {
         first,
         steps: later,
     };
-    search.lines.push(Line {
+    search.lines.push(MadeLine {
         number,
-        content,
-        just,
+        clause,
+        just: Box::new(alloc, just)?,
     })?;
     Ok(())
 }
@@ -73,8 +74,8 @@ fn is_unchanged(queued: &Queued) -> bool
     queued.input.is_some() && queued.later.is_empty()
 }
 
-/// The number of a clause that was processed.
-pub fn number_for(search: &Search, queued: &Queued) -> u64
+// The number of a clause that was processed.
+fn number_for(search: &Search, queued: &Queued) -> u64
     ensures { result ≡ number_for (state_of search.now) (queued_of queued.now) }
 {
     match queued.input {
@@ -83,23 +84,28 @@ pub fn number_for(search: &Search, queued: &Queued) -> u64
     }
 }
 
-/// Its line, unless it has one.
-pub fn keep_line(search: &mut Search, queued: Queued) -> Result<(), AllocError>
+/// A clause that was processed, under its number; its line is made, unless it has one.
+pub fn keep_line(alloc: Global, search: &mut Search, queued: Queued) -> Result<Held, AllocError>
+    ensures held { IfOk result (λ h. h ≡ held_for (state_of search.old) (queued_of queued)) }
     ensures waiting { OnOk result (search.new.waiting ≡ search.old.waiting) }
     ensures state { OnOk result (state_of search.new ≡ with_line (state_of search.old)
         (queued_of queued)) }
     ensures on { search.old.tries ≤ search.new.tries }
 {
-    if is_unchanged(&queued) {
-        return Ok(());
-    }
+    let number = number_for(search, &queued);
+    let unchanged = is_unchanged(&queued);
     let Queued {
         clause,
         first,
         later,
         ..
     } = queued;
-    add_line(search, clause, first, later)
+    let held = Held::new(alloc, number, clause)?;
+    if unchanged {
+        return Ok(held);
+    }
+    add_line(alloc, search, held.shared()?, first, later)?;
+    Ok(held)
 }
 
 /// A proof whose last line has this number.
@@ -157,10 +163,8 @@ pub fn keep_queued(
     ensures on { search.old.tries ≤ search.new.tries }
 {
     steps_keep_order();
-    let number = number_for(search, &queued);
-    let held = Held::new(number, queued.clause.copy(alloc)?);
     let usable = queued.usable;
-    keep_line(search, queued)?;
-    keep(alloc, guide, search, held.copy(alloc)?, usable)?;
+    let held = keep_line(alloc, search, queued)?;
+    keep(alloc, guide, search, held.copy()?, usable)?;
     Ok(held)
 }

@@ -14,7 +14,7 @@ ghost use Rattle.prover_steps.specs.Subsuming.{subsumes};
 
 use crate::acting::{Back, is_subsumed_by, is_unit, meet_units, put_back, subsume_back};
 use crate::guide::{Guide, room_for};
-use crate::keeping::{add_proof, counted_on, keep_line, keep_queued, number_for};
+use crate::keeping::{add_proof, counted_on, keep_line, keep_queued};
 use crate::state::{QueueEntry, Queued, Reason, Search};
 use clause_index::{HeldSet, HeldSets, is_short};
 use clause_limits::is_too_large;
@@ -326,7 +326,7 @@ fn rules_back(
     if !becomes_rule(alloc, guide, held.clause())? {
         return Ok(());
     }
-    search.rules.put_in(held.copy(alloc)?)?;
+    search.rules.put_in(held.copy()?)?;
     if guide.options.back_demod {
         put_back(alloc, Back::Rewrites, search, held)
     } else {
@@ -397,9 +397,8 @@ fn settle(
 {
     steps_keep_order();
     if queued.clause.len() == 0 {
-        let number = number_for(search, &queued);
-        keep_line(search, queued)?;
-        return add_proof(search, number);
+        let line = keep_line(alloc, search, queued)?;
+        return add_proof(search, line.number());
     }
     if is_no_use(alloc, guide, search, &queued)? {
         return Ok(());

@@ -1,9 +1,10 @@
 // Where a search stands.
 use crate::waiting::Waiting;
 use clause_index::{HeldSet, Rules};
-use derivation::{First, Later, Line};
+use derivation::{First, Later};
 use discrim_tree::Tries;
 use fol_core::Clause;
+use held_clauses::MadeLine;
 use std::collections::VecDeque;
 use term_unifiers::LargeClause;
 
@@ -51,7 +52,7 @@ pub struct Search {
     pub usable: HeldSet,
     pub rules: Rules,
     pub queue: VecDeque<QueueEntry>,
-    pub lines: Vec<Line>,
+    pub lines: Vec<MadeLine>,
     pub next: u64,
     pub turn: u64,
     pub given: u64,

@@ -5,12 +5,13 @@ ghost use Rattle.held_clauses.specs.Holding.{held};
 use fol_core::Clause;
 use std::alloc::{AllocError, Global};
 use std::marker::Model;
+use std::rc::Rc;
 
-/// A clause under the number of its line; contracts see both.
+/// A clause under the number of its line; contracts see both. Copies share the clause.
 #[derive(Drop)]
 pub struct Held {
-    pub number: u64,
-    pub clause: Clause,
+    number: u64,
+    clause: Rc<Clause>,
 }
 
 impl Model for Held {
@@ -20,15 +21,16 @@ impl Model for Held {
 
     ghost coded = { coded_held };
 
-    ghost view = { λ a. held a.number a.clause };
+    ghost view = { λ a. held a.number a.clause.value };
 }
 
 impl Held {
     /// The clause under the number.
-    pub fn new(number: u64, clause: Clause) -> Held
-        ensures { result ≡ held number clause }
+    pub fn new(alloc: Global, number: u64, clause: Clause) -> Result<Held, AllocError>
+        ensures { IfOk result (λ h. h ≡ held number clause) }
     {
-        Held { number, clause }
+        let clause = Rc::new(alloc, clause)?;
+        Ok(Held { number, clause })
     }
 
     /// The number.
@@ -45,11 +47,18 @@ impl Held {
         &self.clause
     }
 
-    /// An equal clause under the same number.
-    pub fn copy(&self, alloc: Global) -> Result<Held, AllocError>
+    /// The clause, shared.
+    pub fn shared(&self) -> Result<Rc<Clause>, AllocError>
+        ensures { IfOk result (λ c. c.value ≡ self.now.clause) }
+    {
+        self.clause.clone()
+    }
+
+    /// The same clause under the same number.
+    pub fn copy(&self) -> Result<Held, AllocError>
         ensures { IfOk result (λ copy. copy ≡ self.now) }
     {
-        let clause = self.clause.copy(alloc)?;
+        let clause = self.clause.clone()?;
         Ok(Held {
             number: self.number,
             clause,

@@ -8,11 +8,11 @@ use Rattle.derivation.specs.Lines.{InputRow}
 use Rattle.derivation.specs.declared.line.Content.{Content}
 use Rattle.derivation.specs.declared.line.Content.TheVariants.{Formula, Clause}
 use Rattle.derivation.specs.declared.line.Line.{Line}
-use Rattle.fol_core.specs.Literals.{ClauseTree}
 use Rattle.fol_core.specs.Stated.{Said, all_said}
 use Rattle.fol_core.specs.SymbolTable.{Symbol}
 use Rattle.fol_core.specs.declared.problem.Input.{Input}
-use Rattle.given_clause.specs.States.{line_clause, made_line_of}
+use Rattle.given_clause.specs.States.{made_line_of}
+use Rattle.held_clauses.specs.declared.made.MadeLine.{MadeLine}
 use Rattle.ladr_prover9.specs.ProofTexts.{plain_content_text, plain_text, head_of_proof, proof_text}
 use Rattle.ladr_prover9.specs.Quests.{Quest}
 use Rattle.proof_lines.specs.ContentTokens.{LineTables}
@@ -20,23 +20,17 @@ use Rattle.proof_print.specs.LineTexts.{content_text, line_text, lines_text, hea
 use Rattle.proof_print.specs.declared.texts.Heads.{Heads}
 use Rattle.proof_words.specs.Written.{written_of}
 use Rattle.prover_proofs.specs.Levels.{level_in, greatest_size}
-use Rattle.prover_proofs.specs.SearchLines.{clausal_lines, stated_lines, made_plain, numbered_lines, clause_of_line}
+use Rattle.prover_proofs.specs.SearchLines.{clausal_lines, stated_lines, made_plain, numbered_lines, with_made}
 use Rattle.prover_setup.specs.SearchInputs.{symbols_in}
 use Rattle.prover_steps.specs.LineNumbers.{AreNumberedFrom}
 use Rattle.prover_steps.specs.Searching.{FoundProof}
 use Rattle.words_print.specs.WordTokens.{words_text}
 
 -- lines numbered one by one are those that were made
-pub numbered_made : (n : ℕ) (ls : List Line) → AreNumberedFrom n (map made_line_of ls) → numbered_lines n ls ≡ map made_plain (map made_line_of ls)
+pub numbered_made : (n : ℕ) (ls : List MadeLine) → AreNumberedFrom n (map made_line_of ls) → numbered_lines n ls ≡ map made_plain (map made_line_of ls)
 numbered_made n [] h = refl
-numbered_made n (l ∷ ls) h = ap₂ (λ (x : PlainLine) (xs : List PlainLine). x ∷ xs) one (numbered_made (suc n) ls h.1)
-  where
-    same : (c : Content) → clause_of_line c ≡ line_clause c
-    same (Formula f label) = refl
-    same (Clause c) = refl
-
-    one : line_under n (plain_clause (clause_of_line l.content)) (written_of l.just) ≡ made_plain (made_line_of l)
-    one = ap₂ (λ (m : ℕ) (c : ClauseTree). line_under m (plain_clause c) (written_of l.just)) (sym h.0) (same l.content)
+numbered_made n (l ∷ ls) h =
+    ap₂ (λ (m : ℕ) (xs : List PlainLine). line_under m (plain_clause l.clause.value) (written_of l.just.value) ∷ xs) (sym h.0) (numbered_made (suc n) ls h.1)
 
 -- the text of a line is that of what it says
 content_same : (g : LineTables) (table : List Symbol) (prolog : Bool) (c : Content) → content_text g table prolog c ≡ plain_content_text g table prolog (plain_content c)
@@ -86,12 +80,12 @@ module _ (q : Quest) (g : LineTables) (table : List Symbol) (prolog : Bool) wher
       whole x y z = proof_banner ++ (head_text (head_of_proof k p (map plain_line ls)) ++ (concat (map (plain_text x y z) (map plain_line ls)) ++ end_banner))
 
 -- all lines of a search, by what the code has
-pub lines_are : (is : List Input) (told rows same : List InputRow) (ls made : List Line) → told ≡ rows → rows ≡ same → made ≡ ls → AreNumberedFrom (suc (length is + length rows)) (map made_line_of ls)
-    → stated_lines (formula_lines 1 is) (all_said is) told ++ numbered_lines (suc (length (stated_lines (formula_lines 1 is) (all_said is) told))) made
-    ≡ stated_lines (formula_lines 1 is) (all_said is) same ++ map made_plain (map made_line_of ls)
-lines_are is told rows same ls made e f d counted =
-    ap (λ (rs : List InputRow). stated_lines (formula_lines 1 is) (all_said is) rs ++ numbered_lines (suc (length (stated_lines (formula_lines 1 is) (all_said is) rs))) made) e
-    ∙ ap (λ (js : List Line). base ++ numbered_lines (suc (length base)) js) d
+pub lines_are : (has is : List Input) (told rows same : List InputRow) (made ls : List MadeLine) → has ≡ is → told ≡ rows → rows ≡ same → made ≡ ls → AreNumberedFrom (suc (length is + length rows)) (map made_line_of ls)
+    → with_made (stated_lines (formula_lines 1 has) (all_said has) told) made ≡ stated_lines (formula_lines 1 is) (all_said is) same ++ map made_plain (map made_line_of ls)
+lines_are has is told rows same made ls i e f d counted =
+    ap (λ (js : List Input). with_made (stated_lines (formula_lines 1 js) (all_said js) told) made) i
+    ∙ ap (λ (rs : List InputRow). with_made (stated_lines (formula_lines 1 is) (all_said is) rs) made) e
+    ∙ ap (λ (js : List MadeLine). with_made base js) d
     ∙ ap (λ (n : ℕ). base ++ numbered_lines n ls) (stated_count is (all_said is) rows)
     ∙ ap (λ (ks : List PlainLine). base ++ ks) (numbered_made (suc (length is + length rows)) ls counted)
     ∙ ap (λ (rs : List InputRow). stated_lines (formula_lines 1 is) (all_said is) rs ++ map made_plain (map made_line_of ls)) f

@@ -35,8 +35,11 @@ pub fn proof_behind(
         ≡ level_in (plain_trees (map plain_line p.lines.items)) line) }
     ensures size { IfOk result (λ p. p.size ≡ greatest_size (map plain_line p.lines.items)) }
 {
-    let mut all = SearchLines::new(alloc, asking.problem, &asking.clauses)?;
-    all.add_made(alloc, prover.lines())?;
+    let all = SearchLines {
+        inputs: asking.problem.inputs.as_slice(),
+        clauses: asking.clauses.as_slice(),
+        made: prover.lines(),
+    };
     let proof = all.proof(alloc, line)?;
     Ok(proof)
 }

@@ -1,10 +1,10 @@
 -- Where a prover stands.
 use Rattle.std.specs.Prelude.{ℕ, ◌≡◌, Bool, false, List, Option, None}
-use Rattle.derivation.specs.declared.line.Line.{Line}
 use Rattle.given_clause.specs.Guides.{setting_of}
 use Rattle.given_clause.specs.Noted.{AreNoted}
 use Rattle.given_clause.specs.States.{state_of}
 use Rattle.given_clause.specs.declared.state.FoundProof.{FoundProof}
+use Rattle.held_clauses.specs.declared.made.MadeLine.{MadeLine}
 use Rattle.ladr_io.specs.Times.{Times}
 use Rattle.prover.specs.declared.answer.Answer.{Answer}
 use Rattle.prover.specs.declared.standing.Prover.{Prover}
@@ -22,7 +22,7 @@ abbrev pub state_at : Prover → SearchState
 state_at p = state_of p.search
 
 -- the lines that were made and the proofs that were found, as the code has them
-abbrev pub lines_had : Prover → List Line
+abbrev pub lines_had : Prover → List MadeLine
 lines_had p = p.search.lines.items
 
 abbrev pub proofs_had : Prover → List FoundProof

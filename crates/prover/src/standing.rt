@@ -8,9 +8,9 @@ ghost use Rattle.search_clock.specs.Watching.{HasBegun};
 use crate::answer::{Answer, Counters, end_of};
 use crate::processing::settle;
 use crate::seeking::{begin, is_at_giving, seek};
-use derivation::Line;
 use fol_core::{Clause, Problem, Symbols};
 use given_clause::{FoundProof, Guide, Search, step};
+use held_clauses::MadeLine;
 use ladr_io::Clock;
 use prover_setup::{guide_of, start_search};
 use prover_steps::searches_stay_in_order;
@@ -78,7 +78,7 @@ impl<'a> Prover<'a> {
     }
 
     /// The lines that were made so far, behind those of the problem.
-    pub fn lines(&self) -> &[Line]
+    pub fn lines(&self) -> &[MadeLine]
         ensures { result.now ≡ lines_had self.now }
     {
         self.search.lines.as_slice()

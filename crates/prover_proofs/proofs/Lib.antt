@@ -1,8 +1,10 @@
 pub mod Growing
 pub mod Known
 pub mod Lasting
+pub mod Parents
+pub mod Placed
 pub mod Refuting
 pub mod Remaining
 pub mod Roles
 pub mod Saying
-pub mod Storing
+pub mod Taking

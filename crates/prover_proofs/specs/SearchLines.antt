@@ -1,18 +1,14 @@
 -- All lines of a search, as they are written: those of the problem, and those that were made.
-use Rattle.std.specs.Prelude.{ℕ, suc, ◌≡◌, if◌then◌else◌, length, List, [], ◌∷◌, ◌++◌, map}
+use Rattle.std.specs.Prelude.{ℕ, suc, if◌then◌else◌, length, List, [], ◌∷◌, ◌++◌, map}
 use Rattle.std.specs.Option.{option_map_or}
-use Rattle.clause_store.specs.Lines.{PlainLine, plain_clause, line_under, store_lines, AreStoredIn}
-use Rattle.clause_store.specs.declared.lines.StoredLine.{StoredLine}
+use Rattle.clause_store.specs.Lines.{PlainLine, plain_clause, line_under, formula_lines}
 use Rattle.derivation.specs.Lines.{InputRow, is_goal, said_at}
-use Rattle.derivation.specs.declared.line.Content.{Content}
-use Rattle.derivation.specs.declared.line.Content.TheVariants.{Formula, Clause}
-use Rattle.derivation.specs.declared.line.Line.{Line}
-use Rattle.fol_core.specs.Literals.{ClauseTree}
-use Rattle.fol_core.specs.Stated.{Said}
-use Rattle.fol_core.specs.Tree.{Tree}
+use Rattle.fol_core.specs.Stated.{Said, all_said}
 use Rattle.fol_core.specs.declared.problem.Role.{Role}
 use Rattle.fol_core.specs.declared.problem.Role.TheVariants.{Assumption}
+use Rattle.held_clauses.specs.declared.made.MadeLine as made
 use Rattle.proof_words.specs.Written.{WrittenFirst, by_clausify, by_deny, written, written_of}
+use Rattle.prover_proofs.specs.declared.lines.SearchLines.{SearchLines}
 use Rattle.prover_steps.specs.Searching.{MadeLine, SearchState}
 
 -- the role of the formula of a number, counted from 1
@@ -43,18 +39,19 @@ abbrev pub lines_at : List PlainLine → SearchState → List PlainLine
 lines_at base t = base ++ map made_plain t.lines
 
 -- lines that the code made, numbered one by one from a number on
-abbrev pub clause_of_line : Content → ClauseTree
-clause_of_line (Formula f label) = []
-clause_of_line (Clause c) = c
+abbrev pub numbered_line : ℕ → made.MadeLine → PlainLine
+numbered_line n l = line_under n (plain_clause l.clause.value) (written_of l.just.value)
 
-abbrev pub numbered_lines : ℕ → List Line → List PlainLine
+abbrev pub numbered_lines : ℕ → List made.MadeLine → List PlainLine
 numbered_lines n [] = []
-numbered_lines n (l ∷ ls) =
-    line_under n (plain_clause (clause_of_line l.content)) (written_of l.just)
-    ∷ numbered_lines (suc n) ls
+numbered_lines n (l ∷ ls) = numbered_line n l ∷ numbered_lines (suc n) ls
 
--- what is stored are these lines, and their atoms are the bank's
-pub record AreStoredLines (bank : List Tree) (ls : List StoredLine) (lines : List PlainLine) : Type 0
-  where
-    pub stored : AreStoredIn bank ls
-    pub are : store_lines bank ls ≡ lines
+-- lines, and behind them those that were made
+abbrev pub with_made : List PlainLine → List made.MadeLine → List PlainLine
+with_made base ls = base ++ numbered_lines (suc (length base)) ls
+
+-- all lines of a search, where the code has them
+abbrev pub lines_in : SearchLines → List PlainLine
+lines_in s =
+    with_made (stated_lines (formula_lines 1 s.inputs.now) (all_said s.inputs.now) s.clauses.now)
+    s.made.now

@@ -1,9 +1,9 @@
 // The proof under a number.
-ghost use Rattle.std.specs.Prelude.{◌≡◌, List, IfOk, length, map};
+ghost use Rattle.std.specs.Prelude.{◌≡◌, IfOk, map};
 ghost use Rattle.clause_store.specs.Ancestors.{AreAncestors};
-ghost use Rattle.clause_store.specs.Lines.{PlainLine, plain_line, plain_trees};
+ghost use Rattle.clause_store.specs.Lines.{plain_line, plain_trees};
 ghost use Rattle.prover_proofs.specs.Levels.{level_in, greatest_size};
-ghost use Rattle.prover_proofs.specs.SearchLines.{AreStoredLines};
+ghost use Rattle.prover_proofs.specs.SearchLines.{lines_in};
 
 use crate::lines::SearchLines;
 use crate::measures::{greatest_size, level_in};
@@ -19,21 +19,18 @@ pub struct Proof {
     pub size: u64,
 }
 
-impl SearchLines {
+impl<'a> SearchLines<'a> {
     /// The proof whose last line has this number.
     pub fn proof(&self, alloc: Global, n: u64) -> Result<Proof, AllocError>
-        requires { (lines : List PlainLine)
-            × AreStoredLines self.now.bank self.now.store.lines.items lines }
-        ensures lines { IfOk result (λ p. (lines : List PlainLine)
-            → AreStoredLines self.now.bank self.now.store.lines.items lines
-            → AreAncestors lines n (map plain_line p.lines.items)) }
+        ensures lines { IfOk result (λ p. AreAncestors (lines_in self.now) n
+            (map plain_line p.lines.items)) }
         ensures level { IfOk result (λ p. p.level
             ≡ level_in (plain_trees (map plain_line p.lines.items)) n) }
         ensures size { IfOk result (λ p. p.size
             ≡ greatest_size (map plain_line p.lines.items)) }
     {
         lines_say_the_same();
-        let lines = self.store.lines_to(alloc, &self.bank, n)?;
+        let lines = self.lines_to(alloc, n)?;
         let level = level_in(alloc, lines.as_slice(), n)?;
         let size = greatest_size(lines.as_slice())?;
         Ok(Proof { lines, level, size })

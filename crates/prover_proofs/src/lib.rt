@@ -5,7 +5,9 @@ mod found;
 mod laws;
 mod lines;
 mod measures;
+mod written;
 
 pub use found::Proof;
 pub use laws::{proofs_refute, state_lines_say, worked};
-pub use lines::{SearchLines, role_at};
+pub use lines::SearchLines;
+pub use written::role_at;

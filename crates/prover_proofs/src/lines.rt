@@ -1,133 +1,131 @@
-// All lines of a search.
-ghost use Rattle.std.specs.Prelude.{◌≡◌, ◌++◌, ◌∷◌, [], ℕ, List, suc, IfOk, OnOk, length};
-ghost use Rattle.clause_store.specs.Lines.{PlainLine, plain_clause, line_under, formula_lines};
-ghost use Rattle.fol_core.specs.Stated.{all_said};
-ghost use Rattle.proof_words.specs.Written.{written_first, written_of};
-ghost use Rattle.prover_proofs.specs.SearchLines.{role_at, clausal_word_at, clausal_lines, stated_lines, numbered_lines, clause_of_line, AreStoredLines};
+// All lines of a search, and those that one of them rests on.
+ghost use Rattle.std.specs.Prelude.{◌≡◌, ◌++◌, Some, IfOk, OnOk, length, map};
+ghost use Rattle.clause_store.specs.Ancestors.{AreAncestors};
+ghost use Rattle.clause_store.specs.Lines.{plain_line};
+ghost use Rattle.clause_store.specs.Marks.{line_under_number, parents_at, IsNumberOf, MarkAncestors, VisitsLine};
+ghost use Rattle.prover_proofs.specs.SearchLines.{lines_in};
 
-use clause_store::{Store, Stored, copy_just};
-use derivation::{Content, First, Just, Line};
-use fol_core::{Clause, Input, Problem, Role};
+use crate::measures::sum_of;
+use crate::written::{clausal_line, formula_line, numbered_line};
+use clause_store::add_parents;
+use derivation::Line;
+use fol_core::{Clause, Input};
+use held_clauses::MadeLine;
 use std::alloc::{AllocError, Global};
-use term_bank::Bank;
 
-/// All lines of a search so far, with the bank that has the atoms of their clauses.
+/// All lines of a search so far, where they are: a problem's formulas, their clauses with the numbers of the formulas, and those
+/// that were made.
 #[derive(Drop)]
-pub struct SearchLines {
-    pub bank: Bank,
-    pub store: Store,
+pub struct SearchLines<'a> {
+    pub inputs: &'a [Input],
+    pub clauses: &'a [(u64, Clause)],
+    pub made: &'a [MadeLine],
 }
 
-/// The role of the formula of a number, counted from 1.
-pub fn role_at(inputs: &[Input], number: u64) -> Role
-    ensures { result ≡ role_at (all_said inputs.now) number }
-{
-    if number == 0 {
-        return Role::Assumption;
-    }
-    match inputs.get((number - 1) as usize) {
-        Some(input) => input.role,
-        None => Role::Assumption,
-    }
-}
-
-// The word of a clause of this formula.
-fn clausal_word(inputs: &[Input], number: u64) -> First
-    ensures { written_first result ≡ clausal_word_at (all_said inputs.now) number }
-{
-    match role_at(inputs, number) {
-        Role::Goal => First::Deny(number),
-        Role::Assumption | Role::Usable | Role::Demodulator => First::Clausify(number),
-    }
-}
-
-// The clause of a line that was made, which has no formula; of a formula a clause without literals.
-fn clause_of_line<'a>(content: &'a Content, nothing: &'a Clause) -> &'a Clause
-    requires { nothing.now ≡ [] }
-    ensures { result.now ≡ clause_of_line content.now }
-{
-    match content {
-        Content::Clause(clause) => clause,
-        Content::Formula(_, _) => nothing,
-    }
-}
-
-impl SearchLines {
-    // One clause more.
-    fn add(&mut self, alloc: Global, clause: &Clause, just: Just) -> Result<(), AllocError>
-        ensures { OnOk result ((lines : List PlainLine)
-            → AreStoredLines self.old.bank self.old.store.lines.items lines
-            → AreStoredLines self.new.bank self.new.store.lines.items
-            (lines ++ line_under (suc (length lines)) (plain_clause clause.now) (written_of just)
-            ∷ [])) }
+impl<'a> SearchLines<'a> {
+    // How many there are.
+    fn count(&self) -> Result<usize, AllocError>
+        ensures { IfOk result (λ n. n ≡ length (lines_in self.now)) }
     {
-        let stored = Stored::put(alloc, clause, &mut self.bank)?;
-        let _number = self.store.add(stored, just)?;
-        Ok(())
+        let stated = sum_of(self.inputs.len() as u64, self.clauses.len() as u64)?;
+        let count = sum_of(stated, self.made.len() as u64)?;
+        Ok(count as usize)
     }
 
-    // The clauses of formulas.
-    fn add_inputs(
-        &mut self,
-        alloc: Global,
-        inputs: &[Input],
-        clauses: &[(u64, Clause)],
+    // The line of a number.
+    fn line(&self, alloc: Global, number: u64) -> Result<Line, AllocError>
+        requires { IsNumberOf (length (lines_in self.now)) number }
+        ensures { IfOk result (λ l. line_under_number (lines_in self.now) number
+            ≡ Some (plain_line l)) }
+    {
+        let place = (number - 1) as usize;
+        if place < self.inputs.len() {
+            return formula_line(alloc, number, &self.inputs[place]);
+        }
+        let behind = place - self.inputs.len();
+        if behind < self.clauses.len() {
+            return clausal_line(alloc, self.inputs, number, &self.clauses[behind]);
+        }
+        match self.made.get(behind - self.clauses.len()) {
+            Some(line) => numbered_line(alloc, number, line),
+            None => unreachable!(),
+        }
+    }
+
+    // Puts the numbers of the lines that the one of a number takes behind others.
+    fn add_parents_of(&self, number: u64, numbers: &mut Vec<u64>) -> Result<(), AllocError>
+        requires { IsNumberOf (length (lines_in self.now)) number }
+        ensures { OnOk result (numbers.new.items
+            ≡ numbers.old.items ++ parents_at (lines_in self.now) number) }
+    {
+        let place = (number - 1) as usize;
+        if place < self.inputs.len() {
+            return Ok(());
+        }
+        let behind = place - self.inputs.len();
+        if behind < self.clauses.len() {
+            numbers.push(self.clauses[behind].0)?;
+            return Ok(());
+        }
+        match self.made.get(behind - self.clauses.len()) {
+            Some(line) => add_parents(&line.just, numbers),
+            None => unreachable!(),
+        }
+    }
+
+    // Marks a line that isn't marked, and has its parents wait.
+    fn look_at(
+        &self,
+        m: u64,
+        marks: &mut Vec<bool>,
+        waiting: &mut Vec<u64>,
     ) -> Result<(), AllocError>
-        ensures { OnOk result ((lines : List PlainLine)
-            → AreStoredLines self.old.bank self.old.store.lines.items lines
-            → AreStoredLines self.new.bank self.new.store.lines.items
-            (lines ++ clausal_lines (all_said inputs.now) (suc (length lines)) clauses.now)) }
+        requires { length marks.old.items ≡ length (lines_in self.now) }
+        ensures { OnOk result (VisitsLine (length (lines_in self.now)) (parents_at (lines_in self.now)) m
+            marks.old.items waiting.old.items marks.new.items waiting.new.items) }
     {
-        for row in clauses {
-            let first = clausal_word(inputs, row.0);
-            let steps = Vec::new(alloc);
-            self.add(alloc, &row.1, Just { first, steps })?;
+        if m == 0 {
+            return Ok(());
         }
-        Ok(())
-    }
-
-    // A line that was made.
-    fn add_line(&mut self, alloc: Global, line: &Line) -> Result<(), AllocError>
-        ensures { OnOk result ((lines : List PlainLine)
-            → AreStoredLines self.old.bank self.old.store.lines.items lines
-            → AreStoredLines self.new.bank self.new.store.lines.items
-            (lines ++ numbered_lines (suc (length lines)) (line.now ∷ []))) }
-    {
-        let nothing = Clause::new(alloc);
-        let clause = clause_of_line(&line.content, &nothing);
-        let just = copy_just(alloc, &line.just)?;
-        self.add(alloc, clause, just)?;
-        Ok(())
-    }
-
-    /// One line more for each of these, in their order.
-    pub fn add_made(&mut self, alloc: Global, made: &[Line]) -> Result<(), AllocError>
-        ensures { OnOk result ((lines : List PlainLine)
-            → AreStoredLines self.old.bank self.old.store.lines.items lines
-            → AreStoredLines self.new.bank self.new.store.lines.items
-            (lines ++ numbered_lines (suc (length lines)) made.now)) }
-    {
-        for line in made {
-            self.add_line(alloc, line)?;
+        let place = (m - 1) as usize;
+        if place >= marks.len() {
+            return Ok(());
         }
-        Ok(())
+        if marks[place] {
+            return Ok(());
+        }
+        marks[place] = true;
+        self.add_parents_of(m, waiting)
     }
 
-    /// The lines of a problem: its formulas, and behind them their clauses.
-    pub fn new(
-        alloc: Global,
-        problem: &Problem,
-        clauses: &[(u64, Clause)],
-    ) -> Result<SearchLines, AllocError>
-        ensures { IfOk result (λ s. AreStoredLines s.bank s.store.lines.items
-            (stated_lines (formula_lines 1 problem.now.inputs.items)
-            (all_said problem.now.inputs.items) clauses.now)) }
+    // Marks the lines that the one of a number rests on, itself among them.
+    #[tactic(auto, using(clause_store::proofs::Marking::way_begins))]
+    fn marked(&self, alloc: Global, n: u64) -> Result<Vec<bool>, AllocError>
+        ensures { IfOk result (λ marks. MarkAncestors (length (lines_in self.now))
+            (parents_at (lines_in self.now)) n marks.items) }
     {
-        let mut lines = SearchLines {
-            bank: Bank::new(alloc),
-            store: Store::new(alloc, problem)?,
-        };
-        lines.add_inputs(alloc, problem.inputs.as_slice(), clauses)?;
+        let count = self.count()?;
+        let mut marks: Vec<bool> = vec![in alloc; false; count]?;
+        let mut waiting = Vec::new(alloc);
+        waiting.push(n)?;
+        while let Some(m) = waiting.pop() {
+            self.look_at(m, &mut marks, &mut waiting)?;
+        }
+        Ok(marks)
+    }
+
+    /// The lines that the one of a number rests on, itself among them, under their numbers.
+    pub fn lines_to(&self, alloc: Global, n: u64) -> Result<Vec<Line>, AllocError>
+        ensures { IfOk result (λ lines. AreAncestors (lines_in self.now) n
+            (map plain_line lines.items)) }
+    {
+        let marks = self.marked(alloc, n)?;
+        let mut lines = Vec::new(alloc);
+        for (place, mark) in marks.iter().enumerate() {
+            if *mark {
+                lines.push(self.line(alloc, place as u64 + 1)?)?;
+            }
+        }
         Ok(lines)
     }
 }

@@ -37,8 +37,8 @@ fn enter(levels: &mut BTreeMap<u64, u64>, number: u64, level: u64) -> Result<(),
     Ok(())
 }
 
-// The sum; there are no more lines, symbols and variables than numbers.
-fn sum_of(n: u64, more: u64) -> Result<u64, AllocError>
+/// The sum; there are no more lines, symbols and variables than numbers.
+pub fn sum_of(n: u64, more: u64) -> Result<u64, AllocError>
     ensures { IfOk result (λ sum. sum ≡ n + more) }
 {
     n.checked_add(more).ok_or(AllocError)

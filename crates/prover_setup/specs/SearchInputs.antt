@@ -2,7 +2,6 @@
 use Rattle.std.specs.Prelude.{ℕ, Bool, List, map}
 use Rattle.clausify.specs.Input.{clauses_in_table, axioms_in_table, with_skolems}
 use Rattle.derivation.specs.Lines.{InputRow}
-use Rattle.fol_core.specs.FormulaView.{fol_of}
 use Rattle.fol_core.specs.RuleView.{rule_of}
 use Rattle.fol_core.specs.SkolemAxioms.{SkolemAxiom}
 use Rattle.fol_core.specs.Stated.{Stated, stated_of}

@@ -80,7 +80,7 @@ fn add_rule(
     ensures { OnOk result (rules.new ≡ rules.old ++ held_rule role number (0, clause.now)) }
 {
     match role {
-        Role::Demodulator => rules.put_in(Held::new(number, clause.copy(alloc)?)),
+        Role::Demodulator => rules.put_in(Held::new(alloc, number, clause.copy(alloc)?)?),
         Role::Assumption | Role::Usable | Role::Goal => Ok(()),
     }
 }

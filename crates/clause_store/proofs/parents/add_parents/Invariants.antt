@@ -2,7 +2,7 @@
 use Rattle.std.proofs.Common.{◌≡◌, ◌++◌, take}
 use Rattle.derivation.specs.View.{first_word_of}
 use Rattle.clause_store.specs.Ancestors.{first_parents}
-use Rattle.clause_store.specs.Marks.{steps_parents}
+use Rattle.clause_store.specs.Parents.{steps_parents}
 use Rattle.clause_store.proofs.parents.add_parents.Given as goal
 
 abbrev pub invariant-loop-later : goal.invariant-loop-later

@@ -1,10 +1,8 @@
-use Rattle.std.proofs.Common.{List, sym, ap, ◌∙◌}
+use Rattle.std.proofs.Common.{sym, ap, ◌∙◌}
 use Rattle.std.specs.Option.{option_map}
 use Rattle.given_clause.specs.Guides.{setting_of}
 use Rattle.given_clause.specs.States.{state_of}
 use Rattle.given_clause.specs.Turns.{pick_of}
-use Rattle.prover_steps.specs.Clashing.{Held}
-use Rattle.prover_steps.specs.Picking.{picked}
 use Rattle.given_clause.proofs.Stepped.{not_in_use}
 use Rattle.given_clause.proofs.giving.give_next.Goals as goal
 

@@ -9,12 +9,12 @@ pub keep-requires-clause-not_waiting : goal.keep-requires-clause-not_waiting
 keep-requires-clause-not_waiting c =
     let s = state_of c.args.search.now in
     let q = queued_of c.args.queued in
-    subst (λ (n : ℕ). IsNoneOf n (numbers_of c.keep_line.new.search.waiting.held)) (sym (ap (λ (h : Held). h.number) (c.in_ok-copy-2.ensures ∙ c.new-held.ensures) ∙ c.number_for-number.ensures))
-    (subst (λ (t : SearchState). IsUnusedIn t (number_for s q)) (sym c.in_ok-keep_line.ensures.state) (c.steps_keep_order.ensures.line s q c.requires.ordered c.requires.unused).1).not_waiting
+    subst (λ (n : ℕ). IsNoneOf n (numbers_of c.keep_line.new.search.waiting.held)) (sym (ap (λ (h : Held). h.number) (c.in_ok-copy.ensures ∙ c.in_ok-held.ensures.held)))
+    (subst (λ (t : SearchState). IsUnusedIn t (number_for s q)) (sym c.in_ok-held.ensures.state) (c.steps_keep_order.ensures.line s q c.requires.ordered c.requires.unused).1).not_waiting
 
 pub keep-requires-clause-not_usable : goal.keep-requires-clause-not_usable
 keep-requires-clause-not_usable c =
     let s = state_of c.args.search.now in
     let q = queued_of c.args.queued in
-    subst (λ (n : ℕ). IsNoneOf n (numbers_of c.keep_line.new.search.usable)) (sym (ap (λ (h : Held). h.number) (c.in_ok-copy-2.ensures ∙ c.new-held.ensures) ∙ c.number_for-number.ensures))
-    (subst (λ (t : SearchState). IsUnusedIn t (number_for s q)) (sym c.in_ok-keep_line.ensures.state) (c.steps_keep_order.ensures.line s q c.requires.ordered c.requires.unused).1).not_usable
+    subst (λ (n : ℕ). IsNoneOf n (numbers_of c.keep_line.new.search.usable)) (sym (ap (λ (h : Held). h.number) (c.in_ok-copy.ensures ∙ c.in_ok-held.ensures.held)))
+    (subst (λ (t : SearchState). IsUnusedIn t (number_for s q)) (sym c.in_ok-held.ensures.state) (c.steps_keep_order.ensures.line s q c.requires.ordered c.requires.unused).1).not_usable

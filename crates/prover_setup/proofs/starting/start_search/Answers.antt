@@ -3,7 +3,7 @@ use Rattle.std.proofs.Common.{◌≡◌, ℕ, suc, ◌+◌, ap, ◌∙◌, List,
 use Rattle.std.proofs.lemmas.List.{length-map}
 use Rattle.fol_core.specs.Stated.{Said, all_said, said_of}
 use Rattle.fol_core.specs.declared.problem.Input.{Input}
-use Rattle.given_clause.specs.States.{entry_of, found_of, made_line_of}
+use Rattle.given_clause.specs.States.{found_of, made_line_of}
 use Rattle.prover_steps.specs.Starting.{queued_inputs, rules_of}
 use Rattle.prover_setup.proofs.Started.{started}
 use Rattle.prover_setup.proofs.starting.start_search.Goals as goal

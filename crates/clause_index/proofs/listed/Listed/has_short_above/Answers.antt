@@ -1,8 +1,10 @@
-use Rattle.std.proofs.Common.{◌≡◌, ℕ, Bool, true, false, ◌&&◌, ◌||◌, if◌then◌else◌, List, [], ◌∷◌, Option, is_some, slice_get, filter, refl, ap, ◌∙◌}
+use Rattle.std.proofs.Common.{◌≡◌, ℕ, ◌+◌, ◌≤◌, Bool, true, false, ◌&&◌, ◌||◌, if◌then◌else◌, List, [], ◌∷◌, Option, is_some, slice_get, filter, refl, subst, ap, ◌∙◌}
 use Rattle.std.specs.List.{list_any}
 use Rattle.clause_index.specs.Entries.{is_short_of, first_atom, short_atoms}
 use Rattle.discrim_tree.specs.Entries.{Indexed, numbers_found}
 use Rattle.discrim_tree.specs.Terms.{has_instance}
+use Rattle.discrim_tree.specs.Tries.{count_up_to}
+use Rattle.discrim_tree.specs.declared.sought.Sought.TheVariants.{Generalizations}
 use Rattle.fol_core.specs.Tree.{Tree}
 use Rattle.fol_core.specs.TermView.{tree_of}
 use Rattle.prover_steps.specs.Clashing.{Held}
@@ -29,3 +31,11 @@ short_passes sign test hs es o tied found =
 pub returns-clause-found : goal.returns-clause-found
 returns-clause-found c =
     c.is_some.ensures ∙ short_passes c.args.sign (λ s. has_instance s (tree_of c.args.atom.now)) c.args.self.now c.index.result.now c.in_ok-first.first c.index.ensures c.in_ok-first.ensures.found
+
+pub returns-clause-no_more : goal.returns-clause-no_more
+returns-clause-no_more c =
+    let t = tree_of c.args.atom.now in
+    subst
+    (λ (es : List Indexed). c.first_generalization.new.tries ≤ c.args.tries.now + count_up_to Generalizations t es (slice_get (numbers_found (λ s. has_instance s t) es) 0))
+    c.index.ensures
+    (subst (λ (o : Option ℕ). c.first_generalization.new.tries ≤ c.args.tries.now + count_up_to Generalizations t c.index.result.now o) c.in_ok-first.ensures.found c.in_ok-first.ensures.no_more)

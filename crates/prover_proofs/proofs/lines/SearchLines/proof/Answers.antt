@@ -3,7 +3,7 @@ use Rattle.std.proofs.Common.{◌∙◌, ap, List}
 use Rattle.derivation.specs.Lines.{LineTree}
 use Rattle.derivation.specs.View.{lines_of}
 use Rattle.derivation.specs.declared.line.Line.{Line}
-use Rattle.prover_proofs.proofs.Storing.{trees_same}
+use Rattle.prover_proofs.proofs.Taking.{trees_same}
 use Rattle.prover_proofs.specs.Levels.{level_in}
 use Rattle.prover_proofs.proofs.lines.SearchLines.proof.Goals as goal
 

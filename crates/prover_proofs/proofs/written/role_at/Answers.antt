@@ -1,6 +1,6 @@
 -- The role of a number's formula.
 use Rattle.prover_proofs.proofs.Roles.{role_none, role_past, role_there}
-use Rattle.prover_proofs.proofs.lines.role_at.Goals as goal
+use Rattle.prover_proofs.proofs.written.role_at.Goals as goal
 
 pub returns-then-number-eq0 : goal.returns-then-number-eq0
 returns-then-number-eq0 c = role_none _ _ c.if-number-eq0.true
