@@ -119,7 +119,7 @@ impl HeldSet {
     }
 
     /// Whether there is a clause of one literal that has this sign and the atom as an instance of its own, or one without
-    /// literals; no more are tested than up to the first of them.
+    /// literals; those up to the first of them are tested, and no more.
     pub fn has_short_above(
         &self,
         sign: bool,
@@ -133,6 +133,9 @@ impl HeldSet {
         ensures no_more { OnOk result (tries.new ≤ tries.old
             + count_up_to Generalizations (tree_of atom.now) (short_atoms sign self.now)
             (slice_get (numbers_found (λ s. has_instance s (tree_of atom.now)) (short_atoms sign self.now)) 0)) }
+        ensures tested { OnOk result (HasRisen (count_up_to Generalizations (tree_of atom.now) (short_atoms sign self.now)
+            (slice_get (numbers_found (λ s. has_instance s (tree_of atom.now)) (short_atoms sign self.now)) 0))
+            tries.old tries.new) }
     {
         self.listed.has_short_above(sign, atom, tries)
     }

@@ -132,7 +132,7 @@ impl Listed {
     }
 
     /// Whether there is a clause of one literal that has this sign and the atom as an instance of its own, or one without
-    /// literals; no more are tested than up to the first of them.
+    /// literals; those up to the first of them are tested, and no more.
     pub fn has_short_above(
         &self,
         sign: bool,
@@ -146,6 +146,9 @@ impl Listed {
         ensures no_more { OnOk result (tries.new ≤ tries.old
             + count_up_to Generalizations (tree_of atom.now) (short_atoms sign self.now)
             (slice_get (numbers_found (λ s. has_instance s (tree_of atom.now)) (short_atoms sign self.now)) 0)) }
+        ensures tested { OnOk result (HasRisen (count_up_to Generalizations (tree_of atom.now) (short_atoms sign self.now)
+            (slice_get (numbers_found (λ s. has_instance s (tree_of atom.now)) (short_atoms sign self.now)) 0))
+            tries.old tries.new) }
     {
         let first = self.index(sign).first_generalization(atom, tries)?;
         Ok(first.is_some())

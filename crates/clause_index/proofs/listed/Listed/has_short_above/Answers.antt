@@ -3,7 +3,7 @@ use Rattle.std.specs.List.{list_any}
 use Rattle.clause_index.specs.Entries.{is_short_of, first_atom, short_atoms}
 use Rattle.discrim_tree.specs.Entries.{Indexed, numbers_found}
 use Rattle.discrim_tree.specs.Terms.{has_instance}
-use Rattle.discrim_tree.specs.Tries.{count_up_to}
+use Rattle.discrim_tree.specs.Tries.{count_up_to, HasRisen}
 use Rattle.discrim_tree.specs.declared.sought.Sought.TheVariants.{Generalizations}
 use Rattle.fol_core.specs.Tree.{Tree}
 use Rattle.fol_core.specs.TermView.{tree_of}
@@ -39,3 +39,11 @@ returns-clause-no_more c =
     (λ (es : List Indexed). c.first_generalization.new.tries ≤ c.args.tries.now + count_up_to Generalizations t es (slice_get (numbers_found (λ s. has_instance s t) es) 0))
     c.index.ensures
     (subst (λ (o : Option ℕ). c.first_generalization.new.tries ≤ c.args.tries.now + count_up_to Generalizations t c.index.result.now o) c.in_ok-first.ensures.found c.in_ok-first.ensures.no_more)
+
+pub returns-clause-tested : goal.returns-clause-tested
+returns-clause-tested c =
+    let t = tree_of c.args.atom.now in
+    subst
+    (λ (es : List Indexed). HasRisen (count_up_to Generalizations t es (slice_get (numbers_found (λ s. has_instance s t) es) 0)) c.args.tries.now c.first_generalization.new.tries)
+    c.index.ensures
+    (subst (λ (o : Option ℕ). HasRisen (count_up_to Generalizations t c.index.result.now o) c.args.tries.now c.first_generalization.new.tries) c.in_ok-first.ensures.found c.in_ok-first.ensures.tested)
