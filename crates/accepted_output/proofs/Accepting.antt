@@ -7,7 +7,7 @@ use Rattle.clause_store.specs.Lines.{PlainLine}
 use Rattle.clausify.specs.Input.{clauses_in_table}
 use Rattle.fol_core.specs.Literals.{ClauseTree, equality}
 use Rattle.fol_core.specs.SkolemAxioms.{SkolemAxiom}
-use Rattle.fol_core.specs.Stated.{Stated, stated_of}
+use Rattle.fol_problem.specs.Stated.{Stated, stated_of}
 use Rattle.fol_core.specs.SymbolTable.{Symbol}
 use Rattle.ladr_formulas.specs.declared.styles.Mode.{Mode}
 use Rattle.ladr_formulas.specs.declared.styles.Mode.TheVariants.{Prover}
@@ -35,12 +35,12 @@ use Rattle.ladr_prover9.specs.Quests.{Quest, quest_by, quest_in, quest_seconds, 
 use Rattle.ladr_prover9.specs.Story.{ProofsCome}
 use Rattle.ladr_prover9.specs.declared.ends.ProverEnd.{ProverEnd}
 use Rattle.ladr_prover9.specs.declared.ends.ProverEnd.TheVariants.{MaxProofs, SosEmpty, MaxMegs, MaxSeconds, MaxGiven, MaxKept, ClauseLimit}
-use Rattle.line_elements.specs.Signatures.{LinesStayIn}
-use Rattle.line_shapes.specs.Shapes.{MadeLinesAreFit}
-use Rattle.printed_checks.specs.Accepted.{HasFewClauses, AreAccepted}
+use Rattle.derivation_laws.specs.Signatures.{LinesStayIn}
+use Rattle.search_lines.specs.Shapes.{MadeLinesAreFit}
+use Rattle.printed_proofs.specs.Accepted.{HasFewClauses, AreAccepted}
 use Rattle.printed_proofs.specs.Files.{full_table, HasFewSymbols, IsClauseOfFile, CanPrintFile}
 use Rattle.printed_proofs.specs.Refutations.{AreCounted, lines_printed, ArePrintableRefutations, whole_text}
-use Rattle.proof_laws.specs.Printed.{PrintedProof, HoldsNoProof}
+use Rattle.printed_proofs.specs.Printed.{PrintedProof, HoldsNoProof}
 use Rattle.proof_print.specs.LineTexts.{proof_banner, frame_text}
 use Rattle.proof_text.specs.Blocks.{nothing}
 use Rattle.proof_print.specs.Names.{AreOfClauses}
@@ -48,7 +48,7 @@ use Rattle.prover_proofs.specs.ProofLaws.{FoundProofsRefute}
 use Rattle.prover_setup.specs.SearchInputs.{setting_in, start_in, rows_in, IsReachedIn}
 use Rattle.prover_steps.specs.Ending.{StartIsWithinLimits, ReachedAreWithinLimits}
 use Rattle.prover_steps.specs.Searching.{FoundProof, SearchState, is_nil}
-use Rattle.row_shapes.specs.Rows.{IsFitRow, AreFitRows}
+use Rattle.search_lines.specs.Rows.{IsFitRow, AreFitRows}
 use Rattle.accepted_output.proofs.Closing.{closing_none, none_told}
 use Rattle.accepted_output.proofs.Operators.{clause_rows, of_clauses, rows_lawful}
 use Rattle.accepted_output.proofs.Proofs.{ArePrinted, all_printed}

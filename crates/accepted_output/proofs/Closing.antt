@@ -12,7 +12,7 @@ use Rattle.ladr_prover9.proofs.Showing.{counters, counters_flat, verdict_text, v
 use Rattle.ladr_prover9.proofs.StandingProofs.{first, InClosing, at_first, at_second, at_third, at_end, in_closing}
 use Rattle.ladr_prover9.specs.Lines.{counters_line, proved_line, cause_line, closing_lines}
 use Rattle.ladr_prover9.specs.declared.ends.ProverEnd.{ProverEnd}
-use Rattle.proof_laws.specs.Printed.{HoldsNoProof}
+use Rattle.printed_proofs.specs.Printed.{HoldsNoProof}
 use Rattle.proof_text.specs.Blocks.{in_front, lines_in, is_proof_banner, HasBlocks, nothing, outside}
 use Rattle.prover_steps.specs.Searching.{SearchState, is_nil}
 

@@ -11,18 +11,18 @@ use Rattle.derivation.specs.declared.words.First.{First}
 use Rattle.derivation.specs.declared.words.First.TheVariants.{Assumption, Goal, Clausify, Deny, Copy, BackRewrite, BackUnitDel, Resolve, Hyper, Ur, Factor, Para, XxRes}
 use Rattle.fol_core.specs.Literals.{ClauseTree, equality}
 use Rattle.fol_core.specs.Renumbered.{renumbered}
-use Rattle.fol_core.specs.Stated.{Said}
+use Rattle.fol_problem.specs.Stated.{Said}
 use Rattle.fol_core.specs.SymbolTable.{Symbol}
-use Rattle.fol_core.specs.declared.problem.Input.{Input}
+use Rattle.fol_problem.specs.declared.problem.Input.{Input}
 use Rattle.ladr_formulas.specs.Formulas.{style_of, names_of_variables}
 use Rattle.ladr_formulas.specs.declared.styles.Mode.TheVariants.{Prover}
 use Rattle.ladr_lex.specs.Operators.{OperatorRow}
 use Rattle.ladr_print.specs.HasText.{HasText}
 use Rattle.ladr_problem.specs.declared.read.FileRead.{FileRead}
 use Rattle.ladr_rules.specs.Attributes.{attributed, label_of}
-use Rattle.line_bounds.specs.Bounds.{IsBoundedContent, IsBoundedLine}
-use Rattle.line_elements.specs.Signatures.{Signature, RowsAreIn, ContentIsIn, LinesAreIn}
-use Rattle.line_shapes.specs.Shapes.{IsFitLine}
+use Rattle.printed_proofs.specs.LineBounds.{IsBoundedContent, IsBoundedLine}
+use Rattle.derivation_laws.specs.Signatures.{Signature, RowsAreIn, ContentIsIn, LinesAreIn}
+use Rattle.search_lines.specs.Shapes.{IsFitLine}
 use Rattle.printed_proofs.specs.Files.{full_table, may_be_used, IsClauseOfFile, CanPrintFile}
 use Rattle.proof_lines.specs.Stated.{is_too_deep, line_made, line_misuse}
 use Rattle.proof_print.specs.LineTexts.{formula_term}
@@ -31,7 +31,7 @@ use Rattle.proof_words.specs.Written.{states_formula, written_first, written_of,
 use Rattle.prover_proofs.specs.SearchLines.{clausal_lines, stated_lines, made_plain, lines_at, role_at}
 use Rattle.prover_steps.proofs.Lists.{all_append}
 use Rattle.prover_steps.specs.Searching.{MadeLine, SearchState, clause_depth}
-use Rattle.row_shapes.specs.Rows.{IsFitRow, AreFitRows}
+use Rattle.search_lines.specs.Rows.{IsFitRow, AreFitRows}
 use Rattle.accepted_output.proofs.Signatures.{signature_of, numbered_short, clause_in, clause_over, clause_kinds, clause_own}
 use Rattle.accepted_output.proofs.Words.{AreFit, words_said}
 

@@ -7,7 +7,7 @@ use Rattle.clausify.specs.Input.{clauses_in_table}
 use Rattle.derivation.specs.Lines.{InputRow, IsRefutation}
 use Rattle.derivation.specs.View.{lines_of}
 use Rattle.fol_core.specs.Literals.{ClauseTree, equality}
-use Rattle.fol_core.specs.Stated.{Stated, stated_of}
+use Rattle.fol_problem.specs.Stated.{Stated, stated_of}
 use Rattle.fol_core.specs.SymbolTable.{Symbol}
 use Rattle.ladr_lex.specs.Operators.{OperatorRow}
 use Rattle.ladr_problem.specs.declared.read.FileRead.{FileRead}
@@ -15,18 +15,18 @@ use Rattle.ladr_prover9.proofs.ProofTexts.{printed}
 use Rattle.ladr_prover9.specs.ProofTexts.{head_of_proof, proof_text, IsProofText, AreProofTexts}
 use Rattle.ladr_prover9.specs.Quests.{Quest, quest_in, quest_lines}
 use Rattle.ladr_prover9.specs.Shown.{AreRefutingLines}
-use Rattle.line_elements.specs.Signatures.{LinesAreIn, LinesStayIn}
-use Rattle.line_shapes.specs.Shapes.{IsFitLine}
+use Rattle.derivation_laws.specs.Signatures.{LinesAreIn, LinesStayIn}
+use Rattle.search_lines.specs.Shapes.{IsFitLine}
 use Rattle.printed_proofs.specs.Files.{full_table, may_be_used, IsClauseOfFile, CanPrintFile}
 use Rattle.printed_proofs.specs.Refutations.{AreAllRefuting, lines_printed, HaveCountedLines}
-use Rattle.proof_laws.specs.Printed.{PrintedProof, ArePrintableProofs, proofs_text}
+use Rattle.printed_proofs.specs.Printed.{PrintedProof, ArePrintableProofs, proofs_text}
 use Rattle.proof_lines.specs.ContentTokens.{LineTables}
 use Rattle.proof_print.specs.LineTexts.{proof_bytes}
 use Rattle.proof_print.specs.Names.{AreOfClauses}
 use Rattle.proof_print.specs.Reread.{row_tables}
 use Rattle.prover_steps.proofs.Lists.{all_kept}
 use Rattle.prover_steps.specs.Searching.{FoundProof, SearchState}
-use Rattle.row_shapes.specs.Rows.{IsFitRow, AreFitRows}
+use Rattle.search_lines.specs.Rows.{IsFitRow, AreFitRows}
 use Rattle.accepted_output.proofs.Lines.{trees_same, IsFitPlain, state_fit, rows_shallow, rows_in, lines_printable}
 use Rattle.accepted_output.proofs.Operators.{tables_same}
 use Rattle.accepted_output.proofs.Signatures.{signature_of}

@@ -12,7 +12,7 @@ use Rattle.fol_core.specs.Tree.{Tree, var, elem, app, Trees, none, more}
 use Rattle.fol_core.specs.declared.symbols.Kind.{Kind}
 use Rattle.fol_core.specs.declared.symbols.Kind.TheVariants.{Function, Relation}
 use Rattle.ladr_print.specs.HasText.{many, IsSymbolOf, IsTermOver, AreOver, IsAtomOver, IsClauseOver}
-use Rattle.line_elements.specs.Signatures.{Signature, argument_count, IsTermIn, AreTermsIn, IsAtomIn, IsClauseIn}
+use Rattle.derivation_laws.specs.Signatures.{Signature, argument_count, IsTermIn, AreTermsIn, IsAtomIn, IsClauseIn}
 use Rattle.proof_print.specs.Rereadable.{clause_uses, HasFunctions, HaveFunctions, IsAtomOfKinds, IsClauseOfKinds}
 
 many_is : (ts : Trees) → many ts ≡ argument_count ts

@@ -4,7 +4,7 @@ use Rattle.std.specs.Prelude.{unwrap_or}
 use Rattle.std.specs.Option.{option_map}
 use Rattle.clausify.specs.Input.{skolems, skolem_numbers, with_skolems, all_rows, all_skolem_axioms, clauses_in_table, axioms_in_table}
 use Rattle.clausify.specs.Names.{all_entered, entered_numbers}
-use Rattle.fol_core.specs.Stated.{Stated}
+use Rattle.fol_problem.specs.Stated.{Stated}
 use Rattle.fol_core.specs.SymbolTable.{Symbol, first_place, is_called, number_of, entered}
 use Rattle.fol_core.proofs.SymbolLemmas.{number_of_push}
 

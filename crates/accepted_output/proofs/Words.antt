@@ -2,8 +2,8 @@
 use Rattle.std.proofs.Common.{◌≡◌, false, List, [], ◌∷◌}
 use Rattle.std.specs.List.{AllByRecursion}
 use Rattle.derivation.specs.Later.{LaterWord, flipped, merged, reflexive, unit_deleted, rewritten}
-use Rattle.line_bounds.specs.Bounds.{AreBoundedFirst, IsBoundedLater, AreBoundedLater, AreBoundedWords}
-use Rattle.line_shapes.specs.Shapes.{IsFitFirst, IsFitLater}
+use Rattle.printed_proofs.specs.LineBounds.{AreBoundedFirst, IsBoundedLater, AreBoundedLater, AreBoundedWords}
+use Rattle.search_lines.specs.Shapes.{IsFitFirst, IsFitLater}
 use Rattle.proof_words.specs.Spelling.{takes_steps}
 use Rattle.proof_words.specs.Written.{Written, WrittenFirst, as_assumption, as_goal, by_clausify, by_deny, by_copy, by_back_rewrite, by_back_unit_del, by_resolve, by_hyper, by_ur, by_factor, by_para, by_xx_res}
 use Rattle.words_print.specs.Sayable.{IsSayableFirst, IsSayableLater, AreSayable, IsSayable}

@@ -21,7 +21,7 @@ use Rattle.ladr_prover9.specs.Story.{ProofsCome}
 use Rattle.ladr_prover9.specs.declared.ends.ProverEnd.{ProverEnd}
 use Rattle.printed_proofs.specs.Files.{full_table}
 use Rattle.printed_proofs.specs.Refutations.{lines_printed, ReadsRefutations}
-use Rattle.proof_laws.specs.Printed.{PrintedProof}
+use Rattle.printed_proofs.specs.Printed.{PrintedProof}
 use Rattle.proof_print.specs.LineTexts.{proof_banner, frame_text}
 use Rattle.prover_setup.specs.SearchInputs.{IsReachedIn}
 use Rattle.prover_steps.specs.Searching.{FoundProof, SearchState}

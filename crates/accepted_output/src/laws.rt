@@ -1,16 +1,14 @@
 // What a check makes of the output of a search for proofs: the function does nothing, and its contract is the law.
 ghost use Rattle.accepted_output.specs.Accepted.{OutputsAreAccepted, ProofsSoFarAreAccepted};
 
+use derivation_laws::lines_stay_in;
 use ladr_models::formulas_state_themselves;
 use ladr_problem::{one_outcome, problems_are_proper};
 use ladr_prover9::quests_are_sound;
-use line_elements::lines_stay_in;
-use line_shapes::lines_are_fit;
-use printed_checks::printed_refutations_are_accepted;
-use printed_proofs::files_can_be_printed;
+use printed_proofs::{files_can_be_printed, printed_refutations_are_accepted};
 use prover_proofs::proofs_refute;
 use prover_steps::ends_have_reasons;
-use row_shapes::{fit_rows_are_lines, rows_of_files_are_fit};
+use search_lines::{fit_rows_are_lines, lines_are_fit, rows_of_files_are_fit};
 
 /// A check accepts the whole output of a run that came to an end of its own and tells that the problem is proved; and what a run
 /// wrote before memory was lacking, where a proof stands in it.

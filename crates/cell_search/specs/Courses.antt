@@ -11,7 +11,7 @@ use Rattle.mace_cells.specs.World.{World, many_cells}
 use Rattle.mace_cells.specs.declared.way.Way.{Way}
 use Rattle.mace_cells.specs.declared.frame.Frame.{Frame}
 use Rattle.mace_ground.specs.Count.{blocks_in, clause_trees}
-use Rattle.mace_search.specs.Watch.{IsEarly, IsLate}
+use Rattle.ladr_io.specs.Watch.{IsEarly, IsLate}
 use Rattle.mace_search.specs.declared.answer.Answer.{Answer}
 use Rattle.mace_search.specs.declared.answer.Answer.TheVariants as answers
 use Rattle.mace_search.specs.declared.answer.Answer.TheVariants.{Model, MaxSeconds}

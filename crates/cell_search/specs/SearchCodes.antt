@@ -8,7 +8,7 @@ use Rattle.mace_cells.specs.declared.way.Measure.TheVariants.{First, MostCrossed
 use Rattle.mace_cells.specs.declared.way.Way.{Way}
 use Rattle.fol_core.specs.LitCodes.{coded_clause}
 use Rattle.fol_core.specs.Literals.{ClauseTree}
-use Rattle.fol_core.specs.StatedCodes.{coded_kind}
+use Rattle.fol_problem.specs.StatedCodes.{coded_kind}
 use Rattle.fol_core.specs.declared.symbols.Kind.{Kind}
 use Rattle.mace_cells.specs.Choices.{Choice}
 use Rattle.mace_cells.specs.Trails.{Partial, Ranking, partial}

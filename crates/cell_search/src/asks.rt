@@ -12,7 +12,7 @@ use fol_core::{EQ, Kind, Literal, Term, Terms};
 use mace_cells::Trail;
 
 /// That a cell is to have a value, or not to have it.
-#[derive(Clone, Copy, Debug, Drop)]
+#[derive(Clone, Copy, Drop)]
 pub struct Ask {
     pub cell: u32,
     pub value: u32,

@@ -11,7 +11,7 @@ use crate::setup::Setup;
 use mace_cells::Trail;
 
 /// What values a cell has left.
-#[derive(Clone, Copy, Debug)]
+#[derive(Clone, Copy)]
 pub enum Rest {
     Nothing,
     One(u32),

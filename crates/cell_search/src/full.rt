@@ -23,7 +23,7 @@ use mace_ground::variables_in;
 use std::alloc::AllocError;
 
 /// A cell has no value, and two left; or the decisions leave a cell none; or each has a value that it can have.
-#[derive(Clone, Copy, Debug)]
+#[derive(Clone, Copy)]
 pub enum Filled {
     Open(u32),
     Amiss,

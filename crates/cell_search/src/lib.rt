@@ -1,4 +1,15 @@
-// A search for models on a board of cells, with unit closure.
+// The search for models itself: a board of cells that is closed under what the clauses ask, and the tables of a model.
+// `search.rt` has `CellSearch`, which takes all its memory at the beginning. `setup.rt` has the clauses, the cells and
+// what values each can have; `cells.rt` is its board. Ground clauses aren't stored: `walks.rt` makes ways through their
+// instances (`walk.rt`), one for each clause and one for each place at which a symbol stands, and `going.rt` goes the
+// latter for each cell that got a value, with the steps of the trail as its queue.
+// `seen.rt` and `literals.rt` tell values of terms and truth of literals as far as cells have values, `look.rt` what an
+// instance asks, `asks.rt` of which cell, and `closing.rt` does it: a value is given or crossed off. A cell with one
+// value left gets it, and an instance that is looked at and has all its literals false is a contradiction.
+// That no solution gets lost is said of each of these steps for all interpretations, but nothing is said of the order
+// in which instances come, nor that all are gone over: where each cell has a value, `full.rt` looks at all instances
+// before a model is answered. `tables.rt` has the tables of a model. Answered is the next model, that there is none, or
+// that the time is over.
 #![tactic(auto)]
 
 mod asks;

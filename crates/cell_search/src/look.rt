@@ -12,7 +12,7 @@ use fol_core::Literal;
 use mace_cells::Trail;
 
 /// What an instance of a clause tells: nothing; that it can't be true; or what it asks, all its literals but one being false.
-#[derive(Clone, Copy, Debug, Drop)]
+#[derive(Clone, Copy, Drop)]
 pub enum Verdict {
     Quiet,
     Contradiction,

@@ -5,7 +5,7 @@ ghost use Rattle.cell_search.specs.Finites.{tables_over};
 ghost use Rattle.cell_search.specs.Searchable.{HasAllCells};
 ghost use Rattle.mace_cells.specs.Readings.{GoesInTime};
 ghost use Rattle.mace_ground.specs.Count.{ground_count};
-ghost use Rattle.mace_search.specs.Watch.{IsEarly};
+ghost use Rattle.ladr_io.specs.Watch.{IsEarly};
 ghost use Rattle.mace_search.specs.declared.answer.Answer.TheVariants.{Exhausted, MaxSeconds};
 ghost use Rattle.model_tables.specs.declared.limits.TheConstants.{MOST_CELLS};
 
@@ -23,7 +23,7 @@ use std::alloc::{AllocError, Global};
 use std::marker::Model;
 
 // The decisions are being followed; a model was found; nothing is left; or the time is over.
-#[derive(Clone, Copy, Debug)]
+#[derive(Clone, Copy)]
 enum State {
     Following,
     Found,

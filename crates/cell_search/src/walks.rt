@@ -6,7 +6,7 @@ use mace_ground::{power, variables_in};
 use std::alloc::{AllocError, Global};
 
 // Whether a variable is an argument itself, stands in an argument, or doesn't stand in an occurrence.
-#[derive(Clone, Copy, Debug, PartialEq, Eq)]
+#[derive(Clone, Copy)]
 enum Mark {
     Other,
     Nested,

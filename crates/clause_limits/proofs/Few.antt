@@ -3,11 +3,11 @@ use Rattle.std.proofs.Common.{◌≡◌, ℕ, ◌+◌, ◌≤◌, false, nat_lt,
 use Rattle.std.proofs.lemmas.Bool.{le-ltb}
 use Rattle.clause_limits.specs.Sizes.{clause_size, clause_depth}
 use Rattle.fol_core.specs.Literals.{ClauseTree}
+use Rattle.fol_core.specs.Sizes.{size_of, sizes_of, depth_of, depths_of}
 use Rattle.fol_core.specs.Tree.{Tree, var, elem, app, Trees, none, more}
-use Rattle.term_bank.specs.Bank.{size_of, sizes_of, term_depth, depths_of}
 
 mutual
-  levels_within : (t : Tree) → term_depth t ≤ size_of t
+  levels_within : (t : Tree) → depth_of t ≤ size_of t
   levels_within (var x) = omega arith
   levels_within (elem k) = omega arith
   levels_within (app f ts) = let h = all_within ts in omega (arith, h)

@@ -2,9 +2,9 @@
 use Rattle.std.proofs.Common.{◌≡◌, ℕ, nat_lt, max, ◌+◌, ◌||◌, [], ◌∷◌, map, refl, ap, ap₂}
 use Rattle.fol_core.specs.Literals.{Lit, literal, ClauseTree}
 use Rattle.fol_core.specs.Renumbered.{renumbered, place_in, clause_variables}
+use Rattle.fol_core.specs.Sizes.{size_of, sizes_of, depth_of, depths_of}
 use Rattle.fol_core.specs.Substitutions.{substitute, substitute_all}
 use Rattle.fol_core.specs.Tree.{Tree, var, elem, app, Trees, none, more}
-use Rattle.term_bank.specs.Bank.{size_of, sizes_of, term_depth, depths_of}
 use Rattle.clause_limits.specs.Sizes.{clause_size, clause_depth, is_too_large}
 
 module _ (name : ℕ → ℕ) where
@@ -19,7 +19,7 @@ module _ (name : ℕ → ℕ) where
     all_sized (more t ts) = ap₂ (λ m n. m + n) (sized t) (all_sized ts)
 
   mutual
-    deep : (t : Tree) → term_depth (substitute (λ x. var (name x)) t) ≡ term_depth t
+    deep : (t : Tree) → depth_of (substitute (λ x. var (name x)) t) ≡ depth_of t
     deep (var x) = refl
     deep (elem k) = refl
     deep (app f ts) = ap (λ n. n + 1) (all_deep ts)

@@ -1,7 +1,7 @@
 -- How large clauses are, and how large one may be.
 use Rattle.std.specs.Prelude.{ℕ, Bool, ◌+◌, nat_lt, max, ◌||◌, [], ◌∷◌}
 use Rattle.fol_core.specs.Literals.{ClauseTree}
-use Rattle.term_bank.specs.Bank.{size_of, term_depth}
+use Rattle.fol_core.specs.Sizes.{size_of, depth_of}
 
 -- how many symbols and variables a clause has, and how many levels
 abbrev pub clause_size : ClauseTree → ℕ
@@ -10,7 +10,7 @@ clause_size (l ∷ c) = size_of l.atom + clause_size c
 
 abbrev pub clause_depth : ClauseTree → ℕ
 clause_depth [] = 0
-clause_depth (l ∷ c) = max (term_depth l.atom) (clause_depth c)
+clause_depth (l ∷ c) = max (depth_of l.atom) (clause_depth c)
 
 -- a clause that is too large to be processed
 abbrev pub is_too_large : ClauseTree → Bool

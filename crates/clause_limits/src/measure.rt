@@ -1,8 +1,8 @@
 // How large clauses are: each is looked at no further than the number asked about.
 ghost use Rattle.std.specs.Prelude.{◌≡◌, ◌<◌, ◌+◌, ◌||◌, MatchOption, false, nat_lt};
+ghost use Rattle.fol_core.specs.Sizes.{size_of, depth_of};
 ghost use Rattle.fol_core.specs.TermView.{tree_of};
 ghost use Rattle.clause_limits.specs.Sizes.{clause_size, clause_depth, is_too_large};
-ghost use Rattle.term_bank.specs.Bank.{size_of, term_depth};
 
 use crate::limits::{MOST_LEVELS, MOST_SYMBOLS};
 use fol_core::{Clause, Term};
@@ -10,7 +10,7 @@ use fol_core::{Clause, Term};
 // Whether a term has more levels.
 #[tactic(auto, using(crate::proofs::Measures::deeper_here, crate::proofs::Measures::deeper_behind, crate::proofs::Measures::deeper_end, crate::proofs::Measures::deeper_around))]
 fn is_deeper(term: &Term, levels: u64) -> bool
-    ensures { result ≡ nat_lt levels (term_depth (tree_of term.now)) }
+    ensures { result ≡ nat_lt levels (depth_of (tree_of term.now)) }
 {
     if levels == 0 {
         return true;

@@ -7,7 +7,7 @@ use Rattle.std.proofs.lemmas.List.Folds.{list_any-append}
 use Rattle.std.proofs.lemmas.List.Elements.{filter-append}
 use Rattle.fol_core.specs.Free.{is_in}
 use Rattle.fol_core.specs.Literals.{ClauseTree}
-use Rattle.fol_core.specs.Stated.{Said}
+use Rattle.fol_problem.specs.Stated.{Said}
 use Rattle.derivation.specs.Later.{LaterWord, later_parents}
 use Rattle.derivation.specs.Lines.{FirstWord, assumed, wanted, clausified, denied, copied, resolved, factored, paramodulated, xx_resolved, Inference, copy_inference, clash_inference, factor_inference, para_inference, xx_inference, ContentTree, LineTree, line_at, content_clause, clause_at, AreClauses, After, IsInferred, InputRow, IsInputOf, IsLine, IsAbove, AreLines, IsDerivation, ends_empty, is_empty_clause, formula, clause}
 use Rattle.clause_store.specs.Ancestors.{first_parents, line_parents, parents_in, IsWay, IsAncestry}

@@ -12,7 +12,7 @@ use Rattle.fol_core.specs.ClauseView.{literal_of}
 use Rattle.fol_core.specs.Literals.{ClauseTree, literal}
 use Rattle.fol_core.specs.declared.clause.Literal.{Literal}
 use Rattle.fol_core.specs.Tree.{Tree}
-use Rattle.fol_core.specs.declared.problem.Input.{Input}
+use Rattle.fol_problem.specs.declared.problem.Input.{Input}
 use Rattle.derivation.specs.Lines.{FirstWord, ContentTree, LineTree, line_at}
 use Rattle.derivation.specs.View.{content_of, first_word_of, later_of}
 use Rattle.derivation.specs.declared.line.Line.{Line}

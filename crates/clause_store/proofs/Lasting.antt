@@ -5,7 +5,7 @@ use Rattle.std.specs.Option.{option_map_or}
 use Rattle.std.proofs.lemmas.List.{append-nil, map-append}
 use Rattle.std.proofs.lemmas.List.Elements.{filter-append}
 use Rattle.fol_core.specs.Free.{is_in}
-use Rattle.fol_core.specs.Stated.{Said}
+use Rattle.fol_problem.specs.Stated.{Said}
 use Rattle.derivation.specs.Lines.{InputRow, LineTree, line_at, IsAbove, AreLines, IsDerivation}
 use Rattle.clause_store.specs.Ancestors.{line_parents, parents_in, IsWay, IsAncestry}
 use Rattle.clause_store.specs.Laws.{AncestorsAreOne, AncestorsStay}

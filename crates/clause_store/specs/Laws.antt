@@ -1,6 +1,6 @@
 -- What holds of lines that are kept, and of their ancestors.
 use Rattle.std.specs.Prelude.{ℕ, ◌≡◌, List, [], ◌++◌, Some}
-use Rattle.fol_core.specs.Stated.{Said}
+use Rattle.fol_problem.specs.Stated.{Said}
 use Rattle.fol_core.specs.Tree.{Tree}
 use Rattle.derivation.specs.Lines.{InputRow, LineTree, line_at, clause_at, IsDerivation, IsRefutation}
 use Rattle.derivation.specs.View.{line_tree}

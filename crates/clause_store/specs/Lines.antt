@@ -7,8 +7,8 @@ use Rattle.fol_core.specs.Literals.{ClauseTree}
 use Rattle.fol_core.specs.RawTree.{RawTree}
 use Rattle.fol_core.specs.Tree.{Tree}
 use Rattle.fol_core.specs.declared.formula.Formula.{Formula}
-use Rattle.fol_core.specs.declared.problem.Input.{Input}
-use Rattle.fol_core.specs.declared.problem.Role.{Role}
+use Rattle.fol_problem.specs.declared.problem.Input.{Input}
+use Rattle.fol_problem.specs.declared.problem.Role.{Role}
 use Rattle.derivation.specs.Lines.{ContentTree, formula, clause, LineTree, is_goal}
 use Rattle.derivation.specs.declared.line.Content.{Content}
 use Rattle.derivation.specs.declared.line.Content.TheVariants as content

@@ -9,7 +9,7 @@ use crate::copying::copy_label;
 use crate::lines::{StoredContent, StoredLine};
 use crate::stored::Stored;
 use derivation::{First, Just, Line};
-use fol_core::{Input, Problem, Role};
+use fol_problem::{Input, Problem, Role};
 use std::alloc::{AllocError, Global};
 use term_bank::Bank;
 

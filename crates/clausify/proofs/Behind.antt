@@ -10,7 +10,7 @@ use Rattle.std.proofs.lemmas.Slice.Eq.{bytes_eq-Decides}
 use Rattle.fol_core.specs.Fol.{Fol, verum, falsum, equal, atom, negation, conjunction, disjunction, implication, equivalence, forall, exists}
 use Rattle.fol_core.specs.Literals.{equality}
 use Rattle.fol_core.specs.SkolemAxioms.{SkolemAxiom}
-use Rattle.fol_core.specs.Stated.{Said, Stated}
+use Rattle.fol_problem.specs.Stated.{Said, Stated}
 use Rattle.fol_core.specs.Substitutions.{Substitution, with_term}
 use Rattle.fol_core.specs.SymbolTable.{Symbol, symbol, number_of, entered, FindsEach}
 use Rattle.fol_core.specs.Tree.{var}

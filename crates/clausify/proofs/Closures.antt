@@ -5,8 +5,8 @@ use Rattle.std.proofs.lemmas.List.{append-nil, drop_all, map-append, take_all, t
 use Rattle.fol_core.specs.EntryView.{some_over}
 use Rattle.fol_core.specs.Fol.{Fol, forall, exists}
 use Rattle.fol_core.specs.Free.{closed_over}
-use Rattle.fol_core.specs.Stated.{said_of, all_said}
-use Rattle.fol_core.specs.declared.problem.Input.{Input}
+use Rattle.fol_problem.specs.Stated.{said_of, all_said}
+use Rattle.fol_problem.specs.declared.problem.Input.{Input}
 use Rattle.clausify.specs.Capped.{count_capped}
 use Rattle.clausify.specs.Forms.{nnf_of, clause_count}
 use Rattle.clausify.specs.Fronts.{quantified, normal_of}

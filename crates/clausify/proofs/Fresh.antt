@@ -10,11 +10,11 @@ use Rattle.fol_core.specs.Bound.{uses_symbol}
 use Rattle.fol_core.specs.Fol.{Fol, verum, falsum, equal, atom, negation, conjunction, disjunction, implication, equivalence, forall, exists}
 use Rattle.fol_core.specs.Free.{closure_of, free_vars_of}
 use Rattle.fol_core.specs.Literals.{equality}
-use Rattle.fol_core.specs.Stated.{Said, AreWellFormed, AreNewTo}
+use Rattle.fol_problem.specs.Stated.{Said, AreWellFormed, AreNewTo}
 use Rattle.fol_core.specs.SymbolTable.{Symbol, symbol, number_of, entered, KeepsNumbers}
 use Rattle.fol_core.specs.Tree.{var}
 use Rattle.fol_core.specs.SkolemAxioms.{SkolemAxiom, AreNotIn, IsApart, AreInOrder}
-use Rattle.fol_core.proofs.Soundness.{uses_closed}
+use Rattle.fol_problem.proofs.Soundness.{uses_closed}
 use Rattle.fol_core.proofs.SymbolLemmas.{symbol_there, number_of_push}
 use Rattle.clausify.specs.Input.{form, is_taken, all_arities, axioms_from}
 use Rattle.clausify.specs.Names.{letter_numbered, is_named, free_from, next_free, next_name, next_constant, next_function, skolem_symbols, all_entered, entered_numbers, IsNewName}

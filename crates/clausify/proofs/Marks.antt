@@ -5,9 +5,9 @@ use Rattle.std.proofs.lemmas.List.{append-nil, drop_all, take_all, take-append-l
 use Rattle.fol_core.specs.Bound.{uses_symbol}
 use Rattle.fol_core.specs.FormulaView.{fol_of}
 use Rattle.fol_core.specs.Occurs.{AreMarked, above_numerals, size_needed}
-use Rattle.fol_core.specs.Stated.{Said, all_said}
+use Rattle.fol_problem.specs.Stated.{Said, all_said}
 use Rattle.fol_core.specs.SymbolTable.{Symbol}
-use Rattle.fol_core.specs.declared.problem.Input.{Input}
+use Rattle.fol_problem.specs.declared.problem.Input.{Input}
 use Rattle.clausify.specs.Input.{formulas, is_used, numbers_passing, used_symbols}
 use Rattle.clausify.specs.Seen.{is_marked}
 

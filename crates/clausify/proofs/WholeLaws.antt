@@ -7,12 +7,12 @@ use Rattle.fol_core.specs.Bound.{BindsOnce, HasSymbolsBelow}
 use Rattle.fol_core.specs.Free.{is_in, free_vars_of, closed_over, closure_of}
 use Rattle.fol_core.specs.Literals.{ClauseTree, equality, is_true_clause}
 use Rattle.fol_core.specs.Meaning.{Meaning, IsLawful}
-use Rattle.fol_core.specs.Stated.{Said, AreWellFormed, IsAsRoled, IsCountermodel}
+use Rattle.fol_problem.specs.Stated.{Said, AreWellFormed, IsAsRoled, IsCountermodel}
 use Rattle.fol_core.specs.Truth.{Assignment, IsWithin, Holds}
 use Rattle.fol_core.specs.SkolemAxioms.{PicksWitnesses}
-use Rattle.fol_core.proofs.Soundness.{uses_closed}
-use Rattle.fol_core.specs.declared.problem.Role.{Role}
-use Rattle.fol_core.specs.declared.problem.Role.TheVariants.{Assumption, Usable, Demodulator, Goal}
+use Rattle.fol_problem.proofs.Soundness.{uses_closed}
+use Rattle.fol_problem.specs.declared.problem.Role.{Role}
+use Rattle.fol_problem.specs.declared.problem.Role.TheVariants.{Assumption, Usable, Demodulator, Goal}
 use Rattle.fol_core.proofs.TruthLemmas.{stable, free_decide}
 use Rattle.fol_core.proofs.Variables.{is_in_without}
 use Rattle.fol_core.specs.Renumbered.{renumbered}

@@ -5,7 +5,7 @@ use Rattle.clausify.specs.Input.{skolems, with_skolems, axioms_in_table}
 use Rattle.clausify.specs.Names.{letter_numbered, is_named}
 use Rattle.fol_core.specs.Literals.{equality}
 use Rattle.fol_core.specs.SkolemAxioms.{SkolemAxiom}
-use Rattle.fol_core.specs.Stated.{Stated}
+use Rattle.fol_problem.specs.Stated.{Stated}
 use Rattle.fol_core.specs.SymbolTable.{Symbol, FindsEach}
 use Rattle.fol_core.specs.declared.symbols.Kind.TheVariants.{Function}
 

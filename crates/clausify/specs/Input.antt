@@ -5,11 +5,11 @@ use Rattle.fol_core.specs.Fol.{Fol}
 use Rattle.fol_core.specs.Free.{closure_of}
 use Rattle.fol_core.specs.Literals.{ClauseTree}
 use Rattle.fol_core.specs.Occurs.{occurs_in, size_needed}
-use Rattle.fol_core.specs.Stated.{Said, Stated}
+use Rattle.fol_problem.specs.Stated.{Said, Stated}
 use Rattle.fol_core.specs.SymbolTable.{Symbol}
 use Rattle.fol_core.specs.SkolemAxioms.{SkolemAxiom}
-use Rattle.fol_core.specs.declared.problem.Role.{Role}
-use Rattle.fol_core.specs.declared.problem.Role.TheVariants.{Assumption, Usable, Demodulator, Goal}
+use Rattle.fol_problem.specs.declared.problem.Role.{Role}
+use Rattle.fol_problem.specs.declared.problem.Role.TheVariants.{Assumption, Usable, Demodulator, Goal}
 use Rattle.fol_core.specs.Renumbered.{renumbered}
 use Rattle.clausify.specs.Clausal.{clauses_in}
 use Rattle.clausify.specs.Forms.{nnf_of, clause_count}

@@ -2,7 +2,7 @@
 use Rattle.std.specs.Prelude.{ℕ, List, map}
 use Rattle.fol_core.specs.Literals.{AreTrueClauses, equality}
 use Rattle.fol_core.specs.Meaning.{Meaning}
-use Rattle.fol_core.specs.Stated.{Said, AreWellFormed, IsCountermodel}
+use Rattle.fol_problem.specs.Stated.{Said, AreWellFormed, IsCountermodel}
 use Rattle.fol_core.specs.SkolemAxioms.{PicksWitnesses}
 use Rattle.clausify.specs.Input.{ClauseRow, all_rows, all_skolem_axioms}
 

@@ -6,7 +6,7 @@ use std::alloc::AllocError;
 use thiserror::Error;
 
 /// A formula, by its number counted from 1, has more than 20,000 clauses, or memory is lacking.
-#[derive(Clone, Copy, Debug, PartialEq, Eq, Error)]
+#[derive(Clone, Copy, Debug, Error)]
 pub enum ClauseError {
     #[error("clause limit at formula {formula}")]
     ClauseLimit { formula: u64 },

@@ -2,7 +2,7 @@
 ghost use Rattle.std.specs.Prelude.{List, length, ◌≤◌};
 ghost use Rattle.fol_core.specs.Literals.{equality};
 ghost use Rattle.fol_core.specs.Meaning.{Meaning, IsLawful};
-ghost use Rattle.fol_core.specs.Stated.{Stated, IsWellFormed, AreNewTo};
+ghost use Rattle.fol_problem.specs.Stated.{Stated, IsWellFormed, AreNewTo};
 ghost use Rattle.fol_core.specs.SymbolTable.{Symbol, KeepsNumbers};
 ghost use Rattle.fol_core.specs.SkolemAxioms.{AreInOrder};
 ghost use Rattle.clausify.specs.Behind.{SkolemsStandBehind};

@@ -1,12 +1,12 @@
 // The limit on the clauses of a formula.
 ghost use Rattle.std.specs.Prelude.{◌≡◌};
-ghost use Rattle.fol_core.specs.Stated.{said_of, all_said};
+ghost use Rattle.fol_problem.specs.Stated.{said_of, all_said};
 ghost use Rattle.clausify.specs.Capped.{count_capped};
 ghost use Rattle.clausify.specs.Forms.{clause_count};
 ghost use Rattle.clausify.specs.Input.{form, first_over};
 
 use crate::counts::counts_of;
-use fol_core::{Input, Role};
+use fol_problem::{Input, Role};
 
 /// The most clauses that a formula may have.
 pub const MOST_CLAUSES: u64 = 20_000;

@@ -2,12 +2,13 @@
 ghost use Rattle.std.specs.Prelude.{◌≡◌, IfOk, map, true, false};
 ghost use Rattle.fol_core.specs.Fol.{disjunction};
 ghost use Rattle.fol_core.specs.FormulaView.{fol_of};
-ghost use Rattle.fol_core.specs.Stated.{said_of, all_said};
+ghost use Rattle.fol_problem.specs.Stated.{said_of, all_said};
 ghost use Rattle.clausify.specs.Forms.{nnf_of};
 ghost use Rattle.clausify.specs.Fronts.{normal_of};
 ghost use Rattle.clausify.specs.Input.{form, forms, is_taken};
 
-use fol_core::{Input, Role, Shape, Sub, free_vars};
+use fol_core::{Shape, Sub, free_vars};
+use fol_problem::{Input, Role};
 use std::alloc::{AllocError, Global};
 
 /// The negation normal form of a formula's closure, or of the closure's denial: whether it is the former, the free

@@ -3,7 +3,7 @@ ghost use Rattle.std.specs.Prelude.{◌≡◌, ◌≤◌, ℕ, Some, None, Err, 
 ghost use Rattle.fol_core.specs.EntryView.{skolem_axiom_of};
 ghost use Rattle.fol_core.specs.Literals.{equality};
 ghost use Rattle.fol_core.specs.Meaning.{Meaning, IsLawful};
-ghost use Rattle.fol_core.specs.Stated.{stated_of, IsWellFormed, IsCountermodel, AreNewTo};
+ghost use Rattle.fol_problem.specs.Stated.{stated_of, IsWellFormed, IsCountermodel, AreNewTo};
 ghost use Rattle.fol_core.specs.SymbolTable.{KeepsNumbers};
 ghost use Rattle.fol_core.specs.SkolemAxioms.{PicksWitnesses, AreInOrder};
 ghost use Rattle.clausify.specs.Input.{clauses_in_table, axioms_in_table, with_skolems, first_over, used_symbols, numeral_of};
@@ -18,7 +18,8 @@ use crate::limit::first_over;
 use crate::normal::all_normal;
 use crate::seen::symbols_and_numeral;
 use crate::skolem::enter_all;
-use fol_core::{Clauses, Problem, Symbols};
+use fol_core::{Clauses, Symbols};
+use fol_problem::Problem;
 use std::alloc::{AllocError, Global};
 
 // A table has fewer symbols than there are numbers, so equality's is none of theirs.

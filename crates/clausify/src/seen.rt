@@ -1,11 +1,12 @@
 // The symbols and numerals of formulas.
 ghost use Rattle.std.specs.Prelude.{◌≡◌, [], ◌∷◌, ◌++◌, if◌then◌else◌, IfOk, OnOk, length, map};
 ghost use Rattle.fol_core.specs.Occurs.{AreMarked, size_needed};
-ghost use Rattle.fol_core.specs.Stated.{all_said};
+ghost use Rattle.fol_problem.specs.Stated.{all_said};
 ghost use Rattle.clausify.specs.Input.{formulas, is_used, before, numeral_of, numbers_passing, used_symbols};
 ghost use Rattle.clausify.specs.Seen.{is_marked};
 
-use fol_core::{Input, Problem, Sym, above_numerals, mark_symbols};
+use fol_core::{Sym, above_numerals, mark_symbols};
+use fol_problem::{Input, Problem};
 use std::alloc::{AllocError, Global};
 
 // Marks the symbols of formulas, by their numbers.

@@ -9,7 +9,7 @@ use held_clauses::is_equation;
 use ladr_options::Options;
 
 /// The rules in force.
-#[derive(Clone, Copy, Debug, PartialEq, Eq)]
+#[derive(Clone, Copy)]
 pub struct RulesInForce {
     pub binary: bool,
     pub hyper: bool,

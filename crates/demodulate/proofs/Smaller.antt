@@ -4,6 +4,7 @@ use Rattle.std.proofs.lemmas.Bool.{and_parts, le-ltb, ltb-false}
 use Rattle.std.specs.Option.{option_map_or}
 use Rattle.fol_core.specs.Literals.{Lit, literal, ClauseTree}
 use Rattle.fol_core.specs.Renumbered.{clause_variables, by_place, renumbered}
+use Rattle.fol_core.specs.Sizes.{size_of, sizes_of, depth_of, depths_of}
 use Rattle.fol_core.specs.Substitutions.{substitute, substitute_all}
 use Rattle.fol_core.specs.Tree.{Tree, var, elem, app, Trees, none, more}
 use Rattle.derivation.specs.Equations.{equation, is_equation, left_of, right_of}
@@ -12,7 +13,6 @@ use Rattle.prover_steps.specs.Clashing.{Held}
 use Rattle.prover_steps.specs.Rewriting.{Simplified, simplified, then_word, clause_step, normal_form}
 use Rattle.prover_steps.specs.Searching.{clause_size, clause_depth, is_too_large}
 use Rattle.prover_steps.specs.Shortening.{is_turned, flips_from, left_out, is_merged, is_left_out, is_denied, followed_by, put_in_order}
-use Rattle.term_bank.specs.Bank.{size_of, sizes_of, term_depth, depths_of}
 
 -- so many symbols and variables, and so many levels, at most
 abbrev pub IsAtMost : ℕ → ℕ → ClauseTree → Type 0
@@ -53,7 +53,7 @@ turned_size (app f (more s none)) h = cc
 turned_size (app f (more s (more t none))) h = omega arith
 turned_size (app f (more s (more t (more u ts)))) h = cc
 
-turned_depth : (t : Tree) → is_equation t ≡ true → term_depth (equation (right_of t) (left_of t)) ≡ term_depth t
+turned_depth : (t : Tree) → is_equation t ≡ true → depth_of (equation (right_of t) (left_of t)) ≡ depth_of t
 turned_depth (var x) h = cc
 turned_depth (elem k) h = cc
 turned_depth (app f none) h = cc
@@ -73,10 +73,10 @@ flips_at_most greater a (l ∷ c) = by (is_turned greater l) refl (flips_at_most
         (if b then simplified (literal l.positive (equation (right_of l.atom) (left_of l.atom)) ∷ rest.clause) (flipped a ∷ rest.words) else simplified (l ∷ rest.clause) rest.words).clause
 
     by : (b : Bool) → is_turned greater l ≡ b → (clause_size rest.clause ≡ clause_size c) × (clause_depth rest.clause ≡ clause_depth c)
-        → (clause_size (flipped_clause b) ≡ size_of l.atom + clause_size c) × (clause_depth (flipped_clause b) ≡ max (term_depth l.atom) (clause_depth c))
+        → (clause_size (flipped_clause b) ≡ size_of l.atom + clause_size c) × (clause_depth (flipped_clause b) ≡ max (depth_of l.atom) (clause_depth c))
     by true h (size, depth) =
         (ap₂ (λ x y. x + y) (turned_size l.atom (and_parts _ _ h).0) size, ap₂ (λ x y. max x y) (turned_depth l.atom (and_parts _ _ h).0) depth)
-    by false h (size, depth) = (ap (λ x. size_of l.atom + x) size, ap (λ x. max (term_depth l.atom) x) depth)
+    by false h (size, depth) = (ap (λ x. size_of l.atom + x) size, ap (λ x. max (depth_of l.atom) x) depth)
 
 -- literals left out
 appended_size : (c d : ClauseTree) → clause_size (c ++ d) ≡ clause_size c + clause_size d
@@ -91,7 +91,7 @@ left_out_at_most : (out : ClauseTree → Lit → Option LaterWord) (n m : ℕ) (
 left_out_at_most out n m done [] size depth = (omega (arith, size), omega (arith, depth))
 left_out_at_most out n m done (l ∷ c) size depth =
     let longer : clause_size (done ++ l ∷ []) ≡ clause_size done + (size_of l.atom + 0) = appended_size done (l ∷ []) in
-    let deeper : clause_depth (done ++ l ∷ []) ≡ max (clause_depth done) (max (term_depth l.atom) 0) = appended_depth done (l ∷ []) in
+    let deeper : clause_depth (done ++ l ∷ []) ≡ max (clause_depth done) (max (depth_of l.atom) 0) = appended_depth done (l ∷ []) in
     by (out done l) (left_out_at_most out n m done c (omega (arith, size)) (omega (arith, depth))) (left_out_at_most out n m (done ++ l ∷ []) c (omega (arith, size, longer)) (omega (arith, depth, deeper)))
   where
     by : (o : Option LaterWord) → IsAtMost n m (left_out out done c).clause → IsAtMost n m (left_out out (done ++ l ∷ []) c).clause
@@ -131,7 +131,7 @@ module _ (xs : List ℕ) where
     same_sizes (more t ts) = ap₂ (λ a b. a + b) (same_size t) (same_sizes ts)
 
   mutual
-    same_depth : (t : Tree) → term_depth (substitute (by_place xs) t) ≡ term_depth t
+    same_depth : (t : Tree) → depth_of (substitute (by_place xs) t) ≡ depth_of t
     same_depth (var x) = refl
     same_depth (elem k) = refl
     same_depth (app f ts) = ap (λ n. n + 1) (same_depths ts)

@@ -9,7 +9,7 @@ ghost use Rattle.prover_steps.specs.Subsuming.{fits_in, fits_in_some, fits_below
 use fol_core::{Clause, Literal, Term, Terms};
 use held_clauses::{Held, first_atom, left_of};
 use std::alloc::Global;
-use term_matches::is_instance;
+use unifiers::is_instance;
 
 // Whether a rule fits one of some arguments or a term in them.
 #[cycle(fits)]

@@ -15,7 +15,7 @@ use discrim_tree::Tries;
 use fol_core::{Term, Terms};
 use held_clauses::{Held, first_atom, left_of, right_of};
 use std::alloc::{AllocError, Global};
-use term_matches::Matches;
+use unifiers::Matches;
 
 /// What a rule makes of a term that is an instance of its left side.
 pub fn rewritten_by(alloc: Global, rule: &Held, term: &Term) -> Result<Option<Term>, AllocError>

@@ -6,7 +6,7 @@ use Rattle.fol_core.specs.Fol.{Fol}
 use Rattle.fol_core.specs.Literals.{ClauseTree, IsTrueClause, AreTrueClauses}
 use Rattle.fol_core.specs.Meaning.{Meaning, IsLawful}
 use Rattle.fol_core.specs.Renumbered.{clause_variables, by_place, renumbered}
-use Rattle.fol_core.specs.Stated.{Said}
+use Rattle.fol_problem.specs.Stated.{Said}
 use Rattle.fol_core.specs.Truth.{Assignment, IsWithin}
 use Rattle.fol_core.specs.Tree.{var}
 use Rattle.substitutions.specs.Atoms.{AreAtoms}

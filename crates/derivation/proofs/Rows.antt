@@ -5,7 +5,7 @@ use Rattle.std.specs.List.{list_all, flat_map}
 use Rattle.std.proofs.lemmas.Bool.{and_parts, and_from, false≢true, both_ways}
 use Rattle.fol_core.specs.Fol.{Fol}
 use Rattle.fol_core.specs.Literals.{ClauseTree}
-use Rattle.fol_core.specs.Stated.{Said}
+use Rattle.fol_problem.specs.Stated.{Said}
 use Rattle.derivation.specs.Later.{LaterWord, later_parents, later_fits, Leads}
 use Rattle.derivation.specs.Lines.{FirstWord, assumed, wanted, clausified, denied, copied, resolved, factored, paramodulated, xx_resolved, Inference, inference_of, copy_inference, clash_inference, factor_inference, para_inference, xx_inference, ContentTree, is_formula, is_formula_at, LineTree, clause_at, AreClauses, After, IsInferred, InputRow, IsStated, IsFormulaAt, IsInputOf, IsLine, AreLines, is_empty_clause, ends_empty, IsRefutation}
 use Rattle.derivation.specs.Refused.{Fails, StepFails, all_parents, are_there, InferenceFails, StatedFails, InputFails, LineFails, IsRefusedLine, IsAccepted, HasFault, IsFault}

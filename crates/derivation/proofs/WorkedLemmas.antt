@@ -3,9 +3,9 @@ use Rattle.std.proofs.Common.{◌≡◌, inl, inr, ℕ, true, [], ◌∷◌, Som
 use Rattle.std.proofs.lemmas.Bool.{true≢false, false≢true, eq-eqb}
 use Rattle.fol_core.specs.Fol.{Fol, atom}
 use Rattle.fol_core.specs.Literals.{ClauseTree}
-use Rattle.fol_core.specs.Stated.{said}
+use Rattle.fol_problem.specs.Stated.{said}
 use Rattle.fol_core.specs.Tree.{Tree, var, app, none, more}
-use Rattle.fol_core.specs.declared.problem.Role.TheVariants.{Assumption, Goal}
+use Rattle.fol_problem.specs.declared.problem.Role.TheVariants.{Assumption, Goal}
 use Rattle.derivation.specs.Lines.{LineTree, formula, assumed, wanted}
 use Rattle.derivation.specs.Rule.{IsMostGeneralFamily, Concludes}
 use Rattle.derivation.specs.Words.{clash_rule, copy_rule}

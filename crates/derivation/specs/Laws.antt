@@ -5,7 +5,7 @@ use Rattle.fol_core.specs.Literals.{ClauseTree, AreTrueClauses}
 use Rattle.fol_core.specs.Meaning.{Meaning}
 use Rattle.fol_core.specs.Occurs.{names_in}
 use Rattle.fol_core.specs.Renumbered.{renumbered}
-use Rattle.fol_core.specs.Stated.{Said}
+use Rattle.fol_problem.specs.Stated.{Said}
 use Rattle.substitutions.specs.Atoms.{AreAtoms}
 use Rattle.derivation.specs.Lines.{FirstWord, Inference, ContentTree, formula, clause, LineTree, InputRow, IsInferred, IsRefutation, inference_of}
 use Rattle.derivation.specs.Later.{LaterWord}

@@ -4,9 +4,9 @@ use Rattle.std.specs.Option.{option_and_then, option_map_or}
 use Rattle.fol_core.specs.Fol.{Fol}
 use Rattle.fol_core.specs.Literals.{ClauseTree}
 use Rattle.fol_core.specs.Renumbered.{renumbered}
-use Rattle.fol_core.specs.Stated.{Said}
-use Rattle.fol_core.specs.declared.problem.Role.{Role}
-use Rattle.fol_core.specs.declared.problem.Role.TheVariants.{Assumption, Usable, Demodulator, Goal}
+use Rattle.fol_problem.specs.Stated.{Said}
+use Rattle.fol_problem.specs.declared.problem.Role.{Role}
+use Rattle.fol_problem.specs.declared.problem.Role.TheVariants.{Assumption, Usable, Demodulator, Goal}
 use Rattle.derivation.specs.declared.words.Satellite.{Satellite}
 use Rattle.derivation.specs.Later.{LaterWord, later_parents, later_fits, Leads}
 use Rattle.derivation.specs.Rule.{InferenceRule, Concludes}

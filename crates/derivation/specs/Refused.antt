@@ -3,7 +3,7 @@ use Rattle.std.specs.Prelude.{ℕ, ◌≡◌, Bool, true, false, IsTrue, ◌⊎�
 use Rattle.std.specs.Option.{is_some}
 use Rattle.std.specs.List.{list_all, flat_map}
 use Rattle.fol_core.specs.Literals.{ClauseTree}
-use Rattle.fol_core.specs.Stated.{Said}
+use Rattle.fol_problem.specs.Stated.{Said}
 use Rattle.derivation.specs.Later.{LaterWord, later_parents, later_fits, Leads}
 use Rattle.derivation.specs.Lines.{FirstWord, assumed, wanted, clausified, denied, copied, resolved, factored, paramodulated, xx_resolved, Inference, copy_inference, clash_inference, factor_inference, para_inference, xx_inference, ContentTree, LineTree, clause_at, AreClauses, IsClause, InputRow, IsStated, IsInputOf, IsAbove, IsLine, is_empty_clause, is_formula_at}
 use Rattle.substitutions.specs.Apart.{Own}

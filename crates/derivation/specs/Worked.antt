@@ -2,9 +2,9 @@
 use Rattle.std.specs.Prelude.{ℕ, ◌≡◌, true, false, List, [], ◌∷◌, Some}
 use Rattle.fol_core.specs.Fol.{atom}
 use Rattle.fol_core.specs.Literals.{Lit, ClauseTree, literal}
-use Rattle.fol_core.specs.Stated.{Said, said}
+use Rattle.fol_problem.specs.Stated.{Said, said}
 use Rattle.fol_core.specs.Tree.{Tree, var, app, none, more}
-use Rattle.fol_core.specs.declared.problem.Role.TheVariants.{Assumption, Goal}
+use Rattle.fol_problem.specs.declared.problem.Role.TheVariants.{Assumption, Goal}
 use Rattle.derivation.specs.Equations.{equation}
 use Rattle.derivation.specs.Later.{LaterWord, flipped, merged, reflexive, unit_deleted, rewritten, later_fits, Leads}
 use Rattle.derivation.specs.Lines.{FirstWord, assumed, wanted, clausified, denied, copied, resolved, ContentTree, formula, clause, LineTree, InputRow, IsRefutation}

@@ -1,4 +1,10 @@
 // Derivations: the rules of inference, the lines of a proof, and what a refutation shows.
+// Read the definitions first: `specs/Words` has a rule for each first word of a line, `specs/Later` the words behind
+// it, `specs/Rule` what a rule concludes by a most general unifier of all pairs at once, `specs/Lines` derivations and
+// refutations, `specs/Refused` why a line is none. `words.rt` and `line.rt` have the words and lines of the code.
+// `laws.rt` states that a rule has one conclusion, that a fault is one, and that a refutation is sound, in every
+// interpretation, infinite ones too: it leaves none in which the input clauses are true. Whoever asks what an accepted
+// proof shows has to believe these definitions.
 #![tactic(auto)]
 
 mod laws;

@@ -1,6 +1,6 @@
 // The words of a line: its first one and those behind.
 /// A satellite of a nucleus: the place in the nucleus, the clause's number, and its place there.
-#[derive(Clone, Copy, Debug, PartialEq, Eq)]
+#[derive(Clone, Copy)]
 pub struct Satellite {
     pub place: u64,
     pub clause: u64,

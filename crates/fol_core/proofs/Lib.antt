@@ -6,7 +6,6 @@ pub mod Marks
 pub mod NamesOnceLemmas
 pub mod Places
 pub mod Putting
-pub mod Soundness
 pub mod SymbolLemmas
 pub mod TruthLemmas
 pub mod Variables

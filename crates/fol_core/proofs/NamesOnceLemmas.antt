@@ -1,25 +1,47 @@
--- What a set of names has is what the list of its names has.
-use Rattle.std.proofs.Common.{◌≡◌, ℕ, Bool, true, false, ◌||◌, ◌&&◌, not, if◌then◌else◌, List, [], ◌∷◌, ◌++◌, position, refl, sym, ap, ◌∙◌, arith}
-use Rattle.std.specs.Global.{Vec}
-use Rattle.std.specs.List.{list_any}
+-- What constants have is what the list of their names has.
+use Rattle.std.proofs.Common.{◌≡◌, ℕ, suc, Bool, true, false, ◌||◌, ◌&&◌, ◌==◌, not, if◌then◌else◌, List, [], ◌∷◌, ◌++◌, Option, Some, None, is_some, refl, sym, ap, ap₂, ◌∙◌}
+use Rattle.std.specs.Option.{option_map}
 use Rattle.std.specs.Str.{bytes_eq}
-use Rattle.indexmap.specs.IndexSet.{insert_key}
 use Rattle.std.proofs.lemmas.Bool.{and_parts}
+use Rattle.std.proofs.lemmas.List.{map-append}
 use Rattle.std.proofs.lemmas.Slice.Eq.{bytes_eq-Decides}
-use Rattle.fol_core.specs.NamesOnce.{names_of, is_in, are_apart, with_name, place_in}
+use Rattle.fol_core.specs.NamesOnce.{constant_names, AreConstants, is_in, are_apart, with_name, place_in}
+use Rattle.fol_core.specs.SymbolTable.{Symbol, symbol, is_called, first_place, number_of}
+use Rattle.fol_core.specs.declared.symbols.Kind.{Kind}
+use Rattle.fol_core.specs.declared.symbols.Sym.{Sym}
+use Rattle.fol_core.proofs.Places.{first_place_is_position, first_place-any, all_push}
 
-pub is_among : (name : List ℕ) (names : List (Vec ℕ)) → list_any (λ v. bytes_eq name v.items) names ≡ is_in name (names_of names)
-is_among name [] = refl
-is_among name (v ∷ names) = ap (λ b. bytes_eq name v.items || b) (is_among name names)
+-- a name is found among constants where it stands among their names
+test_same : (name : List ℕ) (s : Symbol) → s.arity ≡ 0 → is_called name 0 s ≡ bytes_eq name s.name
+test_same name s h = ap (λ n. bytes_eq name s.name && 0 == n) h ∙ by (bytes_eq name s.name)
+  where
+    by : (b : Bool) → (b && true) ≡ b
+    by true = refl
+    by false = refl
 
-names_more : (names : List (Vec ℕ)) (v : Vec ℕ) → names_of (names ++ v ∷ []) ≡ names_of names ++ v.items ∷ []
-names_more [] v = refl
-names_more (w ∷ names) v = ap (λ l. w.items ∷ l) (names_more names v)
+same_first : (name : List ℕ) (ss : List Symbol) → AreConstants ss → number_of ss name 0 ≡ first_place (λ n. bytes_eq name n) (constant_names ss)
+same_first name [] h = refl
+same_first name (s ∷ ss) h = ap₂ (λ (b : Bool) (o : Option ℕ). if b then Some 0 else option_map suc o) (test_same name s h.0) (same_first name ss h.1)
 
--- a copy of a new name goes last
-pub name_put : (names : List (Vec ℕ)) (copy : Vec ℕ) → is_in copy.items (names_of names) ≡ false
-    → names_of (insert_key (λ v w. bytes_eq v.items w.items) names copy) ≡ with_name copy.items (names_of names)
-name_put names copy new = rw (is_among copy.items names ∙ new) (rw new (names_more names copy))
+pub same_place : (name : List ℕ) (ss : List Symbol) → AreConstants ss → number_of ss name 0 ≡ place_in name (constant_names ss)
+same_place name ss h = same_first name ss h ∙ first_place_is_position (λ n. bytes_eq name n) (constant_names ss)
+
+pub is_among : (name : List ℕ) (ss : List Symbol) → AreConstants ss → is_some (number_of ss name 0) ≡ is_in name (constant_names ss)
+is_among name ss h = ap is_some (same_first name ss h) ∙ first_place-any (λ n. bytes_eq name n) (constant_names ss)
+
+pub found_among : (name : List ℕ) (ss : List Symbol) (found : Option Sym) → AreConstants ss → option_map (λ s. s.0) found ≡ number_of ss name 0 → is_some found ≡ is_in name (constant_names ss)
+found_among name ss found h is = by found ∙ ap is_some is ∙ is_among name ss h
+  where
+    by : (o : Option Sym) → is_some o ≡ is_some (option_map (λ (s : Sym). s.0) o)
+    by (Some s) = refl
+    by None = refl
+
+-- one more constant is one more name
+pub names_more : (ss : List Symbol) (name : List ℕ) (kind : Kind) → is_in name (constant_names ss) ≡ false → constant_names (ss ++ symbol name 0 kind ∷ []) ≡ with_name name (constant_names ss)
+names_more ss name kind new = map-append (λ (s : Symbol). s.name) ss (symbol name 0 kind ∷ []) ∙ sym (ap (λ b. if b then constant_names ss else constant_names ss ++ name ∷ []) new)
+
+pub constants_more : (ss : List Symbol) (name : List ℕ) (kind : Kind) → AreConstants ss → AreConstants (ss ++ symbol name 0 kind ∷ [])
+constants_more ss name kind h = all_push (λ (s : Symbol). s.arity ≡ 0) ss (symbol name 0 kind) h refl
 
 pub there_stays : (name : List ℕ) (names : List (List ℕ)) → is_in name names ≡ true → names ≡ with_name name names
 there_stays name names there = sym (ap (λ b. if b then names else names ++ name ∷ []) there)
@@ -73,8 +95,3 @@ apart_more (n ∷ names) name apart new =
 
     both : {a b : Bool} → a ≡ true → b ≡ true → (a && b) ≡ true
     both e f = cc
-
--- a name has the place that it has among the names that are kept
-pub same_place : (name : List ℕ) (names : List (Vec ℕ)) → position (λ v. bytes_eq name v.items) names ≡ place_in name (names_of names)
-same_place name [] = refl
-same_place name (v ∷ names) = grind (arith, same_place name names)

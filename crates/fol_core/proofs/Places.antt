@@ -2,8 +2,6 @@
 use Rattle.std.proofs.Common.{◌≡◌, ℕ, zero, suc, ◌⊎◌, inl, inr, Bool, true, false, List, [], ◌∷◌, ◌++◌, length, Option, Some, None, is_some, unwrap_or, ◌||◌, if◌then◌else◌, position, slice_get, refl, sym, ap, ◌∙◌, arith}
 use Rattle.std.specs.List.{list_any, AllByRecursion}
 use Rattle.std.specs.Option.{option_map}
-use Rattle.std.specs.Map.{keys_of}
-use Rattle.indexmap.specs.IndexMap.{insert_entry}
 use Rattle.fol_core.specs.SymbolTable.{first_place}
 
 module _ {X : Type 0} (test : X → Bool) where
@@ -80,15 +78,3 @@ module _ {X : Type 0} where
   pub all_push : (P : X → Type 0) (xs : List X) (x : X) → AllByRecursion P xs → P x → AllByRecursion P (xs ++ x ∷ [])
   all_push P [] x all here = (here, tt)
   all_push P (y ∷ xs) x all here = (all.0, all_push P xs x all.1 here)
-
--- a key that is not among the entries goes last
-pub insert_entry-apart : {K V : Type 0} (eq : K → K → Bool) (k : K) (v : V) (es : List (K × V)) → first_place (eq k) (keys_of es) ≡ None
-    → insert_entry eq es k v ≡ es ++ (k, v) ∷ []
-insert_entry-apart eq k v [] none = refl
-insert_entry-apart eq k v (e ∷ es) none = by (eq k e.0) (first_place (eq k) (keys_of es)) (insert_entry-apart eq k v es) none
-  where
-    by : (b : Bool) (o : Option ℕ) → (o ≡ None → insert_entry eq es k v ≡ es ++ (k, v) ∷ []) → (if b then Some 0 else option_map suc o) ≡ None
-        → (if b then (e.0, v) ∷ es else e ∷ insert_entry eq es k v) ≡ e ∷ (es ++ (k, v) ∷ [])
-    by true o rest h = cc
-    by false None rest h = ap (λ l. e ∷ l) (rest refl)
-    by false (Some n) rest h = cc

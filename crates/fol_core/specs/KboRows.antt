@@ -2,12 +2,7 @@
 use Rattle.std.specs.Prelude.{ℕ, Bool, if◌then◌else◌, List, [], ◌∷◌, ◌++◌, map, Option}
 use Rattle.std.specs.Map.{lookup}
 use Rattle.std.specs.Str.{bytes_eq}
-use Rattle.std.specs.Global.{Vec}
 use Rattle.fol_core.specs.NamesOnce.{is_in}
-
--- the names with their weights that a program keeps
-abbrev pub kbo_rows_of : List (Vec ℕ × ℕ) → List (List ℕ × ℕ)
-kbo_rows_of rows = map (λ r. (r.0.items, r.1)) rows
 
 -- whether a name has a weight
 abbrev pub is_weighed : List ℕ → List (List ℕ × ℕ) → Bool

@@ -21,8 +21,7 @@ pub mod RawTree
 pub mod RawView
 pub mod Renumbered
 pub mod RuleView
-pub mod Stated
-pub mod StatedCodes
+pub mod Sizes
 pub mod SymbolSlots
 pub mod SymbolTable
 pub mod TermFalls

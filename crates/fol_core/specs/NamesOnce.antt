@@ -1,12 +1,16 @@
 -- Lists of names with no name twice.
-use Rattle.std.specs.Prelude.{ℕ, Bool, true, not, ◌&&◌, if◌then◌else◌, List, [], ◌∷◌, ◌++◌, map, Option, position}
-use Rattle.std.specs.Global.{Vec}
-use Rattle.std.specs.List.{list_any}
+use Rattle.std.specs.Prelude.{ℕ, ◌≡◌, Bool, true, not, ◌&&◌, if◌then◌else◌, List, [], ◌∷◌, ◌++◌, map, Option, position}
+use Rattle.std.specs.List.{list_any, AllByRecursion}
 use Rattle.std.specs.Str.{bytes_eq}
+use Rattle.fol_core.specs.SymbolTable.{Symbol}
 
--- the names that a program keeps
-abbrev pub names_of : List (Vec ℕ) → List (List ℕ)
-names_of names = map (λ v. v.items) names
+-- the names that a program keeps as constants
+abbrev pub constant_names : List Symbol → List (List ℕ)
+constant_names constants = map (λ s. s.name) constants
+
+-- each symbol is a constant
+abbrev pub AreConstants : List Symbol → Type 0
+AreConstants constants = AllByRecursion (λ s. s.arity ≡ 0) constants
 
 -- whether a name is one of a list
 abbrev pub is_in : List ℕ → List (List ℕ) → Bool

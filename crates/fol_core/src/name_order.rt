@@ -1,24 +1,27 @@
 // Names in an order, each once.
 ghost use Rattle.std.specs.Prelude.{◌≡◌, [], not, length, IfOk, OnOk, OnErr};
-ghost use Rattle.fol_core.specs.NamesOnce.{is_in, with_name, names_of, place_in};
+ghost use Rattle.fol_core.specs.NamesOnce.{is_in, with_name, place_in};
 
-use indexmap::IndexSet;
+use crate::symbols::{Kind, Symbols};
 use std::alloc::{AllocError, Global};
 use std::marker::Model;
 
 /// Names in an order, none twice; contracts see the list.
 #[derive(Drop)]
 pub struct NameOrder {
-    names: IndexSet<Vec<u8>>,
+    // Each name as a constant.
+    names: Symbols,
 }
 
 impl Model for NameOrder {
     ghost use Rattle.std.specs.Prelude.{ℕ, List};
-    ghost use Rattle.fol_core.specs.NamesOnce.{names_of};
+    ghost use Rattle.fol_core.specs.NamesOnce.{constant_names, AreConstants};
 
     ghost Value = { List (List ℕ) };
 
-    ghost view = { λ a. names_of a.names.keys };
+    ghost view = { λ a. constant_names a.names };
+
+    ghost invariant = { λ a. AreConstants a.names };
 }
 
 impl NameOrder {
@@ -27,7 +30,7 @@ impl NameOrder {
         ensures { result ≡ [] }
     {
         NameOrder {
-            names: IndexSet::new(alloc),
+            names: Symbols::new(alloc),
         }
     }
 
@@ -42,7 +45,10 @@ impl NameOrder {
     pub fn position(&self, name: &[u8]) -> Option<usize>
         ensures { result ≡ place_in name.now self.now }
     {
-        self.names.get_index_of(name)
+        match self.names.find(name, 0) {
+            Some(constant) => Some(constant.0 as usize),
+            None => None,
+        }
     }
 
     /// Puts a name behind the others, unless it is one of them; whether it was not.
@@ -51,11 +57,10 @@ impl NameOrder {
         ensures ok { OnOk result (self.new ≡ with_name name.now self.old) }
         ensures err { OnErr result (self.new ≡ self.old) }
     {
-        if self.names.contains(name) {
+        if self.names.find(name, 0).is_some() {
             return Ok(false);
         }
-        let copy = Vec::from_slice(*self.names.allocator(), name)?;
-        self.names.insert(copy)?;
+        self.names.append(name, 0, Kind::Function)?;
         Ok(true)
     }
 }

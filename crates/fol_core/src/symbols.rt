@@ -10,18 +10,18 @@ use std::hash::{FoldHasher, Hasher};
 use std::marker::Model;
 
 /// The number of a symbol.
-#[derive(Clone, Copy, Debug, PartialEq, Eq)]
+#[derive(Clone, Copy, PartialEq)]
 pub struct Sym(pub u64);
 
 /// What a symbol stands for.
-#[derive(Clone, Copy, Debug, PartialEq, Eq)]
+#[derive(Clone, Copy)]
 pub enum Kind {
     Function,
     Relation,
 }
 
 /// Why a symbol can't be entered: its name and arity stand in the table with the other kind, or memory is lacking.
-#[derive(Clone, Copy, Debug, PartialEq, Eq)]
+#[derive(Clone, Copy)]
 pub enum Clash {
     OtherKind,
     Memory,
@@ -357,7 +357,7 @@ impl Symbols {
     }
 
     // A new last symbol, whose name and arity aren't there.
-    fn append(&mut self, name: &[u8], arity: u64, kind: Kind) -> Result<Sym, AllocError>
+    pub(crate) fn append(&mut self, name: &[u8], arity: u64, kind: Kind) -> Result<Sym, AllocError>
         requires { number_of self.old name.now arity ≡ None }
         ensures number { IfOk result (λ s. s.0 ≡ length self.old) }
         ensures table { OnOk result (self.new ≡ self.old ++ symbol name.now arity kind ∷ []) }

@@ -1,11 +1,11 @@
 // Rules of weights: what a pattern weighs, and the weights of symbols for an order of terms.
 ghost use Rattle.std.specs.Prelude.{◌≡◌, [], not, map, IfOk, OnOk, OnErr};
-ghost use Rattle.fol_core.specs.KboRows.{is_weighed, with_weight, kbo_rows_of, weight_in};
+ghost use Rattle.fol_core.specs.KboRows.{is_weighed, with_weight, weight_in};
 ghost use Rattle.fol_core.specs.WeightView.{weight_of};
 
 use crate::name::Name;
+use crate::name_order::NameOrder;
 use crate::term::Terms;
-use indexmap::IndexMap;
 use std::alloc::{AllocError, Global};
 use std::marker::Model;
 
@@ -83,16 +83,21 @@ pub struct KboWeight {
 /// The weights of names, each name once, in their order; contracts see the list of the names with their weights.
 #[derive(Drop)]
 pub struct KboWeights {
-    weights: IndexMap<Vec<u8>, u32>,
+    names: NameOrder,
+    // By place of the name.
+    weights: Vec<u32>,
 }
 
 impl Model for KboWeights {
-    ghost use Rattle.std.specs.Prelude.{ℕ, List};
-    ghost use Rattle.fol_core.specs.KboRows.{kbo_rows_of};
+    ghost use Rattle.std.specs.Prelude.{ℕ, List, zip};
 
     ghost Value = { List (List ℕ × ℕ) };
 
-    ghost view = { λ a. kbo_rows_of a.weights.entries };
+    ghost view = { λ a. zip a.names a.weights.items };
+
+    ghost use Rattle.std.specs.Prelude.{◌≡◌, length};
+
+    ghost invariant = { λ a. length a.names ≡ length a.weights.items };
 }
 
 impl KboWeights {
@@ -101,15 +106,20 @@ impl KboWeights {
         ensures { result ≡ [] }
     {
         KboWeights {
-            weights: IndexMap::new(alloc),
+            names: NameOrder::new(alloc),
+            weights: Vec::new(alloc),
         }
     }
 
     /// What the name weighs, if it has a weight.
+    #[tactic(auto, using(crate::proofs::KboLemmas::place_within))]
     pub fn weight(&self, name: &[u8]) -> Option<u32>
         ensures { result ≡ weight_in name.now self.now }
     {
-        self.weights.get(name).copied()
+        match self.names.position(name) {
+            Some(place) => Some(self.weights[place]),
+            None => None,
+        }
     }
 
     /// Puts the weight of a name behind the others, unless the name has one; whether it had none.
@@ -118,11 +128,11 @@ impl KboWeights {
         ensures ok { OnOk result (self.new ≡ with_weight name.now weight self.old) }
         ensures err { OnErr result (self.new ≡ self.old) }
     {
-        if self.weights.contains_key(name) {
+        self.weights.reserve(1)?;
+        if !self.names.push(name)? {
             return Ok(false);
         }
-        let copy = Vec::from_slice(*self.weights.allocator(), name)?;
-        self.weights.insert(copy, weight)?;
+        self.weights.push_reserved(weight);
         Ok(true)
     }
 }

@@ -30,14 +30,14 @@ use std::collections::VecDeque;
 use subsume::{Places, subsumes};
 
 /// It deletes a literal of a clause, or rewrites it: the clause is put back.
-#[derive(Clone, Copy, Debug, PartialEq, Eq)]
+#[derive(Clone, Copy)]
 pub enum Back {
     Deletes,
     Rewrites,
 }
 
 /// It subsumes a clause, or puts it back.
-#[derive(Clone, Copy, Debug, PartialEq, Eq)]
+#[derive(Clone, Copy)]
 pub enum Act {
     Subsumes,
     PutsBack(Back),

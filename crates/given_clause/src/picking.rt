@@ -12,7 +12,7 @@ use held_clauses::Held;
 use ladr_options::Options;
 
 /// All clauses, those that match a hint, those with a positive literal, or those without.
-#[derive(Clone, Copy, Debug, PartialEq, Eq)]
+#[derive(Clone, Copy)]
 pub enum Among {
     All,
     Hinted,

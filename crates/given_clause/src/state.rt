@@ -27,7 +27,7 @@ pub enum QueueEntry {
 
 /// Why a search ended: there are as many proofs as were wanted; none waits; as many clauses were given, or kept, as are
 /// allowed; or as many symbols were kept.
-#[derive(Clone, Copy, Debug, PartialEq, Eq)]
+#[derive(Clone, Copy)]
 pub enum Reason {
     Proved,
     Spent,
@@ -37,7 +37,7 @@ pub enum Reason {
 }
 
 /// A proof: the number of its last line, and how many clauses had been given by then.
-#[derive(Clone, Copy, Debug)]
+#[derive(Clone, Copy)]
 pub struct FoundProof {
     pub line: u64,
     pub given: u64,

@@ -8,7 +8,7 @@ use Rattle.term_order.specs.Kbo.{kbo_greater, kbo_first, none_oftener_all, weigh
 use Rattle.term_order.specs.Laws.{IsSymbolOrder}
 use Rattle.term_order.specs.declared.compared.Compared.TheVariants.{Greater, Less, Same, NotComparable}
 use Rattle.unifiers.specs.Matching.{same_tree}
-use Rattle.unifiers.proofs.Matches.{tree_same, same_itself}
+use Rattle.unifiers.proofs.MatchesFound.{tree_same, same_itself}
 
 abbrev pub IsIrreflexive : (Tree → Tree → Bool) → Type 0
 IsIrreflexive greater = (t : Tree) → greater t t ≡ false

@@ -12,7 +12,7 @@ use Rattle.term_order.specs.declared.precedence.SymbolRow.{SymbolRow}
 use Rattle.term_order.proofs.Heads.{rows_order}
 use Rattle.term_order.proofs.LpoCases.{each, above_case, below_case, short_case, long_case, other_case, greater_case}
 use Rattle.unifiers.specs.Matching.{same_tree}
-use Rattle.unifiers.proofs.Matches.{tree_same, same_itself}
+use Rattle.unifiers.proofs.MatchesFound.{tree_same, same_itself}
 
 different : (s t : Tree) → (s ≡ t → ⊥) → same_tree s t ≡ false
 different s t h = false_from_ne_true (same_tree s t) (λ e. h (tree_same s t e))

@@ -10,7 +10,7 @@ use Rattle.fol_core.specs.declared.term.Term.{Term}
 use Rattle.derivation.specs.Equations.{is_equation, left_of, right_of}
 use Rattle.derivation.specs.Places.{atom_at}
 use Rattle.unifiers.specs.Matching.{same_tree}
-use Rattle.unifiers.proofs.Matches.{tree_same, same_itself}
+use Rattle.unifiers.proofs.MatchesFound.{tree_same, same_itself}
 use Rattle.std.specs.Prelude.{map}
 
 pub equation_by_head : (f : ℕ) (ts : List Term) → length ts ≡ 2 → is_equation (app f (trees_of (tree_list ts))) ≡ (f == equality)

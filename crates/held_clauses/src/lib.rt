@@ -1,4 +1,13 @@
 // Clauses that a search holds and lines that it made, equations, and the order of terms that is chosen.
+// `held.rt` has `Held`, a clause under the number of its line; contracts see it as the definitions of `prover_steps`
+// do. Its copies share the clause, and so does its line (`made.rt`), with the words by which it was made.
+// `equations.rt` tells equations and their sides.
+// `path_order.rt` compares terms by the path order as they stand, where the heads decide, and with one head the first
+// arguments that differ (`specs/Fronts`). `order.rt` compares terms of up to a hundred symbols and variables so,
+// others, and those by weight, in a bank of their own, unless less tells: no term is greater than itself or than one
+// with a variable that it hasn't, no variable is greater than anything, and an application is greater than the
+// variables that it has.
+// Its lemmas on the literals of a clause, one after the other, are for the crates above.
 #![tactic(auto)]
 
 mod equations;

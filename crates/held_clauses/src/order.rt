@@ -1,9 +1,10 @@
 // Terms compared by the order that is chosen.
 ghost use Rattle.std.specs.Prelude.{◌≡◌, ◌<◌, ◌&&◌, IfOk, length, nat_lt};
+ghost use Rattle.fol_core.specs.Sizes.{size_of};
 ghost use Rattle.fol_core.specs.TermView.{tree_of};
 ghost use Rattle.held_clauses.specs.Order.{greater_of, tells_greater};
 ghost use Rattle.held_clauses.specs.Variables.{has_each_of};
-ghost use Rattle.term_bank.specs.Bank.{size_of, tree_at};
+ghost use Rattle.term_bank.specs.Bank.{tree_at};
 
 use crate::path_order::is_path_greater;
 use clause_limits::{MOST_SYMBOLS, left_behind};

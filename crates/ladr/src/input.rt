@@ -103,15 +103,15 @@ mod tests {
         });
         let mut buf = [0u8; 16];
         for (read, faults) in [
-            (Ok(3), 0),
-            (Ok(16), 0),
-            (Err(Failed), 1),
-            (Ok(1), 1),
-            (Err(Failed), 2),
-            (Ok(0), 2),
+            (Some(3), 0),
+            (Some(16), 0),
+            (None, 1),
+            (Some(1), 1),
+            (None, 2),
+            (Some(0), 2),
         ] {
             input.over = false;
-            assert_eq!(rt; input.read(&mut buf), read);
+            assert_eq!(rt; input.read(&mut buf).ok(), read);
             assert_eq!(rt; input.faults, faults);
         }
         Ok(())

@@ -1,4 +1,7 @@
-//! The program: gives its words, its streams and the machine's clock to the one call that does all.
+// The program: gives its words, its streams and the machine's clock to the one call that does all.
+// `main.rt` hands them to `run` of `ladr_top`. `input.rt`, `output.rt` and `stopwatch.rt` make a source, a sink and a
+// clock of what the process has; `words.rt` has its words; `one_element.rt` is an interpretation to hand in where any
+// will do.
 #![tactic(auto)]
 
 ghost use Rattle.std.specs.Prelude.{◌≡◌};

@@ -105,15 +105,15 @@ mod tests {
         });
         output.faults = u64::MAX - 1;
         for (write, faults) in [
-            (Ok(2), u64::MAX - 1),
-            (Ok(5), u64::MAX - 1),
-            (Err(Failed), u64::MAX),
-            (Err(Failed), u64::MAX),
-            (Ok(1), u64::MAX),
-            (Ok(5), u64::MAX),
+            (Some(2), u64::MAX - 1),
+            (Some(5), u64::MAX - 1),
+            (None, u64::MAX),
+            (None, u64::MAX),
+            (Some(1), u64::MAX),
+            (Some(5), u64::MAX),
         ] {
             output.over = false;
-            assert_eq!(rt; output.write(b"lines"), write);
+            assert_eq!(rt; output.write(b"lines").ok(), write);
             assert_eq!(rt; output.faults, faults);
         }
         Ok(())

@@ -16,7 +16,7 @@ use Rattle.fol_core.specs.Free.{is_in}
 use Rattle.fol_core.specs.Meaning.{Meaning}
 use Rattle.fol_core.specs.Occurs.{occurs_in, above_elements, above_all_elements, above_numerals, size_needed, names_in, names_in_any, names}
 use Rattle.fol_core.specs.SkolemAxioms.{SkolemAxiom}
-use Rattle.fol_core.specs.Stated.{Stated, AreNewTo}
+use Rattle.fol_problem.specs.Stated.{Stated, AreNewTo}
 use Rattle.fol_core.specs.SymbolTable.{Symbol, symbol, kind_at, arity_at}
 use Rattle.fol_core.specs.Tree.{Tree, var, elem, app, Trees, none, more}
 use Rattle.fol_core.specs.declared.symbols.Kind.{Kind}

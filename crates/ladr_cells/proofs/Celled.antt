@@ -16,7 +16,7 @@ use Rattle.fol_core.specs.Free.{is_in}
 use Rattle.fol_core.specs.Literals.{ClauseTree, equality}
 use Rattle.fol_core.specs.Occurs.{occurs_in, size_needed, above_elements, above_all_elements}
 use Rattle.fol_core.specs.SkolemAxioms.{SkolemAxiom}
-use Rattle.fol_core.specs.Stated.{Said, Stated}
+use Rattle.fol_problem.specs.Stated.{Said, Stated}
 use Rattle.fol_core.specs.SymbolTable.{Symbol, symbol, kind_at, arity_at}
 use Rattle.fol_core.specs.Tree.{Tree, var, elem, app, Trees, none, more}
 use Rattle.fol_core.specs.declared.symbols.Kind.{Kind}

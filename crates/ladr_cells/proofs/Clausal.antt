@@ -13,7 +13,7 @@ use Rattle.fol_core.specs.Free.{closed_over, closure_of, free_vars_of}
 use Rattle.fol_core.specs.Literals.{ClauseTree, literal, equality}
 use Rattle.fol_core.specs.Renumbered.{renumbered, by_place, clause_variables}
 use Rattle.fol_core.specs.SkolemAxioms.{SkolemAxiom}
-use Rattle.fol_core.specs.Stated.{Said}
+use Rattle.fol_problem.specs.Stated.{Said}
 use Rattle.fol_core.specs.Substitutions.{Substitution, with_term, substitute, substitute_all}
 use Rattle.fol_core.specs.Tree.{Tree, var, elem, app, Trees, none, more, trees_of}
 use Rattle.fol_core.specs.declared.symbols.Kind.TheVariants.{Function, Relation}

@@ -6,7 +6,7 @@ use Rattle.fol_core.specs.Bound.{uses_symbol}
 use Rattle.fol_core.specs.Fol.{Fol}
 use Rattle.fol_core.specs.Occurs.{occurs_in}
 use Rattle.fol_core.specs.SkolemAxioms.{SkolemAxiom, IsApart}
-use Rattle.fol_core.specs.Stated.{Said, Stated, AreNewTo}
+use Rattle.fol_problem.specs.Stated.{Said, Stated, AreNewTo}
 use Rattle.fol_core.specs.SymbolTable.{Symbol, kind_at}
 use Rattle.mace_ground.proofs.Grounding.{list_below}
 use Rattle.model_tables.proofs.Expanding.{used_apart}

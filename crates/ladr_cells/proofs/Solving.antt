@@ -3,11 +3,11 @@ use Rattle.std.proofs.Common.{◌≡◌, ℕ, ◌+◌, ◌≤◌, length, ap, sy
 use Rattle.std.proofs.lemmas.Bool.Decides.{nat_tests}
 use Rattle.clausify.specs.Input.{skolem_numbers, axioms_in_table}
 use Rattle.clausify.specs.Laws.{ClausesSuffice, ClausesFollow}
-use Rattle.fol_core.proofs.Soundness.{sound_below}
+use Rattle.fol_problem.proofs.Soundness.{sound_below}
 use Rattle.fol_core.specs.Literals.{equality}
 use Rattle.fol_core.specs.Meaning.{Meaning, IsLawful}
 use Rattle.fol_core.specs.SkolemAxioms.{AreInOrder}
-use Rattle.fol_core.specs.Stated.{Stated, IsWellFormed, IsCountermodel, AreNewTo}
+use Rattle.fol_problem.specs.Stated.{Stated, IsWellFormed, IsCountermodel, AreNewTo}
 use Rattle.ladr_cells.specs.Worlds.{world_for}
 use Rattle.mace_cells.specs.World.{Solves}
 use Rattle.mace_search.specs.Models.{IsModel}

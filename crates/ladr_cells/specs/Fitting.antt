@@ -1,7 +1,7 @@
 -- Formulas that use symbols as a table has them.
 use Rattle.std.specs.Prelude.{ℕ, ◌≡◌, List, Some, slice_get}
 use Rattle.std.specs.List.{AllByRecursion}
-use Rattle.fol_core.specs.Stated.{Stated}
+use Rattle.fol_problem.specs.Stated.{Stated}
 use Rattle.fol_core.specs.SymbolTable.{Symbol, symbol}
 use Rattle.ladr_cells.specs.Uses.{Use, applies, mentions, IsFormulaOf}
 

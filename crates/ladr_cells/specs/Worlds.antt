@@ -4,7 +4,7 @@ use Rattle.cell_search.specs.Searchable.{HasAllCells}
 use Rattle.clausify.specs.Input.{formulas, used_symbols, with_skolems, clauses_in_table, axioms_in_table}
 use Rattle.fol_core.specs.Literals.{ClauseTree, equality}
 use Rattle.fol_core.specs.Occurs.{size_needed}
-use Rattle.fol_core.specs.Stated.{Stated}
+use Rattle.fol_problem.specs.Stated.{Stated}
 use Rattle.ladr_cells.specs.Fitting.{FitsTable}
 use Rattle.mace_cells.specs.World.{World}
 use Rattle.mace_cells.specs.declared.way.Way.{Way}

@@ -6,7 +6,7 @@ ghost use Rattle.clausify.specs.Input.{axioms_in_table};
 ghost use Rattle.fol_core.specs.Literals.{equality};
 ghost use Rattle.fol_core.specs.Meaning.{Meaning};
 ghost use Rattle.fol_core.specs.SkolemAxioms.{AreInOrder};
-ghost use Rattle.fol_core.specs.Stated.{Stated, IsWellFormed, IsCountermodel, AreNewTo};
+ghost use Rattle.fol_problem.specs.Stated.{Stated, IsWellFormed, IsCountermodel, AreNewTo};
 ghost use Rattle.ladr_cells.specs.Fitting.{FitsTable};
 ghost use Rattle.ladr_cells.specs.Worlds.{CellsForAll, world_for};
 ghost use Rattle.ladr_formulas.specs.declared.styles.Mode.{Mode};

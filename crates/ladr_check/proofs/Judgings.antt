@@ -6,7 +6,7 @@ use Rattle.derivation.specs.Lines.{InputRow, LineTree, IsRefutation}
 use Rattle.derivation.specs.Refused.{IsFault}
 use Rattle.derivation.specs.View.{lines_of}
 use Rattle.derivation.specs.declared.line.Derivation.{Derivation}
-use Rattle.fol_core.specs.Stated.{Said}
+use Rattle.fol_problem.specs.Stated.{Said}
 use Rattle.ladr_check.specs.Offered.{Offered, proofs_in}
 use Rattle.ladr_check.specs.Outcomes.{AreRefutations, IsNotAccepted, ProofsEnd, end_of_all, input_rows, HasNewSkolems, ComesOut}
 use Rattle.ladr_check.specs.declared.ends.CheckEnd.{CheckEnd}

@@ -3,9 +3,9 @@ use Rattle.std.proofs.Common.{◌≡◌, ◌≤◌, ℕ, List, [], ◌∷◌, le
 use Rattle.clausify.specs.Names.{HasNoSkolemRelation}
 use Rattle.derivation.specs.View.{lines_of}
 use Rattle.derivation.specs.declared.line.Derivation.{Derivation}
-use Rattle.fol_core.specs.Stated.{Stated, stated_of, IsWellFormed}
+use Rattle.fol_problem.specs.Stated.{Stated, stated_of, IsWellFormed}
 use Rattle.fol_core.specs.SymbolTable.{Symbol, KeepsNumbers}
-use Rattle.fol_core.specs.declared.problem.Problem.{Problem}
+use Rattle.fol_problem.specs.declared.problem.Problem.{Problem}
 use Rattle.ladr_check.proofs.LinesKept.{Goes, proofs_go}
 use Rattle.ladr_check.proofs.Nameless.{ClausesNameNone, ProofsNameNone, proofs_none}
 use Rattle.ladr_check.specs.Offered.{proofs_in, refuses_proofs}

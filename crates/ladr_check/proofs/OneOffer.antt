@@ -4,7 +4,7 @@ use Rattle.std.specs.List.{list_all}
 use Rattle.std.proofs.lemmas.Bool.{true≢false}
 use Rattle.std.proofs.lemmas.List.{take-append-drop}
 use Rattle.derivation.specs.declared.line.Line.{Line}
-use Rattle.fol_core.specs.Stated.{stated_of}
+use Rattle.fol_problem.specs.Stated.{stated_of}
 use Rattle.fol_core.specs.SymbolTable.{Symbol}
 use Rattle.ladr_check.proofs.Offering.{proofs_lines}
 use Rattle.ladr_check.proofs.OneFrame.{framed_once, framed_sound}

@@ -3,7 +3,7 @@ use Rattle.std.proofs.Common.{◌≡◌, ◌<◌, ℕ, suc, List, [], ◌∷◌,
 use Rattle.derivation.specs.Laws.{FaultIsNone, FaultIsOne}
 use Rattle.derivation.specs.Lines.{InputRow, LineTree, IsRefutation}
 use Rattle.derivation.specs.Refused.{IsFault}
-use Rattle.fol_core.specs.Stated.{Said}
+use Rattle.fol_problem.specs.Stated.{Said}
 use Rattle.ladr_check.specs.Outcomes.{AreRefutations, looked_at, IsNotAccepted, input_rows, EndIsOne}
 use Rattle.ladr_check.specs.declared.ends.CheckEnd.TheVariants.{Accepted, NotAccepted, ClauseLimit}
 

@@ -4,7 +4,7 @@ use Rattle.std.specs.Prelude.{slice_get, codes}
 use Rattle.std.proofs.lemmas.List.{length-append}
 use Rattle.derivation.specs.Lines.{InputRow, LineTree, IsRefutation}
 use Rattle.fol_core.proofs.Places.{slice_get_more}
-use Rattle.fol_core.specs.Stated.{Said}
+use Rattle.fol_problem.specs.Stated.{Said}
 use Rattle.ladr_check.proofs.Judgings.{proofs_count}
 use Rattle.ladr_check.proofs.Refusing.{IsOneLine, refusal_line}
 use Rattle.ladr_check.proofs.Standing.{accepted_text, exit_text, none_stands, in_front, only_line, accepted_within, exit_within, no_accepted, no_exit_line, accepted_stands, IsSmallEnd, exit_stands}

@@ -2,10 +2,10 @@
 use Rattle.std.proofs.Common.{◌≤◌, ℕ, ◌-◌, List, length, sym, subst, arith}
 use Rattle.clausify.specs.Input.{skolem_numbers}
 use Rattle.derivation.specs.Laws.{NoneIsWithin}
-use Rattle.fol_core.proofs.Soundness.{sound_below}
+use Rattle.fol_problem.proofs.Soundness.{sound_below}
 use Rattle.fol_core.specs.Literals.{equality}
 use Rattle.fol_core.specs.Meaning.{Meaning, IsLawful}
-use Rattle.fol_core.specs.Stated.{stated_of, AreWellFormed}
+use Rattle.fol_problem.specs.Stated.{stated_of, AreWellFormed}
 use Rattle.ladr_check.proofs.Nameless.{ClausesNameNone, named_at}
 use Rattle.ladr_check.proofs.Offering.{read_well_formed, read_few, read_nameless}
 use Rattle.ladr_check.specs.Offered.{Offered, proofs_in, offered_by}
@@ -15,7 +15,7 @@ use Rattle.ladr_lex.specs.declared.limits.TheConstants.{MOST_SYMBOLS}
 use Rattle.ladr_problem.specs.File.{Says, problem}
 use Rattle.ladr_problem.specs.Proper.{IsProper}
 use Rattle.ladr_problem.specs.Sofar.{Sofar, stated_in}
-use Rattle.proof_check.specs.Laws.{RefutationsLeaveNone}
+use Rattle.derivation_laws.specs.Countermodels.{RefutationsLeaveNone}
 use Rattle.proof_text.specs.Refused.{IsProofRead}
 use Rattle.proof_text.specs.declared.text.ProofRead.{ProofRead}
 

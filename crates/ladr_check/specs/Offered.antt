@@ -3,7 +3,7 @@ use Rattle.std.specs.Prelude.{◌≡◌, ℕ, List, map}
 use Rattle.derivation.specs.Lines.{LineTree}
 use Rattle.derivation.specs.View.{lines_of}
 use Rattle.derivation.specs.declared.line.Derivation.{Derivation}
-use Rattle.fol_core.specs.Stated.{Stated, stated_of}
+use Rattle.fol_problem.specs.Stated.{Stated, stated_of}
 use Rattle.fol_core.specs.SymbolTable.{Symbol}
 use Rattle.ladr_intake.specs.declared.stops.Refused.{Refused}
 use Rattle.ladr_intake.specs.declared.stops.Refused.TheVariants.{Unreadable, Misuse, TooLarge}

@@ -4,7 +4,7 @@ use Rattle.clausify.specs.Input.{clauses_in_table, axioms_in_table, first_over}
 use Rattle.derivation.specs.Lines.{InputRow, LineTree, IsRefutation}
 use Rattle.derivation.specs.Refused.{IsFault}
 use Rattle.fol_core.specs.SkolemAxioms.{SkolemAxiom, AreInOrder}
-use Rattle.fol_core.specs.Stated.{Said, AreNewTo}
+use Rattle.fol_problem.specs.Stated.{Said, AreNewTo}
 use Rattle.ladr_check.specs.Offered.{Offered}
 use Rattle.ladr_check.specs.declared.ends.CheckEnd.{CheckEnd}
 use Rattle.ladr_check.specs.declared.ends.CheckEnd.TheVariants.{Accepted, NotAccepted, ClauseLimit}

@@ -4,7 +4,7 @@ use Rattle.std.specs.declared.result.Result.{Result}
 use Rattle.derivation.specs.Lines.{LineTree, IsRefutation}
 use Rattle.fol_core.specs.Meaning.{Meaning, IsLawful}
 use Rattle.fol_core.specs.SkolemAxioms.{PicksWitnesses}
-use Rattle.fol_core.specs.Stated.{IsCountermodel}
+use Rattle.fol_problem.specs.Stated.{IsCountermodel}
 use Rattle.ladr_check.specs.CheckReport.{accepted_line, all_accepted_line}
 use Rattle.ladr_check.specs.Checking.{Checks}
 use Rattle.ladr_check.specs.Offered.{Offered, offers, refuses_proofs}

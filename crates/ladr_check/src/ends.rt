@@ -3,7 +3,7 @@ ghost use Rattle.std.specs.Prelude.{◌≡◌};
 ghost use Rattle.ladr_check.specs.Outcomes.{check_status};
 
 /// How a check ended that was not cut off.
-#[derive(Clone, Copy, Debug, PartialEq, Eq)]
+#[derive(Clone, Copy)]
 pub enum CheckEnd {
     /// There are so many proofs, at least one, and each is a refutation.
     Accepted { proofs: u64 },

@@ -1,7 +1,7 @@
 // The proofs, one after the other.
 ghost use Rattle.std.specs.Prelude.{◌≡◌, IfOk};
 ghost use Rattle.clausify.specs.Names.{HasNoSkolemRelation};
-ghost use Rattle.fol_core.specs.Stated.{all_said, stated_of, IsWellFormed};
+ghost use Rattle.fol_problem.specs.Stated.{all_said, stated_of, IsWellFormed};
 ghost use Rattle.fol_core.specs.SymbolTable.{KeepsNumbers};
 ghost use Rattle.ladr_check.specs.Offered.{offered_by, proofs_in};
 ghost use Rattle.ladr_check.specs.Outcomes.{ProofsEnd, end_of_all, ComesOut};
@@ -9,7 +9,8 @@ ghost use Rattle.ladr_check.specs.Outcomes.{ProofsEnd, end_of_all, ComesOut};
 use crate::ends::{CheckEnd, CheckOver};
 use clausify::{ClauseError, clauses_of};
 use derivation::Derivation;
-use fol_core::{Clauses, Problem};
+use fol_core::Clauses;
+use fol_problem::Problem;
 use proof_check::{CheckError, check};
 use proof_text::ProofRead;
 use std::alloc::{AllocError, Global};

@@ -3,12 +3,13 @@ ghost use Rattle.std.specs.Prelude.{◌≡◌, codes};
 ghost use Rattle.ladr_check.specs.CheckReport.{check_report};
 ghost use Rattle.ladr_check.specs.Outcomes.{EndIsOne};
 ghost use Rattle.ladr_check.specs.Shown.{OneRefutationSuffices, OffersAreAlone, RefusalsAreAlone, ChecksShow};
+ghost use Rattle.derivation_laws.specs.Countermodels.{RefutedHaveNone};
 ghost use Rattle.ladr_check.specs.declared.ends.CheckEnd.TheVariants.{Accepted, NotAccepted, ClauseLimit};
 
 use derivation::{fault_is_one, lines_without_elements};
+use derivation_laws::{no_countermodel, refuted_have_none};
 use ladr_formulas::prover_names_no_element;
 use ladr_problem::{one_outcome, problems_are_proper};
-use proof_check::no_countermodel;
 use proof_lines::{bad_tokens_are_bad, one_fault, one_line};
 
 /// What is offered comes out in one way.
@@ -55,7 +56,9 @@ pub fn checks_show()
     ensures show { ChecksShow }
     ensures once { EndIsOne }
     ensures alone { RefusalsAreAlone }
+    ensures none { RefutedHaveNone }
 {
+    refuted_have_none();
     one_refutation_suffices();
     offers_are_alone();
     refusals_are_alone();

@@ -1,7 +1,7 @@
 // The proofs that an input offers.
 ghost use Rattle.std.specs.Prelude.{List, ℕ, IfErr, IfOk, false, ◌≡◌};
 ghost use Rattle.clausify.specs.Names.{HasNoSkolemRelation};
-ghost use Rattle.fol_core.specs.Stated.{stated_of, IsWellFormed};
+ghost use Rattle.fol_problem.specs.Stated.{stated_of, IsWellFormed};
 ghost use Rattle.fol_core.specs.SymbolTable.{KeepsNumbers};
 ghost use Rattle.ladr_check.specs.Offered.{offers, offered_by, refuses_proofs};
 ghost use Rattle.ladr_intake.specs.Input.{IsAllRead};

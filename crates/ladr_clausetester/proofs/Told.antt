@@ -1,8 +1,8 @@
 -- One more formula that is true or false as told.
 use Rattle.std.proofs.Common.{◌≡◌, ℕ, zero, suc, ◌+◌, ◌<◌, Bool, List, [], ◌∷◌, ◌++◌, length, get_or, take, sym, ap, MatchBool, arith}
 use Rattle.fol_core.specs.Meaning.{Meaning}
-use Rattle.fol_core.specs.Stated.{Said, IsTrueIn, said_of, all_said}
-use Rattle.fol_core.specs.declared.problem.Input.{Input}
+use Rattle.fol_problem.specs.Stated.{Said, IsTrueIn, said_of, all_said}
+use Rattle.fol_problem.specs.declared.problem.Input.{Input}
 use Rattle.ladr_clausetester.specs.Verdicts.{AreTrueAsTold}
 
 pub told_more : (m : Meaning) (ss : List Said) (bs : List Bool) (s : Said) (b : Bool) → AreTrueAsTold m ss bs → MatchBool b (IsTrueIn m s.formula) (¬ IsTrueIn m s.formula) → AreTrueAsTold m (ss ++ s ∷ []) (bs ++ b ∷ [])

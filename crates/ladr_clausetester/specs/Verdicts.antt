@@ -1,7 +1,7 @@
 -- Which formulas of an input are true.
 use Rattle.std.specs.Prelude.{◌≡◌, Bool, List, [], ◌∷◌, MatchBool}
 use Rattle.fol_core.specs.Meaning.{Meaning}
-use Rattle.fol_core.specs.Stated.{Said, IsTrueIn}
+use Rattle.fol_problem.specs.Stated.{Said, IsTrueIn}
 
 -- the closure of each formula is true or false in the interpretation as told
 abbrev pub AreTrueAsTold : Meaning → List Said → List Bool → Type 0

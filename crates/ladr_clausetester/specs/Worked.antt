@@ -2,10 +2,10 @@
 use Rattle.std.specs.Prelude.{ℕ, [], ◌∷◌, codes}
 use Rattle.fol_core.specs.Fol.{equal, atom, forall, exists}
 use Rattle.fol_core.specs.Meaning.{Meaning}
-use Rattle.fol_core.specs.Stated.{Stated, stated, said}
+use Rattle.fol_problem.specs.Stated.{Stated, stated, said}
 use Rattle.fol_core.specs.SymbolTable.{symbol}
 use Rattle.fol_core.specs.Tree.{Tree, var, app, none, more}
-use Rattle.fol_core.specs.declared.problem.Role.TheVariants.{Assumption, Goal}
+use Rattle.fol_problem.specs.declared.problem.Role.TheVariants.{Assumption, Goal}
 use Rattle.fol_core.specs.declared.symbols.Kind.TheVariants.{Function, Relation}
 use Rattle.ladr_commands.specs.ByName.{ByName, by_name, table}
 use Rattle.ladr_interpretations.specs.Good.{tables_for}

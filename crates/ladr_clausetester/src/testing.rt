@@ -17,7 +17,7 @@ use ladr_problem::FileRead;
 use std::alloc::Global;
 
 /// The one end of its own that the command has: each formula is tested.
-#[derive(Clone, Copy, Debug, PartialEq, Eq)]
+#[derive(Clone, Copy)]
 pub enum Tested {
     All,
 }

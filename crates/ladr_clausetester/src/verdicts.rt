@@ -1,13 +1,14 @@
 // The truth of the formulas of an input.
 ghost use Rattle.std.specs.Prelude.{◌≡◌, IfOk, IsTrue, MatchBool, Some, is_some};
 ghost use Rattle.fol_core.specs.FormulaView.{fol_of};
-ghost use Rattle.fol_core.specs.Stated.{IsTrueIn, all_said, stated_of};
+ghost use Rattle.fol_problem.specs.Stated.{IsTrueIn, all_said, stated_of};
 ghost use Rattle.ladr_clausetester.specs.Verdicts.{AreTrueAsTold};
 ghost use Rattle.ladr_commands.specs.ByName.{ByName};
 ghost use Rattle.ladr_interpretations.specs.Good.{tables_for};
 ghost use Rattle.model_tables.specs.Tables.{meaning_of};
 
-use fol_core::{Formula, Input, free_vars};
+use fol_core::{Formula, free_vars};
+use fol_problem::Input;
 use ladr_interpretations::bind;
 use ladr_problem::FileRead;
 use model_tables::{Env, Tables, closure_truth, reserve_closure};

@@ -1,7 +1,7 @@
 -- Interpretations by the names of their symbols, and how the logic stores them.
 use Rattle.std.specs.Prelude.{ℕ, List, refl}
 use Rattle.std.specs.Coded.{Coded, code_by, coded×, coded_ℕ, coded_list}
-use Rattle.fol_core.specs.StatedCodes.{coded_symbol}
+use Rattle.fol_problem.specs.StatedCodes.{coded_symbol}
 use Rattle.fol_core.specs.SymbolTable.{Symbol, symbol}
 use Rattle.fol_core.specs.declared.symbols.Kind.{Kind}
 

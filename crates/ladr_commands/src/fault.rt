@@ -5,7 +5,7 @@ ghost use Rattle.ladr_commands.specs.declared.fault.Fault.TheVariants.{Memory};
 use std::alloc::{AllocError, AllocFailed};
 
 /// The place of the first bad token among them (that behind the last one is the end); or memory is lacking.
-#[derive(Clone, Copy, Debug, PartialEq, Eq)]
+#[derive(Clone, Copy)]
 pub enum CommandFault {
     Bad(usize),
     Memory,

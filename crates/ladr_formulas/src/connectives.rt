@@ -3,7 +3,7 @@ ghost use Rattle.std.specs.Prelude.{◌≡◌};
 ghost use Rattle.ladr_formulas.specs.Formulas.{is_denial, connective_of};
 
 /// A connective of two formulas; `ThenIf` is `<-`, which has its conclusion first.
-#[derive(Clone, Copy, Debug, PartialEq, Eq)]
+#[derive(Clone, Copy)]
 pub enum Connective {
     And,
     Or,

@@ -3,7 +3,7 @@ ghost use Rattle.std.specs.Prelude.{◌≡◌};
 ghost use Rattle.ladr_formulas.specs.Formulas.{style_of};
 
 /// For whom formulas are read: for the prover numerals are constants, for the model finder and the tester they name elements.
-#[derive(Clone, Copy, Debug, PartialEq, Eq)]
+#[derive(Clone, Copy)]
 pub enum Mode {
     Prover,
     Mace,
@@ -11,7 +11,7 @@ pub enum Mode {
 }
 
 /// How names are read: whether numerals name elements, and whether variables begin with `A` to `Z` or `_`.
-#[derive(Clone, Copy, Debug, PartialEq, Eq)]
+#[derive(Clone, Copy)]
 pub struct Style {
     pub elements: bool,
     pub prolog: bool,

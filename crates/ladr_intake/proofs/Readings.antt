@@ -1,6 +1,6 @@
 -- What the bytes say is what the code has read.
 use Rattle.std.proofs.Common.{◌≡◌, ℕ, List, Some, map, ap, ap₂, sym, subst, ◌∙◌}
-use Rattle.fol_core.specs.Stated.{Stated, said, stated, stated_of, all_said}
+use Rattle.fol_problem.specs.Stated.{Stated, said, stated, stated_of, all_said}
 use Rattle.ladr_commands.specs.ByName.{ByName}
 use Rattle.ladr_intake.specs.Posed.{Posed, poses, interprets, posed_by, interpreted_by}
 use Rattle.ladr_intake.specs.Refusals.{refuses}

@@ -1,6 +1,6 @@
 -- What the bytes of an input say to a command, whatever their language.
 use Rattle.std.specs.Prelude.{◌≡◌, ℕ, List, Some}
-use Rattle.fol_core.specs.Stated.{Stated, stated_of}
+use Rattle.fol_problem.specs.Stated.{Stated, stated_of}
 use Rattle.ladr_commands.specs.ByName.{ByName}
 use Rattle.ladr_interpretations.specs.Good.{tables_for}
 use Rattle.ladr_options.specs.declared.options.Options.{Options}

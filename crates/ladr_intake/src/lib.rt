@@ -1,4 +1,10 @@
-//! Takes an input in: reads it whole and as a problem, or prints why it states none.
+// Takes an input in: reads it whole and as a problem, or prints why it states none.
+// `taking.rt` reads the input whole, and what it says to a program; `refusing.rt` prints why it states no problem, with
+// the lines of `lines.rt`; `stops.rt` has why a command comes to no end of its own.
+// `specs/Posed` is what bytes pose to a command, `specs/Language` what a language of problems is, and `specs/Command`
+// what a run of a command amounts to that reads an input, whatever the language: another one can come beside this one
+// without a second copy of these, since the commands' definitions take it as a parameter, and their contracts and
+// `ladr_top` name it. `laws.rt` states that files are such a language.
 #![tactic(auto)]
 
 mod laws;

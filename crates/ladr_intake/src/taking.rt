@@ -1,6 +1,6 @@
 // An input as a whole.
 ghost use Rattle.std.specs.Prelude.{◌≡◌, ℕ, List, IfErr, IfOk, IsTrue, Some, is_some, false};
-ghost use Rattle.fol_core.specs.Stated.{stated_of, IsWellFormed};
+ghost use Rattle.fol_problem.specs.Stated.{stated_of, IsWellFormed};
 ghost use Rattle.ladr_commands.specs.ByName.{ByName};
 ghost use Rattle.ladr_intake.specs.Input.{IsAllRead};
 ghost use Rattle.ladr_intake.specs.Posed.{poses, interprets, posed_by, interpreted_by};

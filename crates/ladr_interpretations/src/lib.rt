@@ -1,4 +1,10 @@
-// Interpretations by the names of their symbols, the tables that they give to symbols, and the formulas that these cover.
+// Interpretations by the names of their symbols, the tables that they give to symbols, and the formulas that these
+// cover.
+// `named.rt` has `Named`, an interpretation that was read and found to be one: a good size, each table filled, no
+// symbol twice, which is an invariant of the type; and `bind`, the tables that it gives to the symbols of a problem.
+// `covering.rt` goes through a formula and asks tables for an entry for each symbol and an element for each number,
+// without memory; that its test says just this of all symbols and numbers is a law of `laws.rt`. `specs/Good` has the
+// definitions, `laws.rt` also interpretations worked out.
 #![tactic(auto)]
 
 mod covering;

@@ -35,7 +35,7 @@ impl Model for Named {
 }
 
 /// It is no interpretation, or memory is lacking.
-#[derive(Clone, Copy, Debug, PartialEq, Eq)]
+#[derive(Clone, Copy)]
 pub enum NamedError {
     Bad,
     Memory,

@@ -1,3 +1,4 @@
 pub mod Memory
 pub mod Streams
 pub mod Times
+pub mod Watch

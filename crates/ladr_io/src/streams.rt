@@ -5,7 +5,7 @@ ghost use Rattle.ladr_io.specs.Streams.{Inflow, Outflow, Gives, FailsBehind, Tak
 use thiserror::Error;
 
 /// A call of a stream failed.
-#[derive(Clone, Copy, Debug, PartialEq, Eq, Error)]
+#[derive(Clone, Copy, Debug, Error)]
 #[error("a read or a write failed")]
 pub struct Failed;
 

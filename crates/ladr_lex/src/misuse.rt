@@ -3,7 +3,7 @@ ghost use Rattle.std.specs.Prelude.{◌≡◌};
 ghost use Rattle.ladr_lex.specs.Misuses.{misuse_row, earlier};
 
 /// How a readable item is misused: a variant for each row of misuse, in the order of the rows.
-#[derive(Clone, Copy, Debug, PartialEq, Eq)]
+#[derive(Clone, Copy)]
 pub enum Misuse {
     /// An unknown flag is set or cleared.
     UnknownFlag,

@@ -15,7 +15,7 @@ use std::marker::Model;
 ///
 /// Infix operators take arguments below p; `InfixLeft` one up to p on the left, `InfixRight` on the right. `Prefix` and
 /// `Postfix` take an argument up to p, `PrefixParen` and `PostfixParen` one below p.
-#[derive(Clone, Copy, Debug, PartialEq, Eq)]
+#[derive(Clone, Copy)]
 pub enum OperatorKind {
     Infix,
     InfixLeft,
@@ -34,14 +34,14 @@ pub enum SymbolType {
 }
 
 /// An operator: the precedence of its terms, and where its arguments stand.
-#[derive(Clone, Copy, Debug, PartialEq, Eq)]
+#[derive(Clone, Copy)]
 pub struct Operator {
     pub precedence: u16,
     pub kind: OperatorKind,
 }
 
 /// Why a symbol isn't declared: by the rows of misuse for precedences and types, and for symbols; or memory is lacking.
-#[derive(Clone, Copy, Debug, PartialEq, Eq)]
+#[derive(Clone, Copy)]
 pub enum DeclareError {
     UnfitOperator,
     UnfitSymbol,

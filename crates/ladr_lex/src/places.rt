@@ -3,7 +3,7 @@ ghost use Rattle.std.specs.Prelude.{◌≡◌, ◌≤◌, length};
 ghost use Rattle.ladr_lex.specs.Places.{line_of, column_of};
 
 /// A place of a text: the byte from 0, its line and its column in bytes from 1.
-#[derive(Clone, Copy, Debug, PartialEq, Eq)]
+#[derive(Clone, Copy)]
 pub struct Position {
     pub byte: u64,
     pub line: u64,

@@ -15,7 +15,7 @@ use crate::token::{Text, Token, TokenKind};
 use std::alloc::{AllocError, Global};
 
 /// Why a text isn't cut: it has too many bytes, or memory is lacking.
-#[derive(Clone, Copy, Debug, PartialEq, Eq)]
+#[derive(Clone, Copy)]
 pub enum Lex {
     Input,
     Memory,

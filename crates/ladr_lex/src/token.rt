@@ -5,7 +5,7 @@ use crate::bytes::kind_in;
 
 /// The kinds of tokens. `Unreadable` is what no item has: a byte that begins no other token and no comment, or a block that
 /// isn't closed, up to the end of the text. The first byte of either is the place to name.
-#[derive(Clone, Copy, Debug, PartialEq, Eq)]
+#[derive(Clone, Copy)]
 pub enum TokenKind {
     Open,
     Close,

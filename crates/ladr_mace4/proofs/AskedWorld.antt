@@ -5,7 +5,7 @@ use Rattle.clausify.specs.Input.{before, formulas, numeral_of, used_symbols, cla
 use Rattle.fol_core.specs.EntryView.{skolem_axiom_of}
 use Rattle.fol_core.specs.Literals.{ClauseTree}
 use Rattle.fol_core.specs.Occurs.{size_needed}
-use Rattle.fol_core.specs.Stated.{Stated}
+use Rattle.fol_problem.specs.Stated.{Stated}
 use Rattle.fol_core.specs.SymbolTable.{Symbol}
 use Rattle.fol_core.specs.SkolemAxioms.{SkolemAxiom}
 use Rattle.fol_core.specs.declared.clause.Clauses.{Clauses}

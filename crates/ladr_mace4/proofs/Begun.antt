@@ -1,7 +1,7 @@
 -- One size, by what its parts tell.
 use Rattle.std.proofs.Common.{◌≡◌, ℕ, ◌+◌, ◌<◌, ◌≤◌, [], ◌++◌, Result, Ok, Err, IfOk, inr, refl, sym, subst, arith}
 use Rattle.fol_core.specs.Occurs.{size_needed}
-use Rattle.fol_core.specs.Stated.{Stated}
+use Rattle.fol_problem.specs.Stated.{Stated}
 use Rattle.ladr_io.specs.Streams.{Outflow, Takes}
 use Rattle.ladr_io.specs.Times.{Times}
 use Rattle.ladr_mace4.specs.Lines.{size_line, skipped_line}

@@ -3,7 +3,7 @@ use Rattle.std.proofs.Common.{◌≡◌, ℕ, suc, ◌+◌, ◌^◌, ◌<◌, �
 use Rattle.std.specs.List.{AllByRecursion}
 use Rattle.clausify.specs.Behind.{SkolemsStandBehind}
 use Rattle.fol_core.specs.Literals.{equality}
-use Rattle.fol_core.specs.Stated.{Stated}
+use Rattle.fol_problem.specs.Stated.{Stated}
 use Rattle.fol_core.specs.SymbolTable.{Symbol}
 use Rattle.ladr_cells.specs.Showing.{IsOneOf}
 use Rattle.ladr_cells.specs.Worlds.{ground_size}

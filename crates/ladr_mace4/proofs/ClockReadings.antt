@@ -4,7 +4,7 @@ use Rattle.std.proofs.lemmas.Bool.Decides.{nat_tests}
 use Rattle.std.specs.Prelude.{nat_lt, max}
 use Rattle.ladr_io.specs.Streams.{greatest}
 use Rattle.ladr_io.specs.Times.{Times, no_times, later}
-use Rattle.fol_core.specs.Stated.{Stated}
+use Rattle.fol_problem.specs.Stated.{Stated}
 use Rattle.ladr_mace4.specs.Finding.{Comes, Sought}
 use Rattle.ladr_mace4.specs.Fronts.{times_after}
 use Rattle.ladr_mace4.specs.Story.{Now, Stops, SearchComes}
@@ -12,7 +12,7 @@ use Rattle.search_clock.specs.Watching.{time_to_stop, IsInTime, HasRead}
 use Rattle.ladr_mace4.specs.declared.ends.SearchEnd.{SearchEnd}
 use Rattle.ladr_mace4.specs.declared.ends.SearchEnd.TheVariants.{MaxModels, Exhausted, AllModels, MaxMegs, MaxSeconds, GroundLimit, ClauseLimit}
 use Rattle.ladr_mace4.specs.declared.plan.Plan.{Plan}
-use Rattle.mace_search.specs.Watch.{IsLate}
+use Rattle.ladr_io.specs.Watch.{IsLate}
 
 noughts : ℕ → List ℕ
 noughts zero = []

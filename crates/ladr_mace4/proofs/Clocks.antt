@@ -2,7 +2,7 @@
 use Rattle.std.proofs.Common.{◌≡◌, ℕ, ◌+◌, ◌*◌, ◌<◌, Option, None, Some, unwrap_or, sym, subst, ◌∙◌, arith}
 use Rattle.ladr_io.specs.Times.{Times}
 use Rattle.mace_cells.specs.Readings.{ReadsOn}
-use Rattle.mace_search.specs.Watch.{IsEarly, IsLate}
+use Rattle.ladr_io.specs.Watch.{IsEarly, IsLate}
 use Rattle.search_clock.specs.Watching.{time_to_stop, HasRead, IsWatchedBy, IsWatched, HasBegunBy, HasBegun}
 use Rattle.search_clock.specs.declared.watch.Watch.{Watch}
 

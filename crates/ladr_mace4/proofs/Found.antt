@@ -4,7 +4,7 @@ use Rattle.cell_search.specs.Courses.{Course}
 use Rattle.cell_search.specs.Finites.{AreTablesFor, tables_over}
 use Rattle.clausify.specs.Behind.{StandBehind}
 use Rattle.fol_core.specs.Meaning.{Meaning}
-use Rattle.fol_core.specs.Stated.{Stated, IsCountermodel}
+use Rattle.fol_problem.specs.Stated.{Stated, IsCountermodel}
 use Rattle.ladr_cells.proofs.Covering.{IsFound, HasShown, none_shown, shown_more, all_shown, each_of}
 use Rattle.ladr_cells.proofs.Uses.{all_weaker}
 use Rattle.ladr_cells.proofs.Whole.{same_meaning}
@@ -38,7 +38,7 @@ use Rattle.mace_cells.specs.Readings.{ReadsOn, GoesInTime}
 use Rattle.mace_cells.specs.Solutions.{IsCarried}
 use Rattle.mace_cells.specs.World.{World, Solves, AreAlike, IsSettled}
 use Rattle.mace_search.specs.Models.{IsModel}
-use Rattle.mace_search.specs.Watch.{IsLate}
+use Rattle.ladr_io.specs.Watch.{IsLate}
 use Rattle.mace_search.specs.declared.answer.Answer.TheVariants as answers
 use Rattle.model_tables.specs.Expansion.{IsExpansion}
 use Rattle.model_tables.specs.ModelText.{model_text}

@@ -3,7 +3,7 @@ use Rattle.std.proofs.Common.{◌≡◌, ℕ, ◌<◌, ◌≤◌, List, [], ◌+
 use Rattle.clausify.specs.Behind.{SkolemsStandBehind}
 use Rattle.clausify.specs.Input.{first_over}
 use Rattle.fol_core.specs.Literals.{equality}
-use Rattle.fol_core.specs.Stated.{Stated, IsWellFormed}
+use Rattle.fol_problem.specs.Stated.{Stated, IsWellFormed}
 use Rattle.ladr_intake.specs.Command.{End, own, refused, read_fault, MayStand, EndsBy}
 use Rattle.ladr_intake.specs.Input.{IsAllRead}
 use Rattle.ladr_intake.specs.Language.{IsLanguage}

@@ -6,7 +6,7 @@ use Rattle.std.specs.Prelude.{◌⊎◌}
 use Rattle.clausify.specs.Behind.{SkolemsStandBehind, StandBehind}
 use Rattle.fol_core.specs.Literals.{equality}
 use Rattle.fol_core.specs.Occurs.{size_needed}
-use Rattle.fol_core.specs.Stated.{Stated, IsWellFormed, AreNewTo}
+use Rattle.fol_problem.specs.Stated.{Stated, IsWellFormed, AreNewTo}
 use Rattle.ladr_cells.proofs.Covering.{among_last, among_front, different_more}
 use Rattle.ladr_cells.proofs.Uses.{all_append}
 use Rattle.ladr_cells.specs.Showing.{IsOneOf, CoverModels}
@@ -34,7 +34,7 @@ use Rattle.mace_cells.specs.World.{World, Solves}
 use Rattle.mace_search.proofs.Completing.{by_number}
 use Rattle.mace_search.proofs.Next.{in_count, next_or_none}
 use Rattle.mace_search.specs.Models.{IsModel, IsNextModel, tables_in}
-use Rattle.mace_search.specs.Watch.{IsLate}
+use Rattle.ladr_io.specs.Watch.{IsLate}
 use Rattle.model_tables.proofs.Kept.{expansion_isomorphic}
 use Rattle.model_tables.specs.Expansion.{IsExpansion}
 use Rattle.model_tables.specs.ModelText.{model_text}

@@ -6,7 +6,7 @@ use Rattle.clausify.specs.Input.{axioms_in_table}
 use Rattle.fol_core.specs.Literals.{equality}
 use Rattle.fol_core.specs.Meaning.{Meaning}
 use Rattle.fol_core.specs.SkolemAxioms.{AreInOrder}
-use Rattle.fol_core.specs.Stated.{Stated, IsWellFormed, IsCountermodel, AreNewTo}
+use Rattle.fol_problem.specs.Stated.{Stated, IsWellFormed, IsCountermodel, AreNewTo}
 use Rattle.fol_core.specs.SymbolTable.{Symbol, KeepsNumbers}
 use Rattle.ladr_cells.specs.Worlds.{world_for}
 use Rattle.ladr_mace4.proofs.Found.{Facts}

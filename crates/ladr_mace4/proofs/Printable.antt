@@ -15,7 +15,7 @@ use Rattle.clausify.specs.Names.{letter_numbered}
 use Rattle.fol_core.specs.Fol.{Fol}
 use Rattle.fol_core.specs.Occurs.{occurs_in}
 use Rattle.fol_core.specs.SkolemAxioms.{SkolemAxiom}
-use Rattle.fol_core.specs.Stated.{Stated}
+use Rattle.fol_problem.specs.Stated.{Stated}
 use Rattle.fol_core.specs.SymbolTable.{Symbol}
 use Rattle.fol_core.specs.Truth.{Assignment}
 use Rattle.fol_core.specs.declared.symbols.Kind.{Kind}

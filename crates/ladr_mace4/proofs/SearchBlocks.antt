@@ -1,6 +1,6 @@
 -- The blocks of which the output of a search is made.
 use Rattle.std.proofs.Common.{◌≡◌, ◌⊎◌, ℕ, ◌^◌, ◌<◌, true, List, [], ◌∷◌, ◌++◌}
-use Rattle.fol_core.specs.Stated.{Stated}
+use Rattle.fol_problem.specs.Stated.{Stated}
 use Rattle.ladr_intake.specs.Refusals.{refusal_text, read_fault_line}
 use Rattle.ladr_intake.specs.declared.stops.Refused.TheVariants.{TooLarge}
 use Rattle.ladr_mace4.specs.Lines.{size_line, skipped_line, exhausted_line, end_text}

@@ -1,7 +1,7 @@
 -- What a search amounts to, by what its parts tell.
 use Rattle.std.proofs.Common.{◌≡◌, ℕ, List, [], ◌++◌, None, Result, Ok, Err, inl, inr, refl, sym, subst, append-nil}
 use Rattle.clausify.specs.Input.{first_over}
-use Rattle.fol_core.specs.Stated.{Stated}
+use Rattle.fol_problem.specs.Stated.{Stated}
 use Rattle.ladr_io.specs.Streams.{Outflow}
 use Rattle.ladr_io.specs.Times.{Times}
 use Rattle.ladr_mace4.specs.Finding.{Comes, Sought, Seeks}

@@ -3,7 +3,7 @@ use Rattle.std.proofs.Common.{◌≡◌, ◌≢◌, ◌⊎◌, inl, inr, ℕ, �
 use Rattle.std.proofs.lemmas.Fmt.{decimal_injective}
 use Rattle.std.proofs.lemmas.List.{append_cancel_left}
 use Rattle.std.specs.Fmt.{decimal}
-use Rattle.fol_core.specs.Stated.{Stated}
+use Rattle.fol_problem.specs.Stated.{Stated}
 use Rattle.ladr_mace4.proofs.ModelLines.{IsFurther, model_passed, model_lines, model_first}
 use Rattle.ladr_mace4.proofs.SearchBlocks.{SearchBlock, begins, skips, shows, exhausts, block_text, blocks_text, IsShownAmong, IsGood, AreGood, Last, nothing, ends, grows, fails, last_text}
 use Rattle.ladr_mace4.specs.Lines.{size_line, skipped_line, exhausted_line, last_lines, end_text}

@@ -14,7 +14,7 @@ use Rattle.fol_core.specs.Free.{is_in}
 use Rattle.fol_core.specs.Occurs.{occurs_in}
 use Rattle.fol_core.specs.Literals.{equality, AreTrueClauses}
 use Rattle.fol_core.specs.SkolemAxioms.{SkolemAxiom}
-use Rattle.fol_core.specs.Stated.{Stated, IsCountermodel, AreNewTo}
+use Rattle.fol_problem.specs.Stated.{Stated, IsCountermodel, AreNewTo}
 use Rattle.fol_core.specs.SymbolTable.{Symbol, kind_at, arity_at}
 use Rattle.fol_core.specs.declared.symbols.Kind.{Kind}
 use Rattle.fol_core.specs.declared.symbols.Kind.TheVariants.{Function}

@@ -2,7 +2,7 @@
 use Rattle.std.specs.Prelude.{◌≡◌, ℕ, List, [], ◌++◌, None, Some, ◌⊎◌}
 use Rattle.std.specs.declared.result.Result.{Result}
 use Rattle.clausify.specs.Input.{first_over}
-use Rattle.fol_core.specs.Stated.{Stated}
+use Rattle.fol_problem.specs.Stated.{Stated}
 use Rattle.ladr_intake.specs.Command.{Runs}
 use Rattle.ladr_intake.specs.Posed.{Posed}
 use Rattle.ladr_intake.specs.declared.stops.Refused.{Refused}

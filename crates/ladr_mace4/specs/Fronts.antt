@@ -1,6 +1,6 @@
 -- What is printed of a search that is cut off.
 use Rattle.std.specs.Prelude.{◌≡◌, ℕ, List, [], ◌∷◌, ◌++◌}
-use Rattle.fol_core.specs.Stated.{Stated}
+use Rattle.fol_problem.specs.Stated.{Stated}
 use Rattle.ladr_io.specs.Streams.{Outflow, AreLastHeld}
 use Rattle.ladr_io.specs.Times.{Times, no_times, later}
 use Rattle.ladr_mace4.specs.Finding.{Sought}

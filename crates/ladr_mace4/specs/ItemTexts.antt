@@ -2,7 +2,7 @@
 use Rattle.std.specs.Prelude.{◌≡◌, ℕ, List, [], ◌⊎◌}
 use Rattle.std.specs.declared.result.Result.{Result}
 use Rattle.std.specs.declared.result.Result.TheVariants.{Err}
-use Rattle.fol_core.specs.Stated.{Stated}
+use Rattle.fol_problem.specs.Stated.{Stated}
 use Rattle.ladr_io.specs.Streams.{Outflow, Takes}
 use Rattle.ladr_mace4.specs.Lines.{size_line, skipped_line, exhausted_line}
 use Rattle.ladr_mace4.specs.Skolems.{all_symbols}

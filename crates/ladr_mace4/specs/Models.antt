@@ -3,7 +3,7 @@ use Rattle.std.specs.Prelude.{◌≡◌, ℕ, true, List, [], ◌∷◌, ◌++�
 use Rattle.std.specs.List.{AllByRecursion}
 use Rattle.clausify.specs.Input.{skolems}
 use Rattle.fol_core.specs.Literals.{AreTrueClauses}
-use Rattle.fol_core.specs.Stated.{Stated, IsCountermodel}
+use Rattle.fol_problem.specs.Stated.{Stated, IsCountermodel}
 use Rattle.fol_core.specs.SymbolTable.{Symbol}
 use Rattle.ladr_cells.specs.Worlds.{clauses_for}
 use Rattle.mace_search.specs.Complete.{AreDifferent}

@@ -1,7 +1,7 @@
 -- How much a search takes on.
 use Rattle.std.specs.Prelude.{ℕ, ◌+◌, ◌*◌, ◌<◌, ◌≤◌, ◌≡◌}
 use Rattle.fol_core.specs.Occurs.{size_needed}
-use Rattle.fol_core.specs.Stated.{Stated}
+use Rattle.fol_problem.specs.Stated.{Stated}
 use Rattle.ladr_mace4.specs.declared.ends.SearchEnd.{SearchEnd}
 use Rattle.ladr_mace4.specs.declared.ends.SearchEnd.TheVariants.{MaxMegs, GroundLimit}
 use Rattle.ladr_mace4.specs.declared.plan.Plan.{Plan}

@@ -1,7 +1,7 @@
 -- What stands in the output of a search, to those who asked for it.
 use Rattle.std.specs.Prelude.{◌≡◌, ℕ, ◌^◌, ◌<◌, List, ◌++◌, codes}
 use Rattle.std.specs.declared.result.Result.{Result}
-use Rattle.fol_core.specs.Stated.{Stated}
+use Rattle.fol_problem.specs.Stated.{Stated}
 use Rattle.ladr_intake.specs.Input.{AreTaken, IsAllRead}
 use Rattle.ladr_intake.specs.Posed.{Posed}
 use Rattle.ladr_intake.specs.declared.stops.Refused.{Refused}

@@ -1,7 +1,7 @@
 -- The Skolem symbols of a problem.
 use Rattle.std.specs.Prelude.{List}
 use Rattle.clausify.specs.Input.{with_skolems, axioms_in_table}
-use Rattle.fol_core.specs.Stated.{Stated}
+use Rattle.fol_problem.specs.Stated.{Stated}
 use Rattle.fol_core.specs.SymbolTable.{Symbol}
 use Rattle.fol_core.specs.SkolemAxioms.{SkolemAxiom}
 

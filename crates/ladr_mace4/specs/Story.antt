@@ -1,7 +1,7 @@
 -- How a search for models goes, and what it prints.
 use Rattle.std.specs.Prelude.{◌≡◌, ℕ, suc, ◌+◌, ◌<◌, ◌≤◌, Bool, true, false, List, [], ◌∷◌, ◌++◌, length, IfSome, ◌⊎◌}
 use Rattle.fol_core.specs.Occurs.{size_needed}
-use Rattle.fol_core.specs.Stated.{Stated}
+use Rattle.fol_problem.specs.Stated.{Stated}
 use Rattle.ladr_cells.specs.Showing.{CoverModels}
 use Rattle.ladr_cells.specs.Worlds.{world_for, ground_size}
 use Rattle.ladr_io.specs.Times.{Times}
@@ -18,7 +18,7 @@ use Rattle.ladr_mace4.specs.declared.ends.Step.TheVariants.{Over, Ends}
 use Rattle.ladr_mace4.specs.declared.plan.Plan.{Plan}
 use Rattle.mace_cells.specs.Choices.{Choice, MayGoOn}
 use Rattle.mace_cells.specs.Moves.{GoesBy}
-use Rattle.mace_search.specs.Watch.{IsLate}
+use Rattle.ladr_io.specs.Watch.{IsLate}
 use Rattle.model_tables.specs.ModelText.{model_text}
 use Rattle.model_tables.specs.Size.{formulas_of}
 use Rattle.model_tables.specs.Tables.{Finite}

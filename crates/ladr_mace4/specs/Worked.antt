@@ -1,9 +1,9 @@
 -- Searches worked out.
 use Rattle.std.specs.Prelude.{ℕ, true, List, [], ◌∷◌, None, codes}
 use Rattle.fol_core.specs.Fol.{equal, forall, exists}
-use Rattle.fol_core.specs.Stated.{Stated, stated, said}
+use Rattle.fol_problem.specs.Stated.{Stated, stated, said}
 use Rattle.fol_core.specs.Tree.{var}
-use Rattle.fol_core.specs.declared.problem.Role.TheVariants.{Assumption}
+use Rattle.fol_problem.specs.declared.problem.Role.TheVariants.{Assumption}
 use Rattle.fol_core.specs.declared.symbols.Kind.TheVariants.{Function}
 use Rattle.ladr_mace4.specs.Story.{Size, searched}
 use Rattle.ladr_words.specs.declared.task.ModelOptions.{ModelOptions}

@@ -5,7 +5,7 @@ ghost use Rattle.cell_search.specs.Finites.{tables_over};
 ghost use Rattle.clausify.specs.Input.{first_over};
 ghost use Rattle.fol_core.specs.Literals.{equality};
 ghost use Rattle.fol_core.specs.Occurs.{size_needed};
-ghost use Rattle.fol_core.specs.Stated.{stated_of, IsWellFormed};
+ghost use Rattle.fol_problem.specs.Stated.{stated_of, IsWellFormed};
 ghost use Rattle.ladr_cells.specs.Fitting.{FitsTable};
 ghost use Rattle.ladr_cells.specs.Worlds.{world_for, ground_size};
 ghost use Rattle.ladr_mace4.specs.Skolems.{all_symbols, all_axioms};
@@ -14,7 +14,8 @@ ghost use Rattle.model_tables.specs.Size.{formulas_of};
 
 use cell_search::CellSearch;
 use clausify::{ClauseError, clauses_of, own_table};
-use fol_core::{Clauses, Entry, Problem, Symbols};
+use fol_core::{Clauses, Entry, Symbols};
+use fol_problem::Problem;
 use ladr_cells::cells_for_all;
 use mace_cells::Way;
 use mace_ground::count;
@@ -35,8 +36,8 @@ impl<'a> Model for Asked<'a> {
     ghost use Rattle.clausify.specs.Input.{used_symbols, clauses_in_table, numeral_of};
     ghost use Rattle.fol_core.specs.Literals.{equality};
     ghost use Rattle.fol_core.specs.EntryView.{skolem_axiom_of};
-    ghost use Rattle.fol_core.specs.Stated.{Stated, stated_of, IsWellFormed};
-    ghost use Rattle.fol_core.specs.StatedCodes.{coded_stated};
+    ghost use Rattle.fol_problem.specs.Stated.{Stated, stated_of, IsWellFormed};
+    ghost use Rattle.fol_problem.specs.StatedCodes.{coded_stated};
     ghost use Rattle.ladr_cells.specs.Fitting.{FitsTable};
     ghost use Rattle.ladr_mace4.specs.Skolems.{all_symbols, all_axioms};
 

@@ -3,7 +3,7 @@ ghost use Rattle.std.specs.Prelude.{◌≡◌};
 ghost use Rattle.ladr_mace4.specs.Statuses.{end_status};
 
 /// Why a search ended.
-#[derive(Clone, Copy, Debug, PartialEq, Eq)]
+#[derive(Clone, Copy)]
 pub enum SearchEnd {
     /// As many models as were wanted are printed.
     MaxModels,
@@ -39,7 +39,7 @@ impl SearchEnd {
 }
 
 /// How a search ended, and how many models were printed by then.
-#[derive(Clone, Copy, Debug, PartialEq, Eq)]
+#[derive(Clone, Copy)]
 pub struct SearchOver {
     pub end: SearchEnd,
     pub printed: u64,
@@ -47,7 +47,7 @@ pub struct SearchOver {
 
 /// How a size went: it is over, or the search ended in it; with how many models are printed by
 /// then.
-#[derive(Clone, Copy, Debug, PartialEq, Eq)]
+#[derive(Clone, Copy)]
 pub enum Step {
     Over(u64),
     Ends(SearchEnd, u64),

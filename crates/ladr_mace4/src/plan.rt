@@ -10,7 +10,7 @@ use mace_cells::{Candidates, Measure, Way};
 use search_clock::seconds_of;
 
 /// What is asked of a search.
-#[derive(Clone, Copy, Debug, PartialEq, Eq)]
+#[derive(Clone, Copy)]
 pub struct Plan {
     /// The first size and the last, and the step from one to the next.
     pub start: u32,

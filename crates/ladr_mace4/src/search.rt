@@ -1,6 +1,6 @@
 // The models of what an input states.
 ghost use Rattle.std.specs.Prelude.{◌≡◌, ◌≤◌, false};
-ghost use Rattle.fol_core.specs.Stated.{stated_of, IsWellFormed};
+ghost use Rattle.fol_problem.specs.Stated.{stated_of, IsWellFormed};
 ghost use Rattle.ladr_cells.specs.Fitting.{FitsTable};
 ghost use Rattle.ladr_formulas.specs.declared.styles.Mode.TheVariants.{Mace};
 ghost use Rattle.ladr_intake.specs.Posed.{poses};
@@ -17,7 +17,7 @@ use crate::plan::{Plan, search_plan};
 use crate::printing::print_end;
 use crate::sizes::search_sizes;
 use clausify::ClauseError;
-use fol_core::Problem;
+use fol_problem::Problem;
 use ladr_cells::problems_fit;
 use ladr_formulas::Mode;
 use ladr_intake::{Stop, refuse, stop_by, take_in};

@@ -10,8 +10,8 @@ use Rattle.std.proofs.lemmas.List.Elements.{All-nil, All-append}
 use Rattle.fol_core.specs.KboRows.{is_weighed}
 use Rattle.fol_core.specs.RawTree.{RawTree, named, quantified, no_raws, more_raws}
 use Rattle.fol_core.specs.SymbolTable.{Symbol, KeepsNumbers}
-use Rattle.fol_core.specs.declared.problem.Role.{Role}
-use Rattle.fol_core.specs.declared.problem.Role.TheVariants.{Assumption, Usable, Demodulator, Goal}
+use Rattle.fol_problem.specs.declared.problem.Role.{Role}
+use Rattle.fol_problem.specs.declared.problem.Role.TheVariants.{Assumption, Usable, Demodulator, Goal}
 use Rattle.ladr_formulas.proofs.Growing.{grows_formula, grows_terms}
 use Rattle.ladr_formulas.proofs.TermLemmas.{kept_both}
 use Rattle.ladr_formulas.specs.Formulas.{Made, unread, names_of_variables, is_faultless, formula_reading, style_of, IsReadAs}

@@ -8,14 +8,14 @@ ghost use Rattle.ladr_options.specs.declared.options.OptionError.TheVariants.{No
 use crate::names::{Flag, Parameter, flag_named, is_idle_flag, is_idle_parameter, parameter_named};
 
 /// An order of terms.
-#[derive(Clone, Copy, Debug, PartialEq, Eq)]
+#[derive(Clone, Copy)]
 pub enum Order {
     Lpo,
     Kbo,
 }
 
 /// Why an option isn't changed: there is none of this name, or the value isn't one of its values.
-#[derive(Clone, Copy, Debug, PartialEq, Eq)]
+#[derive(Clone, Copy)]
 pub enum OptionError {
     Unknown,
     NotAValue,
@@ -25,7 +25,7 @@ pub enum OptionError {
 pub const NO_LIMIT: u32 = 4_294_967_295;
 
 /// The options that have an effect, each under its name in the language.
-#[derive(Clone, Copy, Debug, PartialEq, Eq)]
+#[derive(Clone, Copy)]
 pub struct Options {
     pub auto: bool,
     pub unit_deletion: bool,

@@ -1,7 +1,7 @@
 // What cuts an output off.
 
 /// Why an output is cut off: a write failed, or memory was lacking.
-#[derive(Clone, Copy, Debug, PartialEq, Eq)]
+#[derive(Clone, Copy)]
 pub enum Cut {
     WriteFault,
     Memory,

@@ -7,15 +7,15 @@ use Rattle.std.specs.declared.result.Result.TheVariants.{Ok, Err}
 use Rattle.std.proofs.lemmas.Bool.Decides.{nat_tests}
 use Rattle.std.proofs.lemmas.List.{map-append}
 use Rattle.std.proofs.lemmas.Result.{IfOk-at_ok}
-use Rattle.fol_core.proofs.Soundness.{sound_below, sound_push}
+use Rattle.fol_problem.proofs.Soundness.{sound_below, sound_push}
 use Rattle.fol_core.specs.Bound.{BindsOnce, HasSymbolsBelow}
 use Rattle.fol_core.specs.FormulaView.{fol_of}
 use Rattle.fol_core.specs.RawTree.{RawTree}
-use Rattle.fol_core.specs.Stated.{said, AreWellFormed, all_said}
+use Rattle.fol_problem.specs.Stated.{said, AreWellFormed, all_said}
 use Rattle.fol_core.specs.SymbolTable.{Symbol}
-use Rattle.fol_core.specs.declared.problem.Input.{Input}
-use Rattle.fol_core.specs.declared.problem.Role.{Role}
-use Rattle.fol_core.specs.declared.problem.Role.TheVariants.{Assumption, Usable, Demodulator, Goal}
+use Rattle.fol_problem.specs.declared.problem.Input.{Input}
+use Rattle.fol_problem.specs.declared.problem.Role.{Role}
+use Rattle.fol_problem.specs.declared.problem.Role.TheVariants.{Assumption, Usable, Demodulator, Goal}
 use Rattle.ladr_lex.specs.declared.misuse.Misuse.{Misuse}
 use Rattle.ladr_lex.specs.declared.misuse.Misuse.TheVariants.{UnfitAttribute, UnfitHint, UnfitDemodulator, UnfitRule, Uncovered}
 use Rattle.ladr_commands.specs.ByName.{ByName}

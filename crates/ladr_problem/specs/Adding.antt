@@ -6,7 +6,7 @@ use Rattle.std.specs.declared.result.Result.TheVariants.{Ok, Err}
 use Rattle.fol_core.specs.Fol.{Fol}
 use Rattle.fol_core.specs.KboRows.{is_weighed}
 use Rattle.fol_core.specs.RawTree.{RawTree}
-use Rattle.fol_core.specs.declared.problem.Role.TheVariants.{Assumption, Usable, Demodulator, Goal}
+use Rattle.fol_problem.specs.declared.problem.Role.TheVariants.{Assumption, Usable, Demodulator, Goal}
 use Rattle.ladr_lex.specs.declared.misuse.Misuse.{Misuse}
 use Rattle.ladr_lex.specs.declared.misuse.Misuse.TheVariants.{UnfitAttribute, UnfitHint, UnfitDemodulator, UnfitRule}
 use Rattle.ladr_commands.specs.Commands.{commands_of}

@@ -1,6 +1,6 @@
 -- What every problem is that a file says, and its options.
 use Rattle.std.specs.Prelude.{◌≤◌, ◌<◌, ◌^◌, length}
-use Rattle.fol_core.specs.Stated.{Stated, IsWellFormed}
+use Rattle.fol_problem.specs.Stated.{Stated, IsWellFormed}
 use Rattle.ladr_lex.specs.declared.limits.TheConstants.{MOST_SYMBOLS}
 use Rattle.ladr_options.specs.Ranges.{AreInRange}
 use Rattle.ladr_options.specs.declared.options.Options.{Options}

@@ -3,12 +3,12 @@ use Rattle.std.specs.Prelude.{ℕ, List, [], map, Option}
 use Rattle.fol_core.specs.Fol.{Fol}
 use Rattle.fol_core.specs.FormulaView.{fol_of}
 use Rattle.fol_core.specs.RawTree.{RawTree}
-use Rattle.fol_core.specs.Stated.{Said, Stated, said, stated}
+use Rattle.fol_problem.specs.Stated.{Said, Stated, said, stated}
 use Rattle.fol_core.specs.SymbolTable.{Symbol}
 use Rattle.fol_core.specs.declared.formula.Formula.{Formula}
-use Rattle.fol_core.specs.declared.problem.Hint.{Hint}
-use Rattle.fol_core.specs.declared.problem.Input.{Input}
-use Rattle.fol_core.specs.declared.problem.Role.{Role}
+use Rattle.fol_problem.specs.declared.problem.Hint.{Hint}
+use Rattle.fol_problem.specs.declared.problem.Input.{Input}
+use Rattle.fol_problem.specs.declared.problem.Role.{Role}
 use Rattle.fol_core.specs.Weights.{Rule}
 use Rattle.ladr_settings.specs.Settings.{at_start}
 use Rattle.ladr_settings.specs.declared.settings.Settings.{Settings}

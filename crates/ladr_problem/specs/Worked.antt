@@ -3,7 +3,7 @@ use Rattle.std.specs.Prelude.{ℕ, [], ◌∷◌, None, Some, true, codes}
 use Rattle.fol_core.specs.Fol.{Fol, equal, atom}
 use Rattle.fol_core.specs.SymbolTable.{symbol}
 use Rattle.fol_core.specs.Tree.{Tree, var, app, none, more}
-use Rattle.fol_core.specs.declared.problem.Role.TheVariants.{Assumption, Goal}
+use Rattle.fol_problem.specs.declared.problem.Role.TheVariants.{Assumption, Goal}
 use Rattle.fol_core.specs.declared.symbols.Kind.TheVariants.{Function, Relation}
 use Rattle.ladr_problem.specs.Sofar.{Sofar, Listed, nothing_read}
 use Rattle.ladr_reader.specs.Worked.{constant, unary}

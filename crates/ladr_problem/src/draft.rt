@@ -4,7 +4,8 @@ ghost use Rattle.ladr_problem.specs.Adding.{with_listed};
 ghost use Rattle.ladr_problem.specs.Draft.{sofar_of};
 ghost use Rattle.ladr_problem.specs.Sofar.{listed_of, nothing_read};
 
-use fol_core::{Formula, Hint, Input, KboWeights, RawSub, Role, Symbols, WeightRule};
+use fol_core::{Formula, KboWeights, RawSub, Symbols, WeightRule};
+use fol_problem::{Hint, Input, Role};
 use ladr_settings::{FormulaList, Settings};
 use std::alloc::{AllocError, Global};
 

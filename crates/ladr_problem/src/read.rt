@@ -1,6 +1,6 @@
 // The problem of a file.
 ghost use Rattle.std.specs.Prelude.{◌≡◌, ◌≤◌, ◌<◌, ◌^◌, ◌++◌, List, unwrap_or, OnOk, IfOk, IfErr, IsTrue, is_some, length, map, take};
-ghost use Rattle.fol_core.specs.Stated.{stated_of, IsWellFormed};
+ghost use Rattle.fol_problem.specs.Stated.{stated_of, IsWellFormed};
 ghost use Rattle.ladr_problem.specs.Items.{items_of, tokens_of};
 ghost use Rattle.ladr_lex.specs.Cuts.{Cuts, Piece, piece_of, pieces_of};
 ghost use Rattle.ladr_lex.specs.Places.{line_of, column_of};
@@ -20,7 +20,8 @@ use crate::draft::Draft;
 use crate::file::take_all;
 use crate::refusal::{Limit, Place, ReadError};
 use crate::stop::RefusalAt;
-use fol_core::{Input, Name, Problem};
+use fol_core::Name;
+use fol_problem::{Input, Problem};
 use ladr_formulas::Mode;
 use ladr_interpretations::{Named, bind, covers};
 use ladr_lex::{MOST_BYTES, Misuse, Ops, Text, Token, TokenKind, item_from, place_of};

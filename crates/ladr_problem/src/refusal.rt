@@ -11,7 +11,7 @@ use ladr_settings::SettingsError;
 use std::alloc::{AllocError, AllocFailed};
 
 /// What an input may be too large in.
-#[derive(Clone, Copy, Debug, PartialEq, Eq)]
+#[derive(Clone, Copy)]
 pub enum Limit {
     Input,
     Nesting,
@@ -39,7 +39,7 @@ pub enum ReadError {
 }
 
 /// Why an item is refused: a token of it is bad, it passes a limit, or it is misused; or memory is lacking.
-#[derive(Clone, Copy, Debug, PartialEq, Eq)]
+#[derive(Clone, Copy)]
 pub enum Refusal {
     Bad(usize),
     Nesting,

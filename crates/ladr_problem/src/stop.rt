@@ -4,7 +4,7 @@ use ladr_lex::Misuse;
 
 /// A byte where something can't be read; the first byte of an item, with how it is misused, or the limit that it
 /// passes; or memory is lacking.
-#[derive(Clone, Copy, Debug, PartialEq, Eq)]
+#[derive(Clone, Copy)]
 pub enum RefusalAt {
     Unreadable(u64),
     Misuse(u64, Misuse),

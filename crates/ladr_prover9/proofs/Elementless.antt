@@ -11,7 +11,7 @@ use Rattle.fol_core.specs.Free.{closed_over, closure_of, free_vars_of}
 use Rattle.fol_core.specs.Literals.{Lit, literal, ClauseTree}
 use Rattle.fol_core.specs.Occurs.{names_in, names_in_any, names}
 use Rattle.fol_core.specs.Renumbered.{clause_variables, by_place, renumbered}
-use Rattle.fol_core.specs.Stated.{Said}
+use Rattle.fol_problem.specs.Stated.{Said}
 use Rattle.fol_core.specs.Substitutions.{Substitution, with_term, substitute, substitute_all}
 use Rattle.fol_core.specs.Tree.{Tree, var, elem, app, Trees, none, more, trees_of}
 use Rattle.prover_steps.proofs.Lists.{all_append}

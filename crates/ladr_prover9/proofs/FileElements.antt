@@ -9,11 +9,11 @@ use Rattle.std.proofs.lemmas.List.{map-append}
 use Rattle.fol_core.specs.KboRows.{is_weighed}
 use Rattle.fol_core.specs.Occurs.{names}
 use Rattle.fol_core.specs.RawTree.{RawTree}
-use Rattle.fol_core.specs.Stated.{Said, said}
+use Rattle.fol_problem.specs.Stated.{Said, said}
 use Rattle.fol_core.specs.SymbolTable.{Symbol}
 use Rattle.fol_core.specs.Weights.{Rule}
-use Rattle.fol_core.specs.declared.problem.Role.{Role}
-use Rattle.fol_core.specs.declared.problem.Role.TheVariants.{Assumption, Usable, Demodulator, Goal}
+use Rattle.fol_problem.specs.declared.problem.Role.{Role}
+use Rattle.fol_problem.specs.declared.problem.Role.TheVariants.{Assumption, Usable, Demodulator, Goal}
 use Rattle.ladr_formulas.specs.Formulas.{Made, formula_reading, style_of, names_of_variables}
 use Rattle.ladr_formulas.specs.declared.styles.Mode.TheVariants.{Prover}
 use Rattle.ladr_lex.specs.Cuts.{Piece}

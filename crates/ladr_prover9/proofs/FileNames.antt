@@ -12,8 +12,8 @@ use Rattle.fol_core.specs.RawTree.{RawTree, named, quantified, RawTrees, no_raws
 use Rattle.fol_core.specs.SymbolTable.{Symbol, is_clash}
 use Rattle.fol_core.specs.Tree.{Tree, elem, app, none}
 use Rattle.fol_core.specs.Weights.{Rule}
-use Rattle.fol_core.specs.declared.problem.Role.{Role}
-use Rattle.fol_core.specs.declared.problem.Role.TheVariants.{Assumption, Usable, Demodulator, Goal}
+use Rattle.fol_problem.specs.declared.problem.Role.{Role}
+use Rattle.fol_problem.specs.declared.problem.Role.TheVariants.{Assumption, Usable, Demodulator, Goal}
 use Rattle.fol_core.specs.declared.symbols.Kind.{Kind}
 use Rattle.fol_core.specs.declared.symbols.Kind.TheVariants.{Function, Relation}
 use Rattle.ladr_formulas.specs.Formulas.{Variable, Reading, Bound, Made, meets, with_variable, reading_with_name, with_symbol, symbol_number, is_variable, variable_number, is_too_great, is_element, named_variable, constant_as, arity_of, term_of, terms_of, relation_of, sentence_as, equation_read, under, is_denial, connective_of, by_connective, comparison, formula_in, unread, names_of_variables}

@@ -3,11 +3,11 @@ use Rattle.std.proofs.Common.{ℕ, ◌≤◌, ◌<◌, ◌^◌, List, length, su
 use Rattle.clause_store.specs.Lines.{PlainLine, plain_trees}
 use Rattle.clausify.specs.Input.{skolem_numbers, axioms_in_table}
 use Rattle.derivation.specs.Laws.{LinesNameNone, NoneIsWithin}
-use Rattle.fol_core.proofs.Soundness.{sound_below}
+use Rattle.fol_problem.proofs.Soundness.{sound_below}
 use Rattle.fol_core.specs.Literals.{equality}
 use Rattle.fol_core.specs.Meaning.{Meaning, IsLawful}
 use Rattle.fol_core.specs.SkolemAxioms.{AreInOrder}
-use Rattle.fol_core.specs.Stated.{Stated, AreWellFormed, IsWellFormed, AreNewTo}
+use Rattle.fol_problem.specs.Stated.{Stated, AreWellFormed, IsWellFormed, AreNewTo}
 use Rattle.fol_core.specs.SymbolTable.{Symbol, KeepsNumbers}
 use Rattle.ladr_formulas.specs.declared.styles.Mode.{Mode}
 use Rattle.ladr_formulas.specs.declared.styles.Mode.TheVariants.{Prover}
@@ -17,7 +17,7 @@ use Rattle.ladr_problem.specs.Proper.{IsProper}
 use Rattle.ladr_problem.specs.Sofar.{Sofar, said_in, stated_in}
 use Rattle.ladr_prover9.specs.Quests.{Quest, search_by, asks}
 use Rattle.ladr_prover9.specs.Shown.{AreRefutingLines, LeavesNone}
-use Rattle.proof_check.specs.Laws.{RefutationsLeaveNone}
+use Rattle.derivation_laws.specs.Countermodels.{RefutationsLeaveNone}
 use Rattle.prover_setup.specs.SearchInputs.{witnesses_in}
 
 module _ (proper : (m : Mode) (bytes : List ℕ) (s : Sofar) → Says m bytes (problem s) → IsProper (stated_in s) s.settings.options) (within : NoneIsWithin)

@@ -9,10 +9,10 @@ use Rattle.clausify.specs.Input.{skolems, all_arities}
 use Rattle.clausify.specs.Names.{letter_numbered, next_free, next_name, next_constant, next_function, skolem_symbols, all_entered}
 use Rattle.derivation.specs.Lines.{InputRow}
 use Rattle.fol_core.specs.Renumbered.{renumbered}
-use Rattle.fol_core.specs.Stated.{Said}
+use Rattle.fol_problem.specs.Stated.{Said}
 use Rattle.fol_core.specs.SymbolTable.{Symbol, number_of, entered}
-use Rattle.fol_core.specs.declared.problem.Role.{Role}
-use Rattle.fol_core.specs.declared.problem.Role.TheVariants.{Assumption, Usable, Demodulator, Goal}
+use Rattle.fol_problem.specs.declared.problem.Role.{Role}
+use Rattle.fol_problem.specs.declared.problem.Role.TheVariants.{Assumption, Usable, Demodulator, Goal}
 use Rattle.ladr_formulas.specs.declared.styles.Mode.{Mode}
 use Rattle.ladr_formulas.specs.declared.styles.Mode.TheVariants.{Prover}
 use Rattle.ladr_lex.specs.ClauseNames.{clause_variable}

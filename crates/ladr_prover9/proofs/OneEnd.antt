@@ -18,7 +18,7 @@ use Rattle.ladr_prover9.specs.Quests.{Quest, quest_by, asks, quest_lines, quest_
 use Rattle.ladr_prover9.specs.Story.{EndsIn, ProofsCome}
 use Rattle.ladr_prover9.specs.declared.ends.ProverEnd.{ProverEnd}
 use Rattle.ladr_prover9.specs.declared.ends.ProverEnd.TheVariants.{MaxProofs, SosEmpty, MaxMegs, MaxSeconds, MaxGiven, MaxKept, ClauseLimit}
-use Rattle.mace_search.specs.Watch.{IsLate}
+use Rattle.ladr_io.specs.Watch.{IsLate}
 use Rattle.proof_print.specs.LineTexts.{frame_text}
 use Rattle.prover_setup.specs.SearchInputs.{setting_in, start_in}
 use Rattle.prover_steps.specs.SearchLaws.{EndedStay}

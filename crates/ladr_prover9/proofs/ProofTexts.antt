@@ -8,9 +8,9 @@ use Rattle.derivation.specs.Lines.{InputRow}
 use Rattle.derivation.specs.declared.line.Content.{Content}
 use Rattle.derivation.specs.declared.line.Content.TheVariants.{Formula, Clause}
 use Rattle.derivation.specs.declared.line.Line.{Line}
-use Rattle.fol_core.specs.Stated.{Said, all_said}
+use Rattle.fol_problem.specs.Stated.{Said, all_said}
 use Rattle.fol_core.specs.SymbolTable.{Symbol}
-use Rattle.fol_core.specs.declared.problem.Input.{Input}
+use Rattle.fol_problem.specs.declared.problem.Input.{Input}
 use Rattle.given_clause.specs.States.{made_line_of}
 use Rattle.held_clauses.specs.declared.made.MadeLine.{MadeLine}
 use Rattle.ladr_prover9.specs.ProofTexts.{plain_content_text, plain_text, head_of_proof, proof_text}

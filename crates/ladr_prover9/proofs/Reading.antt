@@ -2,12 +2,12 @@
 use Rattle.std.proofs.Common.{◌≡◌, ℕ, suc, refl, sym, ap, ap₂, ◌∙◌, List, [], ◌∷◌, ◌++◌, map}
 use Rattle.clause_store.specs.Lines.{PlainLine, formula_lines}
 use Rattle.fol_core.specs.RuleView.{rule_of}
-use Rattle.fol_core.specs.Stated.{Stated, Said, said, stated, stated_of, said_of, all_said}
+use Rattle.fol_problem.specs.Stated.{Stated, Said, said, stated, stated_of, said_of, all_said}
 use Rattle.fol_core.specs.SymbolTable.{Symbol}
 use Rattle.fol_core.specs.Weights.{Rule}
-use Rattle.fol_core.specs.declared.problem.Hint.{Hint}
-use Rattle.fol_core.specs.declared.problem.Input.{Input}
-use Rattle.fol_core.specs.declared.problem.Role.{Role}
+use Rattle.fol_problem.specs.declared.problem.Hint.{Hint}
+use Rattle.fol_problem.specs.declared.problem.Input.{Input}
+use Rattle.fol_problem.specs.declared.problem.Role.{Role}
 use Rattle.ladr_formulas.specs.declared.styles.Mode.TheVariants.{Prover}
 use Rattle.ladr_lex.specs.Operators.{OperatorRow}
 use Rattle.ladr_options.specs.declared.options.Options.{Options}

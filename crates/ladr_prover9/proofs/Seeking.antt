@@ -6,7 +6,7 @@ use Rattle.std.specs.declared.alloc.AllocError.{AllocError}
 use Rattle.std.proofs.lemmas.List.{append-nil, length-map}
 use Rattle.clause_store.specs.Laws.{AncestorsStay}
 use Rattle.derivation.specs.Lines.{InputRow}
-use Rattle.fol_core.specs.Stated.{said_of}
+use Rattle.fol_problem.specs.Stated.{said_of}
 use Rattle.ladr_io.proofs.StreamLaws.{Takes-none, Takes-append}
 use Rattle.ladr_io.specs.Streams.{Outflow, Takes}
 use Rattle.ladr_io.specs.Times.{Times}

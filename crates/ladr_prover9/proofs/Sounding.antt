@@ -3,10 +3,10 @@ use Rattle.std.proofs.Common.{◌≡◌, ℕ, suc, refl, ap₂, subst, List, [],
 use Rattle.clause_store.specs.Lines.{plain_tree, plain_trees, stating_line}
 use Rattle.clausify.specs.Input.{all_rows, skolem_numbers}
 use Rattle.derivation.specs.Lines.{LineTree}
-use Rattle.fol_core.specs.Stated.{Said, said}
+use Rattle.fol_problem.specs.Stated.{Said, said}
 use Rattle.fol_core.specs.SymbolTable.{Symbol}
-use Rattle.fol_core.specs.declared.problem.Role.{Role}
-use Rattle.fol_core.specs.declared.problem.Role.TheVariants.{Assumption, Usable, Demodulator, Goal}
+use Rattle.fol_problem.specs.declared.problem.Role.{Role}
+use Rattle.fol_problem.specs.declared.problem.Role.TheVariants.{Assumption, Usable, Demodulator, Goal}
 use Rattle.held_clauses.specs.Order.{greater_by}
 use Rattle.ladr_formulas.specs.declared.styles.Mode.{Mode}
 use Rattle.ladr_formulas.specs.declared.styles.Mode.TheVariants.{Prover}
@@ -15,7 +15,7 @@ use Rattle.ladr_problem.specs.File.{Says, problem}
 use Rattle.ladr_problem.specs.Sofar.{Sofar, Listed, said_in, stated_in}
 use Rattle.ladr_prover9.specs.Askings.{IsSoundQuest}
 use Rattle.ladr_prover9.specs.Quests.{Quest, listed_content, listed_lines, search_by, quest_by, asks}
-use Rattle.problem_laws.specs.Fitness.{AreFit, AreHeavy, IsFitFile}
+use Rattle.search_lines.specs.Fitness.{AreFit, AreHeavy, IsFitFile}
 use Rattle.prover_proofs.specs.ProofLaws.{SayWhatIsSaid}
 use Rattle.prover_setup.specs.SearchInputs.{symbols_in}
 use Rattle.prover_steps.specs.SearchLaws.{KeepsVariables}

@@ -11,8 +11,8 @@ use Rattle.ladr_lex.specs.ClauseNames.{clause_variable}
 use Rattle.ladr_prover9.specs.Quests.{Quest, quest_lines}
 use Rattle.ladr_print.specs.ClauseText.{clause_bytes}
 use Rattle.ladr_print.specs.RawText.{text_of}
-use Rattle.line_bounds.specs.Bounds.{IsBoundedLine}
-use Rattle.proof_laws.specs.Printed.{IsShortHead}
+use Rattle.printed_proofs.specs.LineBounds.{IsBoundedLine}
+use Rattle.printed_proofs.specs.Printed.{IsShortHead}
 use Rattle.proof_lines.specs.ContentTokens.{LineTables}
 use Rattle.proof_print.specs.LineTexts.{formula_term, head_text, proof_banner, end_banner, frame_text}
 use Rattle.proof_print.specs.declared.texts.Heads.{Heads}

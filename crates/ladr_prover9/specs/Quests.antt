@@ -2,8 +2,8 @@
 use Rattle.std.specs.Prelude.{ℕ, suc, ◌≡◌, ◌<◌, ◌^◌, Option, List, [], ◌∷◌, map}
 use Rattle.std.specs.Option.{option_or}
 use Rattle.clause_store.specs.Lines.{PlainContent, plain_formula, PlainLine, stating_line, formula_lines}
-use Rattle.fol_core.specs.declared.problem.Problem.{Problem}
-use Rattle.fol_core.specs.declared.problem.Role.{Role}
+use Rattle.fol_problem.specs.declared.problem.Problem.{Problem}
+use Rattle.fol_problem.specs.declared.problem.Role.{Role}
 use Rattle.ladr_formulas.specs.declared.styles.Mode.TheVariants.{Prover}
 use Rattle.ladr_lex.specs.Operators.{OperatorRow}
 use Rattle.ladr_problem.specs.File.{Says, problem}

@@ -5,7 +5,7 @@ use Rattle.clause_store.specs.Lines.{PlainLine, plain_trees}
 use Rattle.derivation.specs.Lines.{IsRefutation}
 use Rattle.fol_core.specs.Meaning.{Meaning, IsLawful}
 use Rattle.fol_core.specs.SkolemAxioms.{PicksWitnesses, AreInOrder}
-use Rattle.fol_core.specs.Stated.{IsCountermodel, AreNewTo}
+use Rattle.fol_problem.specs.Stated.{IsCountermodel, AreNewTo}
 use Rattle.ladr_intake.specs.Input.{AreTaken}
 use Rattle.ladr_intake.specs.declared.stops.Stop.{Stop}
 use Rattle.ladr_io.specs.Streams.{Inflow, Outflow, AreLastHeld}

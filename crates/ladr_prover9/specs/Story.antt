@@ -6,7 +6,7 @@ use Rattle.ladr_prover9.specs.ProofTexts.{IsStateText}
 use Rattle.ladr_prover9.specs.Quests.{Quest}
 use Rattle.ladr_prover9.specs.declared.ends.ProverEnd.{ProverEnd}
 use Rattle.ladr_prover9.specs.declared.ends.ProverEnd.TheVariants.{MaxProofs, SosEmpty, MaxMegs, MaxSeconds, MaxGiven, MaxKept, ClauseLimit}
-use Rattle.mace_search.specs.Watch.{IsLate}
+use Rattle.ladr_io.specs.Watch.{IsLate}
 use Rattle.prover.specs.Answers.{IsAtGiving}
 use Rattle.prover_setup.specs.SearchInputs.{SearchInput, setting_in, start_in, IsReachedIn}
 use Rattle.prover_steps.specs.Ending.{IsReason}

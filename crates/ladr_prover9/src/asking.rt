@@ -1,5 +1,6 @@
 // What is asked of a search for proofs.
-use fol_core::{Clause, Problem, Symbols};
+use fol_core::{Clause, Symbols};
+use fol_problem::Problem;
 use proof_lines::LineOperators;
 
 /// The bytes of an input and its problem, the operators of formulas and of clauses, the symbols with the Skolem symbols, and the

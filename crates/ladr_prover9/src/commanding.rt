@@ -1,7 +1,7 @@
 // The command as a whole.
 ghost use Rattle.std.specs.Prelude.{◌≡◌, ◌⊎◌, ◌<◌, ◌^◌, ℕ, [], Some, Err, IfOk, false, length};
 ghost use Rattle.clausify.specs.Input.{first_over};
-ghost use Rattle.fol_core.specs.Stated.{stated_of, IsWellFormed};
+ghost use Rattle.fol_problem.specs.Stated.{stated_of, IsWellFormed};
 ghost use Rattle.ladr_intake.specs.Refusals.{clause_limit_line};
 ghost use Rattle.ladr_output.specs.Telling.{Tells, IsEnd};
 ghost use Rattle.ladr_prover9.specs.Askings.{quest_of, IsAskedFor, IsSoundQuest};
@@ -19,7 +19,8 @@ use crate::lines::closing_lines;
 use crate::searching::search_proofs;
 use crate::taking::{Taken, take_quest};
 use clausify::{ClauseError, clauses_of, own_table};
-use fol_core::{Clauses, Entry, Problem};
+use fol_core::{Clauses, Entry};
+use fol_problem::Problem;
 use ladr_intake::{Stop, clause_limit, refuse, stop_by};
 use ladr_io::{Clock, Sink, Source};
 use ladr_lex::Ops;
@@ -136,6 +137,31 @@ fn over_limit<K: Sink>(alloc: Global, formula: u64, sink: &mut K) -> Result<Prov
     ending(clause_limit(alloc, formula), over, sink)
 }
 
+// Searches for proofs of a problem, of which these are the bytes and the operators.
+fn prove_problem<K: Sink, C: Clock>(
+    alloc: Global,
+    input: &[u8],
+    problem: &Problem,
+    operators: Ops,
+    seconds: Option<u64>,
+    sink: &mut K,
+    clock: &mut C,
+) -> Result<ProverOver, Cut>
+    requires well_formed { IsWellFormed (stated_of problem.now) }
+    requires sound { IsSoundQuest (quest_with input.now problem.now operators) }
+    requires unread { (C.times clock.old).count ≡ 0 }
+    requires sink { (K.outflow sink.old).over ≡ false }
+    ensures { let q = quest_with input.now problem.now operators in
+        Tells (Proving q seconds (C.times clock.new)) (ProvesCounted q seconds (C.times clock.new))
+        (K.outflow sink.old) (K.outflow sink.new) result }
+{
+    match asking_of(alloc, input, problem, operators) {
+        Ok(asking) => prove_asked(alloc, &asking, seconds, sink, clock),
+        Err(ClauseError::ClauseLimit { formula }) => over_limit(alloc, formula, sink),
+        Err(ClauseError::Memory) => Err(Cut::Memory),
+    }
+}
+
 // Searches for proofs of what was read.
 fn prove<K: Sink, C: Clock>(
     alloc: Global,
@@ -160,11 +186,7 @@ fn prove<K: Sink, C: Clock>(
         ..
     } = read;
     let seconds = max_seconds.or(seconds_of(&problem.options));
-    match asking_of(alloc, &bytes, &problem, operators) {
-        Ok(asking) => prove_asked(alloc, &asking, seconds, sink, clock),
-        Err(ClauseError::ClauseLimit { formula }) => over_limit(alloc, formula, sink),
-        Err(ClauseError::Memory) => Err(Cut::Memory),
-    }
+    prove_problem(alloc, &bytes, &problem, operators, seconds, sink, clock)
 }
 
 /// Reads the input and searches for proofs of its problem, as the word and its options ask; answers how that ends, with what was

@@ -8,13 +8,12 @@ ghost use Rattle.ladr_prover9.specs.Shown.{ProofsShow};
 use clause_store::ancestors_are_one;
 use clausify::axioms_are_in_order;
 use derivation::lines_without_elements;
+use derivation_laws::{lines_name_no_elements, no_countermodel};
 use ladr_formulas::prover_names_no_element;
 use ladr_problem::{one_outcome, problems_are_proper};
-use line_elements::lines_name_no_elements;
-use problem_laws::{files_are_fit, orders_of_files_keep_variables, rows_are_of_formulas};
-use proof_check::no_countermodel;
 use prover_proofs::proofs_refute;
 use prover_steps::searches_end_once;
+use search_lines::{files_are_fit, orders_of_files_keep_variables, rows_are_of_formulas};
 
 /// The order of what a file asks for keeps variables, its clauses are rows of its formulas, and the lines of these say what they
 /// say.

@@ -12,7 +12,7 @@ ghost use Rattle.prover_steps.specs.LineNumbers.{CountsLinesFrom};
 
 use crate::asking::Asking;
 use given_clause::FoundProof;
-use line_bounds::{heads_are_short, lines_are_bounded, lines_are_counted};
+use printed_proofs::{heads_are_short, lines_are_bounded, lines_are_counted};
 use proof_print::{Heads, proof_bytes};
 use prover::Prover;
 use prover_proofs::{Proof, SearchLines};

@@ -1,6 +1,6 @@
 // The input of a run.
 ghost use Rattle.std.specs.Prelude.{◌≡◌, ◌<◌, ◌^◌, ℕ, List, IfErr, IfOk, false};
-ghost use Rattle.fol_core.specs.Stated.{stated_of, IsWellFormed};
+ghost use Rattle.fol_problem.specs.Stated.{stated_of, IsWellFormed};
 ghost use Rattle.ladr_formulas.specs.declared.styles.Mode.TheVariants.{Prover};
 ghost use Rattle.ladr_intake.specs.Input.{IsAllRead};
 ghost use Rattle.ladr_intake.specs.Refusals.{IsNoInput, refuses};

@@ -5,7 +5,7 @@ use std::alloc::AllocError;
 ///
 /// `Bad` has the number, from 0, of the first token that goes on with no readable item; it is that behind the last where
 /// the tokens end too early.
-#[derive(Clone, Copy, Debug, PartialEq, Eq)]
+#[derive(Clone, Copy)]
 pub enum TermFault {
     Bad(usize),
     Deep,

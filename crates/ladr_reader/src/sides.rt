@@ -8,7 +8,7 @@ use ladr_lex::OperatorKind;
 pub const QUANTIFIED: u16 = 750;
 
 /// A side of an operator of precedence p: there is no argument, or one below p, or one up to p.
-#[derive(Clone, Copy, Debug, PartialEq, Eq)]
+#[derive(Clone, Copy)]
 pub enum Side {
     Nothing,
     Below,

@@ -1,4 +1,5 @@
 pub mod Arities
+mod Keeping
 pub mod Names
 pub mod Parts
 pub mod Variables

@@ -1,4 +1,5 @@
 pub mod Attributes
+pub mod KeptNames
 pub mod RuleSeen
 pub mod Rules
 pub mod Seen

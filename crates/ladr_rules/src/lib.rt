@@ -1,4 +1,11 @@
 // What stands in lists beside commands: formulas with attributes, hints, demodulators, and rules of weights.
+// `attributes.rt` takes a formula with attributes apart: `LabelledFormula` has the formula, and in its `Notes` its
+// first label, whether an attribute breaks row 12, and a hint's weight. `shapes.rt` tells which formulas hints and
+// demodulators may be. `rules.rt` reads a rule of weights, `weight(pattern) = value`: `sides.rt` finds its sides,
+// `patterns.rt` says what its pattern may be, `values.rt` what the value is; `kbo.rt` reads `name = number`;
+// `bounds.rt` has the greatest weights by name.
+// The definitions are in `specs/Attributes`, `Shapes` and `Rules`; `laws.rt` has attributes, hints, demodulators and
+// rules worked out.
 #![tactic(auto)]
 
 mod attributes;

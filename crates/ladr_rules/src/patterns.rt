@@ -2,7 +2,8 @@
 ghost use Rattle.std.specs.Prelude.{◌≡◌, IfOk, OnOk};
 ghost use Rattle.fol_core.specs.RawTree.{named, no_raws, raws_of};
 ghost use Rattle.fol_core.specs.RawView.{raw_of};
-ghost use Rattle.fol_core.specs.NamesOnce.{names_of, with_name};
+ghost use Rattle.fol_core.specs.NamesOnce.{with_name};
+ghost use Rattle.ladr_rules.specs.KeptNames.{names_of};
 ghost use Rattle.ladr_rules.specs.Rules.{quantifies, some_quantifies, variable_names, all_names, too_great, some_too_great, pattern_misuse, is_shaped, is_value};
 ghost use Rattle.ladr_rules.specs.Seen.{with_names};
 ghost use Rattle.ladr_rules.specs.SidesView.{sides_view};

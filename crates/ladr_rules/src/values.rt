@@ -3,7 +3,8 @@ ghost use Rattle.std.specs.Prelude.{◌≡◌, ◌||◌, ◌&&◌, codes, IfOk};
 ghost use Rattle.std.specs.Str.{bytes_eq};
 ghost use Rattle.fol_core.specs.RawView.{raw_of};
 ghost use Rattle.fol_core.specs.WeightView.{weight_of};
-ghost use Rattle.fol_core.specs.NamesOnce.{is_in, names_of};
+ghost use Rattle.fol_core.specs.NamesOnce.{is_in};
+ghost use Rattle.ladr_rules.specs.KeptNames.{names_of};
 ghost use Rattle.ladr_rules.specs.Rules.{single_value, is_value, single_weight, combined, weight_of_value};
 
 use crate::attributes::limited_number;

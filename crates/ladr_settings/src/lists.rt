@@ -3,7 +3,7 @@ ghost use Rattle.std.specs.Prelude.{◌≡◌};
 ghost use Rattle.ladr_settings.specs.Settings.{formulas_named, formulas_opened, rules_opened, is_other};
 
 /// The lists of formulas.
-#[derive(Clone, Copy, Debug, PartialEq, Eq)]
+#[derive(Clone, Copy)]
 pub enum FormulaList {
     Assumptions,
     Usable,
@@ -14,7 +14,7 @@ pub enum FormulaList {
 
 /// A list that is open; the last two are a list of formulas and one of rules that have no known name, in a block for another
 /// program.
-#[derive(Clone, Copy, Debug, PartialEq, Eq)]
+#[derive(Clone, Copy)]
 pub enum OpenList {
     Formulas(FormulaList),
     Weights,

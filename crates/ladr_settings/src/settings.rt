@@ -16,7 +16,7 @@ use ladr_options::{OptionError, Options};
 use std::alloc::{AllocError, Global};
 
 /// Why a command changes no settings: how it is misused, by the least row, or want of memory.
-#[derive(Clone, Copy, Debug, PartialEq, Eq)]
+#[derive(Clone, Copy)]
 pub enum SettingsError {
     Misused(Misuse),
     Memory,

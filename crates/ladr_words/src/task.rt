@@ -6,7 +6,7 @@ use std::alloc::AllocError;
 use thiserror::Error;
 
 /// A command with its options.
-#[derive(Clone, Copy, Debug, PartialEq, Eq)]
+#[derive(Clone, Copy)]
 pub enum Task {
     Check,
     Clausetester,
@@ -16,7 +16,7 @@ pub enum Task {
 }
 
 /// What the words set of a search for models; what they leave out is the input's to set.
-#[derive(Clone, Copy, Debug, PartialEq, Eq)]
+#[derive(Clone, Copy)]
 pub struct ModelOptions {
     pub start_size: Option<u64>,
     pub end_size: Option<u64>,
@@ -25,7 +25,7 @@ pub struct ModelOptions {
 }
 
 /// Why words have no task.
-#[derive(Clone, Copy, Debug, PartialEq, Eq, Error)]
+#[derive(Clone, Copy, Debug, Error)]
 pub enum WordsError {
     #[error("no such command")]
     NoCommand,

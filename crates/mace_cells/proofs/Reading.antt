@@ -3,7 +3,7 @@ use Rattle.std.proofs.Common.{◌≡◌, ℕ, ◌+◌, Option, None, Some, refl,
 use Rattle.ladr_io.specs.Times.{Times, later}
 use Rattle.mace_cells.specs.Readings.{ReadsOn}
 use Rattle.mace_search.proofs.Watching.{first_stays}
-use Rattle.mace_search.specs.Watch.{IsEarly}
+use Rattle.ladr_io.specs.Watch.{IsEarly}
 
 pub reads_once : (stop : Option ℕ) (t t' : Times) (s now : ℕ) → stop ≡ Some s → IsEarly stop t → t' ≡ later t now → ReadsOn stop 1 t t'
 reads_once None t t' s now e early l = absurd cc

@@ -5,7 +5,7 @@ use Rattle.ladr_io.specs.Times.{Times}
 use Rattle.mace_cells.specs.Choices.{Choice, decisions}
 use Rattle.mace_cells.specs.Leaves.{LeavesOpen}
 use Rattle.mace_cells.specs.World.{World, IsSettled}
-use Rattle.mace_search.specs.Watch.{IsEarly, IsLate}
+use Rattle.ladr_io.specs.Watch.{IsEarly, IsLate}
 use Rattle.mace_search.specs.declared.answer.Answer.{Answer}
 use Rattle.mace_search.specs.declared.answer.Answer.TheVariants.{Model, Exhausted, MaxSeconds}
 

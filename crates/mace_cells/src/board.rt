@@ -9,7 +9,7 @@ ghost use Rattle.mace_cells.specs.World.{World, cell_of, many_cells, IsBound, Is
 
 /// How far the decisions lead: a cell is to be chosen, all cells have values and the clauses are true, or the clauses
 /// contradict the decisions.
-#[derive(Clone, Copy, Debug, PartialEq, Eq)]
+#[derive(Clone, Copy)]
 pub enum Status {
     Choose(u32),
     Settled,

@@ -9,7 +9,7 @@ ghost use Rattle.mace_cells.specs.Stacked.{rest_of};
 ghost use Rattle.mace_cells.specs.Standing.{IsStanding, place, beyond};
 ghost use Rattle.mace_cells.specs.World.{cell_of, many_cells, IsRefuted};
 ghost use Rattle.mace_search.specs.declared.answer.Answer.TheVariants.{Model};
-ghost use Rattle.mace_search.specs.Watch.{IsEarly};
+ghost use Rattle.ladr_io.specs.Watch.{IsEarly};
 
 use crate::board::{Board, Status};
 use crate::frame::Frame;

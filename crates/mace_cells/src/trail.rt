@@ -12,7 +12,7 @@ use std::alloc::{AllocError, Global};
 use std::marker::Model;
 
 /// A cell with its value; whether it was decided, and how many values had been crossed off before.
-#[derive(Clone, Copy, Debug, Drop)]
+#[derive(Clone, Copy, Drop)]
 pub struct TrailEntry {
     pub cell: u32,
     pub value: u8,

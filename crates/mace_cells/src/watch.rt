@@ -1,7 +1,7 @@
 // Whether the time is over.
 ghost use Rattle.std.specs.Prelude.{MatchOption};
 ghost use Rattle.mace_cells.specs.Readings.{ReadsOn};
-ghost use Rattle.mace_search.specs.Watch.{IsEarly, IsLate};
+ghost use Rattle.ladr_io.specs.Watch.{IsEarly, IsLate};
 
 use ladr_io::Clock;
 

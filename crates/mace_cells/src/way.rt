@@ -1,7 +1,7 @@
 // How a search goes about its choices.
 
 /// Which of the cells without a value may be chosen: all, those of least index, or those of which the index is in use.
-#[derive(Clone, Copy, Debug, PartialEq, Eq)]
+#[derive(Clone, Copy)]
 pub enum Candidates {
     All,
     LeastIndex,
@@ -9,14 +9,14 @@ pub enum Candidates {
 }
 
 /// Which of these is chosen: the first, or the first with the most values crossed off.
-#[derive(Clone, Copy, Debug, PartialEq, Eq)]
+#[derive(Clone, Copy)]
 pub enum Measure {
     First,
     MostCrossed,
 }
 
 /// How a search chooses a cell, and whether it tries the values of functions by the least-number heuristic.
-#[derive(Clone, Copy, Debug, PartialEq, Eq)]
+#[derive(Clone, Copy)]
 pub struct Way {
     pub candidates: Candidates,
     pub measure: Measure,

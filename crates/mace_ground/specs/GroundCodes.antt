@@ -3,7 +3,7 @@ use Rattle.std.specs.Prelude.{ℕ, List, refl}
 use Rattle.std.specs.Coded.{Coded, code_by, coded×, coded_ℕ, coded_list}
 use Rattle.fol_core.specs.LitCodes.{coded_clause}
 use Rattle.fol_core.specs.Literals.{ClauseTree}
-use Rattle.fol_core.specs.StatedCodes.{coded_kind}
+use Rattle.fol_problem.specs.StatedCodes.{coded_kind}
 use Rattle.fol_core.specs.declared.symbols.Kind.{Kind}
 use Rattle.mace_ground.specs.Cells.{Block}
 use Rattle.mace_ground.specs.Instances.{Instances}

@@ -1,6 +1,6 @@
 -- Interpretations of a size by their numbers.
 use Rattle.std.proofs.Common.{◌≡◌, ℕ}
-use Rattle.fol_core.specs.Stated.{Stated}
+use Rattle.fol_problem.specs.Stated.{Stated}
 use Rattle.model_tables.specs.Order.{first_tables, table_number, IsSameShape, IsFilled}
 use Rattle.model_tables.specs.Size.{IsInterpretation}
 use Rattle.model_tables.specs.Tables.{Finite}

@@ -2,7 +2,7 @@
 use Rattle.std.proofs.Common.{◌≡◌, ℕ, ◌<◌, ◌≤◌, inl, inr, refl, subst, arith}
 use Rattle.std.specs.Prelude.{◌⊎◌}
 use Rattle.std.proofs.lemmas.Bool.{cases_lt}
-use Rattle.fol_core.specs.Stated.{Stated, IsCountermodel}
+use Rattle.fol_problem.specs.Stated.{Stated, IsCountermodel}
 use Rattle.mace_search.proofs.Completing.{by_number}
 use Rattle.mace_search.specs.Models.{IsModel, NoneFrom, IsNextModel}
 use Rattle.model_tables.proofs.Decided.{Decided, decided_countermodel, least_below}

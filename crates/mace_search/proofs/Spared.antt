@@ -3,7 +3,7 @@ use Rattle.std.proofs.Common.{◌≡◌, ◌≢◌, ℕ, zero, suc, ◌<◌, [],
 use Rattle.std.specs.Prelude.{◌⊎◌, ◌==◌, nat_le}
 use Rattle.std.proofs.lemmas.Bool.{false≢true}
 use Rattle.std.proofs.lemmas.Bool.Decides.{nat_tests}
-use Rattle.fol_core.specs.Stated.{IsCountermodel}
+use Rattle.fol_problem.specs.Stated.{IsCountermodel}
 use Rattle.fol_core.specs.declared.symbols.Kind.TheVariants.{Function, Relation}
 use Rattle.mace_search.specs.Models.{IsModel, IsNextModel, NoneFrom}
 use Rattle.mace_search.specs.Worked.{spared, tables}

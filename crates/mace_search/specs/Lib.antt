@@ -1,4 +1,3 @@
 pub mod Complete
 pub mod Models
-pub mod Watch
 pub mod Worked

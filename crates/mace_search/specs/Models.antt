@@ -1,6 +1,6 @@
 -- The models of a size, in the order of their tables.
 use Rattle.std.specs.Prelude.{ℕ, ◌<◌, ◌≤◌}
-use Rattle.fol_core.specs.Stated.{Stated, IsCountermodel}
+use Rattle.fol_problem.specs.Stated.{Stated, IsCountermodel}
 use Rattle.model_tables.specs.Order.{first_tables, table_number, table_count}
 use Rattle.model_tables.specs.Size.{IsInterpretation}
 use Rattle.model_tables.specs.Tables.{Finite, meaning_of}

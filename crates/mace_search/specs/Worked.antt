@@ -1,10 +1,10 @@
 -- A problem, tables and readings worked out.
 use Rattle.std.specs.Prelude.{ℕ, [], ◌∷◌, codes}
 use Rattle.fol_core.specs.Fol.{atom, exists}
-use Rattle.fol_core.specs.Stated.{Stated, said, stated}
+use Rattle.fol_problem.specs.Stated.{Stated, said, stated}
 use Rattle.fol_core.specs.SymbolTable.{symbol}
 use Rattle.fol_core.specs.Tree.{var, app, none, more}
-use Rattle.fol_core.specs.declared.problem.Role.TheVariants.{Assumption, Goal}
+use Rattle.fol_problem.specs.declared.problem.Role.TheVariants.{Assumption, Goal}
 use Rattle.fol_core.specs.declared.symbols.Kind.TheVariants.{Function, Relation}
 use Rattle.ladr_io.specs.Times.{Times}
 use Rattle.model_tables.specs.Tables.{Finite, listing}

@@ -1,7 +1,7 @@
 // What a search for a further model answers.
 
 /// There is a further model, there is none, or the time is over by this reading of the clock.
-#[derive(Clone, Copy, Debug, PartialEq, Eq)]
+#[derive(Clone, Copy)]
 pub enum Answer {
     Model,
     Exhausted,

@@ -2,7 +2,7 @@
 // contracts are the examples.
 ghost use Rattle.std.specs.Prelude.{ℕ, ◌≡◌, None, Some};
 ghost use Rattle.mace_search.specs.Models.{IsNextModel, NoneFrom};
-ghost use Rattle.mace_search.specs.Watch.{IsEarly, IsLate};
+ghost use Rattle.ladr_io.specs.Watch.{IsEarly, IsLate};
 ghost use Rattle.mace_search.specs.Worked.{spared, tables, readings};
 ghost use Rattle.model_tables.specs.Order.{table_number};
 

@@ -6,10 +6,10 @@ use Rattle.std.proofs.lemmas.Bool.Decides.{nat_tests}
 use Rattle.fol_core.specs.Fol.{Fol, verum, falsum, equal, atom, negation, conjunction, disjunction, implication, equivalence, forall, exists}
 use Rattle.fol_core.specs.Free.{closure_of}
 use Rattle.fol_core.specs.SkolemAxioms.{SkolemAxiom}
-use Rattle.fol_core.specs.Stated.{Said, zero as all_zero, IsAsRoled, IsCountermodel}
+use Rattle.fol_problem.specs.Stated.{Said, zero as all_zero, IsAsRoled, IsCountermodel}
 use Rattle.fol_core.specs.Truth.{Assignment, with_var, value_of, values_of, Holds}
-use Rattle.fol_core.specs.declared.problem.Role.{Role}
-use Rattle.fol_core.specs.declared.problem.Role.TheVariants.{Assumption, Usable, Demodulator, Goal}
+use Rattle.fol_problem.specs.declared.problem.Role.{Role}
+use Rattle.fol_problem.specs.declared.problem.Role.TheVariants.{Assumption, Usable, Demodulator, Goal}
 use Rattle.model_tables.proofs.Expanding.{within_below}
 use Rattle.model_tables.proofs.Filling.{AreFilledTo, filled_none, filled_more, filled_all}
 use Rattle.model_tables.proofs.Numbers.{digits_at}

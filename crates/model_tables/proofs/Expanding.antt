@@ -8,12 +8,12 @@ use Rattle.fol_core.specs.Bound.{has_symbol, have_symbol, uses_symbol}
 use Rattle.fol_core.specs.Fol.{Fol, verum, falsum, equal, atom, negation, conjunction, disjunction, implication, equivalence, forall, exists}
 use Rattle.fol_core.specs.Free.{is_in, free_vars_of, closure_of, closed_over}
 use Rattle.fol_core.specs.Meaning.{Meaning}
-use Rattle.fol_core.specs.Stated.{Said, IsAsRoled, IsCountermodel, AreNewTo}
+use Rattle.fol_problem.specs.Stated.{Said, IsAsRoled, IsCountermodel, AreNewTo}
 use Rattle.fol_core.specs.Tree.{Tree, var, elem, app, Trees, none, more}
 use Rattle.fol_core.specs.Truth.{Assignment, with_var, value_of, values_of, Holds}
 use Rattle.fol_core.specs.SkolemAxioms.{SkolemAxiom, PicksWitness, PicksWitnesses, AreNotIn, IsApart, IsClosedBody, AreInOrder}
-use Rattle.fol_core.specs.declared.problem.Role.{Role}
-use Rattle.fol_core.specs.declared.problem.Role.TheVariants.{Assumption, Usable, Demodulator, Goal}
+use Rattle.fol_problem.specs.declared.problem.Role.{Role}
+use Rattle.fol_problem.specs.declared.problem.Role.TheVariants.{Assumption, Usable, Demodulator, Goal}
 use Rattle.fol_core.specs.declared.symbols.Kind.TheVariants.{Function}
 use Rattle.fol_core.proofs.TruthLemmas.{free_decide}
 use Rattle.model_tables.specs.Expansion.{assigned, IsWitness, IsLeastWitness, with_row, with_values, IsExpansion}

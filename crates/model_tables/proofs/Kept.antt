@@ -5,7 +5,7 @@ use Rattle.fol_core.specs.Bound.{uses_symbol}
 use Rattle.fol_core.specs.Fol.{Fol}
 use Rattle.fol_core.specs.Occurs.{occurs_in}
 use Rattle.fol_core.specs.SkolemAxioms.{SkolemAxiom, IsApart}
-use Rattle.fol_core.specs.Stated.{Stated, Said, AreNewTo}
+use Rattle.fol_problem.specs.Stated.{Stated, Said, AreNewTo}
 use Rattle.fol_core.specs.SymbolTable.{Symbol, kind_at}
 use Rattle.model_tables.proofs.Exchange.{list_itself, carried_itself}
 use Rattle.model_tables.proofs.Expanding.{used_apart, same_top, kept_row}

@@ -1,7 +1,7 @@
 -- Tables with the values of Skolem symbols.
 use Rattle.std.specs.Prelude.{ℕ, zero, suc, ◌≡◌, ◌↔◌, ◌⊎◌, ◌+◌, ◌^◌, ◌<◌, ◌≤◌, List, [], ◌∷◌, length, slice_index}
 use Rattle.fol_core.specs.Fol.{Fol}
-use Rattle.fol_core.specs.Stated.{Said, IsCountermodel, AreNewTo}
+use Rattle.fol_problem.specs.Stated.{Said, IsCountermodel, AreNewTo}
 use Rattle.fol_core.specs.Truth.{Assignment, with_var, Holds}
 use Rattle.fol_core.specs.SkolemAxioms.{SkolemAxiom, PicksWitnesses, AreNotIn, IsApart, AreInOrder}
 use Rattle.fol_core.specs.declared.symbols.Kind.TheVariants.{Function}

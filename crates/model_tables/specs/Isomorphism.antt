@@ -3,7 +3,7 @@ use Rattle.std.specs.Prelude.{ℕ, ◌≡◌, ◌<◌, IsTrue, List, length, map
 use Rattle.std.specs.List.{list_any}
 use Rattle.fol_core.specs.Fol.{Fol}
 use Rattle.fol_core.specs.Occurs.{names}
-use Rattle.fol_core.specs.Stated.{Stated}
+use Rattle.fol_problem.specs.Stated.{Stated}
 use Rattle.fol_core.specs.SymbolTable.{arity_at, kind_at}
 use Rattle.fol_core.specs.declared.symbols.Kind.{Kind}
 use Rattle.fol_core.specs.declared.symbols.Kind.TheVariants.{Function, Relation}

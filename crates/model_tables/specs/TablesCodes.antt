@@ -1,7 +1,7 @@
 -- How the logic stores tables.
 use Rattle.std.specs.Prelude.{ℕ, List, refl}
 use Rattle.std.specs.Coded.{Coded, code_by, coded×, coded_ℕ, coded_list}
-use Rattle.fol_core.specs.StatedCodes.{coded_kind}
+use Rattle.fol_problem.specs.StatedCodes.{coded_kind}
 use Rattle.fol_core.specs.declared.symbols.Kind.{Kind}
 use Rattle.model_tables.specs.Tables.{Listing, Finite, listing}
 

@@ -1,11 +1,11 @@
 -- Tables worked out.
 use Rattle.std.specs.Prelude.{ℕ, ◌==◌, if◌then◌else◌, List, [], ◌∷◌, ◌++◌, codes}
 use Rattle.fol_core.specs.Fol.{equal, atom, negation, conjunction, forall, exists}
-use Rattle.fol_core.specs.Stated.{Stated, said, stated}
+use Rattle.fol_problem.specs.Stated.{Stated, said, stated}
 use Rattle.fol_core.specs.SymbolTable.{Symbol, symbol}
 use Rattle.fol_core.specs.Tree.{Tree, var, elem, app, none, more}
 use Rattle.fol_core.specs.SkolemAxioms.{SkolemAxiom}
-use Rattle.fol_core.specs.declared.problem.Role.TheVariants.{Assumption, Goal}
+use Rattle.fol_problem.specs.declared.problem.Role.TheVariants.{Assumption, Goal}
 use Rattle.fol_core.specs.declared.symbols.Kind.TheVariants.{Function, Relation}
 use Rattle.model_tables.specs.Tables.{Listing, Finite, listing}
 

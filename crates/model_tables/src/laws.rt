@@ -1,6 +1,6 @@
 // Laws of tables: the functions do nothing, and their contracts are the laws.
 ghost use Rattle.std.specs.Prelude.{ℕ, ◌≡◌, [], ◌∷◌};
-ghost use Rattle.fol_core.specs.Stated.{Stated, IsCountermodel};
+ghost use Rattle.fol_problem.specs.Stated.{Stated, IsCountermodel};
 ghost use Rattle.fol_core.specs.declared.symbols.Kind.TheVariants.{Function};
 ghost use Rattle.model_tables.specs.Expansion.{IsExpansion, OneExpansion, ExpansionPicks, ExpansionKeeps, ExpansionSays};
 ghost use Rattle.model_tables.specs.ModelText.{model_text};

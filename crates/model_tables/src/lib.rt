@@ -1,4 +1,13 @@
 // Finite interpretations given by tables, and truth in them.
+// `tables.rt` has an interpretation by a list of values for each symbol number, `env.rt` the elements that variables
+// have, `evaluate.rt` finds values and truth. `closures.rt` tells the truth of a closure: it steps through the elements
+// of the free variables in a loop, so that many variables take no stack, and it takes no memory, given the room that
+// `room.rt` makes. `sizes.rt` has the size that a problem needs and what values are below, `limits.rt` the limits;
+// `text.rt` makes the text of an interpretation.
+// The values of Skolem symbols (`specs/Expansion`) and the order of the tables of a size (`specs/Order`) are
+// definitions alone, which the laws of the search for models rest on. `laws.rt` states what holds of the text, of
+// renamings (`specs/Isomorphism`) and of the values of Skolem symbols, and has tables worked out.
+// What is used above: the truth of a closure in tables, told without memory; the laws of least witnesses; the text.
 #![tactic(auto)]
 
 mod closures;

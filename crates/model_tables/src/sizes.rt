@@ -1,10 +1,11 @@
 // The size that a problem needs, and what values are below.
 ghost use Rattle.std.specs.Prelude.{◌≡◌};
 ghost use Rattle.fol_core.specs.Occurs.{size_needed};
-ghost use Rattle.fol_core.specs.Stated.{stated_of};
+ghost use Rattle.fol_problem.specs.Stated.{stated_of};
 ghost use Rattle.model_tables.specs.Size.{bound_of, formulas_of};
 
-use fol_core::{Kind, Problem, above_numerals};
+use fol_core::{Kind, above_numerals};
+use fol_problem::Problem;
 
 /// The least size that has each element that the formulas name.
 pub fn size_needed(problem: &Problem) -> u64

@@ -10,16 +10,16 @@ use Rattle.fol_core.specs.Bound.{uses_symbol}
 use Rattle.fol_core.specs.FormulaView.{fol_of}
 use Rattle.fol_core.specs.Occurs.{occurs_in}
 use Rattle.fol_core.specs.SkolemAxioms.{SkolemAxiom}
-use Rattle.fol_core.specs.Stated.{all_said}
+use Rattle.fol_problem.specs.Stated.{all_said}
 use Rattle.fol_core.specs.SymbolTable.{Symbol, is_same_kind, KeepsNumbers}
-use Rattle.fol_core.specs.declared.problem.Input.{Input}
-use Rattle.fol_core.specs.declared.problem.Role.{Role}
+use Rattle.fol_problem.specs.declared.problem.Input.{Input}
+use Rattle.fol_problem.specs.declared.problem.Role.{Role}
 use Rattle.fol_core.specs.declared.symbols.Kind.TheVariants.{Relation}
 use Rattle.fol_core.proofs.Places.{slice_get_more}
 use Rattle.ladr_problem.specs.Sofar.{Listed, input_of}
 use Rattle.proof_lines.specs.Strays.{has_name, is_skolem_name, is_stray_relation}
 use Rattle.proof_print.specs.Names.{IsSkolemSymbol}
-use Rattle.proof_symbols.specs.Tables.{AllStandIn}
+use Rattle.derivation_laws.specs.Tables.{AllStandIn}
 use Rattle.printed_proofs.proofs.LinesBehind.{all_fail}
 
 -- what holds of each formula of a file holds of each input

@@ -13,9 +13,9 @@ use Rattle.fol_core.specs.FormulaView.{fol_of}
 use Rattle.fol_core.specs.Literals.{equality}
 use Rattle.fol_core.specs.RawTree.{RawTree, depth}
 use Rattle.fol_core.specs.SkolemAxioms.{SkolemAxiom}
-use Rattle.fol_core.specs.Stated.{Stated, stated_of}
+use Rattle.fol_problem.specs.Stated.{Stated, stated_of}
 use Rattle.fol_core.specs.SymbolTable.{Symbol, symbol, FindsEach, KeepsNumbers}
-use Rattle.fol_core.specs.declared.problem.Input.{Input}
+use Rattle.fol_problem.specs.declared.problem.Input.{Input}
 use Rattle.fol_core.specs.declared.symbols.Kind.TheVariants.{Function}
 use Rattle.ladr_formulas.specs.Formulas.{unread, formula_reading, style_of}
 use Rattle.ladr_formulas.specs.declared.styles.Mode.TheVariants.{Prover}
@@ -48,7 +48,7 @@ use Rattle.proof_print.specs.Names.{AreOfClauses}
 use Rattle.proof_print.specs.Rereadable.{IsReadableSymbol, AreReadable}
 use Rattle.proof_print.proofs.FormulaShown.{formula_has, formula_reads}
 use Rattle.proof_print.proofs.Skolems.{skolem_readable, formula_readable}
-use Rattle.proof_symbols.specs.Tables.{AllStandIn}
+use Rattle.derivation_laws.specs.Tables.{AllStandIn}
 
 -- a formula of a term of at most 500 levels is printed with as many
 shallow_of : (l : Listed) (T : List Symbol) → IsOfTerm l → is_too_deep true (formula_term T l.formula l.names l.label) ≡ false

@@ -1,8 +1,14 @@
+pub mod Accepting
+pub mod BoundedLists
 pub mod Depths
 pub mod FileSymbols
 pub mod FileTexts
+pub mod InLine
 pub mod LinesBehind
 pub mod Origins
 pub mod OwnLines
+pub mod PrintedBlocks
 pub mod Printing
+pub mod ReadingBehind
+pub mod Variables
 pub mod WorkedOut

@@ -28,14 +28,14 @@ use Rattle.proof_lines.specs.Faults.{IsLineRead}
 use Rattle.proof_lines.specs.Stated.{line_made, is_unfit, IsContentOf}
 use Rattle.proof_lines.specs.Strays.{is_stray_relation, brings_stray}
 use Rattle.proof_lines.specs.declared.line.LineRead.{LineRead}
-use Rattle.proof_symbols.specs.Moved.{Moving, moved_clause, moved_literal, moved_term, moved_formula}
-use Rattle.proof_symbols.specs.Tables.{IsWithinTable, LeadsTo}
-use Rattle.proof_symbols.proofs.MovedTables.{formula_stays}
+use Rattle.derivation_laws.specs.Moved.{Moving, moved_clause, moved_literal, moved_term, moved_formula}
+use Rattle.derivation_laws.specs.Tables.{IsWithinTable, LeadsTo}
+use Rattle.derivation_laws.proofs.MovedTables.{formula_stays}
 use Rattle.proof_text.specs.Blocks.{TextBlock}
 use Rattle.proof_text.specs.Proofs.{Reader, HasLines, no_line, further_line, HasProofs, no_block, further_block}
 use Rattle.proof_words.specs.Written.{states_formula}
-use Rattle.read_symbols.specs.ReadBehind.{behind, IsReadBehind}
-use Rattle.read_symbols.proofs.Reading.{between, read_behind}
+use Rattle.printed_proofs.specs.ReadBehind.{behind, IsReadBehind}
+use Rattle.printed_proofs.proofs.ReadingBehind.{between, read_behind}
 
 -- a clause is read of a moved formula, moved
 module _ (to : Moving) (x : to equality ≡ equality) where

@@ -10,7 +10,7 @@ use Rattle.fol_core.specs.Bound.{HasSymbolsBelow}
 use Rattle.fol_core.specs.Fol.{Fol}
 use Rattle.fol_core.specs.FormulaView.{fol_of}
 use Rattle.fol_core.specs.Literals.{ClauseTree}
-use Rattle.fol_core.specs.Stated.{Said, AreWellFormed}
+use Rattle.fol_problem.specs.Stated.{Said, AreWellFormed}
 
 -- a formula has symbols with numbers below this one alone
 abbrev TreeIsOwn : ℕ → ContentTree → Type 0

@@ -11,7 +11,7 @@ use Rattle.derivation.specs.declared.line.Content.TheVariants.{Formula, Clause}
 use Rattle.derivation.specs.declared.line.Derivation.{Derivation}
 use Rattle.derivation.specs.declared.line.Line.{Line}
 use Rattle.fol_core.specs.FormulaView.{fol_of}
-use Rattle.fol_core.specs.Stated.{Stated, said, stated, stated_of, all_said, AreWellFormed}
+use Rattle.fol_problem.specs.Stated.{Stated, said, stated, stated_of, all_said, AreWellFormed}
 use Rattle.fol_core.specs.SymbolTable.{Symbol, FindsEach, KeepsNumbers}
 use Rattle.ladr_formulas.specs.declared.styles.Mode.{Mode}
 use Rattle.ladr_formulas.specs.declared.styles.Mode.TheVariants.{Prover}
@@ -25,16 +25,16 @@ use Rattle.ladr_problem.specs.declared.read.FileRead.{FileRead}
 use Rattle.printed_proofs.specs.Refutations.{content_with, line_with, lines_with, AreAllRefuting, lines_printed, HaveCountedLines, ArePrintableRefutations, whole_text, lines_had, ReadsRefutations}
 use Rattle.printed_proofs.proofs.LinesBehind.{Part, proofs_behind, below}
 use Rattle.printed_proofs.proofs.OwnLines.{IsOwn, AreOwn, AllAreOwn, lines_own}
-use Rattle.proof_laws.specs.Printed.{PrintedProof, HoldsNoProof, proofs_text}
-use Rattle.proof_laws.proofs.PrintedBlocks.{framed, proofs_read}
+use Rattle.printed_proofs.specs.Printed.{PrintedProof, HoldsNoProof, proofs_text}
+use Rattle.printed_proofs.proofs.PrintedBlocks.{framed, proofs_read}
 use Rattle.proof_lines.specs.ContentTokens.{LineTables, line_tables}
 use Rattle.proof_lines.specs.Strays.{is_stray_relation}
 use Rattle.proof_print.specs.LineTexts.{frame_text}
 use Rattle.proof_print.specs.Names.{AreOfClauses}
 use Rattle.proof_print.specs.Reread.{row_tables}
-use Rattle.proof_symbols.specs.Moved.{Moving, moved_content, moved_lines}
-use Rattle.proof_symbols.specs.Tables.{IsTableOf, KeepsRefutations}
-use Rattle.proof_symbols.proofs.MovedTables.{formula_stays, refutation_read}
+use Rattle.derivation_laws.specs.Moved.{Moving, moved_content, moved_lines}
+use Rattle.derivation_laws.specs.Tables.{IsTableOf, KeepsRefutations}
+use Rattle.derivation_laws.proofs.MovedTables.{formula_stays, refutation_read}
 use Rattle.proof_text.specs.Proofs.{Reader, HasProofs}
 use Rattle.proof_text.specs.Refused.{reader_of}
 use Rattle.proof_text.specs.declared.text.ProofRead.{ProofRead}

@@ -13,10 +13,10 @@ use Rattle.derivation.specs.View.{later_of}
 use Rattle.derivation.specs.declared.words.Later.{Later}
 use Rattle.fol_core.specs.Fol.{Fol, atom}
 use Rattle.fol_core.specs.Literals.{literal}
-use Rattle.fol_core.specs.Stated.{said}
+use Rattle.fol_problem.specs.Stated.{said}
 use Rattle.fol_core.specs.SymbolTable.{Symbol, symbol}
 use Rattle.fol_core.specs.Tree.{app, none, more, var}
-use Rattle.fol_core.specs.declared.problem.Role.TheVariants.{Assumption, Goal}
+use Rattle.fol_problem.specs.declared.problem.Role.TheVariants.{Assumption, Goal}
 use Rattle.fol_core.specs.declared.symbols.Kind.TheVariants.{Function, Relation}
 use Rattle.fol_core.specs.SymbolTable.{number_of, FindsEach}
 use Rattle.derivation.specs.declared.line.Content.{Content}

@@ -4,9 +4,9 @@ use Rattle.clausify.specs.Input.{is_used, with_skolems, axioms_in_table}
 use Rattle.derivation.specs.declared.line.Content.TheVariants.{Formula}
 use Rattle.fol_core.specs.Literals.{ClauseTree, equality}
 use Rattle.fol_core.specs.Renumbered.{clause_variables, renumbered}
-use Rattle.fol_core.specs.Stated.{stated_of}
+use Rattle.fol_problem.specs.Stated.{stated_of}
 use Rattle.fol_core.specs.SymbolTable.{Symbol}
-use Rattle.fol_core.specs.declared.problem.Input.{Input}
+use Rattle.fol_problem.specs.declared.problem.Input.{Input}
 use Rattle.ladr_formulas.specs.Formulas.{style_of}
 use Rattle.ladr_formulas.specs.declared.styles.Mode.TheVariants.{Prover}
 use Rattle.ladr_lex.specs.Operators.{OperatorRow}

@@ -7,17 +7,17 @@ use Rattle.derivation.specs.View.{lines_of}
 use Rattle.derivation.specs.declared.line.Content.{Content}
 use Rattle.derivation.specs.declared.line.Content.TheVariants.{Formula, Clause}
 use Rattle.derivation.specs.declared.line.Line.{Line}
-use Rattle.fol_core.specs.Stated.{Stated, stated_of}
+use Rattle.fol_problem.specs.Stated.{Stated, stated_of}
 use Rattle.fol_core.specs.SymbolTable.{Symbol, KeepsNumbers}
 use Rattle.ladr_lex.specs.Operators.{OperatorRow, are_lawful}
 use Rattle.ladr_problem.specs.declared.read.FileRead.{FileRead}
-use Rattle.proof_laws.specs.Printed.{PrintedProof, ArePrintableProofs, proofs_text}
+use Rattle.printed_proofs.specs.Printed.{PrintedProof, ArePrintableProofs, proofs_text}
 use Rattle.proof_lines.specs.Strays.{is_stray_relation}
 use Rattle.proof_print.specs.LineTexts.{frame_text}
 use Rattle.proof_print.specs.Names.{AreOfClauses}
 use Rattle.proof_print.specs.Reread.{CanPrint, row_tables}
-use Rattle.proof_symbols.specs.Moved.{Moving, moved_clause}
-use Rattle.proof_symbols.specs.Tables.{HasSkolems, LeadsTo}
+use Rattle.derivation_laws.specs.Moved.{Moving, moved_clause}
+use Rattle.derivation_laws.specs.Tables.{HasSkolems, LeadsTo}
 use Rattle.proof_text.specs.Refused.{IsProofRead}
 use Rattle.proof_text.specs.declared.text.ProofRead.{ProofRead}
 

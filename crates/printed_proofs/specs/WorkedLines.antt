@@ -12,11 +12,11 @@ use Rattle.derivation.specs.declared.words.First.TheVariants as words
 use Rattle.derivation.specs.declared.words.Later.{Later}
 use Rattle.fol_core.specs.Fol.{atom}
 use Rattle.fol_core.specs.Literals.{literal}
-use Rattle.fol_core.specs.Stated.{Stated, said, stated}
+use Rattle.fol_problem.specs.Stated.{Stated, said, stated}
 use Rattle.fol_core.specs.SymbolTable.{Symbol, symbol}
 use Rattle.fol_core.specs.Tree.{Tree, app, none, more}
 use Rattle.fol_core.specs.declared.formula.Shape.TheVariants.{Atom}
-use Rattle.fol_core.specs.declared.problem.Role.TheVariants.{Assumption, Goal}
+use Rattle.fol_problem.specs.declared.problem.Role.TheVariants.{Assumption, Goal}
 use Rattle.fol_core.specs.declared.symbols.Kind.TheVariants.{Function, Relation}
 use Rattle.ladr_lex.specs.Operators.{standard_rows}
 use Rattle.proof_lines.specs.WorkedLines.{worked_tables}

@@ -6,8 +6,8 @@ use Rattle.clause_limits.proofs.Numbered.{numbered_size, numbered_depth}
 use Rattle.derivation.specs.Lines.{ContentTree, formula, clause, IsClause}
 use Rattle.fol_core.specs.Literals.{ClauseTree}
 use Rattle.fol_core.specs.Renumbered.{renumbered}
+use Rattle.fol_core.specs.Sizes.{saturated}
 use Rattle.proof_check.specs.Bounds.{is_beyond, is_as_large, is_as_deep, may_be}
-use Rattle.term_classes.specs.Measures.{saturated}
 
 pub too_deep : (c : ClauseTree) (d : ℕ) → d ≡ saturated (clause_depth c) → 4000 < d → is_beyond c ≡ true
 too_deep c d is lt = ap (λ b. b || nat_lt 16777216 (clause_size c)) (lt-ltb 4000 (clause_depth c) (omega (arith, is, lt)))

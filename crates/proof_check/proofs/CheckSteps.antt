@@ -1,7 +1,7 @@
 -- The lines of a proof, one after the other.
 use Rattle.std.proofs.Common.{◌≡◌, inl, inr, ℕ, zero, suc, ◌+◌, ◌-◌, ◌<◌, true, false, List, [], ◌∷◌, ◌++◌, length, get_or, drop, take, Option, Some, None, refl, sym, ap, ◌∙◌, subst, arith, add-one, drop-cons}
 use Rattle.std.proofs.lemmas.List.{drop_all, take_more}
-use Rattle.fol_core.specs.Stated.{Said}
+use Rattle.fol_problem.specs.Stated.{Said}
 use Rattle.derivation.specs.Lines.{LineTree, InputRow, AreLines, ends_empty, is_empty_clause, IsRefutation}
 use Rattle.derivation.specs.Refused.{IsRefusedLine, IsAccepted, HasFault, IsFault}
 use Rattle.derivation.specs.View.{line_tree, lines_of}

@@ -9,11 +9,9 @@ mod FitSteps
 mod FollowSteps
 mod InferSteps
 mod JudgeSteps
-mod Leaving
 mod LendSteps
 mod PlaceSteps
 mod PutSteps
-mod RowAtoms
 mod RuleSteps
 mod SameSteps
 pub mod Shallow

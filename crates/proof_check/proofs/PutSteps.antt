@@ -2,11 +2,11 @@
 use Rattle.std.proofs.Common.{◌≡◌, ℕ, ◌+◌, ◌<◌, ◌≤◌, List, length, get_or, drop, ap, arith}
 use Rattle.std.proofs.lemmas.List.{drop_all}
 use Rattle.clause_limits.proofs.Measures.{next_item}
+use Rattle.fol_core.specs.Sizes.{size_of, sizes_of}
 use Rattle.fol_core.specs.Substitutions.{Substitution, substitute, substitute_all}
 use Rattle.fol_core.specs.TermView.{tree_of, tree_list}
 use Rattle.fol_core.specs.Tree.{Tree, var, elem, app, trees_of}
 use Rattle.fol_core.specs.declared.term.Term.{Term}
-use Rattle.term_bank.specs.Bank.{size_of, sizes_of}
 
 abbrev pub sizes_from : Substitution → List Term → ℕ → ℕ
 sizes_from s ts i = sizes_of (substitute_all s (trees_of (tree_list (drop i ts))))

@@ -7,13 +7,13 @@ use Rattle.std.proofs.lemmas.List.Sums.{sum_by_push}
 use Rattle.clause_limits.specs.Sizes.{clause_size}
 use Rattle.clause_limits.proofs.Measures.{next_item}
 use Rattle.fol_core.specs.ClauseView.{literal_of}
+use Rattle.fol_core.specs.Sizes.{depth_of, saturated}
 use Rattle.fol_core.specs.Substitutions.{Substitution, substitute}
 use Rattle.fol_core.specs.TermView.{tree_of}
 use Rattle.fol_core.specs.declared.clause.Literal.{Literal}
 use Rattle.fol_core.specs.Literals.{ClauseTree}
 use Rattle.proof_check.specs.Lent.{AllShallow, EachShallow, lent_clauses}
 use Rattle.substitutions.specs.Apart.{Own}
-use Rattle.term_classes.specs.Measures.{depth_of, saturated}
 
 -- those from a place on
 abbrev pub ShallowFrom : Substitution → List Literal → ℕ → Type 0

@@ -4,8 +4,8 @@ use Rattle.std.proofs.lemmas.Bool.{ne_eqb}
 use Rattle.std.proofs.lemmas.List.{drop_all}
 use Rattle.fol_core.specs.Fol.{Fol}
 use Rattle.fol_core.specs.Literals.{ClauseTree}
-use Rattle.fol_core.specs.Stated.{Said, said_of, all_said}
-use Rattle.fol_core.specs.declared.problem.Input.{Input}
+use Rattle.fol_problem.specs.Stated.{Said, said_of, all_said}
+use Rattle.fol_problem.specs.declared.problem.Input.{Input}
 use Rattle.derivation.specs.Lines.{LineTree, line_at, formula, clause, assumed, wanted, IsInputOf, is_goal, IsSaid, IsAmongSaid, said_at, InputRow, ContentTree, IsClause, IsRowOf, IsInput}
 
 pub said_same : (goal : Bool) (f : Fol) (s : Said) → is_goal s.role ≡ goal → s.formula ≡ f → IsSaid goal f s

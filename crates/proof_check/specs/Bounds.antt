@@ -3,7 +3,7 @@ use Rattle.std.specs.Prelude.{Bool, false, nat_lt, nat_le, ◌==◌, ◌&&◌, �
 use Rattle.clause_limits.specs.Sizes.{clause_size, clause_depth}
 use Rattle.derivation.specs.Lines.{ContentTree, formula, clause}
 use Rattle.fol_core.specs.Literals.{ClauseTree}
-use Rattle.term_classes.specs.Measures.{saturated}
+use Rattle.fol_core.specs.Sizes.{saturated}
 
 -- more levels than 4,000, or more symbols and variables than 2^24
 abbrev pub is_beyond : ClauseTree → Bool

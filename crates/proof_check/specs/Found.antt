@@ -2,7 +2,7 @@
 use Rattle.std.specs.Prelude.{ℕ, ◌≡◌, Bool, false, ◌⊎◌, List, [], Option, MatchOption}
 use Rattle.std.specs.List.{flat_map}
 use Rattle.fol_core.specs.Literals.{ClauseTree}
-use Rattle.fol_core.specs.Stated.{Said}
+use Rattle.fol_problem.specs.Stated.{Said}
 use Rattle.derivation.specs.Later.{LaterWord, later_parents}
 use Rattle.derivation.specs.Lines.{FirstWord, ContentTree, LineTree, InputRow, After, IsInferred, IsStated, IsInputOf, IsLine}
 use Rattle.derivation.specs.Refused.{Fails, are_there, InferenceFails, StatedFails, InputFails, LineFails, IsRefusedLine, IsAccepted}

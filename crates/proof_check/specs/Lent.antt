@@ -1,5 +1,6 @@
 -- Clauses under a unifier of these renamed apart, whose variables are renamed as they are looked at.
 use Rattle.fol_core.specs.Literals.{ClauseTree}
+use Rattle.fol_core.specs.Sizes.{depth_of}
 use Rattle.fol_core.specs.Substitutions.{Substitution, substitute}
 use Rattle.fol_core.specs.Tree.{Tree, Trees, none, more}
 use Rattle.substitutions.specs.Apart.{Own, interleaved, instances}
@@ -9,7 +10,6 @@ use Rattle.std.specs.Borrow.{Bor}
 use Rattle.std.specs.List.{sum_by}
 use Rattle.std.specs.Prelude.{ℕ, suc, ◌≤◌, ◌⊎◌, List, [], ◌∷◌, length, map}
 use Rattle.clause_limits.specs.Sizes.{clause_size}
-use Rattle.term_classes.specs.Measures.{depth_of}
 use Rattle.derivation.specs.Equations.{term_below}
 use Rattle.derivation.specs.Places.{atom_at}
 use Rattle.derivation.specs.Words.{Clash, side_of, para_rest, clash_rest}

@@ -1,6 +1,6 @@
 -- How far lines are read.
 use Rattle.std.specs.Prelude.{ℕ, ◌≡◌, ◌<◌, ◌≤◌, ◌-◌, false, Bool, List, [], ◌∷◌, take, drop, slice_index_or, Some, None}
-use Rattle.fol_core.specs.Stated.{Said}
+use Rattle.fol_problem.specs.Stated.{Said}
 use Rattle.derivation.specs.Lines.{LineTree, InputRow, AreLines, ends_empty, is_empty_clause}
 use Rattle.derivation.specs.Refused.{HasFault, IsFault}
 use Rattle.derivation.specs.View.{line_tree, lines_of}

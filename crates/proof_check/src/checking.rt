@@ -1,17 +1,16 @@
 // The lines of a proof, one after the other.
 ghost use Rattle.std.specs.Prelude.{◌≡◌, ◌<◌, ℕ, Err, OnOk, length};
-ghost use Rattle.fol_core.specs.Stated.{all_said, stated_of};
+ghost use Rattle.fol_problem.specs.Stated.{all_said};
 ghost use Rattle.derivation.specs.Lines.{is_empty_clause, IsRefutation};
 ghost use Rattle.derivation.specs.Refused.{IsFault};
 ghost use Rattle.derivation.specs.View.{content_of, lines_of};
-ghost use Rattle.proof_check.specs.Laws.{LeaveNone};
 ghost use Rattle.proof_check.specs.Reached.{Going};
 
 use crate::error::CheckError;
-use crate::laws::no_countermodel;
 use crate::line::judge_line;
 use derivation::{Content, Line, fault_is_one};
-use fol_core::{Clause, Clauses, Input, Problem};
+use fol_core::{Clause, Clauses};
+use fol_problem::{Input, Problem};
 use std::alloc::Global;
 
 // Whether a content is the empty clause.
@@ -90,8 +89,7 @@ fn check_lines(
     }
 }
 
-/// Whether lines are a refutation of a problem with these clauses; else the first bad line and its row. What a
-/// refutation shows holds in every interpretation.
+/// Whether lines are a refutation of a problem with these clauses; else the first bad line and its row.
 pub fn check(
     alloc: Global,
     problem: &Problem,
@@ -106,11 +104,7 @@ pub fn check(
     ensures exact { (line row : ℕ) → result ≡ Err (CheckError.NotAccepted line row)
         → ¬ IsRefutation (all_said problem.now.inputs.items) clauses.now.clauses.items
         (lines_of lines.now) }
-    // What is accepted leaves no countermodel of the problem that picks witnesses, where these are its clauses.
-    ensures sound { OnOk result (LeaveNone (stated_of problem.now) clauses.now.clauses.items
-        (lines_of lines.now)) }
 {
     fault_is_one();
-    no_countermodel();
     check_lines(alloc, problem, clauses, lines)
 }

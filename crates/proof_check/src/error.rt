@@ -6,7 +6,7 @@ use std::alloc::AllocError;
 use thiserror::Error;
 
 /// The line at fault with its row, or want of memory. Without lines the fault is row 1 of line 0.
-#[derive(Clone, Copy, Debug, PartialEq, Eq, Error)]
+#[derive(Clone, Copy, Debug, Error)]
 pub enum CheckError {
     #[error("not accepted, line {line}, cause {row}")]
     NotAccepted { line: u64, row: u64 },

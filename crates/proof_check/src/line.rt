@@ -1,6 +1,6 @@
 // Whether a line is one of a derivation, behind earlier ones.
 ghost use Rattle.std.specs.Prelude.{◌↔◌, IsTrue, IfOk, map};
-ghost use Rattle.fol_core.specs.Stated.{all_said};
+ghost use Rattle.fol_problem.specs.Stated.{all_said};
 ghost use Rattle.derivation.specs.Lines.{IsAbove};
 ghost use Rattle.derivation.specs.View.{first_word_of, later_of, content_of, line_tree, lines_of};
 ghost use Rattle.proof_check.specs.Found.{StatedAs, InputAs, LineAs, FoundAs};
@@ -9,7 +9,8 @@ ghost use Rattle.proof_check.specs.Reached.{AreRising};
 use crate::inferring::infer;
 use crate::stating::{is_formula_at, is_input_of, is_stated};
 use derivation::{First, Line};
-use fol_core::{Clause, Input};
+use fol_core::Clause;
+use fol_problem::Input;
 use std::alloc::{AllocError, Global};
 
 // A line that names a formula.

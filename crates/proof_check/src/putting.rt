@@ -1,9 +1,9 @@
 // Terms with terms put in for their variables: counted before they are built.
 ghost use Rattle.std.specs.Prelude.{◌≡◌, ◌<◌, ◌+◌, MatchOption, IfOk};
+ghost use Rattle.fol_core.specs.Sizes.{size_of};
 ghost use Rattle.fol_core.specs.Substitutions.{substitute};
 ghost use Rattle.fol_core.specs.TermView.{tree_of};
 ghost use Rattle.substitutions.specs.Bindings.{by_bindings};
-ghost use Rattle.term_bank.specs.Bank.{size_of};
 
 use crate::bounds::MOST_SYMBOLS;
 use clause_limits::left_behind;

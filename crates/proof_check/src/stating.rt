@@ -2,7 +2,7 @@
 ghost use Rattle.std.specs.Prelude.{◌≡◌, ◌↔◌, IsTrue, IfOk, if◌then◌else◌};
 ghost use Rattle.std.specs.Option.{option_map};
 ghost use Rattle.fol_core.specs.FormulaView.{fol_of};
-ghost use Rattle.fol_core.specs.Stated.{all_said, said_of};
+ghost use Rattle.fol_problem.specs.Stated.{all_said, said_of};
 ghost use Rattle.derivation.specs.Lines.{assumed, wanted, is_goal, IsSaid, IsAmongSaid, IsStated, said_at, IsRowOf, IsInput, is_formula_at, IsInputOf};
 ghost use Rattle.derivation.specs.View.{first_word_of, content_of, lines_of};
 ghost use Rattle.proof_check.specs.Reached.{AreRising};
@@ -11,7 +11,8 @@ use crate::earlier::line_at;
 use crate::inferring::is_clause;
 use crate::sameness::same_shape;
 use derivation::{Content, First, Line};
-use fol_core::{Clause, Input, Role, Shape};
+use fol_core::{Clause, Shape};
+use fol_problem::{Input, Role};
 use std::alloc::{AllocError, Global};
 
 fn is_goal(role: Role) -> bool

@@ -1,10 +1,10 @@
 // Terms of parents under a unifier of these renamed apart: variables are renamed as they are looked at.
 ghost use Rattle.std.specs.Prelude.{◌≡◌, IfOk};
+ghost use Rattle.fol_core.specs.Sizes.{depth_of, saturated, size_of};
 ghost use Rattle.fol_core.specs.Substitutions.{substitute};
 ghost use Rattle.fol_core.specs.TermView.{tree_of};
 ghost use Rattle.proof_check.specs.Lent.{own_among};
 ghost use Rattle.substitutions.specs.Bindings.{by_bindings};
-ghost use Rattle.term_classes.specs.Measures.{depth_of, saturated, size_of};
 
 use crate::apart::number_apart;
 use fol_core::{Term, Terms};

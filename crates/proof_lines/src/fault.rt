@@ -7,7 +7,7 @@ use std::alloc::AllocError;
 
 /// Why tokens begin with no line that can be taken: `Bad` has the number of the first bad token, which is that behind the last
 /// one where they end too early; the line's content is nested too deep; it is misused; or memory is lacking.
-#[derive(Clone, Copy, Debug, PartialEq, Eq)]
+#[derive(Clone, Copy)]
 pub enum LineFault {
     Bad(usize),
     Deep,

@@ -14,7 +14,8 @@ use crate::parts::{Behind, Parts, read_parts};
 use crate::stating::state;
 use crate::strays::ProblemNames;
 use derivation::Line;
-use fol_core::{Problem, Symbols};
+use fol_core::Symbols;
+use fol_problem::Problem;
 use ladr_lex::Token;
 use std::alloc::Global;
 

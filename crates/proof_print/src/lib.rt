@@ -1,4 +1,10 @@
 // The printed text of proofs: of a line's content, of lines, and of a proof with its head and banners.
+// `texts.rt` has `proof_bytes`, which makes a proof with its banners and its head, and `frame_text`, the problem's
+// bytes behind the line that counts them; `lines.rt` has the text of a line: its number, its content and its words.
+// `specs/LineTexts` says what the texts are, `specs/Rereadable` which symbols and clauses are read as themselves behind
+// a table, `specs/Formulas` which formulas, and `specs/Reread` what printed contents and lines are read as. `laws.rt`
+// states that the text is cut into tokens that are read as the lines, and that symbols of formulas and Skolem symbols
+// are readable in clauses.
 #![tactic(auto)]
 
 mod laws;

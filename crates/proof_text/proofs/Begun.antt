@@ -4,7 +4,7 @@ use Rattle.std.specs.List.{list_all}
 use Rattle.derivation.specs.declared.line.Derivation.{Derivation}
 use Rattle.derivation.specs.declared.line.Line.{Line}
 use Rattle.fol_core.specs.SymbolTable.{Symbol}
-use Rattle.fol_core.specs.declared.problem.Problem.{Problem}
+use Rattle.fol_problem.specs.declared.problem.Problem.{Problem}
 use Rattle.ladr_formulas.specs.Formulas.{style_of}
 use Rattle.ladr_formulas.specs.declared.styles.Mode.TheVariants.{Prover}
 use Rattle.ladr_problem.specs.declared.read.FileRead.{FileRead}

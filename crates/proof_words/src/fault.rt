@@ -5,7 +5,7 @@ ghost use Rattle.proof_words.specs.declared.fault.Halt.TheVariants.{Memory};
 use std::alloc::{AllocError, AllocFailed};
 
 /// The place of the first bad token among them (that behind the last one is the end); or memory is lacking.
-#[derive(Clone, Copy, Debug, PartialEq, Eq)]
+#[derive(Clone, Copy)]
 pub enum WordsFault {
     Bad(usize),
     Memory,

@@ -33,7 +33,7 @@ fn names_formula(name: FirstName) -> bool
 
 /// What the words of a line stand behind: a formula that is no clause, a clause that is no formula, or content that may be
 /// either.
-#[derive(Clone, Copy, Debug, PartialEq, Eq)]
+#[derive(Clone, Copy)]
 pub enum ContentKind {
     Formula,
     Clause,

@@ -2,7 +2,7 @@
 use Rattle.std.proofs.Common.{◌≡◌, ◌≤◌, ℕ, suc, ◌+◌, ◌-◌, sym, ap, subst, arith, Bool, true, Option, Some, None, is_some, if◌then◌else◌}
 use Rattle.std.specs.Prelude.{MatchOption}
 use Rattle.ladr_io.specs.Times.{Times, later}
-use Rattle.mace_search.specs.Watch.{IsLate}
+use Rattle.ladr_io.specs.Watch.{IsLate}
 use Rattle.prover.specs.Answers.{readings_first, ReadsOn}
 use Rattle.prover_steps.specs.Searching.{SearchState}
 use Rattle.search_clock.proofs.Clocks.{looked_on, unread}

@@ -4,7 +4,7 @@ use Rattle.std.specs.declared.alloc.AllocError.{AllocError}
 use Rattle.std.specs.declared.result.Result.{Result}
 use Rattle.std.specs.declared.result.Result.TheVariants.{Ok, Err}
 use Rattle.ladr_io.specs.Times.{Times}
-use Rattle.mace_search.specs.Watch.{IsLate}
+use Rattle.ladr_io.specs.Watch.{IsLate}
 use Rattle.prover.specs.declared.answer.Answer.{Answer}
 use Rattle.prover.specs.declared.answer.Answer.TheVariants.{Proof, Proofs, SosEmpty, MaxGiven, MaxKept, MaxMegs, MaxSeconds}
 use Rattle.prover.specs.declared.answer.Counters.{Counters}

@@ -6,7 +6,7 @@ ghost use Rattle.prover.specs.Answers.{answer_for, end_of};
 use given_clause::Reason;
 
 /// What a search for proofs comes to next.
-#[derive(Clone, Copy, Debug, PartialEq, Eq)]
+#[derive(Clone, Copy)]
 pub enum Answer {
     /// One more proof is found, whose last line has this number.
     Proof(u64),
@@ -25,7 +25,7 @@ pub enum Answer {
 }
 
 /// How many clauses were given, concluded, kept and too large, and how many proofs were found.
-#[derive(Clone, Copy, Debug, PartialEq, Eq)]
+#[derive(Clone, Copy)]
 pub struct Counters {
     pub given: u64,
     pub generated: u64,

@@ -7,7 +7,7 @@ use Rattle.clause_store.specs.Laws.{AncestorsStay}
 use Rattle.clause_store.specs.Lines.{PlainLine, plain_trees}
 use Rattle.derivation.specs.Lines.{InputRow, LineTree, line_at, clause_at, content_clause, IsDerivation}
 use Rattle.fol_core.specs.Literals.{ClauseTree}
-use Rattle.fol_core.specs.Stated.{Said}
+use Rattle.fol_problem.specs.Stated.{Said}
 use Rattle.prover_proofs.proofs.Saying.{state_lines_say}
 use Rattle.prover_proofs.specs.ProofLaws.{SayWhatIsSaid}
 use Rattle.prover_proofs.specs.SearchLines.{stated_lines, made_plain, lines_at}

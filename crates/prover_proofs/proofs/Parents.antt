@@ -9,8 +9,8 @@ use Rattle.clause_store.specs.Lines.{PlainLine, formula_line}
 use Rattle.clause_store.specs.Marks.{line_under_number, plain_parents, parents_at}
 use Rattle.clause_store.specs.Parents.{just_parents, steps_parents}
 use Rattle.derivation.specs.Lines.{FirstWord, InputRow, is_goal}
-use Rattle.fol_core.specs.Stated.{Said, all_said}
-use Rattle.fol_core.specs.declared.problem.Input.{Input}
+use Rattle.fol_problem.specs.Stated.{Said, all_said}
+use Rattle.fol_problem.specs.declared.problem.Input.{Input}
 use Rattle.held_clauses.specs.declared.made.MadeLine.{MadeLine}
 use Rattle.proof_words.specs.Written.{as_assumption, as_goal, by_clausify, by_deny, meant}
 use Rattle.prover_proofs.proofs.Placed.{all_of, formula_at, clause_at, made_at}

@@ -8,8 +8,8 @@ use Rattle.clause_store.specs.Lines.{PlainLine, plain_line, plain_tree, plain_tr
 use Rattle.clause_store.specs.Marks.{line_under_number, plain_parents, parents_at}
 use Rattle.derivation.specs.Lines.{InputRow, LineTree, line_at}
 use Rattle.derivation.specs.declared.line.Line.{Line}
-use Rattle.fol_core.specs.Stated.{Said, all_said}
-use Rattle.fol_core.specs.declared.problem.Input.{Input}
+use Rattle.fol_problem.specs.Stated.{Said, all_said}
+use Rattle.fol_problem.specs.declared.problem.Input.{Input}
 use Rattle.held_clauses.specs.declared.made.MadeLine.{MadeLine}
 use Rattle.prover_proofs.specs.SearchLines.{clausal_line, clausal_lines, stated_lines, numbered_line, numbered_lines, with_made}
 

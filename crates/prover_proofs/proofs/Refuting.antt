@@ -4,7 +4,7 @@ use Rattle.std.specs.List.{AllByRecursion}
 use Rattle.clause_store.specs.Laws.{AncestorsRefute}
 use Rattle.clause_store.specs.Lines.{PlainLine, plain_trees}
 use Rattle.derivation.specs.Lines.{InputRow, LineTree, clause_at, IsDerivation}
-use Rattle.fol_core.specs.Stated.{Said}
+use Rattle.fol_problem.specs.Stated.{Said}
 use Rattle.prover_proofs.proofs.Saying.{state_lines_say}
 use Rattle.prover_proofs.specs.ProofLaws.{IsProofOf, SoundProofsRefute, FoundProofsRefute}
 use Rattle.prover_proofs.specs.SearchLines.{stated_lines, lines_at}

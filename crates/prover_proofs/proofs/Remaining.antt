@@ -6,13 +6,13 @@ use Rattle.clause_store.specs.Lines.{plain_content, plain_line}
 use Rattle.derivation.specs.View.{line_tree}
 use Rattle.derivation.specs.declared.line.Line.{Line}
 use Rattle.fol_core.specs.ClauseView.{literal_of}
+use Rattle.fol_core.specs.Sizes.{size_of, sizes_of}
 use Rattle.fol_core.specs.TermView.{tree_of, tree_list}
 use Rattle.fol_core.specs.Tree.{trees_of}
 use Rattle.fol_core.specs.declared.clause.Literal.{Literal}
 use Rattle.fol_core.specs.declared.term.Term.{Term}
 use Rattle.prover_proofs.specs.Levels.{level_among, level_above, with_levels, content_size, greatest_size}
 use Rattle.prover_steps.specs.Searching.{clause_size}
-use Rattle.term_bank.specs.Bank.{size_of, sizes_of}
 
 left_next : {X : Type 0} (xs : List X) (i : ℕ) (x : X) → i < length xs → x ≡ get_or xs i x → drop i xs ≡ x ∷ drop (i + 1) xs
 left_next xs i x h is = rw (add-one, drop-cons xs i x) (ap (λ u. u ∷ drop (suc i) xs) (sym is))

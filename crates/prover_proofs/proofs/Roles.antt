@@ -3,9 +3,9 @@ use Rattle.std.proofs.Common.{◌≡◌, ℕ, zero, suc, ◌<◌, ◌≤◌, ◌
 use Rattle.std.proofs.lemmas.Bool.{ne_eqb, ltb-true, ltb-false}
 use Rattle.std.specs.Option.{option_map_or}
 use Rattle.derivation.specs.Lines.{said_at}
-use Rattle.fol_core.specs.Stated.{Said, said_of, all_said}
-use Rattle.fol_core.specs.declared.problem.Input.{Input}
-use Rattle.fol_core.specs.declared.problem.Role.TheVariants.{Assumption}
+use Rattle.fol_problem.specs.Stated.{Said, said_of, all_said}
+use Rattle.fol_problem.specs.declared.problem.Input.{Input}
+use Rattle.fol_problem.specs.declared.problem.Role.TheVariants.{Assumption}
 use Rattle.prover_proofs.specs.SearchLines.{role_at}
 
 none_said : (ss : List Said) → said_at ss 0 ≡ None

@@ -4,10 +4,10 @@ use Rattle.std.proofs.lemmas.List.{map-append, length-map}
 use Rattle.clause_store.specs.Lines.{plain_tree, plain_trees, formula_line, formula_lines, stating_word}
 use Rattle.derivation.specs.Lines.{FirstWord, assumed, wanted, clausified, denied, InputRow, LineTree, formula, clause, is_goal}
 use Rattle.fol_core.specs.FormulaView.{fol_of}
-use Rattle.fol_core.specs.Stated.{Said, said_of, all_said}
-use Rattle.fol_core.specs.declared.problem.Input.{Input}
-use Rattle.fol_core.specs.declared.problem.Role.{Role}
-use Rattle.fol_core.specs.declared.problem.Role.TheVariants.{Assumption, Usable, Demodulator, Goal}
+use Rattle.fol_problem.specs.Stated.{Said, said_of, all_said}
+use Rattle.fol_problem.specs.declared.problem.Input.{Input}
+use Rattle.fol_problem.specs.declared.problem.Role.{Role}
+use Rattle.fol_problem.specs.declared.problem.Role.TheVariants.{Assumption, Usable, Demodulator, Goal}
 use Rattle.proof_words.specs.Written.{by_clausify, by_deny, meant}
 use Rattle.prover_proofs.specs.ProofLaws.{FormulaLinesSay, StateLinesSay}
 use Rattle.prover_proofs.specs.SearchLines.{clausal_line, clausal_lines, made_plain}

@@ -4,8 +4,8 @@ use Rattle.std.specs.List.{AllByRecursion}
 use Rattle.clause_store.specs.Ancestors.{AreAncestors}
 use Rattle.clause_store.specs.Lines.{PlainLine, formula_lines, plain_trees}
 use Rattle.derivation.specs.Lines.{InputRow, IsRefutation}
-use Rattle.fol_core.specs.Stated.{Said, all_said}
-use Rattle.fol_core.specs.declared.problem.Input.{Input}
+use Rattle.fol_problem.specs.Stated.{Said, all_said}
+use Rattle.fol_problem.specs.declared.problem.Input.{Input}
 use Rattle.prover_proofs.specs.SearchLines.{stated_lines, lines_at}
 use Rattle.prover_steps.specs.SearchLaws.{all_lines, IsSoundState, KeepsVariables}
 use Rattle.prover_steps.specs.Searching.{Setting, FoundProof, SearchState, SearchReaches}

@@ -3,9 +3,9 @@ use Rattle.std.specs.Prelude.{ℕ, suc, if◌then◌else◌, length, List, [], �
 use Rattle.std.specs.Option.{option_map_or}
 use Rattle.clause_store.specs.Lines.{PlainLine, plain_clause, line_under, formula_lines}
 use Rattle.derivation.specs.Lines.{InputRow, is_goal, said_at}
-use Rattle.fol_core.specs.Stated.{Said, all_said}
-use Rattle.fol_core.specs.declared.problem.Role.{Role}
-use Rattle.fol_core.specs.declared.problem.Role.TheVariants.{Assumption}
+use Rattle.fol_problem.specs.Stated.{Said, all_said}
+use Rattle.fol_problem.specs.declared.problem.Role.{Role}
+use Rattle.fol_problem.specs.declared.problem.Role.TheVariants.{Assumption}
 use Rattle.held_clauses.specs.declared.made.MadeLine as made
 use Rattle.proof_words.specs.Written.{WrittenFirst, by_clausify, by_deny, written, written_of}
 use Rattle.prover_proofs.specs.declared.lines.SearchLines.{SearchLines}

@@ -9,7 +9,8 @@ use crate::measures::sum_of;
 use crate::written::{clausal_line, formula_line, numbered_line};
 use clause_store::add_parents;
 use derivation::Line;
-use fol_core::{Clause, Input};
+use fol_core::Clause;
+use fol_problem::Input;
 use held_clauses::MadeLine;
 use std::alloc::{AllocError, Global};
 

@@ -2,11 +2,11 @@
 ghost use Rattle.std.specs.Prelude.{ℕ, ◌≡◌, ◌+◌, ◌∷◌, ◌++◌, [], List, IfOk, OnOk, map};
 ghost use Rattle.clause_store.specs.Lines.{plain_content, plain_line};
 ghost use Rattle.derivation.specs.View.{lines_of};
+ghost use Rattle.fol_core.specs.Sizes.{size_of};
 ghost use Rattle.fol_core.specs.TermView.{tree_of};
 ghost use Rattle.prover_proofs.specs.KnownLevels.{AreLevels};
 ghost use Rattle.prover_proofs.specs.Levels.{level_among, level_above, level_in, content_size, greatest_size};
 ghost use Rattle.prover_steps.specs.Searching.{clause_size};
-ghost use Rattle.term_bank.specs.Bank.{size_of};
 
 use clause_store::add_parents;
 use derivation::{Content, Line};

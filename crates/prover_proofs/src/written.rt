@@ -1,13 +1,14 @@
 // The lines of formulas and of their clauses, and lines that were made.
 ghost use Rattle.std.specs.Prelude.{◌≡◌, IfOk};
 ghost use Rattle.clause_store.specs.Lines.{plain_line, formula_line, stating_word};
-ghost use Rattle.fol_core.specs.Stated.{all_said};
+ghost use Rattle.fol_problem.specs.Stated.{all_said};
 ghost use Rattle.proof_words.specs.Written.{written_first};
 ghost use Rattle.prover_proofs.specs.SearchLines.{role_at, clausal_word_at, clausal_line, numbered_line};
 
 use clause_store::{copy_just, copy_label};
 use derivation::{Content, First, Just, Line};
-use fol_core::{Clause, Input, Role};
+use fol_core::Clause;
+use fol_problem::{Input, Role};
 use held_clauses::MadeLine;
 use std::alloc::{AllocError, Global};
 

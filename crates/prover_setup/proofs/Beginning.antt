@@ -5,9 +5,9 @@ use Rattle.std.proofs.lemmas.List.{append-nil, length-take-le, map-append}
 use Rattle.std.specs.List.{AllByRecursion}
 use Rattle.derivation.specs.Lines.{InputRow}
 use Rattle.fol_core.specs.Literals.{ClauseTree}
-use Rattle.fol_core.specs.Stated.{Said}
-use Rattle.fol_core.specs.declared.problem.Role.{Role}
-use Rattle.fol_core.specs.declared.problem.Role.TheVariants.{Assumption, Usable, Demodulator, Goal}
+use Rattle.fol_problem.specs.Stated.{Said}
+use Rattle.fol_problem.specs.declared.problem.Role.{Role}
+use Rattle.fol_problem.specs.declared.problem.Role.TheVariants.{Assumption, Usable, Demodulator, Goal}
 use Rattle.prover_steps.specs.Clashing.{Held}
 use Rattle.prover_steps.specs.HeldOrder.{numbers_of}
 use Rattle.prover_steps.specs.Searching.{Queued}

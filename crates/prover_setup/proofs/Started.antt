@@ -1,7 +1,7 @@
 -- The state in which a search begins, by its parts.
 use Rattle.std.proofs.Common.{◌≡◌, ℕ, suc, ◌+◌, ap, ◌∙◌, List, [], length, None}
 use Rattle.derivation.specs.Lines.{InputRow}
-use Rattle.fol_core.specs.Stated.{Said}
+use Rattle.fol_problem.specs.Stated.{Said}
 use Rattle.prover_steps.specs.Clashing.{Held}
 use Rattle.prover_steps.specs.Searching.{FoundProof, MadeLine, Queued, SearchState}
 use Rattle.prover_steps.specs.Starting.{queued_inputs, rules_of, start_state}

@@ -4,11 +4,11 @@ use Rattle.clausify.specs.Input.{clauses_in_table, axioms_in_table, with_skolems
 use Rattle.derivation.specs.Lines.{InputRow}
 use Rattle.fol_core.specs.RuleView.{rule_of}
 use Rattle.fol_core.specs.SkolemAxioms.{SkolemAxiom}
-use Rattle.fol_core.specs.Stated.{Stated, stated_of}
+use Rattle.fol_problem.specs.Stated.{Stated, stated_of}
 use Rattle.fol_core.specs.SymbolTable.{Symbol}
 use Rattle.fol_core.specs.Tree.{Tree}
 use Rattle.fol_core.specs.Weights.{Rule}
-use Rattle.fol_core.specs.declared.problem.Problem.{Problem}
+use Rattle.fol_problem.specs.declared.problem.Problem.{Problem}
 use Rattle.held_clauses.specs.Order.{greater_by}
 use Rattle.ladr_options.specs.declared.options.Options.{Options}
 use Rattle.prover_steps.specs.Conclusions.{RulesInForce, rules_in_force}

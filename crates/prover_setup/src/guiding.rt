@@ -4,7 +4,8 @@ ghost use Rattle.given_clause.specs.Guides.{setting_of};
 ghost use Rattle.prover_setup.specs.SearchInputs.{input_in, symbols_in, rows_in, setting_in};
 
 use conclusions::rules_in_force;
-use fol_core::{Clause, Problem, Symbols};
+use fol_core::{Clause, Symbols};
+use fol_problem::Problem;
 use given_clause::Guide;
 use std::alloc::{AllocError, Global};
 use term_order::Precedence;

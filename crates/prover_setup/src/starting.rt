@@ -1,7 +1,7 @@
 // Where a search begins.
 ghost use Rattle.std.specs.Prelude.{◌≡◌, ◌+◌, ◌<◌, ◌++◌, ◌∷◌, [], ℕ, IfOk, OnOk, Some, map};
 ghost use Rattle.std.specs.List.{AllByRecursion, list_any};
-ghost use Rattle.fol_core.specs.Stated.{all_said};
+ghost use Rattle.fol_problem.specs.Stated.{all_said};
 ghost use Rattle.given_clause.specs.Noted.{AreNoted};
 ghost use Rattle.given_clause.specs.States.{entry_of, state_of};
 ghost use Rattle.proof_words.specs.Written.{by_copy};
@@ -14,7 +14,8 @@ use clause_index::{HeldSet, Rules};
 use conclusions::has_equation;
 use derivation::First;
 use discrim_tree::Tries;
-use fol_core::{Clause, Input, Problem, Role};
+use fol_core::Clause;
+use fol_problem::{Input, Problem, Role};
 use given_clause::{QueueEntry, Queued, Search, Waiting};
 use held_clauses::Held;
 use prover_proofs::role_at;

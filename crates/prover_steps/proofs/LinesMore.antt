@@ -4,7 +4,7 @@ use Rattle.std.proofs.Math.Nat.{ne_of_lt}
 use Rattle.std.specs.List.{AllByRecursion}
 use Rattle.std.specs.Option.{option_and_then}
 use Rattle.fol_core.specs.Literals.{ClauseTree}
-use Rattle.fol_core.specs.Stated.{Said}
+use Rattle.fol_problem.specs.Stated.{Said}
 use Rattle.derivation.specs.Later.{LaterWord}
 use Rattle.derivation.specs.Lines.{FirstWord, assumed, wanted, clausified, denied, copied, resolved, factored, paramodulated, xx_resolved, Inference, copy_inference, clash_inference, factor_inference, para_inference, xx_inference, InputRow, LineTree, ContentTree, line_at, content_clause, clause_at, AreClauses, After, IsInferred, IsInputOf, IsAbove, IsLine, AreLines}
 

@@ -14,7 +14,7 @@ use Rattle.derivation.specs.Later.{LaterWord, flipped, merged, reflexive, unit_d
 use Rattle.derivation.specs.Lines.{LineTree, clause_at}
 use Rattle.derivation.specs.Places.{same_sign, has_literal, atom_at, with_atom, are_opposite}
 use Rattle.derivation.proofs.PlaceLemmas.{sign_same}
-use Rattle.unifiers.proofs.Matches.{tree_same}
+use Rattle.unifiers.proofs.MatchesFound.{tree_same}
 use Rattle.prover_steps.specs.Clashing.{Held}
 use Rattle.prover_steps.specs.Rewriting.{Simplified, simplified, then_word}
 use Rattle.prover_steps.specs.Shortening.{is_turned, flips_from, left_out, same_literal, is_merged, is_false_equation, is_left_out, denies, first_denying, is_denied, followed_by, put_in_order}

@@ -6,7 +6,7 @@ use Rattle.std.specs.List.{AllByRecursion, list_any, list_all}
 use Rattle.std.specs.Option.{option_map, option_map_or}
 use Rattle.fol_core.specs.Literals.{ClauseTree}
 use Rattle.fol_core.specs.Renumbered.{renumbered}
-use Rattle.fol_core.specs.Stated.{Said}
+use Rattle.fol_problem.specs.Stated.{Said}
 use Rattle.substitutions.specs.Bindings.{Binding}
 use Rattle.substitutions.specs.Laws.{NumbersStay}
 use Rattle.unifiers.specs.Laws.{MatchesMake}

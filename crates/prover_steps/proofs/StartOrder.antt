@@ -1,9 +1,9 @@
 -- The clauses with which a search begins stand in order.
 use Rattle.std.proofs.Common.{◌≡◌, ℕ, suc, ◌<◌, ◌≤◌, ◌+◌, length, List, [], ◌∷◌, ◌++◌, arith}
 use Rattle.std.specs.List.{AllByRecursion}
-use Rattle.fol_core.specs.Stated.{Said}
-use Rattle.fol_core.specs.declared.problem.Role.{Role}
-use Rattle.fol_core.specs.declared.problem.Role.TheVariants.{Assumption, Usable, Demodulator, Goal}
+use Rattle.fol_problem.specs.Stated.{Said}
+use Rattle.fol_problem.specs.declared.problem.Role.{Role}
+use Rattle.fol_problem.specs.declared.problem.Role.TheVariants.{Assumption, Usable, Demodulator, Goal}
 use Rattle.derivation.specs.Lines.{InputRow}
 use Rattle.prover_steps.specs.HeldOrder.{numbers_of, input_numbers, ShareNone, RiseBelow, IsInOrder}
 use Rattle.prover_steps.specs.Starting.{role_of, queued_input, queued_inputs, held_rule, rules_of, start_state}

@@ -6,9 +6,9 @@ use Rattle.std.specs.List.{AllByRecursion}
 use Rattle.std.specs.Option.{option_map_or}
 use Rattle.fol_core.specs.Fol.{Fol}
 use Rattle.fol_core.specs.Renumbered.{renumbered}
-use Rattle.fol_core.specs.Stated.{Said}
-use Rattle.fol_core.specs.declared.problem.Role.{Role}
-use Rattle.fol_core.specs.declared.problem.Role.TheVariants.{Assumption, Usable, Demodulator, Goal}
+use Rattle.fol_problem.specs.Stated.{Said}
+use Rattle.fol_problem.specs.declared.problem.Role.{Role}
+use Rattle.fol_problem.specs.declared.problem.Role.TheVariants.{Assumption, Usable, Demodulator, Goal}
 use Rattle.derivation.specs.Lines.{assumed, wanted, clausified, denied, InputRow, LineTree, ContentTree, formula, clause, is_goal, said_at, line_at, clause_at, IsAmongSaid, IsRowOf, IsInput, IsLine, AreLines}
 use Rattle.prover_steps.specs.SearchLaws.{Begins, IsQueuedInput}
 use Rattle.prover_steps.specs.Starting.{said_line, said_lines, role_of, input_line, input_lines, problem_lines, queued_input, queued_inputs, held_rule, rules_of, start_state, IsRuleOf, AreRowsOf}

@@ -1,7 +1,7 @@
 -- Why a search ends, and what it ends with.
 use Rattle.std.specs.Prelude.{ℕ, suc, ◌≡◌, ◌≢◌, ◌<◌, ◌≤◌, ◌+◌, ◌-◌, ◌*◌, Bool, true, not, max, if◌then◌else◌, length, List, [], ◌∷◌, Some, None, is_some}
 use Rattle.fol_core.specs.Literals.{ClauseTree}
-use Rattle.fol_core.specs.Stated.{Said}
+use Rattle.fol_problem.specs.Stated.{Said}
 use Rattle.derivation.specs.Lines.{InputRow}
 use Rattle.ladr_options.specs.declared.options.Options.{Options}
 use Rattle.prover_steps.specs.Clashing.{Held}

@@ -1,6 +1,6 @@
 -- The numbers of the lines that a search makes.
 use Rattle.std.specs.Prelude.{ℕ, suc, ◌≡◌, ◌+◌, length, List, [], ◌∷◌}
-use Rattle.fol_core.specs.Stated.{Said}
+use Rattle.fol_problem.specs.Stated.{Said}
 use Rattle.derivation.specs.Lines.{InputRow}
 use Rattle.prover_steps.specs.Clashing.{Held}
 use Rattle.prover_steps.specs.Searching.{Setting, Queued, MadeLine, SearchState, with_line, unit_meets, subsumes_back, deletes_back, rewrites_back, rules_back, works_back, processed, next_state, SearchReaches}

@@ -2,7 +2,7 @@
 use Rattle.std.specs.Prelude.{ℕ, ◌≡◌, ◌<◌, ◌≤◌, ◌==◌, Bool, true, not, List, [], ◌∷◌, ◌++◌, filter, Some}
 use Rattle.std.specs.List.{AllByRecursion, list_any}
 use Rattle.fol_core.specs.Literals.{ClauseTree}
-use Rattle.fol_core.specs.Stated.{Said}
+use Rattle.fol_problem.specs.Stated.{Said}
 use Rattle.derivation.specs.Lines.{InputRow}
 use Rattle.ladr_options.specs.declared.options.Options.{Options}
 use Rattle.proof_words.specs.Written.{WrittenFirst}

@@ -3,7 +3,7 @@ use Rattle.std.specs.Prelude.{ℕ, ◌≡◌, ◌<◌, ◌≤◌, Bool, true, Li
 use Rattle.std.specs.List.{AllByRecursion, list_all}
 use Rattle.fol_core.specs.Free.{variables_of}
 use Rattle.fol_core.specs.Renumbered.{renumbered}
-use Rattle.fol_core.specs.Stated.{Said}
+use Rattle.fol_problem.specs.Stated.{Said}
 use Rattle.fol_core.specs.Tree.{Tree}
 use Rattle.substitutions.specs.Occurring.{has_variable}
 use Rattle.derivation.specs.Lines.{clause, InputRow, LineTree, clause_at, IsDerivation}

@@ -2,7 +2,7 @@
 use Rattle.std.specs.Prelude.{◌≡◌, ◌↔◌, Bool, IsTrue, List, [], Some}
 use Rattle.std.specs.List.{AllByRecursion}
 use Rattle.fol_core.specs.Literals.{ClauseTree}
-use Rattle.fol_core.specs.Stated.{Said}
+use Rattle.fol_problem.specs.Stated.{Said}
 use Rattle.fol_core.specs.Tree.{Tree}
 use Rattle.derivation.specs.Lines.{FirstWord, Inference, InputRow, LineTree, inference_of, clause, clause_at, IsLine}
 use Rattle.derivation.specs.Rule.{Concludes}

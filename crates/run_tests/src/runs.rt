@@ -1,8 +1,23 @@
-// Runs over streams in memory, one byte a call.
+// Runs over streams in memory, with one byte a read.
 use ladr_io::{MemClock, MemSink, MemSource};
 use ladr_top::run;
 use model_tables::Tables;
 use std::alloc::{AllocError, Global};
+
+/// The read and the write that fail (none has number 0), and whether a write takes seven bytes or one.
+#[derive(Clone, Copy)]
+pub struct Faults {
+    pub read: u64,
+    pub write: u64,
+    pub by_seven: bool,
+}
+
+/// No call fails, and a write takes one byte.
+pub const NO_FAULT: Faults = Faults {
+    read: 0,
+    write: 0,
+    by_seven: false,
+};
 
 /// How a run ended: its status, what its source has left, and what its sink holds.
 #[derive(Drop)]
@@ -19,13 +34,12 @@ impl Ended {
     }
 }
 
-/// A run in which the read and the write of these numbers fail (none has number 0), and the clock gives these readings.
+/// A run with these faults, whose clock gives these readings.
 pub fn end_of(
     alloc: Global,
     command: &str,
     input: &[u8],
-    read: u64,
-    write: u64,
+    faults: Faults,
     readings: &[u64],
 ) -> Result<Ended, AllocError> {
     let mut words = Vec::new(alloc);
@@ -33,8 +47,9 @@ pub fn end_of(
         words.push(String::from_str(alloc, word)?)?;
     }
     let any = Tables::new(1, Vec::new(alloc));
-    let mut source = MemSource::with_piece(input.to_vec(alloc)?, 1, vec![in alloc; read]?);
-    let mut sink = MemSink::with_piece(alloc, 1, vec![in alloc; write]?);
+    let mut source = MemSource::with_piece(input.to_vec(alloc)?, 1, vec![in alloc; faults.read]?);
+    let piece = if faults.by_seven { 7 } else { 1 };
+    let mut sink = MemSink::with_piece(alloc, piece, vec![in alloc; faults.write]?);
     let mut clock = MemClock::new(readings.to_vec(alloc)?);
     let exit = run(alloc, &words, &any, &mut source, &mut sink, &mut clock);
     Ok(Ended {

@@ -1,7 +1,7 @@
 -- The clock of a search, from one reading to the next.
 use Rattle.std.proofs.Common.{◌≡◌, ℕ, ◌+◌, ◌*◌, Option, None, Some, unwrap_or, sym, subst, ap, arith}
 use Rattle.ladr_io.specs.Times.{Times, later}
-use Rattle.mace_search.specs.Watch.{IsEarly, IsLate}
+use Rattle.ladr_io.specs.Watch.{IsEarly, IsLate}
 use Rattle.search_clock.specs.Watching.{time_to_stop, IsInTime, HasRead, IsLookedAt, IsWatchedBy, IsWatched, HasBegunBy, HasBegun}
 use Rattle.search_clock.specs.declared.watch.Watch.{Watch}
 

@@ -2,13 +2,13 @@
 ghost use Rattle.std.specs.Prelude.{◌≡◌, ◌+◌, ◌*◌, MatchOption};
 ghost use Rattle.ladr_io.specs.Times.{Times};
 ghost use Rattle.search_clock.specs.Watching.{time_to_stop, IsLookedAt, IsWatched, HasBegun};
-ghost use Rattle.mace_search.specs.Watch.{IsLate};
+ghost use Rattle.ladr_io.specs.Watch.{IsLate};
 
 use ladr_io::Clock;
 
 /// After how many seconds to stop, if a time is set, and the clock's first reading, once there is
 /// one.
-#[derive(Clone, Copy, Debug, PartialEq, Eq)]
+#[derive(Clone, Copy)]
 pub struct Watch {
     pub seconds: Option<u64>,
     pub first: Option<u64>,

@@ -1,14 +1,36 @@
-ghost use Rattle.fol_core.specs.Stated.{stated_of, IsWellFormed};
+ghost use Rattle.fol_problem.specs.Stated.{stated_of, IsWellFormed};
 
-use crate::made::chain;
 use clausify::{clauses_of, own_table};
-use fol_core::{Clauses, Problem};
+use fol_core::Clauses;
+use fol_problem::Problem;
 use ladr_formulas::Mode;
 use ladr_io::MemClock;
+use ladr_output::{decimal, text};
 use ladr_problem::read_problem;
 use prover::{Answer, Prover};
 use std::alloc::{AllocError, Global};
 use std::test::Fail;
+
+// `p` holds of the first of n + 1 constants, and passes on from each to the next: the function's value there.
+fn chain(alloc: Global, n: u64) -> Result<Vec<u8>, AllocError> {
+    let mut out = Vec::new(alloc);
+    text(&mut out, b"formulas(assumptions).\np(a0).\n")?;
+    for k in 0..n {
+        text(&mut out, b"g(a")?;
+        decimal(&mut out, k)?;
+        text(&mut out, b") = a")?;
+        decimal(&mut out, k.saturating_add(1))?;
+        text(&mut out, b".\n-p(a")?;
+        decimal(&mut out, k)?;
+        text(&mut out, b") | p(g(a")?;
+        decimal(&mut out, k)?;
+        text(&mut out, b")).\n")?;
+    }
+    text(&mut out, b"end_of_list.\nformulas(goals).\np(a")?;
+    decimal(&mut out, n)?;
+    text(&mut out, b").\nend_of_list.\n")?;
+    Ok(out)
+}
 
 // How many entries of its two indexes a search for one proof tests, up to the proof, and what it has kept then.
 fn counted(alloc: Global, problem: &Problem) -> Result<Option<(u64, u64)>, AllocError>
@@ -30,8 +52,8 @@ fn counted(alloc: Global, problem: &Problem) -> Result<Option<(u64, u64)>, Alloc
 #[test]
 fn few_entries_of_indexes_are_tested(rt: HostRuntime) -> Result<(), Fail> {
     let alloc = rt.alloc();
-    let text = chain(alloc, 200)?;
-    let Ok(read) = read_problem(alloc, Mode::Prover, &text) else {
+    let made = chain(alloc, 200)?;
+    let Ok(read) = read_problem(alloc, Mode::Prover, &made) else {
         return Err(Fail::from("not read"));
     };
     let found = counted(alloc, &read.problem)?;

@@ -1,4 +1,11 @@
 // Substitutions on terms, literals and clauses; subterms by their paths; and the laws of both.
+// `subst.rt` puts terms in for variables, `paths.rt` finds a subterm by the numbers of arguments that lead to it and
+// replaces it, `sameness.rt` tells whether terms, literals and clauses are the same.
+// `laws.rt` states what holds in every interpretation: an instance has the value, and the truth, that the term or
+// clause has under the changed assignment; a term keeps its value where a subterm gets another of its value; a clause
+// says the same with its variables numbered anew. Every inference rests on these laws.
+// Its lemmas (`proofs/Composing`, `Truth`, `Numbering`, `Interleaving`, `Variants`, `Replacing`) are for all crates
+// above.
 #![tactic(auto)]
 
 mod laws;

@@ -1,6 +1,7 @@
 -- The terms that cells build, one behind the other.
 use Rattle.std.proofs.Common.{◌≡◌, ℕ, zero, suc, ◌+◌, ◌<◌, ◌≤◌, Bool, true, false, refl, sym, ap, ap₂, subst, ◌∙◌, List, [], ◌∷◌, ◌++◌, length, map, Option, Some, None, slice_get, position, arith, inl, inr, if◌then◌else◌, slice_index_or, max, drop, take, get_or, add-one}
 use Rattle.std.specs.Option.{option_map}
+use Rattle.fol_core.specs.Sizes.{sizes_of, depths_of, saturated}
 use Rattle.fol_core.specs.SymbolTable.{first_place}
 use Rattle.std.specs.Map.{keys_of}
 use Rattle.std.proofs.lemmas.Bool.{cases_lt}
@@ -10,7 +11,7 @@ use Rattle.fol_core.specs.TermView.{tree_of, tree_list}
 use Rattle.fol_core.specs.declared.term.Term.{Term}
 use Rattle.fol_core.specs.Tree.{Tree, var, app, trees_of}
 use Rattle.fol_core.proofs.Places.{first_place-found, first_place_is_position}
-use Rattle.term_bank.specs.Bank.{tree_at, IsAt, Grows, AreOnce, sizes_of, depths_of, saturated}
+use Rattle.term_bank.specs.Bank.{tree_at, IsAt, Grows, AreOnce}
 use Rattle.term_bank.specs.Cells.{AreNumbersBelow, numbers, ArgumentsAreIn, tree_in, IsMeasured, trees_built, IsNewTerm, IsCell, AreCells, IsStored}
 use Rattle.term_bank.specs.declared.cell.TermCell.{TermCell}
 use Rattle.term_bank.specs.declared.cell.TermCell.TheVariants.{Variable, Element, Application}

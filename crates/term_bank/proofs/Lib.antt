@@ -1,2 +1,3 @@
 pub mod Building
+mod Entering
 pub mod Same

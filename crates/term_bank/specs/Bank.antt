@@ -20,29 +20,3 @@ Grows old new = (others : List Tree) × (new ≡ old ++ others)
 abbrev pub AreOnce : List Tree → Type 0
 AreOnce bank =
     (i j : ℕ) → i < length bank → j < length bank → tree_at bank i ≡ tree_at bank j → i ≡ j
-
-abbrev mutual
-  -- how many symbols and variables stand in a term, each as often as it stands there
-  pub size_of : Tree → ℕ
-  size_of (var x) = 1
-  size_of (elem k) = 1
-  size_of (app f ts) = sizes_of ts + 1
-
-  pub sizes_of : Trees → ℕ
-  sizes_of none = 0
-  sizes_of (more t ts) = size_of t + sizes_of ts
-
-abbrev mutual
-  -- how many levels a term has: one more than its deepest argument
-  pub term_depth : Tree → ℕ
-  term_depth (var x) = 1
-  term_depth (elem k) = 1
-  term_depth (app f ts) = depths_of ts + 1
-
-  pub depths_of : Trees → ℕ
-  depths_of none = 0
-  depths_of (more t ts) = max (term_depth t) (depths_of ts)
-
--- a count that stops at the greatest number of 64 bits
-abbrev pub saturated : ℕ → ℕ
-saturated n = min n 18446744073709551615

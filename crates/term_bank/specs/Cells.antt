@@ -1,7 +1,8 @@
 -- What the cells of a bank stand for.
 use Rattle.std.specs.Prelude.{ℕ, ◌<◌, ◌≡◌, List, [], ◌∷◌, ◌++◌, length, map}
+use Rattle.fol_core.specs.Sizes.{size_of, depth_of, saturated}
 use Rattle.fol_core.specs.Tree.{Tree, var, elem, app, trees_of}
-use Rattle.term_bank.specs.Bank.{tree_at, size_of, term_depth, saturated}
+use Rattle.term_bank.specs.Bank.{tree_at}
 use Rattle.term_bank.specs.declared.cell.TermCell.{TermCell}
 use Rattle.term_bank.specs.declared.cell.TermCell.TheVariants.{Variable, Element, Application}
 use Rattle.term_bank.specs.declared.cell.Measures.{Measures}
@@ -31,7 +32,7 @@ tree_in bank (Application f ks) = app f (trees_of (map (λ k. tree_at bank k.0) 
 -- what is kept of a term's size and levels
 pub record IsMeasured (t : Tree) (m : Measures) : Type 0 where
   pub sized : m.size ≡ saturated (size_of t)
-  pub deep : m.depth ≡ term_depth t
+  pub deep : m.depth ≡ depth_of t
 
 -- the terms so far, and those of cells behind them
 abbrev pub trees_built : List Tree → List (TermCell × Measures) → List Tree

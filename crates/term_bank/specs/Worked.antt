@@ -1,7 +1,8 @@
 -- Banks, sizes and levels worked out.
 use Rattle.std.specs.Prelude.{◌≡◌, List, [], ◌∷◌}
+use Rattle.fol_core.specs.Sizes.{size_of, depth_of, saturated}
 use Rattle.fol_core.specs.Tree.{Tree, var, app, none, more}
-use Rattle.term_bank.specs.Bank.{tree_at, size_of, term_depth, saturated}
+use Rattle.term_bank.specs.Bank.{tree_at}
 
 -- f(a,x) with its parts before it: a has number 0, x number 1
 abbrev pub three : List Tree
@@ -13,6 +14,6 @@ doubled = app 3 (more (tree_at three 2) (more (tree_at three 2) none))
 
 abbrev pub WorkedMeasures : Type 0
 WorkedMeasures =
-    (size_of doubled ≡ 7) × (term_depth doubled ≡ 3) × (size_of (var 5) ≡ 1)
-    × (term_depth (app 1 none) ≡ 1)
+    (size_of doubled ≡ 7) × (depth_of doubled ≡ 3) × (size_of (var 5) ≡ 1)
+    × (depth_of (app 1 none) ≡ 1)
     × (saturated 18446744073709551616 ≡ 18446744073709551615)

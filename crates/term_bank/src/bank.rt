@@ -1,8 +1,9 @@
 // A bank of terms.
 ghost use Rattle.std.specs.Prelude.{◌≡◌, ℕ, ◌<◌, ◌↔◌, [], IfOk, IsTrue, length, map};
+ghost use Rattle.fol_core.specs.Sizes.{size_of, depth_of, saturated};
 ghost use Rattle.fol_core.specs.Tree.{app, trees_of};
 ghost use Rattle.fol_core.specs.TermView.{tree_of};
-ghost use Rattle.term_bank.specs.Bank.{tree_at, IsAt, Grows, AreOnce, size_of, term_depth, saturated};
+ghost use Rattle.term_bank.specs.Bank.{tree_at, IsAt, Grows, AreOnce};
 ghost use Rattle.term_bank.specs.Cells.{tree_in, ArgumentsAreIn, IsMeasured, AreNumbersBelow, numbers, IsStored};
 ghost use Rattle.term_bank.specs.Nodes.{node_tree, NodeIsBelow};
 
@@ -88,7 +89,7 @@ impl Bank {
     /// How many levels the term has.
     pub fn depth(&self, id: TermId) -> u64
         requires { id.0 < length self.now }
-        ensures { result ≡ term_depth (tree_at self.now id.0) }
+        ensures { result ≡ depth_of (tree_at self.now id.0) }
     {
         self.cell(id).1.depth
     }

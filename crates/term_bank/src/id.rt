@@ -2,7 +2,7 @@
 use fol_core::Sym;
 
 /// The number of a term in a bank.
-#[derive(Clone, Copy, Debug, Default, PartialEq, Eq, Hash)]
+#[derive(Clone, Copy, Default, PartialEq, Eq, Hash)]
 pub struct TermId(pub u64);
 
 /// A term by its head and the numbers of its arguments.

@@ -5,13 +5,14 @@ use Rattle.std.specs.Ordering.{nat_cmp}
 use Rattle.std.proofs.Common.{◌≡◌, ℕ, ◌<◌, ◌≤◌, ◌==◌, true, false, refl, sym, ap, ap₂, subst, ◌∙◌, List, [], ◌∷◌, length, map, arith, inl, inr, Option, Some, None, cond, if◌then◌else◌, eq-eqb}
 use Rattle.std.proofs.lemmas.Bool.{cases_eq, ne_eqb}
 use Rattle.std.proofs.lemmas.Bool.Decides.{nat_tests}
+use Rattle.fol_core.specs.Sizes.{size_of, saturated}
 use Rattle.fol_core.specs.Substitutions.{Substitution, substitute, substitute_all}
 use Rattle.fol_core.specs.Tree.{Tree, var, elem, app, Trees, none, more}
 use Rattle.substitutions.specs.Bindings.{by_bindings}
 use Rattle.unifiers.specs.Unifier.{IsMostGeneral}
 use Rattle.term_classes.specs.Arenas.{node_of}
 use Rattle.term_classes.specs.Classes.{In, class_terms, found_terms, node_terms, term_or_variable}
-use Rattle.term_classes.specs.Measures.{size_of, saturated, measure_at}
+use Rattle.term_classes.specs.Measures.{measure_at}
 use Rattle.term_classes.specs.Merging.{nth}
 use Rattle.term_classes.specs.Named.{named_nodes}
 use Rattle.term_classes.specs.Solutions.{bindings_of, classes_in, IsFound, HasClass}

@@ -3,12 +3,13 @@ use Rattle.std.proofs.Common.{◌≡◌, ℕ, ◌+◌, ◌<◌, ◌≤◌, max, 
 use Rattle.std.specs.List.{sum_by}
 use Rattle.std.proofs.lemmas.List.{take_all, take_more}
 use Rattle.std.proofs.lemmas.List.Sums.{sum_by-cons, sum_by_push}
+use Rattle.fol_core.specs.Sizes.{size_of, sizes_of, depth_of, depths_of, saturated}
 use Rattle.fol_core.specs.Substitutions.{Substitution, substitute, substitute_all}
 use Rattle.fol_core.specs.TermView.{tree_of, tree_list}
 use Rattle.fol_core.specs.declared.term.Term.{Term}
 use Rattle.fol_core.specs.Tree.{Tree, app, trees_of}
 use Rattle.term_classes.specs.Classes.{In, arguments_of}
-use Rattle.term_classes.specs.Measures.{size_of, sizes_of, depth_of, depths_of, saturated, IsMeasured, measure_at, greatest, size_at, depth_at, IsAbove}
+use Rattle.term_classes.specs.Measures.{IsMeasured, measure_at, greatest, size_at, depth_at, IsAbove}
 use Rattle.term_classes.specs.Merging.{nth}
 use Rattle.term_classes.specs.Shapes.{Shape, variable, element, application, seen}
 use Rattle.term_classes.specs.declared.measure.Measure.{Measure}

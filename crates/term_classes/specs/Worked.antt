@@ -1,8 +1,8 @@
 -- Nodes and classes worked out.
 use Rattle.std.specs.Prelude.{◌≡◌, ◌^◌, ◌-◌, List, [], ◌∷◌}
+use Rattle.fol_core.specs.Sizes.{size_of, depth_of, saturated}
 use Rattle.fol_core.specs.Tree.{Tree, var, app, none, more}
 use Rattle.term_classes.specs.Classes.{Classes, children, node_terms}
-use Rattle.term_classes.specs.Measures.{size_of, depth_of, saturated}
 use Rattle.term_classes.specs.Shapes.{Shape, variable, application, tree_at}
 
 -- f(x) and f(a), x with number 0 and a with number 2

@@ -1,11 +1,11 @@
 // Terms under what is found: how great they are, and as trees.
 ghost use Rattle.std.specs.Prelude.{ℕ, ◌≡◌, ◌<◌, ◌≤◌, IfOk, MatchOption, length};
+ghost use Rattle.fol_core.specs.Sizes.{size_of, depth_of, saturated};
 ghost use Rattle.fol_core.specs.Substitutions.{substitute};
 ghost use Rattle.fol_core.specs.TermView.{tree_of};
 ghost use Rattle.fol_core.specs.Tree.{var};
 ghost use Rattle.substitutions.specs.Bindings.{by_bindings};
 ghost use Rattle.term_classes.specs.Classes.{In, class_terms};
-ghost use Rattle.term_classes.specs.Measures.{size_of, depth_of, saturated};
 ghost use Rattle.term_classes.specs.Solutions.{IsFound, HasClass, bindings_of, classes_in};
 
 use crate::arena::view;

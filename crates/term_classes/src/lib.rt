@@ -1,5 +1,23 @@
-// Most general unifiers by classes of nodes: each pair that is looked at merges two classes or is
-// dropped.
+// Most general unifiers by classes of nodes, near linear in their number: each pair that is looked at merges two
+// classes or is dropped.
+// `node.rt` has an arena: nodes by number, arguments of each in one list, and each variable's node (`naming.rt`:
+// sixteen in a list, further ones in a tree; nothing is hashed); `arena.rt` puts terms in, arguments before their node,
+// so that each node has a tree (`specs/Shapes`, `Arenas`); `counting.rt` counts nodes, a hint of how much room to take.
+// Nodes are linked to lesser ones of their class (`linking.rt`), down to the least, which keeps a schema, a node that
+// is no variable where there is one; `merging.rt` goes through pairs that have to be the same until none is left,
+// `comparing.rt` compares heads. `ordering.rt` finds, with a stack of its own, an order in which each class stands
+// behind those of its schema's arguments; a class met on the way from itself would have a term smaller than itself, so
+// nothing unifies (`proofs/Walks`, `Advances`, `AtOnce`). Along it `measuring.rt` counts symbols and levels of each
+// class's term, up to the greatest number of 64 bits; `instances.rt` gives these of a term under the unifier, and
+// builds it.
+// Callers put terms in by `equations.rt` (two, to be unified: `Equations::apart`) or `pairs.rt` (terms of several
+// clauses, each renamed by its clause's place), and room comes first (`room.rt`): never more pairs than the arena has
+// arguments, since a merge brings at most as many as the applications have and takes a class away (`specs/Rooms`). What
+// then decides and solves (`unifying.rt`) takes no memory; `Solution` is seen as the bindings of variables. `TermPair`
+// (`apart.rt`) numbers two terms' variables evenly and oddly, and only tells whether they unify.
+// The proof speaks of labels, a term for each node, which fit where linked and paired nodes have one. What fits later
+// fits before; what a substitution makes of the trees fits later if before; the classes' terms along the order fit and
+// respect the heads (`specs/Classes`): a most general unifier (`proofs/Terms`, `Solving`).
 #![tactic(auto)]
 
 mod apart;

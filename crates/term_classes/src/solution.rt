@@ -1,9 +1,9 @@
 // A most general unifier.
 ghost use Rattle.std.specs.Prelude.{ℕ, ◌≡◌, ◌≤◌, IfOk};
+ghost use Rattle.fol_core.specs.Sizes.{size_of, depth_of, saturated};
 ghost use Rattle.fol_core.specs.Substitutions.{substitute};
 ghost use Rattle.fol_core.specs.TermView.{tree_of};
 ghost use Rattle.substitutions.specs.Bindings.{by_bindings};
-ghost use Rattle.term_classes.specs.Measures.{size_of, depth_of, saturated};
 ghost use Rattle.term_classes.specs.Solutions.{IsFound, bindings_of};
 
 use crate::found::Found;

@@ -6,7 +6,7 @@ use Rattle.term_bank.specs.Bank.{tree_at}
 use Rattle.term_bank.specs.declared.id.TermId.{TermId}
 use Rattle.term_order.specs.Compared.{trees_under, AreCommon}
 use Rattle.unifiers.specs.Matching.{same_tree}
-use Rattle.unifiers.proofs.Matches.{tree_same}
+use Rattle.unifiers.proofs.MatchesFound.{tree_same}
 
 pub under_length : (bank : List Tree) (ks : List TermId) → length (trees_under bank ks) ≡ length ks
 under_length bank [] = refl

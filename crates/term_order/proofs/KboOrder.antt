@@ -9,7 +9,7 @@ use Rattle.term_order.specs.Laws.{IsSymbolOrder}
 use Rattle.term_order.proofs.Occurrences.{HasEach, each_from, each_test, each_put, once_all, stands_all, places_in, places_in_all, total, total_both, places_grow, place_counts, times_put_all}
 use Rattle.term_order.proofs.Tests.{split_and, split_or, both_and, left_or, right_or, same_from}
 use Rattle.unifiers.specs.Matching.{same_tree}
-use Rattle.unifiers.proofs.Matches.{tree_same}
+use Rattle.unifiers.proofs.MatchesFound.{tree_same}
 
 module _ (above : ℕ → ℕ → Bool) (weight : ℕ → ℕ) where
   abbrev pub Outweighs : Tree → Tree → Type 0

@@ -3,7 +3,7 @@ use Rattle.std.proofs.Common.{◌≡◌, ℕ, zero, suc, ◌+◌, ◌<◌, ◌�
 use Rattle.fol_core.specs.Tree.{Tree, var, elem, app, Trees, none, more, nodes, nodes_of}
 use Rattle.term_order.specs.Laws.{IsSymbolOrder}
 use Rattle.unifiers.specs.Matching.{same_tree}
-use Rattle.unifiers.proofs.Matches.{tree_same, same_itself}
+use Rattle.unifiers.proofs.MatchesFound.{tree_same, same_itself}
 use Rattle.term_order.specs.Lpo.{lpo_greater, first_greater}
 use Rattle.term_order.proofs.Tests.{split_and, both_and, same_from}
 use Rattle.term_order.proofs.LpoParts.{Greater, SomeAtLeast, FirstGreater, GreaterEach, by_part, by_head, by_first, why, because, the_same, is_greater, head_at_least, at_least_here, at_least_behind, by_argument, keeps_variable}

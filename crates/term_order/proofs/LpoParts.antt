@@ -3,7 +3,7 @@ use Rattle.std.proofs.Common.{◌≡◌, ℕ, zero, suc, ◌+◌, ◌<◌, ◌�
 use Rattle.fol_core.specs.Tree.{Tree, var, elem, app, Trees, none, more, nodes, nodes_of}
 use Rattle.substitutions.specs.Occurring.{has_variable, have_variable}
 use Rattle.unifiers.specs.Matching.{same_tree}
-use Rattle.unifiers.proofs.Matches.{tree_same}
+use Rattle.unifiers.proofs.MatchesFound.{tree_same}
 use Rattle.term_order.specs.Lpo.{lpo_greater, some_at_least, first_greater, greater_each}
 use Rattle.term_order.proofs.Tests.{split_or, split_and, left_or, right_or, both_and, same_from}
 

@@ -1,8 +1,9 @@
 -- Sums over arguments, from one place on.
 use Rattle.std.proofs.Common.{◌≡◌, ℕ, zero, suc, ◌+◌, ◌<◌, ◌≤◌, Bool, true, false, if◌then◌else◌, ◌==◌, ◌&&◌, List, [], ◌∷◌, length, get_or, ap, ◌∙◌, arith}
 use Rattle.std.proofs.lemmas.List.{drop_all, drop_more}
+use Rattle.fol_core.specs.Sizes.{size_of, sizes_of}
 use Rattle.fol_core.specs.Tree.{Tree, var, elem, app, Trees, none, more, trees_of}
-use Rattle.term_bank.specs.Bank.{tree_at, size_of, sizes_of}
+use Rattle.term_bank.specs.Bank.{tree_at}
 use Rattle.term_bank.specs.declared.id.TermId.{TermId}
 use Rattle.term_order.specs.Compared.{trees_under}
 use Rattle.term_order.specs.Kbo.{times_in, times_in_all, weigh, weigh_all, none_oftener, none_oftener_all}

@@ -1,7 +1,7 @@
 // How two terms compare.
 
 /// Which of two terms is greater, if they aren't the same.
-#[derive(Clone, Copy, Debug, PartialEq, Eq)]
+#[derive(Clone, Copy)]
 pub enum Compared {
     Greater,
     Less,

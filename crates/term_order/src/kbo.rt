@@ -1,7 +1,8 @@
 // The Knuth-Bendix order.
 ghost use Rattle.std.specs.Prelude.{◌≡◌, ◌≤◌, ◌<◌, ◌*◌, length};
+ghost use Rattle.fol_core.specs.Sizes.{size_of, sizes_of};
 ghost use Rattle.fol_core.specs.Tree.{trees_of};
-ghost use Rattle.term_bank.specs.Bank.{tree_at, size_of, sizes_of};
+ghost use Rattle.term_bank.specs.Bank.{tree_at};
 ghost use Rattle.term_bank.specs.Cells.{AreNumbersBelow, numbers};
 ghost use Rattle.term_order.specs.Compared.{compared_by, trees_under};
 ghost use Rattle.term_order.specs.Kbo.{times_in, times_in_all, weigh, weigh_all, none_oftener, none_oftener_all, kbo_first, kbo_greater};

@@ -10,7 +10,7 @@ use std::alloc::{AllocError, Global};
 
 /// How a symbol stands in the order of symbols: its name's place among those that the file lists, from 1 on, or 0; then its
 /// arity. And what it weighs.
-#[derive(Clone, Copy, Debug, PartialEq, Eq)]
+#[derive(Clone, Copy)]
 pub struct SymbolRow {
     pub listed: u64,
     pub arity: u64,

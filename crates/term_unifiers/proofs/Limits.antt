@@ -6,34 +6,12 @@ use Rattle.clause_limits.proofs.Measures.{next_item}
 use Rattle.clause_limits.specs.Sizes.{clause_size, clause_depth, is_too_large}
 use Rattle.fol_core.specs.ClauseView.{literal_of}
 use Rattle.fol_core.specs.Literals.{ClauseTree}
+use Rattle.fol_core.specs.Sizes.{size_of, sizes_of, depth_of, depths_of, saturated}
 use Rattle.fol_core.specs.Substitutions.{Substitution, substitute}
 use Rattle.fol_core.specs.TermView.{tree_of}
 use Rattle.fol_core.specs.Tree.{Tree, var, elem, app, Trees, none, more}
 use Rattle.fol_core.specs.declared.clause.Literal.{Literal}
 use Rattle.substitutions.specs.Instances.{substitute_clause}
-use Rattle.term_bank.specs.Bank.{size_of, sizes_of, term_depth, depths_of}
-use Rattle.term_classes.specs.Measures as classes
-use Rattle.term_classes.specs.Measures.{saturated}
-
-mutual
-  same_size : (t : Tree) → classes.size_of t ≡ size_of t
-  same_size (var x) = refl
-  same_size (elem k) = refl
-  same_size (app f ts) = ap (λ n. n + 1) (same_sizes ts)
-
-  same_sizes : (ts : Trees) → classes.sizes_of ts ≡ sizes_of ts
-  same_sizes none = refl
-  same_sizes (more t ts) = ap₂ (λ (m n : ℕ). m + n) (same_size t) (same_sizes ts)
-
-mutual
-  same_depth : (t : Tree) → classes.depth_of t ≡ term_depth t
-  same_depth (var x) = refl
-  same_depth (elem k) = refl
-  same_depth (app f ts) = ap (λ n. n + 1) (same_depths ts)
-
-  same_depths : (ts : Trees) → classes.depths_of ts ≡ depths_of ts
-  same_depths none = refl
-  same_depths (more t ts) = ap₂ (λ (m n : ℕ). max m n) (same_depth t) (same_depths ts)
 
 module _ (s : Substitution) (ls : List Literal) where
   -- how large the literals from a place on are together
@@ -48,21 +26,19 @@ module _ (s : Substitution) (ls : List Literal) where
     size_next : size_from i ≡ size_of (substitute s (tree_of l.atom)) + size_from (i + 1)
     size_next = ap (λ (ks : List Literal). clause_size (substitute_clause s (map literal_of ks))) (next_item ls i l h at)
 
-    depth_next : depth_from i ≡ max (term_depth (substitute s (tree_of l.atom))) (depth_from (i + 1))
+    depth_next : depth_from i ≡ max (depth_of (substitute s (tree_of l.atom))) (depth_from (i + 1))
     depth_next = ap (λ (ks : List Literal). clause_depth (substitute_clause s (map literal_of ks))) (next_item ls i l h at)
 
     -- one literal more is counted
-    pub larger_on : (n m : ℕ) → saturated (n + size_from i) ≡ saturated (size_from 0) → m ≡ saturated (classes.size_of (substitute s (tree_of l.atom))) → saturated (saturated (n + m) + size_from (i + 1)) ≡ saturated (size_from 0)
+    pub larger_on : (n m : ℕ) → saturated (n + size_from i) ≡ saturated (size_from 0) → m ≡ saturated (size_of (substitute s (tree_of l.atom))) → saturated (saturated (n + m) + size_from (i + 1)) ≡ saturated (size_from 0)
     larger_on n m made is =
         let e = size_next in
-        let same = same_size (substitute s (tree_of l.atom)) in
-        omega (arith, e, made, is, same)
+        omega (arith, e, made, is)
 
-    pub deeper_on : (n m : ℕ) → saturated (max n (depth_from i)) ≡ saturated (depth_from 0) → m ≡ saturated (classes.depth_of (substitute s (tree_of l.atom))) → saturated (max (max n m) (depth_from (i + 1))) ≡ saturated (depth_from 0)
+    pub deeper_on : (n m : ℕ) → saturated (max n (depth_from i)) ≡ saturated (depth_from 0) → m ≡ saturated (depth_of (substitute s (tree_of l.atom))) → saturated (max (max n m) (depth_from (i + 1))) ≡ saturated (depth_from 0)
     deeper_on n m made is =
         let e = depth_next in
-        let same = same_depth (substitute s (tree_of l.atom)) in
-        omega (arith, e, made, is, same)
+        omega (arith, e, made, is)
 
   -- all are
   pub larger_end : (i n : ℕ) → length ls ≤ i → n ≤ 18446744073709551615 → saturated (n + size_from i) ≡ saturated (size_from 0) → n ≡ saturated (size_from 0)

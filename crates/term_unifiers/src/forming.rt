@@ -3,9 +3,9 @@ ghost use Rattle.std.specs.Prelude.{◌≡◌, true, IfOk};
 ghost use Rattle.clause_limits.specs.Sizes.{is_too_large, clause_size, clause_depth};
 ghost use Rattle.fol_core.specs.ClauseView.{literal_of};
 ghost use Rattle.fol_core.specs.Renumbered.{renumbered};
+ghost use Rattle.fol_core.specs.Sizes.{saturated};
 ghost use Rattle.substitutions.specs.Bindings.{by_bindings};
 ghost use Rattle.substitutions.specs.Instances.{substitute_clause, substitute_literal};
-ghost use Rattle.term_classes.specs.Measures.{saturated};
 ghost use Rattle.term_unifiers.specs.Formed.{formed_clause, IsBuiltWithin};
 
 use clause_limits::{MOST_LEVELS, MOST_SYMBOLS};

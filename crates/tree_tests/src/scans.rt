@@ -61,17 +61,12 @@ pub fn all_linear(alloc: Global, terms: &[Term]) -> Result<Vec<Term>, AllocError
     Ok(made)
 }
 
-// A list of one term.
-fn alone(alloc: Global, term: &Term) -> Result<Terms, AllocError> {
-    let mut terms = Terms::new(alloc);
-    terms.push(term.copy(alloc)?)?;
-    Ok(terms)
-}
-
 // Whether terms without a variable of both unify.
 fn do_unify(alloc: Global, s: &Term, t: &Term) -> Result<bool, AllocError> {
-    let lefts = alone(alloc, s)?;
-    let rights = alone(alloc, t)?;
+    let mut lefts = Terms::new(alloc);
+    lefts.push(s.copy(alloc)?)?;
+    let mut rights = Terms::new(alloc);
+    rights.push(t.copy(alloc)?)?;
     Ok(unify(alloc, lefts, rights, Clause::new(alloc))?.is_some())
 }
 

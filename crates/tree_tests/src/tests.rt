@@ -101,7 +101,7 @@ fn an_index_finds_what_scans_find(rt: HostRuntime) -> Result<(), Fail> {
     let some = found(alloc, &mut chance, &index, &terms, Left::NoThirdOrSecond)?;
     assert!(rt; matches!(some, Some(count) if count > 100));
     leave(&mut index, Left::None);
-    assert_eq!(rt; index.nodes(), 0);
+    assert!(rt; index.nodes() == 0);
     Ok(())
 }
 
@@ -122,8 +122,8 @@ fn nodes_are_beginnings(rt: HostRuntime) -> Result<(), Fail> {
     index.insert(2, &pair(alloc, Term::Var(0), Term::Var(0))?)?;
     let constant = Term::App(Sym(0), Terms::new(alloc));
     index.insert(3, &pair(alloc, constant, Term::Var(0))?)?;
-    assert_eq!(rt; index.nodes(), 5);
+    assert!(rt; index.nodes() == 5);
     index.remove(3);
-    assert_eq!(rt; index.nodes(), 3);
+    assert!(rt; index.nodes() == 3);
     Ok(())
 }

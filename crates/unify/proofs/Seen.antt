@@ -5,7 +5,7 @@ use Rattle.fol_core.specs.Tree.{Tree, var, elem, app}
 use Rattle.substitutions.specs.Occurring.{has_variable}
 use Rattle.term_bank.specs.Bank.{tree_at}
 use Rattle.unifiers.specs.Matching.{same_tree}
-use Rattle.unifiers.proofs.Matches.{tree_same, same_itself}
+use Rattle.unifiers.proofs.MatchesFound.{tree_same, same_itself}
 use Rattle.unify.specs.Bindings.{IsSpot, AreSpots}
 use Rattle.unify.specs.Spots.{spot_tree, In}
 use Rattle.unify.specs.Steps.{stepped, walked, same_spot, IsNoVariable, IsShownIn, AllSpots}

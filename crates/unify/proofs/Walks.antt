@@ -5,7 +5,7 @@ use Rattle.fol_core.specs.Substitutions.{Substitution, substitute}
 use Rattle.fol_core.specs.Tree.{Tree, var}
 use Rattle.term_bank.specs.declared.id.TermId.{TermId}
 use Rattle.unifiers.specs.Matching.{same_tree}
-use Rattle.unifiers.proofs.Matches.{tree_same, same_itself}
+use Rattle.unifiers.proofs.MatchesFound.{tree_same, same_itself}
 use Rattle.unify.specs.Bindings.{Meets, bound_variables, PointsOn, AreBoundInOrder}
 use Rattle.unify.specs.Rooms.{AreFollowed}
 use Rattle.unify.specs.Spots.{spot_tree, In}

@@ -4,12 +4,12 @@ use Rattle.std.proofs.lemmas.Bool.{eqb-true}
 use Rattle.std.proofs.lemmas.List.{take_more, take_all}
 use Rattle.fol_core.specs.ClauseView.{literal_of}
 use Rattle.fol_core.specs.Literals.{ClauseTree}
+use Rattle.fol_core.specs.Sizes.{size_of, sizes_of}
 use Rattle.fol_core.specs.TermView.{tree_of, tree_list}
 use Rattle.fol_core.specs.Tree.{trees_of}
 use Rattle.fol_core.specs.declared.clause.Literal.{Literal}
 use Rattle.fol_core.specs.declared.term.Term.{Term}
 use Rattle.prover_steps.specs.Searching.{clause_size}
-use Rattle.term_bank.specs.Bank.{size_of, sizes_of}
 use Rattle.weights.specs.Rows.{weight_row}
 use Rattle.weights.specs.Weighing.{weight_within, atoms_weight}
 use Rattle.weights.specs.declared.patterns.PatternWeight.{PatternWeight}

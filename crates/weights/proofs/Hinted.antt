@@ -4,10 +4,10 @@ use Rattle.std.specs.Option.{option_and_then, option_map}
 use Rattle.std.proofs.lemmas.List.{drop_all}
 use Rattle.std.proofs.lemmas.Option.{slice_get-map, slice_get-get_or}
 use Rattle.fol_core.specs.Literals.{ClauseTree}
+use Rattle.fol_core.specs.Sizes.{size_of}
 use Rattle.fol_core.specs.Tree.{Tree, var, elem, app}
 use Rattle.prover_steps.specs.Searching.{clause_size}
 use Rattle.prover_steps.specs.Subsuming.{subsumes}
-use Rattle.term_bank.specs.Bank.{size_of}
 use Rattle.weights.specs.Hints.{HintRow, first_hint, hint_place, weight_at, weight_by_hint, is_hinted, clause_weight}
 use Rattle.weights.specs.HintRows.{hint_row}
 use Rattle.weights.specs.Weighing.{WeightRow, atoms_weight}

@@ -3,14 +3,14 @@ use Rattle.std.proofs.Common.{◌≡◌, ℕ, suc, ◌+◌, ◌<◌, ◌≤◌, 
 use Rattle.std.proofs.lemmas.Bool.{false_from_ne_true}
 use Rattle.std.proofs.lemmas.List.{drop_all, length-append, length-map}
 use Rattle.std.proofs.lemmas.Option.{none-some, same_Some}
+use Rattle.fol_core.specs.Sizes.{size_of, sizes_of}
 use Rattle.fol_core.specs.TermView.{tree_of, tree_list}
 use Rattle.fol_core.specs.Tree.{Tree, var, elem, app, Trees, none, more, trees_of}
 use Rattle.fol_core.specs.declared.term.Term.{Term}
 use Rattle.substitutions.specs.Bindings.{Binding}
-use Rattle.term_bank.specs.Bank.{size_of, sizes_of}
-use Rattle.term_matches.specs.Sides.{paired, paired_all}
+use Rattle.unifiers.specs.Sides.{paired, paired_all}
 use Rattle.unifiers.specs.Matching.{same_tree, bound_term}
-use Rattle.unifiers.proofs.Matches.{tree_same, same_itself}
+use Rattle.unifiers.proofs.MatchesFound.{tree_same, same_itself}
 use Rattle.weights.specs.Parts.{parts, parts_of, stands_among, place_among}
 use Rattle.weights.proofs.Items.{next}
 

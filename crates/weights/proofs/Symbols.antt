@@ -1,8 +1,8 @@
 -- Without rules, symbols and variables weigh 1.
 use Rattle.std.proofs.Common.{◌≡◌, ℕ, ◌+◌, [], ◌∷◌, refl, ◌∙◌, arith}
 use Rattle.fol_core.specs.Literals.{ClauseTree}
+use Rattle.fol_core.specs.Sizes.{size_of, sizes_of}
 use Rattle.fol_core.specs.Tree.{Tree, var, elem, app, Trees, none, more}
-use Rattle.term_bank.specs.Bank.{size_of, sizes_of}
 use Rattle.prover_steps.specs.Searching.{clause_size}
 use Rattle.weights.specs.Weighing.{weight_within, term_weight, sum_of_atoms}
 use Rattle.weights.specs.WeighingLaws.{sum_of_weights, SymbolsWeigh}

@@ -2,12 +2,12 @@
 use Rattle.std.proofs.Common.{◌≡◌, ℕ, zero, suc, ◌+◌, ◌<◌, ◌≤◌, List, [], ◌∷◌, ◌++◌, map, take, drop, get_or, length, min, None, Some, unwrap_or, refl, sym, ap, ap₂, ◌∙◌, append_assoc, arith}
 use Rattle.std.proofs.lemmas.List.{map-append, take_more, drop_all}
 use Rattle.fol_core.specs.ClauseView.{literal_of}
+use Rattle.fol_core.specs.Sizes.{size_of}
 use Rattle.fol_core.specs.TermView.{tree_of, tree_list}
 use Rattle.fol_core.specs.Tree.{Tree, app, Trees, trees_of}
 use Rattle.fol_core.specs.declared.clause.Literal.{Literal}
 use Rattle.fol_core.specs.declared.term.Term.{Term}
 use Rattle.prover_steps.specs.Searching.{clause_size}
-use Rattle.term_bank.specs.Bank.{size_of}
 use Rattle.weights.specs.Parts.{below, parts, part_weights, parts_of, weights_below, IsWeighedAs}
 use Rattle.weights.specs.Weighing.{WeightRow, weight_within, term_weight, sum_of_atoms, atoms_weight}
 use Rattle.weights.specs.WeighingLaws.{first_weight, sum_of_weights}

@@ -7,7 +7,7 @@ use Rattle.fol_core.specs.Tree.{Tree, var, elem, app, Trees, none, more}
 use Rattle.fol_core.specs.Weights.{WeightTree, number, of_variable, plus, times}
 use Rattle.substitutions.specs.Bindings.{Binding}
 use Rattle.unifiers.specs.Matching.{bound_term, bound_to, matched, matched_all, same_tree}
-use Rattle.unifiers.proofs.Matches.{tree_same, same_itself}
+use Rattle.unifiers.proofs.MatchesFound.{tree_same, same_itself}
 use Rattle.weights.specs.Weighing.{WeightRow, pattern_of, Weighed, weight_within, weight_among, pattern_weight, weight_by_rule, weight_of_all, application_weight, weighed_tree, weighed_trees, term_weight}
 use Rattle.weights.specs.Known.{IsWeighed, AreWeights, IsWeighedThrough, AreWeighedThrough}
 use Rattle.weights.specs.WeighingLaws.{weight_under, variable_weight, first_weight, sum_of_weights, WeightsFollow}

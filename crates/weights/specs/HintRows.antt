@@ -1,6 +1,6 @@
 -- The hints of the code.
 use Rattle.fol_core.specs.FormulaView.{fol_of}
-use Rattle.fol_core.specs.declared.problem.Hint.{Hint}
+use Rattle.fol_problem.specs.declared.problem.Hint.{Hint}
 use Rattle.weights.specs.Hints.{HintRow, hint_clause}
 use Rattle.weights.specs.declared.hints.HintWeight.{HintWeight}
 

@@ -6,7 +6,8 @@ ghost use Rattle.weights.specs.HintIndex.{AreIndexed, first_among};
 ghost use Rattle.weights.specs.HintRows.{hint_row, row_of_hint};
 
 use crate::hint_index::{add_place, no_rows, rows_of, shortest_row};
-use fol_core::{Clause, EQ, Hint, Literal, Shape, Term, Terms};
+use fol_core::{Clause, EQ, Literal, Shape, Term, Terms};
+use fol_problem::Hint;
 use std::alloc::{AllocError, Global};
 use std::marker::Model;
 use subsume::{Places, subsumes};

@@ -1,8 +1,8 @@
 // What terms in others weigh, where the weights of all terms in them are listed.
 ghost use Rattle.std.specs.Prelude.{◌≡◌, ◌+◌, ◌<◌, if◌then◌else◌, length};
+ghost use Rattle.fol_core.specs.Sizes.{size_of, sizes_of};
 ghost use Rattle.fol_core.specs.TermView.{tree_of};
 ghost use Rattle.fol_core.specs.Tree.{trees_of};
-ghost use Rattle.term_bank.specs.Bank.{size_of, sizes_of};
 ghost use Rattle.unifiers.specs.Matching.{same_tree};
 ghost use Rattle.weights.specs.Parts.{parts, parts_of, stands_among, place_among, listed_weight};
 

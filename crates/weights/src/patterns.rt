@@ -1,10 +1,10 @@
 // What terms weigh by rules.
 ghost use Rattle.std.specs.Prelude.{◌≡◌, ◌+◌, ◌≤◌, ◌++◌, [], is_some, length, map, vec_len, vec_capacity};
+ghost use Rattle.fol_core.specs.Sizes.{size_of, sizes_of};
 ghost use Rattle.fol_core.specs.TermView.{tree_of};
 ghost use Rattle.fol_core.specs.Tree.{app, trees_of};
 ghost use Rattle.fol_core.specs.WeightView.{weight_of};
 ghost use Rattle.prover_steps.specs.Searching.{clause_size};
-ghost use Rattle.term_bank.specs.Bank.{size_of, sizes_of};
 ghost use Rattle.unifiers.specs.Matching.{matched};
 ghost use Rattle.weights.specs.Parts.{parts_weights, weights_below, standing_weight, AreWeighedAs, IsWeighedAs};
 ghost use Rattle.weights.specs.Rows.{weight_row};
@@ -13,7 +13,7 @@ ghost use Rattle.weights.specs.WeighingLaws.{first_weight, weight_under};
 
 use crate::parts::listed_weight;
 use fol_core::{Clause, Sym, Term, Terms, Weight};
-use term_matches::{are_instances, standing_among};
+use unifiers::{are_instances, standing_among};
 
 /// The greatest weight: sums and products stop at it.
 pub const MOST_WEIGHT: u64 = 2_147_483_647;

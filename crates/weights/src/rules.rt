@@ -11,7 +11,8 @@ ghost use Rattle.weights.specs.Rows.{weight_row};
 use crate::hints::Hints;
 use crate::patterns::{PatternWeight, atoms_weight};
 use crate::room::Room;
-use fol_core::{Clause, EQ, Problem, Sym, Symbols, WeightRule};
+use fol_core::{Clause, EQ, Sym, Symbols, WeightRule};
+use fol_problem::Problem;
 use std::alloc::{AllocError, Global};
 
 /// The rules of weights, of which the first that fits counts, and the hints.

@@ -1,6 +1,6 @@
 -- No formula so far is over the limit.
 use Rattle.std.proofs.Common.{◌≡◌, ◌+◌, drop}
-use Rattle.fol_core.specs.Stated.{all_said}
+use Rattle.fol_problem.specs.Stated.{all_said}
 use Rattle.clausify.specs.Input.{first_over}
 use Rattle.clausify.proofs.limit.first_over.Given as goal
 

@@ -1,6 +1,6 @@
 -- The first forms are made.
 use Rattle.std.proofs.Common.{◌≡◌, map, take}
-use Rattle.fol_core.specs.Stated.{all_said}
+use Rattle.fol_problem.specs.Stated.{all_said}
 use Rattle.clausify.specs.Fronts.{normal_of}
 use Rattle.clausify.specs.Input.{forms}
 use Rattle.clausify.proofs.normal.all_normal.Given as goal

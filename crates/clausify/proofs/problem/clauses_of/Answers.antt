@@ -1,11 +1,11 @@
 use Rattle.std.proofs.Common.{subst, sym, length}
 use Rattle.fol_core.specs.Literals.{equality}
-use Rattle.fol_core.specs.Stated.{all_said}
+use Rattle.fol_problem.specs.Stated.{all_said}
 use Rattle.fol_core.specs.SkolemAxioms.{PicksWitnesses}
 use Rattle.clausify.specs.Input.{skolems}
 use Rattle.clausify.specs.Laws.{AreTrueRows}
 use Rattle.clausify.specs.Names.{entered_numbers}
-use Rattle.fol_core.proofs.Soundness.{sound_below}
+use Rattle.fol_problem.proofs.Soundness.{sound_below}
 use Rattle.clausify.proofs.problem.clauses_of.Goals as goal
 
 pub returns-clause-suffice : goal.returns-clause-suffice

@@ -2,7 +2,7 @@ use Rattle.std.proofs.Common.{◌≡◌, ◌≤◌, List, length, map, refl, sym
 use Rattle.std.proofs.lemmas.List.{length-map}
 use Rattle.fol_core.specs.EntryView.{skolem_axiom_of}
 use Rattle.fol_core.specs.Literals.{equality}
-use Rattle.fol_core.specs.Stated.{Stated, stated_of, IsWellFormed, AreNewTo}
+use Rattle.fol_problem.specs.Stated.{Stated, stated_of, IsWellFormed, AreNewTo}
 use Rattle.fol_core.specs.SymbolTable.{Symbol, KeepsNumbers}
 use Rattle.fol_core.specs.SkolemAxioms.{AreInOrder}
 use Rattle.fol_core.specs.declared.clause.Entry.{Entry}

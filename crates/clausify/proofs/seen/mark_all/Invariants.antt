@@ -1,6 +1,6 @@
 -- the formulas so far are marked: to mark those to come marks all
 use Rattle.std.proofs.Common.{◌≡◌, ◌<◌, ◌||◌, ℕ, drop, length}
-use Rattle.fol_core.specs.Stated.{all_said}
+use Rattle.fol_problem.specs.Stated.{all_said}
 use Rattle.clausify.specs.Input.{is_used}
 use Rattle.clausify.specs.Seen.{is_marked}
 use Rattle.clausify.proofs.seen.mark_all.Given as goal

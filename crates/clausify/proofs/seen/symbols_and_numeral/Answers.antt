@@ -1,5 +1,5 @@
 use Rattle.std.proofs.Common.{◌≡◌, ◌∙◌, ℕ, false, length, replicate, ap}
-use Rattle.fol_core.specs.Stated.{all_said}
+use Rattle.fol_problem.specs.Stated.{all_said}
 use Rattle.clausify.proofs.Marks.{marks_are_uses, front}
 use Rattle.clausify.proofs.seen.symbols_and_numeral.Goals as goal
 

@@ -5,7 +5,7 @@ use Rattle.derivation.specs.Refused.{IsFault}
 use Rattle.derivation.specs.View.{lines_of}
 use Rattle.derivation.specs.declared.line.Derivation.{Derivation}
 use Rattle.derivation.specs.declared.line.Line.{Line}
-use Rattle.fol_core.specs.Stated.{all_said}
+use Rattle.fol_problem.specs.Stated.{all_said}
 use Rattle.ladr_check.proofs.Judgings.{refutations_more, all_looked_at, stops_at, same_fault, proofs_more, proofs_taken, proofs_count, proof_at}
 use Rattle.ladr_check.specs.Offered.{proofs_in}
 use Rattle.ladr_check.specs.Outcomes.{AreRefutations, ProofsEnd, end_of_all}

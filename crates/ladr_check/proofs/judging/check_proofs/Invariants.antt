@@ -1,6 +1,6 @@
 -- the proofs so far are refutations
 use Rattle.std.proofs.Common.{take}
-use Rattle.fol_core.specs.Stated.{all_said}
+use Rattle.fol_problem.specs.Stated.{all_said}
 use Rattle.ladr_check.specs.Offered.{proofs_in}
 use Rattle.ladr_check.specs.Outcomes.{AreRefutations}
 use Rattle.ladr_check.proofs.judging.check_proofs.Given as goal

@@ -1,6 +1,6 @@
 use Rattle.std.proofs.Common.{List, ap, subst}
 use Rattle.fol_core.specs.SkolemAxioms.{SkolemAxiom, AreInOrder}
-use Rattle.fol_core.specs.Stated.{AreNewTo}
+use Rattle.fol_problem.specs.Stated.{AreNewTo}
 use Rattle.ladr_check.proofs.Judgings.{comes_by}
 use Rattle.ladr_check.specs.Offered.{proofs_in, offered_by}
 use Rattle.ladr_check.specs.Outcomes.{HasNewSkolems}

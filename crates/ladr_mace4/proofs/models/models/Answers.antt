@@ -8,7 +8,7 @@ use Rattle.ladr_mace4.proofs.Found.{line_alone, at_end, at_model, at_last, at_la
 use Rattle.ladr_mace4.proofs.Known.{facts_of}
 use Rattle.ladr_mace4.specs.Skolems.{all_symbols}
 use Rattle.search_clock.specs.Watching.{time_to_stop}
-use Rattle.mace_search.specs.Watch.{IsEarly}
+use Rattle.ladr_io.specs.Watch.{IsEarly}
 use Rattle.ladr_mace4.proofs.models.models.Goals as goal
 
 pub returns-in-Err-clause-tells : goal.returns-in-Err-clause-tells

@@ -2,7 +2,7 @@
 use Rattle.std.proofs.Common.{◌≡◌, ◌-◌, ◌≤◌, List, false}
 use Rattle.ladr_mace4.proofs.Found.{SoFar, HasGone}
 use Rattle.search_clock.specs.Watching.{time_to_stop}
-use Rattle.mace_search.specs.Watch.{IsEarly}
+use Rattle.ladr_io.specs.Watch.{IsEarly}
 use Rattle.model_tables.specs.Tables.{Finite}
 use Rattle.ladr_mace4.proofs.models.models.Given as goal
 

@@ -1,5 +1,5 @@
 use Rattle.std.proofs.Common.{Err, subst}
-use Rattle.fol_core.specs.Stated.{stated_of}
+use Rattle.fol_problem.specs.Stated.{stated_of}
 use Rattle.ladr_mace4.proofs.Seeking.{last_seek, cut_seek}
 use Rattle.ladr_mace4.specs.Finding.{Sought, Seeks}
 use Rattle.ladr_mace4.specs.declared.plan.Plan.{Plan}

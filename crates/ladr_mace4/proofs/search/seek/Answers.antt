@@ -1,5 +1,5 @@
 use Rattle.std.proofs.Common.{[], refl, subst}
-use Rattle.fol_core.specs.Stated.{Stated, stated_of}
+use Rattle.fol_problem.specs.Stated.{Stated, stated_of}
 use Rattle.ladr_io.proofs.StreamLaws.{Takes-none}
 use Rattle.ladr_mace4.proofs.Seeking.{sizes_seek}
 use Rattle.ladr_mace4.specs.Story.{SearchGoes, SearchComes}

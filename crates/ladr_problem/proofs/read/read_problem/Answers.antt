@@ -1,8 +1,8 @@
 use Rattle.std.proofs.Common.{◌≡◌, ◌≤◌, ◌∙◌, List, length, is_some, ap, sym, subst}
 use Rattle.ladr_formulas.specs.declared.styles.Mode.{Mode}
-use Rattle.fol_core.specs.Stated.{AreWellFormed, all_said}
+use Rattle.fol_problem.specs.Stated.{AreWellFormed, all_said}
 use Rattle.fol_core.specs.SymbolTable.{Symbol}
-use Rattle.fol_core.specs.declared.problem.Input.{Input}
+use Rattle.fol_problem.specs.declared.problem.Input.{Input}
 use Rattle.ladr_problem.specs.Items.{items_of}
 use Rattle.ladr_lex.specs.Lexed.{lexed}
 use Rattle.ladr_lex.proofs.Lexing.{cuts_text}

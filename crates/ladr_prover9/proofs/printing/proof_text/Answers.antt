@@ -8,8 +8,8 @@ use Rattle.given_clause.specs.States.{found_of}
 use Rattle.ladr_prover9.proofs.ProofTexts.{printed, head_by}
 use Rattle.ladr_prover9.proofs.printing.proof_text.Goals as goal
 use Rattle.ladr_prover9.specs.Askings.{quest_of}
-use Rattle.line_bounds.specs.Bounds.{IsBoundedLine}
-use Rattle.proof_laws.specs.Printed.{IsShortHead}
+use Rattle.printed_proofs.specs.LineBounds.{IsBoundedLine}
+use Rattle.printed_proofs.specs.Printed.{IsShortHead}
 use Rattle.proof_lines.specs.ContentTokens.{tables_of}
 use Rattle.proof_print.specs.LineTexts.{proof_bytes}
 use Rattle.proof_print.specs.declared.texts.Heads.{Heads}

@@ -1,6 +1,6 @@
 -- what the rest adds makes up what all add
 use Rattle.std.proofs.Common.{◌≡◌}
-use Rattle.fol_core.specs.NamesOnce.{names_of}
+use Rattle.ladr_rules.specs.KeptNames.{names_of}
 use Rattle.fol_core.specs.RawTree.{raws_of}
 use Rattle.ladr_rules.specs.Rules.{all_names}
 use Rattle.ladr_rules.specs.Seen.{with_names}

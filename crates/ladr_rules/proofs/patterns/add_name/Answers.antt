@@ -1,7 +1,9 @@
 -- The copy of a new name goes last.
 use Rattle.std.proofs.Common.{◌≡◌, false, sym, ap, ◌∙◌}
-use Rattle.fol_core.specs.NamesOnce.{is_in, with_name, names_of}
-use Rattle.fol_core.proofs.NamesOnceLemmas.{is_among, name_put, there_stays}
+use Rattle.fol_core.specs.NamesOnce.{is_in, with_name}
+use Rattle.ladr_rules.specs.KeptNames.{names_of}
+use Rattle.fol_core.proofs.NamesOnceLemmas.{there_stays}
+use Rattle.ladr_rules.proofs.Keeping.{is_among, name_put}
 use Rattle.ladr_rules.proofs.patterns.add_name.Goals as goal
 
 pub returns-in_ok-insert : goal.returns-in_ok-insert

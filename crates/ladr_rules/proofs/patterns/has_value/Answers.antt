@@ -1,5 +1,5 @@
 use Rattle.std.proofs.Common.{◌∙◌, ap}
-use Rattle.fol_core.specs.NamesOnce.{names_of}
+use Rattle.ladr_rules.specs.KeptNames.{names_of}
 use Rattle.fol_core.specs.RawTree.{raws_of}
 use Rattle.fol_core.specs.RawView.{raw_of}
 use Rattle.ladr_rules.specs.Rules.{all_names}

@@ -1,5 +1,5 @@
 use Rattle.std.proofs.Common.{◌∙◌}
-use Rattle.fol_core.proofs.NamesOnceLemmas.{is_among}
+use Rattle.ladr_rules.proofs.Keeping.{is_among}
 use Rattle.ladr_rules.proofs.values.has_name.Goals as goal
 
 pub returns : goal.returns

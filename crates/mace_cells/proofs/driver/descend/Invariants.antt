@@ -5,7 +5,7 @@ use Rattle.mace_cells.specs.Moves.{GoesBy}
 use Rattle.mace_cells.specs.Readings.{ReadsOn}
 use Rattle.mace_cells.specs.Standing.{IsStanding, place}
 use Rattle.mace_cells.specs.World.{many_cells}
-use Rattle.mace_search.specs.Watch.{IsEarly}
+use Rattle.ladr_io.specs.Watch.{IsEarly}
 use Rattle.mace_cells.proofs.driver.descend.Given as goal
 
 abbrev pub invariant-loop-board : goal.invariant-loop-board

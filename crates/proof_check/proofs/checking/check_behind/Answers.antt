@@ -1,5 +1,5 @@
 use Rattle.std.proofs.Common.{Some, arith, ◌<◌, take, length, subst, sym}
-use Rattle.fol_core.specs.Stated.{all_said}
+use Rattle.fol_problem.specs.Stated.{all_said}
 use Rattle.derivation.specs.View.{line_tree, lines_of}
 use Rattle.derivation.specs.declared.line.Line.{Line}
 use Rattle.proof_check.specs.Found.{FoundAs}

@@ -1,5 +1,5 @@
 -- The lines so far are read.
-use Rattle.fol_core.specs.Stated.{all_said}
+use Rattle.fol_problem.specs.Stated.{all_said}
 use Rattle.proof_check.specs.Reached.{Going}
 use Rattle.proof_check.proofs.checking.check_behind.Given as goal
 

@@ -1,5 +1,5 @@
 use Rattle.std.proofs.Common.{None, [], arith, ◌<◌, length, subst}
-use Rattle.fol_core.specs.Stated.{all_said}
+use Rattle.fol_problem.specs.Stated.{all_said}
 use Rattle.derivation.specs.View.{line_tree}
 use Rattle.proof_check.specs.Found.{FoundAs}
 use Rattle.proof_check.proofs.CheckSteps.{going_start}

@@ -1,5 +1,5 @@
 use Rattle.std.proofs.Common.{IfOk, sym, subst, map}
-use Rattle.fol_core.specs.Stated.{all_said}
+use Rattle.fol_problem.specs.Stated.{all_said}
 use Rattle.derivation.specs.View.{first_word_of, later_of, content_of, lines_of}
 use Rattle.proof_check.specs.Found.{InferredAs, LineAs}
 use Rattle.proof_check.proofs.line.words.Goals as goal

@@ -2,7 +2,7 @@
 use Rattle.std.proofs.Common.{ap, sym, ◌∙◌}
 use Rattle.std.specs.Option.{option_map}
 use Rattle.fol_core.specs.FormulaView.{fol_of}
-use Rattle.fol_core.specs.Stated.{all_said, said_of}
+use Rattle.fol_problem.specs.Stated.{all_said, said_of}
 use Rattle.proof_check.proofs.StateSteps.{among_at}
 use Rattle.proof_check.proofs.stating.is_at.Goals as goal
 

@@ -1,6 +1,6 @@
 -- The rows from here on decide.
 use Rattle.fol_core.specs.FormulaView.{fol_of}
-use Rattle.fol_core.specs.Stated.{all_said}
+use Rattle.fol_problem.specs.Stated.{all_said}
 use Rattle.derivation.specs.View.{content_of}
 use Rattle.proof_check.proofs.StateSteps.{Rowed}
 use Rattle.proof_check.proofs.stating.is_input.Given as goal

@@ -1,9 +1,9 @@
 -- The deepest of all arguments.
 use Rattle.std.proofs.Common.{◌∙◌, ap, sym}
+use Rattle.fol_core.specs.Sizes.{depth_of, saturated}
 use Rattle.fol_core.specs.Substitutions.{substitute}
 use Rattle.fol_core.specs.TermView.{tree_of}
 use Rattle.substitutions.specs.Bindings.{by_bindings}
-use Rattle.term_classes.specs.Measures.{depth_of, saturated}
 use Rattle.proof_check.specs.Lent.{own_among}
 use Rattle.term_classes.proofs.Measured.{depth_made}
 use Rattle.proof_check.proofs.under.+depth_apart.Goals as goal

@@ -1,9 +1,10 @@
 -- The deepest of the first arguments.
 use Rattle.std.proofs.Common.{◌≡◌, take}
+use Rattle.fol_core.specs.Sizes.{depth_of, saturated}
 use Rattle.fol_core.specs.Substitutions.{substitute}
 use Rattle.fol_core.specs.TermView.{tree_of}
 use Rattle.substitutions.specs.Bindings.{by_bindings}
-use Rattle.term_classes.specs.Measures.{depth_of, greatest, saturated}
+use Rattle.term_classes.specs.Measures.{greatest}
 use Rattle.proof_check.specs.Lent.{own_among}
 use Rattle.proof_check.proofs.under.+depth_apart.Given as goal
 

@@ -1,10 +1,10 @@
 -- The first arguments are counted.
 use Rattle.std.proofs.Common.{◌≡◌, ◌+◌, take}
 use Rattle.std.specs.List.{sum_by}
+use Rattle.fol_core.specs.Sizes.{size_of, saturated}
 use Rattle.fol_core.specs.Substitutions.{substitute}
 use Rattle.fol_core.specs.TermView.{tree_of}
 use Rattle.substitutions.specs.Bindings.{by_bindings}
-use Rattle.term_classes.specs.Measures.{size_of, saturated}
 use Rattle.proof_check.specs.Lent.{own_among}
 use Rattle.proof_check.proofs.under.+size_apart.Given as goal
 

@@ -1,6 +1,6 @@
 use Rattle.std.proofs.Common.{◌≡◌, List, [], ◌∷◌, ◌++◌, OnOk, subst, sym, ap, ◌∙◌}
 use Rattle.fol_core.specs.Literals.{ClauseTree}
-use Rattle.fol_core.specs.declared.problem.Role.{Role}
+use Rattle.fol_problem.specs.declared.problem.Role.{Role}
 use Rattle.held_clauses.specs.Holding.{held}
 use Rattle.prover_steps.proofs.Rising.{below_none, put_last}
 use Rattle.prover_steps.specs.Clashing.{Held}

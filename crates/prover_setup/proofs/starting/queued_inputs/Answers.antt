@@ -1,7 +1,7 @@
 -- One clause more.
 use Rattle.std.proofs.Common.{map}
 use Rattle.given_clause.specs.States.{entry_of}
-use Rattle.fol_core.specs.Stated.{all_said}
+use Rattle.fol_problem.specs.Stated.{all_said}
 use Rattle.prover_setup.proofs.Beginning.{queued_next}
 use Rattle.prover_setup.proofs.starting.queued_inputs.Goals as goal
 

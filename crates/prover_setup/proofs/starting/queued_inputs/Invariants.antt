@@ -1,6 +1,6 @@
 -- The clauses before are queued.
 use Rattle.std.proofs.Common.{◌≡◌, take, map}
-use Rattle.fol_core.specs.Stated.{all_said}
+use Rattle.fol_problem.specs.Stated.{all_said}
 use Rattle.given_clause.specs.States.{entry_of}
 use Rattle.prover_setup.proofs.starting.queued_inputs.Given as goal
 use Rattle.prover_steps.specs.Starting.{queued_inputs}

@@ -1,6 +1,6 @@
 -- One clause more.
 
-use Rattle.fol_core.specs.Stated.{all_said}
+use Rattle.fol_problem.specs.Stated.{all_said}
 use Rattle.prover_setup.proofs.Beginning.{rules_lower, rules_next}
 use Rattle.prover_setup.proofs.starting.rules_of.Goals as goal
 

@@ -1,6 +1,6 @@
 -- The rules before.
 use Rattle.std.proofs.Common.{◌≡◌, take}
-use Rattle.fol_core.specs.Stated.{all_said}
+use Rattle.fol_problem.specs.Stated.{all_said}
 use Rattle.prover_setup.proofs.starting.rules_of.Given as goal
 use Rattle.prover_steps.specs.Starting.{rules_of}
 

@@ -1,8 +1,8 @@
 -- The parts of the state.
 use Rattle.std.proofs.Common.{◌≡◌, ℕ, suc, ◌+◌, ap, ◌∙◌, List, length, map, arith}
 use Rattle.std.proofs.lemmas.List.{length-map}
-use Rattle.fol_core.specs.Stated.{Said, all_said, said_of}
-use Rattle.fol_core.specs.declared.problem.Input.{Input}
+use Rattle.fol_problem.specs.Stated.{Said, all_said, said_of}
+use Rattle.fol_problem.specs.declared.problem.Input.{Input}
 use Rattle.given_clause.specs.States.{found_of, made_line_of}
 use Rattle.prover_steps.specs.Starting.{queued_inputs, rules_of}
 use Rattle.prover_setup.proofs.Started.{started}

@@ -1,9 +1,9 @@
 -- The deepest of all arguments.
 use Rattle.std.proofs.Common.{◌∙◌, ap, sym}
+use Rattle.fol_core.specs.Sizes.{depth_of, saturated}
 use Rattle.fol_core.specs.Substitutions.{substitute}
 use Rattle.fol_core.specs.TermView.{tree_of}
 use Rattle.substitutions.specs.Bindings.{by_bindings}
-use Rattle.term_classes.specs.Measures.{depth_of, saturated}
 use Rattle.term_classes.specs.Solutions.{bindings_of}
 use Rattle.term_classes.proofs.Measured.{depth_made}
 use Rattle.term_classes.proofs.instances.+depth_under.Goals as goal

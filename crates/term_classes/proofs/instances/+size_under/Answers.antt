@@ -1,9 +1,9 @@
 -- All arguments are counted.
 use Rattle.std.proofs.Common.{◌∙◌, ap, sym}
+use Rattle.fol_core.specs.Sizes.{size_of, saturated}
 use Rattle.fol_core.specs.Substitutions.{substitute}
 use Rattle.fol_core.specs.TermView.{tree_of}
 use Rattle.substitutions.specs.Bindings.{by_bindings}
-use Rattle.term_classes.specs.Measures.{size_of, saturated}
 use Rattle.term_classes.specs.Solutions.{bindings_of}
 use Rattle.term_classes.proofs.Measured.{size_made}
 use Rattle.term_classes.proofs.instances.+size_under.Goals as goal

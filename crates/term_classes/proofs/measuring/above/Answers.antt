@@ -1,7 +1,8 @@
 -- An argument more.
 use Rattle.std.proofs.Common.{◌≡◌, ℕ, ◌∙◌, refl, ap, length, arith, slice_index_or}
 use Rattle.std.proofs.lemmas.List.{get_or_default}
-use Rattle.term_classes.specs.Measures.{size_at, depth_at, saturated}
+use Rattle.fol_core.specs.Sizes.{saturated}
+use Rattle.term_classes.specs.Measures.{size_at, depth_at}
 use Rattle.term_classes.specs.Merging.{nth}
 use Rattle.term_classes.proofs.Growing.{below_at}
 use Rattle.term_classes.proofs.Measured.{sum_next, greatest_next}

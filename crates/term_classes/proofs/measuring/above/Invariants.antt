@@ -1,7 +1,8 @@
 -- What is kept of the first arguments.
 use Rattle.std.proofs.Common.{◌≡◌, ◌+◌, take}
 use Rattle.std.specs.List.{sum_by}
-use Rattle.term_classes.specs.Measures.{saturated, greatest, size_at, depth_at}
+use Rattle.fol_core.specs.Sizes.{saturated}
+use Rattle.term_classes.specs.Measures.{greatest, size_at, depth_at}
 use Rattle.term_classes.proofs.measuring.above.Given as goal
 
 abbrev pub invariant-loop-argument : goal.invariant-loop-argument

@@ -1,7 +1,7 @@
 -- What is counted with the literals from here on makes up the whole.
 use Rattle.std.proofs.Common.{◌≡◌, ◌+◌, ◌≤◌}
+use Rattle.fol_core.specs.Sizes.{saturated}
 use Rattle.substitutions.specs.Bindings.{by_bindings}
-use Rattle.term_classes.specs.Measures.{saturated}
 use Rattle.term_unifiers.proofs.Limits.{size_from}
 use Rattle.term_unifiers.proofs.forming.size_under.Given as goal
 

@@ -1,4 +1,4 @@
-use Rattle.unifiers.proofs.Matches.{match_makes, match_found}
+use Rattle.unifiers.proofs.MatchesFound.{match_makes, match_found}
 use Rattle.unifiers.proofs.laws.matches_are_found.Goals as goal
 
 pub returns-clause-make : goal.returns-clause-make

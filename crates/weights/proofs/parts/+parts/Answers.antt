@@ -1,9 +1,9 @@
 -- There is no number too great for a place.
 use Rattle.std.proofs.Common.{◌≡◌, ◌≤◌, ◌+◌, ◌∙◌, ap, arith, drop}
+use Rattle.fol_core.specs.Sizes.{size_of, sizes_of}
 use Rattle.fol_core.specs.TermView.{tree_of, tree_list}
 use Rattle.fol_core.specs.Tree.{nodes_of, trees_of}
-use Rattle.term_bank.specs.Bank.{size_of, sizes_of}
-use Rattle.term_matches.proofs.Standing.{argument_nodes}
+use Rattle.unifiers.proofs.Standing.{argument_nodes}
 use Rattle.weights.specs.Parts.{parts_of, place_among}
 use Rattle.weights.proofs.Listed.{places_within, sizes_step}
 use Rattle.weights.proofs.parts.+parts.Goals as goal

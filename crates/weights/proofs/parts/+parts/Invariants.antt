@@ -1,8 +1,8 @@
 -- A term in others is smaller; the terms from here on decide.
 use Rattle.std.proofs.Common.{◌≡◌, ◌+◌, ◌<◌, drop}
+use Rattle.fol_core.specs.Sizes.{sizes_of}
 use Rattle.fol_core.specs.TermView.{tree_of, tree_list}
 use Rattle.fol_core.specs.Tree.{nodes, nodes_of, trees_of}
-use Rattle.term_bank.specs.Bank.{sizes_of}
 use Rattle.weights.specs.Parts.{stands_among, place_among}
 use Rattle.weights.proofs.Listed.{parts_from}
 use Rattle.weights.proofs.parts.+parts.Given as goal

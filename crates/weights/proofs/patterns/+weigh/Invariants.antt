@@ -1,8 +1,8 @@
 -- A term in others is smaller; what the terms from here on add.
 use Rattle.std.proofs.Common.{◌≡◌, ◌+◌, ◌*◌, ◌≤◌, drop, map, vec_len, vec_capacity}
+use Rattle.fol_core.specs.Sizes.{sizes_of}
 use Rattle.fol_core.specs.TermView.{tree_of, tree_list}
 use Rattle.fol_core.specs.Tree.{nodes, nodes_of, trees_of}
-use Rattle.term_bank.specs.Bank.{sizes_of}
 use Rattle.weights.specs.Rows.{weight_row}
 use Rattle.weights.proofs.Weighed.{listed_from, sum_from}
 use Rattle.weights.proofs.patterns.+weigh.Given as goal

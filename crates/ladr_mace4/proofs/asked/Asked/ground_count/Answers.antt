@@ -1,5 +1,5 @@
 use Rattle.std.proofs.Common.{◌-◌, ◌^◌, ℕ, min, ap, ◌∙◌}
-use Rattle.fol_core.specs.Stated.{stated_of}
+use Rattle.fol_problem.specs.Stated.{stated_of}
 use Rattle.ladr_cells.specs.Worlds.{ground_size}
 use Rattle.ladr_mace4.proofs.AskedWorld.{ground_is}
 use Rattle.ladr_mace4.proofs.asked.Asked.ground_count.Goals as goal

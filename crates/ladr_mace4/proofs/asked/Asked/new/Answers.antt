@@ -3,7 +3,7 @@ use Rattle.std.proofs.lemmas.List.{length-map}
 use Rattle.clausify.specs.Input.{with_skolems, clauses_in_table, axioms_in_table}
 use Rattle.fol_core.specs.EntryView.{skolem_axiom_of}
 use Rattle.fol_core.specs.SkolemAxioms.{SkolemAxiom}
-use Rattle.fol_core.specs.Stated.{stated_of}
+use Rattle.fol_problem.specs.Stated.{stated_of}
 use Rattle.fol_core.specs.SymbolTable.{Symbol}
 use Rattle.ladr_mace4.specs.Skolems.{all_axioms}
 use Rattle.ladr_mace4.proofs.asked.Asked.new.Goals as goal

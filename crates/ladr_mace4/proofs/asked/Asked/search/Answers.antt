@@ -2,7 +2,7 @@ use Rattle.std.proofs.Common.{◌≡◌, ℕ, ◌≤◌, IfOk, ap, sym, subst, �
 use Rattle.cell_search.specs.Courses.{beginning}
 use Rattle.cell_search.specs.Searchable.{HasAllCells}
 use Rattle.fol_core.specs.Occurs.{size_needed}
-use Rattle.fol_core.specs.Stated.{Stated, stated_of}
+use Rattle.fol_problem.specs.Stated.{Stated, stated_of}
 use Rattle.ladr_cells.specs.Worlds.{world_for, ground_size}
 use Rattle.mace_cells.specs.World.{World}
 use Rattle.model_tables.specs.Size.{formulas_of}

@@ -2,7 +2,7 @@
 use Rattle.std.proofs.Common.{◌≡◌, ◌∙◌, ap, sym, subst, List, [], ◌∷◌, ◌++◌, length}
 use Rattle.fol_core.specs.Tree.{Tree}
 use Rattle.indexmap.specs.IndexMap.{insert_entry}
-use Rattle.fol_core.proofs.Places.{insert_entry-apart}
+use Rattle.term_bank.proofs.Entering.{insert_entry-apart}
 use Rattle.term_bank.specs.Bank.{IsAt}
 use Rattle.term_bank.specs.Cells.{tree_in, trees_built, IsNewTerm, IsCell, AreCells}
 use Rattle.term_bank.specs.declared.cell.TermCell.{TermCell}

@@ -1,7 +1,8 @@
 -- What is counted so far, with what the rest has, is what all have.
 use Rattle.std.proofs.Common.{◌≡◌, ◌+◌, max, drop, map}
+use Rattle.fol_core.specs.Sizes.{sizes_of, depths_of, saturated}
 use Rattle.fol_core.specs.Tree.{trees_of}
-use Rattle.term_bank.specs.Bank.{tree_at, sizes_of, depths_of, saturated}
+use Rattle.term_bank.specs.Bank.{tree_at}
 use Rattle.term_bank.specs.declared.id.TermId.{TermId}
 use Rattle.term_bank.proofs.bank.Bank.application.Given as goal
 

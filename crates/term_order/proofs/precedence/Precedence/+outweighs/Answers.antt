@@ -1,6 +1,6 @@
 -- Arguments have smaller numbers, and the first pair that differs decides.
 use Rattle.std.proofs.Common.{◌≤◌, ◌∙◌, arith, length, ap}
-use Rattle.term_bank.specs.Bank.{size_of}
+use Rattle.fol_core.specs.Sizes.{size_of}
 use Rattle.term_bank.specs.Cells.{numbers}
 use Rattle.term_bank.proofs.Building.{below_at, below_more}
 use Rattle.term_order.specs.Precedences.{stands_above, weight_at}

@@ -1,6 +1,6 @@
 -- Arguments have smaller numbers, and no more places than the whole.
 use Rattle.std.proofs.Common.{◌≤◌, arith, length, ap}
-use Rattle.term_bank.specs.Bank.{size_of}
+use Rattle.fol_core.specs.Sizes.{size_of}
 use Rattle.term_bank.specs.Cells.{numbers}
 use Rattle.term_bank.proofs.Building.{below_at, below_more}
 use Rattle.term_order.proofs.Bounds.{bound_at, bound_below}

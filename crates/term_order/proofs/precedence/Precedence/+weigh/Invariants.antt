@@ -1,7 +1,7 @@
 -- Subterms have smaller numbers; the weight so far and that of the terms from here on are all.
 use Rattle.std.proofs.Common.{◌≡◌, ◌≤◌, ◌+◌, ◌*◌}
+use Rattle.fol_core.specs.Sizes.{sizes_of}
 use Rattle.fol_core.specs.Tree.{trees_of}
-use Rattle.term_bank.specs.Bank.{sizes_of}
 use Rattle.term_order.specs.Kbo.{weigh_all}
 use Rattle.term_order.specs.Precedences.{weight_at}
 use Rattle.term_order.proofs.Bounds.{bound}

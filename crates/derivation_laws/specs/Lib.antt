@@ -1,0 +1,5 @@
+pub mod Countermodels
+pub mod Elements
+pub mod Moved
+pub mod Signatures
+pub mod Tables

@@ -1,9 +1,0 @@
-use Rattle.std.proofs.lemmas.List.Elements.{All-from_get_or, recursion_from_All}
-use Rattle.words_print.specs.Sayable.{IsShort}
-use Rattle.line_bounds.proofs.Lists.{numbers_all}
-use Rattle.line_bounds.proofs.words.path_is_short.Goals as goal
-
-pub returns : goal.returns
-returns c =
-    let ns = c.args.path.now in
-    numbers_all ns (recursion_from_All IsShort ns (All-from_get_or IsShort ns 0 (λ k within. (c.type_inv.path k).fits)))

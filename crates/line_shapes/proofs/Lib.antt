@@ -1,4 +1,0 @@
-mod Conclusions
-mod Search
-mod Several
-mod Words

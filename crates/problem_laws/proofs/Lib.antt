@@ -1,4 +1,0 @@
-mod Demodulators
-mod Files
-mod Formulas
-mod Weights

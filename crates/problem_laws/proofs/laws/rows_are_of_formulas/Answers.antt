@@ -1,5 +1,0 @@
-use Rattle.problem_laws.proofs.Formulas.{all_rows_of}
-use Rattle.problem_laws.proofs.laws.rows_are_of_formulas.Goals as goal
-
-pub returns : goal.returns
-returns _ = all_rows_of

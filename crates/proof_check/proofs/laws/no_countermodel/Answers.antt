@@ -1,7 +1,0 @@
-use Rattle.clausify.specs.Input.{all_rows}
-use Rattle.proof_check.proofs.RowAtoms.{all_atoms}
-use Rattle.proof_check.proofs.laws.no_countermodel.Goals as goal
-
-pub returns : goal.returns
-returns c = λ m lawful symbols ss ls well_formed is names picks counter.
-    c.refutation_is_sound.ensures m lawful ss (all_rows symbols ss) ls (all_atoms symbols ss) names is (c.clauses_follow.ensures m lawful symbols ss well_formed picks counter)

@@ -1,6 +1,0 @@
-pub mod Exchanges
-pub mod MovedLines
-pub mod MovedRows
-pub mod MovedRules
-pub mod MovedTables
-pub mod MovedTerms

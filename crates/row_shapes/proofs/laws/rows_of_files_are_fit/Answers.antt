@@ -1,6 +1,0 @@
-use Rattle.ladr_formulas.specs.declared.styles.Mode.TheVariants.{Prover}
-use Rattle.row_shapes.proofs.FileRows.{rows_fit}
-use Rattle.row_shapes.proofs.laws.rows_of_files_are_fit.Goals as goal
-
-pub returns : goal.returns
-returns c = rows_fit (c.formulas_state_themselves.ensures.formulas Prover) c.skolems_stand_behind.ensures

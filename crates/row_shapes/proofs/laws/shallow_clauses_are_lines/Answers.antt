@@ -1,5 +1,0 @@
-use Rattle.row_shapes.proofs.Levels.{not_too_deep}
-use Rattle.row_shapes.proofs.laws.shallow_clauses_are_lines.Goals as goal
-
-pub returns : goal.returns
-returns _ = not_too_deep

@@ -1,0 +1,3 @@
+pub mod Fitness
+pub mod Rows
+pub mod Shapes

@@ -1,4 +1,0 @@
-pub mod Counting
-pub mod Fitting
-pub mod Matching
-pub mod Standing

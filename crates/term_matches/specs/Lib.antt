@@ -1,5 +1,0 @@
-pub mod Matched
-pub mod Matching
-pub mod Occurrences
-pub mod Sides
-pub mod Trying
