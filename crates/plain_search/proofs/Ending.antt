@@ -71,18 +71,18 @@ filter_none t c (d ∷ ds) h i = by (t d) refl h i (filter_none t c ds)
     by false e g (inl same) rest = ap t same ∙ e
     by false e g (inr j) rest = rest g j
 
-none_open : (w : World) (ds : List Decision) (p : ValuesLeft) (c : Cell) → chosen w ds p ≡ None → IsIn c (all_cells w) → is_open (p c) ≡ false
+pub none_open : (w : World) (ds : List Decision) (p : ValuesLeft) (c : Cell) → chosen w ds p ≡ None → IsIn c (all_cells w) → is_open (p c) ≡ false
 none_open w ds p c h i =
     filter_none (λ d. is_open (p d)) c (all_cells w)
     (candidates_none w.way.candidates (above_used w.fixed ds) (open_cells w p) (best_none (score w.way.measure w p) (candidates w.way.candidates (above_used w.fixed ds) (open_cells w p)) h)) i
 
-single : (us : List ℕ) → is_open us ≡ false → 0 < length us → (v : ℕ) × (only_value us ≡ Some v)
+pub single : (us : List ℕ) → is_open us ≡ false → 0 < length us → (v : ℕ) × (only_value us ≡ Some v)
 single [] h l = absurd (omega (arith, l))
 single (v ∷ []) h l = (v, refl)
 single (v ∷ u ∷ us) h l = absurd (let e : true ≡ false = h in cc)
 
 -- each cell has a value left, and not too many
-abbrev IsProper : World → ValuesLeft → Type 0
+abbrev pub IsProper : World → ValuesLeft → Type 0
 IsProper w p = (c : Cell) → (0 < length (p c)) × (length (p c) ≤ max w.size 2)
 
 proper_step : (w : World) (p : ValuesLeft) (c : Cell) (v : ℕ) (positive : Bool) (u : ℕ) (us : List ℕ) → IsProper w p → kept positive v (p c) ≡ u ∷ us → IsProper w (with_left p c (u ∷ us))
@@ -101,19 +101,19 @@ proper_step w p c v positive u us h is d = by (is_same_cell c d)
     by true = (omega arith, few)
     by false = h d
 
-closure_proper : (w : World) (p q : ValuesLeft) → closure w p ≡ Some q → IsProper w p → IsProper w q
+pub closure_proper : (w : World) (p q : ValuesLeft) → closure w p ≡ Some q → IsProper w p → IsProper w q
 closure_proper w p q is h =
     subst (AreSo w.size (IsProper w) (proper_step w)) is
     (passes_are w.size (IsProper w) (proper_step w) (suc (many_cells w * max w.size 2)) (instances_of w.size w.clauses) p h)
 
-decided_proper : (w : World) (q : ValuesLeft) (c : Cell) (v : ℕ) → IsProper w q → IsProper w (with_left q c (v ∷ []))
+pub decided_proper : (w : World) (q : ValuesLeft) (c : Cell) (v : ℕ) → IsProper w q → IsProper w (with_left q c (v ∷ []))
 decided_proper w q c v h d = by (is_same_cell c d)
   where
     by : (b : Bool) → (0 < length (if b then v ∷ [] else q d)) × (length (if b then v ∷ [] else q d) ≤ max w.size 2)
     by true = (omega arith, omega arith)
     by false = h d
 
-one_either : (p : ValuesLeft) (ps qs : List ValuesLeft) → IsOneOf p (ps ++ qs) → IsOneOf p ps ⊎ IsOneOf p qs
+pub one_either : (p : ValuesLeft) (ps qs : List ValuesLeft) → IsOneOf p (ps ++ qs) → IsOneOf p ps ⊎ IsOneOf p qs
 one_either p [] qs h = inr h
 one_either p (q ∷ ps) qs (inl e) = inl (inl e)
 one_either p (q ∷ ps) qs (inr i) = elim (one_either p ps qs i) [ inl h ↦ inl (inr h) | inr h ↦ inr h ]
@@ -123,7 +123,7 @@ one_of_flat find p [] h = absurd h
 one_of_flat find p (u ∷ us) h = elim (one_either p (find u) (flat_map find us) h) [ inl i ↦ (u, i) | inr i ↦ one_of_flat find p us i ]
 
 module _ (w : World) (clauses : AllByRecursion (IsClauseOfCells w) w.clauses) where
-  abbrev IsEnd : ValuesLeft → Type 0
+  abbrev pub IsEnd : ValuesLeft → Type 0
   IsEnd r = IsProper w r × IsClosed w r × ((ds : List Decision) × (chosen w ds r ≡ None))
 
   abbrev Ends : ℕ → Type 0
@@ -209,7 +209,7 @@ module _ (w : World) (clauses : AllByRecursion (IsClauseOfCells w) w.clauses) wh
       clauses_true cs (true_behind c 0 (w.size ^ variables_in c) (instances_of w.size cs) h),
     )
 
-    end_solves : (r : ValuesLeft) → IsEnd r → Extends w.size m r → Solves w m
+    pub end_solves : (r : ValuesLeft) → IsEnd r → Extends w.size m r → Solves w m
     end_solves r end extended = record {
       size = size;
       lawful = lawful;
@@ -220,7 +220,7 @@ range_many : (a n : ℕ) → length (range_with_len a n) ≡ n
 range_many a zero = refl
 range_many a (suc n) = ap suc (range_many (a + 1) n)
 
-all_proper : (w : World) → 0 < w.size → IsProper w (all_left w)
+pub all_proper : (w : World) → 0 < w.size → IsProper w (all_left w)
 all_proper w some c =
     let many = range_many 0 (bound_of w.size c.kind) in
     let bounds = bound_fits c.kind in
@@ -235,7 +235,7 @@ leaves_are_models w p m clauses one size lawful extended =
     let end = all_end w clauses (suc (many_cells w)) [] (all_left w) p (all_proper w (some w clauses m size lawful)) one in
     end_solves w clauses m size lawful p end extended
 
-in_cells : (w : World) (a n k : ℕ) → a ≤ k → k < a + n → IsIn (cell_of w k) (map (cell_of w) (range_with_len a n))
+pub in_cells : (w : World) (a n k : ℕ) → a ≤ k → k < a + n → IsIn (cell_of w k) (map (cell_of w) (range_with_len a n))
 in_cells w a zero k l u = absurd (omega (arith, l, u))
 in_cells w a (suc n) k l u = elim (cases_lt a k) [
   | inl less ↦ inr (in_cells w (a + 1) n k (omega (arith, less)) (omega (arith, u)))

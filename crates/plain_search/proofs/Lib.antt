@@ -1,8 +1,15 @@
+pub mod Agreeing
+pub mod Coming
 pub mod Ending
 pub mod Leafing
+pub mod Meeting
 pub mod Narrowing
+pub mod Parting
 pub mod Reaching
+pub mod Recalling
+pub mod Rising
 pub mod Solved
 pub mod Sounding
 pub mod Stopping
+pub mod Waking
 pub mod Working

@@ -28,7 +28,7 @@ module _ (n : ℕ) (P : ValuesLeft → Type 0) (step : (p : ValuesLeft) (c : Cel
   then_is f None h k = tt
   then_is f (Some q) h k = k q h
 
-  pass_is : (gs : List Ground) (p : ValuesLeft) → P p → AreSo (pass n gs p)
+  pub pass_is : (gs : List Ground) (p : ValuesLeft) → P p → AreSo (pass n gs p)
   pass_is [] p h = h
   pass_is (g ∷ gs) p h =
       let t = told n p (assigned_by g.elements) g.clause in

@@ -54,7 +54,7 @@ best_in f c (d ∷ ds) h = by (best f ds) refl h (best_in f c ds)
     by None i g rest = inl (sym (same_Some _ _ g))
     by (Some e) i g rest = elim (which e (nat_lt (f d) (f e)) g) [ inl here ↦ inl here | inr there ↦ inr (rest (i ∙ ap Some (sym there))) ]
 
-chosen_in : (w : World) (ds : List Decision) (p : ValuesLeft) (c : Cell) → chosen w ds p ≡ Some c → IsIn c (all_cells w) × (is_open (p c) ≡ true)
+pub chosen_in : (w : World) (ds : List Decision) (p : ValuesLeft) (c : Cell) → chosen w ds p ≡ Some c → IsIn c (all_cells w) × (is_open (p c) ≡ true)
 chosen_in w ds p c h =
     filter_in (λ d. is_open (p d)) c (all_cells w)
     (candidates_in w.way.candidates (above_used w.fixed ds) c (open_cells w p)
@@ -74,7 +74,7 @@ in_range w c a (suc k) some h (inl e) = subst (λ (d : Cell). AllBelow w.size d.
 in_range w c a (suc k) some h (inr i) = in_range w c (a + 1) k some (omega (arith, h)) i
 
 -- fewer pass a test that is narrower
-fewer : (f g : Cell → Bool) (cs : List Cell) → ((c : Cell) → f c ≡ true → g c ≡ true) → length (filter f cs) ≤ length (filter g cs)
+pub fewer : (f g : Cell → Bool) (cs : List Cell) → ((c : Cell) → f c ≡ true → g c ≡ true) → length (filter f cs) ≤ length (filter g cs)
 fewer f g [] h = omega arith
 fewer f g (c ∷ cs) h = by (f c) (g c) refl refl (fewer f g cs h)
   where
@@ -84,7 +84,7 @@ fewer f g (c ∷ cs) h = by (f c) (g c) refl refl (fewer f g cs h)
     by false true i j rest = omega (arith, rest)
     by false false i j rest = rest
 
-one_less : (f g : Cell → Bool) (d : Cell) (cs : List Cell) → ((c : Cell) → f c ≡ true → g c ≡ true) → f d ≡ false → g d ≡ true → IsIn d cs → length (filter f cs) < length (filter g cs)
+pub one_less : (f g : Cell → Bool) (d : Cell) (cs : List Cell) → ((c : Cell) → f c ≡ true → g c ≡ true) → f d ≡ false → g d ≡ true → IsIn d cs → length (filter f cs) < length (filter g cs)
 one_less f g d [] h fails is i = absurd i
 one_less f g d (c ∷ cs) h fails is (inl e) =
     let few = fewer f g cs h in
@@ -110,10 +110,10 @@ kind_itself Relation = refl
 pub cell_itself : (c : Cell) → is_same_cell c c ≡ true
 cell_itself c = rw (kind_itself c.kind, eq-eqb c.symbol c.symbol refl) (lists_itself c.arguments)
 
-closed_there : (q : ValuesLeft) (c : Cell) (v : ℕ) → is_open (with_left q c (v ∷ []) c) ≡ false
+pub closed_there : (q : ValuesLeft) (c : Cell) (v : ℕ) → is_open (with_left q c (v ∷ []) c) ≡ false
 closed_there q c v = ap (λ (b : Bool). is_open (if b then v ∷ [] else q c)) (cell_itself c)
 
-opens_none_there : (q : ValuesLeft) (c : Cell) (v : ℕ) → OpensNone q (with_left q c (v ∷ []))
+pub opens_none_there : (q : ValuesLeft) (c : Cell) (v : ℕ) → OpensNone q (with_left q c (v ∷ []))
 opens_none_there q c v d there = by (is_same_cell c d) there
   where
     by : (b : Bool) → is_open (if b then v ∷ [] else q d) ≡ true → is_open (q d) ≡ true
@@ -129,12 +129,12 @@ one_right : (p : ValuesLeft) (ps qs : List ValuesLeft) → IsOneOf p qs → IsOn
 one_right p [] qs h = h
 one_right p (q ∷ ps) qs h = inr (one_right p ps qs h)
 
-one_of_tried : (find : ℕ → List ValuesLeft) (p : ValuesLeft) (v : ℕ) (us : List ℕ) → IsAmong v us → IsOneOf p (find v) → IsOneOf p (flat_map find us)
+pub one_of_tried : (find : ℕ → List ValuesLeft) (p : ValuesLeft) (v : ℕ) (us : List ℕ) → IsAmong v us → IsOneOf p (find v) → IsOneOf p (flat_map find us)
 one_of_tried find p v [] h i = absurd h
 one_of_tried find p v (u ∷ us) (inl e) i = one_left p (find u) (flat_map find us) (subst (λ (x : ℕ). IsOneOf p (find x)) e i)
 one_of_tried find p v (u ∷ us) (inr h) i = one_right p (find u) (flat_map find us) (one_of_tried find p v us h i)
 
-many_open : World → ValuesLeft → ℕ
+unfoldable pub many_open : World → ValuesLeft → ℕ
 many_open w p = length (open_cells w p)
 
 module _ (w : World) (m : Meaning) (all : w.way.least_numbers ≡ false) (solves : Solves w m) where
@@ -175,7 +175,7 @@ module _ (w : World) (m : Meaning) (all : w.way.least_numbers ≡ false) (solves
   reaches_all zero ds p extended few = absurd (omega (arith, few))
   reaches_all (suc k) ds p extended few = closed_found k (reaches_all k) ds p extended few (closure w p) refl
 
-filter_short : (f : Cell → Bool) (cs : List Cell) → length (filter f cs) ≤ length cs
+pub filter_short : (f : Cell → Bool) (cs : List Cell) → length (filter f cs) ≤ length cs
 filter_short f [] = omega arith
 filter_short f (c ∷ cs) = by (f c) (filter_short f cs)
   where

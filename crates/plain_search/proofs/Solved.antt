@@ -63,7 +63,7 @@ closure_keeps w m p q solves extended is = subst (IsKept w.size m) is (closure_s
 pub closure_refutes : ContradictionsRefute
 closure_refutes w m p solves extended is = subst (IsKept w.size m) is (closure_so w m p solves extended)
 
-among_range : (x a k : ℕ) → a ≤ x → x < a + k → IsAmong x (range_with_len a k)
+pub among_range : (x a k : ℕ) → a ≤ x → x < a + k → IsAmong x (range_with_len a k)
 among_range x a zero h l = absurd (omega (arith, h, l))
 among_range x a (suc k) h l = elim (cases_lt a x) [
   | inl less ↦ inr (among_range x (a + 1) k (omega (arith, less)) (omega (arith, l)))

@@ -59,7 +59,7 @@ among_filter test x (u ∷ us) t (inr h) = by (test u) (among_filter test x us t
     by true rest = inr rest
     by false rest = rest
 
-among_kept : (positive : Bool) (x v : ℕ) (us : List ℕ) → MatchBool positive (x ≡ v) (x ≡ v → ⊥) → IsAmong x us → IsAmong x (kept positive v us)
+pub among_kept : (positive : Bool) (x v : ℕ) (us : List ℕ) → MatchBool positive (x ≡ v) (x ≡ v → ⊥) → IsAmong x us → IsAmong x (kept positive v us)
 among_kept true x v us is h = among_filter (λ u. u == v) x us (eq-eqb x v is) h
 among_kept false x v us other h = among_filter (λ u. not (u == v)) x us (ap not (ne_eqb x v other)) h
 

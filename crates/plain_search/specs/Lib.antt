@@ -1,7 +1,12 @@
 pub mod Closing
+pub mod Coming
 pub mod Fitting
 pub mod Known
 pub mod Lefts
+pub mod Meeting
+pub mod Orders
+pub mod Parting
 pub mod PlainLaws
 pub mod Trying
+pub mod Waking
 pub mod Worked

@@ -1,6 +1,8 @@
 -- The plain search: a cell is chosen, and its values are tried one after the other.
-use Rattle.std.specs.Prelude.{ℕ, zero, suc, ◌-◌, min, max, nat_le, nat_lt, Bool, true, false, if◌then◌else◌, List, [], ◌∷◌, map, length, Option, None, Some}
-use Rattle.std.specs.List.{range_with_len, filter, flat_map}
+use Rattle.std.specs.Prelude.{ℕ, zero, suc, ◌-◌, ◌&&◌, ◌||◌, min, max, nat_le, nat_lt, Bool, true, false, not, is_none, unwrap_or, if◌then◌else◌, List, [], ◌∷◌, map, length, count_by, sum_by, Option, None, Some}
+use Rattle.std.specs.List.{range_with_len, filter, flat_map, list_any}
+use Rattle.fol_core.specs.Literals.{Lit}
+use Rattle.fol_core.specs.Truth.{Assignment}
 use Rattle.mace_cells.specs.Choices.{Decision}
 use Rattle.mace_cells.specs.Numbers.{above_each, above_used, greatest_tried}
 use Rattle.mace_cells.specs.World.{World, cell_of, many_cells}
@@ -9,9 +11,11 @@ use Rattle.mace_cells.specs.declared.way.Candidates.TheVariants.{All, LeastIndex
 use Rattle.mace_cells.specs.declared.way.Measure.{Measure}
 use Rattle.mace_cells.specs.declared.way.Measure.TheVariants.{First, MostCrossed}
 use Rattle.mace_ground.specs.Cells.{Cell}
+use Rattle.mace_ground.specs.Instances.{assigned_by}
 use Rattle.model_tables.specs.Size.{bound_of}
-use Rattle.plain_search.specs.Closing.{closure}
-use Rattle.plain_search.specs.Lefts.{ValuesLeft, all_left, with_left}
+use Rattle.plain_search.specs.Closing.{Ground, instances_of, closure}
+use Rattle.plain_search.specs.Known.{Side, sides, truth_known}
+use Rattle.plain_search.specs.Lefts.{ValuesLeft, is_same_cell, all_left, with_left}
 
 -- a cell is open where it has two values left at least
 abbrev pub is_open : List ℕ → Bool
@@ -45,6 +49,49 @@ abbrev pub score : Measure → World → ValuesLeft → Cell → ℕ
 score First w p c = 0
 score MostCrossed w p c = bound_of w.size c.kind - length (p c)
 
+-- The other scores. By the first, a cell counts in each ground clause that isn't known to be true
+-- and of which a literal has it as a side: a literal is known to be true by the values of its sides,
+abbrev pub is_known_true : ℕ → ValuesLeft → Assignment → Lit → Bool
+is_known_true n p e l = unwrap_or (truth_known l.positive (sides n p e l.atom)) false
+
+-- and its sides are cells where their arguments have values
+abbrev pub is_cell : Cell → Option Cell → Bool
+is_cell c None = false
+is_cell c (Some d) = is_same_cell c d
+
+abbrev pub is_side : ℕ → ValuesLeft → Assignment → Cell → Lit → Bool
+is_side n p e c l =
+    let q : Side × Side = sides n p e l.atom in is_cell c q.0.cell || is_cell c q.1.cell
+
+abbrev pub counts_in : ℕ → ValuesLeft → Cell → Ground → Bool
+counts_in n p c g =
+    let e : Assignment = assigned_by g.elements in
+    not (list_any (is_known_true n p e) g.clause) && list_any (is_side n p e c) g.clause
+
+-- in how many ground clauses a cell counts
+abbrev pub occurrences : World → ValuesLeft → Cell → ℕ
+occurrences w p c = count_by (counts_in w.size p c) (instances_of w.size w.clauses)
+
+-- By the others each value that the cell has left is tried, whatever the greatest is that a search
+-- tries: the closure with the value
+abbrev pub tried_table : World → ValuesLeft → Cell → ℕ → Option ValuesLeft
+tried_table w p c v = closure w (with_left p c (v ∷ []))
+
+-- how many other cells it assigns; none where it meets a contradiction
+abbrev pub assigned : World → ValuesLeft → Cell → Option ValuesLeft → ℕ
+assigned w p c None = 0
+assigned w p c (Some q) =
+    count_by (λ d. is_open (p d) && (not (is_open (q d)) && not (is_same_cell c d)))
+    (all_cells w)
+
+-- how many the values assign together
+abbrev pub assignments : World → ValuesLeft → Cell → ℕ
+assignments w p c = sum_by (λ v. assigned w p c (tried_table w p c v)) (p c)
+
+-- how many of the values meet a contradiction
+abbrev pub contradictions : World → ValuesLeft → Cell → ℕ
+contradictions w p c = count_by (λ v. is_none (tried_table w p c v)) (p c)
+
 -- the first cell of the greatest score
 abbrev pub better : (Cell → ℕ) → Cell → Option Cell → Option Cell
 better f c None = Some c
@@ -54,11 +101,14 @@ abbrev pub best : (Cell → ℕ) → List Cell → Option Cell
 best f [] = None
 best f (c ∷ cs) = better f c (best f cs)
 
--- the cell that is chosen behind these decisions, None where no cell is open
+-- the cell that is chosen by a score behind these decisions, None where no cell is open
+abbrev pub chosen_for : (Cell → ℕ) → World → List Decision → ValuesLeft → Option Cell
+chosen_for f w ds p =
+    best f (candidates w.way.candidates (above_used w.fixed ds) (open_cells w p))
+
+-- and by the score of the world
 abbrev pub chosen : World → List Decision → ValuesLeft → Option Cell
-chosen w ds p =
-    best (score w.way.measure w p)
-    (candidates w.way.candidates (above_used w.fixed ds) (open_cells w p))
+chosen w ds p = chosen_for (score w.way.measure w p) w ds p
 
 -- its values left, up to the greatest that is tried
 abbrev pub tried : World → List Decision → ValuesLeft → Cell → List ℕ

@@ -1,18 +1,20 @@
 -- Closures, choices and searches worked out.
-use Rattle.std.specs.Prelude.{ℕ, Bool, true, false, List, [], ◌∷◌, Option}
+use Rattle.std.specs.Prelude.{ℕ, Bool, true, false, List, [], ◌∷◌, ◌++◌, map, unwrap_or, Option, None, Some}
 use Rattle.fol_core.specs.Literals.{ClauseTree, literal, equality}
 use Rattle.fol_core.specs.Tree.{Tree, var, elem, app, none, more}
 use Rattle.fol_core.specs.declared.symbols.Kind.TheVariants.{Function, Relation}
-use Rattle.mace_cells.specs.Choices.{Decision}
+use Rattle.mace_cells.specs.Choices.{Decision, Choice}
 use Rattle.mace_cells.specs.World.{World}
 use Rattle.mace_cells.specs.declared.way.Candidates.{Candidates}
-use Rattle.mace_cells.specs.declared.way.Candidates.TheVariants.{InUse}
+use Rattle.mace_cells.specs.declared.way.Candidates.TheVariants.{All, InUse}
 use Rattle.mace_cells.specs.declared.way.Measure.{Measure}
-use Rattle.mace_cells.specs.declared.way.Measure.TheVariants.{MostCrossed}
+use Rattle.mace_cells.specs.declared.way.Measure.TheVariants.{First, MostCrossed}
 use Rattle.mace_cells.specs.declared.way.Way.{Way}
 use Rattle.mace_ground.specs.Cells.{Cell, cell}
+use Rattle.plain_search.specs.Closing.{Ground, ground, closure}
+use Rattle.plain_search.specs.Coming.{Event, choice, leaf, events, to_come}
 use Rattle.plain_search.specs.Lefts.{ValuesLeft, all_left, with_left}
-use Rattle.plain_search.specs.Trying.{chosen, decide, leaves, listed, tried}
+use Rattle.plain_search.specs.Trying.{all_cells, chosen, chosen_for, decide, leaves, listed, score, tried}
 
 -- two elements, a relation `p` and a function `f`, each of one argument
 abbrev pub world : List ClauseTree → World
@@ -35,11 +37,20 @@ f t = app 1 (more t none)
 abbrev pub equal : Tree → Tree → Tree
 equal s t = app equality (more s (more t none))
 
--- `p(0)`; `f(0) = 1`; and `-p(x) | p(f(x))`
+-- `p(0)`
+abbrev pub beginning : ClauseTree
+beginning = literal true (p (elem 0)) ∷ []
+
+-- `f(0) = 1`
+abbrev pub leading : ClauseTree
+leading = literal true (equal (f (elem 0)) (elem 1)) ∷ []
+
+-- `-p(x) | p(f(x))`
+abbrev pub implying : ClauseTree
+implying = literal false (p (var 0)) ∷ literal true (p (f (var 0))) ∷ []
+
 abbrev pub spreading : List ClauseTree
-spreading =
-    (literal true (p (elem 0)) ∷ []) ∷ (literal true (equal (f (elem 0)) (elem 1)) ∷ [])
-    ∷ (literal false (p (var 0)) ∷ literal true (p (f (var 0))) ∷ []) ∷ []
+spreading = beginning ∷ leading ∷ implying ∷ []
 
 -- `-p(1)`
 abbrev pub denial : ClauseTree
@@ -143,3 +154,99 @@ tried_by least ds =
 -- the values of the cells in all that the search finds
 abbrev pub found_in : World → List (List (List ℕ))
 found_in w = listed w (leaves w)
+
+-- the instances of these clauses, the last of them first
+abbrev pub backwards : List Ground
+backwards =
+    ground implying (1 ∷ []) ∷ ground implying (0 ∷ []) ∷ ground leading [] ∷ ground beginning []
+    ∷ []
+
+-- and that of the denial behind them
+abbrev pub denied : List Ground
+denied = backwards ++ ground denial [] ∷ []
+
+-- `p(0)` is known, and then `f(0)` too
+abbrev pub one_known : ValuesLeft
+one_known = with_left (all_left (world spreading)) (p_at 0) (1 ∷ [])
+
+abbrev pub two_known : ValuesLeft
+two_known = with_left one_known (f_at 0) (1 ∷ [])
+
+-- an involution of two elements, all values being tried, and the first of the cells
+abbrev pub freely : World
+freely = mapping 2 (way InUse First false) involution
+
+-- an event with the values that each cell has left; nothing for a choice
+abbrev pub shown : World → Event → Option (List (List ℕ))
+shown w choice = None
+shown w (leaf p) = Some (map p (all_cells w))
+
+abbrev pub events_in : World → List (Option (List (List ℕ)))
+events_in w = map (shown w) (events w)
+
+-- what is still to come of it, where decisions are followed or not
+abbrev pub come_with : Bool → List Choice → List (Option (List (List ℕ)))
+come_with live cs = map (shown freely) (to_come freely live cs)
+
+abbrev pub constant : ℕ → Tree
+constant s = app s none
+
+abbrev pub constant_at : ℕ → Cell
+constant_at s = cell Function s []
+
+-- two elements and the constants `a`, `b`, `c` and `d`, which are 2 to 5; `a != 0 | b != 0`,
+-- `b != c` and `d = d`
+abbrev pub four : World
+four = record {
+  size = 2;
+  fixed = 1;
+  clauses =
+      (literal false (equal (constant 2) (elem 0)) ∷ literal false (equal (constant 3) (elem 0))
+      ∷ []) ∷ (literal false (equal (constant 3) (constant 4)) ∷ [])
+      ∷ (literal true (equal (constant 5) (constant 5)) ∷ []) ∷ [];
+  blocks =
+      record { kind = Function; symbol = 2; arity = 0 }
+      ∷ record { kind = Function; symbol = 3; arity = 0 }
+      ∷ record { kind = Function; symbol = 4; arity = 0 }
+      ∷ record { kind = Function; symbol = 5; arity = 0 } ∷ [];
+  way = way All First false;
+}
+
+abbrev pub g : Tree → Tree
+g t = app 2 (more t none)
+
+abbrev pub g_at : ℕ → Cell
+g_at x = cell Function 2 (x ∷ [])
+
+-- three elements and the functions `f` and `g`; `f(f(x)) = x`, `g(f(0)) = 1` and `g(2) != 1`
+abbrev pub pair : World
+pair = record {
+  size = 3;
+  fixed = 3;
+  clauses =
+      (literal true (equal (f (f (var 0))) (var 0)) ∷ [])
+      ∷ (literal true (equal (g (f (elem 0))) (elem 1)) ∷ [])
+      ∷ (literal false (equal (g (elem 2)) (elem 1)) ∷ []) ∷ [];
+  blocks =
+      record { kind = Function; symbol = 1; arity = 1 }
+      ∷ record { kind = Function; symbol = 2; arity = 1 } ∷ [];
+  way = way All MostCrossed true;
+}
+
+-- `f(f(x)) = x` and `f(x) != x`, by the least-number heuristic
+abbrev pub moving : World
+moving =
+    mapping 4 (way InUse First true)
+    ((literal true (equal (f (f (var 0))) (var 0)) ∷ [])
+    ∷ (literal false (equal (f (var 0)) (var 0)) ∷ []) ∷ [])
+
+-- the table that a search begins with, closed
+abbrev pub closed_first : World → ValuesLeft
+closed_first w = unwrap_or (closure w (all_left w)) (all_left w)
+
+-- what all cells score then, and which is chosen by it
+abbrev pub scores_in : (World → ValuesLeft → Cell → ℕ) → World → List ℕ
+scores_in f w = map (f w (closed_first w)) (all_cells w)
+
+abbrev pub chosen_first : (World → ValuesLeft → Cell → ℕ) → World → Option Cell
+chosen_first f w = let p : ValuesLeft = closed_first w in chosen_for (f w p) w [] p

@@ -7,7 +7,8 @@ ghost use Rattle.plain_search.specs.Closing.{closure};
 ghost use Rattle.plain_search.specs.Fitting.{IsClauseOfCells};
 ghost use Rattle.plain_search.specs.Lefts.{all_left};
 ghost use Rattle.plain_search.specs.PlainLaws.{ClosureKeeps, ContradictionsRefute, IsClosed, ClosureIsClosed, AllAtFirst, LeavesReachAll, LeavesAreModels, LeavesAreFull};
-ghost use Rattle.plain_search.specs.Worked.{world, spreading, denial, turning, fixing, reflecting, p_at, f_at, way, mapping, involution, naming, apart, turned, b_cell, single, decided, chosen_by, tried_by, found_in};
+ghost use Rattle.plain_search.specs.Trying.{assignments, contradictions, occurrences, score};
+ghost use Rattle.plain_search.specs.Worked.{constant_at, g_at, four, pair, moving, scores_in, chosen_first, world, spreading, denial, turning, fixing, reflecting, p_at, f_at, way, mapping, involution, naming, apart, turned, b_cell, single, decided, chosen_by, tried_by, found_in};
 
 /// Closing a partial table loses no solution, and where it meets a contradiction there was none.
 pub fn closing_is_sound()
@@ -69,6 +70,28 @@ pub fn worked_choices()
     ensures alike { chosen_by InUse MostCrossed (decided 2) ≡ Some (f_at 1) }
     ensures up_to { tried_by true (decided 1) ≡ 0 ∷ 1 ∷ 2 ∷ [] }
     ensures all { tried_by false (decided 1) ≡ 0 ∷ 1 ∷ 2 ∷ 3 ∷ [] }
+{}
+
+/// The scores of cells. Of `a != 0 | b != 0`, `b != c` and `d = d` with two elements: in how many
+/// clauses each constant is a side, `d = d` among them while `d` has no value; and how many other
+/// constants the values of each assign. Of `f(f(x)) = x`, `g(f(0)) = 1` and `g(2) != 1` with three:
+/// inner occurrences are no sides, and `g(2)` is one though 1 is crossed off; the value 2 of `f(0)`
+/// and of `f(2)` meets a contradiction, before which it assigned cells that don't count. All values
+/// that are left are tried, also those above what a search tries first.
+pub fn worked_scores()
+    ensures occurrences { scores_in occurrences four ≡ 1 ∷ 2 ∷ 1 ∷ 1 ∷ [] }
+    ensures assignments { scores_in assignments four ≡ 2 ∷ 3 ∷ 3 ∷ 0 ∷ [] }
+    ensures contradictions { scores_in contradictions four ≡ 0 ∷ 0 ∷ 0 ∷ 0 ∷ [] }
+    ensures most_occurrences { chosen_first occurrences four ≡ Some (constant_at 3) }
+    ensures most_assigned { chosen_first assignments four ≡ Some (constant_at 3) }
+    ensures inner { scores_in occurrences pair ≡ 0 ∷ 0 ∷ 0 ∷ 0 ∷ 0 ∷ 1 ∷ [] }
+    ensures assigning { scores_in assignments pair ≡ 3 ∷ 3 ∷ 1 ∷ 0 ∷ 0 ∷ 0 ∷ [] }
+    ensures contradicting { scores_in contradictions pair ≡ 1 ∷ 0 ∷ 1 ∷ 0 ∷ 0 ∷ 0 ∷ [] }
+    ensures crossed { scores_in (score MostCrossed) pair ≡ 0 ∷ 0 ∷ 0 ∷ 0 ∷ 0 ∷ 1 ∷ [] }
+    ensures by_occurrences { chosen_first occurrences pair ≡ Some (g_at 2) }
+    ensures by_assignments { chosen_first assignments pair ≡ Some (f_at 0) }
+    ensures by_contradictions { chosen_first contradictions pair ≡ Some (f_at 0) }
+    ensures all_values { scores_in assignments moving ≡ 3 ∷ 3 ∷ 3 ∷ 3 ∷ [] }
 {}
 
 /// `f(f(x)) = x` has two models of two elements, where `f` leaves the elements or exchanges them,
