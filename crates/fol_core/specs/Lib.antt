@@ -11,6 +11,7 @@ pub mod Laws
 pub mod LitCodes
 pub mod Literals
 pub mod Meaning
+pub mod NameView
 pub mod NamesOnce
 pub mod Occurs
 pub mod Outside

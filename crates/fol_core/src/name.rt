@@ -1,22 +1,31 @@
 // Names of symbols and variables, and lists of such names.
 ghost use Rattle.std.specs.Prelude.{◌≡◌, [], ◌∷◌, ◌++◌, length, IfOk, OnOk, OnErr};
 
-use smallvec::SmallVec;
 use std::alloc::{AllocError, Global};
 use std::marker::Model;
 
 /// The bytes of a symbol's or a variable's name; contracts see the list of the bytes. Up to sixteen take no allocation.
 #[derive(Drop)]
 pub struct Name {
-    bytes: SmallVec<u8, 16>,
+    bytes: NameBytes,
+}
+
+// Where the bytes stand: the first of sixteen, or a place of their own.
+#[derive(Drop)]
+enum NameBytes {
+    Short { bytes: [u8; 16], count: usize },
+    Long(Vec<u8>),
 }
 
 impl Model for Name {
     ghost use Rattle.std.specs.Prelude.{ℕ, List};
+    ghost use Rattle.fol_core.specs.NameView.{name_bytes, HasRoom};
 
     ghost Value = { List ℕ };
 
-    ghost view = { λ a. a.bytes.items };
+    ghost view = { λ a. name_bytes a.bytes };
+
+    ghost invariant = { λ a. HasRoom a.bytes };
 }
 
 impl Name {
@@ -25,7 +34,7 @@ impl Name {
         ensures { result ≡ bytes.items }
     {
         Name {
-            bytes: SmallVec::from_vec(bytes),
+            bytes: NameBytes::Long(bytes),
         }
     }
 
@@ -33,15 +42,28 @@ impl Name {
     pub fn from_slice(alloc: Global, bytes: &[u8]) -> Result<Name, AllocError>
         ensures { IfOk result (λ name. name ≡ bytes.now) }
     {
-        let bytes = SmallVec::from_slice(alloc, bytes)?;
-        Ok(Name { bytes })
+        let count = bytes.len();
+        if count > 16 {
+            return Ok(Name::new(Vec::from_slice(alloc, bytes)?));
+        }
+        let mut short = [0; 16];
+        short[..count].copy_from_slice(bytes);
+        Ok(Name {
+            bytes: NameBytes::Short {
+                bytes: short,
+                count,
+            },
+        })
     }
 
     /// Its bytes.
     pub fn bytes(&self) -> &[u8]
         ensures { result.now ≡ self.now }
     {
-        self.bytes.as_slice()
+        match &self.bytes {
+            NameBytes::Short { bytes, count } => &bytes[..*count],
+            NameBytes::Long(bytes) => bytes.as_slice(),
+        }
     }
 }
 

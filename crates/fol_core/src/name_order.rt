@@ -1,8 +1,8 @@
 // Names in an order, each once.
-ghost use Rattle.std.specs.Prelude.{◌≡◌, [], not, length, IfOk, OnOk, OnErr};
+ghost use Rattle.std.specs.Prelude.{◌≡◌, ◌<◌, [], Some, not, length, slice_get, IfOk, OnOk, OnErr};
 ghost use Rattle.fol_core.specs.NamesOnce.{is_in, with_name, place_in};
 
-use crate::symbols::{Kind, Symbols};
+use crate::symbols::{Kind, Sym, Symbols};
 use std::alloc::{AllocError, Global};
 use std::marker::Model;
 
@@ -39,6 +39,14 @@ impl NameOrder {
         ensures { result ≡ length self.now }
     {
         self.names.len()
+    }
+
+    /// The name at a place.
+    pub fn name(&self, place: usize) -> &[u8]
+        requires { place < length self.now }
+        ensures { slice_get self.now place ≡ Some result.now }
+    {
+        self.names.name(Sym(place as u64))
     }
 
     /// The place of a name among them, counted from 0.

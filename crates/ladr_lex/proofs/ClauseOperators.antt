@@ -1,13 +1,13 @@
 -- The operators of the texts of clauses.
-use Rattle.std.proofs.Common.{◌≡◌, ℕ, zero, suc, ◌+◌, ◌^◌, ◌<◌, ◌≤◌, length, take, Bool, true, false, List, [], ◌∷◌, Option, Some, None, inl, inr, refl, sym, ap, ◌∙◌, arith}
+use Rattle.std.proofs.Common.{◌≡◌, ℕ, zero, suc, ◌+◌, ◌^◌, ◌<◌, ◌≤◌, length, take, Bool, true, false, List, [], ◌∷◌, Option, Some, None, unwrap_or, slice_index_or, inl, inr, refl, sym, ap, ◌∙◌, arith}
 use Rattle.std.specs.Prelude.{not, ◌&&◌, ◌||◌, ◌==◌, nat_le, slice_get, if◌then◌else◌, codes}
-use Rattle.std.specs.Global.{Vec}
 use Rattle.std.specs.Fmt.{decimal}
 use Rattle.std.specs.List.{list_all, list_any}
 use Rattle.std.specs.Str.{bytes_eq}
 use Rattle.std.proofs.lemmas.Bool.{cases_Bool, and_from, and_parts, or_left, or_right, both_ways, not-true, eq-eqb, cases_lt}
 use Rattle.std.proofs.lemmas.Bool.Decides.{nat_tests}
 use Rattle.std.proofs.lemmas.List.{take_all}
+use Rattle.std.proofs.lemmas.Option.{slice_get-get_or}
 use Rattle.std.proofs.lemmas.Slice.Eq.{bytes_eq-Decides}
 use Rattle.ladr_lex.specs.ClauseNames.{lettered, clause_variable, is_numbered, is_further, is_letter, is_clause_variable, is_clause_name, clause_operator, FreesVariables}
 use Rattle.ladr_lex.specs.Numeral.{is_numeral, value}
@@ -18,11 +18,18 @@ use Rattle.ladr_lex.proofs.Numerals.{numeral_decimal, value_decimal}
 use Rattle.ladr_lex.proofs.OperatorLemmas.{operator_put}
 
 -- a row of the code's table
-pub row_entry : (es : List (Vec ℕ × Option Operator)) (i : ℕ) (k : Vec ℕ) (o : Option Operator) → slice_get es i ≡ Some (k, o)
-    → slice_get (row_list es) i ≡ Some (record { name = k.items; operator = o })
-row_entry [] i k o h = cc
-row_entry (e ∷ es) zero k o h = cc
-row_entry (e ∷ es) (suc i) k o h = row_entry es i k o h
+pub row_entry : (names : List (List ℕ)) (os : List (Option Operator)) (i : ℕ) (name : List ℕ) → length names ≡ length os → slice_get names i ≡ Some name
+    → slice_get (row_list names os) i ≡ Some (record { name = name; operator = unwrap_or (slice_get os i) None })
+row_entry [] os i name h is = cc
+row_entry (n ∷ ns) [] i name h is = absurd (omega (arith, h))
+row_entry (n ∷ ns) (o ∷ os) zero name h is = ap (λ p. Some (record { name = unwrap_or p n; operator = o })) is
+row_entry (n ∷ ns) (o ∷ os) (suc i) name h is = row_entry ns os i name (omega (arith, h)) is
+
+pub row_at : (names : List (List ℕ)) (os : List (Option Operator)) (i : ℕ) (name : List ℕ) (o : Option Operator) → length names ≡ length os → slice_get names i ≡ Some name
+    → i < length os → o ≡ slice_index_or os i o → slice_get (row_list names os) i ≡ Some (record { name = name; operator = o })
+row_at names os i name o h is within there =
+    row_entry names os i name h is ∙ ap (λ p. Some (record { name = name; operator = unwrap_or p None })) (slice_get-get_or os i o within)
+    ∙ ap (λ p. Some (record { name = name; operator = p })) (sym there)
 
 pub row_lawful : (rows : List OperatorRow) (i : ℕ) (r : OperatorRow) → are_lawful rows ≡ true → slice_get rows i ≡ Some r → is_lawful_row r ≡ true
 row_lawful [] i r l h = cc
@@ -81,14 +88,11 @@ pub all_of : (prolog : Bool) (rows ops : List OperatorRow) (i : ℕ) → length 
     → (x : List ℕ) → operator_of ops x ≡ clause_operator prolog x (operator_of rows x)
 all_of prolog rows ops i h all x = all x ∙ ap (λ (rs : List OperatorRow). clause_operator prolog x (operator_of rs x)) (take_all i rows h)
 
-pub length_rows : (es : List (Vec ℕ × Option Operator)) → length (row_list es) ≡ length es
-length_rows [] = refl
-length_rows (e ∷ es) = ap suc (length_rows es)
-
-pub ends : (es : List (Vec ℕ × Option Operator)) (i : ℕ) → slice_get es i ≡ None → length es ≤ i
-ends [] i h = omega arith
-ends (e ∷ es) zero h = cc
-ends (e ∷ es) (suc i) h = omega (arith, ends es i h)
+pub length_rows : (names : List (List ℕ)) (os : List (Option Operator)) → length names ≡ length os → length (row_list names os) ≡ length os
+length_rows [] [] h = refl
+length_rows [] (o ∷ os) h = absurd (omega (arith, h))
+length_rows (n ∷ ns) [] h = refl
+length_rows (n ∷ ns) (o ∷ os) h = ap suc (length_rows ns os (omega (arith, h)))
 
 -- the name of a clause's variable is one
 first_letter : (ls : List ℕ) (n : ℕ) (other : List ℕ) → n < length ls → is_letter ls (lettered (slice_get ls n) other) ≡ true

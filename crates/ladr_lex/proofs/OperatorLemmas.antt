@@ -1,14 +1,16 @@
 -- Tables of operators.
-use Rattle.std.proofs.Common.{◌≡◌, ℕ, ◌+◌, ◌<◌, length, drop, get_or, Bor, Bool, true, false, List, [], ◌∷◌, Option, Some, None, inl, inr, refl, sym, ap, ◌∙◌}
+use Rattle.std.proofs.Common.{◌≡◌, ℕ, suc, ◌+◌, ◌<◌, length, drop, get_or, Bor, Bool, true, false, ◌||◌, List, [], ◌∷◌, ◌++◌, Option, Some, None, is_some, unwrap_or, slice_get, slice_set, slice_index_or, inl, inr, refl, sym, ap, ◌∙◌, arith}
 use Rattle.std.specs.Prelude.{not, if◌then◌else◌}
-use Rattle.std.specs.Global.{Vec}
 use Rattle.std.specs.List.{list_all}
-use Rattle.std.specs.Map.{lookup}
+use Rattle.std.specs.Option.{option_map}
 use Rattle.std.specs.Str.{bytes_eq}
 use Rattle.std.proofs.lemmas.Bool.{cases_Bool, and_from, and_parts, or_parts, both_ways, not-true}
-use Rattle.std.proofs.lemmas.List.{drop_more}
+use Rattle.std.proofs.lemmas.List.{drop_more, length-append}
+use Rattle.std.proofs.lemmas.Option.{slice_get_within}
 use Rattle.std.proofs.lemmas.Slice.Eq.{bytes_eq-Decides}
-use Rattle.indexmap.specs.IndexMap.{insert_entry}
+use Rattle.fol_core.specs.NamesOnce.{is_in, with_name, place_in}
+use Rattle.fol_core.specs.SymbolTable.{first_place}
+use Rattle.fol_core.proofs.Places.{first_place_is_position, first_place-any, first_place-found}
 use Rattle.ladr_lex.specs.Cuts.{is_plain_symbol, is_quoted}
 use Rattle.ladr_lex.specs.OperatorView.{row_list, begins_usually, are_unusual, with_rows, may_be_put}
 use Rattle.ladr_lex.specs.Operators.{OperatorRow, operator_of, is_quantifier_word, is_precedence, has_precedence, are_lawful, is_fixed, unquoted, is_unfit_symbol, declared, with_operator_row}
@@ -18,27 +20,89 @@ use Rattle.ladr_lex.specs.declared.token.TokenKind.{TokenKind}
 use Rattle.ladr_lex.specs.declared.token.TokenKind.TheVariants.{Open, Close, LeftSquare, RightSquare, Comma, Stop, Ordinary, Quoted, Special, Unreadable}
 use Rattle.ladr_lex.proofs.Wholes.{symbol_by_kind, quoted_by_kind, is_symbol_kind, is_quoted_kind}
 
--- the rows once a name has an operator
-pub rows_put : (es : List (Vec ℕ × Option Operator)) (k : Vec ℕ) (o : Option Operator) → row_list (insert_entry (λ u v. bytes_eq u.items v.items) es k o) ≡ with_operator_row k.items o (row_list es)
-rows_put [] k o = refl
-rows_put (e ∷ es) k o =
-    elim (cases_Bool (bytes_eq k.items e.0.items)) [
-      | inl y ↦ rw y refl
-      | inr y ↦ rw y (ap (λ (rs : List OperatorRow). record { name = e.0.items; operator = e.1 } ∷ rs) (rows_put es k o))
+-- the rows once the name at a place has another operator
+put_first : (name : List ℕ) (o : Option Operator) (names : List (List ℕ)) (os : List (Option Operator)) (place : ℕ) → length names ≡ length os
+    → first_place (λ n. bytes_eq name n) names ≡ Some place → row_list names (slice_set os place o) ≡ with_operator_row name o (row_list names os)
+put_first name o [] os place h is = cc
+put_first name o (n ∷ ns) [] place h is = absurd (omega (arith, h))
+put_first name o (n ∷ ns) (p ∷ os) place h is = by (bytes_eq name n) (first_place (λ m. bytes_eq name m) ns) (λ m e. put_first name o ns os m (omega (arith, h)) e) is
+  where
+    by : (b : Bool) (found : Option ℕ) → ((m : ℕ) → found ≡ Some m → row_list ns (slice_set os m o) ≡ with_operator_row name o (row_list ns os))
+        → (if b then Some 0 else option_map suc found) ≡ Some place
+        → row_list (n ∷ ns) (slice_set (p ∷ os) place o) ≡ (if b then record { name = n; operator = o } ∷ row_list ns os else record { name = n; operator = p } ∷ with_operator_row name o (row_list ns os))
+    by true found rest e = ap (λ q. row_list (n ∷ ns) (slice_set (p ∷ os) (unwrap_or q 0) o)) (sym e)
+    by false None rest e = cc
+    by false (Some m) rest e = ap (λ q. row_list (n ∷ ns) (slice_set (p ∷ os) (unwrap_or q 0) o)) (sym e) ∙ ap (λ rs. record { name = n; operator = p } ∷ rs) (rest m refl)
+
+pub put_there : (name : List ℕ) (o : Option Operator) (names : List (List ℕ)) (os : List (Option Operator)) (place : ℕ) → length names ≡ length os
+    → place_in name names ≡ Some place → row_list names (slice_set os place o) ≡ with_operator_row name o (row_list names os)
+put_there name o names os place h is = put_first name o names os place h (first_place_is_position (λ n. bytes_eq name n) names ∙ is)
+
+-- and those with a new name
+put_last : (name : List ℕ) (o : Option Operator) (names : List (List ℕ)) (os : List (Option Operator)) → length names ≡ length os → is_in name names ≡ false
+    → row_list (names ++ name ∷ []) (os ++ o ∷ []) ≡ with_operator_row name o (row_list names os)
+put_last name o [] [] h new = refl
+put_last name o [] (p ∷ os) h new = absurd (omega (arith, h))
+put_last name o (n ∷ ns) [] h new = absurd (omega (arith, h))
+put_last name o (n ∷ ns) (p ∷ os) h new =
+    elim (cases_Bool (bytes_eq name n)) [
+      | inl y ↦ absurd (let e : true ≡ false = sym (ap (λ b. b || is_in name ns) y) ∙ new in cc)
+      | inr y ↦ rw y (ap (λ rs. record { name = n; operator = p } ∷ rs) (put_last name o ns os (omega (arith, h)) (sym (ap (λ b. b || is_in name ns) y) ∙ new)))
     ]
+
+-- a name that has no place isn't there
+pub absent : (name : List ℕ) (names : List (List ℕ)) → place_in name names ≡ None → is_in name names ≡ false
+absent name names is = sym (first_place-any (λ n. bytes_eq name n) names) ∙ ap is_some (first_place_is_position (λ n. bytes_eq name n) names ∙ is)
+
+pub put_new : (name : List ℕ) (o : Option Operator) (names : List (List ℕ)) (os : List (Option Operator)) → length names ≡ length os → place_in name names ≡ None
+    → row_list (with_name name names) (os ++ o ∷ []) ≡ with_operator_row name o (row_list names os)
+put_new name o names os h is =
+    let new : is_in name names ≡ false = absent name names is in
+    ap (λ b. row_list (if b then names else names ++ name ∷ []) (os ++ o ∷ [])) new ∙ put_last name o names os h new
+
+-- the place of a name is one of the list
+pub place_within : (name : List ℕ) (names : List (List ℕ)) (place : ℕ) → place_in name names ≡ Some place → place < length names
+place_within name names place is =
+    let found = first_place-found (λ n. bytes_eq name n) names place (first_place_is_position (λ n. bytes_eq name n) names ∙ is) in
+    slice_get_within names place found.0 found.1
+
+-- a list with one more at its end
+pub length_more : {X : Type 0} {n : ℕ} (xs : List X) (x : X) → length xs ≡ n → length (xs ++ x ∷ []) ≡ suc n
+length_more xs x h = length-append xs (x ∷ []) ∙ omega (arith, h)
+
+-- and with a name that had no place
+pub one_more : (name : List ℕ) (names : List (List ℕ)) → place_in name names ≡ None → length (with_name name names) ≡ suc (length names)
+one_more name names is = ap (λ b. length (if b then names else names ++ name ∷ [])) (absent name names is) ∙ length_more names name refl
 
 -- what the table has under a name
-abbrev pub flat : Option (Option Operator) → Option Operator
-flat None = None
-flat (Some o) = o
+found_first : (name : List ℕ) (names : List (List ℕ)) (os : List (Option Operator)) (place : ℕ) → length names ≡ length os
+    → first_place (λ n. bytes_eq name n) names ≡ Some place → operator_of (row_list names os) name ≡ unwrap_or (slice_get os place) None
+found_first name [] os place h is = cc
+found_first name (n ∷ ns) [] place h is = absurd (omega (arith, h))
+found_first name (n ∷ ns) (p ∷ os) place h is = by (bytes_eq name n) (first_place (λ m. bytes_eq name m) ns) (λ m e. found_first name ns os m (omega (arith, h)) e) is
+  where
+    by : (b : Bool) (found : Option ℕ) → ((m : ℕ) → found ≡ Some m → operator_of (row_list ns os) name ≡ unwrap_or (slice_get os m) None)
+        → (if b then Some 0 else option_map suc found) ≡ Some place
+        → (if b then p else operator_of (row_list ns os) name) ≡ unwrap_or (slice_get (p ∷ os) place) None
+    by true found rest e = ap (λ q. unwrap_or (slice_get (p ∷ os) (unwrap_or q 0)) None) e
+    by false None rest e = cc
+    by false (Some m) rest e = rest m refl ∙ ap (λ q. unwrap_or (slice_get (p ∷ os) (unwrap_or q 0)) None) e
 
-pub found_row : (es : List (Vec ℕ × Option Operator)) (name : List ℕ) → operator_of (row_list es) name ≡ flat (lookup (λ v. bytes_eq name v.items) es)
-found_row [] name = refl
-found_row (e ∷ es) name =
-    elim (cases_Bool (bytes_eq name e.0.items)) [
-      | inl y ↦ rw y refl
-      | inr y ↦ rw y (found_row es name)
-    ]
+pub found_row : (name : List ℕ) (names : List (List ℕ)) (os : List (Option Operator)) (place : ℕ) → length names ≡ length os
+    → place_in name names ≡ Some place → operator_of (row_list names os) name ≡ unwrap_or (slice_get os place) None
+found_row name names os place h is = found_first name names os place h (first_place_is_position (λ n. bytes_eq name n) names ∙ is)
+
+pub no_row : (name : List ℕ) (names : List (List ℕ)) (os : List (Option Operator)) → place_in name names ≡ None → operator_of (row_list names os) name ≡ None
+no_row name names os is = by names os (absent name names is)
+  where
+    by : (ns : List (List ℕ)) (ps : List (Option Operator)) → is_in name ns ≡ false → operator_of (row_list ns ps) name ≡ None
+    by [] ps new = refl
+    by (n ∷ ns) [] new = refl
+    by (n ∷ ns) (p ∷ ps) new =
+        elim (cases_Bool (bytes_eq name n)) [
+          | inl y ↦ absurd (let e : true ≡ false = sym (ap (λ b. b || is_in name ns) y) ∙ new in cc)
+          | inr y ↦ rw y (by ns ps (sym (ap (λ b. b || is_in name ns) y) ∙ new))
+        ]
 
 -- names that pass a test go on passing it
 all_put : (p : List ℕ → Bool) (name : List ℕ) (o : Option Operator) (rs : List OperatorRow) → p name ≡ true → list_all (λ (r : OperatorRow). p r.name) rs ≡ true → list_all (λ (r : OperatorRow). p r.name) (with_operator_row name o rs) ≡ true

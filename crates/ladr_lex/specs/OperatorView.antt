@@ -1,6 +1,5 @@
 -- The rows of the code's table.
 use Rattle.std.specs.Prelude.{ℕ, Bool, true, false, not, ◌&&◌, ◌||◌, nat_le, List, [], ◌∷◌, Option, Some}
-use Rattle.std.specs.Global.{Vec}
 use Rattle.std.specs.List.{list_all}
 use Rattle.std.specs.Borrow.{Bor}
 use Rattle.ladr_lex.specs.Cuts.{is_plain_symbol}
@@ -8,9 +7,11 @@ use Rattle.ladr_lex.specs.Operators.{OperatorRow, is_quantifier_word, is_precede
 use Rattle.ladr_lex.specs.declared.operators.Operator.{Operator}
 use Rattle.ladr_lex.specs.declared.operators.OperatorKind.{OperatorKind}
 
-abbrev pub row_list : List (Vec ℕ × Option Operator) → List OperatorRow
-row_list [] = []
-row_list (e ∷ es) = record { name = e.0.items; operator = e.1 } ∷ row_list es
+-- each name with what stands at its place
+abbrev pub row_list : List (List ℕ) → List (Option Operator) → List OperatorRow
+row_list [] os = []
+row_list (n ∷ ns) [] = []
+row_list (n ∷ ns) (o ∷ os) = record { name = n; operator = o } ∷ row_list ns os
 
 -- whether a name begins with a small letter that isn't `v`
 abbrev pub begins_usually : List ℕ → Bool

@@ -1,5 +1,5 @@
 // Operators: how each stands to its arguments, and the table of those in force.
-ghost use Rattle.std.specs.Prelude.{◌≡◌, ◌↔◌, ◌&&◌, not, ℕ, IfOk, OnOk, OnErr, Err, IsTrue, List, [], Some, true, false};
+ghost use Rattle.std.specs.Prelude.{◌≡◌, ◌↔◌, ◌&&◌, not, ℕ, IfOk, OnOk, OnErr, Err, IsTrue, List, [], Some, true, false, length};
 ghost use Rattle.ladr_lex.specs.ClauseNames.{clause_operator, FreesVariables};
 ghost use Rattle.ladr_lex.specs.Cuts.{is_plain_symbol};
 ghost use Rattle.ladr_lex.specs.OperatorView.{row_list, begins_usually, with_rows, may_be_put};
@@ -7,7 +7,7 @@ ghost use Rattle.ladr_lex.specs.Operators.{OperatorRow, operator_of, if_prefix, 
 
 use crate::clause_names::clause_operator;
 use crate::scan::{is_quoted, is_symbol};
-use indexmap::IndexMap;
+use fol_core::NameOrder;
 use std::alloc::{AllocError, Global};
 use std::marker::Model;
 
@@ -54,8 +54,9 @@ pub enum DeclareError {
 /// to 998.
 #[derive(Drop)]
 pub struct Ops {
-    // A name whose operator was taken away has none.
-    rows: IndexMap<Vec<u8>, Option<Operator>>,
+    names: NameOrder,
+    // By place of the name; a name whose operator was taken away has none.
+    operators: Vec<Option<Operator>>,
     // Whether one of the names may begin as most symbols do. At the start none does, and then no such symbol is looked up.
     usual: bool,
 }
@@ -68,12 +69,13 @@ impl Model for Ops {
 
     ghost use Rattle.ladr_lex.specs.OperatorView.{row_list, are_unusual};
 
-    ghost view = { λ a. row_list a.rows.entries };
+    ghost view = { λ a. row_list a.names a.operators.items };
 
-    ghost use Rattle.std.specs.Prelude.{◌≡◌, true, false};
+    ghost use Rattle.std.specs.Prelude.{◌≡◌, true, false, length};
 
-    ghost invariant = { λ a. (are_lawful (row_list a.rows.entries) ≡ true)
-        × (a.usual ≡ false → are_unusual (row_list a.rows.entries) ≡ true) };
+    ghost invariant = { λ a. (length a.names ≡ length a.operators.items)
+        × (are_lawful (row_list a.names a.operators.items) ≡ true)
+        × (a.usual ≡ false → are_unusual (row_list a.names a.operators.items) ≡ true) };
 }
 
 impl Ops {
@@ -132,7 +134,7 @@ impl Ops {
     pub fn rows_are_lawful(&self)
         ensures { IsTrue (are_lawful self.now) }
     {
-        let _ = &self.rows;
+        let _ = &self.names;
     }
 
     /// Declares a symbol, whose quotes don't count: the operator that it had, if any, gives way to one of this precedence and
@@ -178,10 +180,9 @@ impl Ops {
             operator_of ops name ≡ operator_of self.now name) }
     {
         let mut ops = Ops::none(alloc);
-        for i in 0..self.rows.len() {
-            if let Some((name, operator)) = self.rows.get_index(i) {
-                ops.put(name, clause_operator(prolog, name, *operator))?;
-            }
+        for place in 0..self.operators.len() {
+            let name = self.names.name(place);
+            ops.put(name, clause_operator(prolog, name, self.operators[place]))?;
         }
         Ok(ops)
     }
@@ -190,7 +191,8 @@ impl Ops {
         ensures { result ≡ [] }
     {
         Ops {
-            rows: IndexMap::new(alloc),
+            names: NameOrder::new(alloc),
+            operators: Vec::new(alloc),
             usual: false,
         }
     }
@@ -214,14 +216,12 @@ impl Ops {
         ensures ok { OnOk result (self.new ≡ with_operator_row name.now operator self.old) }
         ensures err { OnErr result (self.new ≡ self.old) }
     {
-        let key = Vec::from_slice(*self.rows.allocator(), name)?;
-        let begins = begins_usually(name);
-        self.rows.insert(key, operator)?;
-        self.usual |= begins;
+        put_row(&mut self.names, &mut self.operators, name, operator)?;
+        self.usual |= begins_usually(name);
         Ok(())
     }
 
-    #[tactic(auto, using(crate::proofs::OperatorLemmas::found_row, crate::proofs::OperatorLemmas::none_usual))]
+    #[tactic(auto, using(crate::proofs::OperatorLemmas::place_within, crate::proofs::OperatorLemmas::none_usual))]
     #[inline(always)]
     fn operator_of(&self, name: &[u8]) -> Option<Operator>
         ensures { result ≡ operator_of self.now name.now }
@@ -229,9 +229,38 @@ impl Ops {
         if !self.usual && begins_usually(name) {
             return None;
         }
-        match self.rows.get(name) {
-            Some(operator) => *operator,
+        match self.names.position(name) {
+            Some(place) => self.operators[place],
             None => None,
+        }
+    }
+}
+
+// Gives a name this operator, or none, in place of the one that it has.
+#[tactic(auto, using(crate::proofs::OperatorLemmas::place_within))]
+fn put_row(
+    names: &mut NameOrder,
+    operators: &mut Vec<Option<Operator>>,
+    name: &[u8],
+    operator: Option<Operator>,
+) -> Result<(), AllocError>
+    requires { length names.old ≡ length operators.old.items }
+    ensures paired { length names.new ≡ length operators.new.items }
+    ensures ok { OnOk result (row_list names.new operators.new.items
+        ≡ with_operator_row name.now operator (row_list names.old operators.old.items)) }
+    ensures err { OnErr result ((names.new ≡ names.old)
+        × (operators.new.items ≡ operators.old.items)) }
+{
+    match names.position(name) {
+        Some(place) => {
+            operators[place] = operator;
+            Ok(())
+        }
+        None => {
+            operators.reserve(1)?;
+            names.push(name)?;
+            operators.push_reserved(operator);
+            Ok(())
         }
     }
 }

@@ -86,7 +86,40 @@ fn prover_of<'a>(
     Prover::new(alloc, problem, &asking.symbols, &asking.clauses, seconds)
 }
 
-// Searches for proofs behind the input in its frame, to the last line.
+// Searches for proofs behind the input in its frame, to the last line, with a prover that hasn't searched yet.
+fn prove_with<'a, K: Sink, C: Clock>(
+    alloc: Global,
+    asking: &Asking<'a>,
+    seconds: Option<u64>,
+    prover: &mut Prover<'a>,
+    sink: &mut K,
+    clock: &mut C,
+) -> Result<ProverOver, Cut>
+    requires asked { IsAskedFor asking.now }
+    requires sound { IsSoundQuest (quest_of asking.now) }
+    requires within { KeepsLimits (quest_of asking.now) }
+    requires new { IsNew (quest_of asking.now).search seconds prover.old }
+    requires unread { (C.times clock.old).count ≡ 0 }
+    requires sink { (K.outflow sink.old).over ≡ false }
+    ensures { Tells (Proving (quest_of asking.now) seconds (C.times clock.new))
+        (ProvesCounted (quest_of asking.now) seconds (C.times clock.new))
+        (K.outflow sink.old) (K.outflow sink.new) result }
+{
+    lines_are_counted();
+    match piece(frame_text(alloc, asking.input), sink) {
+        Ok(()) => {}
+        Err(cut) => return Err(cut),
+    }
+    match search_proofs(alloc, asking, prover, sink, clock) {
+        Ok(end) => match counted(alloc, asking, prover, end) {
+            Ok(over) => ending(closing_lines(alloc, prover, end), over, sink),
+            Err(_) => Err(Cut::Memory),
+        },
+        Err(cut) => Err(cut),
+    }
+}
+
+// Searches for proofs of what is asked.
 fn prove_asked<K: Sink, C: Clock>(
     alloc: Global,
     asking: &Asking<'_>,
@@ -103,21 +136,12 @@ fn prove_asked<K: Sink, C: Clock>(
         (ProvesCounted (quest_of asking.now) seconds (C.times clock.new))
         (K.outflow sink.old) (K.outflow sink.new) result }
 {
-    lines_are_counted();
     let Ok(mut prover) = prover_of(alloc, asking, seconds) else {
         return Err(Cut::Memory);
     };
-    match piece(frame_text(alloc, asking.input), sink) {
-        Ok(()) => {}
-        Err(cut) => return Err(cut),
-    }
-    match search_proofs(alloc, asking, &mut prover, sink, clock) {
-        Ok(end) => match counted(alloc, asking, &prover, end) {
-            Ok(over) => ending(closing_lines(alloc, &prover, end), over, sink),
-            Err(_) => Err(Cut::Memory),
-        },
-        Err(cut) => Err(cut),
-    }
+    let over = prove_with(alloc, asking, seconds, &mut prover, sink, clock);
+    prover.close();
+    over
 }
 
 // A formula has too many clauses.

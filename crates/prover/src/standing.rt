@@ -57,6 +57,10 @@ impl<'a> Prover<'a> {
         })
     }
 
+    /// Lets the prover go. A crate in which one goes out of scope proves anew how each of its parts is let go; one that calls
+    /// this doesn't.
+    pub fn close(self) {}
+
     /// What was counted so far.
     pub fn counters(&self) -> Counters
         ensures { result ≡ counters_of (state_at self.now) }

@@ -1,10 +1,11 @@
 ghost use Rattle.fol_problem.specs.Stated.{stated_of, IsWellFormed};
+ghost use Rattle.prover.specs.Provers.{IsGoing, MayGoOn};
 
 use clausify::{clauses_of, own_table};
 use fol_core::Clauses;
 use fol_problem::Problem;
 use ladr_formulas::Mode;
-use ladr_io::MemClock;
+use ladr_io::{Clock, MemClock};
 use ladr_output::{decimal, text};
 use ladr_problem::read_problem;
 use prover::{Answer, Prover};
@@ -32,7 +33,21 @@ fn chain(alloc: Global, n: u64) -> Result<Vec<u8>, AllocError> {
     Ok(out)
 }
 
-// How many entries of its two indexes a search for one proof tests, up to the proof, and what it has kept then.
+// How many entries of its two indexes a prover tests up to the next proof, and what it has kept then.
+fn counts_of<C: Clock>(
+    alloc: Global,
+    prover: &mut Prover<'_>,
+    clock: &mut C,
+) -> Result<Option<(u64, u64)>, AllocError>
+    requires { IsGoing prover.old → MayGoOn prover.old (C.times clock.old) }
+{
+    match prover.run(alloc, clock)? {
+        Answer::Proof(_) => Ok(Some((prover.tries(), prover.counters().kept))),
+        _ => Ok(None),
+    }
+}
+
+// The same of a search for one proof of a problem.
 fn counted(alloc: Global, problem: &Problem) -> Result<Option<(u64, u64)>, AllocError>
     requires { IsWellFormed (stated_of problem.now) }
 {
@@ -43,10 +58,9 @@ fn counted(alloc: Global, problem: &Problem) -> Result<Option<(u64, u64)>, Alloc
     };
     let mut prover = Prover::new(alloc, problem, &symbols, &clauses, None)?;
     let mut clock = MemClock::new(Vec::new(alloc));
-    match prover.run(alloc, &mut clock)? {
-        Answer::Proof(_) => Ok(Some((prover.tries(), prover.counters().kept))),
-        _ => Ok(None),
-    }
+    let counts = counts_of(alloc, &mut prover, &mut clock);
+    prover.close();
+    counts
 }
 
 #[test]

@@ -7,8 +7,8 @@ use discrim_tree::Index;
 use fol_core::Term;
 use std::alloc::{AllocError, Global};
 
-// One more term under the next number.
-fn put(index: &mut Index, number: u64, term: &Term) -> Result<(), AllocError>
+/// One more term under the next number.
+pub fn put(index: &mut Index, number: u64, term: &Term) -> Result<(), AllocError>
     requires { AreFree number index.old }
     ensures { OnOk result (AreFree (number + 1) index.new) }
 {

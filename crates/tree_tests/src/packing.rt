@@ -34,8 +34,7 @@ fn nested(alloc: Global) -> Result<Term, AllocError> {
 }
 
 // Terms whose numbers have room in sixteen bits, just so, or not.
-fn table(alloc: Global) -> Result<Vec<Term>, AllocError> {
-    let mut terms = Vec::new(alloc);
+fn fill(alloc: Global, terms: &mut Vec<Term>) -> Result<(), AllocError> {
     terms.push(Term::Var(3))?;
     terms.push(Term::Elem(7))?;
     terms.push(constant(alloc, 0))?;
@@ -50,23 +49,35 @@ fn table(alloc: Global) -> Result<Vec<Term>, AllocError> {
     terms.push(pair(alloc, 70000, nested(alloc)?, Term::Var(0))?)?;
     terms.push(row(alloc, 4, 300)?)?;
     terms.push(row(alloc, 4, 65534)?)?;
-    Ok(terms)
+    Ok(())
+}
+
+// Whether a term is the same once it was packed and unpacked.
+fn comes_back(alloc: Global, term: &Term) -> Result<bool, AllocError> {
+    let packed = PackedTerm::new(alloc, term)?;
+    Ok(same(&packed.term(alloc)?, term))
+}
+
+// Whether these heads stand at the places of the nested term.
+fn has_heads(packed: &PackedTerm) -> bool {
+    packed.len() == 5
+        && matches!(packed.head(0), Some(Head::Symbol(1, 2)))
+        && matches!(packed.head(1), Some(Head::Symbol(2, 2)))
+        && matches!(packed.head(2), Some(Head::Variable(5)))
+        && matches!(packed.head(3), Some(Head::Symbol(0, 0)))
+        && matches!(packed.head(4), Some(Head::Element(3)))
+        && packed.head(5).is_none()
 }
 
 #[test]
 fn packed_terms_come_back_by_heads_at_their_places(rt: HostRuntime) -> Result<(), Fail> {
     let alloc = rt.alloc();
-    for term in &table(alloc)? {
-        let packed = PackedTerm::new(alloc, term)?;
-        assert!(rt; same(&packed.term(alloc)?, term));
+    let mut terms = Vec::new(alloc);
+    fill(alloc, &mut terms)?;
+    for term in &terms {
+        assert!(rt; comes_back(alloc, term)?);
     }
     let packed = PackedTerm::new(alloc, &nested(alloc)?)?;
-    assert!(rt; packed.len() == 5);
-    assert!(rt; matches!(packed.head(0), Some(Head::Symbol(1, 2))));
-    assert!(rt; matches!(packed.head(1), Some(Head::Symbol(2, 2))));
-    assert!(rt; matches!(packed.head(2), Some(Head::Variable(5))));
-    assert!(rt; matches!(packed.head(3), Some(Head::Symbol(0, 0))));
-    assert!(rt; matches!(packed.head(4), Some(Head::Element(3))));
-    assert!(rt; packed.head(5).is_none());
+    assert!(rt; has_heads(&packed));
     Ok(())
 }

@@ -1,5 +1,8 @@
+ghost use Rattle.std.specs.Prelude.{◌+◌, OnOk};
+ghost use Rattle.tree_tests.specs.Free.{AreFree};
+
 use crate::chance::Chance;
-use crate::filling::filled;
+use crate::filling::{filled, put};
 use crate::scans::{Left, Scan, all_linear, linear, scanned};
 use discrim_tree::{Index, Tries};
 use fol_core::{Sym, Term, Terms};
@@ -87,30 +90,52 @@ fn found(
     Ok(Some(count))
 }
 
+// Whether an index finds what scans find, and something at all, with all of its entries, with some left, and with fewer; none is
+// left then.
+fn finds_all(
+    alloc: Global,
+    chance: &mut Chance,
+    index: &mut Index,
+    terms: &[Term],
+) -> Result<bool, AllocError> {
+    let all = found(alloc, chance, index, terms, Left::All)?;
+    leave(index, Left::NoThird);
+    let most = found(alloc, chance, index, terms, Left::NoThird)?;
+    leave(index, Left::NoThirdOrSecond);
+    let some = found(alloc, chance, index, terms, Left::NoThirdOrSecond)?;
+    leave(index, Left::None);
+    Ok(
+        all.is_some_and(|count| count > 1000)
+            && most.is_some_and(|count| count > 1000)
+            && some.is_some_and(|count| count > 100),
+    )
+}
+
 #[test]
 fn an_index_finds_what_scans_find(rt: HostRuntime) -> Result<(), Fail> {
     let alloc = rt.alloc();
     let mut chance = Chance { state: 1 };
     let (mut index, terms) = filled(alloc, &mut chance, COUNT)?;
-    let all = found(alloc, &mut chance, &index, &terms, Left::All)?;
-    assert!(rt; matches!(all, Some(count) if count > 1000));
-    leave(&mut index, Left::NoThird);
-    let most = found(alloc, &mut chance, &index, &terms, Left::NoThird)?;
-    assert!(rt; matches!(most, Some(count) if count > 1000));
-    leave(&mut index, Left::NoThirdOrSecond);
-    let some = found(alloc, &mut chance, &index, &terms, Left::NoThirdOrSecond)?;
-    assert!(rt; matches!(some, Some(count) if count > 100));
-    leave(&mut index, Left::None);
-    assert!(rt; index.nodes() == 0);
+    let all = finds_all(alloc, &mut chance, &mut index, &terms)?;
+    assert!(rt; all && index.nodes() == 0);
     Ok(())
 }
 
-// A symbol with two arguments.
-fn pair(alloc: Global, left: Term, right: Term) -> Result<Term, AllocError> {
+// One more entry, of a symbol with two arguments.
+fn put_pair(
+    alloc: Global,
+    index: &mut Index,
+    number: u64,
+    left: Term,
+    right: Term,
+) -> Result<(), AllocError>
+    requires { AreFree number index.old }
+    ensures { OnOk result (AreFree (number + 1) index.new) }
+{
     let mut terms = Terms::new(alloc);
     terms.push(left)?;
     terms.push(right)?;
-    Ok(Term::App(Sym(1), terms))
+    put(index, number, &Term::App(Sym(1), terms))
 }
 
 // The paths of f(x,y), f(x,x) and f(a,x) begin f, f*, f**, fa and fa*.
@@ -118,12 +143,12 @@ fn pair(alloc: Global, left: Term, right: Term) -> Result<Term, AllocError> {
 fn nodes_are_beginnings(rt: HostRuntime) -> Result<(), Fail> {
     let alloc = rt.alloc();
     let mut index = Index::new(alloc);
-    index.insert(1, &pair(alloc, Term::Var(0), Term::Var(1))?)?;
-    index.insert(2, &pair(alloc, Term::Var(0), Term::Var(0))?)?;
+    put_pair(alloc, &mut index, 0, Term::Var(0), Term::Var(1))?;
+    put_pair(alloc, &mut index, 1, Term::Var(0), Term::Var(0))?;
     let constant = Term::App(Sym(0), Terms::new(alloc));
-    index.insert(3, &pair(alloc, constant, Term::Var(0))?)?;
+    put_pair(alloc, &mut index, 2, constant, Term::Var(0))?;
     assert!(rt; index.nodes() == 5);
-    index.remove(3);
+    index.remove(2);
     assert!(rt; index.nodes() == 3);
     Ok(())
 }

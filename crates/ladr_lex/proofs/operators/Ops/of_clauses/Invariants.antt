@@ -4,5 +4,5 @@ use Rattle.ladr_lex.specs.ClauseNames.{clause_operator}
 use Rattle.ladr_lex.specs.Operators.{operator_of}
 use Rattle.ladr_lex.proofs.operators.Ops.of_clauses.Given as goal
 
-abbrev pub invariant-loop-i : goal.invariant-loop-i
-invariant-loop-i l = (name : List ℕ) → operator_of l.ops name ≡ clause_operator l.prolog name (operator_of (take l.i l.self) name)
+abbrev pub invariant-loop-place : goal.invariant-loop-place
+invariant-loop-place l = (name : List ℕ) → operator_of l.ops name ≡ clause_operator l.prolog name (operator_of (take l.place l.self) name)
