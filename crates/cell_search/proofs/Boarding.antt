@@ -1,5 +1,5 @@
 -- Steps of a partial table that lose nothing.
-use Rattle.std.proofs.Common.{◌≡◌, ℕ, suc, ◌+◌, ◌*◌, ◌-◌, ◌/◌, ◌%◌, ◌<◌, ◌≤◌, ◌==◌, ◌||◌, Bool, true, false, if◌then◌else◌, MatchBool, max, List, [], ◌∷◌, length, None, Some, refl, sym, ap, ◌∙◌, subst, arith}
+use Rattle.std.proofs.Common.{◌≡◌, ℕ, zero, suc, ◌+◌, ◌*◌, ◌-◌, ◌/◌, ◌%◌, ◌<◌, ◌≤◌, ◌==◌, ◌||◌, Bool, true, false, if◌then◌else◌, MatchBool, max, List, [], ◌∷◌, length, drop, Option, None, Some, refl, sym, ap, ◌∙◌, subst, arith}
 use Rattle.std.proofs.lemmas.Bool.{eqb-true, eq-eqb, false≢true}
 use Rattle.std.proofs.lemmas.Nat.{div-mul-add, mod-mul-add}
 use Rattle.std.proofs.lemmas.Option.{none-some, same_Some}
@@ -13,7 +13,7 @@ use Rattle.mace_cells.specs.World.{World, Solves, cell_of, many_cells}
 use Rattle.mace_cells.specs.declared.trail.TrailEntry.{TrailEntry}
 use Rattle.mace_ground.specs.Cells.{Cell, value_at}
 use Rattle.model_tables.specs.Size.{bound_of}
-use Rattle.cell_search.specs.Losses.{Extends, Spares, decision_of, decided_in, LosesNone, LostNone, AreFresh, HadTwoLeft, IsBoard}
+use Rattle.cell_search.specs.Losses.{AreCrossedOnce, Extends, Spares, decision_of, decided_in, LosesNone, LostNone, AreFresh, HadTwoLeft, IsBoard}
 
 abbrev pub entry : ℕ → ℕ → Bool → ℕ → TrailEntry
 entry cell value decided mark = record { cell = cell; value = value; decided = decided; mark = mark }
@@ -37,10 +37,10 @@ spares_more w m stride cell v ks fits spares other = λ k u within small struck 
         other (ap (λ (j : ℕ). value_at m (cell_of w j)) (sym same.0) ∙ here ∙ same.1)
     by k u within small false t struck here = spares k u within small struck here
 
-earliest_more : (n k : ℕ) (ks : List ℕ) → n ≤ length ks → earliest n (k ∷ ks) ≡ earliest n ks
+pub earliest_more : (n k : ℕ) (ks : List ℕ) → n ≤ length ks → earliest n (k ∷ ks) ≡ earliest n ks
 earliest_more n k ks h = let e : suc (length ks) - n ≡ suc (length ks - n) = omega (arith, h) in rw e refl
 
-earliest_all : (ks : List ℕ) → earliest (length ks) ks ≡ ks
+pub earliest_all : (ks : List ℕ) → earliest (length ks) ks ≡ ks
 earliest_all ks = let e : length ks - length ks ≡ 0 = omega arith in rw e refl
 
 lost_more : (w : World) (stride k : ℕ) (es : List TrailEntry) (ks : List ℕ) → LostNone w stride es ks → LostNone w stride es (k ∷ ks)
@@ -82,12 +82,13 @@ module _ (w : World) (t : Partial) (board : IsBoard w t) where
     present = λ m s agrees. let old = board.present m s agrees in (extends_more w m (entry cell v false mark) t.entries old.0 (only m s agrees), old.1);
     before = board.before;
     chosen = board.chosen;
+    once = board.once;
   }
 
   -- a value that it can't have is crossed off
-  pub crossed : (cell v : ℕ) → v < t.stride → ((m : Meaning) → Solves w m → AgreesWith m (decided_in w t.entries) → value_at m (cell_of w cell) ≡ v → ⊥)
+  pub crossed : (cell v : ℕ) → v < t.stride → is_struck_off (cell * t.stride + v) t.crossings ≡ false → v < bound_of w.size (cell_of w cell).kind → ((m : Meaning) → Solves w m → AgreesWith m (decided_in w t.entries) → value_at m (cell_of w cell) ≡ v → ⊥)
       → IsBoard w (partial t.many t.stride t.ranking t.entries ((cell * t.stride + v) ∷ t.crossings))
-  crossed cell v fits other = record {
+  crossed cell v fits spare small other = record {
     some = board.some;
     many = board.many;
     stride = board.stride;
@@ -96,6 +97,7 @@ module _ (w : World) (t : Partial) (board : IsBoard w t) where
     present = λ m s agrees. let old = board.present m s agrees in (old.0, spares_more w m t.stride cell v t.crossings fits old.1 (other m s agrees));
     before = lost_more w t.stride (cell * t.stride + v) t.entries t.crossings board.before;
     chosen = chosen_more w t.stride (cell * t.stride + v) t.entries t.crossings board.chosen;
+    once = (spare, rw (mod-mul-add cell t.stride v fits, div-mul-add cell t.stride v fits) small, board.once);
   }
 
   -- a value is decided
@@ -110,11 +112,22 @@ module _ (w : World) (t : Partial) (board : IsBoard w t) where
         present = λ m s agrees. let old = board.present m s agrees.1 in (extends_more w m (entry cell v true (length t.crossings)) t.entries old.0 agrees.0, old.1);
         before = (omega arith, subst (λ (js : List ℕ). LosesNone w t.stride t.entries js) (sym same) board.present, subst (λ (js : List ℕ). LostNone w t.stride t.entries js) (sym same) board.before);
         chosen = (omega arith, subst (λ (js : List ℕ). HadTwo w t.stride (entry cell v true (length t.crossings)) t.entries js) (sym same) two, subst (λ (js : List ℕ). HadTwoLeft w t.stride t.entries js) (sym same) board.chosen);
+        once = board.once;
       }
 
-pub struck_off : (w : World) (t t' : Partial) (end cell v : ℕ) → IsBoard w t → v < end → end ≤ max w.size 2 → ((m : Meaning) → Solves w m → AgreesWith m (decided_in w t.entries) → value_at m (cell_of w cell) ≡ v → ⊥)
+pub struck_off : (w : World) (t t' : Partial) (end cell v : ℕ) → IsBoard w t → v < end → end ≤ max w.size 2 → is_struck_off (cell * t.stride + v) t.crossings ≡ false → end ≡ bound_of w.size (cell_of w cell).kind → ((m : Meaning) → Solves w m → AgreesWith m (decided_in w t.entries) → value_at m (cell_of w cell) ≡ v → ⊥)
     → t' ≡ partial t.many t.stride t.ranking t.entries ((cell * t.stride + v) ∷ t.crossings) → IsBoard w t'
-struck_off w t t' end cell v board below fits other is = rw is (crossed w t board cell v (omega (arith, below, fits, board.stride)) other)
+struck_off w t t' end cell v board below fits spare bound other is = rw is (crossed w t board cell v (omega (arith, below, fits, board.stride)) spare (omega (arith, below, bound)) other)
+
+-- what is left of crossings
+once_drop : (w : World) (stride n : ℕ) (ks : List ℕ) → AreCrossedOnce w stride ks → AreCrossedOnce w stride (drop n ks)
+once_drop w stride zero ks once = once
+once_drop w stride (suc n) [] once = once
+once_drop w stride (suc n) (k ∷ ks) once = once_drop w stride n ks once.2
+
+once_cut : (w : World) (stride : ℕ) (o : Option ℕ) (ks : List ℕ) → AreCrossedOnce w stride ks → AreCrossedOnce w stride (cut_to o ks)
+once_cut w stride None ks once = once
+once_cut w stride (Some mark) ks once = once_drop w stride (length ks - mark) ks once
 
 -- what is left when the latest decision is taken back
 record IsTakenBack (w : World) (stride : ℕ) (es : List TrailEntry) (ks : List ℕ) : Type 0 where
@@ -138,7 +151,7 @@ taken_back w stride (e ∷ es) ks fresh lost two some = by e.decided refl lost t
 pub taken : (w : World) (t : Partial) → IsBoard w t → 0 < length (decided_in w t.entries) → IsBoard w (undone t) × (decided_in w (before_decision t.entries) ≡ rest_of (decided_in w t.entries))
 taken w t board some =
     let b = taken_back w t.stride t.entries t.crossings board.fresh board.before board.chosen some in
-    (record { some = board.some; many = board.many; stride = board.stride; ranking = board.ranking; fresh = b.fresh; present = b.present; before = b.before; chosen = b.chosen }, b.decided)
+    (record { some = board.some; many = board.many; stride = board.stride; ranking = board.ranking; fresh = b.fresh; present = b.present; before = b.before; chosen = b.chosen; once = once_cut w t.stride (latest_mark t.entries) t.crossings board.once }, b.decided)
 
 -- the cell of the latest decision has no value then, and two left
 pub reopened : (w : World) (t : Partial) → IsBoard w t → ((j k : ℕ) → j < many_cells w → k < many_cells w → cell_of w j ≡ cell_of w k → j ≡ k) → 0 < length (decided_in w t.entries)

@@ -1,5 +1,5 @@
 -- What a search gives, by what it found.
-use Rattle.std.proofs.Common.{◌≡◌, ℕ, zero, suc, Bool, false, List, Option, refl, sym, subst}
+use Rattle.std.proofs.Common.{◌≡◌, ℕ, zero, suc, Bool, false, List, [], Option, refl, sym, subst}
 use Rattle.ladr_io.specs.Times.{Times}
 use Rattle.mace_cells.proofs.Moving.{goes_nowhere}
 use Rattle.mace_cells.proofs.Reading.{reads_none}
@@ -13,6 +13,7 @@ use Rattle.mace_cells.specs.World.{World}
 use Rattle.mace_cells.specs.declared.frame.Frame.{Frame}
 use Rattle.mace_search.specs.declared.answer.Answer.{Answer}
 use Rattle.mace_search.specs.declared.answer.Answer.TheVariants.{Model, Exhausted, MaxSeconds}
+use Rattle.cell_driver.specs.Comings.{ComesInTime}
 use Rattle.cell_search.specs.Courses.{Course, AnswersByCells, live_in, late_in, follows_after}
 use Rattle.cell_search.specs.Finites.{finite_of, meaning_by_cells, AreTablesFor}
 use Rattle.cell_search.specs.declared.search.State.{State}
@@ -48,3 +49,13 @@ goes_by w w' fs fs' live old stop t t' answer worlds lives h =
 -- where nothing is left no cell is chosen, and the clock isn't read
 pub goes_no_more : (w : World) (stop : Option ℕ) (cs : List Choice) (t : Times) → GoesInTime w stop false cs Exhausted cs t t
 goes_no_more w stop cs t = (0, goes_nowhere w false cs, reads_none stop t)
+
+-- what came is what the code says
+pub comes_by : (w w' : World) (fs fs' : List Frame) (live old : Bool) (stop : Option ℕ) (t t' : Times) (answer : Answer) → w' ≡ w → old ≡ live
+    → ComesInTime w stop live (choices_of w fs) answer (choices_of w fs') t t' → ComesInTime w stop old (choices_of w fs) answer (choices_of w' fs') t t'
+comes_by w w' fs fs' live old stop t t' answer worlds lives h =
+    subst (λ (b : Bool). ComesInTime w stop b (choices_of w fs) answer (choices_of w' fs') t t') (sym lives)
+    (subst (λ (v : World). ComesInTime w stop live (choices_of w fs) answer (choices_of v fs') t t') (sym worlds) h)
+
+pub comes_no_more : (w : World) (stop : Option ℕ) (t : Times) → ComesInTime w stop false [] Exhausted [] t t
+comes_no_more w stop t = (0, (refl, reads_none stop t))

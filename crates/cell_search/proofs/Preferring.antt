@@ -1,6 +1,5 @@
 -- The cell that is chosen.
-use Rattle.std.proofs.Common.{◌≡◌, inl, inr, nat_lt, Bool, MatchBool, ℕ, ◌+◌, ◌<◌, List, length, get_or, None, Some, sym, ap, subst, ◌∙◌, arith}
-use Rattle.std.proofs.lemmas.Bool.{cases_lt, lt-ltb, le-ltb}
+use Rattle.std.proofs.Common.{◌≡◌, ℕ, ◌<◌, List, length, get_or, None, ap, subst, ◌∙◌, arith}
 use Rattle.std.proofs.Math.ListN.{get_or-map}
 use Rattle.cell_choice.proofs.Picking.{picked_alike, picked_blank}
 use Rattle.cell_choice.proofs.Shaping.{index_is, shapes_many}
@@ -9,13 +8,9 @@ use Rattle.cell_choice.specs.Shapes.{cell_shapes, index_in}
 use Rattle.fol_core.specs.declared.symbols.Kind.TheVariants.{Function}
 use Rattle.cell_choice.specs.declared.shape.Shape.{Shape}
 use Rattle.mace_cells.specs.Trails.{Partial, Ranking, value_in}
-use Rattle.mace_cells.specs.World.{World, IsRefuted, cell_of, many_cells}
-use Rattle.mace_cells.specs.declared.trail.TrailEntry.{TrailEntry}
+use Rattle.mace_cells.specs.World.{World, many_cells}
 use Rattle.mace_cells.specs.declared.way.Way.{Way}
-use Rattle.model_tables.specs.Size.{bound_of}
-use Rattle.cell_search.specs.Full.{HasProperValue}
-use Rattle.cell_search.specs.Losses.{IsBoard, decided_in}
-use Rattle.cell_search.proofs.Leaving.{given, out_of_range}
+use Rattle.cell_search.specs.Losses.{IsBoard}
 
 pub many_shapes : (w : World) (shapes : List Shape) → shapes ≡ cell_shapes w.size w.blocks → length shapes ≡ many_cells w
 many_shapes w shapes is = ap (λ (ss : List Shape). length ss) is ∙ shapes_many w.size w.blocks
@@ -33,17 +28,3 @@ module _ (w : World) (t : Partial) (board : IsBoard w t) where
 
   pub picked_open : (way : Way) (used k : ℕ) → IsPicked (index_by t) t way used k → value_in t.entries k ≡ None
   picked_open way used k h = (picked_blank (index_by t) t way used k h).1
-
-module _ (w : World) (t : Partial) (board : IsBoard w t) where
-  -- a value of a cell is one that it can have, or no solution has it
-  pub proper_by : (k v end : ℕ) → k < many_cells w → Some v ≡ value_in t.entries k → end ≡ bound_of w.size (cell_of w k).kind
-      → MatchBool (nat_lt v end) (HasProperValue w t.entries k) (IsRefuted w (decided_in w t.entries))
-  proper_by k v end within is bound = elim (cases_lt v end) [
-    | inl less ↦ subst (λ (b : Bool). MatchBool b (HasProperValue w t.entries k) (IsRefuted w (decided_in w t.entries))) (sym (lt-ltb v end less)) (v, (sym is, omega (arith, less, bound)))
-    | inr past ↦
-        subst (λ (b : Bool). MatchBool b (HasProperValue w t.entries k) (IsRefuted w (decided_in w t.entries))) (sym (le-ltb v end past)) (out_of_range w t board k within v end (given w t board k within v is) bound past)
-  ]
-
--- one cell after the other
-pub proper_more : (w : World) (es : List TrailEntry) (n : ℕ) → ((k : ℕ) → k < n → HasProperValue w es k) → HasProperValue w es n → (k : ℕ) → k < n + 1 → HasProperValue w es k
-proper_more w es n before here k h = elim (cases_lt k n) [ inl less ↦ before k less | inr most ↦ let same : n ≡ k = omega (arith, h, most) in subst (HasProperValue w es) same here ]

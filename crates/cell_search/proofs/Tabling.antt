@@ -24,7 +24,7 @@ use Rattle.cell_search.specs.Losses.{Extends}
 use Rattle.cell_search.proofs.Seeing.{found_within}
 
 -- a cell by its block and its place in it
-record IsLocated (n from : ℕ) (bs : List Block) (k : ℕ) : Type 0 where
+pub record IsLocated (n from : ℕ) (bs : List Block) (k : ℕ) : Type 0 where
   pub first : ℕ
   pub place : ℕ
   pub block : Block
@@ -37,7 +37,7 @@ record IsLocated (n from : ℕ) (bs : List Block) (k : ℕ) : Type 0 where
 eqb_same : (a : ℕ) → (a == a) ≡ true
 eqb_same a = grind (arith, nat_tests)
 
-located : (n from : ℕ) (bs : List Block) (k : ℕ) → IsOnce (map (λ b. b.symbol) bs) → k < cells_in n bs → IsLocated n from bs k
+pub located : (n from : ℕ) (bs : List Block) (k : ℕ) → IsOnce (map (λ b. b.symbol) bs) → k < cells_in n bs → IsLocated n from bs k
 located n from [] k once h = absurd (omega (arith, h))
 located n from (b ∷ bs) k once h = elim (cases_lt k (n ^ b.arity)) [
   | inl here ↦ record {

@@ -15,7 +15,7 @@ use Rattle.mace_cells.specs.Trails.{Partial, partial}
 use Rattle.mace_cells.specs.World.{World, IsBound, cell_of, many_cells}
 use Rattle.mace_ground.specs.Cells.{Cell}
 use Rattle.model_tables.specs.Size.{bound_of}
-use Rattle.cell_search.specs.Losses.{decided_in, IsBoard}
+use Rattle.cell_search.specs.Losses.{decided_in}
 use Rattle.cell_search.specs.Searchable.{HasAllCells}
 use Rattle.cell_search.proofs.Boards.{bound_is}
 use Rattle.cell_search.proofs.Bounding.{arguments_below, bound_some}
@@ -37,22 +37,23 @@ uses_many fixed [] = refl
 uses_many fixed (d ∷ ds) = ap suc (uses_many fixed ds)
 
 -- each solution is isomorphic to one with a value that is tried
-pub bound_tried : (w : World) (t : Partial) → IsBoard w t → HasAllCells w → (k : ℕ) → k < many_cells w → IsBound w (decided_in w t.entries) (cell_of w k) (greatest_tried w (decided_in w t.entries) (cell_of w k))
-bound_tried w t board proper k within = by w.way.least_numbers (cell_of w k).kind refl
+pub bound_tried : (w : World) → HasAllCells w → (ds : List Decision) (k : ℕ) → k < many_cells w → IsBound w ds (cell_of w k) (greatest_tried w ds (cell_of w k))
+bound_tried w proper ds k within = by w.way.least_numbers (cell_of w k).kind refl
   where
-    all : (kind : Kind) → (cell_of w k).kind ≡ kind → IsBound w (decided_in w t.entries) (cell_of w k) (bound_of w.size kind - 1)
-    all kind is = bound_is w t board k (bound_of w.size kind - 1) (bound_of w.size kind) within (ap (bound_of w.size) (sym is)) (let some = bound_some w.size kind board.some in omega (arith, some))
+    all : (kind : Kind) → (cell_of w k).kind ≡ kind → IsBound w ds (cell_of w k) (bound_of w.size kind - 1)
+    all kind is = bound_is w ds k (bound_of w.size kind - 1) (bound_of w.size kind) proper.some within (ap (bound_of w.size) (sym is)) (let some = bound_some w.size kind proper.some in omega (arith, some))
 
-    by : (least : Bool) (kind : Kind) → (cell_of w k).kind ≡ kind → IsBound w (decided_in w t.entries) (cell_of w k) (tried_to least w.size kind (max (above_used w.fixed (decided_in w t.entries)) (above_each (cell_of w k).arguments)))
+    by : (least : Bool) (kind : Kind) → (cell_of w k).kind ≡ kind → IsBound w ds (cell_of w k) (tried_to least w.size kind (max (above_used w.fixed ds) (above_each (cell_of w k).arguments)))
     by false kind is = all kind is
     by true Relation is = all Relation is
-    by true Function is = elim (cases_lt (max (above_used w.fixed (decided_in w t.entries)) (above_each (cell_of w k).arguments)) (w.size - 1)) [
+    by true Function is = elim (cases_lt (max (above_used w.fixed ds) (above_each (cell_of w k).arguments)) (w.size - 1)) [
       | inl less ↦
-          least_numbers_suffice w (decided_in w t.entries) (cell_of w k) (min (max (above_used w.fixed (decided_in w t.entries)) (above_each (cell_of w k).arguments)) (w.size - 1)) proper.named is
-          (arguments_below w.size w.blocks k board.some within) (omega (arith, board.some)) (omega (arith, less)) (omega (arith, less))
+          let some = proper.some in
+          least_numbers_suffice w ds (cell_of w k) (min (max (above_used w.fixed ds) (above_each (cell_of w k).arguments)) (w.size - 1)) proper.named is
+          (arguments_below w.size w.blocks k proper.some within) (omega (arith, some)) (omega (arith, less)) (omega (arith, less))
       | inr more ↦
-          let same : w.size - 1 ≡ min (max (above_used w.fixed (decided_in w t.entries)) (above_each (cell_of w k).arguments)) (w.size - 1) = omega (arith, more) in
-          subst (IsBound w (decided_in w t.entries) (cell_of w k)) same (all Function is)
+          let same : w.size - 1 ≡ min (max (above_used w.fixed ds) (above_each (cell_of w k).arguments)) (w.size - 1) = omega (arith, more) in
+          subst (IsBound w ds (cell_of w k)) same (all Function is)
     ]
 
 -- one decision more

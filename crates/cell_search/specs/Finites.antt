@@ -4,12 +4,15 @@ use Rattle.std.specs.List.{range_with_len}
 use Rattle.fol_core.specs.Meaning.{Meaning}
 use Rattle.fol_core.specs.SymbolTable.{Symbol, kind_at}
 use Rattle.fol_core.specs.declared.symbols.Kind.TheVariants.{Function}
+use Rattle.mace_cells.specs.Choices.{Decision}
 use Rattle.mace_cells.specs.Trails.{value_in}
-use Rattle.mace_cells.specs.World.{World}
+use Rattle.mace_cells.specs.World.{World, cell_of}
 use Rattle.mace_cells.specs.declared.trail.TrailEntry.{TrailEntry}
 use Rattle.mace_ground.specs.Cells.{Block, found}
 use Rattle.model_tables.specs.Size.{bound_of, AllBelow}
 use Rattle.model_tables.specs.Tables.{listing, Finite, meaning_of, row_of}
+use Rattle.plain_search.specs.Coming.{closed_behind}
+use Rattle.plain_search.specs.Lefts.{ValuesLeft, only_value}
 
 -- the values of so many cells from k on, 0 where there is none
 abbrev pub cell_values : List TrailEntry → ℕ → ℕ → List ℕ
@@ -36,6 +39,27 @@ finite_of w es =
       rows = map (λ s. listing Function (values_of_symbol w es s))
           (range_with_len 0 (above_symbols w.blocks));
     }
+
+-- the same of values that cells have by number, 0 where there is none
+abbrev pub values_by : World → (ℕ → Option ℕ) → Option (ℕ × Block) → List ℕ
+values_by w f None = []
+values_by w f (Some q) = map (λ j. unwrap_or (f j) 0) (range_with_len q.0 (w.size ^ q.1.arity))
+
+abbrev pub finite_by : World → (ℕ → Option ℕ) → Finite
+finite_by w f =
+    record {
+      top = w.size - 1;
+      rows = map (λ s. listing Function (values_by w f (found w.size w.blocks s)))
+          (range_with_len 0 (above_symbols w.blocks));
+    }
+
+-- the tables of a leaf of the plain search, which has one value left in each cell
+abbrev pub finite_at : World → ValuesLeft → Finite
+finite_at w p = finite_by w (λ k. only_value (p (cell_of w k)))
+
+-- Where decisions lead to a leaf, these are its tables.
+abbrev pub AreLeafTables : World → List Decision → Finite → Type 0
+AreLeafTables w ds t = (p : ValuesLeft) → closed_behind w ds ≡ Some p → t ≡ finite_at w p
 
 -- and as an interpretation
 abbrev pub meaning_by_cells : World → List TrailEntry → Meaning

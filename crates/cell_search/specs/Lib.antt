@@ -8,3 +8,12 @@ pub mod Positions
 pub mod SearchCodes
 pub mod Searchable
 pub mod Losses
+pub mod Telling
+pub mod Viewing
+pub mod Following
+pub mod Covering
+pub mod Marks
+pub mod Ways
+pub mod Choosing
+pub mod Phases
+pub mod Leaves

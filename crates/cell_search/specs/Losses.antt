@@ -1,5 +1,5 @@
 -- Partial tables from which nothing is lost: what the decisions leave, the table leaves.
-use Rattle.std.specs.Prelude.{ℕ, ◌+◌, ◌*◌, ◌≡◌, ◌<◌, ◌≤◌, true, if◌then◌else◌, List, [], ◌∷◌, MatchBool, max, length, None, Some}
+use Rattle.std.specs.Prelude.{ℕ, ◌+◌, ◌*◌, ◌/◌, ◌%◌, ◌≡◌, ◌<◌, ◌≤◌, true, false, if◌then◌else◌, List, [], ◌∷◌, MatchBool, max, length, None, Some}
 use Rattle.fol_core.specs.Meaning.{Meaning}
 use Rattle.cell_choice.specs.Shapes.{ranking_of}
 use Rattle.mace_cells.specs.Choices.{Decision, AgreesWith}
@@ -58,8 +58,16 @@ HadTwoLeft w stride (e ∷ es) ks =
     (bound_of w.size (cell_of w e.cell).kind)
     × HadTwoLeft w stride es (earliest e.mark ks)) (HadTwoLeft w stride es ks)
 
--- A partial table of the cells from which nothing is lost, and in which no cell was decided that had
--- one value left.
+-- each value was crossed off once, and is one that its cell can have
+abbrev pub AreCrossedOnce : World → ℕ → List ℕ → Type 0
+AreCrossedOnce w stride [] = Unit {0}
+AreCrossedOnce w stride (j ∷ js) =
+    (is_struck_off j js ≡ false)
+    × (j % stride < bound_of w.size (cell_of w (j / stride)).kind)
+    × AreCrossedOnce w stride js
+
+-- A partial table of the cells from which nothing is lost, in which no cell was decided that had one
+-- value left, and no value was crossed off twice.
 pub record IsBoard (w : World) (t : Partial) : Type 0 where
   pub some : 0 < w.size
   pub many : t.many ≡ many_cells w
@@ -69,3 +77,4 @@ pub record IsBoard (w : World) (t : Partial) : Type 0 where
   pub present : LosesNone w t.stride t.entries t.crossings
   pub before : LostNone w t.stride t.entries t.crossings
   pub chosen : HadTwoLeft w t.stride t.entries t.crossings
+  pub once : AreCrossedOnce w t.stride t.crossings

@@ -1,6 +1,8 @@
 // What a literal that is to be true asks of a cell.
 ghost use Rattle.std.specs.Prelude.{◌≡◌, ◌⊎◌, IfSome};
 ghost use Rattle.cell_search.specs.Asking.{AreSides, IsAsked};
+ghost use Rattle.cell_search.specs.Telling.{literal_asked, sides_seen};
+ghost use Rattle.std.specs.Option.{option_or};
 ghost use Rattle.fol_core.specs.ClauseView.{literal_of};
 ghost use Rattle.fol_core.specs.TermView.{tree_of};
 ghost use Rattle.mace_cells.specs.World.{many_cells};
@@ -22,8 +24,10 @@ pub struct Ask {
 // The cell of a term, and the value of another.
 fn sides(setup: &Setup, trail: &Trail, term: &Term, other: &Term, env: &[u32]) -> Option<(u32, u32)>
     requires { trail.now.many ≡ many_cells setup.now }
-    ensures { IfSome result (λ p. AreSides setup.now trail.now.entries (assigned_by env.now)
+    ensures sides { IfSome result (λ p. AreSides setup.now trail.now.entries (assigned_by env.now)
         (tree_of term.now) (tree_of other.now) p) }
+    ensures seen { result ≡ sides_seen setup.now trail.now.entries (assigned_by env.now)
+        (tree_of term.now) (tree_of other.now) }
 {
     let Term::App(symbol, terms) = term else {
         return None;
@@ -42,9 +46,14 @@ fn equation_sides(
     env: &[u32],
 ) -> Option<(u32, u32)>
     requires { trail.now.many ≡ many_cells setup.now }
-    ensures { IfSome result (λ p. AreSides setup.now trail.now.entries (assigned_by env.now)
+    ensures sides { IfSome result (λ p. AreSides setup.now trail.now.entries (assigned_by env.now)
         (tree_of left.now) (tree_of right.now) p ⊎ AreSides setup.now trail.now.entries
         (assigned_by env.now) (tree_of right.now) (tree_of left.now) p) }
+    ensures seen { result ≡ option_or
+        (sides_seen setup.now trail.now.entries (assigned_by env.now) (tree_of left.now)
+        (tree_of right.now))
+        (sides_seen setup.now trail.now.entries (assigned_by env.now) (tree_of right.now)
+        (tree_of left.now)) }
 {
     match sides(setup, trail, left, right, env) {
         Some(found) => Some(found),
@@ -55,8 +64,10 @@ fn equation_sides(
 /// What a literal asks, where it is one cell that keeps it from being known.
 pub fn asked(setup: &Setup, trail: &Trail, literal: &Literal, env: &[u32]) -> Option<Ask>
     requires { trail.now.many ≡ many_cells setup.now }
-    ensures { IfSome result (λ a. IsAsked setup.now trail.now.entries (assigned_by env.now)
-        (literal_of literal.now) a) }
+    ensures asked { IfSome result (λ a. IsAsked setup.now trail.now.entries
+        (assigned_by env.now) (literal_of literal.now) a) }
+    ensures seen { result ≡ literal_asked setup.now trail.now.entries (assigned_by env.now)
+        (literal_of literal.now) }
 {
     let positive = literal.positive;
     let Term::App(symbol, terms) = &literal.atom else {

@@ -1,29 +1,48 @@
 // The board of a search: a partial table of its cells, closed under what the clauses ask.
-ghost use Rattle.std.specs.Prelude.{ℕ, ◌≡◌, ◌<◌, ◌≤◌, [], None, false, max, IfOk, length, replicate};
-ghost use Rattle.cell_choice.specs.Choosing.{IsPicked};
-ghost use Rattle.cell_choice.specs.Shapes.{cell_shapes, index_in, ranking_of};
-ghost use Rattle.cell_search.specs.Finites.{finite_of, meaning_by_cells, tables_over, AreTablesFor};
+ghost use Rattle.std.specs.Prelude.{ℕ, ◌≡◌, ◌<◌, ◌≤◌, ◌^◌, [], None, true, max, IfOk, length, replicate};
+ghost use Rattle.cell_choice.specs.Shapes.{cell_shapes, ranking_of};
+ghost use Rattle.cell_driver.specs.Boards.{IsAsSaid, StandsAs};
+ghost use Rattle.cell_search.specs.Covering.{AreWholeWays};
+ghost use Rattle.cell_search.specs.Finites.{finite_of, meaning_by_cells, tables_over, AreLeafTables, AreTablesFor};
+ghost use Rattle.cell_search.specs.Following.{left_after};
+ghost use Rattle.cell_search.specs.Phases.{IsClosedTable, phase_after};
 ghost use Rattle.cell_search.specs.Positions.{position, IsLeast};
 ghost use Rattle.cell_search.specs.Searchable.{HasAllCells};
 ghost use Rattle.cell_search.specs.Losses.{decided_in, AreFresh, HadTwoLeft};
-ghost use Rattle.mace_cells.specs.Boards.{IsAsSaid};
+ghost use Rattle.cell_search.specs.Ways.{AreGroups, HaveWalks};
 ghost use Rattle.mace_cells.specs.Numbers.{above_used, greatest_tried};
 ghost use Rattle.mace_cells.specs.Trails.{HasTwoLeft, partial, value_in};
 ghost use Rattle.model_tables.specs.Size.{bound_of};
-ghost use Rattle.mace_cells.specs.World.{cell_of, many_cells, IsRefuted, IsBound};
+ghost use Rattle.mace_cells.specs.World.{cell_of, many_cells, IsBound};
+ghost use Rattle.plain_search.specs.Coming.{closed_behind};
 
-use crate::closing::settle_single;
-use crate::full::{Filled, are_true, fullness, room};
-use crate::going::{begin, close};
+use crate::going::close_waiting;
 use crate::setup::Setup;
 use crate::tables::finite;
 use crate::walk::{Group, Walk};
-use cell_choice::{Shape, above_decision, greatest_tried, indices};
+use crate::walks::room;
+use cell_choice::{Shape, above_decision, greatest_tried, indices, pick};
+use cell_driver::{Board, Status};
 use fol_core::Symbols;
-use mace_cells::{Board, Stack, Status, Trail};
+use mace_cells::{Stack, Trail};
 use model_tables::Tables;
 use std::alloc::{AllocError, Global};
 use std::marker::Model;
+
+// Whether a table waits to be closed, is closed, or closing it met a contradiction.
+#[derive(Clone, Copy)]
+enum Phase {
+    Waiting,
+    Closed,
+    Failed,
+}
+
+// What a table is after closing.
+fn phase_after(closed: bool) -> Phase
+    ensures { result ≡ phase_after closed }
+{
+    if closed { Phase::Closed } else { Phase::Failed }
+}
 
 /// A board of cells; contracts see what is searched for, and the table so far.
 #[derive(Drop)]
@@ -38,22 +57,24 @@ pub struct Cells<'a> {
     groups: Vec<Group<'a>>,
     // The elements of variables.
     env: Vec<u32>,
-    // How many steps were gone over, and whether all instances were at the beginning.
+    // For how many steps all instances were gone over, and whether they were at the beginning.
     head: usize,
     begun: bool,
+    phase: Phase,
 }
 
 impl<'a> Model for Cells<'a> {
     ghost use Rattle.std.specs.Prelude.{◌≡◌, ◌≤◌, length};
     ghost use Rattle.cell_choice.specs.Numbers.{uses_by};
     ghost use Rattle.cell_choice.specs.Shapes.{cell_shapes};
-    ghost use Rattle.cell_search.specs.Full.{HaveVariables};
+    ghost use Rattle.cell_search.specs.Phases.{IsInPhase, IsReady, WasClosed};
     ghost use Rattle.cell_search.specs.Positions.{BoardPosition};
     ghost use Rattle.cell_search.specs.SearchCodes.{coded_position};
     ghost use Rattle.cell_search.specs.Searchable.{HasAllCells};
     ghost use Rattle.cell_search.specs.Losses.{IsBoard, decided_in};
     ghost use Rattle.mace_cells.specs.World.{many_cells};
     ghost use Rattle.model_tables.specs.Size.{AllBelow};
+    ghost use Rattle.plain_search.specs.Meeting.{WereLeft};
 
     ghost Value = { BoardPosition };
 
@@ -64,12 +85,15 @@ impl<'a> Model for Cells<'a> {
     ghost invariant = { λ a. record {
       board : IsBoard a.setup a.trail;
       searchable : HasAllCells a.setup;
-      room : HaveVariables a.setup.clauses (length a.env.items);
+      ready : IsReady a.setup a.walks.items a.groups.items (length a.env.items);
       env : AllBelow a.setup.size a.env.items;
       shapes : a.shapes.items ≡ cell_shapes a.setup.size a.setup.blocks;
       uses : a.uses.list ≡ uses_by a.setup.fixed (decided_in a.setup a.trail.entries);
       stack : a.uses.room ≡ many_cells a.setup;
       small : a.setup.size ≤ 255;
+      was : WasClosed a.setup a.trail.stride a.trail.entries a.trail.crossings;
+      were : WereLeft a.setup (decided_in a.setup a.trail.entries);
+      phase : IsInPhase a.setup a.trail a.begun a.head a.phase;
     } };
 }
 
@@ -86,6 +110,10 @@ impl<'a> Cells<'a> {
         requires searchable { HasAllCells setup }
         requires small { setup.size ≤ 255 }
         requires shapes { shapes.items ≡ cell_shapes setup.size setup.blocks }
+        requires whole { AreWholeWays setup walks.items }
+        requires each { length walks.items ≡ length setup.clauses }
+        requires groups { AreGroups setup groups.items }
+        requires walks { HaveWalks setup groups.items (length setup.clauses) }
         ensures { IfOk result (λ b. b ≡ position setup.entry
             (partial (many_cells setup.entry) (max setup.entry.size 2)
             (ranking_of setup.entry) [] [])) }
@@ -106,6 +134,7 @@ impl<'a> Cells<'a> {
             env,
             head: 0,
             begun: false,
+            phase: Phase::Waiting,
         })
     }
 
@@ -159,72 +188,57 @@ impl<'a> Cells<'a> {
         ) as u8
     }
 
-    // Gives the cells of one value that one, and goes over all instances, at the beginning.
-    fn start(&mut self) -> bool
+    // Closes the table where that wasn't done; false where the clauses contradict what was decided.
+    fn close(&mut self) -> bool
         ensures world { self.new.world ≡ self.old.world }
         ensures decided { decided_in self.old.world self.new.table.entries
             ≡ decided_in self.old.world self.old.table.entries }
-        ensures refuted { result ≡ false
-            → IsRefuted self.old.world (decided_in self.old.world self.old.table.entries) }
+        ensures behind { closed_behind self.old.world
+            (decided_in self.old.world self.old.table.entries)
+            ≡ left_after self.old.world result self.new.table }
+        ensures closed { result ≡ true → IsClosedTable self.new.world self.new.table }
     {
-        if self.begun {
-            return true;
-        }
-        self.begun = true;
-        if !settle_single(&self.setup, &mut self.trail) {
-            return false;
-        }
-        begin(&self.setup, &mut self.trail, &self.walks, &mut self.env)
-    }
-
-    // Goes over the instances that the steps since the last time touch.
-    fn go_on(&mut self) -> bool
-        ensures world { self.new.world ≡ self.old.world }
-        ensures decided { decided_in self.old.world self.new.table.entries
-            ≡ decided_in self.old.world self.old.table.entries }
-        ensures refuted { result ≡ false
-            → IsRefuted self.old.world (decided_in self.old.world self.old.table.entries) }
-    {
-        let closed = close(
-            &self.setup,
-            &mut self.trail,
-            &self.groups,
-            &mut self.env,
-            self.head,
-        );
-        self.head = self.trail.len();
-        closed
-    }
-
-    // Whether a cell is to be chosen next, or else the clauses are true.
-    fn ends(&mut self) -> Status
-        ensures world { self.new.world ≡ self.old.world }
-        ensures decided { decided_in self.old.world self.new.table.entries
-            ≡ decided_in self.old.world self.old.table.entries }
-        ensures told { IsAsSaid self.new.world (decided_in self.new.world self.new.table.entries)
-            (meaning_by_cells self.new.world self.new.table.entries) result }
-        ensures open { (cell : ℕ) → result ≡ Status.Choose cell
-            → value_in self.new.table.entries cell ≡ None }
-        ensures left { (cell : ℕ) → result ≡ Status.Choose cell → HasTwoLeft self.new.table cell
-            (bound_of self.new.world.size (cell_of self.new.world cell).kind) }
-        ensures picked { (cell : ℕ) → result ≡ Status.Choose cell
-            → IsPicked (index_in self.new.world) self.new.table self.new.world.way
-            (above_used self.new.world.fixed
-            (decided_in self.new.world self.new.table.entries)) cell }
-        ensures full { result ≡ Status.Settled
-            → AreTablesFor self.new.world (finite_of self.new.world self.new.table.entries) }
-    {
-        let used = self.in_use();
-        match fullness(&self.setup, &mut self.trail, used) {
-            Filled::Open(cell) => Status::Choose(cell),
-            Filled::Amiss => Status::Refuted,
-            Filled::Full => {
-                if are_true(&self.setup, &self.trail, &mut self.env) {
-                    Status::Settled
-                } else {
-                    Status::Refuted
-                }
+        match self.phase {
+            Phase::Closed => true,
+            Phase::Failed => false,
+            Phase::Waiting => {
+                let closed = close_waiting(
+                    &self.setup,
+                    &mut self.trail,
+                    &self.walks,
+                    &self.groups,
+                    &mut self.env,
+                    self.begun,
+                    self.head,
+                );
+                self.phase = phase_after(closed);
+                closed
             }
+        }
+    }
+
+    // The cell that is to be chosen in a closed table; or each has a value, and the clauses are true.
+    fn chosen(&self) -> Status
+        requires { IsClosedTable self.now.world self.now.table }
+        ensures told { IsAsSaid self.now.world (decided_in self.now.world self.now.table.entries)
+            (meaning_by_cells self.now.world self.now.table.entries) result }
+        ensures stands { StandsAs self.now.world
+            (decided_in self.now.world self.now.table.entries) result }
+        ensures open { (cell : ℕ) → result ≡ Status.Choose cell
+            → (value_in self.now.table.entries cell ≡ None) × HasTwoLeft self.now.table cell
+            (bound_of self.now.world.size (cell_of self.now.world cell).kind) }
+        ensures full { result ≡ Status.Settled
+            → AreTablesFor self.now.world (finite_of self.now.world self.now.table.entries) }
+        ensures leaf { AreLeafTables self.now.world
+            (decided_in self.now.world self.now.table.entries)
+            (finite_of self.now.world self.now.table.entries) }
+    {
+        match pick(&self.trail, self.setup.way(), self.in_use()) {
+            Some(cell) => {
+                let _value = self.trail.value(cell);
+                Status::Choose(cell)
+            }
+            None => Status::Settled,
         }
     }
 }
@@ -237,15 +251,16 @@ fn zeros(alloc: Global, many: usize) -> Result<Vec<u32>, AllocError>
     Ok(zeros)
 }
 
-// The least value of a cell, from one on, that isn't crossed off.
-fn least(trail: &Trail, cell: u32, from: u32, most: u8) -> Option<u8>
-    requires { cell < trail.now.many }
-    ensures { IsLeast trail.now cell from most result }
+// The least value of a cell, from one on, up to the greatest and below `end`, that isn't crossed off.
+fn least(trail: &Trail, cell: u32, from: u32, most: u8, end: u32) -> Option<u8>
+    requires cell { cell < trail.now.many }
+    requires end { end ≤ trail.now.stride }
+    requires byte { end < 2 ^ 8 }
+    ensures { IsLeast trail.now cell from most end result }
 {
-    let stride = trail.stride();
-    for value in from..u32::from(most) + 1 {
+    for value in from..(u32::from(most) + 1).min(end) {
         let value = value as u8;
-        if usize::from(value) >= stride || !trail.is_crossed(cell, value) {
+        if !trail.is_crossed(cell, value) {
             return Some(value);
         }
     }
@@ -253,15 +268,14 @@ fn least(trail: &Trail, cell: u32, from: u32, most: u8) -> Option<u8>
 }
 
 impl<'a> Board for Cells<'a> {
-    ghost use Rattle.cell_choice.specs.Choosing.{IsPicked};
-    ghost use Rattle.cell_choice.specs.Shapes.{index_in};
-    ghost use Rattle.cell_search.specs.Finites.{finite_of, meaning_by_cells, AreTablesFor};
+    ghost use Rattle.cell_search.specs.Finites.{finite_of, meaning_by_cells, AreLeafTables, AreTablesFor};
     ghost use Rattle.cell_search.specs.Losses.{decided_in};
-    ghost use Rattle.cell_search.specs.Positions.{IsLeft};
-    ghost use Rattle.mace_cells.specs.Numbers.{above_used};
+    ghost use Rattle.cell_search.specs.Phases.{IsClosedTable};
+    ghost use Rattle.cell_search.specs.Viewing.{left_in};
     ghost use Rattle.mace_cells.specs.Trails.{HasTwoLeft, value_in};
     ghost use Rattle.mace_cells.specs.World.{cell_of};
     ghost use Rattle.model_tables.specs.Size.{bound_of};
+    ghost use Rattle.plain_search.specs.Lefts.{IsAmong};
     ghost use Rattle.std.specs.Prelude.{◌≡◌, None};
 
     ghost world = { λ b. b.world };
@@ -270,24 +284,23 @@ impl<'a> Board for Cells<'a> {
 
     ghost found = { λ b. meaning_by_cells b.world b.table.entries };
 
+    ghost is_closed = { λ b. IsClosedTable b.world b.table };
+
     ghost is_open = { λ b k. (value_in b.table.entries k ≡ None)
         × HasTwoLeft b.table k (bound_of b.world.size (cell_of b.world k).kind) };
 
-    ghost is_picked = { λ b k. IsPicked (index_in b.world) b.table b.world.way
-        (above_used b.world.fixed (decided_in b.world b.table.entries)) k };
+    ghost is_full = { λ b. AreTablesFor b.world (finite_of b.world b.table.entries)
+        × AreLeafTables b.world (decided_in b.world b.table.entries)
+        (finite_of b.world b.table.entries) };
 
-    ghost is_full = { λ b. AreTablesFor b.world (finite_of b.world b.table.entries) };
-
-    ghost is_left = { λ b k v. IsLeft b.table k v };
+    ghost is_left = { λ b k v. IsAmong v (left_in b.world b.table (cell_of b.world k)) };
 
     fn status(&mut self) -> Status {
-        if !self.start() {
-            return Status::Refuted;
+        if self.close() {
+            self.chosen()
+        } else {
+            Status::Refuted
         }
-        if !self.go_on() {
-            return Status::Refuted;
-        }
-        self.ends()
     }
 
     fn most(&self, cell: u32) -> u8 {
@@ -295,19 +308,22 @@ impl<'a> Board for Cells<'a> {
     }
 
     fn next_value(&self, cell: u32, from: u32, most: u8) -> Option<u8> {
-        least(&self.trail, cell, from, most)
+        least(&self.trail, cell, from, most, self.setup.bound(cell))
     }
 
     fn decide(&mut self, cell: u32, value: u8) {
         let shape = self.shapes[cell as usize];
         let used = above_decision(self.in_use(), shape, value);
         self.uses.push(used);
+        self.begun = true;
+        self.head = self.trail.len();
+        self.phase = Phase::Waiting;
         self.trail.assign(cell, value, true);
     }
 
     fn undo(&mut self) {
         self.trail.undo();
         self.uses.pop();
-        self.head = self.trail.len();
+        self.phase = Phase::Closed;
     }
 }

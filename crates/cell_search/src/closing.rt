@@ -1,10 +1,12 @@
 // Values that are given to cells, or crossed off them, since clauses ask for it.
-ghost use Rattle.std.specs.Prelude.{ℕ, ◌≡◌, ◌+◌, ◌<◌, ◌≤◌, ◌^◌, ◌⊎◌, length, true, false, None, Some};
+ghost use Rattle.std.specs.Prelude.{ℕ, ◌≡◌, ◌+◌, ◌<◌, ◌≤◌, ◌^◌, ◌⊎◌, [], length, true, false, None, Some};
 ghost use Rattle.cell_search.specs.Asking.{IsDue, IsOnly, IsNone, IsRest, IsWellLeft, KeepsValues, IsGivenSingle};
+ghost use Rattle.cell_search.specs.Following.{AreWellLeft, Grows, IsFollowed, StayWellLeft};
 ghost use Rattle.cell_search.specs.Losses.{IsBoard, decided_in};
+ghost use Rattle.cell_search.specs.Searchable.{HasAllCells};
 ghost use Rattle.mace_cells.specs.Trails.{value_in};
 ghost use Rattle.mace_cells.specs.World.{cell_of, many_cells, IsRefuted};
-ghost use Rattle.model_tables.specs.Size.{bound_of};
+ghost use Rattle.plain_search.specs.Closing.{asks, nothing};
 
 use crate::asks::Ask;
 use crate::setup::Setup;
@@ -46,6 +48,7 @@ pub fn settle(setup: &Setup, trail: &mut Trail, cell: u32, value: u32) -> bool
     requires cell { cell < many_cells setup.now }
     requires blank { value_in trail.old.entries cell ≡ None }
     requires only { IsOnly setup.now trail.old.entries cell value }
+    ensures grows { Grows trail.old trail.new }
     ensures board { IsBoard setup.now trail.new }
     ensures decided { decided_in setup.now trail.new.entries
         ≡ decided_in setup.now trail.old.entries }
@@ -55,6 +58,10 @@ pub fn settle(setup: &Setup, trail: &mut Trail, cell: u32, value: u32) -> bool
     ensures kept { KeepsValues trail.old.entries trail.new.entries }
     ensures refuted { result ≡ false
         → IsRefuted setup.now (decided_in setup.now trail.old.entries) }
+    ensures follows { HasAllCells setup.now → IsFollowed setup.now trail.old
+        (asks (cell_of setup.now cell) value true) result trail.new }
+    ensures well { result ≡ true → StayWellLeft setup.now trail.old trail.new }
+    ensures crossings { trail.new.crossings ≡ trail.old.crossings }
 {
     if value >= setup.bound(cell) {
         return false;
@@ -71,6 +78,7 @@ pub fn settle(setup: &Setup, trail: &mut Trail, cell: u32, value: u32) -> bool
 fn settle_one(setup: &Setup, trail: &mut Trail, cell: u32) -> bool
     requires board { IsBoard setup.now trail.old }
     requires cell { cell < many_cells setup.now }
+    ensures grows { Grows trail.old trail.new }
     ensures board { IsBoard setup.now trail.new }
     ensures decided { decided_in setup.now trail.new.entries
         ≡ decided_in setup.now trail.old.entries }
@@ -78,6 +86,10 @@ fn settle_one(setup: &Setup, trail: &mut Trail, cell: u32) -> bool
     ensures given { result ≡ true → IsGivenSingle setup.now trail.new.entries cell }
     ensures refuted { result ≡ false
         → IsRefuted setup.now (decided_in setup.now trail.old.entries) }
+    ensures crossings { trail.new.crossings ≡ trail.old.crossings }
+    // At the beginning that changes nothing of what is left.
+    ensures follows { HasAllCells setup.now → trail.old.crossings ≡ []
+        → IsFollowed setup.now trail.old nothing result trail.new }
 {
     if setup.bound(cell) != 1 {
         return true;
@@ -91,6 +103,7 @@ fn settle_one(setup: &Setup, trail: &mut Trail, cell: u32) -> bool
 /// Gives each cell that can have one value alone that value; false where no solution can.
 pub fn settle_single(setup: &Setup, trail: &mut Trail) -> bool
     requires { IsBoard setup.now trail.old }
+    ensures grows { Grows trail.old trail.new }
     ensures board { IsBoard setup.now trail.new }
     ensures decided { decided_in setup.now trail.new.entries
         ≡ decided_in setup.now trail.old.entries }
@@ -98,6 +111,12 @@ pub fn settle_single(setup: &Setup, trail: &mut Trail) -> bool
         → IsGivenSingle setup.now trail.new.entries cell }
     ensures refuted { result ≡ false
         → IsRefuted setup.now (decided_in setup.now trail.old.entries) }
+    ensures crossings { trail.new.crossings ≡ trail.old.crossings }
+    // At the beginning that changes nothing of what is left.
+    ensures follows { HasAllCells setup.now → trail.old.crossings ≡ []
+        → IsFollowed setup.now trail.old nothing result trail.new }
+    ensures well { result ≡ true → trail.old.crossings ≡ []
+        → AreWellLeft setup.now trail.new }
 {
     for cell in 0..setup.cells() {
         if !settle_one(setup, trail, cell) {
@@ -113,6 +132,7 @@ fn strike(setup: &Setup, trail: &mut Trail, cell: u32, value: u32) -> bool
     requires cell { cell < many_cells setup.now }
     requires blank { value_in trail.old.entries cell ≡ None }
     requires none { IsNone setup.now trail.old.entries cell value }
+    ensures grows { Grows trail.old trail.new }
     ensures board { IsBoard setup.now trail.new }
     ensures decided { decided_in setup.now trail.new.entries
         ≡ decided_in setup.now trail.old.entries }
@@ -120,6 +140,10 @@ fn strike(setup: &Setup, trail: &mut Trail, cell: u32, value: u32) -> bool
         ⊎ IsWellLeft setup.now trail.new cell }
     ensures refuted { result ≡ false
         → IsRefuted setup.now (decided_in setup.now trail.old.entries) }
+    ensures follows { HasAllCells setup.now → IsWellLeft setup.now trail.old cell
+        → IsFollowed setup.now trail.old (asks (cell_of setup.now cell) value false) result
+        trail.new }
+    ensures well { result ≡ true → StayWellLeft setup.now trail.old trail.new }
 {
     let end = setup.bound(cell);
     if value >= end {
@@ -142,11 +166,17 @@ pub fn obey(setup: &Setup, trail: &mut Trail, ask: Ask) -> bool
     requires board { IsBoard setup.now trail.old }
     requires cell { ask.cell < many_cells setup.now }
     requires due { IsDue setup.now trail.old.entries ask }
+    ensures grows { Grows trail.old trail.new }
     ensures board { IsBoard setup.now trail.new }
     ensures decided { decided_in setup.now trail.new.entries
         ≡ decided_in setup.now trail.old.entries }
     ensures refuted { result ≡ false
         → IsRefuted setup.now (decided_in setup.now trail.old.entries) }
+    // Exactly that is done.
+    ensures follows { HasAllCells setup.now → IsWellLeft setup.now trail.old ask.cell
+        → IsFollowed setup.now trail.old
+        (asks (cell_of setup.now ask.cell) ask.value ask.positive) result trail.new }
+    ensures well { result ≡ true → StayWellLeft setup.now trail.old trail.new }
 {
     match trail.value(ask.cell) {
         Some(value) => (u32::from(value) == ask.value) == ask.positive,

@@ -6,17 +6,19 @@
 // `seen.rt` and `literals.rt` tell values of terms and truth of literals as far as cells have values, `look.rt` what an
 // instance asks, `asks.rt` of which cell, and `closing.rt` does it: a value is given or crossed off. A cell with one
 // value left gets it, and an instance that is looked at and has all its literals false is a contradiction.
-// That no solution gets lost is said of each of these steps for all interpretations, but nothing is said of the order
-// in which instances come, nor that all are gone over: where each cell has a value, `full.rt` looks at all instances
-// before a model is answered. `tables.rt` has the tables of a model. Answered is the next model, that there is none, or
-// that the time is over.
+// That no solution gets lost is said of each of these steps for all interpretations. Each is also one of the plain search
+// (`plain_search`): a look is what an instance tells, what it asks is done, no more and no less, and closing goes over all
+// instances that its steps may touch, so that it comes to the closure of the table. So a closed table is that of the plain
+// search behind the same decisions (`specs/Phases`), and the cell that is picked in it is the one that the plain search
+// chooses (`specs/Choosing`): models come as its leaves do, in their order (`cell_driver`). `tables.rt` has the tables of a
+// model. Answered is the next model, that there is none, or that the time is over.
 #![tactic(auto)]
 
 mod asks;
 mod cells;
 mod closing;
-mod full;
 mod going;
+mod laws;
 mod literals;
 mod look;
 mod search;
@@ -26,4 +28,5 @@ mod tables;
 mod walk;
 mod walks;
 
+pub use laws::{leaves_are_solutions, looks_are_told, picks_are_chosen, tables_are_partial};
 pub use search::CellSearch;

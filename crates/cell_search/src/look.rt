@@ -1,6 +1,7 @@
 // Looks at instances of clauses.
 ghost use Rattle.std.specs.Prelude.{◌≡◌, map};
 ghost use Rattle.cell_search.specs.Asking.{InstanceTells};
+ghost use Rattle.cell_search.specs.Telling.{told_of, told_seen};
 ghost use Rattle.fol_core.specs.ClauseView.{literal_of};
 ghost use Rattle.mace_cells.specs.World.{many_cells};
 ghost use Rattle.mace_ground.specs.Instances.{assigned_by};
@@ -22,8 +23,10 @@ pub enum Verdict {
 /// Looks at an instance of a clause.
 pub fn look(setup: &Setup, trail: &Trail, literals: &[Literal], env: &[u32]) -> Verdict
     requires { trail.now.many ≡ many_cells setup.now }
-    ensures { InstanceTells setup.now trail.now.entries (assigned_by env.now)
+    ensures tells { InstanceTells setup.now trail.now.entries (assigned_by env.now)
         (map literal_of literals.now) result }
+    ensures seen { told_of setup.now result ≡ told_seen setup.now trail.now.entries
+        (assigned_by env.now) (map literal_of literals.now) }
 {
     let mut unknown = None;
     for (at, literal) in literals.iter().enumerate() {

@@ -1,21 +1,24 @@
 // The search for the models of a size, cell by cell.
 ghost use Rattle.std.specs.Prelude.{◌≡◌, ℕ, ◌≤◌, [], true, false, None, Some, IfOk};
+ghost use Rattle.cell_driver.specs.Comings.{ComesInTime};
 ghost use Rattle.cell_search.specs.Courses.{world_of, above_numeral, beginning, IsSameCourse, ChoseOpen, AnswersByCells, follows_after};
-ghost use Rattle.cell_search.specs.Finites.{tables_over};
+ghost use Rattle.cell_search.specs.Finites.{tables_over, AreLeafTables};
 ghost use Rattle.cell_search.specs.Searchable.{HasAllCells};
+ghost use Rattle.mace_cells.specs.Choices.{decisions};
 ghost use Rattle.mace_cells.specs.Readings.{GoesInTime};
 ghost use Rattle.mace_ground.specs.Count.{ground_count};
 ghost use Rattle.ladr_io.specs.Watch.{IsEarly};
-ghost use Rattle.mace_search.specs.declared.answer.Answer.TheVariants.{Exhausted, MaxSeconds};
+ghost use Rattle.mace_search.specs.declared.answer.Answer.TheVariants.{Exhausted, MaxSeconds, Model};
 ghost use Rattle.model_tables.specs.declared.limits.TheConstants.{MOST_CELLS};
 
 use crate::cells::Cells;
 use crate::setup::Setup;
 use crate::walks::{groups, walks};
 use cell_choice::shapes;
+use cell_driver::next_model;
 use fol_core::{Clauses, Symbols};
 use ladr_io::Clock;
-use mace_cells::{Board, Frame, Stack, Way, next_model};
+use mace_cells::{Frame, Stack, Way};
 use mace_ground::Ground;
 use mace_search::Answer;
 use model_tables::Tables;
@@ -141,6 +144,13 @@ impl<'a> CellSearch<'a> {
         ensures clock { self.old.late ≡ None
             → GoesInTime self.old.world self.old.stop self.old.live self.old.choices result
             self.new.choices (C.times clock.old) (C.times clock.new) }
+        // Of what the plain search still has to do so many choices are passed over: up to a leaf, which is the model; up to its end;
+        // or to one more choice. The clock was read once for each.
+        ensures comes { self.old.late ≡ None
+            → ComesInTime self.old.world self.old.stop self.old.live self.old.choices result
+            self.new.choices (C.times clock.old) (C.times clock.new) }
+        ensures leaf { self.old.late ≡ None → result ≡ Model
+            → AreLeafTables self.new.world (decisions self.new.choices) self.new.tables }
         ensures gives { self.old.late ≡ None
             → AnswersByCells self.old self.new result (C.times clock.new) }
         ensures chosen { ChoseOpen self.new }
@@ -168,6 +178,10 @@ impl<'a> CellSearch<'a> {
         ensures same { IsSameCourse self.old self.new }
         ensures clock { GoesInTime self.old.world self.old.stop self.old.live self.old.choices
             result self.new.choices (C.times clock.old) (C.times clock.new) }
+        ensures comes { ComesInTime self.old.world self.old.stop self.old.live self.old.choices
+            result self.new.choices (C.times clock.old) (C.times clock.new) }
+        ensures leaf { result ≡ Model
+            → AreLeafTables self.new.world (decisions self.new.choices) self.new.tables }
         ensures gives { AnswersByCells self.old self.new result (C.times clock.new) }
         ensures chosen { ChoseOpen self.new }
     {

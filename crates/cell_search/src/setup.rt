@@ -5,7 +5,7 @@ ghost use Rattle.mace_cells.specs.World.{cell_of, many_cells};
 ghost use Rattle.cell_search.specs.Bounds.{cell_bounds};
 ghost use Rattle.model_tables.specs.Size.{bound_of};
 ghost use Rattle.mace_ground.specs.Cells.{found};
-ghost use Rattle.mace_ground.specs.Spans.{span_of};
+ghost use Rattle.mace_ground.specs.Spans.{block_of, span_of};
 
 use fol_core::{Clause, Sym};
 use mace_cells::Way;
@@ -123,7 +123,9 @@ impl<'a> Setup<'a> {
     }
 
     /// The blocks of cells in order.
-    pub fn blocks(&self) -> &[Block] {
+    pub fn blocks(&self) -> &[Block]
+        ensures { map block_of result.now ≡ self.now.blocks }
+    {
         self.ground.blocks().list()
     }
 

@@ -1,4 +1,15 @@
 // The ways through the instances of clauses that a search goes.
+ghost use Rattle.std.specs.Prelude.{◌≡◌, ◌++◌, ◌<◌, IfOk, MatchOption, OnOk, get_or, length, map, set};
+ghost use Rattle.std.specs.List.{range_with_len};
+ghost use Rattle.cell_search.specs.Covering.{AreWaysThrough, IsWholeWay};
+ghost use Rattle.cell_search.specs.Full.{HaveVariables};
+ghost use Rattle.cell_search.specs.Marks.{all_nested_in, direct_in, directs, marked_from, nested_in, step_of};
+ghost use Rattle.cell_search.specs.Ways.{AreGroups, EachIn, EachInAtom, EachInClause, GroupsGrow, HasWalkOf, HaveWalks, IsOccurrenceOf, IsWalkOf};
+ghost use Rattle.fol_core.specs.TermView.{tree_of};
+ghost use Rattle.fol_core.specs.Tree.{trees_of};
+ghost use Rattle.mace_ground.specs.Instances.{variables_in};
+ghost use Rattle.plain_search.specs.Lefts.{IsAmong};
+
 use crate::setup::Setup;
 use crate::walk::{Group, Occurrence, Walk};
 use fol_core::{Clause, EQ, Kind, Sym, Term, Terms};
@@ -13,7 +24,9 @@ enum Mark {
     Direct,
 }
 
-fn set_mark(marks: &mut [Mark], variable: u64, mark: Mark) {
+fn set_mark(marks: &mut [Mark], variable: u64, mark: Mark)
+    ensures { marks.new ≡ set marks.old variable mark }
+{
     let at = variable as usize;
     if at < marks.len() {
         marks[at] = mark;
@@ -21,7 +34,9 @@ fn set_mark(marks: &mut [Mark], variable: u64, mark: Mark) {
 }
 
 // Marks the variables of a term.
-fn mark_nested(marks: &mut [Mark], term: &Term) {
+fn mark_nested(marks: &mut [Mark], term: &Term)
+    ensures { marks.new ≡ nested_in (tree_of term.now) marks.old }
+{
     match term {
         Term::Var(variable) => set_mark(marks, *variable, Mark::Nested),
         Term::Elem(_) => {}
@@ -34,7 +49,9 @@ fn mark_nested(marks: &mut [Mark], term: &Term) {
 }
 
 // Adds the variables that are marked so.
-fn add_marked(order: &mut Vec<usize>, marks: &[Mark], mark: Mark) -> Result<(), AllocError> {
+fn add_marked(order: &mut Vec<usize>, marks: &[Mark], mark: Mark) -> Result<(), AllocError>
+    ensures { OnOk result (order.new.items ≡ order.old.items ++ marked_from 0 mark marks.now) }
+{
     for (variable, each) in marks.iter().enumerate() {
         if *each == mark {
             order.push(variable)?;
@@ -44,7 +61,9 @@ fn add_marked(order: &mut Vec<usize>, marks: &[Mark], mark: Mark) -> Result<(), 
 }
 
 // How many variables a clause has.
-fn many_variables(clause: &Clause) -> Result<usize, AllocError> {
+fn many_variables(clause: &Clause) -> Result<usize, AllocError>
+    ensures { IfOk result (λ n. n ≡ variables_in clause.now) }
+{
     match usize::try_from(variables_in(clause)) {
         Ok(many) => Ok(many),
         Err(_) => Err(AllocError),
@@ -52,8 +71,41 @@ fn many_variables(clause: &Clause) -> Result<usize, AllocError> {
 }
 
 // How many cells lie between those of one element and the next for an argument that has so many behind it.
-fn step(size: u32, behind: usize) -> u32 {
+fn step(size: u32, behind: usize) -> u32
+    ensures { result ≡ step_of size behind }
+{
     u32::try_from(power(size, behind as u128)).unwrap_or(0)
+}
+
+// Marks the variables of arguments.
+fn mark_arguments(marks: &mut [Mark], terms: &Terms)
+    ensures { marks.new ≡ all_nested_in (trees_of terms.now) marks.old }
+{
+    for term in terms.as_slice() {
+        mark_nested(marks, term);
+    }
+}
+
+// The arguments that are variables, each with how many cells lie between those of one of its elements and the next; they are marked.
+fn direct_arguments(
+    alloc: Global,
+    size: u32,
+    terms: &Terms,
+    marks: &mut [Mark],
+) -> Result<Vec<(usize, u32)>, AllocError>
+    ensures arguments { IfOk result (λ v. v.items ≡ directs size (trees_of terms.now)) }
+    ensures marks { OnOk result (marks.new ≡ direct_in (trees_of terms.now) marks.old) }
+{
+    let mut direct = Vec::new(alloc);
+    let mut behind = terms.len();
+    for term in terms.as_slice() {
+        behind = behind.saturating_sub(1);
+        if let Term::Var(variable) = term {
+            set_mark(marks, *variable, Mark::Direct);
+            direct.push((*variable as usize, step(size, behind)))?;
+        }
+    }
+    Ok(direct)
 }
 
 // An occurrence of a symbol, whose variables are marked.
@@ -64,19 +116,14 @@ fn occurrence<'a>(
     symbol: Sym,
     terms: &'a Terms,
     marks: &mut [Mark],
-) -> Result<Occurrence<'a>, AllocError> {
-    for term in terms.as_slice() {
-        mark_nested(marks, term);
-    }
-    let mut direct = Vec::new(alloc);
-    let mut behind = terms.len();
-    for term in terms.as_slice() {
-        behind = behind.saturating_sub(1);
-        if let Term::Var(variable) = term {
-            set_mark(marks, *variable, Mark::Direct);
-            direct.push((*variable as usize, step(size, behind)))?;
-        }
-    }
+) -> Result<Occurrence<'a>, AllocError>
+    ensures occurrence { IfOk result (λ o. IsOccurrenceOf size kind symbol.0
+        (trees_of terms.now) o) }
+    ensures marks { OnOk result (marks.new ≡ direct_in (trees_of terms.now)
+        (all_nested_in (trees_of terms.now) marks.old)) }
+{
+    mark_arguments(marks, terms);
+    let direct = direct_arguments(alloc, size, terms, marks)?;
     Ok(Occurrence {
         kind,
         symbol,
@@ -94,7 +141,10 @@ fn occurrence_walk<'a>(
     kind: Kind,
     symbol: Sym,
     terms: &'a Terms,
-) -> Result<Walk<'a>, AllocError> {
+) -> Result<Walk<'a>, AllocError>
+    ensures { IfOk result (λ walk. IsWalkOf setup.now.size clause variables kind symbol.0
+        (trees_of terms.now) walk) }
+{
     let mut marks = vec![in alloc; Mark::Other; variables]?;
     let occurrence = occurrence(alloc, setup.size(), kind, symbol, terms, &mut marks)?;
     let mut order = Vec::new(alloc);
@@ -110,8 +160,18 @@ fn occurrence_walk<'a>(
 }
 
 // The place of the group whose cells begin with this one.
-fn group_at(groups: &[Group], first: u32) -> Option<usize> {
-    groups.iter().position(|group| group.first == first)
+fn group_at(groups: &[Group], first: u32) -> Option<usize>
+    ensures { MatchOption result
+        (IsAmong first (map (λ g. g.first) groups.now) → ⊥)
+        (λ at. (at < length groups.now)
+        × (get_or (map (λ g. g.first) groups.now) at 0 ≡ first)) }
+{
+    for (at, group) in groups.iter().enumerate() {
+        if group.first == first {
+            return Some(at);
+        }
+    }
+    None
 }
 
 // Adds an occurrence to the group of its symbol.
@@ -124,7 +184,12 @@ fn add_occurrence<'a>(
     symbol: Sym,
     terms: &'a Terms,
     groups: &mut Vec<Group<'a>>,
-) -> Result<(), AllocError> {
+) -> Result<(), AllocError>
+    ensures grow { OnOk result (GroupsGrow groups.old.items groups.new.items) }
+    ensures walk { OnOk result (AreGroups setup.now groups.old.items
+        → HasWalkOf setup.now groups.new.items clause variables kind symbol.0
+        (trees_of terms.now)) }
+{
     let Some(span) = setup.find(symbol) else {
         return Ok(());
     };
@@ -137,34 +202,57 @@ fn add_occurrence<'a>(
     Ok(())
 }
 
-// Adds each occurrence in a term; the term's own symbol is of this kind.
+// Adds each occurrence in a term.
 fn add_term<'a>(
     alloc: Global,
     setup: &Setup,
     clause: usize,
     variables: usize,
-    kind: Kind,
     term: &'a Term,
     groups: &mut Vec<Group<'a>>,
-) -> Result<(), AllocError> {
+) -> Result<(), AllocError>
+    ensures grow { OnOk result (GroupsGrow groups.old.items groups.new.items) }
+    ensures walks { OnOk result (AreGroups setup.now groups.old.items
+        → EachIn (HasWalkOf setup.now groups.new.items clause variables) (tree_of term.now)) }
+{
     let Term::App(symbol, terms) = term else {
         return Ok(());
     };
+    let kind = Kind::Function;
+    add_occurrence(
+        alloc, setup, clause, variables, kind, *symbol, terms, groups,
+    )?;
+    for term in terms.as_slice() {
+        add_term(alloc, setup, clause, variables, term, groups)?;
+    }
+    Ok(())
+}
+
+// Adds each occurrence in an atom; an equation is none itself.
+fn add_atom<'a>(
+    alloc: Global,
+    setup: &Setup,
+    clause: usize,
+    variables: usize,
+    atom: &'a Term,
+    groups: &mut Vec<Group<'a>>,
+) -> Result<(), AllocError>
+    ensures grow { OnOk result (GroupsGrow groups.old.items groups.new.items) }
+    ensures walks { OnOk result (AreGroups setup.now groups.old.items
+        → EachInAtom (HasWalkOf setup.now groups.new.items clause variables)
+        (tree_of atom.now)) }
+{
+    let Term::App(symbol, terms) = atom else {
+        return Ok(());
+    };
     if symbol.0 != EQ.0 {
+        let kind = Kind::Relation;
         add_occurrence(
             alloc, setup, clause, variables, kind, *symbol, terms, groups,
         )?;
     }
     for term in terms.as_slice() {
-        add_term(
-            alloc,
-            setup,
-            clause,
-            variables,
-            Kind::Function,
-            term,
-            groups,
-        )?;
+        add_term(alloc, setup, clause, variables, term, groups)?;
     }
     Ok(())
 }
@@ -176,17 +264,23 @@ fn add_clause<'a>(
     at: usize,
     clause: &'a Clause,
     groups: &mut Vec<Group<'a>>,
-) -> Result<(), AllocError> {
+) -> Result<(), AllocError>
+    ensures grow { OnOk result (GroupsGrow groups.old.items groups.new.items) }
+    ensures walks { OnOk result (AreGroups setup.now groups.old.items
+        → EachInClause (HasWalkOf setup.now groups.new.items at (variables_in clause.now))
+        clause.now) }
+{
     let variables = many_variables(clause)?;
     for literal in clause.as_slice() {
-        let atom = &literal.atom;
-        add_term(alloc, setup, at, variables, Kind::Relation, atom, groups)?;
+        add_atom(alloc, setup, at, variables, &literal.atom, groups)?;
     }
     Ok(())
 }
 
 // A group for each block of cells.
-fn empty_groups<'a>(alloc: Global, setup: &Setup) -> Result<Vec<Group<'a>>, AllocError> {
+fn empty_groups<'a>(alloc: Global, setup: &Setup) -> Result<Vec<Group<'a>>, AllocError>
+    ensures { IfOk result (λ v. AreGroups setup.now v.items) }
+{
     let mut groups = Vec::new(alloc);
     for block in setup.blocks() {
         if let Some(span) = setup.find(block.symbol) {
@@ -204,7 +298,11 @@ pub fn groups<'a>(
     alloc: Global,
     setup: &Setup,
     clauses: &'a [(u64, Clause)],
-) -> Result<Vec<Group<'a>>, AllocError> {
+) -> Result<Vec<Group<'a>>, AllocError>
+    ensures groups { IfOk result (λ v. AreGroups setup.now v.items) }
+    ensures walks { map (λ row. row.1) clauses.now ≡ setup.now.clauses
+        → IfOk result (λ v. HaveWalks setup.now v.items (length clauses.now)) }
+{
     let mut groups = empty_groups(alloc, setup)?;
     for (at, row) in clauses.iter().enumerate() {
         add_clause(alloc, setup, at, &row.1, &mut groups)?;
@@ -212,20 +310,53 @@ pub fn groups<'a>(
     Ok(groups)
 }
 
+// The variables below this number.
+fn variables_below(alloc: Global, many: usize) -> Result<Vec<usize>, AllocError>
+    ensures { IfOk result (λ v. v.items ≡ range_with_len 0 many) }
+{
+    let mut variables = Vec::new(alloc);
+    for variable in 0..many {
+        variables.push(variable)?;
+    }
+    Ok(variables)
+}
+
+// The way through all instances of a clause of this number.
+fn whole_walk<'a>(alloc: Global, clause: usize, of: &Clause) -> Result<Walk<'a>, AllocError>
+    ensures { IfOk result (λ walk. IsWholeWay of.now clause walk) }
+{
+    let many = many_variables(of)?;
+    let order = variables_below(alloc, many)?;
+    Ok(Walk {
+        clause,
+        occurrence: None,
+        order,
+        nested: 0,
+    })
+}
+
 /// The ways through all instances of each clause.
-pub fn walks<'a>(alloc: Global, clauses: &'a [(u64, Clause)]) -> Result<Vec<Walk<'a>>, AllocError> {
+pub fn walks<'a>(alloc: Global, clauses: &'a [(u64, Clause)]) -> Result<Vec<Walk<'a>>, AllocError>
+    ensures { IfOk result (λ v. (length v.items ≡ length clauses.now)
+        × AreWaysThrough (map (λ row. row.1) clauses.now) v.items) }
+{
     let mut walks = Vec::new(alloc);
     for (clause, row) in clauses.iter().enumerate() {
-        let mut order = Vec::new(alloc);
-        for variable in 0..many_variables(&row.1)? {
-            order.push(variable)?;
-        }
-        walks.push(Walk {
-            clause,
-            occurrence: None,
-            order,
-            nested: 0,
-        })?;
+        walks.push(whole_walk(alloc, clause, &row.1)?)?;
     }
     Ok(walks)
+}
+
+/// For how many variables there has to be room.
+pub fn room(setup: &Setup) -> Result<usize, AllocError>
+    ensures { IfOk result (λ n. HaveVariables setup.now.clauses n) }
+{
+    let mut room = 0;
+    for (_, clause) in setup.clauses() {
+        room = variables_in(clause).max(room);
+    }
+    match usize::try_from(room) {
+        Ok(room) => Ok(room),
+        Err(_) => Err(AllocError),
+    }
 }

@@ -5,6 +5,7 @@ pub mod Leafing
 pub mod Meeting
 pub mod Narrowing
 pub mod Parting
+pub mod Solving
 pub mod Reaching
 pub mod Recalling
 pub mod Rising

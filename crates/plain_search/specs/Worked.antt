@@ -14,7 +14,7 @@ use Rattle.mace_ground.specs.Cells.{Cell, cell}
 use Rattle.plain_search.specs.Closing.{Ground, ground, closure}
 use Rattle.plain_search.specs.Coming.{Event, choice, leaf, events, to_come}
 use Rattle.plain_search.specs.Lefts.{ValuesLeft, all_left, with_left}
-use Rattle.plain_search.specs.Trying.{all_cells, chosen, chosen_for, decide, leaves, listed, score, tried}
+use Rattle.plain_search.specs.Trying.{all_cells, chosen, chosen_for, decide, leaves, listed, tried}
 
 -- two elements, a relation `p` and a function `f`, each of one argument
 abbrev pub world : List ClauseTree → World

@@ -6,10 +6,10 @@
 // `order.rt` has the laws of order: closing has one result, whatever the order of its steps, and is the widest closed table
 // (`specs/Orders`); which instances a new value makes another look at, and that one look is enough (`Waking`); what a search
 // still has to do behind its choices, with its leaves and choices in their order (`Coming`); no two leaves are the same
-// (`Parting`), and they cover all solutions (`Meeting`). `specs/Trying` also has the scores by which measures choose a cell.
+// and each is a solution (`Parting`), and they cover all solutions (`Meeting`). `specs/Trying` also has the scores by which measures choose a cell.
 // The laws are that closing loses no solution (`proofs/Sounding`, `Solved`) and ends where a pass changes nothing
 // (`Stopping`), that leaves are models (`Leafing`, `Ending`), and that each solution extends a leaf where all values
-// are tried (`Reaching`). That `cell_search` gives these leaves in this order is not stated.
+// are tried (`Reaching`). `cell_search` gives these leaves, in this order.
 #![tactic(auto)]
 
 mod laws;
@@ -20,6 +20,6 @@ pub use laws::{
     worked_closures, worked_scores, worked_searches,
 };
 pub use order::{
-    closing_has_one_result, leaves_differ, looks_suffice, searches_go_on, tables_meet_solutions,
-    worked_events, worked_orders,
+    closing_has_one_result, leaves_differ, leaves_solve, looks_suffice, searches_go_on,
+    tables_meet_solutions, worked_events, worked_orders,
 };

@@ -6,7 +6,7 @@ ghost use Rattle.plain_search.specs.Coming.{AllIsToCome, LeavesAreFound, SearchG
 ghost use Rattle.plain_search.specs.Lefts.{all_left, with_left};
 ghost use Rattle.plain_search.specs.Meeting.{LeavesCover, NextBySearch, RefutedBySearch, SettledBySearch, UndecidedBySearch};
 ghost use Rattle.plain_search.specs.Orders.{ClosureInAnyOrder, ClosureIsWidest, ContradictionInAnyOrder, NoneIsClosed, Obeys};
-ghost use Rattle.plain_search.specs.Parting.{LeavesDiffer};
+ghost use Rattle.plain_search.specs.Parting.{LeavesDiffer, LeavesPart, LeavesSolve};
 ghost use Rattle.plain_search.specs.Waking.{LookSuffices, StaysTold, ToldByValues};
 ghost use Rattle.plain_search.specs.Worked.{world, spreading, denial, denied, implying, backwards, one_known, two_known, p_at, f_at, freely, events_in, come_with};
 
@@ -35,9 +35,15 @@ pub fn searches_go_on()
     ensures steps { SearchGoesOn }
 {}
 
-/// No two leaves are the same.
+/// No two leaves are the same, already by their values in the cells of the world.
 pub fn leaves_differ()
-    ensures { LeavesDiffer }
+    ensures differ { LeavesDiffer }
+    ensures part { LeavesPart }
+{}
+
+/// Each leaf is a solution, with the values that it has left, where all terms of the clauses have cells.
+pub fn leaves_solve()
+    ensures { LeavesSolve }
 {}
 
 /// The table that decisions lead to tells which solutions agree with them: none, where closing met a

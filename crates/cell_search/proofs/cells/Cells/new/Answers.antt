@@ -1,14 +1,15 @@
-use Rattle.std.proofs.Common.{◌≡◌, ℕ, [], List, length, map, max, sym, ap, ◌∙◌, subst, arith}
+use Rattle.std.proofs.Common.{◌≡◌, ℕ, List, length, false, max, refl, sym, ap, ◌∙◌, subst, arith}
 use Rattle.std.proofs.lemmas.List.{length-replicate, length-map}
 use Rattle.cell_choice.proofs.Shaping.{shapes_many}
 use Rattle.cell_choice.specs.Numbers.{uses_by}
-use Rattle.cell_choice.specs.Shapes.{ranking_of}
 use Rattle.cell_choice.specs.declared.shape.Shape.{Shape}
 use Rattle.mace_cells.specs.Stacked.{Stacked}
-use Rattle.mace_cells.specs.Trails.{Partial, partial}
+use Rattle.mace_cells.specs.Trails.{Partial}
 use Rattle.mace_cells.specs.World.{many_cells}
 use Rattle.mace_cells.specs.declared.way.Way.{Way}
 use Rattle.cell_search.specs.Losses.{IsBoard, decided_in}
+use Rattle.plain_search.specs.Meeting.{WereLeft}
+use Rattle.cell_search.specs.Phases.{IsWaiting, WasClosed}
 use Rattle.cell_search.specs.Positions.{position}
 use Rattle.cell_search.proofs.Boards.{board_at_first, first_table, zeros_below}
 use Rattle.cell_search.proofs.cells.Cells.new.Goals as goal
@@ -27,12 +28,25 @@ invariant_of-result c =
     record {
       board = subst (λ (t : Partial). IsBoard w t) (sym first) (board_at_first w c.requires.searchable.some);
       searchable = c.requires.searchable;
-      room = let many : length c.in_ok-env.env.items ≡ c.in_ok-room.room = ap (λ (xs : List ℕ). length xs) c.in_ok-env.ensures ∙ length-replicate c.in_ok-room.room 0 in rw many c.in_ok-room.ensures;
+      ready = record {
+        ways = record {
+          cells = c.requires.searchable;
+          few = omega (arith, c.cells-cells.ensures, c.cells-cells.type_inv);
+          begin = c.requires.groups;
+          walks = c.requires.walks;
+          room = let many : length c.in_ok-env.env.items ≡ c.in_ok-room.room = ap (λ (xs : List ℕ). length xs) c.in_ok-env.ensures ∙ length-replicate c.in_ok-room.room 0 in rw many c.in_ok-room.ensures;
+        };
+        whole = c.requires.whole;
+        each = c.requires.each;
+      };
       env = rw c.in_ok-env.ensures (zeros_below w.size c.in_ok-room.room c.requires.searchable.some);
       shapes = c.requires.shapes;
       uses = ap (λ (s : Stacked ℕ). s.list) c.in_ok-uses.ensures ∙ ap (λ (t : Partial). uses_by w.fixed (decided_in w t.entries)) (sym first);
       stack = ap (λ (s : Stacked ℕ). s.room) c.in_ok-uses.ensures ∙ c.cells-cells.ensures;
       small = c.requires.small;
+      was = subst (λ (t : Partial). WasClosed w t.stride t.entries t.crossings) (sym first) tt;
+      were = subst (λ (t : Partial). WereLeft w (decided_in w t.entries)) (sym first) tt;
+      phase = subst (λ (t : Partial). IsWaiting w t false 0) (sym first) (refl, refl);
     }
 
 pub returns : goal.returns

@@ -37,7 +37,7 @@ returns-clause-bound c =
     let within = subst (λ (p : BoardPosition). c.args.cell < many_cells p.world) (sym c.self.view_is) c.requires in
     let shape = shape_read a.setup a.shapes.items c.args.cell c.index-shape.result.now c.self.invariant.shapes within c.index-shape.ensures in
     let used = c.in_use.ensures ∙ ap (λ (p : BoardPosition). above_used p.world.fixed (decided_in p.world p.table.entries)) (sym c.self.view_is) in
-    let here = bound_tried a.setup a.trail c.self.invariant.board c.self.invariant.searchable c.args.cell within in
+    let here = bound_tried a.setup c.self.invariant.searchable (decided_in a.setup a.trail.entries) c.args.cell within in
     let is : c.greatest_tried.result ≡ greatest_tried a.setup (decided_in a.setup a.trail.entries) (cell_of a.setup c.args.cell) =
     tried_is a.setup (decided_in a.setup a.trail.entries) (cell_of a.setup c.args.cell) c.index-shape.result.now c.way-least_numbers.result.least_numbers c.size.result c.in_use.result c.greatest_tried.result shape (ap (λ (v : Way). v.least_numbers) c.way-least_numbers.ensures) c.size.ensures.size used c.greatest_tried.ensures.tried in
     subst (λ (p : BoardPosition). IsBound p.world (decided_in p.world p.table.entries) (cell_of p.world c.args.cell) c.greatest_tried.result) c.self.view_is

@@ -1,4 +1,4 @@
-use Rattle.std.proofs.Common.{◌≡◌, ◌<◌, None, List, length, sym, ap, ◌∙◌, subst, ℕ, arith}
+use Rattle.std.proofs.Common.{◌≡◌, ◌<◌, true, None, List, length, refl, sym, ap, ◌∙◌, subst, ℕ, arith}
 use Rattle.cell_choice.specs.Numbers.{uses_by}
 use Rattle.cell_choice.specs.declared.shape.Shape.{Shape}
 use Rattle.mace_cells.specs.Numbers.{above_used}
@@ -7,8 +7,14 @@ use Rattle.mace_cells.specs.Trails.{Partial, HasTwoLeft, value_in}
 use Rattle.mace_cells.specs.World.{cell_of, many_cells}
 use Rattle.model_tables.specs.Size.{bound_of}
 use Rattle.cell_search.specs.Positions.{BoardPosition}
+use Rattle.plain_search.specs.Lefts.{IsAmong}
+use Rattle.plain_search.specs.Meeting.{WereLeft}
 use Rattle.cell_search.specs.Losses.{IsBoard, decided_in}
-use Rattle.cell_search.proofs.Boarding.{decided}
+use Rattle.cell_search.specs.Phases.{IsClosedTable, IsWaiting, WasClosed}
+use Rattle.cell_search.specs.Viewing.{left_in}
+use Rattle.cell_search.proofs.Phasing.{waits_behind, was_decided}
+use Rattle.cell_search.proofs.Standing.{were_decided}
+use Rattle.cell_search.proofs.Boarding.{decided, entry}
 use Rattle.cell_search.proofs.Preferring.{many_shapes}
 use Rattle.cell_search.proofs.Using.{uses_many, uses_more, shape_read}
 use Rattle.cell_search.proofs.cells.CellsBoard.decide.Goals as goal
@@ -16,20 +22,35 @@ use Rattle.cell_search.proofs.cells.CellsBoard.decide.Goals as goal
 pub invariant_of-self : goal.invariant_of-self
 invariant_of-self c =
     let a = c.self.inside in
+    let w = a.setup in
+    let t = a.trail in
+    let e = entry c.args.cell c.args.value true (length t.crossings) in
     let within = subst (λ (p : BoardPosition). c.args.cell < many_cells p.world) (sym c.self.view_is) c.requires.cell in
     let opened = subst (λ (p : BoardPosition). (value_in p.table.entries c.args.cell ≡ None) × HasTwoLeft p.table c.args.cell (bound_of p.world.size (cell_of p.world c.args.cell).kind)) (sym c.self.view_is) c.requires.open in
+    let closed = subst (λ (p : BoardPosition). IsClosedTable p.world p.table) (sym c.self.view_is) c.requires.closed in
+    let left = subst (λ (p : BoardPosition). IsAmong c.args.value (left_in p.world p.table (cell_of p.world c.args.cell))) (sym c.self.view_is) c.requires.left in
     record {
-      board = subst (λ (t : Partial). IsBoard a.setup t) (sym c.assign.ensures) (decided a.setup a.trail c.self.invariant.board c.args.cell c.args.value within opened.0 opened.1);
+      board = subst (λ (u : Partial). IsBoard w u) (sym c.assign.ensures) (decided w t c.self.invariant.board c.args.cell c.args.value within opened.0 opened.1);
       searchable = c.self.invariant.searchable;
-      room = c.self.invariant.room;
+      ready = c.self.invariant.ready;
       env = c.self.invariant.env;
       shapes = c.self.invariant.shapes;
       uses =
-          uses_more a.setup a.trail c.assign.new.self c.args.cell c.args.value (length a.trail.crossings) c.index-shape.result.now.above c.in_use.result c.above_decision-used.result a.uses.list c.push.new.self.list c.self.invariant.uses
-          (ap (λ (s : Stacked ℕ). s.list) c.push.ensures) (ap (λ (s : Shape). s.above) (shape_read a.setup a.shapes.items c.args.cell c.index-shape.result.now c.self.invariant.shapes within c.index-shape.ensures))
+          uses_more w t c.assign.new.self c.args.cell c.args.value (length t.crossings) c.index-shape.result.now.above c.in_use.result c.above_decision-used.result a.uses.list c.push.new.self.list c.self.invariant.uses
+          (ap (λ (s : Stacked ℕ). s.list) c.push.ensures) (ap (λ (s : Shape). s.above) (shape_read w a.shapes.items c.args.cell c.index-shape.result.now c.self.invariant.shapes within c.index-shape.ensures))
           (c.in_use.ensures ∙ ap (λ (p : BoardPosition). above_used p.world.fixed (decided_in p.world p.table.entries)) (sym c.self.view_is)) c.above_decision-used.ensures c.assign.ensures;
       stack = ap (λ (s : Stacked ℕ). s.room) c.push.ensures ∙ c.self.invariant.stack;
       small = c.self.invariant.small;
+      was =
+          subst (λ (u : Partial). WasClosed w u.stride u.entries u.crossings) (sym c.assign.ensures)
+          (was_decided w t e refl refl closed c.self.invariant.was);
+      were =
+          subst (λ (u : Partial). WereLeft w (decided_in w u.entries)) (sym c.assign.ensures)
+          (were_decided w t c.self.invariant.board c.self.invariant.searchable closed c.args.cell c.args.value within left c.self.invariant.were);
+      phase =
+          subst (λ (n : ℕ). IsWaiting w c.assign.new.self true n) (sym c.len-self-inside.ensures.len)
+          (subst (λ (u : Partial). IsWaiting w u true (length t.entries)) (sym c.assign.ensures)
+          (waits_behind w t e c.self.invariant.searchable closed refl within opened.0 left));
     }
 
 pub index-shape-requires : goal.index-shape-requires

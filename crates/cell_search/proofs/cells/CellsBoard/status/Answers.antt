@@ -1,10 +1,15 @@
-use Rattle.std.proofs.Common.{refl}
-use Rattle.cell_search.proofs.Boards.{refuted_along}
+use Rattle.std.proofs.Common.{List, subst}
+use Rattle.cell_driver.specs.Boards.{StandsAs}
+use Rattle.mace_cells.specs.Choices.{Decision}
+use Rattle.mace_cells.specs.World.{World}
+use Rattle.plain_search.proofs.Meeting.{refuted_by_search}
+use Rattle.cell_search.specs.Losses.{decided_in}
 use Rattle.cell_search.proofs.cells.CellsBoard.status.Goals as goal
 
-pub returns-then-not-start-clause-told : goal.returns-then-not-start-clause-told
-returns-then-not-start-clause-told c = c.if-not-start.ensures.refuted refl
+pub returns-then-close-clause-stands : goal.returns-then-close-clause-stands
+returns-then-close-clause-stands c =
+    subst (λ (ds : List Decision). StandsAs c.args.self.now.world ds c.chosen.result) c.close.ensures.decided
+    (subst (λ (w : World). StandsAs w (decided_in w c.close.new.self.table.entries) c.chosen.result) c.close.ensures.world c.chosen.ensures.stands)
 
-pub returns-then-not-go_on-clause-told : goal.returns-then-not-go_on-clause-told
-returns-then-not-go_on-clause-told c =
-    refuted_along c.args.self.now.world c.start.new.self.world c.args.self.now.table.entries c.start.new.self.table.entries c.start.ensures.world c.start.ensures.decided (c.if-not-go_on.ensures.refuted refl)
+pub returns-else-close-clause-told : goal.returns-else-close-clause-told
+returns-else-close-clause-told c = refuted_by_search c.args.self.now.world (decided_in c.args.self.now.world c.args.self.now.table.entries) c.if-close.ensures.behind
