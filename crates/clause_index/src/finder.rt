@@ -13,9 +13,10 @@ ghost use Rattle.fol_core.specs.TermView.{tree_of};
 use crate::marks::marks_of;
 use crate::parts::Part;
 use crate::short::is_short;
+use derivation::sides;
 use discrim_tree::{MarkSieve, Sieve, Sought, put_in_order};
 use fol_core::{Clause, Literal, Term};
-use held_clauses::{Held, is_equation, left_of, right_of};
+use held_clauses::Held;
 use std::alloc::{AllocError, Global};
 
 // So many nodes are gone through at most to find clauses by their marks, times the marks and some more.
@@ -107,12 +108,11 @@ fn put_sides(
     if !literal.positive {
         return Ok(());
     }
-    if !is_equation(&literal.atom) {
+    let Some((left, right)) = sides(&literal.atom) else {
         return Ok(());
-    }
-    let nothing = Term::Var(0);
-    sieve.put(alloc, left_of(&literal.atom, &nothing), number)?;
-    sieve.put(alloc, right_of(&literal.atom, &nothing), number)
+    };
+    sieve.put(alloc, left, number)?;
+    sieve.put(alloc, right, number)
 }
 
 // A number is taken from under a term and those in it.
@@ -159,10 +159,12 @@ fn take_inside(keeps: bool, sieve: &mut Sieve, atom: &Term, number: u64)
 fn take_sides(sieve: &mut Sieve, literal: &Literal, number: u64)
     ensures { OthersStay number sieve.old sieve.new }
 {
-    if literal.positive && is_equation(&literal.atom) {
-        let nothing = Term::Var(0);
-        sieve.take(left_of(&literal.atom, &nothing), number);
-        sieve.take(right_of(&literal.atom, &nothing), number);
+    if !literal.positive {
+        return;
+    }
+    if let Some((left, right)) = sides(&literal.atom) {
+        sieve.take(left, number);
+        sieve.take(right, number);
     }
 }
 

@@ -16,9 +16,10 @@ ghost use Rattle.prover_steps.specs.Searching.{put_in};
 
 use crate::lists::{all_with, leave_out_one, put_in};
 use crate::short::is_short_of;
+use derivation::atom_at;
 use discrim_tree::{Index, Sought, Tries};
 use fol_core::Term;
-use held_clauses::{Held, first_atom};
+use held_clauses::Held;
 use std::alloc::{AllocError, Global};
 use std::marker::Model;
 
@@ -48,6 +49,7 @@ impl Model for Listed {
 }
 
 // Puts the clause in the index of one sign, if it belongs there.
+#[tactic(auto, using(derivation::proofs::SideSteps::or_tree, derivation::proofs::SideSteps::or_variable))]
 fn enter(sign: bool, held: &Held, index: &mut Index) -> Result<(), AllocError>
     requires { has_number held.now.number index.old ≡ false }
     ensures ok { OnOk result (index.new ≡ entered sign held.now index.old) }
@@ -56,8 +58,11 @@ fn enter(sign: bool, held: &Held, index: &mut Index) -> Result<(), AllocError>
     if !is_short_of(sign, held) {
         return Ok(());
     }
-    let nothing = Term::Var(0);
-    index.insert(held.number(), first_atom(held.clause(), &nothing))
+    let variable = Term::Var(0);
+    index.insert(
+        held.number(),
+        atom_at(held.clause(), 0).unwrap_or(&variable),
+    )
 }
 
 impl Listed {

@@ -6,9 +6,10 @@ ghost use Rattle.clause_index.specs.Finding.{has_term_such, has_such_below, has_
 ghost use Rattle.discrim_tree.specs.Seeking.{passes};
 ghost use Rattle.held_clauses.specs.Holding.{lent};
 
+use derivation::sides;
 use discrim_tree::Sought;
 use fol_core::{Literal, Term};
-use held_clauses::{Held, is_equation, left_of, right_of};
+use held_clauses::Held;
 use std::alloc::{AllocError, Global};
 
 /// Where in clauses a term is sought: among the atoms of literals of a sign, among the terms below atoms, variables left out,
@@ -71,14 +72,13 @@ fn has_side(alloc: Global, sought: &Sought, t: &Term, literal: &Literal) -> Resu
     if !literal.positive {
         return Ok(false);
     }
-    if !is_equation(&literal.atom) {
+    let Some((left, right)) = sides(&literal.atom) else {
         return Ok(false);
-    }
-    let nothing = Term::Var(0);
-    if sought.passes(alloc, t, left_of(&literal.atom, &nothing))? {
+    };
+    if sought.passes(alloc, t, left)? {
         return Ok(true);
     }
-    sought.passes(alloc, t, right_of(&literal.atom, &nothing))
+    sought.passes(alloc, t, right)
 }
 
 // Whether a literal has a term there that is.

@@ -15,7 +15,7 @@ use crate::lists::{leave_out_one, put_in, with_number};
 use crate::normal_terms::NormalTerms;
 use discrim_tree::{Index, Tries};
 use fol_core::Term;
-use held_clauses::{Held, first_atom, left_of};
+use held_clauses::{Held, rule_left};
 use std::alloc::{AllocError, Global};
 use std::marker::Model;
 use std::mem;
@@ -90,8 +90,9 @@ impl Rules {
         ensures err { OnErr result (self.new ≡ self.old) }
     {
         let number = rule.number();
-        let nothing = Term::Var(0);
-        let left = left_of(first_atom(rule.clause(), &nothing), &nothing);
+        // What has no left side stands under a variable.
+        let variable = Term::Var(0);
+        let left = rule_left(&rule).unwrap_or(&variable);
         self.lefts.insert(number, left)?;
         self.known.forget();
         match put_in(rule, &mut self.rules) {

@@ -4,12 +4,12 @@ ghost use Rattle.fol_core.specs.Sizes.{size_of, depth_of};
 ghost use Rattle.fol_core.specs.TermView.{tree_of};
 ghost use Rattle.clause_limits.specs.Sizes.{clause_size, clause_depth, is_too_large};
 
-use crate::limits::{MOST_LEVELS, MOST_SYMBOLS};
+use crate::limits::{MOST_CLAUSE_LEVELS, MOST_CLAUSE_SYMBOLS};
 use fol_core::{Clause, Term};
 
-// Whether a term has more levels.
+/// Whether a term has more levels.
 #[tactic(auto, using(crate::proofs::Measures::deeper_here, crate::proofs::Measures::deeper_behind, crate::proofs::Measures::deeper_end, crate::proofs::Measures::deeper_around))]
-fn is_deeper(term: &Term, levels: u64) -> bool
+pub fn is_deeper(term: &Term, levels: u64) -> bool
     ensures { result ≡ nat_lt levels (depth_of (tree_of term.now)) }
 {
     if levels == 0 {
@@ -105,7 +105,7 @@ pub fn is_larger(clause: &Clause, levels: u64, symbols: u64) -> bool
 pub fn is_too_large(clause: &Clause) -> bool
     ensures { result ≡ is_too_large clause.now }
 {
-    is_larger(clause, MOST_LEVELS, MOST_SYMBOLS)
+    is_larger(clause, MOST_CLAUSE_LEVELS, MOST_CLAUSE_SYMBOLS)
 }
 
 /// How many symbols and variables a clause has that isn't too large.
@@ -113,8 +113,8 @@ pub fn clause_size(clause: &Clause) -> u64
     requires { is_too_large clause.now ≡ false }
     ensures { result ≡ clause_size clause.now }
 {
-    match left_behind_clause(clause, MOST_SYMBOLS) {
-        Some(left) => MOST_SYMBOLS - left,
-        None => MOST_SYMBOLS,
+    match left_behind_clause(clause, MOST_CLAUSE_SYMBOLS) {
+        Some(left) => MOST_CLAUSE_SYMBOLS - left,
+        None => MOST_CLAUSE_SYMBOLS,
     }
 }

@@ -41,6 +41,14 @@ impl SmallClause {
         })
     }
 
+    /// A clause that isn't too large, as it is.
+    pub fn of(clause: Clause) -> SmallClause
+        requires { is_too_large clause ≡ false }
+        ensures { result ≡ clause }
+    {
+        SmallClause { clause }
+    }
+
     /// It isn't too large.
     pub fn keeps_to_limits(&self)
         ensures { is_too_large self.now ≡ false }

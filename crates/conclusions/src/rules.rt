@@ -4,8 +4,8 @@ ghost use Rattle.std.specs.List.{list_any, list_all};
 ghost use Rattle.prover_steps.specs.Conclusions.{has_equation, has_relation, is_horn, takes_equations, needs_resolution, rules_in_force};
 ghost use Rattle.conclusions.specs.View.{rules_set};
 
+use derivation::is_equation;
 use fol_core::{Clause, Literal};
-use held_clauses::is_equation;
 use ladr_options::Options;
 
 /// The rules in force.

@@ -7,9 +7,9 @@ ghost use Rattle.prover_steps.specs.Shortening.{denies};
 ghost use Rattle.prover_steps.specs.Subsuming.{fits_in, fits_in_some, fits_below, rewrites_clause};
 
 use fol_core::{Clause, Literal, Term, Terms};
-use held_clauses::{Held, first_atom, left_of};
+use held_clauses::{Held, rule_left};
 use std::alloc::Global;
-use unifiers::is_instance;
+use term_matches::is_instance;
 
 // Whether a rule fits one of some arguments or a term in them.
 #[cycle(fits)]
@@ -27,7 +27,7 @@ fn fits_in_some(alloc: Global, rule: &Held, terms: &Terms) -> bool
 
 // Whether it fits a term or one in it.
 #[cycle(fits)]
-#[tactic(auto, using(crate::proofs::Fits::rewrites_instance))]
+#[tactic(auto, using(crate::proofs::Fits::rewrites_instance, derivation::proofs::SideSteps::or_tree, derivation::proofs::SideSteps::or_variable))]
 fn fits_in(alloc: Global, rule: &Held, term: &Term) -> bool
     ensures { result ≡ fits_in rule.now (tree_of term.now) }
 {
@@ -35,12 +35,8 @@ fn fits_in(alloc: Global, rule: &Held, term: &Term) -> bool
         Term::Var(_) => false,
         Term::Elem(_) => false,
         Term::App(_, terms) => {
-            let nothing = Term::Var(0);
-            if is_instance(
-                alloc,
-                left_of(first_atom(rule.clause(), &nothing), &nothing),
-                term,
-            ) {
+            let variable = Term::Var(0);
+            if is_instance(alloc, rule_left(rule).unwrap_or(&variable), term) {
                 return true;
             }
             fits_in_some(alloc, rule, terms)

@@ -16,10 +16,10 @@ use crate::fitting::denies;
 use crate::literals::{take_out, turn_at};
 use crate::step::Tidied;
 use clause_index::{HeldSet, HeldSets};
-use derivation::Later;
+use derivation::{Later, sides};
 use discrim_tree::Tries;
-use fol_core::{Clause, Literal, Term};
-use held_clauses::{Held, has_same_sides, is_equation, is_greater, left_of, right_of};
+use fol_core::{Clause, Literal};
+use held_clauses::{Held, has_same_sides, is_greater};
 use std::alloc::{AllocError, Global};
 use substitutions::same;
 use term_order::Precedence;
@@ -29,16 +29,10 @@ fn is_turned(alloc: Global, precedence: &Precedence, literal: &Literal) -> Resul
     ensures { IfOk result (λ b. b ≡ is_turned (greater_of precedence.now)
         (literal_of literal.now)) }
 {
-    if !is_equation(&literal.atom) {
+    let Some((left, right)) = sides(&literal.atom) else {
         return Ok(false);
-    }
-    let nothing = Term::Var(0);
-    is_greater(
-        alloc,
-        precedence,
-        right_of(&literal.atom, &nothing),
-        left_of(&literal.atom, &nothing),
-    )
+    };
+    is_greater(alloc, precedence, right, left)
 }
 
 // Exchanges the sides of the equation at a place, if the right one is greater.

@@ -13,22 +13,23 @@ use crate::step::Step;
 use clause_index::{NormalTerms, Rules};
 use discrim_tree::Tries;
 use fol_core::{Term, Terms};
-use held_clauses::{Held, first_atom, left_of, right_of};
+use held_clauses::{Held, rule_left, rule_right};
 use std::alloc::{AllocError, Global};
-use unifiers::Matches;
+use term_matches::Matches;
 
 /// What a rule makes of a term that is an instance of its left side.
+#[tactic(auto, using(derivation::proofs::SideSteps::or_tree, derivation::proofs::SideSteps::or_variable))]
 pub fn rewritten_by(alloc: Global, rule: &Held, term: &Term) -> Result<Option<Term>, AllocError>
     ensures { IfOk result (λ o. option_map tree_of o
         ≡ rewritten_by rule.now (tree_of term.now)) }
 {
-    let nothing = Term::Var(0);
-    let atom = first_atom(rule.clause(), &nothing);
-    let left = left_of(atom, &nothing);
+    let variable = Term::Var(0);
+    let left = rule_left(rule).unwrap_or(&variable);
+    let right = rule_right(rule).unwrap_or(&variable);
     let mut values = Matches::new(alloc);
     values.reserve(left)?;
     if values.match_onto(left, term) {
-        Ok(Some(values.apply(alloc, right_of(atom, &nothing))?))
+        Ok(Some(values.apply(alloc, right)?))
     } else {
         Ok(None)
     }

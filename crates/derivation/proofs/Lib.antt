@@ -6,8 +6,10 @@ pub mod LaterSound
 pub mod Lawful
 pub mod Naturality
 pub mod PlaceLemmas
+mod PlaceSteps
 pub mod Rows
 pub mod RuleSound
+pub mod SideSteps
 pub mod Values
 mod WorkedLemmas
 pub mod Spread

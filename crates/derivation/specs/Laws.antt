@@ -11,6 +11,7 @@ use Rattle.derivation.specs.Lines.{FirstWord, Inference, ContentTree, formula, c
 use Rattle.derivation.specs.Later.{LaterWord}
 use Rattle.derivation.specs.Refused.{IsRefusedLine, IsAccepted, IsFault}
 use Rattle.derivation.specs.Rule.{Concludes}
+use Rattle.derivation.specs.declared.row.Row.{Row}
 
 -- each element that a clause names is within
 abbrev pub NamesWithin : Meaning → ClauseTree → Type 0
@@ -74,24 +75,24 @@ OneContent =
 abbrev pub RefusedIsNone : Type 0
 RefusedIsNone =
     (ss : List Said) (rows : List InputRow) (ls : List LineTree) (last : Option ℕ) (l : LineTree)
-    (row : ℕ)
+    (row : Row)
     → IsRefusedLine ss rows ls last l row → ¬ IsAccepted ss rows ls last l
 
 abbrev pub RefusedByOneRow : Type 0
 RefusedByOneRow =
     (ss : List Said) (rows : List InputRow) (ls : List LineTree) (last : Option ℕ) (l : LineTree)
-    (row other : ℕ)
+    (row other : Row)
     → IsRefusedLine ss rows ls last l row → IsRefusedLine ss rows ls last l other → row ≡ other
 
 -- lines that have a fault are no refutation, and the fault is one
 abbrev pub FaultIsNone : Type 0
 FaultIsNone =
-    (ss : List Said) (rows : List InputRow) (ls : List LineTree) (number row : ℕ) →
+    (ss : List Said) (rows : List InputRow) (ls : List LineTree) (number : ℕ) (row : Row) →
     IsFault ss rows ls number row → ¬ IsRefutation ss rows ls
 
 abbrev pub FaultIsOne : Type 0
 FaultIsOne =
     (ss : List Said) (rows : List InputRow) (ls : List LineTree)
-    (number row other_number other_row : ℕ)
+    (number : ℕ) (row : Row) (other_number : ℕ) (other_row : Row)
     → IsFault ss rows ls number row → IsFault ss rows ls other_number other_row →
     (number ≡ other_number) × (row ≡ other_row)

@@ -5,7 +5,9 @@ pub mod Laws
 pub mod Lines
 pub mod Places
 pub mod Refused
+pub mod RowNumbers
 pub mod Rule
+pub mod Sides
 pub mod View
 pub mod Words
 pub mod Worked

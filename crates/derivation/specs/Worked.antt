@@ -9,6 +9,7 @@ use Rattle.derivation.specs.Equations.{equation}
 use Rattle.derivation.specs.Later.{LaterWord, flipped, merged, reflexive, unit_deleted, rewritten, later_fits, Leads}
 use Rattle.derivation.specs.Lines.{FirstWord, assumed, wanted, clausified, denied, copied, resolved, ContentTree, formula, clause, LineTree, InputRow, IsRefutation}
 use Rattle.derivation.specs.Refused.{IsRefusedLine, IsFault}
+use Rattle.derivation.specs.declared.row.Row.TheVariants.{NoLines, NotAbove, NoParent, NoFormula, NoClause, Misplaced, Differs, OtherClause, NotEmpty}
 use Rattle.derivation.specs.Words.{copy_rule, clash_rule, factor_rule, xx_rule, para_rule}
 
 -- constants a and b, a function f, relations p and q
@@ -165,24 +166,25 @@ WorkedRefutation =
 -- that isn't an instance
 abbrev pub WorkedFaults : Type 0
 WorkedFaults =
-    IsFault stated inputs [] 0 1
-    × IsRefusedLine stated inputs given (Some 4) (numbered_line 4 (clause []) (clash 3 4)) 2
+    IsFault stated inputs [] 0 NoLines
+    × IsRefusedLine stated inputs given (Some 4) (numbered_line 4 (clause []) (clash 3 4)) NotAbove
     × IsRefusedLine stated inputs given (Some 4)
-    (numbered_line 5 (clause (yes (p a) ∷ [])) (copied 1)) 3
+    (numbered_line 5 (clause (yes (p a) ∷ [])) (copied 1)) NoParent
     × IsRefusedLine stated inputs given (Some 4)
-    (numbered_line 5 (formula (atom 4 (more a none))) assumed) 4
+    (numbered_line 5 (formula (atom 4 (more a none))) assumed) NoFormula
     × IsRefusedLine stated inputs given (Some 4)
-    (numbered_line 5 (clause (yes (p a) ∷ [])) (clausified 2)) 5
-    × IsRefusedLine stated inputs given (Some 4) (numbered_line 5 (clause []) (clash 3 3)) 6
+    (numbered_line 5 (clause (yes (p a) ∷ [])) (clausified 2)) NoClause
+    × IsRefusedLine stated inputs given (Some 4) (numbered_line 5 (clause []) (clash 3 3)) Misplaced
     × IsRefusedLine stated inputs
     (numbered_line 1 (clause (yes (p a) ∷ [])) (clausified 1)
     ∷ numbered_line 2 (clause (no (p b) ∷ [])) (denied 2) ∷ []) (Some 2)
-    (numbered_line 3 (clause []) (clash 1 2)) 7
-    × IsRefusedLine stated inputs given (Some 4) (copy_then 5 (clause []) 3 (merged 0 ∷ [])) 7
+    (numbered_line 3 (clause []) (clash 1 2)) Differs
+    × IsRefusedLine stated inputs given (Some 4) (copy_then 5 (clause []) 3 (merged 0 ∷ [])) Differs
     × IsRefusedLine stated inputs
     (numbered_line 1 (clause (yes (p a) ∷ [])) (clausified 1)
     ∷ numbered_line 2 (clause (no (p b) ∷ [])) (denied 2) ∷ []) (Some 2)
-    (copy_then 3 (clause []) 1 (unit_deleted 0 2 ∷ [])) 7
+    (copy_then 3 (clause []) 1 (unit_deleted 0 2 ∷ [])) Differs
     × IsRefusedLine stated inputs given (Some 4)
-    (numbered_line 5 (clause (no (p a) ∷ [])) (copied 3)) 8
-    × IsFault stated inputs (numbered_line 1 (formula (atom 3 (more a none))) assumed ∷ []) 1 9
+    (numbered_line 5 (clause (no (p a) ∷ [])) (copied 3)) OtherClause
+    × IsFault stated inputs (numbered_line 1 (formula (atom 3 (more a none))) assumed ∷ []) 1
+    NotEmpty

@@ -2,7 +2,7 @@
 use Rattle.std.proofs.Common.{◌≡◌, ◌+◌, ◌<◌, ◌≤◌, ℕ, Bool, true, false, IsTrue, cond, nat_lt, refl, sym, ap, ap₂, ◌∙◌, arith}
 use Rattle.fol_core.specs.Substitutions.{Substitution, substitute, substitute_all}
 use Rattle.fol_core.specs.Tree.{Tree, var, elem, app, Trees, none, more}
-use Rattle.unifiers.specs.Occurrences.{occurrences, occurrences_of}
+use Rattle.term_matches.specs.Occurrences.{occurrences, occurrences_of}
 use Rattle.discrim_tree.specs.Fitting.{Fits, FitAll}
 use Rattle.discrim_tree.specs.Linear.{linear, all_linear, passes_linear}
 use Rattle.discrim_tree.specs.Seeking.{fits_below, fits_above}

@@ -2,7 +2,7 @@
 use Rattle.std.specs.Prelude.{ℕ, ◌≡◌, ◌+◌, Bool, List, [], ◌∷◌}
 use Rattle.fol_core.specs.Tree.{Tree, var, elem, app, Trees, none, more}
 use Rattle.fol_core.specs.TermView.{tree_of}
-use Rattle.unifiers.specs.Occurrences.{occurrences}
+use Rattle.term_matches.specs.Occurrences.{occurrences}
 use Rattle.discrim_tree.specs.Places.{repeated, IsNarrow}
 use Rattle.discrim_tree.specs.Seeking.{passes}
 use Rattle.discrim_tree.specs.declared.entry.IndexEntry.{IndexEntry}

@@ -7,7 +7,7 @@ use crate::comparing::can_unify;
 use crate::meeting::may_meet;
 use fol_core::Term;
 use std::alloc::{AllocError, Global};
-use unifiers::is_instance;
+use term_matches::is_instance;
 
 /// Which terms are sought: those of which a term is an instance, its instances, or those that unify with it.
 #[derive(Drop)]

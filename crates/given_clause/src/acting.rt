@@ -20,10 +20,10 @@ use crate::lists::merged;
 use crate::state::{QueueEntry, Queued, Search};
 use clause_index::HeldSet;
 use demodulate::{denies, rewrites_clause};
-use derivation::First;
+use derivation::{First, atom_at, has_literal};
 use discrim_tree::Tries;
 use fol_core::{Clause, Term};
-use held_clauses::{Held, first_atom, left_of};
+use held_clauses::{Held, rule_left};
 use resolution::{Conclusion, add_resolvent};
 use std::alloc::{AllocError, Global};
 use std::collections::VecDeque;
@@ -97,16 +97,6 @@ fn acts_on_other(alloc: Global, act: Act, held: &Held, other: &Held) -> Result<b
     acts_on(alloc, act, held, other.clause())
 }
 
-// Whether the first literal of a clause is positive; of one without literals it isn't.
-fn begins_positive(clause: &Clause) -> bool
-    ensures { result ≡ has_literal true clause.now 0 }
-{
-    match clause.as_slice() {
-        [] => false,
-        [first, ..] => first.positive,
-    }
-}
-
 // The clauses of a set that a clause may put back: those with a literal of the other sign that is an instance of its first
 // one, or with an instance of the left side of its equation.
 fn near_put_back<'a>(back: Back, set: &'a HeldSet, held: &Held) -> Result<Vec<&'a Held>, AllocError>
@@ -114,11 +104,11 @@ fn near_put_back<'a>(back: Back, set: &'a HeldSet, held: &Held) -> Result<Vec<&'
         ≡ filter (may_put_back back held.now) set.now) }
 {
     let clause = held.clause();
-    let nothing = Term::Var(0);
-    let atom = first_atom(clause, &nothing);
+    let variable = Term::Var(0);
+    let atom = atom_at(clause, 0).unwrap_or(&variable);
     match back {
-        Back::Deletes => set.with_instance(!begins_positive(clause), atom),
-        Back::Rewrites => set.with_instance_inside(left_of(atom, &nothing)),
+        Back::Deletes => set.with_instance(!has_literal(clause, true, 0), atom),
+        Back::Rewrites => set.with_instance_inside(rule_left(held).unwrap_or(&variable)),
     }
 }
 
@@ -331,10 +321,10 @@ fn opposing<'a>(
     ensures on { tries.old ≤ tries.new }
 {
     let clause = held.clause();
-    let nothing = Term::Var(0);
+    let variable = Term::Var(0);
     set.short_unifiable(
-        !begins_positive(clause),
-        first_atom(clause, &nothing),
+        !has_literal(clause, true, 0),
+        atom_at(clause, 0).unwrap_or(&variable),
         tries,
     )
 }

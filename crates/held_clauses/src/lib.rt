@@ -1,7 +1,7 @@
 // Clauses that a search holds and lines that it made, equations, and the order of terms that is chosen.
 // `held.rt` has `Held`, a clause under the number of its line; contracts see it as the definitions of `prover_steps`
 // do. Its copies share the clause, and so does its line (`made.rt`), with the words by which it was made.
-// `equations.rt` tells equations and their sides.
+// `equations.rt` has the sides of rules, and tells equations of one term with itself.
 // `path_order.rt` compares terms by the path order as they stand, where the heads decide, and with one head the first
 // arguments that differ (`specs/Fronts`). `order.rt` compares terms of up to a hundred symbols and variables so,
 // others, and those by weight, in a bank of their own, unless less tells: no term is greater than itself or than one
@@ -16,7 +16,7 @@ mod made;
 mod order;
 mod path_order;
 
-pub use equations::{first_atom, has_same_sides, is_equation, is_unit, left_of, right_of};
+pub use equations::{has_same_sides, is_unit, rule_left, rule_right};
 pub use held::Held;
 pub use made::MadeLine;
 pub use order::is_greater;

@@ -7,14 +7,13 @@ ghost use Rattle.held_clauses.specs.Variables.{has_each_of};
 ghost use Rattle.term_bank.specs.Bank.{tree_at};
 
 use crate::path_order::is_path_greater;
-use clause_limits::{MOST_SYMBOLS, left_behind};
+use clause_limits::{MOST_CLAUSE_SYMBOLS, left_behind};
 use fol_core::Term;
 use ladr_options::Order;
 use std::alloc::{AllocError, Global};
-use substitutions::same;
+use substitutions::{has_variable, same};
 use term_bank::{Bank, TermId};
 use term_order::{Compared, Precedence, lpo_is_order, symbols_are_ordered};
-use term_unifiers::has_variable;
 
 // Whether the first term is greater, by how the two compare.
 fn tells_greater(compared: Compared) -> bool
@@ -45,10 +44,10 @@ fn is_greater_in(
     match precedence.order {
         Order::Lpo => Ok(tells_greater(precedence.lpo(bank, s, t))),
         Order::Kbo => {
-            if bank.size(s) > MOST_SYMBOLS {
+            if bank.size(s) > MOST_CLAUSE_SYMBOLS {
                 return Err(AllocError);
             }
-            if bank.size(t) > MOST_SYMBOLS {
+            if bank.size(t) > MOST_CLAUSE_SYMBOLS {
                 return Err(AllocError);
             }
             Ok(tells_greater(precedence.kbo(bank, s, t)))

@@ -8,9 +8,8 @@ ghost use Rattle.term_order.specs.Lpo.{lpo_greater, some_at_least};
 ghost use Rattle.term_order.specs.Precedences.{stands_above};
 
 use fol_core::Term;
-use substitutions::same;
+use substitutions::{has_variable, same};
 use term_order::Precedence;
-use term_unifiers::has_variable;
 
 // What is left of two lists behind the terms that they have in common at the front.
 #[tactic(auto, using(crate::proofs::PathSteps::past_first, crate::proofs::PathSteps::past_second, crate::proofs::PathSteps::past_same, crate::proofs::PathSteps::past_other))]

@@ -1,15 +1,38 @@
 -- Sides of equations that are taken.
-use Rattle.std.proofs.Common.{◌≡◌, ℕ, Bool, true, false, not, ◌==◌, ◌&&◌, ◌||◌, if◌then◌else◌, List, [], ◌∷◌, ◌++◌, sym, ap, ◌∙◌, append_assoc}
+use Rattle.std.proofs.Common.{◌≡◌, ℕ, Bool, true, false, not, ◌==◌, ◌&&◌, ◌||◌, if◌then◌else◌, List, [], ◌∷◌, ◌++◌, Option, Some, None, is_some, MatchOption, sym, ap, ap₂, ◌∙◌, append_assoc}
 use Rattle.std.proofs.lemmas.List.{append-nil}
 use Rattle.std.proofs.lemmas.Bool.{ne_eqb}
+use Rattle.std.specs.Borrow.{Bor}
+use Rattle.fol_core.specs.TermView.{tree_of}
 use Rattle.fol_core.specs.Tree.{Tree}
+use Rattle.fol_core.specs.declared.term.Term.{Term}
+use Rattle.derivation.specs.Equations.{is_equation, left_of, right_of}
 use Rattle.derivation.specs.Places.{atom_at}
+use Rattle.derivation.specs.Sides.{AreSides}
 use Rattle.derivation.specs.Words.{side_of}
 use Rattle.prover_steps.specs.Clashing.{Held}
 use Rattle.prover_steps.specs.Concluded.{Conclusion}
 use Rattle.prover_steps.specs.Equalities.{is_bare_variable, is_oriented}
-use Rattle.paramod.specs.Sites.{takes_side, side_tried, literal_tried, paramodulants_by}
+use Rattle.paramod.specs.Sites.{IsLargerSide, takes_side, side_tried, literal_tried, paramodulants_by}
 use Rattle.resolution.proofs.Going.{flat_kept}
+
+-- the larger side of an equation
+module _ (greater : Tree → Tree → Bool) (atom : Tree) where
+  pub no_larger : is_equation atom ≡ false → is_oriented greater atom ≡ false
+  no_larger h = ap (λ b. b && greater (left_of atom) (right_of atom)) h
+
+  by_sides : (s t : Tree) → AreSides atom s t → (b : Bool) → b ≡ greater s t → is_oriented greater atom ≡ b
+  by_sides s t are b h = ap₂ (λ p q. p && q) are.equal (ap₂ greater (sym are.left_is) (sym are.right_is) ∙ sym h)
+
+  pub other_larger : (s t : Tree) → AreSides atom s t → false ≡ greater s t → is_oriented greater atom ≡ false
+  other_larger s t are h = by_sides s t are false h
+
+  pub left_larger : (s t : Tree) → AreSides atom s t → true ≡ greater s t → IsLargerSide greater atom s
+  left_larger s t are h = record { oriented = by_sides s t are true h; left_is = are.left_is }
+
+  pub larger_tells : (o : Option (Bor Term)) → MatchOption o (is_oriented greater atom ≡ false) (λ (t : Bor Term). IsLargerSide greater atom (tree_of t.now)) → is_some o ≡ is_oriented greater atom
+  larger_tells None h = sym h
+  larger_tells (Some s) h = sym h.oriented
 
 module _ (greater : Tree → Tree → Bool) (atom : Tree) (side : ℕ) (term : Tree) (is : term ≡ side_of side atom) where
   -- a variable

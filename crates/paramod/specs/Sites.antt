@@ -1,5 +1,5 @@
 -- Where a side of an equation is put in for a term of a literal.
-use Rattle.std.specs.Prelude.{ℕ, Bool, false, not, ◌==◌, ◌&&◌, ◌||◌, if◌then◌else◌, IsTrue, List, [], ◌∷◌, Some, flat_map}
+use Rattle.std.specs.Prelude.{ℕ, ◌≡◌, Bool, true, false, not, ◌==◌, ◌&&◌, ◌||◌, if◌then◌else◌, IsTrue, List, [], ◌∷◌, Some, flat_map}
 use Rattle.fol_core.specs.Literals.{ClauseTree}
 use Rattle.fol_core.specs.Tree.{Tree}
 use Rattle.derivation.specs.Equations.{is_equation, left_of, right_of, is_no_variable}
@@ -43,6 +43,11 @@ paramodulants_in greater s = flat_map (paramodulant_at s) (into_paths greater (a
 abbrev pub paramodulants_by : (Tree → Tree → Bool) → Held → Held → ℕ → ℕ → List Conclusion
 paramodulants_by greater c d a side =
     flat_map (λ b. paramodulants_in greater (site c a side d b)) (places_of d.clause)
+
+-- a side is the left one of an equation, and is greater than the right one
+pub record IsLargerSide (greater : Tree → Tree → Bool) (atom side : Tree) : Type 0 where
+  pub oriented : is_oriented greater atom ≡ true
+  pub left_is : side ≡ left_of atom
 
 -- the sides that are taken
 abbrev pub takes_side : (Tree → Tree → Bool) → Tree → ℕ → Bool

@@ -14,11 +14,12 @@ ghost use Rattle.resolution.specs.View.{all_conclusions};
 
 use crate::adding::{add_below, add_from};
 use crate::partners::partners;
-use crate::sides::{is_oriented, is_taken};
+use crate::sides::{is_taken, larger_side};
 use crate::site::Site;
 use clause_index::HeldSet;
+use derivation::sides;
 use fol_core::{Literal, Term};
-use held_clauses::{Held, is_equation, left_of, right_of};
+use held_clauses::Held;
 use resolution::Conclusion;
 use std::alloc::{AllocError, Global};
 use term_order::Precedence;
@@ -36,11 +37,9 @@ fn add_into(
     ensures { OnOk result (all_conclusions made.new.items ≡ all_conclusions made.old.items
         ++ paramodulants_in (greater_of precedence.now) (site_of site.now)) }
 {
-    if !is_oriented(alloc, precedence, atom)? {
+    let Some(larger) = larger_side(alloc, precedence, atom)? else {
         return add_below(alloc, site, atom, made);
-    }
-    let nothing = Term::Var(0);
-    let larger = left_of(atom, &nothing);
+    };
     let mut path = Vec::new(alloc);
     path.push(1)?;
     add_from(alloc, site, larger, &mut path, made)?;
@@ -119,13 +118,10 @@ fn add_by_literal(
     if !literal.positive {
         return Ok(());
     }
-    if !is_equation(&literal.atom) {
-        return Ok(());
-    }
     let atom = &literal.atom;
-    let nothing = Term::Var(0);
-    let left = left_of(atom, &nothing);
-    let right = right_of(atom, &nothing);
+    let Some((left, right)) = sides(atom) else {
+        return Ok(());
+    };
     add_by_side(alloc, precedence, from, equation, 1, left, atom, into, made)?;
     add_by_side(
         alloc, precedence, from, equation, 2, right, atom, into, made,

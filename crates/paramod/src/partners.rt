@@ -11,10 +11,11 @@ ghost use Rattle.held_clauses.specs.Holding.{lent};
 ghost use Rattle.held_clauses.specs.Order.{greater_of};
 ghost use Rattle.paramod.specs.Partners.{terms_in, terms_among, terms_below, replacing, by_side, by_sides, by_terms, HavePartners};
 
-use crate::sides::{is_oriented, is_taken};
+use crate::sides::{is_taken, larger_side};
 use clause_index::{HeldSet, all_numbered};
+use derivation::sides;
 use fol_core::{Literal, Term};
-use held_clauses::{Held, is_equation, left_of, right_of};
+use held_clauses::Held;
 use std::alloc::{AllocError, Global};
 use term_order::Precedence;
 
@@ -52,13 +53,10 @@ fn add_by_sides(
     if !literal.positive {
         return Ok(());
     }
-    if !is_equation(&literal.atom) {
-        return Ok(());
-    }
     let atom = &literal.atom;
-    let nothing = Term::Var(0);
-    let left = left_of(atom, &nothing);
-    let right = right_of(atom, &nothing);
+    let Some((left, right)) = sides(atom) else {
+        return Ok(());
+    };
     add_by_side(precedence, held, 1, left, atom, numbers)?;
     add_by_side(precedence, held, 2, right, atom, numbers)?;
     Ok(())
@@ -123,12 +121,10 @@ fn add_by_terms(
 {
     let alloc = *numbers.allocator();
     let atom = &literal.atom;
-    if !is_oriented(alloc, precedence, atom)? {
+    let Some(larger) = larger_side(alloc, precedence, atom)? else {
         add_below(held, atom, numbers)?;
         return Ok(());
-    }
-    let nothing = Term::Var(0);
-    let larger = left_of(atom, &nothing);
+    };
     add_inside(held, larger, numbers)?;
     Ok(())
 }

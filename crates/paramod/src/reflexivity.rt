@@ -6,10 +6,10 @@ ghost use Rattle.prover_steps.specs.Concluded.{inferred};
 ghost use Rattle.prover_steps.specs.Equalities.{reflexive_resolvents_of};
 ghost use Rattle.resolution.specs.View.{all_conclusions};
 
-use derivation::First;
+use derivation::{First, sides};
 use discrim_tree::may_meet;
-use fol_core::{Clause, Term};
-use held_clauses::{Held, is_equation, left_of, right_of};
+use fol_core::Clause;
+use held_clauses::Held;
 use resolution::{Conclusion, infer};
 use std::alloc::{AllocError, Global};
 
@@ -25,12 +25,9 @@ fn may_reflect(clause: &Clause, a: u64) -> bool
     if literal.positive {
         return false;
     }
-    if !is_equation(&literal.atom) {
+    let Some((left, right)) = sides(&literal.atom) else {
         return false;
-    }
-    let nothing = Term::Var(0);
-    let left = left_of(&literal.atom, &nothing);
-    let right = right_of(&literal.atom, &nothing);
+    };
     may_meet(left, right)
 }
 

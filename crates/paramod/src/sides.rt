@@ -1,14 +1,15 @@
 // The sides of equations, and what they may replace.
-ghost use Rattle.std.specs.Prelude.{◌≡◌, false, IfOk};
+ghost use Rattle.std.specs.Prelude.{◌≡◌, false, IfOk, MatchOption};
 ghost use Rattle.derivation.specs.Words.{side_of};
 ghost use Rattle.fol_core.specs.TermView.{tree_of};
 ghost use Rattle.held_clauses.specs.Order.{greater_of};
-ghost use Rattle.paramod.specs.Sites.{NeverReplaced, takes_side};
+ghost use Rattle.paramod.specs.Sites.{IsLargerSide, NeverReplaced, takes_side};
 ghost use Rattle.prover_steps.specs.Equalities.{is_bare_variable, is_oriented};
 
+use derivation::sides;
 use discrim_tree::may_meet;
 use fol_core::Term;
-use held_clauses::{is_equation, is_greater, left_of, right_of};
+use held_clauses::is_greater;
 use std::alloc::{AllocError, Global};
 use term_order::Precedence;
 
@@ -34,17 +35,33 @@ pub fn may_be_replaced(side: &Term, term: &Term) -> bool
     }
 }
 
+/// The left side of an atom, if that is an equation whose left side is greater.
+#[tactic(auto, using(crate::proofs::Taken::no_larger, crate::proofs::Taken::other_larger, crate::proofs::Taken::left_larger))]
+pub fn larger_side<'a>(
+    alloc: Global,
+    precedence: &Precedence,
+    atom: &'a Term,
+) -> Result<Option<&'a Term>, AllocError>
+    ensures { IfOk result (λ o. MatchOption o
+        (is_oriented (greater_of precedence.now) (tree_of atom.now) ≡ false)
+        (λ t. IsLargerSide (greater_of precedence.now) (tree_of atom.now) (tree_of t.now))) }
+{
+    let Some((left, right)) = sides(atom) else {
+        return Ok(None);
+    };
+    if is_greater(alloc, precedence, left, right)? {
+        Ok(Some(left))
+    } else {
+        Ok(None)
+    }
+}
+
 /// Whether an atom is an equation whose left side is greater.
+#[tactic(auto, using(crate::proofs::Taken::larger_tells))]
 pub fn is_oriented(alloc: Global, precedence: &Precedence, atom: &Term) -> Result<bool, AllocError>
     ensures { IfOk result (λ b. b ≡ is_oriented (greater_of precedence.now) (tree_of atom.now)) }
 {
-    if !is_equation(atom) {
-        return Ok(false);
-    }
-    let nothing = Term::Var(0);
-    let left = left_of(atom, &nothing);
-    let right = right_of(atom, &nothing);
-    is_greater(alloc, precedence, left, right)
+    Ok(larger_side(alloc, precedence, atom)?.is_some())
 }
 
 /// Whether a side of an equation is taken: no variable, and of an oriented one the left.

@@ -1,7 +1,9 @@
 -- What rules make of parents in a list.
-use Rattle.std.proofs.Common.{◌≡◌, ℕ, zero, suc, ◌+◌, ◌-◌, ◌<◌, ◌≤◌, not, ◌==◌, ◌&&◌, IsTrue, List, [], ◌∷◌, ◌++◌, map, length, get_or, drop, take, refl, sym, ap, ap₂, ◌∙◌, arith, add-one, drop-cons, append_assoc}
+use Rattle.std.proofs.Common.{◌≡◌, ℕ, zero, suc, ◌+◌, ◌-◌, ◌<◌, ◌≤◌, not, ◌==◌, ◌&&◌, IsTrue, List, [], ◌∷◌, ◌++◌, map, length, get_or, drop, take, Option, Some, None, refl, sym, ap, ap₂, ◌∙◌, arith, add-one, drop-cons, append_assoc}
 use Rattle.std.proofs.lemmas.Bool.{and_parts, false≢true}
 use Rattle.std.proofs.lemmas.List.{drop_all, take_all, append-nil}
+use Rattle.std.specs.Borrow.{Bor}
+use Rattle.std.specs.Option.{option_map, unwrap_or}
 use Rattle.fol_core.specs.Free.{is_in}
 use Rattle.fol_core.specs.Literals.{ClauseTree}
 use Rattle.fol_core.specs.Tree.{Tree, trees_of}
@@ -10,6 +12,16 @@ use Rattle.derivation.specs.Words.{Clash, clashes_fit, factor_rule, xx_rule, onl
 use Rattle.derivation.specs.declared.words.Satellite.{Satellite}
 use Rattle.proof_check.specs.Judged.{clash_of, IsPending}
 use Rattle.proof_check.specs.declared.building.Pending.{Pending}
+
+-- the clause that an option holds, or another one in its place
+pub or_clause : (o : Option (Bor ClauseTree)) (d : Bor ClauseTree) → (unwrap_or o d).now ≡ unwrap_or (option_map (λ (e : Bor ClauseTree). e.now) o) d.now
+or_clause None d = refl
+or_clause (Some s) d = refl
+
+-- or the empty one
+pub or_empty : (r : Bor ClauseTree) (o : Option (Bor ClauseTree)) (d : Bor ClauseTree) (c : ClauseTree) → r ≡ unwrap_or o d → d.now ≡ [] → unwrap_or (option_map (λ (e : Bor ClauseTree). e.now) o) [] ≡ c → r.now ≡ c
+or_empty r None d c e is h = ap (λ (b : Bor ClauseTree). b.now) e ∙ is ∙ h
+or_empty r (Some s) d c e is h = ap (λ (b : Bor ClauseTree). b.now) e ∙ h
 
 pub only_here : (cs : List ClauseTree) (c : ClauseTree) → length cs ≡ 1 → c ≡ get_or cs 0 c → only_of cs ≡ c
 only_here [] c h is = absurd (omega arith)

@@ -6,6 +6,8 @@ use Rattle.derivation.specs.Lines.{LineTree, InputRow, AreLines, ends_empty, is_
 use Rattle.derivation.specs.Refused.{IsRefusedLine, IsAccepted, HasFault, IsFault}
 use Rattle.derivation.specs.View.{line_tree, lines_of}
 use Rattle.derivation.specs.declared.line.Line.{Line}
+use Rattle.derivation.specs.declared.row.Row.{Row}
+use Rattle.derivation.specs.declared.row.Row.TheVariants.{NoLines, NotEmpty}
 use Rattle.proof_check.specs.Reached.{AreAbove, AreAtMost, AreRising, ends_behind, FaultBehind, Reaches, Going}
 
 -- each number is below this one
@@ -30,12 +32,12 @@ last_next m l [] h most = (omega arith, tt)
 last_next m l (k ∷ ls) h most = (let le = most.0 in omega arith, last_next m l ls h most.1)
 
 module _ (ss : List Said) (rows : List InputRow) where
-  accepted_then : (earlier : List LineTree) (last : Option ℕ) (l : LineTree) (rest : List LineTree) (number row : ℕ) → IsAccepted ss rows earlier last l
+  accepted_then : (earlier : List LineTree) (last : Option ℕ) (l : LineTree) (rest : List LineTree) (number : ℕ) (row : Row) → IsAccepted ss rows earlier last l
       → FaultBehind ss rows (earlier ++ l ∷ []) l rest number row → HasFault ss rows earlier last (l ∷ rest) number row
   accepted_then earlier last l [] number row accepted fault = (fault.0, inr (accepted, fault.1, fault.2))
   accepted_then earlier last l (k ∷ ls) number row accepted fault = inr (accepted, fault)
 
-  refused_here : (earlier : List LineTree) (last : Option ℕ) (l : LineTree) (rest : List LineTree) (row : ℕ) → IsRefusedLine ss rows earlier last l row → HasFault ss rows earlier last (l ∷ rest) l.number row
+  refused_here : (earlier : List LineTree) (last : Option ℕ) (l : LineTree) (rest : List LineTree) (row : Row) → IsRefusedLine ss rows earlier last l row → HasFault ss rows earlier last (l ∷ rest) l.number row
   refused_here earlier last l [] row refused = (refl, inl refused)
   refused_here earlier last l (k ∷ ls) row refused = inl (refl, refused)
 
@@ -76,11 +78,11 @@ lines_push (k ∷ ls) l = ap (λ ks. line_tree k ∷ ks) (lines_push ls l)
 take_next : (ls : List Line) (i : ℕ) (l : Line) → i < length ls → l ≡ get_or ls i l → lines_of (take (i + 1) ls) ≡ lines_of (take i ls) ++ line_tree l ∷ []
 take_next ls i l h is = ap lines_of (take_more ls i l h ∙ ap (λ k. take i ls ++ k ∷ []) (sym is)) ∙ lines_push (take i ls) l
 
-pub none_given : (ss : List Said) (rows : List InputRow) (ls : List Line) → length ls ≡ 0 → IsFault ss rows (lines_of ls) 0 1
+pub none_given : (ss : List Said) (rows : List InputRow) (ls : List Line) → length ls ≡ 0 → IsFault ss rows (lines_of ls) 0 NoLines
 none_given ss rows [] h = (refl, refl)
 none_given ss rows (l ∷ ls) h = absurd (omega arith)
 
-pub first_fault : (ss : List Said) (rows : List InputRow) (ls : List Line) (l : Line) (row : ℕ) → 0 < length ls → l ≡ get_or ls 0 l → IsRefusedLine ss rows [] None (line_tree l) row → IsFault ss rows (lines_of ls) l.number row
+pub first_fault : (ss : List Said) (rows : List InputRow) (ls : List Line) (l : Line) (row : Row) → 0 < length ls → l ≡ get_or ls 0 l → IsRefusedLine ss rows [] None (line_tree l) row → IsFault ss rows (lines_of ls) l.number row
 first_fault ss rows [] l row h is refused = absurd (omega arith)
 first_fault ss rows (k ∷ ls) l row h is refused =
     subst (λ (k : Line). IsFault ss rows (line_tree k ∷ lines_of ls) l.number row) is (refused_here ss rows [] None (line_tree l) (lines_of ls) row refused)
@@ -115,7 +117,7 @@ module _ (ss : List Said) (rows : List InputRow) (ls : List Line) (i : ℕ) (l x
             (subst (λ (y : Line). IsAccepted ss rows (lines_of (take i ls)) (Some y.number) (line_tree l)) (sym (last_is going h k was)) accepted));
       }
 
-  pub going_fault : (row : ℕ) → Going ss rows ls i → 0 < i → i < length ls → l ≡ get_or ls i l → x ≡ get_or ls (i - 1) x → IsRefusedLine ss rows (lines_of (take i ls)) (Some x.number) (line_tree l) row
+  pub going_fault : (row : Row) → Going ss rows ls i → 0 < i → i < length ls → l ≡ get_or ls i l → x ≡ get_or ls (i - 1) x → IsRefusedLine ss rows (lines_of (take i ls)) (Some x.number) (line_tree l) row
       → IsFault ss rows (lines_of ls) l.number row
   going_fault row going h k is was refused = going.reaches.fault l.number row
       (subst (λ rs. FaultBehind ss rows (lines_of (take i ls)) (line_tree going.last) rs l.number row) (sym (rest_is k is))
@@ -136,7 +138,7 @@ module _ (ss : List Said) (rows : List InputRow) (ls : List Line) (i : ℕ) (e :
     going.reaches.ends ∙ ap (ends_behind (line_tree going.last)) (none_left k) ∙ ap (λ (y : Line). is_empty_clause (line_tree y).content) (end_is going h k is) ∙ empty,
   )
 
-  pub going_other : Going ss rows ls i → 0 < length ls → i ≡ length ls → e ≡ get_or ls (length ls - 1) e → is_empty_clause (line_tree e).content ≡ false → IsFault ss rows (lines_of ls) e.number 9
-  going_other going h k is other = going.reaches.fault e.number 9
-      (subst (λ rs. FaultBehind ss rows (lines_of (take i ls)) (line_tree going.last) rs e.number 9) (sym (none_left k))
+  pub going_other : Going ss rows ls i → 0 < length ls → i ≡ length ls → e ≡ get_or ls (length ls - 1) e → is_empty_clause (line_tree e).content ≡ false → IsFault ss rows (lines_of ls) e.number NotEmpty
+  going_other going h k is other = going.reaches.fault e.number NotEmpty
+      (subst (λ rs. FaultBehind ss rows (lines_of (take i ls)) (line_tree going.last) rs e.number NotEmpty) (sym (none_left k))
       (ap (λ (y : Line). y.number) (sym (end_is going h k is)), refl, ap (λ (y : Line). is_empty_clause (line_tree y).content) (end_is going h k is) ∙ other))

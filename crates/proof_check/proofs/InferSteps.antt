@@ -11,6 +11,8 @@ use Rattle.derivation.specs.Lines.{FirstWord, ContentTree, LineTree, clause_at, 
 use Rattle.derivation.specs.Refused.{Fails, are_there, all_parents}
 use Rattle.derivation.specs.Rule.{Concludes}
 use Rattle.derivation.specs.View.{later_of}
+use Rattle.derivation.specs.declared.row.Row.{Row}
+use Rattle.derivation.specs.declared.row.Row.TheVariants as causes
 use Rattle.derivation.specs.declared.words.Later.{Later}
 use Rattle.derivation.specs.declared.words.Satellite.{Satellite}
 use Rattle.proof_check.specs.Judged.{inference_by, LeadsAs, JudgedAs, rule_by, parents_by}
@@ -46,7 +48,7 @@ later_on ls ws i w h is e = there_next ls ws i w h is ∙ ap (λ b. b && there_f
 -- what the words from one on come to is what all come to
 pub record Following (ls : List LineTree) (ws : List Later) (d0 : ClauseTree) (content : ContentTree) (i : ℕ) (d : ClauseTree) : Type 0 where
   pub onward : After ls (words_from ws i) d content → After ls (words_from ws 0) d0 content
-  pub fails : (row : ℕ) → Fails ls (words_from ws i) d content row → Fails ls (words_from ws 0) d0 content row
+  pub fails : (row : Row) → Fails ls (words_from ws i) d content row → Fails ls (words_from ws 0) d0 content row
   pub missing : there_from ls ws i ≡ false → there_from ls ws 0 ≡ false
 
 pub following_start : (ls : List LineTree) (ws : List Later) (d : ClauseTree) (content : ContentTree) → Following ls ws d content 0 d
@@ -62,12 +64,12 @@ module _ (ls : List LineTree) (ws : List Later) (d0 : ClauseTree) (content : Con
   }
 
   pub following_misplaced : Following ls ws d0 content i d → i < length ws → w ≡ get_or ws i w → (ps : List ClauseTree) → AreClauses ls (later_parents (later_of w)) ps
-      → LeadsAs (later_of w) d ps Misplaced → Fails ls (words_from ws 0) d0 content 6
-  following_misplaced going h is ps are leads = going.fails 6 (subst (λ us. Fails ls us d content 6) (sym (words_next ws i w h is)) (ps, are, inl (refl, leads)))
+      → LeadsAs (later_of w) d ps Misplaced → Fails ls (words_from ws 0) d0 content causes.Misplaced
+  following_misplaced going h is ps are leads = going.fails causes.Misplaced (subst (λ us. Fails ls us d content causes.Misplaced) (sym (words_next ws i w h is)) (ps, are, inl (refl, leads)))
 
   pub following_differs : Following ls ws d0 content i d → i < length ws → w ≡ get_or ws i w → (ps : List ClauseTree) → AreClauses ls (later_parents (later_of w)) ps
-      → LeadsAs (later_of w) d ps Differs → Fails ls (words_from ws 0) d0 content 7
-  following_differs going h is ps are leads = going.fails 7 (subst (λ us. Fails ls us d content 7) (sym (words_next ws i w h is)) (ps, are, inr (inl (refl, leads.0, leads.1))))
+      → LeadsAs (later_of w) d ps Differs → Fails ls (words_from ws 0) d0 content causes.Differs
+  following_differs going h is ps are leads = going.fails causes.Differs (subst (λ us. Fails ls us d content causes.Differs) (sym (words_next ws i w h is)) (ps, are, inr (inl (refl, leads.0, leads.1))))
 
   pub following_missing : Following ls ws d0 content i d → i < length ws → w ≡ get_or ws i w → are_there ls (later_parents (later_of w)) ≡ false → there_from ls ws 0 ≡ false
   following_missing going h is e = going.missing (later_missing ls ws i w h is e)
@@ -76,12 +78,12 @@ module _ (ls : List LineTree) (ws : List Later) (d0 : ClauseTree) (content : Con
   pub following_ends : Following ls ws d0 content i d → length ws ≤ i → IsClause content d → After ls (words_from ws 0) d0 content
   following_ends going h same = going.onward (subst (λ us. After ls us d content) (sym (ap (map later_of) (drop_all i ws h))) same)
 
-  pub following_other : Following ls ws d0 content i d → length ws ≤ i → (IsClause content d → ⊥) → Fails ls (words_from ws 0) d0 content 8
-  following_other going h apart = going.fails 8 (subst (λ us. Fails ls us d content 8) (sym (ap (map later_of) (drop_all i ws h))) (refl, apart))
+  pub following_other : Following ls ws d0 content i d → length ws ≤ i → (IsClause content d → ⊥) → Fails ls (words_from ws 0) d0 content causes.OtherClause
+  following_other going h apart = going.fails causes.OtherClause (subst (λ us. Fails ls us d content causes.OtherClause) (sym (ap (map later_of) (drop_all i ws h))) (refl, apart))
 
 -- no word follows, and the content isn't it
-pub other_size : (ls : List LineTree) (ws : List Later) (d : ClauseTree) (content : ContentTree) → ws ≡ [] → (IsClause content d → false ≡ true) → AfterAs ls (map later_of ws) d content (Some 8)
-other_size ls ws d content none apart = subst (λ us. AfterAs ls (map later_of us) d content (Some 8)) (sym none) (inl (refl, λ is. false≢true (apart is)))
+pub other_size : (ls : List LineTree) (ws : List Later) (d : ClauseTree) (content : ContentTree) → ws ≡ [] → (IsClause content d → false ≡ true) → AfterAs ls (map later_of ws) d content (Some causes.OtherClause)
+other_size ls ws d content none apart = subst (λ us. AfterAs ls (map later_of us) d content (Some causes.OtherClause)) (sym none) (inl (refl, λ is. false≢true (apart is)))
 
 pub numbers_next : (n : ℕ) (ss : List Satellite) (i : ℕ) (s : Satellite) → i < length ss → s ≡ get_or ss i s
     → n ∷ map (λ s. s.clause) (take (i + 1) ss) ≡ (n ∷ map (λ s. s.clause) (take i ss)) ++ s.clause ∷ []
@@ -100,10 +102,10 @@ module _ (ls : List LineTree) (w : FirstWord) (ws : List LaterWord) (content : C
   split = list_all-append (λ n. is_some (clause_at ls n)) (parents_by w) (flat_map later_parents ws)
 
   -- parents that aren't there
-  pub parents_missing : are_there ls (parents_by w) ≡ false → InferredAs ls w ws content (Some 3)
+  pub parents_missing : are_there ls (parents_by w) ≡ false → InferredAs ls w ws content (Some causes.NoParent)
   parents_missing e = inl (refl, split ∙ and_left (are_there ls (parents_by w)) (are_there ls (flat_map later_parents ws)) e)
 
-  pub words_missing : are_there ls (flat_map later_parents ws) ≡ false → InferredAs ls w ws content (Some 3)
+  pub words_missing : are_there ls (flat_map later_parents ws) ≡ false → InferredAs ls w ws content (Some causes.NoParent)
   words_missing e = inl (refl, split ∙ and_right (are_there ls (parents_by w)) (are_there ls (flat_map later_parents ws)) e)
 
   there_of : (ns : List ℕ) (cs : List ClauseTree) → AreClauses ls ns cs → IsTrue (are_there ls ns)
@@ -116,18 +118,18 @@ module _ (ls : List LineTree) (w : FirstWord) (ws : List LaterWord) (content : C
   all_there cs are e = split ∙ and_from (are_there ls (parents_by w)) (are_there ls (flat_map later_parents ws)) (there_of (parents_by w) cs are) e
 
   -- what the rule and the words come to
-  pub rule_misplaced : (cs : List ClauseTree) → AreClauses ls (parents_by w) cs → IsTrue (are_there ls (all_parents (inference_by w) ws)) → JudgedAs (rule_by w) cs Unfit → InferredAs ls w ws content (Some 6)
+  pub rule_misplaced : (cs : List ClauseTree) → AreClauses ls (parents_by w) cs → IsTrue (are_there ls (all_parents (inference_by w) ws)) → JudgedAs (rule_by w) cs Unfit → InferredAs ls w ws content (Some causes.Misplaced)
   rule_misplaced cs are there judged = inr (there, (cs, are, inl (refl, judged)))
 
-  pub rule_differs : (cs : List ClauseTree) → AreClauses ls (parents_by w) cs → IsTrue (are_there ls (all_parents (inference_by w) ws)) → JudgedAs (rule_by w) cs Apart → InferredAs ls w ws content (Some 7)
+  pub rule_differs : (cs : List ClauseTree) → AreClauses ls (parents_by w) cs → IsTrue (are_there ls (all_parents (inference_by w) ws)) → JudgedAs (rule_by w) cs Apart → InferredAs ls w ws content (Some causes.Differs)
   rule_differs cs are there judged = inr (there, (cs, are, inr (inl (refl, judged.0, judged.1))))
 
-  pub rule_after : (cs : List ClauseTree) (c : ClauseTree) (o : Option ℕ) → AreClauses ls (parents_by w) cs → IsTrue (are_there ls (all_parents (inference_by w) ws)) → JudgedAs (rule_by w) cs (Numbered c)
+  pub rule_after : (cs : List ClauseTree) (c : ClauseTree) (o : Option Row) → AreClauses ls (parents_by w) cs → IsTrue (are_there ls (all_parents (inference_by w) ws)) → JudgedAs (rule_by w) cs (Numbered c)
       → AfterAs ls ws c content o → InferredAs ls w ws content o
   rule_after cs c None are there judged after = (cs, c, are, judged.0, judged.1, after)
   rule_after cs c (Some row) are there judged (inl fails) = inr (there, (cs, are, inr (inr (judged.0, (c, judged.1, fails)))))
   rule_after cs c (Some row) are there judged (inr missing) = inl (missing.0, split ∙ and_right (are_there ls (parents_by w)) (are_there ls (flat_map later_parents ws)) missing.1)
 
-  pub rule_after_large : (cs : List ClauseTree) (c d : ClauseTree) (o : Option ℕ) → AreClauses ls (parents_by w) cs → IsTrue (are_there ls (all_parents (inference_by w) ws)) → JudgedAs (rule_by w) cs (Large c)
+  pub rule_after_large : (cs : List ClauseTree) (c d : ClauseTree) (o : Option Row) → AreClauses ls (parents_by w) cs → IsTrue (are_there ls (all_parents (inference_by w) ws)) → JudgedAs (rule_by w) cs (Large c)
       → d ≡ renumbered c → AfterAs ls ws d content o → InferredAs ls w ws content o
   rule_after_large cs c d o are there judged is after = rule_after cs d o are there (judged.0, subst (Concludes (rule_by w) cs) (sym is) judged.1) after

@@ -1,45 +1,13 @@
 -- Literals by their places in a list.
 use Rattle.std.proofs.Common.{◌≡◌, ℕ, zero, suc, ◌+◌, ◌<◌, ◌≤◌, Bool, true, false, ◌==◌, if◌then◌else◌, List, [], ◌∷◌, ◌++◌, map, length, get_or, take, drop, refl, sym, ap, ap₂, ◌∙◌, subst, arith, add-one, drop-cons, append_assoc}
-use mathlib.Core.Bool.{beq}
 use Rattle.std.proofs.Math.Bool.{or-false}
 use Rattle.std.proofs.lemmas.List.{drop_all, take_all, take_more, append-nil, length-map}
 use Rattle.fol_core.specs.Free.{is_in}
 use Rattle.fol_core.specs.ClauseView.{literal_of}
 use Rattle.fol_core.specs.Literals.{literal, ClauseTree}
-use Rattle.fol_core.specs.TermView.{tree_of}
-use Rattle.fol_core.specs.Tree.{Tree, var}
+use Rattle.fol_core.specs.Tree.{Tree}
 use Rattle.fol_core.specs.declared.clause.Literal.{Literal}
-use Rattle.derivation.specs.Places.{same_sign, has_literal, atom_at, others, with_atom}
-
-pub literal_there : (ls : List Literal) (a : ℕ) (d : Literal) (sign : Bool) → a < length ls → has_literal sign (map literal_of ls) a ≡ same_sign sign (get_or ls a d).positive
-literal_there [] a d sign h = absurd (omega arith)
-literal_there (l ∷ ls) zero d sign h = refl
-literal_there (l ∷ ls) (suc a) d sign h = literal_there ls a d sign (omega arith)
-
-pub literal_past : (ls : List Literal) (a : ℕ) (sign : Bool) → length ls ≤ a → has_literal sign (map literal_of ls) a ≡ false
-literal_past [] a sign h = refl
-literal_past (l ∷ ls) zero sign h = absurd (omega arith)
-literal_past (l ∷ ls) (suc a) sign h = literal_past ls a sign (omega arith)
-
-pub atom_there : (ls : List Literal) (a : ℕ) (d : Literal) → a < length ls → atom_at (map literal_of ls) a ≡ tree_of (get_or ls a d).atom
-atom_there [] a d h = absurd (omega arith)
-atom_there (l ∷ ls) zero d h = refl
-atom_there (l ∷ ls) (suc a) d h = atom_there ls a d (omega arith)
-
-pub atom_past : (ls : List Literal) (a : ℕ) → length ls ≤ a → atom_at (map literal_of ls) a ≡ var 0
-atom_past [] a h = refl
-atom_past (l ∷ ls) zero h = absurd (omega arith)
-atom_past (l ∷ ls) (suc a) h = atom_past ls a (omega arith)
-
--- signs as the code compares them
-pub sign_compared : (a b : Bool) → beq b a ≡ same_sign a b
-sign_compared true true = refl
-sign_compared true false = refl
-sign_compared false true = refl
-sign_compared false false = refl
-
-pub literal_compared : (ls : List Literal) (a : ℕ) (d : Literal) (sign : Bool) → a < length ls → has_literal sign (map literal_of ls) a ≡ beq (get_or ls a d).positive sign
-literal_compared ls a d sign h = literal_there ls a d sign h ∙ sym (sign_compared sign (get_or ls a d).positive)
+use Rattle.derivation.specs.Places.{others, with_atom}
 
 -- tests that agree leave out the same
 pub others_same : (p q : ℕ → Bool) (c : ClauseTree) → ((k : ℕ) → p k ≡ q k) → others p c ≡ others q c

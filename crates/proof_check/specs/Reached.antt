@@ -5,6 +5,8 @@ use Rattle.derivation.specs.Lines.{LineTree, InputRow, AreLines, ends_empty, is_
 use Rattle.derivation.specs.Refused.{HasFault, IsFault}
 use Rattle.derivation.specs.View.{line_tree, lines_of}
 use Rattle.derivation.specs.declared.line.Line.{Line}
+use Rattle.derivation.specs.declared.row.Row.{Row}
+use Rattle.derivation.specs.declared.row.Row.TheVariants.{NotEmpty}
 
 -- each number is above this one
 abbrev pub AreAbove : ℕ → List LineTree → Type 0
@@ -28,9 +30,9 @@ ends_behind p (l ∷ ls) = ends_empty (l ∷ ls)
 
 -- a fault behind a line that is one
 abbrev pub FaultBehind : List Said → List InputRow → List LineTree → LineTree → List LineTree → ℕ →
-    ℕ → Type 0
+    Row → Type 0
 FaultBehind ss rows earlier p [] number row =
-    (number ≡ p.number) × (row ≡ 9) × (is_empty_clause p.content ≡ false)
+    (number ≡ p.number) × (row ≡ NotEmpty) × (is_empty_clause p.content ≡ false)
 FaultBehind ss rows earlier p (l ∷ ls) number row =
     HasFault ss rows earlier (Some p.number) (l ∷ ls) number row
 
@@ -40,7 +42,7 @@ pub record Reaches (ss : List Said) (rows : List InputRow) (all earlier : List L
   pub rising : AreRising earlier
   pub last : AreAtMost p.number earlier
   pub are : AreLines ss rows earlier (Some p.number) rest → AreLines ss rows [] None all
-  pub fault : (number row : ℕ) → FaultBehind ss rows earlier p rest number row →
+  pub fault : (number : ℕ) (row : Row) → FaultBehind ss rows earlier p rest number row →
       IsFault ss rows all number row
   pub ends : ends_empty all ≡ ends_behind p rest
 

@@ -1,5 +1,6 @@
 // What a rule makes of its parents renamed apart, and what has to be equal for it.
-ghost use Rattle.std.specs.Prelude.{◌≡◌, ◌==◌, ◌∷◌, [], IsTrue, IfOk, OnOk, ◌++◌, map, length};
+ghost use Rattle.std.specs.Prelude.{◌≡◌, ◌==◌, ◌∷◌, [], IsTrue, IfOk, OnOk, ◌++◌, map, length, unwrap_or};
+ghost use Rattle.std.specs.Option.{option_map};
 ghost use Rattle.fol_core.specs.TermView.{tree_of};
 ghost use Rattle.fol_core.specs.Tree.{trees_of};
 ghost use Rattle.fol_core.specs.Free.{is_in};
@@ -8,9 +9,9 @@ ghost use Rattle.derivation.specs.View.{first_word_of};
 ghost use Rattle.derivation.specs.Words.{only_of, first_of_two, second_of_two, copy_rule, clash_pairs, satellite_rests, clash_rule, factor_rule, xx_rule, para_rest, para_rule};
 ghost use Rattle.proof_check.specs.Judged.{clash_of, rule_by, IsPending};
 
-use crate::equations::{copy_below, left_of, other_side_of, replaced, right_of, side_of};
-use crate::places::{atom_at, copy_atom, others, with_atom};
-use derivation::{First, Paramodulation, Satellite};
+use crate::equations::{copy_below, copy_left, copy_right, other_side_of, replaced, side_of};
+use crate::places::{copy_atom, others, with_atom};
+use derivation::{First, Paramodulation, Satellite, atom_at};
 use fol_core::{Clause, Term, Terms};
 use std::alloc::{AllocError, Global};
 
@@ -30,38 +31,35 @@ pub fn without(alloc: Global, clause: &Clause, place: u64) -> Result<Clause, All
     others(alloc, clause, &[place])
 }
 
-// The single parent, and each of two; of other numbers of parents a clause without literals.
+// The single parent, and each of two; of other numbers of parents none.
 #[tactic(auto, using(crate::proofs::BuildSteps::only_here, crate::proofs::BuildSteps::only_not))]
-fn only_of<'a>(parents: &'a [Clause], nothing: &'a Clause) -> &'a Clause
-    requires { nothing.now ≡ [] }
-    ensures { result.now ≡ only_of parents.now }
+fn only_of(parents: &[Clause]) -> Option<&Clause>
+    ensures { unwrap_or (option_map (λ c. c.now) result) [] ≡ only_of parents.now }
 {
     if parents.len() != 1 {
-        return nothing;
+        return None;
     }
-    &parents[0]
+    Some(&parents[0])
 }
 
 #[tactic(auto, using(crate::proofs::BuildSteps::first_here, crate::proofs::BuildSteps::first_not))]
-fn first_of_two<'a>(parents: &'a [Clause], nothing: &'a Clause) -> &'a Clause
-    requires { nothing.now ≡ [] }
-    ensures { result.now ≡ first_of_two parents.now }
+fn first_of_two(parents: &[Clause]) -> Option<&Clause>
+    ensures { unwrap_or (option_map (λ c. c.now) result) [] ≡ first_of_two parents.now }
 {
     if parents.len() != 2 {
-        return nothing;
+        return None;
     }
-    &parents[0]
+    Some(&parents[0])
 }
 
 #[tactic(auto, using(crate::proofs::BuildSteps::second_here, crate::proofs::BuildSteps::second_not))]
-fn second_of_two<'a>(parents: &'a [Clause], nothing: &'a Clause) -> &'a Clause
-    requires { nothing.now ≡ [] }
-    ensures { result.now ≡ second_of_two parents.now }
+fn second_of_two(parents: &[Clause]) -> Option<&Clause>
+    ensures { unwrap_or (option_map (λ c. c.now) result) [] ≡ second_of_two parents.now }
 {
     if parents.len() != 2 {
-        return nothing;
+        return None;
     }
-    &parents[1]
+    Some(&parents[1])
 }
 
 // One pair.
@@ -81,11 +79,12 @@ fn pair(alloc: Global, left: Term, right: Term, rest: Clause) -> Result<Pending,
     })
 }
 
+#[tactic(auto, using(crate::proofs::BuildSteps::or_clause, crate::proofs::BuildSteps::or_empty))]
 fn copy_pending(alloc: Global, parents: &[Clause]) -> Result<Pending, AllocError>
     ensures { IfOk result (λ p. IsPending copy_rule parents.now p) }
 {
-    let nothing = Clause::new(alloc);
-    let rest = only_of(parents, &nothing).copy(alloc)?;
+    let empty = Clause::new(alloc);
+    let rest = only_of(parents).unwrap_or(&empty).copy(alloc)?;
     Ok(Pending {
         lefts: Terms::new(alloc),
         rights: Terms::new(alloc),
@@ -93,12 +92,12 @@ fn copy_pending(alloc: Global, parents: &[Clause]) -> Result<Pending, AllocError
     })
 }
 
-#[tactic(auto, using(crate::proofs::BuildSteps::factor_only))]
+#[tactic(auto, using(crate::proofs::BuildSteps::factor_only, crate::proofs::BuildSteps::or_clause, crate::proofs::BuildSteps::or_empty))]
 fn factor_pending(alloc: Global, parents: &[Clause], a: u64, b: u64) -> Result<Pending, AllocError>
     ensures { IfOk result (λ p. IsPending (factor_rule a b) parents.now p) }
 {
-    let nothing = Clause::new(alloc);
-    factor_of(alloc, only_of(parents, &nothing), a, b)
+    let empty = Clause::new(alloc);
+    factor_of(alloc, only_of(parents).unwrap_or(&empty), a, b)
 }
 
 fn factor_of(alloc: Global, clause: &Clause, a: u64, b: u64) -> Result<Pending, AllocError>
@@ -110,26 +109,28 @@ fn factor_of(alloc: Global, clause: &Clause, a: u64, b: u64) -> Result<Pending, 
     pair(alloc, left, right, rest)
 }
 
-#[tactic(auto, using(crate::proofs::BuildSteps::xx_only))]
+#[tactic(auto, using(crate::proofs::BuildSteps::xx_only, crate::proofs::BuildSteps::or_clause, crate::proofs::BuildSteps::or_empty))]
 fn xx_pending(alloc: Global, parents: &[Clause], a: u64) -> Result<Pending, AllocError>
     ensures { IfOk result (λ p. IsPending (xx_rule a) parents.now p) }
 {
-    let nothing = Clause::new(alloc);
-    xx_of(alloc, only_of(parents, &nothing), a)
+    let empty = Clause::new(alloc);
+    xx_of(alloc, only_of(parents).unwrap_or(&empty), a)
 }
 
+#[tactic(auto, using(derivation::proofs::SideSteps::or_tree, derivation::proofs::SideSteps::or_variable))]
 fn xx_of(alloc: Global, clause: &Clause, a: u64) -> Result<Pending, AllocError>
     ensures { IfOk result (λ p. IsPending (xx_rule a) (clause.now ∷ []) p) }
 {
-    let nothing = Term::Var(0);
-    let atom = atom_at(clause, a, &nothing);
-    let left = left_of(atom, &nothing).copy(alloc)?;
-    let right = right_of(atom, &nothing).copy(alloc)?;
+    let variable = Term::Var(0);
+    let atom = atom_at(clause, a).unwrap_or(&variable);
+    let left = copy_left(alloc, atom)?;
+    let right = copy_right(alloc, atom)?;
     let rest = without(alloc, clause, a)?;
     pair(alloc, left, right, rest)
 }
 
 // The clause into which is paramodulated with the other side, then the rest of the equation's.
+#[tactic(auto, using(derivation::proofs::SideSteps::or_tree, derivation::proofs::SideSteps::or_variable))]
 fn para_made(
     alloc: Global,
     para: &Paramodulation,
@@ -139,10 +140,10 @@ fn para_made(
     ensures { IfOk result (λ c. c ≡ para_rest para.now.equation para.now.side para.now.literal
         para.now.path.items from.now into.now) }
 {
-    let nothing = Term::Var(0);
-    let equation = atom_at(from, para.equation, &nothing);
-    let other = other_side_of(para.side, equation, &nothing);
-    let atom = atom_at(into, para.literal, &nothing);
+    let variable = Term::Var(0);
+    let equation = atom_at(from, para.equation).unwrap_or(&variable);
+    let other = other_side_of(para.side, equation).unwrap_or(&variable);
+    let atom = atom_at(into, para.literal).unwrap_or(&variable);
     let new = replaced(alloc, atom, para.path.as_slice(), other)?;
     let mut made = with_atom(alloc, into, para.literal, &new)?;
     let rest = without(alloc, from, para.equation)?;
@@ -150,6 +151,7 @@ fn para_made(
     Ok(made)
 }
 
+#[tactic(auto, using(derivation::proofs::SideSteps::or_tree, derivation::proofs::SideSteps::or_variable, crate::proofs::BuildSteps::or_clause, crate::proofs::BuildSteps::or_empty))]
 fn para_pending(
     alloc: Global,
     parents: &[Clause],
@@ -158,13 +160,15 @@ fn para_pending(
     ensures { IfOk result (λ p. IsPending (para_rule para.now.equation para.now.side
         para.now.literal para.now.path.items) parents.now p) }
 {
-    let none = Clause::new(alloc);
-    let from = first_of_two(parents, &none);
-    let into = second_of_two(parents, &none);
-    let nothing = Term::Var(0);
-    let equation = atom_at(from, para.equation, &nothing);
-    let left = side_of(para.side, equation, &nothing).copy(alloc)?;
-    let atom = atom_at(into, para.literal, &nothing);
+    let empty = Clause::new(alloc);
+    let from = first_of_two(parents).unwrap_or(&empty);
+    let into = second_of_two(parents).unwrap_or(&empty);
+    let variable = Term::Var(0);
+    let equation = atom_at(from, para.equation).unwrap_or(&variable);
+    let left = side_of(para.side, equation)
+        .unwrap_or(&variable)
+        .copy(alloc)?;
+    let atom = atom_at(into, para.literal).unwrap_or(&variable);
     let right = copy_below(alloc, atom, para.path.as_slice())?;
     let rest = para_made(alloc, para, from, into)?;
     pair(alloc, left, right, rest)

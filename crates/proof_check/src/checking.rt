@@ -4,11 +4,12 @@ ghost use Rattle.fol_problem.specs.Stated.{all_said};
 ghost use Rattle.derivation.specs.Lines.{is_empty_clause, IsRefutation};
 ghost use Rattle.derivation.specs.Refused.{IsFault};
 ghost use Rattle.derivation.specs.View.{content_of, lines_of};
+ghost use Rattle.derivation.specs.declared.row.Row.{Row};
 ghost use Rattle.proof_check.specs.Reached.{Going};
 
 use crate::error::CheckError;
 use crate::line::judge_line;
-use derivation::{Content, Line, fault_is_one};
+use derivation::{Content, Line, Row, fault_is_one};
 use fol_core::{Clause, Clauses};
 use fol_problem::{Input, Problem};
 use std::alloc::Global;
@@ -35,7 +36,7 @@ fn check_behind(
     requires first { Going (all_said inputs.now) rows.now lines.now 1 }
     ensures accepted { OnOk result (IsRefutation (all_said inputs.now) rows.now
         (lines_of lines.now)) }
-    ensures refused { (line row : ℕ) → result ≡ Err (CheckError.NotAccepted line row)
+    ensures refused { (line : ℕ) (row : Row) → result ≡ Err (CheckError.NotAccepted line row)
         → IsFault (all_said inputs.now) rows.now (lines_of lines.now) line row }
 {
     for i in 1..lines.len() {
@@ -56,7 +57,7 @@ fn check_behind(
     } else {
         Err(CheckError::NotAccepted {
             line: end.number,
-            row: 9,
+            row: Row::NotEmpty,
         })
     }
 }
@@ -71,14 +72,17 @@ fn check_lines(
 ) -> Result<(), CheckError>
     ensures accepted { OnOk result (IsRefutation
         (all_said problem.now.inputs.items) clauses.now.clauses.items (lines_of lines.now)) }
-    ensures refused { (line row : ℕ) → result ≡ Err (CheckError.NotAccepted line row)
+    ensures refused { (line : ℕ) (row : Row) → result ≡ Err (CheckError.NotAccepted line row)
         → IsFault (all_said problem.now.inputs.items) clauses.now.clauses.items
         (lines_of lines.now) line row }
 {
     let inputs = problem.inputs.as_slice();
     let rows = clauses.clauses.as_slice();
     if lines.len() == 0 {
-        return Err(CheckError::NotAccepted { line: 0, row: 1 });
+        return Err(CheckError::NotAccepted {
+            line: 0,
+            row: Row::NoLines,
+        });
     }
     match judge_line(alloc, inputs, rows, &[], None, &lines[0])? {
         None => check_behind(alloc, inputs, rows, lines),
@@ -98,10 +102,10 @@ pub fn check(
 ) -> Result<(), CheckError>
     ensures accepted { OnOk result (IsRefutation
         (all_said problem.now.inputs.items) clauses.now.clauses.items (lines_of lines.now)) }
-    ensures refused { (line row : ℕ) → result ≡ Err (CheckError.NotAccepted line row)
+    ensures refused { (line : ℕ) (row : Row) → result ≡ Err (CheckError.NotAccepted line row)
         → IsFault (all_said problem.now.inputs.items) clauses.now.clauses.items
         (lines_of lines.now) line row }
-    ensures exact { (line row : ℕ) → result ≡ Err (CheckError.NotAccepted line row)
+    ensures exact { (line : ℕ) (row : Row) → result ≡ Err (CheckError.NotAccepted line row)
         → ¬ IsRefutation (all_said problem.now.inputs.items) clauses.now.clauses.items
         (lines_of lines.now) }
 {

@@ -12,14 +12,13 @@ ghost use Rattle.unifiers.specs.Unifier.{IsMostGeneral};
 
 use crate::fitting::is_taken;
 use crate::judging::Judged;
-use crate::places::{are_opposite, atom_at};
 use crate::pushing::{push_others, push_untaken};
 use crate::sizing::may_be_large;
 use clause_limits::{SmallClause, is_too_large};
-use derivation::Satellite;
+use derivation::{Satellite, are_opposite, atom_at};
 use fol_core::{Clause, Term};
 use std::alloc::{AllocError, Global};
-use term_classes::{Equations, Pairs, Solution};
+use term_classes::{Equations, PairLists, Solution};
 
 // How many nodes there is room for at first.
 const FEW: usize = 32;
@@ -59,14 +58,14 @@ fn clash_fits(satellites: &[Satellite], parents: &[&Clause]) -> bool
 }
 
 // The atoms of a nucleus with those of its satellites, renamed apart among so many clauses.
-#[tactic(auto, using(crate::proofs::ClashSteps::no_pair, crate::proofs::ClashSteps::one_pair, crate::proofs::ClashSteps::all_pairs))]
+#[tactic(auto, using(crate::proofs::ClashSteps::no_pair, crate::proofs::ClashSteps::one_pair, crate::proofs::ClashSteps::all_pairs, derivation::proofs::SideSteps::or_tree, derivation::proofs::SideSteps::or_variable))]
 fn clashing_pairs(
     alloc: Global,
     nucleus: &Clause,
     satellites: &[Satellite],
     others: &[&Clause],
     many: u64,
-) -> Result<Pairs, AllocError>
+) -> Result<PairLists, AllocError>
     requires { length others.now ≡ length satellites.now }
     ensures { IfOk result (λ p. p ≡ (
       nucleus_atoms (interleaved many 0) (map clash_of satellites.now) nucleus.now,
@@ -74,11 +73,11 @@ fn clashing_pairs(
           (lent_clauses others.now),
     )) }
 {
-    let mut pairs = Pairs::new(alloc, FEW)?;
+    let mut pairs = PairLists::new(alloc, FEW)?;
     for (i, s) in satellites.iter().enumerate() {
-        let nothing = Term::Var(0);
-        let left = atom_at(nucleus, s.place, &nothing);
-        let right = atom_at(others[i], s.literal, &nothing);
+        let variable = Term::Var(0);
+        let left = atom_at(nucleus, s.place).unwrap_or(&variable);
+        let right = atom_at(others[i], s.literal).unwrap_or(&variable);
         pairs = pairs.with(many, left, 0, right, i as u64 + 1)?;
     }
     Ok(pairs)
@@ -89,7 +88,7 @@ fn pairs_apart(
     alloc: Global,
     satellites: &[Satellite],
     parents: &[&Clause],
-) -> Result<Pairs, AllocError>
+) -> Result<PairLists, AllocError>
     requires { IsTrue ((clash_rule (map clash_of satellites.now)).fits
         (lent_clauses parents.now)) }
     ensures left { IfOk result (λ p. trees_of p.0 ≡ lefts
@@ -99,7 +98,7 @@ fn pairs_apart(
 {
     let many = parents.len() as u64;
     let Some((nucleus, others)) = parents.split_first() else {
-        return Ok(Pairs::new(alloc, 0)?);
+        return Ok(PairLists::new(alloc, 0)?);
     };
     let pairs = clashing_pairs(alloc, nucleus, satellites, others, many)?;
     Ok(pairs)

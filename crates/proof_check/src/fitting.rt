@@ -5,9 +5,10 @@ ghost use Rattle.derivation.specs.View.{first_word_of};
 ghost use Rattle.derivation.specs.Words.{copy_rule, clashes_fit, clash_rule, factor_rule, xx_rule, para_rule, para_fits};
 ghost use Rattle.proof_check.specs.Judged.{clash_of, rule_by};
 
-use crate::equations::{is_equation, is_no_variable};
-use crate::places::{are_alike, are_opposite, atom_at, has_literal, has_place};
-use derivation::{First, Paramodulation, Satellite};
+use derivation::{
+    First, Paramodulation, Satellite, are_alike, are_opposite, atom_at, has_literal, has_place,
+    is_equation, is_no_variable,
+};
 use fol_core::{Clause, Term};
 
 // One parent.
@@ -31,7 +32,7 @@ fn factor_fits(parents: &[Clause], a: u64, b: u64) -> bool
     are_alike(&parents[0], a, &parents[0], b)
 }
 
-#[tactic(auto, using(crate::proofs::FitSteps::xx_one, crate::proofs::FitSteps::xx_sign, crate::proofs::FitSteps::xx_not))]
+#[tactic(auto, using(crate::proofs::FitSteps::xx_one, crate::proofs::FitSteps::xx_sign, crate::proofs::FitSteps::xx_not, derivation::proofs::SideSteps::or_tree, derivation::proofs::SideSteps::or_variable))]
 fn xx_fits(parents: &[Clause], a: u64) -> bool
     ensures { result ≡ (xx_rule a).fits parents.now }
 {
@@ -41,18 +42,19 @@ fn xx_fits(parents: &[Clause], a: u64) -> bool
     if !has_literal(&parents[0], false, a) {
         return false;
     }
-    let nothing = Term::Var(0);
-    is_equation(atom_at(&parents[0], a, &nothing))
+    let variable = Term::Var(0);
+    is_equation(atom_at(&parents[0], a).unwrap_or(&variable))
 }
 
 /// Whether an equation of the first clause may be put into the second one.
+#[tactic(auto, using(derivation::proofs::SideSteps::or_tree, derivation::proofs::SideSteps::or_variable))]
 pub fn equation_into(para: &Paramodulation, from: &Clause, into: &Clause) -> bool
     ensures { result ≡ para_fits para.now.equation para.now.side para.now.literal
         para.now.path.items from.now into.now }
 {
-    let nothing = Term::Var(0);
-    let equation = atom_at(from, para.equation, &nothing);
-    let atom = atom_at(into, para.literal, &nothing);
+    let variable = Term::Var(0);
+    let equation = atom_at(from, para.equation).unwrap_or(&variable);
+    let atom = atom_at(into, para.literal).unwrap_or(&variable);
     let sides = para.side == 1 || para.side == 2;
     let from_fits = has_literal(from, true, para.equation) && is_equation(equation);
     let into_fits = has_place(into, para.literal) && is_no_variable(atom, para.path.as_slice());

@@ -6,11 +6,11 @@ ghost use Rattle.derivation.specs.View.{later_of};
 ghost use Rattle.proof_check.specs.Judged.{LeadsAs};
 
 use crate::building::without;
-use crate::equations::{copy_below, copy_left, copy_right, is_equation, is_there, replaced};
-use crate::places::{are_opposite, copy_atom, has_literal, has_place, with_atom};
+use crate::equations::{copy_below, copy_left, copy_right, replaced};
+use crate::places::{copy_atom, with_atom};
 use crate::putting::put_in;
 use crate::rewriting::{equation, is_rule_equation};
-use derivation::{Later, Rewrite};
+use derivation::{Later, Rewrite, are_opposite, has_literal, has_place, is_equation, is_there};
 use fol_core::Clause;
 use std::alloc::{AllocError, Global};
 use substitutions::{same, same_literal};

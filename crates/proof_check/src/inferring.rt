@@ -14,7 +14,7 @@ use crate::bounds::{built, is_beyond, may_be, may_be_same};
 use crate::earlier::{are_there, copied_clauses};
 use crate::following::{Followed, follow};
 use crate::judging::{Judged, judge};
-use derivation::{Content, First, Just, Later, Line, Satellite};
+use derivation::{Content, First, Just, Later, Line, Row, Satellite};
 use fol_core::{Clause, renumber};
 use std::alloc::{AllocError, Global};
 use substitutions::same_clause;
@@ -75,7 +75,7 @@ fn after(
     words: &[Later],
     clause: Clause,
     content: &Content,
-) -> Result<Option<u64>, AllocError>
+) -> Result<Option<Row>, AllocError>
     requires { AreRising (lines_of earlier.now) }
     ensures { IfOk result (AfterAs (lines_of earlier.now) (map later_of words.now) clause
         (content_of content.now)) }
@@ -84,11 +84,11 @@ fn after(
     for word in words {
         let numbers = later_numbers(alloc, word)?;
         let Some(parents) = copied_clauses(alloc, earlier, numbers.as_slice())? else {
-            return Ok(Some(3));
+            return Ok(Some(Row::NoParent));
         };
         match follow(alloc, word, &clause, parents.as_slice())? {
-            Followed::Misplaced => return Ok(Some(6)),
-            Followed::Differs => return Ok(Some(7)),
+            Followed::Misplaced => return Ok(Some(Row::Misplaced)),
+            Followed::Differs => return Ok(Some(Row::Differs)),
             Followed::Made(next) => clause = next,
         }
         if is_beyond(&clause) {
@@ -98,7 +98,7 @@ fn after(
     if is_clause(alloc, content, &clause)? {
         Ok(None)
     } else {
-        Ok(Some(8))
+        Ok(Some(Row::OtherClause))
     }
 }
 
@@ -111,13 +111,13 @@ fn after_large(
     words: &[Later],
     large: &LargeClause,
     content: &Content,
-) -> Result<Option<u64>, AllocError>
+) -> Result<Option<Row>, AllocError>
     requires { AreRising (lines_of earlier.now) }
     ensures { IfOk result (AfterAs (lines_of earlier.now) (map later_of words.now)
         (renumbered large.now) (content_of content.now)) }
 {
     if words.is_empty() && !may_be(content, large) {
-        return Ok(Some(8));
+        return Ok(Some(Row::OtherClause));
     }
     let Some(clause) = built(alloc, large)? else {
         return Err(AllocError);
@@ -187,7 +187,7 @@ fn rule_and_words(
     just: &Just,
     parents: &[Clause],
     content: &Content,
-) -> Result<Option<u64>, AllocError>
+) -> Result<Option<Row>, AllocError>
     requires rising { AreRising (lines_of earlier.now) }
     requires parents { AreClauses (lines_of earlier.now)
         (parents_by (first_word_of just.now.first)) parents.now }
@@ -198,8 +198,8 @@ fn rule_and_words(
         (map later_of just.now.steps.items) (content_of content.now)) }
 {
     match judge(alloc, &just.first, parents)? {
-        Judged::Unfit => Ok(Some(6)),
-        Judged::Apart => Ok(Some(7)),
+        Judged::Unfit => Ok(Some(Row::Misplaced)),
+        Judged::Apart => Ok(Some(Row::Differs)),
         Judged::Numbered(small) => {
             let clause = small.into_clause();
             after(alloc, earlier, just.steps.as_slice(), clause, content)
@@ -217,17 +217,17 @@ pub fn infer(
     earlier: &[Line],
     just: &Just,
     content: &Content,
-) -> Result<Option<u64>, AllocError>
+) -> Result<Option<Row>, AllocError>
     requires { AreRising (lines_of earlier.now) }
     ensures { IfOk result (InferredAs (lines_of earlier.now) (first_word_of just.now.first)
         (map later_of just.now.steps.items) (content_of content.now)) }
 {
     let numbers = parent_numbers(alloc, &just.first)?;
     let Some(parents) = copied_clauses(alloc, earlier, numbers.as_slice())? else {
-        return Ok(Some(3));
+        return Ok(Some(Row::NoParent));
     };
     if !later_there(alloc, earlier, just.steps.as_slice())? {
-        return Ok(Some(3));
+        return Ok(Some(Row::NoParent));
     }
     rule_and_words(alloc, earlier, just, parents.as_slice(), content)
 }

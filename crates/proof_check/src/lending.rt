@@ -11,14 +11,13 @@ ghost use Rattle.substitutions.specs.Bindings.{by_bindings};
 ghost use Rattle.unifiers.specs.Unifier.{IsMostGeneral};
 
 use crate::clashing::judge_clash;
-use crate::equations::{side_of, term_below};
+use crate::equations::side_of;
 use crate::fitting::equation_into;
 use crate::judging::{Judged, judge};
-use crate::places::atom_at;
 use crate::replacing::paramodulant;
 use crate::sizing::may_be_large;
 use clause_limits::{SmallClause, is_too_large};
-use derivation::{First, Paramodulation};
+use derivation::{First, Paramodulation, atom_at, below};
 use fol_core::{Clause, Term};
 use std::alloc::{AllocError, Global};
 use term_classes::{Equations, Solution};
@@ -101,11 +100,11 @@ fn judge_paramodulation(
     if !equation_into(para, from, into) {
         return Ok(Some(Judged::Unfit));
     }
-    let nothing = Term::Var(0);
-    let equation = atom_at(from, para.equation, &nothing);
-    let side = side_of(para.side, equation, &nothing);
-    let atom = atom_at(into, para.literal, &nothing);
-    let place = term_below(atom, para.path.as_slice(), &nothing);
+    let variable = Term::Var(0);
+    let equation = atom_at(from, para.equation).unwrap_or(&variable);
+    let side = side_of(para.side, equation).unwrap_or(&variable);
+    let atom = atom_at(into, para.literal).unwrap_or(&variable);
+    let place = below(atom, para.path.as_slice()).unwrap_or(&variable);
     conclude(alloc, para, from, into, side, place)
 }
 

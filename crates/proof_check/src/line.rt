@@ -8,21 +8,21 @@ ghost use Rattle.proof_check.specs.Reached.{AreRising};
 
 use crate::inferring::infer;
 use crate::stating::{is_formula_at, is_input_of, is_stated};
-use derivation::{First, Line};
+use derivation::{First, Line, Row};
 use fol_core::Clause;
 use fol_problem::Input;
 use std::alloc::{AllocError, Global};
 
 // A line that names a formula.
-fn stated(inputs: &[Input], goal: bool, line: &Line) -> Option<u64>
+fn stated(inputs: &[Input], goal: bool, line: &Line) -> Option<Row>
     ensures { StatedAs goal (all_said inputs.now) (map later_of line.now.just.steps.items)
         (content_of line.now.content) result }
 {
     if !is_stated(inputs, line.number, goal, &line.content) {
-        return Some(4);
+        return Some(Row::NoFormula);
     }
     if !line.just.steps.is_empty() {
-        return Some(8);
+        return Some(Row::OtherClause);
     }
     None
 }
@@ -41,13 +41,13 @@ fn input(
     goal: bool,
     number: u64,
     line: &Line,
-) -> Result<Option<u64>, AllocError>
+) -> Result<Option<Row>, AllocError>
     requires { AreRising (lines_of earlier.now) }
     ensures { IfOk result (InputAs (all_said inputs.now) rows.now (lines_of earlier.now) goal number
         (map later_of line.now.just.steps.items) (content_of line.now.content)) }
 {
     if !is_formula_at(earlier, number) {
-        return Ok(Some(3));
+        return Ok(Some(Row::NoParent));
     }
     let place = place_among(inputs, line.number);
     if !is_input_of(
@@ -60,10 +60,10 @@ fn input(
         place,
         &line.content,
     )? {
-        return Ok(Some(5));
+        return Ok(Some(Row::NoClause));
     }
     if !line.just.steps.is_empty() {
-        return Ok(Some(8));
+        return Ok(Some(Row::OtherClause));
     }
     Ok(None)
 }
@@ -75,7 +75,7 @@ fn words(
     rows: &[(u64, Clause)],
     earlier: &[Line],
     line: &Line,
-) -> Result<Option<u64>, AllocError>
+) -> Result<Option<Row>, AllocError>
     requires { AreRising (lines_of earlier.now) }
     ensures { IfOk result (LineAs (all_said inputs.now) rows.now (lines_of earlier.now)
         (first_word_of line.now.just.first) (map later_of line.now.just.steps.items)
@@ -116,13 +116,13 @@ pub fn judge_line(
     earlier: &[Line],
     last: Option<u64>,
     line: &Line,
-) -> Result<Option<u64>, AllocError>
+) -> Result<Option<Row>, AllocError>
     requires { AreRising (lines_of earlier.now) }
     ensures { IfOk result (FoundAs (all_said inputs.now) rows.now (lines_of earlier.now) last
         (line_tree line.now)) }
 {
     if !is_above(last, line.number) {
-        return Ok(Some(2));
+        return Ok(Some(Row::NotAbove));
     }
     words(alloc, inputs, rows, earlier, line)
 }

@@ -12,10 +12,9 @@ ghost use Rattle.substitutions.specs.Instances.{substitute_clause};
 ghost use Rattle.substitutions.specs.Paths.{subterm_at};
 
 use crate::equations::other_side_of;
-use crate::places::atom_at;
 use crate::pushing::{push_literals, push_others};
 use crate::under::plain_apart;
-use derivation::Paramodulation;
+use derivation::{Paramodulation, atom_at};
 use fol_core::{Clause, Literal, Term, Terms};
 use std::alloc::{AllocError, Global};
 use term_classes::Solution;
@@ -132,10 +131,10 @@ pub fn paramodulant(
     ensures { IfOk result (λ c. c ≡ para_under (by_bindings unifier.now) para.now.equation
         para.now.side para.now.literal para.now.path.items from.now into.now) }
 {
-    let nothing = Term::Var(0);
-    let equation = atom_at(from, para.equation, &nothing);
-    let other = other_side_of(para.side, equation, &nothing);
-    let atom = atom_at(into, para.literal, &nothing);
+    let variable = Term::Var(0);
+    let equation = atom_at(from, para.equation).unwrap_or(&variable);
+    let other = other_side_of(para.side, equation).unwrap_or(&variable);
+    let atom = atom_at(into, para.literal).unwrap_or(&variable);
     let changed = replaced_apart(alloc, unifier, atom, para.path.as_slice(), other)?;
     let froms = from.as_slice();
     let intos = into.as_slice();

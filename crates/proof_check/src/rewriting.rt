@@ -7,10 +7,11 @@ ghost use Rattle.substitutions.specs.Occurring.{has_variable};
 ghost use Rattle.derivation.specs.Equations.{equation};
 ghost use Rattle.derivation.specs.Later.{is_rule_equation};
 
-use crate::equations::{copy_left, copy_right, is_equation};
+use crate::equations::{copy_left, copy_right};
+use derivation::is_equation;
 use fol_core::{EQ, Term, Terms};
 use std::alloc::{AllocError, Global};
-use term_unifiers::has_variable;
+use substitutions::has_variable;
 
 /// The equation of two terms.
 pub fn equation(alloc: Global, left: Term, right: Term) -> Result<Term, AllocError>

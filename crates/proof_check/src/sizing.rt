@@ -6,7 +6,7 @@ ghost use Rattle.proof_check.specs.Lent.{own_among, lent_clauses, AllShallow, Ea
 ghost use Rattle.substitutions.specs.Bindings.{by_bindings};
 
 use crate::under::{depth_apart, size_apart};
-use clause_limits::{MOST_LEVELS, MOST_SYMBOLS, left_behind_clause};
+use clause_limits::{MOST_CLAUSE_LEVELS, MOST_CLAUSE_SYMBOLS, left_behind_clause};
 use fol_core::Clause;
 use std::alloc::{AllocError, Global};
 use term_classes::Solution;
@@ -47,7 +47,7 @@ fn is_deep_under(
         → AllShallow (own_among many (by_bindings unifier.now) parent) clause.now) }
 {
     for literal in &clause.literals {
-        if depth_apart(unifier, &literal.atom, many, parent)? > MOST_LEVELS {
+        if depth_apart(unifier, &literal.atom, many, parent)? > MOST_CLAUSE_LEVELS {
             return Ok(true);
         }
     }
@@ -77,23 +77,23 @@ fn few_symbols(parents: &[&Clause]) -> Option<u64>
     ensures counted { IfSome result (λ n. n ≡ sum_by clause_size (lent_clauses parents.now)) }
     ensures few { IfSome result (λ n. n ≤ 1000) }
 {
-    let mut left = MOST_LEVELS;
+    let mut left = MOST_CLAUSE_LEVELS;
     for parent in parents {
         match left_behind_clause(parent, left) {
             Some(rest) => left = rest,
             None => return None,
         }
     }
-    Some(MOST_LEVELS - left)
+    Some(MOST_CLAUSE_LEVELS - left)
 }
 
 // Whether so many symbols and variables may become too many under a unifier: those of the parents are counted under it only
 // where they were too many if each became as many as a variable becomes at most.
 fn grow_large(unifier: &Solution, parents: &[&Clause], symbols: u64) -> Result<bool, AllocError> {
-    if symbols.saturating_mul(unifier.most_symbols()) <= MOST_SYMBOLS {
+    if symbols.saturating_mul(unifier.most_symbols()) <= MOST_CLAUSE_SYMBOLS {
         return Ok(false);
     }
-    Ok(sizes_under(unifier, parents)? > MOST_SYMBOLS)
+    Ok(sizes_under(unifier, parents)? > MOST_CLAUSE_SYMBOLS)
 }
 
 /// Whether what is made of clauses under a unifier may be too large to be built.
@@ -107,7 +107,7 @@ pub fn may_be_large(unifier: &Solution, parents: &[&Clause]) -> Result<bool, All
             if are_deep_under(unifier, parents)? {
                 return Ok(true);
             }
-            Ok(sizes_under(unifier, parents)? > MOST_SYMBOLS)
+            Ok(sizes_under(unifier, parents)? > MOST_CLAUSE_SYMBOLS)
         }
     }
 }

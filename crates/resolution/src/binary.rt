@@ -14,8 +14,7 @@ use crate::inferring::infer_of_two;
 use crate::meeting::may_clash;
 use crate::opposing::opposing;
 use clause_index::HeldSet;
-use derivation::{First, Satellite};
-use fol_core::Clause;
+use derivation::{First, Satellite, has_literal};
 use held_clauses::Held;
 use std::alloc::{AllocError, Global};
 
@@ -49,24 +48,12 @@ pub fn add_resolvent(
     )
 }
 
-// Whether the literal at a place is positive.
-#[tactic(auto, using(crate::proofs::Meetings::positive_there, crate::proofs::Meetings::literal_past))]
-fn is_positive(clause: &Clause, place: u64) -> bool
-    ensures { result ≡ has_literal true clause.now place }
-{
-    let literals = clause.as_slice();
-    if place >= literals.len() as u64 {
-        return false;
-    }
-    literals[place as usize].positive
-}
-
 // Whether a literal is resolved with another clause: with the clause itself, where it is positive.
 fn is_tried(given: &Held, i: u64, other: &Held) -> bool
     ensures { result ≡ (not (is_same_held given.now other.now)
         || has_literal true given.now.clause i) }
 {
-    given.number() != other.number() || is_positive(given.clause(), i)
+    given.number() != other.number() || has_literal(given.clause(), true, i)
 }
 
 // From one literal of the given clause.

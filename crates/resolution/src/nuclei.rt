@@ -13,21 +13,10 @@ use crate::conclusion::Conclusion;
 use crate::opposing::nuclei_with;
 use crate::partners::{ClashKind, Meetings, candidates_at, has_negative};
 use clause_index::HeldSet;
+use derivation::has_literal;
 use fol_core::Clause;
 use held_clauses::Held;
 use std::alloc::{AllocError, Global};
-
-// Whether the literal at a place is negative.
-#[tactic(auto, using(crate::proofs::AllWays::negative_there, crate::proofs::Meetings::literal_past))]
-fn is_negative(clause: &Clause, place: u64) -> bool
-    ensures { result ≡ has_literal false clause.now place }
-{
-    let literals = clause.as_slice();
-    if place >= literals.len() as u64 {
-        return false;
-    }
-    !literals[place as usize].positive
-}
 
 // Whether a place is another one.
 fn is_other(place: u64, left: u64) -> bool
@@ -78,7 +67,7 @@ fn negative_places<'a>(
     let kind = ClashKind::Hyper;
     let mut places = Vec::new(alloc);
     for place in 0..nucleus.len() as u64 {
-        let wanted = is_negative(nucleus, place);
+        let wanted = has_literal(nucleus, false, place);
         add_place(alloc, kind, nucleus, place, wanted, held, &mut places)?;
     }
     Ok(places)

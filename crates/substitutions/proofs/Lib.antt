@@ -5,4 +5,5 @@ pub mod Numbering
 pub mod PathLemmas
 pub mod Replacing
 pub mod Truth
+mod Variables
 pub mod Variants

@@ -9,8 +9,8 @@ use Rattle.prover_steps.specs.Clashing.{places_of}
 use Rattle.prover_steps.specs.Subsuming.{matched_literal, literal_matches, subsumes_with}
 use Rattle.substitutions.specs.Bindings.{Binding}
 use Rattle.unifiers.specs.Matching.{matched}
-use Rattle.unifiers.specs.Sides.{paired, fits, GivesAlike}
-use Rattle.unifiers.proofs.Fitting.{Fits, match_fits}
+use Rattle.term_matches.specs.Sides.{paired, fits, GivesAlike}
+use Rattle.term_matches.proofs.Fitting.{Fits, match_fits}
 use Rattle.subsume.specs.Places.{literal_fits}
 use Rattle.subsume.specs.Unused.{way}
 

@@ -11,8 +11,8 @@ use Rattle.fol_core.specs.declared.clause.Literal.{Literal}
 use Rattle.derivation.specs.Places.{same_sign}
 use Rattle.substitutions.specs.Bindings.{Binding}
 use Rattle.unifiers.specs.Matching.{bound_term}
-use Rattle.unifiers.specs.Sides.{paired, fits}
-use Rattle.unifiers.proofs.Standing.{first_given, second_given}
+use Rattle.term_matches.specs.Sides.{paired, fits}
+use Rattle.term_matches.proofs.Standing.{first_given, second_given}
 use Rattle.subsume.specs.Places.{literals_of, paired_literal, paired_at, literal_fits}
 
 -- the literal at a place, if there is one

@@ -13,7 +13,7 @@ use Rattle.fol_core.specs.ClauseView.{literal_of}
 use Rattle.fol_core.specs.declared.clause.Literal.{Literal}
 use Rattle.subsume.specs.Places.{literals_of, paired_literal, paired_at, literal_fits, is_taken, marked, completes, goes_on, serves}
 use Rattle.subsume.specs.Unused.{unused, way}
-use Rattle.unifiers.specs.Sides.{paired}
+use Rattle.term_matches.specs.Sides.{paired}
 use Rattle.subsume.proofs.Alike.{way_fits}
 use Rattle.subsume.proofs.Marks.{unused_here, unused_next, unused_marked, unused_all, marked_at, marks_more, marks_length}
 use Rattle.subsume.proofs.Pairs.{get_none}

@@ -12,7 +12,7 @@ use Rattle.prover_steps.specs.Subsuming.{matched_literal, subsumes_with}
 use Rattle.substitutions.specs.Bindings.{Binding}
 use Rattle.subsume.specs.Unused.{unused}
 use Rattle.subsume.specs.declared.pairing.Pairing.{Pairing}
-use Rattle.unifiers.specs.Sides.{paired, fits}
+use Rattle.term_matches.specs.Sides.{paired, fits}
 
 abbrev pub literals_of : List Literal → ClauseTree
 literals_of ls = map literal_of ls

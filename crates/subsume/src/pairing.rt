@@ -5,12 +5,12 @@ ghost use Rattle.fol_core.specs.ClauseView.{literal_of};
 ghost use Rattle.fol_core.specs.TermView.{tree_of};
 ghost use Rattle.fol_core.specs.Tree.{trees_of};
 ghost use Rattle.subsume.specs.Places.{literals_of, literal_fits, paired_at, paired_literal, pairs};
-ghost use Rattle.unifiers.specs.Sides.{is_given, fits, all_fit};
+ghost use Rattle.term_matches.specs.Sides.{is_given, fits, all_fit};
 ghost use Rattle.unifiers.specs.Matching.{bound_term};
 
 use fol_core::{Literal, Term, Terms};
 use substitutions::same;
-use unifiers::standing_for;
+use term_matches::standing_for;
 
 /// Literals, of which the first ones are matched to those of others at the places, one by one.
 #[derive(Clone, Copy)]
@@ -87,7 +87,7 @@ fn fits(pairing: &Pairing<'_>, general: &Term, special: &Term) -> bool
 
 // Whether arguments are, one by one.
 #[cycle(fitting)]
-#[tactic(auto, using(unifiers::proofs::Standing::fit_step, unifiers::proofs::Standing::fit_fails, unifiers::proofs::Standing::fit_long, unifiers::proofs::Standing::fit_short, unifiers::proofs::Standing::fit_end))]
+#[tactic(auto, using(term_matches::proofs::Standing::fit_step, term_matches::proofs::Standing::fit_fails, term_matches::proofs::Standing::fit_long, term_matches::proofs::Standing::fit_short, term_matches::proofs::Standing::fit_end))]
 fn all_fit(pairing: &Pairing<'_>, lefts: &Terms, rights: &Terms) -> bool
     ensures { result ≡ all_fit (pairs pairing.now) (trees_of lefts.now) (trees_of rights.now) }
 {

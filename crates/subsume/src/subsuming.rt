@@ -10,7 +10,8 @@ use crate::pairing::{Pairing, literal_fits};
 use fol_core::{Clause, Literal};
 use std::alloc::{AllocError, Global};
 use std::marker::Model;
-use unifiers::{has_instance, matches_are_found};
+use term_matches::has_instance;
+use unifiers::matches_are_found;
 
 /// Room for the places to which the literals of a clause are matched; contracts see for how many there is.
 #[derive(Drop)]

@@ -5,6 +5,8 @@ use Rattle.std.specs.Ordering.{nat_cmp}
 use Rattle.std.proofs.Common.{◌≡◌, ℕ, ◌<◌, ◌≤◌, ◌==◌, true, false, refl, sym, ap, ap₂, subst, ◌∙◌, List, [], ◌∷◌, length, map, arith, inl, inr, Option, Some, None, cond, if◌then◌else◌, eq-eqb}
 use Rattle.std.proofs.lemmas.Bool.{cases_eq, ne_eqb}
 use Rattle.std.proofs.lemmas.Bool.Decides.{nat_tests}
+use Rattle.clause_limits.specs.Sizes.{measured}
+use Rattle.clause_limits.specs.declared.measured.Measure.{Measure}
 use Rattle.fol_core.specs.Sizes.{size_of, saturated}
 use Rattle.fol_core.specs.Substitutions.{Substitution, substitute, substitute_all}
 use Rattle.fol_core.specs.Tree.{Tree, var, elem, app, Trees, none, more}
@@ -18,14 +20,15 @@ use Rattle.term_classes.specs.Named.{named_nodes}
 use Rattle.term_classes.specs.Solutions.{bindings_of, classes_in, IsFound, HasClass}
 use Rattle.term_classes.specs.declared.found.Found.{Found}
 use Rattle.term_classes.proofs.Entering.{at_other}
+use Rattle.term_classes.proofs.Measured.{is_measured}
 
 at_same : (x k : ℕ) → x ≡ k → is_at (nat_cmp x) k ≡ true
 at_same x k h = grind (arith, nat_tests)
 
-equal_test : (x k : ℕ) → x ≡ k → (x == k) ≡ true
+pub equal_test : (x k : ℕ) → x ≡ k → (x == k) ≡ true
 equal_test x k h = eq-eqb x k h
 
-other_test : (x k : ℕ) → (x ≡ k → ⊥) → (x == k) ≡ false
+pub other_test : (x k : ℕ) → (x ≡ k → ⊥) → (x == k) ≡ false
 other_test x k h = ne_eqb x k h
 
 bound : (terms : Substitution) (x : ℕ) (es : List (ℕ × ℕ)) → by_bindings (map (λ (e : ℕ × ℕ). (e.0, terms e.1)) es) x ≡ term_or_variable x terms (lookup (is_at (nat_cmp x)) es)
@@ -91,3 +94,8 @@ same_general s u h ss ts is = record {
   unifies = sym (same_puts s u h ss) ∙ is.unifies ∙ same_puts s u h ts;
   covers = λ v e. let r = is.covers v e in (r.0, λ x. r.1 x ∙ ap (substitute r.0) (h x));
 }
+
+-- how large a variable's term is, by what is kept of its class
+pub class_measured : (f : Found) (x root : ℕ) (m : Measure) → IsFound f → HasClass f x root → m ≡ measure_at f.measures.items root → m ≡ measured (by_bindings (bindings_of f) x)
+class_measured f x root m is has at =
+    at ∙ is_measured (class_terms (classes_in f) var f.order.items root) (measure_at f.measures.items root) (is.measured.measured root has.ordered) ∙ ap measured (sym has.bound)

@@ -14,7 +14,7 @@ use Rattle.term_classes.specs.Merging.{arity, arities}
 use Rattle.term_classes.specs.Shapes.{Shape, variable, element, application, shape_at, seen, AreBelow, HasArgumentsBelow, AreInPostorder, tree_at}
 use Rattle.term_classes.specs.declared.node.Arena.{Arena}
 use Rattle.term_classes.specs.declared.node.Node.{Node}
-use Rattle.term_classes.specs.declared.node.Node.TheVariants.{Variable, Application}
+use Rattle.term_classes.specs.declared.node.Node.TheVariants.{Application}
 use Rattle.term_classes.proofs.Growing.{placed_at, placed_push, tree_front, shapes_more, shape_front, shape_last, last_or_before, postorder_push, grows_refl, grows_on, grows_length, trees_grow, tree_last, same_seen, below_more, below_append}
 
 pub entered : (old new : Arena) (more : List ℕ) (node : Node) (s : Shape) → IsArena old → new.arguments.items ≡ old.arguments.items ++ more → new.nodes.items ≡ old.nodes.items ++ node ∷ []
@@ -175,10 +175,10 @@ pub no_element : (k x : ℕ) → element k ≡ variable x → ⊥
 no_element k x e = cc
 
 -- a variable that had no node
-pub variable_entered : (old new : Arena) (x : ℕ) → IsArena old → new.arguments.items ≡ old.arguments.items → new.nodes.items ≡ old.nodes.items ++ Variable x ∷ [] → node_of old x ≡ None → node_of new x ≡ Some (length old.nodes.items)
+pub variable_entered : (old new : Arena) (node : Node) (x : ℕ) → IsArena old → new.arguments.items ≡ old.arguments.items → new.nodes.items ≡ old.nodes.items ++ node ∷ [] → IsPlaced (length new.arguments.items) node → shape_of new.arguments.items node ≡ variable x → node_of old x ≡ None → node_of new x ≡ Some (length old.nodes.items)
     → ((q : ℕ) → is_at (nat_cmp x) q ≡ false → node_of new q ≡ node_of old q) → IsNode old new (variable x) (length old.nodes.items)
-variable_entered old new x is args nodes absent here others =
-    entered old new [] (Variable x) (variable x) is (args ∙ sym (append-nil old.arguments.items)) nodes tt refl tt (omega arith)
+variable_entered old new node x is args nodes at shape absent here others =
+    entered old new [] node (variable x) is (args ∙ sym (append-nil old.arguments.items)) nodes at shape tt (omega arith)
     (λ y n h. elim (cases_eq x y) [
       | inl e ↦ inr (place n (sym (ap (node_of new) (sym e) ∙ here) ∙ h) ∙ sym many, ap variable e)
       | inr d ↦ inl (sym (others y (at_other x y d)) ∙ h)

@@ -15,7 +15,7 @@ placed_at n (x ∷ xs) p zero d h = p.0
 placed_at n (x ∷ xs) p (suc k) d h = let inner : k < length xs = omega (arith, h) in placed_at n xs p.1 k d inner
 
 placed_one : (m n : ℕ) → m ≤ n → (x : Node) → IsPlaced m x → IsPlaced n x
-placed_one m n h (Variable x) p = tt
+placed_one m n h (Variable upper lower) p = tt
 placed_one m n h (Element k) p = tt
 placed_one m n h (Application f first count) p = let q : first + count ≤ n = omega (arith, p, h) in q
 
@@ -25,7 +25,7 @@ placed_push m n h (y ∷ xs) x p q = (placed_one m n h y p.0, placed_push m n h 
 
 -- arguments that are there mean the same in a longer list
 shape_more : (args more : List ℕ) (x : Node) → IsPlaced (length args) x → shape_of (args ++ more) x ≡ shape_of args x
-shape_more args more (Variable x) p = refl
+shape_more args more (Variable upper lower) p = refl
 shape_more args more (Element k) p = refl
 shape_more args more (Application f first count) p =
     let starts : first ≤ length args = omega (arith, p) in

@@ -8,6 +8,7 @@ pub mod Links
 pub mod Looking
 pub mod Measured
 pub mod Merges
+pub mod Numbered
 pub mod Orders
 pub mod Pairing
 pub mod Renamed
@@ -16,3 +17,4 @@ pub mod Solving
 pub mod Terms
 pub mod Unified
 pub mod Walks
+pub mod Written

@@ -1,18 +1,22 @@
 -- How great terms are, by what is kept of their arguments.
-use Rattle.std.proofs.Common.{◌≡◌, ℕ, ◌+◌, ◌<◌, ◌≤◌, max, refl, sym, ap, ◌∙◌, List, [], ◌∷◌, ◌++◌, length, map, take, arith, inl, inr, slice_index_or}
+use Rattle.std.proofs.Common.{◌≡◌, ℕ, ◌+◌, ◌<◌, ◌≤◌, max, refl, sym, ap, ap₂, ◌∙◌, List, [], ◌∷◌, ◌++◌, length, map, take, arith, inl, inr, slice_index_or}
 use Rattle.std.specs.List.{sum_by}
 use Rattle.std.proofs.lemmas.List.{take_all, take_more}
 use Rattle.std.proofs.lemmas.List.Sums.{sum_by-cons, sum_by_push}
+use Rattle.clause_limits.specs.Sizes.{measured, measured_all, beside, under_symbol}
+use Rattle.clause_limits.proofs.Beside.{measured_push, measured_under}
+use Rattle.fol_core.proofs.Putting.{put_made}
 use Rattle.fol_core.specs.Sizes.{size_of, sizes_of, depth_of, depths_of, saturated}
 use Rattle.fol_core.specs.Substitutions.{Substitution, substitute, substitute_all}
 use Rattle.fol_core.specs.TermView.{tree_of, tree_list}
 use Rattle.fol_core.specs.declared.term.Term.{Term}
 use Rattle.fol_core.specs.Tree.{Tree, app, trees_of}
+use Rattle.term_classes.proofs.Entering.{made_next}
 use Rattle.term_classes.specs.Classes.{In, arguments_of}
 use Rattle.term_classes.specs.Measures.{IsMeasured, measure_at, greatest, size_at, depth_at, IsAbove}
 use Rattle.term_classes.specs.Merging.{nth}
 use Rattle.term_classes.specs.Shapes.{Shape, variable, element, application, seen}
-use Rattle.term_classes.specs.declared.measure.Measure.{Measure}
+use Rattle.clause_limits.specs.declared.measured.Measure.{Measure}
 
 saturated_more : (a b s t : ℕ) → a ≡ saturated b → saturated s ≡ saturated t → saturated (a + s) ≡ saturated (b + t)
 saturated_more a b s t e f = omega (arith, e, f)
@@ -81,3 +85,25 @@ pub depth_made : (s : Substitution) (f : ℕ) (xs ts : List Term) (us : List Tre
 depth_made s f xs ts us i n e h same view =
     saturated_one n (greatest (λ t. depth_of (substitute s (tree_of t))) (take i xs)) e
     ∙ ap (λ l. saturated (greatest (λ t. depth_of (substitute s (tree_of t))) l + 1)) (take_all i xs h ∙ same) ∙ ap (λ k. saturated (k + 1)) (depths_put s ts) ∙ ap (λ l. saturated (depth_of (substitute s (app f (trees_of l))))) view
+
+abbrev measure_of : ℕ → ℕ → Measure
+measure_of s d = record { size = s; depth = d }
+
+-- what is kept of a class is how large its term is
+pub is_measured : (t : Tree) (m : Measure) → IsMeasured t m → m ≡ measured t
+is_measured t m is = ap₂ measure_of is.sized is.deep
+
+-- a term's arguments so far, and one more
+pub measured_next : (s : Substitution) (ts : List Term) (i : ℕ) (t : Term) (m n k : Measure) → i < length ts → t ≡ slice_index_or ts i t → m ≡ measured_all (trees_of (map (λ t. substitute s (tree_of t)) (take i ts)))
+    → n ≡ measured (substitute s (tree_of t)) → k ≡ beside m n → k ≡ measured_all (trees_of (map (λ t. substitute s (tree_of t)) (take (i + 1) ts)))
+measured_next s ts i t m n k h at before one is =
+    is ∙ ap₂ beside before one ∙ measured_push (map (λ t. substitute s (tree_of t)) (take i ts)) (substitute s (tree_of t))
+    ∙ ap (λ us. measured_all (trees_of us)) (made_next (substitute s) ts i t h at)
+
+-- all of them, under their symbol
+pub measured_made : (s : Substitution) (f : ℕ) (xs ts : List Term) (us : List Tree) (i : ℕ) (m n : Measure) → m ≡ measured_all (trees_of (map (λ t. substitute s (tree_of t)) (take i xs))) → n ≡ under_symbol m → length xs ≤ i → xs ≡ ts → tree_list ts ≡ us
+    → n ≡ measured (substitute s (app f (trees_of us)))
+measured_made s f xs ts us i m n before is h same view =
+    is ∙ ap under_symbol (before ∙ ap measured_all (put_made s xs i (map (λ t. substitute s (tree_of t)) (take i xs)) h refl))
+    ∙ measured_under f (substitute_all s (trees_of (tree_list xs)))
+    ∙ ap (λ l. measured (app f (substitute_all s (trees_of (tree_list l))))) same ∙ ap (λ l. measured (app f (substitute_all s (trees_of l)))) view

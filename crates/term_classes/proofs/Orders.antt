@@ -7,7 +7,7 @@ use Rattle.term_classes.specs.Classes.{Classes, schema_of, arguments_of, childre
 use Rattle.term_classes.specs.Measures.{IsMeasured, measure_at, IsAbove}
 use Rattle.term_classes.specs.Merging.{nth}
 use Rattle.term_classes.specs.Shapes.{Shape, application, shape_at, seen}
-use Rattle.term_classes.specs.declared.measure.Measure.{Measure}
+use Rattle.clause_limits.specs.declared.measured.Measure.{Measure}
 use Rattle.term_classes.proofs.Advances.{schema_read, schema_arguments}
 use Rattle.term_classes.proofs.Growing.{below_at}
 use Rattle.term_classes.proofs.Measured.{measured_above}

@@ -1,5 +1,5 @@
 -- Terms that were put into an arena, and what is found of them.
-use Rattle.std.proofs.Common.{◌≡◌, ℕ, ◌≤◌, refl, sym, ap, ap₂, subst, ◌∙◌, List, [], ◌++◌, length, map, Result, Ok, Err, IfOk}
+use Rattle.std.proofs.Common.{◌≡◌, ℕ, ◌≤◌, refl, sym, ap, ap₂, subst, ◌∙◌, List, [], ◌++◌, length, map, MatchOption, Option, Result, Ok, Err, IfOk}
 use Rattle.std.proofs.lemmas.List.{length-map}
 use Rattle.fol_core.specs.Tree.{Tree, trees_of}
 use Rattle.substitutions.specs.Bindings.{Binding, by_bindings}
@@ -73,3 +73,10 @@ pub entered_uneven : (e : Entered) → (length e.work.lefts.items ≡ length e.w
 entered_uneven e h =
     uneven (left_terms e) (right_terms e)
     (λ s. h (sym (length-map e.work.lefts.items (tree_at (shapes_of e.arena))) ∙ s ∙ length-map e.work.rights.items (tree_at (shapes_of e.arena))))
+
+-- what is found of terms is found of the same ones
+pub solved_as : (o : Option (List Binding)) (ss ts us vs : List Tree) → ss ≡ us → ts ≡ vs → MatchOption o (HasNoUnifier (trees_of ss) (trees_of ts)) (λ s. IsMostGeneral (by_bindings s) (trees_of ss) (trees_of ts))
+    → MatchOption o (HasNoUnifier (trees_of us) (trees_of vs)) (λ s. IsMostGeneral (by_bindings s) (trees_of us) (trees_of vs))
+solved_as o ss ts us vs left right h =
+    subst (λ (l : List Tree). MatchOption o (HasNoUnifier (trees_of l) (trees_of vs)) (λ s. IsMostGeneral (by_bindings s) (trees_of l) (trees_of vs))) left
+    (subst (λ (r : List Tree). MatchOption o (HasNoUnifier (trees_of ss) (trees_of r)) (λ s. IsMostGeneral (by_bindings s) (trees_of ss) (trees_of r))) right h)

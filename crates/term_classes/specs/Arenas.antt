@@ -1,5 +1,5 @@
 -- Arenas of nodes.
-use Rattle.std.specs.Prelude.{ℕ, ◌+◌, ◌<◌, ◌≤◌, ◌≡◌, List, [], ◌∷◌, ◌++◌, length, map, take, drop, Option, Some}
+use Rattle.std.specs.Prelude.{ℕ, ◌+◌, ◌*◌, ◌<◌, ◌≤◌, ◌≡◌, List, [], ◌∷◌, ◌++◌, length, map, take, drop, Option, Some}
 use Rattle.fol_core.specs.Tree.{Tree}
 use Rattle.term_classes.specs.Merging.{arities}
 use Rattle.term_classes.specs.Named.{node_named}
@@ -10,8 +10,12 @@ use Rattle.term_classes.specs.declared.node.Node.TheVariants as node
 use Rattle.term_classes.specs.declared.node.View.{View}
 use Rattle.term_classes.specs.declared.node.View.TheVariants as view
 
+-- a number of 128 bits by its upper ones and its lower ones
+unfoldable pub whole : ℕ → ℕ → ℕ
+whole upper lower = upper * 18446744073709551616 + lower
+
 abbrev pub shape_of : List ℕ → Node → Shape
-shape_of arguments (node.Variable x) = variable x
+shape_of arguments (node.Variable upper lower) = variable (whole upper lower)
 shape_of arguments (node.Element k) = element k
 shape_of arguments (node.Application f first count) =
     application f (take count (drop first arguments))
@@ -26,7 +30,7 @@ view_shape (view.Application f ks) = application f ks.now
 
 -- the arguments are there
 abbrev pub IsPlaced : ℕ → Node → Type 0
-IsPlaced n (node.Variable x) = Unit {0}
+IsPlaced n (node.Variable upper lower) = Unit {0}
 IsPlaced n (node.Element k) = Unit {0}
 IsPlaced n (node.Application f first count) = first + count ≤ n
 

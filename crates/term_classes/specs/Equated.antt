@@ -3,7 +3,7 @@ use Rattle.std.specs.Prelude.{◌≡◌, List, length}
 use Rattle.term_classes.specs.Arenas.{shapes_of}
 use Rattle.term_classes.specs.Entered.{IsEntered}
 use Rattle.term_classes.specs.declared.entered.Entered.{Entered}
-use Rattle.term_classes.specs.declared.measure.Measure.{Measure}
+use Rattle.clause_limits.specs.declared.measured.Measure.{Measure}
 
 pub record AreMeasurable (e : Entered) (measures : List Measure) : Type 0 where
   pub entered : IsEntered e

@@ -7,9 +7,11 @@ pub mod Measures
 pub mod Merging
 pub mod Named
 pub mod Paired
+pub mod Renamed
 pub mod Rooms
 pub mod Shapes
 pub mod Solutions
 pub mod Solved
 pub mod Walking
 pub mod Worked
+pub mod Written

@@ -1,12 +1,12 @@
 -- How great terms are.
-use Rattle.std.specs.Prelude.{ℕ, ◌+◌, ◌≡◌, max, min, List, [], ◌∷◌, length}
+use Rattle.std.specs.Prelude.{ℕ, ◌+◌, ◌≡◌, max, List, [], ◌∷◌, length}
 use Rattle.std.specs.List.{slice_index_or, sum_by}
 use Rattle.fol_core.specs.Sizes.{size_of, depth_of, saturated}
 use Rattle.fol_core.specs.Substitutions.{Substitution}
-use Rattle.fol_core.specs.Tree.{Tree, var, elem, app, Trees, none, more}
+use Rattle.fol_core.specs.Tree.{Tree}
 use Rattle.term_classes.specs.Classes.{In}
 use Rattle.term_classes.specs.Merging.{nth}
-use Rattle.term_classes.specs.declared.measure.Measure.{Measure}
+use Rattle.clause_limits.specs.declared.measured.Measure.{Measure}
 
 pub record IsMeasured (t : Tree) (m : Measure) : Type 0 where
   pub sized : m.size ≡ saturated (size_of t)

@@ -1,7 +1,13 @@
 -- Nodes and classes worked out.
 use Rattle.std.specs.Prelude.{◌≡◌, ◌^◌, ◌-◌, List, [], ◌∷◌}
+use Rattle.clause_limits.specs.Sizes.{measured}
+use Rattle.fol_core.specs.Free.{joined, variables_of}
+use Rattle.fol_core.specs.Renumbered.{by_place}
 use Rattle.fol_core.specs.Sizes.{size_of, depth_of, saturated}
+use Rattle.fol_core.specs.Substitutions.{Substitution, substitute}
 use Rattle.fol_core.specs.Tree.{Tree, var, app, none, more}
+use Rattle.substitutions.specs.Bindings.{by_bindings}
+use Rattle.term_classes.specs.Renamed.{own_among}
 use Rattle.term_classes.specs.Classes.{Classes, children, node_terms}
 use Rattle.term_classes.specs.Shapes.{Shape, variable, application, tree_at}
 
@@ -34,3 +40,17 @@ deep =
 
 abbrev pub WorkedMeasures : Type 0
 WorkedMeasures = (size_of deep ≡ 5) × (depth_of deep ≡ 3) × (saturated (2 ^ 64) ≡ 2 ^ 64 - 1)
+
+-- where the variable 3 is a, the variable 1 of the second of two clauses is a, and of the first it stays
+abbrev pub WorkedClauses : Type 0
+WorkedClauses =
+    let s : Substitution = by_bindings ((3, app 1 none) ∷ []) in
+    (substitute (own_among 2 s 1) (var 1) ≡ app 1 none) × (substitute (own_among 2 s 0) (var 1) ≡ var 2)
+    × (measured (substitute (own_among 2 s 1) (app 2 (more (var 1) none))) ≡ record { size = 2; depth = 2 })
+
+-- behind x5 the variables of f(x7, x5) come to x5, x7, and they are written as 1 and 0
+abbrev pub WorkedNumbers : Type 0
+WorkedNumbers =
+    let t : Tree = app 2 (more (var 7) (more (var 5) none)) in
+    (joined (5 ∷ []) (variables_of t) ≡ 5 ∷ 7 ∷ [])
+    × (substitute (by_place (5 ∷ 7 ∷ 9 ∷ [])) t ≡ app 2 (more (var 1) (more (var 0) none)))

@@ -20,17 +20,12 @@ use std::marker::Model;
 // How many nodes there is room for at first.
 const FEW: usize = 32;
 
-// The number of a variable of a term by its place among so many, or want of memory where it is no number of the machine.
-fn number_apart(x: u64, many: u64, place: u64) -> Result<u64, AllocError>
-    ensures { IfOk result (λ n. n ≡ x * many + place) }
+/// The number of a variable of a term by its place among so many.
+pub fn number_apart(x: u64, many: u64, place: u64) -> u128
+    ensures { result ≡ x * many + place }
 {
-    match x.checked_mul(many) {
-        Some(product) => match product.checked_add(place) {
-            Some(number) => Ok(number),
-            None => Err(AllocError),
-        },
-        None => Err(AllocError),
-    }
+    let product = x as u128 * many as u128;
+    product + place as u128
 }
 
 /// Puts a term into an arena with its variables renamed, by its place among so many.
@@ -47,7 +42,7 @@ pub fn put_apart(
 {
     match term {
         Term::Var(x) => {
-            let own = number_apart(*x, many, place)?;
+            let own = number_apart(*x, many, place);
             let n = enter_variable(arena, own)?;
             numbers.push(n)?;
             Ok(())

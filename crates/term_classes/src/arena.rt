@@ -1,13 +1,32 @@
 // Terms put into an arena.
-ghost use Rattle.std.specs.Prelude.{◌≡◌, ◌<◌, ◌≤◌, ◌+◌, ℕ, [], ◌∷◌, IfOk, length, take, drop};
+ghost use Rattle.std.specs.Prelude.{◌≡◌, ◌<◌, ◌≤◌, ◌+◌, ℕ, List, [], ◌∷◌, IfOk, length, take, drop};
 ghost use Rattle.fol_core.specs.TermView.{tree_of, tree_list};
-ghost use Rattle.term_classes.specs.Arenas.{IsArena, IsNode, AreNodes, IsApplied, IsPlaced, shape_of, shapes_of, view_shape};
+ghost use Rattle.term_classes.specs.Arenas.{IsArena, IsNode, AreNodes, IsApplied, IsPlaced, shape_of, shapes_of, view_shape, whole};
 ghost use Rattle.term_classes.specs.Shapes.{AreBelow, variable, element, application, shape_at};
 
-use crate::naming::{name_node, no_variables, node_of};
+use crate::naming::{empty_variables, name_node, no_variables, node_of};
 use crate::node::{Arena, Node, View};
 use fol_core::Term;
 use std::alloc::{AllocError, Global};
+
+// One more than the lower 64 bits of a number may be.
+const UPPER: u128 = 18_446_744_073_709_551_616;
+
+// A number by its upper and its lower bits.
+fn whole(upper: u64, lower: u64) -> u128
+    ensures { result ≡ whole upper lower }
+{
+    let raised = upper as u128 * UPPER;
+    raised + lower as u128
+}
+
+// What is kept of a variable.
+fn variable_node(x: u128) -> Node
+    ensures placed { (n : ℕ) → IsPlaced n result }
+    ensures shape { (arguments : List ℕ) → shape_of arguments result ≡ variable x }
+{
+    Node::Variable((x / UPPER) as u64, (x % UPPER) as u64)
+}
 
 // What is kept of a node.
 fn node(arena: &Arena, n: usize) -> Node
@@ -35,7 +54,7 @@ pub fn view(arena: &Arena, n: usize) -> View<'_>
     ensures { view_shape result ≡ shape_at (shapes_of arena.now) n }
 {
     match node(arena, n) {
-        Node::Variable(x) => View::Variable(x),
+        Node::Variable(upper, lower) => View::Variable(whole(upper, lower)),
         Node::Element(k) => View::Element(k),
         Node::Application(f, first, count) => {
             View::Application(f, part(arena.arguments.as_slice(), first, count))
@@ -55,8 +74,20 @@ pub fn roomy_arena(alloc: Global, room: usize) -> Result<Arena, AllocError>
     })
 }
 
+/// No terms, and no memory.
+pub fn empty_arena(alloc: Global) -> Arena
+    ensures arena { IsArena result }
+    ensures empty { shapes_of result ≡ [] }
+{
+    Arena {
+        nodes: Vec::new(alloc),
+        arguments: Vec::new(alloc),
+        variables: empty_variables(alloc),
+    }
+}
+
 /// The node of a variable.
-pub fn enter_variable(arena: &mut Arena, x: u64) -> Result<usize, AllocError>
+pub fn enter_variable(arena: &mut Arena, x: u128) -> Result<usize, AllocError>
     requires { IsArena arena.old }
     ensures { IfOk result (IsNode arena.old arena.new (variable x)) }
 {
@@ -64,7 +95,7 @@ pub fn enter_variable(arena: &mut Arena, x: u64) -> Result<usize, AllocError>
         Some(n) => Ok(n),
         None => {
             let n = arena.nodes.len();
-            arena.nodes.push(Node::Variable(x))?;
+            arena.nodes.push(variable_node(x))?;
             name_node(&mut arena.variables, x, n)?;
             Ok(n)
         }
@@ -123,7 +154,7 @@ pub fn put(arena: &mut Arena, term: &Term, numbers: &mut Vec<usize>) -> Result<(
 {
     match term {
         Term::Var(x) => {
-            let n = enter_variable(arena, *x)?;
+            let n = enter_variable(arena, *x as u128)?;
             numbers.push(n)?;
             Ok(())
         }

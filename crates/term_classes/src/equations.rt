@@ -12,12 +12,12 @@ use crate::apart::entered_apart;
 use crate::arena::{put_all, roomy_arena};
 use crate::counting::count_all;
 use crate::entered::Entered;
-use crate::measure::Measure;
 use crate::measuring::unmeasured;
-use crate::pairs::{Pairs, entered_pairs};
+use crate::pair_lists::{PairLists, entered_pairs};
 use crate::room::enter;
 use crate::solution::Solution;
 use crate::unifying::unifier_of;
+use clause_limits::Measure;
 use fol_core::{Term, Terms};
 use std::alloc::{AllocError, Global};
 use std::marker::Model;
@@ -75,7 +75,7 @@ impl Equations {
     }
 
     /// Terms of several clauses, renamed apart, with room for unifying them.
-    pub fn paired(alloc: Global, pairs: Pairs) -> Result<Equations, AllocError>
+    pub fn paired(alloc: Global, pairs: PairLists) -> Result<Equations, AllocError>
         ensures { IfOk result (λ e. e ≡ pairs) }
     {
         let nodes = entered_pairs(alloc, pairs)?;

@@ -16,8 +16,8 @@ use crate::node::View;
 use fol_core::{Sym, Term, Terms};
 use std::alloc::{AllocError, Global};
 
-// The class of a variable, if it has a node.
-fn class_of(found: &Found, x: u64) -> Option<usize>
+/// The class of a variable, if it has a node.
+pub fn class_of(found: &Found, x: u128) -> Option<usize>
     requires { IsFound found.now }
     ensures { MatchOption result
         (by_bindings (bindings_of found.now) x ≡ var x)
@@ -36,7 +36,7 @@ pub fn size_under(found: &Found, term: &Term) -> u64
         (substitute (by_bindings (bindings_of found.now)) (tree_of term.now))) }
 {
     match term {
-        Term::Var(x) => match class_of(found, *x) {
+        Term::Var(x) => match class_of(found, *x as u128) {
             Some(root) => found.measures[root].size,
             None => 1,
         },
@@ -68,7 +68,7 @@ pub fn depth_under(found: &Found, term: &Term) -> u64
         (substitute (by_bindings (bindings_of found.now)) (tree_of term.now))) }
 {
     match term {
-        Term::Var(x) => match class_of(found, *x) {
+        Term::Var(x) => match class_of(found, *x as u128) {
             Some(root) => found.measures[root].depth,
             None => 1,
         },
@@ -83,6 +83,16 @@ pub fn depth_under(found: &Found, term: &Term) -> u64
     }
 }
 
+// A variable as a term, or want of memory where it is no number of 64 bits.
+fn variable_plain(x: u128) -> Result<Term, AllocError>
+    ensures { IfOk result (λ term. tree_of term ≡ var x) }
+{
+    if x > u64::MAX as u128 {
+        return Err(AllocError);
+    }
+    Ok(Term::Var(x as u64))
+}
+
 // The term of a class.
 fn class_plain(alloc: Global, found: &Found, root: usize) -> Result<Term, AllocError>
     requires found { IsFound found.now }
@@ -91,7 +101,7 @@ fn class_plain(alloc: Global, found: &Found, root: usize) -> Result<Term, AllocE
         ≡ class_terms (classes_in found.now) var found.now.order.items root) }
 {
     match view(&found.arena, found.work.schemas[root]) {
-        View::Variable(x) => Ok(Term::Var(x)),
+        View::Variable(x) => variable_plain(x),
         View::Element(k) => Ok(Term::Elem(k)),
         View::Application(f, arguments) => {
             let mut terms = Terms::with_capacity(alloc, arguments.len())?;
@@ -109,7 +119,7 @@ pub fn variable_under(alloc: Global, found: &Found, x: u64) -> Result<Term, Allo
     requires { IsFound found.now }
     ensures { IfOk result (λ made. tree_of made ≡ by_bindings (bindings_of found.now) x) }
 {
-    match class_of(found, x) {
+    match class_of(found, x as u128) {
         Some(root) => class_plain(alloc, found, root),
         None => Ok(Term::Var(x)),
     }

@@ -10,11 +10,15 @@
 // nothing unifies (`proofs/Walks`, `Advances`, `AtOnce`). Along it `measuring.rt` counts symbols and levels of each
 // class's term, up to the greatest number of 64 bits; `instances.rt` gives these of a term under the unifier, and
 // builds it.
-// Callers put terms in by `equations.rt` (two, to be unified: `Equations::apart`) or `pairs.rt` (terms of several
-// clauses, each renamed by its clause's place), and room comes first (`room.rt`): never more pairs than the arena has
-// arguments, since a merge brings at most as many as the applications have and takes a class away (`specs/Rooms`). What
-// then decides and solves (`unifying.rt`) takes no memory; `Solution` is seen as the bindings of variables. `TermPair`
-// (`apart.rt`) numbers two terms' variables evenly and oddly, and only tells whether they unify.
+// Callers put terms in by `pairs.rt`: pairs of terms of so many clauses, each renamed by its clause's place as it is put in
+// (`apart.rt`). Such a variable is a number of 128 bits, so that there is one for every variable of a clause. Room comes
+// before any merge (`room.rt`): never more pairs than the arena has arguments, since a merge brings at most as many as the
+// applications have and takes a class away (`specs/Rooms`). What then decides and solves (`unifying.rt`) takes no memory;
+// `Solution` is seen as the bindings of variables. Terms of the clauses under it are measured (`sizes.rt`) before any is
+// built, and written (`writing.rt`) with their variables numbered by first occurrence as they come (`numbers.rt`), so that
+// none of 128 bits leaves this crate.
+// `equations.rt` and `pair_lists.rt` are older doors; `TermPair` numbers two terms' variables evenly and oddly, and only
+// tells whether they unify.
 // The proof speaks of labels, a term for each node, which fit where linked and paired nodes have one. What fits later
 // fits before; what a substitution makes of the trees fits later if before; the classes' terms along the order fit and
 // respect the heads (`specs/Classes`): a most general unifier (`proofs/Terms`, `Solving`).
@@ -30,22 +34,27 @@ mod found;
 mod instances;
 mod laws;
 mod linking;
-mod measure;
 mod measuring;
 mod merging;
 mod naming;
 mod node;
+mod numbers;
 mod ordering;
+mod pair_lists;
 mod paired;
 mod pairs;
 mod room;
+mod sizes;
 mod solution;
 mod unifying;
 mod walk;
 mod work;
+mod writing;
 
 pub use apart::TermPair;
 pub use equations::Equations;
 pub use laws::worked;
+pub use numbers::Numbers;
+pub use pair_lists::PairLists;
 pub use pairs::Pairs;
 pub use solution::Solution;

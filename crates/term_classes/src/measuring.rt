@@ -8,9 +8,9 @@ ghost use Rattle.term_classes.specs.Merging.{merging_of, nth};
 ghost use Rattle.term_classes.specs.Shapes.{AreBelow, shape_at};
 
 use crate::arena::view;
-use crate::measure::Measure;
 use crate::node::{Arena, View};
 use crate::work::Work;
+use clause_limits::Measure;
 use std::alloc::{AllocError, Global};
 
 // A symbol over arguments of measured classes.

@@ -14,8 +14,8 @@ const FEW: usize = 16;
 /// Variables with their nodes: the first ones, and those that came when there were many of these.
 #[derive(Drop)]
 pub struct VariableNodes {
-    pub few: Vec<(u64, usize)>,
-    pub others: BTreeMap<u64, usize>,
+    pub few: Vec<(u128, usize)>,
+    pub others: BTreeMap<u128, usize>,
 }
 
 /// No variables, and room for the first ones of so many.
@@ -28,9 +28,19 @@ pub fn no_variables(alloc: Global, room: usize) -> Result<VariableNodes, AllocEr
     })
 }
 
+/// No variables, and no memory.
+pub fn empty_variables(alloc: Global) -> VariableNodes
+    ensures { (x : ℕ) → node_named result x ≡ None }
+{
+    VariableNodes {
+        few: Vec::new(alloc),
+        others: BTreeMap::new(alloc),
+    }
+}
+
 // The node of a variable among the first ones.
 #[tactic(auto, using(crate::proofs::Looking::look_here, crate::proofs::Looking::look_behind, crate::proofs::Looking::look_end))]
-fn node_among(few: &[(u64, usize)], x: u64) -> Option<usize>
+fn node_among(few: &[(u128, usize)], x: u128) -> Option<usize>
     ensures { result ≡ lookup (is_at (nat_cmp x)) few.now }
 {
     for (y, n) in few {
@@ -42,7 +52,7 @@ fn node_among(few: &[(u64, usize)], x: u64) -> Option<usize>
 }
 
 /// The node of a variable, if it has one.
-pub fn node_of(variables: &VariableNodes, x: u64) -> Option<usize>
+pub fn node_of(variables: &VariableNodes, x: u128) -> Option<usize>
     ensures { result ≡ node_named variables.now x }
 {
     match node_among(variables.few.as_slice(), x) {
@@ -52,7 +62,7 @@ pub fn node_of(variables: &VariableNodes, x: u64) -> Option<usize>
 }
 
 /// A variable that has no node gets one.
-pub fn name_node(variables: &mut VariableNodes, x: u64, n: usize) -> Result<(), AllocError>
+pub fn name_node(variables: &mut VariableNodes, x: u128, n: usize) -> Result<(), AllocError>
     requires { node_named variables.old x ≡ None }
     ensures here { OnOk result (node_named variables.new x ≡ Some n) }
     ensures others { OnOk result ((q : ℕ) → is_at (nat_cmp x) q ≡ false

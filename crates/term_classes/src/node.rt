@@ -1,10 +1,12 @@
 // Nodes of terms.
 use crate::naming::VariableNodes;
 
-/// A variable, an element, or a symbol with the place and the number of its arguments.
+/// A variable, an element, or a symbol with the place and the number of its arguments. A variable is a number of 128 bits, as
+/// those of several clauses renamed apart may be: the upper ones and the lower ones, so that it takes no more room than an
+/// application.
 #[derive(Clone, Copy)]
 pub enum Node {
-    Variable(u64),
+    Variable(u64, u64),
     Element(u32),
     Application(u64, usize, usize),
 }
@@ -12,7 +14,7 @@ pub enum Node {
 /// The same with the arguments' numbers.
 #[derive(Clone, Copy)]
 pub enum View<'a> {
-    Variable(u64),
+    Variable(u128),
     Element(u32),
     Application(u64, &'a [usize]),
 }

@@ -1,13 +1,21 @@
 // A most general unifier.
-ghost use Rattle.std.specs.Prelude.{ℕ, ◌≡◌, ◌≤◌, IfOk};
+ghost use Rattle.std.specs.Prelude.{ℕ, ◌≡◌, ◌≤◌, ◌++◌, List, IfOk, OnOk};
+ghost use Rattle.clause_limits.specs.Sizes.{measured};
+ghost use Rattle.fol_core.specs.Free.{joined, variables_of};
+ghost use Rattle.fol_core.specs.Renumbered.{by_place};
 ghost use Rattle.fol_core.specs.Sizes.{size_of, depth_of, saturated};
 ghost use Rattle.fol_core.specs.Substitutions.{substitute};
 ghost use Rattle.fol_core.specs.TermView.{tree_of};
 ghost use Rattle.substitutions.specs.Bindings.{by_bindings};
+ghost use Rattle.term_classes.specs.Renamed.{own_among};
 ghost use Rattle.term_classes.specs.Solutions.{IsFound, bindings_of};
 
 use crate::found::Found;
 use crate::instances::{depth_under, most_under, plain_under, size_under, variable_under};
+use crate::numbers::Numbers;
+use crate::sizes::measure_among;
+use crate::writing::write_among;
+use clause_limits::Measure;
 use fol_core::Term;
 use std::alloc::{AllocError, Global};
 use std::marker::Model;
@@ -39,6 +47,32 @@ impl Solution {
         ensures { result ≡ bindings_of found }
     {
         Solution { found }
+    }
+
+    /// How large a term of one of so many clauses is under the unifier of these renamed apart: nothing is built.
+    pub fn measure(&self, term: &Term, many: u64, parent: u64) -> Measure
+        ensures { result ≡ measured (substitute (own_among many (by_bindings self.now) parent)
+            (tree_of term.now)) }
+    {
+        measure_among(&self.found, term, many, parent)
+    }
+
+    /// That term, as a tree; its variables are numbered behind those that are.
+    pub fn write(
+        &self,
+        alloc: Global,
+        term: &Term,
+        many: u64,
+        parent: u64,
+        numbers: &mut Numbers,
+    ) -> Result<Term, AllocError>
+        ensures numbers { OnOk result (numbers.new ≡ joined numbers.old (variables_of
+            (substitute (own_among many (by_bindings self.now) parent) (tree_of term.now)))) }
+        ensures term { IfOk result (λ made. (behind : List ℕ) → tree_of made
+            ≡ substitute (by_place (numbers.new ++ behind))
+            (substitute (own_among many (by_bindings self.now) parent) (tree_of term.now))) }
+    {
+        write_among(alloc, &self.found, term, many, parent, numbers)
     }
 
     /// How many symbols and variables the term has under the unifier, up to the greatest number.

@@ -10,11 +10,11 @@ ghost use Rattle.unifiers.specs.Unifier.{IsMostGeneral, Unifies};
 
 use crate::entered::Entered;
 use crate::found::Found;
-use crate::measure::Measure;
 use crate::measuring::measures_of;
 use crate::merging::merge;
 use crate::ordering::order_of;
 use crate::solution::Solution;
+use clause_limits::Measure;
 
 // Whether nodes, each and each, have a unifier.
 fn merges_all(nodes: Entered) -> bool

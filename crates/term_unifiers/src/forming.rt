@@ -8,7 +8,7 @@ ghost use Rattle.substitutions.specs.Bindings.{by_bindings};
 ghost use Rattle.substitutions.specs.Instances.{substitute_clause, substitute_literal};
 ghost use Rattle.term_unifiers.specs.Formed.{formed_clause, IsBuiltWithin};
 
-use clause_limits::{MOST_LEVELS, MOST_SYMBOLS};
+use clause_limits::{MOST_CLAUSE_LEVELS, MOST_CLAUSE_SYMBOLS};
 use fol_core::{Clause, Literal, renumber};
 use std::alloc::{AllocError, Global};
 use std::marker::Model;
@@ -97,10 +97,10 @@ fn exceeds(unifier: &Solution, clause: &Clause) -> bool
     ensures { result
         ≡ is_too_large (substitute_clause (by_bindings unifier.now) clause.now) }
 {
-    if depth_under(unifier, clause) > MOST_LEVELS {
+    if depth_under(unifier, clause) > MOST_CLAUSE_LEVELS {
         return true;
     }
-    size_under(unifier, clause) > MOST_SYMBOLS
+    size_under(unifier, clause) > MOST_CLAUSE_SYMBOLS
 }
 
 impl LargeClause {

@@ -24,7 +24,7 @@ fn given(bindings: &Subst, x: u64) -> Option<&Term>
 }
 
 // A variable with a term.
-#[tactic(auto, using(unifiers::proofs::MatchSteps::bound_same, unifiers::proofs::MatchSteps::bound_other))]
+#[tactic(auto, using(term_matches::proofs::MatchSteps::bound_same, term_matches::proofs::MatchSteps::bound_other))]
 fn bind(alloc: Global, x: u64, term: &Term, bindings: &mut Subst) -> Result<bool, AllocError>
     ensures { IfOk result (λ found. IsMatch found
         (bound_to (bound_term bindings.old x) x (tree_of term.now) bindings.old) bindings.new) }
@@ -39,7 +39,7 @@ fn bind(alloc: Global, x: u64, term: &Term, bindings: &mut Subst) -> Result<bool
 }
 
 /// Whether the bindings, with more of them, make of the first term the second one; they are added.
-#[tactic(auto, using(unifiers::proofs::MatchSteps::match_step, unifiers::proofs::MatchSteps::match_fails, unifiers::proofs::MatchSteps::match_long, unifiers::proofs::MatchSteps::match_short, unifiers::proofs::MatchSteps::match_end))]
+#[tactic(auto, using(term_matches::proofs::MatchSteps::match_step, term_matches::proofs::MatchSteps::match_fails, term_matches::proofs::MatchSteps::match_long, term_matches::proofs::MatchSteps::match_short, term_matches::proofs::MatchSteps::match_end))]
 pub fn match_onto(
     alloc: Global,
     general: &Term,
@@ -77,7 +77,7 @@ pub fn match_onto(
 }
 
 /// What makes of the first term the second one, if anything does.
-#[tactic(auto, using(unifiers::proofs::MatchSteps::match_made, unifiers::proofs::MatchSteps::match_none))]
+#[tactic(auto, using(term_matches::proofs::MatchSteps::match_made, term_matches::proofs::MatchSteps::match_none))]
 pub fn match_of(alloc: Global, general: &Term, special: &Term) -> Result<Option<Subst>, AllocError>
     ensures { IfOk result (λ o. MatchOption o
         (HasNoMatch (tree_of general.now) (tree_of special.now))

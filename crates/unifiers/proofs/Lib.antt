@@ -1,9 +1,4 @@
 pub mod Agreement
-pub mod Counting
 pub mod Differences
-pub mod Fitting
 pub mod Found
-pub mod Fronts
-pub mod MatchSteps
 pub mod MatchesFound
-pub mod Standing

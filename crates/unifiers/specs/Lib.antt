@@ -1,9 +1,4 @@
 pub mod Laws
-pub mod Matched
 pub mod Matching
-pub mod Occurrences
-pub mod Room
-pub mod Sides
-pub mod Trying
 pub mod Unifier
 pub mod Worked

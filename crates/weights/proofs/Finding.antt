@@ -9,8 +9,8 @@ use Rattle.fol_core.specs.Weights.{WeightTree, number, of_variable, plus, times}
 use Rattle.fol_core.specs.WeightView.{weight_of}
 use Rattle.substitutions.specs.Bindings.{Binding}
 use Rattle.unifiers.specs.Matching.{bound_term, matched, matched_all}
-use Rattle.unifiers.specs.Sides.{paired_all, GivesAlike}
-use Rattle.unifiers.proofs.Fitting.{all_give}
+use Rattle.term_matches.specs.Sides.{paired_all, GivesAlike}
+use Rattle.term_matches.proofs.Fitting.{all_give}
 use Rattle.weights.specs.Parts.{parts_of, parts_weights, listed_weight, standing_weight}
 use Rattle.weights.specs.Rows.{weight_row}
 use Rattle.weights.specs.Weighing.{WeightRow, pattern_of, weight_within, term_weight}

@@ -8,7 +8,7 @@ use Rattle.fol_core.specs.TermView.{tree_of, tree_list}
 use Rattle.fol_core.specs.Tree.{Tree, var, elem, app, Trees, none, more, trees_of}
 use Rattle.fol_core.specs.declared.term.Term.{Term}
 use Rattle.substitutions.specs.Bindings.{Binding}
-use Rattle.unifiers.specs.Sides.{paired, paired_all}
+use Rattle.term_matches.specs.Sides.{paired, paired_all}
 use Rattle.unifiers.specs.Matching.{same_tree, bound_term}
 use Rattle.unifiers.proofs.MatchesFound.{tree_same, same_itself}
 use Rattle.weights.specs.Parts.{parts, parts_of, stands_among, place_among}

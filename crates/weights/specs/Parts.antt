@@ -4,7 +4,7 @@ use Rattle.std.specs.List.{list_any, slice_index_or}
 use Rattle.std.specs.Option.{option_map_or}
 use Rattle.fol_core.specs.Tree.{Tree, var, elem, app, Trees, none, more}
 use Rattle.unifiers.specs.Matching.{same_tree, bound_term}
-use Rattle.unifiers.specs.Sides.{paired_all}
+use Rattle.term_matches.specs.Sides.{paired_all}
 use Rattle.weights.specs.Weighing.{WeightRow, weight_within, term_weight}
 use Rattle.weights.specs.WeighingLaws.{sum_of_weights}
 

@@ -13,7 +13,7 @@ ghost use Rattle.weights.specs.WeighingLaws.{first_weight, weight_under};
 
 use crate::parts::listed_weight;
 use fol_core::{Clause, Sym, Term, Terms, Weight};
-use unifiers::{are_instances, standing_among};
+use term_matches::{are_instances, standing_among};
 
 /// The greatest weight: sums and products stop at it.
 pub const MOST_WEIGHT: u64 = 2_147_483_647;

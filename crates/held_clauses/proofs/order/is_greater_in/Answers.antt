@@ -13,8 +13,8 @@ returns-in-Lpo c =
     ∙ tells (lpo_greater (stands_above c.args.precedence.now.rows.items)) (c.lpo_is_order.ensures _ (c.symbols_are_ordered.ensures c.args.precedence.now.rows.items)).irreflexive (tree_at c.args.bank.now c.args.s.0) (tree_at c.args.bank.now c.args.t.0)
     ∙ sym (ap (λ o. greater_by o (stands_above c.args.precedence.now.rows.items) (weight_at c.args.precedence.now.rows.items) (tree_at c.args.bank.now c.args.s.0) (tree_at c.args.bank.now c.args.t.0)) c.in-Lpo.is)
 
-pub returns-else-size-gt-MOST_SYMBOLS-2 : goal.returns-else-size-gt-MOST_SYMBOLS-2
-returns-else-size-gt-MOST_SYMBOLS-2 c =
+pub returns-else-size-gt-MOST_CLAUSE_SYMBOLS-2 : goal.returns-else-size-gt-MOST_CLAUSE_SYMBOLS-2
+returns-else-size-gt-MOST_CLAUSE_SYMBOLS-2 c =
     c.tells_greater-in-Kbo.ensures ∙ ap tells_greater c.kbo.ensures
     ∙ tells (kbo_greater (stands_above c.args.precedence.now.rows.items) (weight_at c.args.precedence.now.rows.items))
     (kbo_irreflexive (stands_above c.args.precedence.now.rows.items) (weight_at c.args.precedence.now.rows.items) (c.symbols_are_ordered.ensures c.args.precedence.now.rows.items)) (tree_at c.args.bank.now c.args.s.0) (tree_at c.args.bank.now c.args.t.0)

@@ -14,9 +14,9 @@ returns-then-not-literal c =
     (none_tried (greater_of c.args.precedence.now) f c.args.into.now c.args.equation
     (ap (λ b. b && is_equation (atom_at f.clause c.args.equation)) (c.requires.sign ∙ c.if-not-literal.true)))
 
-pub returns-then-not-is_equation : goal.returns-then-not-is_equation
-returns-then-not-is_equation c =
+pub returns-in_default : goal.returns-in_default
+returns-in_default c =
     let f = c.args.from.now in
     nothing_added (all_conclusions c.args.made.now.items) _
     (none_tried (greater_of c.args.precedence.now) f c.args.into.now c.args.equation
-    (ap₂ (λ p q. p && q) (c.requires.sign ∙ c.if-not-literal.false) (ap is_equation (sym c.requires.atom) ∙ sym c.is_equation.ensures ∙ c.if-not-is_equation.true)))
+    (ap₂ (λ p q. p && q) (c.requires.sign ∙ c.if-not-literal.false) (ap is_equation (sym c.requires.atom) ∙ c.in_default.ensures.cases)))

@@ -1,4 +1,4 @@
-use Rattle.std.proofs.Common.{subst, sym, ◌∙◌, arith}
+use Rattle.std.proofs.Common.{subst, arith}
 use Rattle.derivation.specs.Equations.{left_of}
 use Rattle.fol_core.specs.TermView.{tree_of}
 use Rattle.paramod.proofs.Missing.{reflects_past, reflects_sign, reflects_not, reflects_apart}
@@ -12,13 +12,13 @@ pub returns-then-literal : goal.returns-then-literal
 returns-then-literal c = λ e.
     reflects_sign c.as_slice-literals.result.now c.args.clause.now c.args.a c.as_slice-literals.ensures.literals c.index-literals-a.result (omega arith) c.index-literals-a.is c.if-literal.true
 
-pub returns-then-not-is_equation : goal.returns-then-not-is_equation
-returns-then-not-is_equation c = λ e.
+pub returns-in_default : goal.returns-in_default
+returns-in_default c = λ e.
     reflects_not c.as_slice-literals.result.now c.args.clause.now c.args.a c.as_slice-literals.ensures.literals c.index-literals-a.result (omega arith) c.index-literals-a.is
-    (sym c.is_equation.ensures ∙ c.if-not-is_equation.true)
+    c.in_default.ensures.cases
 
 pub returns : goal.returns
 returns c = λ e.
     reflects_apart c.as_slice-literals.result.now c.args.clause.now c.args.a c.as_slice-literals.ensures.literals c.index-literals-a.result (omega arith) c.index-literals-a.is
-    (subst (λ t. NeverMeet (left_of (tree_of c.index-literals-a.result.atom)) t) c.right_of-right.ensures
-    (subst (λ t. NeverMeet t (tree_of c.right_of-right.result.now)) c.left_of-left.ensures (c.may_meet.ensures e)))
+    (subst (λ t. NeverMeet (left_of (tree_of c.index-literals-a.result.atom)) t) c.in-Some.ensures.cases.right_is
+    (subst (λ t. NeverMeet t (tree_of c.in-Some.right.now)) c.in-Some.ensures.cases.left_is (c.may_meet.ensures e)))

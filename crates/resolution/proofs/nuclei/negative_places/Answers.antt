@@ -13,7 +13,7 @@ loop-place-preserved c =
     let i = c.loop-place.place in
     let before = filter (has_literal false d) (take i (places_of d)) in
     subst (λ ns. StandForEach d (all_tried c.add_place.new.places.items) ns (partners_by Hyper c.args.held.now))
-    (ap (λ (b : Bool). before ++ (if b then i ∷ [] else [])) c.is_negative-wanted.ensures ∙ kept_next (has_literal false d) d i (omega arith)) (c.in_ok-add_place.ensures before c.loop-place.invariant)
+    (ap (λ (b : Bool). before ++ (if b then i ∷ [] else [])) c.has_literal-wanted.ensures ∙ kept_next (has_literal false d) d i (omega arith)) (c.in_ok-add_place.ensures before c.loop-place.invariant)
 
 pub returns : goal.returns
 returns c =

@@ -2,7 +2,7 @@
 use Rattle.std.proofs.Common.{◌≡◌, ◌∙◌, ap, arith}
 use Rattle.fol_core.specs.TermView.{tree_list}
 use Rattle.fol_core.specs.Tree.{nodes_of, trees_of}
-use Rattle.unifiers.proofs.Standing.{argument_nodes}
+use Rattle.term_matches.proofs.Standing.{argument_nodes}
 use Rattle.subsume.proofs.pairing.+fitting.Goals as goal
 
 pub all_fit-fits-requires : goal.all_fit-fits-requires

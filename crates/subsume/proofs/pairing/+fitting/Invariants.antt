@@ -2,7 +2,7 @@
 use Rattle.std.proofs.Common.{◌≡◌, ◌+◌}
 use Rattle.fol_core.specs.Tree.{nodes, nodes_of, trees_of}
 use Rattle.fol_core.specs.TermView.{tree_of}
-use Rattle.unifiers.proofs.Standing.{fit_from}
+use Rattle.term_matches.proofs.Standing.{fit_from}
 use Rattle.subsume.specs.Places.{pairs}
 use Rattle.subsume.proofs.pairing.+fitting.Given as goal
 

@@ -1,7 +1,7 @@
 use Rattle.std.proofs.Common.{◌∙◌, ap, sym}
 use Rattle.std.specs.Option.{option_map}
 use Rattle.fol_core.specs.TermView.{tree_of}
-use Rattle.unifiers.proofs.Fitting.{given_is}
+use Rattle.term_matches.proofs.Fitting.{given_is}
 use Rattle.subsume.specs.Places.{pairs}
 use Rattle.subsume.proofs.pairing.is_given.Goals as goal
 

@@ -19,8 +19,8 @@ loop-term-preserved t c =
 
 pub returns-in_ok-push-in-Var : goal.returns-in_ok-push-in-Var
 returns-in_ok-push-in-Var t c =
-    leaf_node c.args.arena.now c.enter_variable.new.arena c.args.numbers.now.items c.push.new.self.items (variable c.in_ok-own-in-Var.own) c.in_ok-n-in-Var.n (substitute (interleaved c.args.many c.args.place) (tree_of c.args.term.now)) c.in_ok-n-in-Var.ensures c.in_ok-push-in-Var.ensures.items
-    (ap var c.in_ok-own-in-Var.ensures ∙ sym (ap (λ u. substitute (interleaved c.args.many c.args.place) (tree_of u)) c.in-Var.is))
+    leaf_node c.args.arena.now c.enter_variable.new.arena c.args.numbers.now.items c.push.new.self.items (variable c.number_apart-own.result) c.in_ok-n-in-Var.n (substitute (interleaved c.args.many c.args.place) (tree_of c.args.term.now)) c.in_ok-n-in-Var.ensures c.in_ok-push-in-Var.ensures.items
+    (ap var c.number_apart-own.ensures ∙ sym (ap (λ u. substitute (interleaved c.args.many c.args.place) (tree_of u)) c.in-Var.is))
 
 pub returns-in_ok-push-in-Elem : goal.returns-in_ok-push-in-Elem
 returns-in_ok-push-in-Elem t c =

@@ -14,7 +14,7 @@ returns-in_ok-name_node-in-None c =
     let place : length c.args.arena.now.nodes.items ≡ c.len-n.result = omega (arith, c.len-n.ensures, c.args.arena.now.nodes.ok.0) in
     let absent : node_of c.args.arena.now c.args.x ≡ None = sym c.node_of.ensures ∙ c.in-None.is in
     subst (IsNode old new (variable c.args.x)) place
-    (variable_entered old new c.args.x c.requires refl c.in_ok-push-in-None.ensures.items absent (c.in_ok-name_node-in-None.ensures.here ∙ ap Some (sym place)) c.in_ok-name_node-in-None.ensures.others)
+    (variable_entered old new c.variable_node.result c.args.x c.requires refl c.in_ok-push-in-None.ensures.items (c.variable_node.ensures.placed (length c.args.arena.now.arguments.items)) (c.variable_node.ensures.shape c.args.arena.now.arguments.items) absent (c.in_ok-name_node-in-None.ensures.here ∙ ap Some (sym place)) c.in_ok-name_node-in-None.ensures.others)
 
 pub returns-in-Some : goal.returns-in-Some
 returns-in-Some c =

@@ -1,5 +1,5 @@
 -- An argument more, whose class has a smaller term.
-use Rattle.std.proofs.Common.{◌∙◌, List, ap, map, arith}
+use Rattle.std.proofs.Common.{◌≡◌, ◌∙◌, List, IfOk, ap, map, subst, arith}
 use Rattle.std.proofs.lemmas.List.{take_all}
 use Rattle.fol_core.specs.TermView.{tree_of}
 use Rattle.fol_core.specs.Tree.{Tree, app, trees_of, var}
@@ -43,7 +43,7 @@ loop-argument-preserved t c =
 
 pub returns-in-Variable : goal.returns-in-Variable
 returns-in-Variable t c =
-    class_seen (classes_in c.args.found.now) c.args.found.now.order.items c.args.root c.index.result.now (variable c.in-Variable.x) c.requires.found.classes c.requires.found.ordered c.requires.root c.index.ensures c.in-Variable.ensures
+    subst (λ (u : Tree). IfOk c.variable_plain.result (λ term. tree_of term ≡ u)) (class_seen (classes_in c.args.found.now) c.args.found.now.order.items c.args.root c.index.result.now (variable c.in-Variable.x) c.requires.found.classes c.requires.found.ordered c.requires.root c.index.ensures c.in-Variable.ensures) c.variable_plain.ensures
 
 pub returns-in-Element : goal.returns-in-Element
 returns-in-Element t c =

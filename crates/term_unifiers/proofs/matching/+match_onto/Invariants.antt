@@ -1,6 +1,6 @@
 -- The arguments from here on decide.
 use Rattle.std.proofs.Common.{◌≡◌}
-use Rattle.unifiers.proofs.MatchSteps.{match_from}
+use Rattle.term_matches.proofs.MatchSteps.{match_from}
 use Rattle.term_unifiers.proofs.matching.+match_onto.Given as goal
 
 abbrev pub invariant-loop-i : goal.invariant-loop-i

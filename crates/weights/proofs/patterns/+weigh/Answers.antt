@@ -3,7 +3,7 @@ use Rattle.std.proofs.Common.{◌≡◌, ◌+◌, ◌∙◌, ap, arith, drop}
 use Rattle.fol_core.specs.Sizes.{size_of, sizes_of}
 use Rattle.fol_core.specs.TermView.{tree_of, tree_list}
 use Rattle.fol_core.specs.Tree.{nodes_of, trees_of}
-use Rattle.unifiers.proofs.Standing.{argument_nodes}
+use Rattle.term_matches.proofs.Standing.{argument_nodes}
 use Rattle.weights.proofs.Listed.{sizes_step}
 use Rattle.weights.proofs.patterns.+weigh.Goals as goal
 

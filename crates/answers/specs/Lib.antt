@@ -1,0 +1,4 @@
+pub mod AnswerTrees
+pub mod AnswerView
+pub mod Packed
+pub mod Worked

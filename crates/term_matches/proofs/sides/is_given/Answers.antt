@@ -1,0 +1,12 @@
+use Rattle.std.proofs.Common.{◌∙◌, ap, sym}
+use Rattle.std.specs.Option.{option_map}
+use Rattle.fol_core.specs.TermView.{tree_of}
+use Rattle.fol_core.specs.Tree.{trees_of}
+use Rattle.term_matches.specs.Sides.{paired_all}
+use Rattle.term_matches.proofs.Fitting.{given_is}
+use Rattle.term_matches.proofs.sides.is_given.Goals as goal
+
+pub returns-in-Some : goal.returns-in-Some
+returns-in-Some c =
+    given_is (paired_all (trees_of c.args.generals.now) (trees_of c.args.specials.now)) c.args.x (tree_of c.args.term.now) (tree_of c.in-Some.given.now) c.same.result
+    (sym c.standing_among.ensures ∙ ap (option_map (λ t. tree_of t.now)) c.in-Some.is) c.same.ensures

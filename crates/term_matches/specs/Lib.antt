@@ -1,0 +1,5 @@
+pub mod Matched
+pub mod Occurrences
+pub mod Room
+pub mod Sides
+pub mod Trying
