@@ -3,7 +3,7 @@ ghost use Rattle.accepted_output.specs.Accepted.{OutputsAreAccepted, ProofsSoFar
 
 use derivation_laws::lines_stay_in;
 use ladr_models::formulas_state_themselves;
-use ladr_problem::{one_outcome, problems_are_proper};
+use ladr_problem::{one_outcome, problems_are_proper, problems_grow};
 use ladr_prover9::quests_are_sound;
 use printed_proofs::{files_can_be_printed, printed_refutations_are_accepted};
 use prover_proofs::proofs_refute;
@@ -17,6 +17,7 @@ pub fn outputs_are_accepted()
     ensures so_far { ProofsSoFarAreAccepted }
 {
     one_outcome();
+    problems_grow();
     problems_are_proper();
     formulas_state_themselves();
     quests_are_sound();

@@ -10,7 +10,7 @@ ghost use Rattle.fol_problem.specs.Stated.{Stated, IsWellFormed, IsCountermodel,
 ghost use Rattle.ladr_cells.specs.Fitting.{FitsTable};
 ghost use Rattle.ladr_cells.specs.Worlds.{CellsForAll, world_for};
 ghost use Rattle.ladr_formulas.specs.declared.styles.Mode.{Mode};
-ghost use Rattle.ladr_problem.specs.File.{Says, problem};
+ghost use Rattle.ladr_problem.specs.Growth.{Grown};
 ghost use Rattle.ladr_problem.specs.Sofar.{Sofar, stated_in};
 ghost use Rattle.mace_cells.specs.Solutions.{IsCarried};
 ghost use Rattle.mace_cells.specs.World.{Solves, AreAlike};
@@ -23,10 +23,9 @@ ghost use Rattle.model_tables.specs.Tables.{Finite, meaning_of};
 
 use clausify::{clauses_follow, clauses_suffice, skolems_stand_behind};
 
-/// What a file says to a program uses symbols as its table has them.
+/// What has grown uses symbols as its table has them.
 pub fn problems_fit()
-    ensures { (m : Mode) (bytes : List ℕ) (s : Sofar) → Says m bytes (problem s)
-        → FitsTable (stated_in s) }
+    ensures { (m : Mode) (s : Sofar) → Grown m s → FitsTable (stated_in s) }
 {}
 
 /// Then each term of its clauses has cells.

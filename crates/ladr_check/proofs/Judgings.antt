@@ -6,6 +6,7 @@ use Rattle.derivation.specs.Lines.{InputRow, LineTree, IsRefutation}
 use Rattle.derivation.specs.Refused.{IsFault}
 use Rattle.derivation.specs.View.{lines_of}
 use Rattle.derivation.specs.declared.line.Derivation.{Derivation}
+use Rattle.derivation.specs.declared.row.Row.{Row}
 use Rattle.fol_problem.specs.Stated.{Said}
 use Rattle.ladr_check.specs.Offered.{Offered, proofs_in}
 use Rattle.ladr_check.specs.Outcomes.{AreRefutations, IsNotAccepted, ProofsEnd, end_of_all, input_rows, HasNewSkolems, ComesOut}
@@ -38,7 +39,7 @@ module _ (ss : List Said) (rows : List InputRow) where
   all_looked_at (p ∷ ps) h = (h, omega arith, refl, refl)
 
   -- a proof that isn't accepted stands behind the first i
-  pub stops_at : (ps : List (List LineTree)) (i : ℕ) (p : List LineTree) (line row : ℕ) → i < length ps → p ≡ get_or ps i p → AreRefutations ss rows (take i ps) → IsFault ss rows p line row
+  pub stops_at : (ps : List (List LineTree)) (i : ℕ) (p : List LineTree) (line : ℕ) (row : Row) → i < length ps → p ≡ get_or ps i p → AreRefutations ss rows (take i ps) → IsFault ss rows p line row
       → IsNotAccepted ss rows ps i line row
   stops_at [] i p line row l is h fault = absurd (omega (arith, l))
   stops_at (q ∷ ps) zero p line row l is h fault = record { before = []; bad = p; behind = ps; split = ap (λ (r : List LineTree). r ∷ ps) (sym is); count = refl; are = tt; fault = fault }
@@ -62,7 +63,7 @@ module _ (ss : List Said) (rows : List InputRow) where
           (rest.0, ap (λ (rs : List (List LineTree)). q ∷ rs) rest.1, ap suc rest.2)
 
 -- told by other names
-pub same_fault : (ss : List Said) (rows : List InputRow) (ps : List (List LineTree)) (i line row other other_row : ℕ) → other ≡ line → other_row ≡ row → IsNotAccepted ss rows ps i line row → IsNotAccepted ss rows ps i other other_row
+pub same_fault : (ss : List Said) (rows : List InputRow) (ps : List (List LineTree)) (i line : ℕ) (row : Row) (other : ℕ) (other_row : Row) → other ≡ line → other_row ≡ row → IsNotAccepted ss rows ps i line row → IsNotAccepted ss rows ps i other other_row
 same_fault ss rows ps i line row other other_row e f h = subst (λ n. IsNotAccepted ss rows ps i n other_row) (sym e) (subst (IsNotAccepted ss rows ps i line) (sym f) h)
 
 -- as many as the code has

@@ -3,6 +3,7 @@ use Rattle.std.proofs.Common.{◌≡◌, ◌<◌, ℕ, suc, List, [], ◌∷◌,
 use Rattle.derivation.specs.Laws.{FaultIsNone, FaultIsOne}
 use Rattle.derivation.specs.Lines.{InputRow, LineTree, IsRefutation}
 use Rattle.derivation.specs.Refused.{IsFault}
+use Rattle.derivation.specs.declared.row.Row.{Row}
 use Rattle.fol_problem.specs.Stated.{Said}
 use Rattle.ladr_check.specs.Outcomes.{AreRefutations, looked_at, IsNotAccepted, input_rows, EndIsOne}
 use Rattle.ladr_check.specs.declared.ends.CheckEnd.TheVariants.{Accepted, NotAccepted, ClauseLimit}
@@ -32,13 +33,13 @@ module _ (ss : List Said) (rows : List InputRow) where
   looked (p ∷ ps) h = refl
 
   module _ (none : FaultIsNone) (one : FaultIsOne) (ps : List (List LineTree)) where
-    refused_once : (j k line row line' row' : ℕ) → IsNotAccepted ss rows ps j line row → IsNotAccepted ss rows ps k line' row' → (j ≡ k) × (line ≡ line') × (row ≡ row')
+    refused_once : (j k line : ℕ) (row : Row) (line' : ℕ) (row' : Row) → IsNotAccepted ss rows ps j line row → IsNotAccepted ss rows ps k line' row' → (j ≡ k) × (line ≡ line') × (row ≡ row')
     refused_once j k line row line' row' h i =
         let same = one_bad h.before i.before h.behind i.behind h.bad i.bad h.are i.are (none ss rows h.bad line row h.fault) (none ss rows i.bad line' row' i.fault) (sym h.split ∙ i.split) in
         let faults = one ss rows h.bad line row line' row' h.fault (subst (λ (p : List LineTree). IsFault ss rows p line' row') (sym same.1) i.fault) in
         (h.count ∙ same.0 ∙ sym i.count, faults.0, faults.1)
 
-    not_both : (n k line row : ℕ) → AreRefutations ss rows ps → 0 < n → n ≡ length ps → IsNotAccepted ss rows ps k line row → ⊥
+    not_both : (n k line : ℕ) (row : Row) → AreRefutations ss rows ps → 0 < n → n ≡ length ps → IsNotAccepted ss rows ps k line row → ⊥
     not_both n k line row all some count h =
         let split : ps ≡ h.before ++ (h.bad ∷ h.behind) = sym (looked ps (omega (arith, some, count))) ∙ h.split in
         none ss rows h.bad line row h.fault (among h.before h.behind h.bad (subst (AreRefutations ss rows) split all))

@@ -5,6 +5,8 @@ use Rattle.std.specs.Fmt.{decimal}
 use Rattle.std.proofs.lemmas.Bool.{and_parts}
 use Rattle.std.proofs.lemmas.Bool.Decides.{nat_tests}
 use Rattle.std.proofs.lemmas.Fmt.{decimal_injective}
+use Rattle.derivation.specs.RowNumbers.{row_number}
+use Rattle.derivation.specs.declared.row.Row.{Row}
 use Rattle.ladr_check.specs.CheckReport.{accepted_line, accepted_lines, all_accepted_line, end_line, check_report}
 use Rattle.ladr_check.specs.declared.ends.CheckEnd.{CheckEnd}
 use Rattle.ladr_check.specs.declared.ends.CheckEnd.TheVariants.{Accepted, NotAccepted, ClauseLimit}
@@ -105,11 +107,11 @@ no_accepted k m opens e = let at : 37 ≡ slice_index m 0 = ap (λ (l : List ℕ
 pub no_exit_line : (n : ℕ) (m : List ℕ) → slice_index m 0 ≡ 108 → exit_text n ≡ m → ⊥
 no_exit_line n m opens e = let at : 37 ≡ slice_index m 0 = ap (λ (l : List ℕ). slice_index l 0) e in absurd (omega (arith, at, opens))
 
-abbrev refusal_of : ℕ → ℕ → List ℕ
-refusal_of number row = codes "ladr: not accepted, line " ++ decimal number ++ codes ", cause " ++ decimal row
+abbrev refusal_of : ℕ → Row → List ℕ
+refusal_of number row = codes "ladr: not accepted, line " ++ decimal number ++ codes ", cause " ++ decimal (row_number row)
 
-refusal_within : (number row : ℕ) → is_unbroken (refusal_of number row) ≡ true
-refusal_within number row = unbroken_append (codes "ladr: not accepted, line " ++ decimal number ++ codes ", cause ") (decimal row) (between (codes "ladr: not accepted, line ") (codes ", cause ") number refl refl) (decimal_unbroken row)
+refusal_within : (number : ℕ) (row : Row) → is_unbroken (refusal_of number row) ≡ true
+refusal_within number row = unbroken_append (codes "ladr: not accepted, line " ++ decimal number ++ codes ", cause ") (decimal (row_number row)) (between (codes "ladr: not accepted, line ") (codes ", cause ") number refl refl) (decimal_unbroken (row_number row))
 
 abbrev limit_of : ℕ → List ℕ
 limit_of formula = codes "ladr: clause limit at formula " ++ decimal formula

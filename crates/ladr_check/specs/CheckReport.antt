@@ -1,6 +1,8 @@
 -- What is printed of a check.
 use Rattle.std.specs.Prelude.{ℕ, zero, suc, List, [], ◌++◌, codes}
 use Rattle.std.specs.Fmt.{decimal}
+use Rattle.derivation.specs.RowNumbers.{row_number}
+use Rattle.derivation.specs.declared.row.Row.{Row}
 use Rattle.ladr_check.specs.declared.ends.CheckEnd.{CheckEnd}
 use Rattle.ladr_check.specs.declared.ends.CheckEnd.TheVariants.{Accepted, NotAccepted, ClauseLimit}
 use Rattle.ladr_intake.specs.Refusals.{clause_limit_line}
@@ -18,9 +20,10 @@ accepted_lines (suc n) = accepted_lines n ++ accepted_line (suc n)
 abbrev pub all_accepted_line : ℕ → List ℕ
 all_accepted_line n = as_line (codes "% Exit accepted " ++ decimal n ++ codes ".")
 
-abbrev pub not_accepted_line : ℕ → ℕ → List ℕ
+abbrev pub not_accepted_line : ℕ → Row → List ℕ
 not_accepted_line number row =
-    as_line (codes "ladr: not accepted, line " ++ decimal number ++ codes ", cause " ++ decimal row)
+    as_line (codes "ladr: not accepted, line " ++ decimal number ++ codes ", cause "
+    ++ decimal (row_number row))
 
 -- the last line, by the end that the check comes to
 abbrev pub end_line : CheckEnd → List ℕ

@@ -3,6 +3,8 @@ use Rattle.std.specs.Prelude.{◌≡◌, ℕ, zero, suc, ◌<◌, List, [], ◌�
 use Rattle.clausify.specs.Input.{clauses_in_table, axioms_in_table, first_over}
 use Rattle.derivation.specs.Lines.{InputRow, LineTree, IsRefutation}
 use Rattle.derivation.specs.Refused.{IsFault}
+use Rattle.derivation.specs.declared.row.Row.{Row}
+use Rattle.derivation.specs.declared.row.Row.TheVariants.{NoLines}
 use Rattle.fol_core.specs.SkolemAxioms.{SkolemAxiom, AreInOrder}
 use Rattle.fol_problem.specs.Stated.{Said, AreNewTo}
 use Rattle.ladr_check.specs.Offered.{Offered}
@@ -21,7 +23,7 @@ looked_at (p ∷ ps) = p ∷ ps
 
 -- Behind so many refutations stands a proof that is none: this is its first bad line with its row.
 pub record IsNotAccepted (ss : List Said) (rows : List InputRow) (ps : List (List LineTree))
-    (accepted line row : ℕ) : Type 0 where
+    (accepted line : ℕ) (row : Row) : Type 0 where
   pub before : List (List LineTree)
   pub bad : List LineTree
   pub behind : List (List LineTree)
@@ -38,9 +40,9 @@ ProofsEnd ss rows ps (Accepted proofs) accepted =
 ProofsEnd ss rows ps (NotAccepted line row) accepted = IsNotAccepted ss rows ps accepted line row
 ProofsEnd ss rows ps (ClauseLimit formula) accepted = ⊥
 
--- the end where each of so many proofs is a refutation: without one, row 1 of line 0
+-- the end where each of so many proofs is a refutation: without one, that there are no lines
 abbrev pub end_of_all : ℕ → CheckEnd
-end_of_all zero = NotAccepted 0 1
+end_of_all zero = NotAccepted 0 NoLines
 end_of_all (suc n) = Accepted (suc n)
 
 -- the clauses of the formulas that are offered

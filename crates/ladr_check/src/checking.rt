@@ -16,7 +16,7 @@ use clausify::own_table;
 use ladr_intake::{Stop, refuse, stop_by};
 use ladr_io::{Sink, Source};
 use ladr_output::{Cut, ending};
-use ladr_problem::{ReadError, problems_are_proper};
+use ladr_problem::{ReadError, problems_are_proper, problems_grow};
 use proof_text::{ProofRead, read_proof};
 use std::alloc::Global;
 
@@ -45,6 +45,7 @@ pub fn check_bytes(alloc: Global, bytes: &[u8]) -> Result<CheckEnd, ReadError>
     ensures end { IfOk result (IsJudged bytes.now) }
     ensures refused { IfErr result (IsProofError bytes.now) }
 {
+    problems_grow();
     problems_are_proper();
     own_table();
     match read_proof(alloc, bytes) {

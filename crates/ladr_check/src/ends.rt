@@ -2,13 +2,15 @@
 ghost use Rattle.std.specs.Prelude.{◌≡◌};
 ghost use Rattle.ladr_check.specs.Outcomes.{check_status};
 
+use derivation::Row;
+
 /// How a check ended that was not cut off.
 #[derive(Clone, Copy)]
 pub enum CheckEnd {
     /// There are so many proofs, at least one, and each is a refutation.
     Accepted { proofs: u64 },
-    /// A proof is none: its first bad line and the row of it, or row 1 of line 0 where it has no lines or there is no proof.
-    NotAccepted { line: u64, row: u64 },
+    /// A proof is none: its first bad line and the row of it; of line 0 where it has no lines or there is no proof.
+    NotAccepted { line: u64, row: Row },
     /// A formula has too many clauses; formulas are counted from 1.
     ClauseLimit { formula: u64 },
 }

@@ -8,7 +8,7 @@ ghost use Rattle.ladr_check.specs.Outcomes.{ProofsEnd, end_of_all, ComesOut};
 
 use crate::ends::{CheckEnd, CheckOver};
 use clausify::{ClauseError, clauses_of};
-use derivation::Derivation;
+use derivation::{Derivation, Row};
 use fol_core::Clauses;
 use fol_problem::Problem;
 use proof_check::{CheckError, check};
@@ -20,7 +20,10 @@ fn end_of_all(proofs: u64) -> CheckEnd
     ensures { result ≡ end_of_all proofs }
 {
     if proofs == 0 {
-        CheckEnd::NotAccepted { line: 0, row: 1 }
+        CheckEnd::NotAccepted {
+            line: 0,
+            row: Row::NoLines,
+        }
     } else {
         CheckEnd::Accepted { proofs }
     }

@@ -4,12 +4,13 @@ ghost use Rattle.ladr_check.specs.CheckReport.{check_report};
 ghost use Rattle.ladr_check.specs.Outcomes.{EndIsOne};
 ghost use Rattle.ladr_check.specs.Shown.{OneRefutationSuffices, OffersAreAlone, RefusalsAreAlone, ChecksShow};
 ghost use Rattle.derivation_laws.specs.Countermodels.{RefutedHaveNone};
+ghost use Rattle.derivation.specs.declared.row.Row.TheVariants.{Misplaced};
 ghost use Rattle.ladr_check.specs.declared.ends.CheckEnd.TheVariants.{Accepted, NotAccepted, ClauseLimit};
 
 use derivation::{fault_is_one, lines_without_elements};
 use derivation_laws::{no_countermodel, refuted_have_none};
 use ladr_formulas::prover_names_no_element;
-use ladr_problem::{one_outcome, problems_are_proper};
+use ladr_problem::{one_outcome, problems_are_proper, problems_grow};
 use proof_lines::{bad_tokens_are_bad, one_fault, one_line};
 
 /// What is offered comes out in one way.
@@ -26,6 +27,7 @@ pub fn one_refutation_suffices()
 {
     lines_without_elements();
     no_countermodel();
+    problems_grow();
     problems_are_proper();
     prover_names_no_element();
 }
@@ -69,7 +71,7 @@ pub fn checks_show()
 pub fn worked()
     ensures accepted { check_report 2 (Accepted 2)
         ≡ codes "% Proof 1 accepted.\n% Proof 2 accepted.\n% Exit accepted 2.\n" }
-    ensures not_accepted { check_report 1 (NotAccepted 7 6)
+    ensures not_accepted { check_report 1 (NotAccepted 7 Misplaced)
         ≡ codes "% Proof 1 accepted.\nladr: not accepted, line 7, cause 6\n" }
     ensures limit { check_report 0 (ClauseLimit 3)
         ≡ codes "ladr: clause limit at formula 3\n" }

@@ -3,6 +3,7 @@ ghost use Rattle.std.specs.Prelude.{◌≡◌, ◌++◌, IfOk, OnOk};
 ghost use Rattle.ladr_check.specs.CheckReport.{accepted_line, accepted_lines, all_accepted_line, not_accepted_line, end_line, check_report};
 
 use crate::ends::{CheckEnd, CheckOver};
+use derivation::Row;
 use ladr_intake::clause_limit;
 use ladr_output::{decimal, text};
 use std::alloc::{AllocError, Global};
@@ -39,14 +40,14 @@ fn all_accepted(alloc: Global, proofs: u64) -> Result<Vec<u8>, AllocError>
 }
 
 // For a proof that isn't accepted.
-fn not_accepted(alloc: Global, line: u64, row: u64) -> Result<Vec<u8>, AllocError>
+fn not_accepted(alloc: Global, line: u64, row: Row) -> Result<Vec<u8>, AllocError>
     ensures { IfOk result (λ v. v.items ≡ not_accepted_line line row) }
 {
     let mut out = Vec::new(alloc);
     text(&mut out, b"ladr: not accepted, line ")?;
     decimal(&mut out, line)?;
     text(&mut out, b", cause ")?;
-    decimal(&mut out, row)?;
+    decimal(&mut out, row.number())?;
     text(&mut out, b"\n")?;
     Ok(out)
 }

@@ -10,7 +10,7 @@ ghost use Rattle.ladr_intake.specs.Refusals.{IsNoInput};
 use clausify::own_table;
 use ladr_intake::{NoInput, no_input, take_bytes};
 use ladr_io::Source;
-use ladr_problem::problems_are_proper;
+use ladr_problem::{problems_are_proper, problems_grow};
 use proof_text::{ProofRead, read_proof};
 use std::alloc::Global;
 
@@ -26,6 +26,7 @@ pub fn take_proofs<S: Source>(alloc: Global, source: &mut S) -> Result<ProofRead
     ensures none { IfErr result (λ why. (bytes : List ℕ)
         × IsNoInput refuses_proofs (S.inflow source.old) (S.inflow source.new) bytes why) }
 {
+    problems_grow();
     problems_are_proper();
     own_table();
     match take_bytes(alloc, source) {

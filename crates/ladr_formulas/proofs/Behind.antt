@@ -12,6 +12,7 @@ use Rattle.fol_core.specs.declared.symbols.Kind.{Kind}
 use Rattle.fol_core.specs.declared.symbols.Kind.TheVariants.{Function, Relation}
 use Rattle.fol_core.proofs.Places.{first_place-append, slice_get_last}
 use Rattle.fol_core.proofs.SymbolLemmas.{symbol_there, number_of_push}
+use Rattle.ladr_lex.specs.declared.limits.TheConstants.{MOST_ARGUMENTS}
 use Rattle.ladr_lex.specs.Numeral.{limited_number_of}
 use Rattle.ladr_lex.specs.declared.misuse.Misuse.{Misuse}
 use Rattle.ladr_lex.specs.declared.misuse.Misuse.TheVariants.{TwoKinds, QuantifierInTerm, UnfitAttribute, UnfitNumeral}
@@ -111,8 +112,8 @@ module _ (T : List Symbol) where
   symbol_into name arity kind s k =
       let x : Symbol = symbol name arity kind in
       let is = stands s.symbols T x k in
-      (λ i. record (meets (bytes_eq name (codes "#")) UnfitAttribute (meets (is.clash i) TwoKinds (into s))) { symbols = is.table i; large = s.large || nat_lt 255 arity })
-      ∙ met_into (is_clash s.symbols x) (bytes_eq name (codes "#")) (entered s.symbols x) (s.large || nat_lt 255 arity) s
+      (λ i. record (meets (bytes_eq name (codes "#")) UnfitAttribute (meets (is.clash i) TwoKinds (into s))) { symbols = is.table i; large = s.large || nat_lt MOST_ARGUMENTS arity })
+      ∙ met_into (is_clash s.symbols x) (bytes_eq name (codes "#")) (entered s.symbols x) (s.large || nat_lt MOST_ARGUMENTS arity) s
 
   number_into : (name : List ℕ) (arity : ℕ) (kind : Kind) (s : Reading) → Keeps (with_symbol name arity kind s) → symbol_number name arity (into (with_symbol name arity kind s)) ≡ symbol_number name arity (with_symbol name arity kind s)
   number_into name arity kind s k = ap (λ (o : Option ℕ). unwrap_or o 0) (stands s.symbols T (symbol name arity kind) k).number

@@ -1,10 +1,11 @@
 // Readings of terms, worked out.
-ghost use Rattle.std.specs.Prelude.{◌≡◌, [], ◌∷◌, codes, None, Some, true, false, replicate};
+ghost use Rattle.std.specs.Prelude.{◌≡◌, suc, [], ◌∷◌, codes, None, Some, true, false, replicate};
 ghost use Rattle.fol_core.specs.RawTree.{named, raws_of};
 ghost use Rattle.fol_core.specs.Fol.{verum, falsum, equal, atom, negation, conjunction, disjunction, implication, equivalence, forall};
 ghost use Rattle.fol_core.specs.SymbolTable.{symbol};
 ghost use Rattle.fol_core.specs.Tree.{var, elem, app, none, more};
 ghost use Rattle.fol_core.specs.declared.symbols.Kind.TheVariants.{Function, Relation};
+ghost use Rattle.ladr_lex.specs.declared.limits.TheConstants.{MOST_ARGUMENTS, MOST_SYMBOLS};
 ghost use Rattle.ladr_lex.specs.declared.misuse.Misuse.TheVariants.{TwoKinds, VariableAsFormula, QuantifierInTerm, UnfitAttribute, UnfitNumeral};
 ghost use Rattle.ladr_formulas.specs.Broken.{least_of};
 ghost use Rattle.ladr_formulas.specs.Counting.{is_wide, IsCounted};
@@ -116,11 +117,14 @@ pub fn worked_counts()
     ensures arities { IsCounted [] (occurring for_tester [] three_arities)
         (symbol (codes "p") 3 Relation ∷ symbol (codes "f") 0 Function ∷
         symbol (codes "f") 1 Function ∷ symbol (codes "f") 2 Function ∷ []) true }
-    // A list of 65,536 symbols is too long; what is entered then is not said.
-    ensures over { IsCounted (replicate 65536 (symbol (codes "f") 1 Function)) [] [] false }
-    // p with 255 arguments, and with 256
-    ensures most { is_wide (named (codes "p") (raws_of (replicate 255 (leaf (codes "a"))))) ≡ false }
-    ensures wide { is_wide (named (codes "p") (raws_of (replicate 256 (leaf (codes "a"))))) ≡ true }
+    // A list of one symbol more than a problem may have is too long; what is entered then is not said.
+    ensures over { IsCounted (replicate (suc MOST_SYMBOLS) (symbol (codes "f") 1 Function)) [] []
+        false }
+    // p with as many arguments as there may be, and with one more
+    ensures most { is_wide (named (codes "p")
+        (raws_of (replicate MOST_ARGUMENTS (leaf (codes "a"))))) ≡ false }
+    ensures wide { is_wide (named (codes "p")
+        (raws_of (replicate (suc MOST_ARGUMENTS) (leaf (codes "a"))))) ≡ true }
 {}
 
 /// The variables of terms, by number.

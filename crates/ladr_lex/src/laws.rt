@@ -1,5 +1,5 @@
 // Laws of the definitions, and examples worked out.
-ghost use Rattle.std.specs.Prelude.{◌≡◌, ◌+◌, ◌<◌, ◌^◌, drop, ℕ, Bool, true, false, IsTrue, List, Option, Some, None, if◌then◌else◌, codes};
+ghost use Rattle.std.specs.Prelude.{◌≡◌, ◌+◌, ◌<◌, ◌^◌, ◌∷◌, [], drop, ℕ, Bool, true, false, IsTrue, List, Option, Some, None, if◌then◌else◌, codes};
 ghost use Rattle.std.specs.Str.{bytes_eq};
 ghost use Rattle.std.specs.Fmt.{decimal};
 ghost use Rattle.ladr_lex.specs.ClauseNames.{clause_variable, is_clause_name, clause_operator};
@@ -7,6 +7,7 @@ ghost use Rattle.ladr_lex.specs.Numeral.{whole_number};
 ghost use Rattle.ladr_lex.specs.Cuts.{Piece, is_quoted, Cuts};
 ghost use Rattle.ladr_lex.specs.Item.{CutsItem};
 ghost use Rattle.ladr_lex.specs.Lexed.{lexed, lexed_from};
+ghost use Rattle.ladr_lex.specs.OperatorView.{row_list};
 ghost use Rattle.ladr_lex.specs.Operators.{OperatorRow, operator_of, are_lawful, is_fixed, standard_rows, unquoted, is_unfit_operator, is_unfit_symbol, declared, with_operator_row};
 ghost use Rattle.ladr_lex.specs.Places.{line_of, column_of};
 ghost use Rattle.ladr_lex.specs.declared.operators.Operator.{Operator};
@@ -93,4 +94,7 @@ pub fn worked_operators()
         × (is_unfit_symbol (codes "\"$T\"") ≡ true) × (is_unfit_symbol (codes "exists") ≡ true) }
     ensures symbols { (is_unfit_symbol (codes "\"a b\"") ≡ true)
         × (is_unfit_symbol (codes "\"--\"") ≡ true) × (is_unfit_symbol (codes "\"'\"") ≡ false) }
+    // A name has what stands at its place, and one behind the last operator has no row.
+    ensures rows { row_list (codes "@" ∷ codes "#" ∷ []) (None ∷ [])
+        ≡ record { name = codes "@"; operator = None } ∷ [] }
 {}

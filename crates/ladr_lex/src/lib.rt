@@ -6,7 +6,7 @@
 // `operators.rt` has the table of operators, with those at the start and what a file declares, by a map that takes no
 // memory to look into. A name that begins with a small letter other than `v`, as most do, isn't looked up unless a file
 // declared an operator, or none, for such a name. `clause_names.rt` has the names that clauses use, and the operators
-// of their texts.
+// of their texts. `language.rt` has the languages that a text may be in.
 // `places.rt` tells the line and the column of a byte. `limits.rt` has the limits of the language by name, which code
 // and definitions take from there, and `misuse.rt` a variant for each row of misuse, with its number.
 // `specs/Cuts` and `specs/Tokens` say which tokens cut a text, and `laws.rt` that there is one cutting only, with
@@ -16,6 +16,7 @@
 mod bytes;
 mod clause_names;
 mod item;
+mod language;
 mod laws;
 mod limits;
 mod misuse;
@@ -27,6 +28,7 @@ mod token;
 
 pub use bytes::{is_ordinary, is_special};
 pub use item::item_from;
+pub use language::Language;
 pub use laws::{
     one_cutting, one_numeral, one_operator, worked, worked_clauses, worked_items, worked_operators,
 };

@@ -23,6 +23,7 @@ use ladr_formulas::Mode;
 use ladr_intake::{Stop, refuse, stop_by, take_in};
 use ladr_io::{Clock, Sink, Source};
 use ladr_output::Cut;
+use ladr_problem::problems_grow;
 use ladr_words::{ModelOptions, Task};
 use std::alloc::Global;
 
@@ -97,6 +98,7 @@ pub fn mace4<S: Source, K: Sink, C: Clock>(
     ensures { Searches (poses Mace) (refuses Mace) words (S.inflow source.old) (S.inflow source.new)
         (K.outflow sink.old) (K.outflow sink.new) (C.times clock.new) result }
 {
+    problems_grow();
     problems_fit();
     match take_in(alloc, Mode::Mace, source) {
         Ok(read) => match find(alloc, &read.problem, words, sink, clock) {

@@ -2,6 +2,5 @@ pub mod Entries
 pub mod Parsing
 pub mod Reading
 pub mod Restating
-pub mod Settled
 pub mod Tabling
 pub mod Writing

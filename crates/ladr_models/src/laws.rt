@@ -15,7 +15,7 @@ ghost use Rattle.ladr_models.specs.ReadsBack.{IsPrintable, ReadsBack, SayTables}
 ghost use Rattle.ladr_models.specs.Worked.{pair, pair_tables, pair_text, pair_tokens, pair_entries};
 ghost use Rattle.ladr_interpretations.specs.Good.{is_good, tables_for};
 ghost use Rattle.ladr_print.specs.StatesAs.{KeepsFixed};
-ghost use Rattle.ladr_problem.specs.File.{Says, problem};
+ghost use Rattle.ladr_problem.specs.Growth.{Grown};
 ghost use Rattle.ladr_problem.specs.Sofar.{Sofar};
 ghost use Rattle.ladr_problem.specs.Worked.{labelled_and_goal};
 ghost use Rattle.ladr_reader.specs.Worked.{lexemes_in};
@@ -32,12 +32,11 @@ pub fn texts_read_back()
         → SayTables (lexemes_of ts) symbols t }
 {}
 
-/// What a file says of a formula is what its printed text says behind the symbols at the file's end, with its operators and its style
+/// Each formula of what has grown is what its printed text says behind the symbols at the end, with the operators and the style
 /// there. These operators are such as the laws of printed texts ask.
 pub fn formulas_state_themselves()
-    ensures formulas { (m : Mode) (bytes : List ℕ) (s : Sofar) → Says m bytes (problem s)
-        → StateThemselves m s }
-    ensures operators { (m : Mode) (bytes : List ℕ) (s : Sofar) → Says m bytes (problem s)
+    ensures formulas { (m : Mode) (s : Sofar) → Grown m s → StateThemselves m s }
+    ensures operators { (m : Mode) (s : Sofar) → Grown m s
         → IsTrue (are_lawful s.settings.operators) × KeepsFixed s.settings.operators }
     // p(a) # label(b), and q(x) with its variable.
     ensures worked { formula_texts labelled_and_goal

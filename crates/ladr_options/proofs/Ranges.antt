@@ -9,7 +9,7 @@ use Rattle.ladr_options.specs.Ranges.{IsSize, AreInRange}
 use Rattle.ladr_options.specs.declared.names.Flag.{Flag}
 use Rattle.ladr_options.specs.declared.names.Flag.TheVariants.{Auto, UnitDeletion, BackSubsume, BackDemod, Lnh, BinaryResolution, HyperResolution, UrResolution, Factor, Paramodulation, PrologStyleVariables}
 use Rattle.ladr_options.specs.declared.names.Parameter.{Parameter}
-use Rattle.ladr_options.specs.declared.names.Parameter.TheVariants.{MaxWeight, SosLimit, MaxGiven, MaxKept, MaxSeconds, MaxMegs, MaxProofs, MaxModels, DemodStepLimit, AgePart, WeightPart, FalsePart, TruePart, PickGivenRatio, DomainSize, StartSize, EndSize, Increment, SelectionOrder, SelectionMeasure}
+use Rattle.ladr_options.specs.declared.names.Parameter.TheVariants.{MaxWeight, SosLimit, MaxGiven, MaxKept, MaxSeconds, MaxMegs, MaxProofs, MaxModels, DemodStepLimit, AgePart, WeightPart, FalsePart, TruePart, PickGivenRatio, DomainSize, StartSize, EndSize, Increment, SelectionOrder, SelectionMeasure, ProofFormat, EvalLimit}
 use Rattle.ladr_options.specs.declared.options.OptionError.{OptionError}
 use Rattle.ladr_options.specs.declared.options.OptionError.TheVariants.{Unknown, NotAValue}
 use Rattle.ladr_options.specs.declared.options.Options.{Options}
@@ -66,6 +66,8 @@ with_value_in_range EndSize v s e h = record { start_size = h.start_size; end_si
 with_value_in_range Increment v s e h = record { start_size = h.start_size; end_size = h.end_size; increment = size_of v e; domain_size = h.domain_size; max_models = h.max_models }
 with_value_in_range SelectionOrder v s e h = h
 with_value_in_range SelectionMeasure v s e h = h
+with_value_in_range ProofFormat v s e h = h
+with_value_in_range EvalLimit v s e h = h
 
 stored_in_range : (allowed : Bool) (p : Parameter) (v : ℕ) (s : Options) → allows p v ≡ allowed → AreInRange s → IfOk (if allowed then Ok (with_value p v s) else Err NotAValue) AreInRange
 stored_in_range true p v s e h = with_value_in_range p v s e h

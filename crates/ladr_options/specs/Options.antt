@@ -13,7 +13,7 @@ use Rattle.ladr_options.specs.declared.options.OptionError.TheVariants.{Unknown,
 use Rattle.ladr_options.specs.declared.names.Flag.{Flag}
 use Rattle.ladr_options.specs.declared.names.Flag.TheVariants.{Auto, UnitDeletion, BackSubsume, BackDemod, Lnh, BinaryResolution, HyperResolution, UrResolution, Factor, Paramodulation, PrologStyleVariables}
 use Rattle.ladr_options.specs.declared.names.Parameter.{Parameter}
-use Rattle.ladr_options.specs.declared.names.Parameter.TheVariants.{MaxWeight, SosLimit, MaxGiven, MaxKept, MaxSeconds, MaxMegs, MaxProofs, MaxModels, DemodStepLimit, AgePart, WeightPart, FalsePart, TruePart, PickGivenRatio, DomainSize, StartSize, EndSize, Increment, SelectionOrder, SelectionMeasure}
+use Rattle.ladr_options.specs.declared.names.Parameter.TheVariants.{MaxWeight, SosLimit, MaxGiven, MaxKept, MaxSeconds, MaxMegs, MaxProofs, MaxModels, DemodStepLimit, AgePart, WeightPart, FalsePart, TruePart, PickGivenRatio, DomainSize, StartSize, EndSize, Increment, SelectionOrder, SelectionMeasure, ProofFormat, EvalLimit}
 
 -- the flags by name
 abbrev pub flag_named : List ℕ → Option Flag
@@ -76,12 +76,20 @@ selection_named name =
     else (if bytes_eq name (codes "selection_measure") then Some SelectionMeasure
     else None)
 
+-- how proofs are printed, and how far terms are worked out
+abbrev pub form_named : List ℕ → Option Parameter
+form_named name =
+    if bytes_eq name (codes "proof_format") then Some ProofFormat
+    else (if bytes_eq name (codes "eval_limit") then Some EvalLimit
+    else None)
+
 -- the parameters by name
 abbrev pub parameter_named : List ℕ → Option Parameter
 parameter_named name =
     option_or
+    (option_or
     (option_or (option_or (option_or (limit_named name) (count_named name)) (part_named name))
-    (size_named name)) (selection_named name)
+    (size_named name)) (selection_named name)) (form_named name)
 
 -- what is read without effect, whatever its value
 abbrev pub is_among : List (List ℕ) → List ℕ → Bool
@@ -153,6 +161,8 @@ start =
       increment = 1;
       selection_order = 2;
       selection_measure = 4;
+      proof_format = 1;
+      eval_limit = 1024;
     }
 
 -- -1 stands as 4,294,967,295, and no other number below 0 is a value
@@ -183,6 +193,8 @@ allows EndSize v = nat_le 1 v && nat_le v 200
 allows Increment v = nat_le 1 v && nat_le v 200
 allows SelectionOrder v = nat_le v 2
 allows SelectionMeasure v = v == 0 || v == 4
+allows ProofFormat v = nat_le 1 v && nat_le v 2
+allows EvalLimit v = nat_le v 1000000
 
 -- the options with a flag set or cleared
 abbrev pub with_flag : Flag → Bool → Options → Options
@@ -221,6 +233,8 @@ with_value EndSize n s = record s { end_size = n }
 with_value Increment n s = record s { increment = n }
 with_value SelectionOrder n s = record s { selection_order = n }
 with_value SelectionMeasure n s = record s { selection_measure = n }
+with_value ProofFormat n s = record s { proof_format = n }
+with_value EvalLimit n s = record s { eval_limit = n }
 
 -- what a flag that is set or cleared makes of the options
 abbrev pub flagged : List ℕ → Bool → Options → Result Options OptionError

@@ -1,6 +1,6 @@
 // The names of flags and of parameters.
 ghost use Rattle.std.specs.Prelude.{◌≡◌};
-ghost use Rattle.ladr_options.specs.Options.{flag_named, parameter_named, limit_named, count_named, part_named, size_named, selection_named, is_among, is_idle_flag, printing_flags, plain_flags, automatic_flags, rule_flags, idle_parameters};
+ghost use Rattle.ladr_options.specs.Options.{flag_named, parameter_named, limit_named, count_named, part_named, size_named, selection_named, form_named, is_among, is_idle_flag, printing_flags, plain_flags, automatic_flags, rule_flags, idle_parameters};
 
 /// A flag that has an effect.
 #[derive(Clone, Copy)]
@@ -41,6 +41,8 @@ pub enum Parameter {
     Increment,
     SelectionOrder,
     SelectionMeasure,
+    ProofFormat,
+    EvalLimit,
 }
 
 /// The flag of a name.
@@ -83,6 +85,7 @@ pub fn parameter_named(name: &[u8]) -> Option<Parameter>
         .or(part_named(name))
         .or(size_named(name))
         .or(selection_named(name))
+        .or(form_named(name))
 }
 
 // Limits of the prover.
@@ -165,6 +168,19 @@ fn selection_named(name: &[u8]) -> Option<Parameter>
         Some(Parameter::SelectionOrder)
     } else if name == b"selection_measure".as_slice() {
         Some(Parameter::SelectionMeasure)
+    } else {
+        None
+    }
+}
+
+// How proofs are printed, and how far terms are worked out.
+fn form_named(name: &[u8]) -> Option<Parameter>
+    ensures { result ≡ form_named name.now }
+{
+    if name == b"proof_format".as_slice() {
+        Some(Parameter::ProofFormat)
+    } else if name == b"eval_limit".as_slice() {
+        Some(Parameter::EvalLimit)
     } else {
         None
     }

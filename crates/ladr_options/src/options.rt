@@ -58,6 +58,8 @@ pub struct Options {
     pub increment: u32,
     pub selection_order: u32,
     pub selection_measure: u32,
+    pub proof_format: u32,
+    pub eval_limit: u32,
 }
 
 impl Options {
@@ -97,6 +99,8 @@ impl Options {
             increment: 1,
             selection_order: 2,
             selection_measure: 4,
+            proof_format: 1,
+            eval_limit: 1_024,
         }
     }
 
@@ -188,6 +192,8 @@ impl Options {
             Parameter::Increment => self.increment = value,
             Parameter::SelectionOrder => self.selection_order = value,
             Parameter::SelectionMeasure => self.selection_measure = value,
+            Parameter::ProofFormat => self.proof_format = value,
+            Parameter::EvalLimit => self.eval_limit = value,
         }
     }
 
@@ -286,5 +292,7 @@ fn allows(parameter: Parameter, value: u32) -> bool
             && value <= 200,
         Parameter::SelectionOrder => value <= 2,
         Parameter::SelectionMeasure => value == 0 || value == 4,
+        Parameter::ProofFormat => 1 <= value && value <= 2,
+        Parameter::EvalLimit => value <= 1_000_000,
     }
 }

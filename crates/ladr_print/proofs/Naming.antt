@@ -19,6 +19,7 @@ use Rattle.fol_core.specs.declared.symbols.Kind.{Kind}
 use Rattle.fol_core.specs.declared.symbols.Kind.TheVariants.{Function, Relation}
 use Rattle.fol_core.proofs.Places.{slice_get_last}
 use Rattle.fol_core.proofs.SymbolLemmas.{symbol_there, number_of_push}
+use Rattle.ladr_lex.specs.declared.limits.TheConstants.{MOST_ELEMENT}
 use Rattle.ladr_lex.specs.Numeral.{is_numeral, limited_number_of}
 use Rattle.ladr_lex.specs.declared.misuse.Misuse.{Misuse}
 use Rattle.ladr_lex.specs.declared.misuse.Misuse.TheVariants.{VariableAsFormula, QuantifierInTerm, UnfitNumeral}
@@ -38,7 +39,7 @@ last_false true true r h a b = h
 last_false true false r h a b = absurd (false≢true b)
 last_false false q r h a b = absurd (false≢true a)
 
-below_both : (n : ℕ) → nat_lt 999999999 n ≡ false → n < 4294967295
+below_both : (n : ℕ) → nat_lt MOST_ELEMENT n ≡ false → n < 4294967295
 below_both n h = grind (arith, nat_tests)
 
 -- what is printed with: a table of symbols and names of variables in which all that was read is found
@@ -121,7 +122,7 @@ module _ (T : List Symbol) (v : Naming) where
         ap (symbol_name T) limited_number_of ∙ rw other called
 
     bound_element : (st : Style) (name : List ℕ) → st.elements ≡ true → is_numeral name ≡ true → is_too_great st name ≡ false → limited_number_of name < 4294967295
-    bound_element st name a b k = below_both (limited_number_of name) (last_false st.elements (is_numeral name) (nat_lt 999999999 (limited_number_of name)) k a b)
+    bound_element st name a b k = below_both (limited_number_of name) (last_false st.elements (is_numeral name) (nat_lt MOST_ELEMENT (limited_number_of name)) k a b)
 
     pub element_back : (st : Style) (name : List ℕ) → is_element st name ≡ true → is_too_great st name ≡ false → decimal (limited_number_of name) ≡ name
     element_back st name y k =

@@ -1,14 +1,14 @@
 -- What the kinds of operators are, and that an argument in parentheses fits each.
-use Rattle.std.proofs.Common.{◌≡◌, ℕ, ◌≤◌, Bool, true, false, Option, Some, None, refl, sym, arith, rules}
+use Rattle.std.proofs.Common.{◌≡◌, ℕ, ◌≤◌, Bool, true, false, Some, None, refl, arith}
 use Rattle.std.proofs.lemmas.Bool.Decides.{nat_tests}
-use Rattle.ladr_lex.specs.Operators.{is_prefix, if_prefix, if_after}
+use Rattle.ladr_lex.specs.Operators.{is_prefix, if_prefix}
 use Rattle.ladr_lex.specs.declared.operators.Operator.{Operator}
 use Rattle.ladr_lex.specs.declared.operators.OperatorKind.{OperatorKind}
 use Rattle.ladr_lex.specs.declared.operators.OperatorKind.TheVariants.{Infix, InfixLeft, InfixRight, Prefix, PrefixParen, Postfix, PostfixParen}
 use Rattle.ladr_reader.specs.Table.{left, right, takes, ends}
 use Rattle.ladr_reader.specs.declared.sides.Side.TheVariants.{Nothing}
 use Rattle.ladr_reader.proofs.Lawful.{below_room, up_to_room}
-use Rattle.ladr_print.specs.Precedences.{is_infix}
+use Rattle.ladr_reader.specs.HasText.{is_infix}
 
 pub prefix_one : (k : OperatorKind) → is_prefix k ≡ true → is_infix k ≡ false
 prefix_one Infix h = cc
@@ -47,16 +47,6 @@ no_right PrefixParen h p = cc
 no_right Postfix h p = refl
 no_right PostfixParen h p = refl
 
--- between two, as it has one on the right and stands behind the other
-pub infix_two : (k : OperatorKind) (p q : ℕ) (b : Bool) → is_prefix k ≡ false → ends (right k) p q b ≡ true → is_infix k ≡ true
-infix_two Infix p q b h e = refl
-infix_two InfixLeft p q b h e = refl
-infix_two InfixRight p q b h e = refl
-infix_two Prefix p q b h e = cc
-infix_two PrefixParen p q b h e = cc
-infix_two Postfix p q b h e = cc
-infix_two PostfixParen p q b h e = cc
-
 pub left_room : (k : OperatorKind) (p : ℕ) → is_prefix k ≡ false → 1 ≤ p → takes (left k) p 0 ≡ true
 left_room Infix p h l = grind (arith, nat_tests)
 left_room InfixLeft p h l = grind (arith, nat_tests)
@@ -75,22 +65,9 @@ right_room PrefixParen p b h l = cc
 right_room Postfix p b h l = cc
 right_room PostfixParen p b h l = cc
 
--- what stands behind or between is no prefix operator
-pub after_kind : (o : Option Operator) (p : Operator) → if_after o ≡ Some p → is_prefix p.kind ≡ false
-after_kind None p h = cc
-after_kind (Some o) p h = by (is_prefix o.kind) refl h
-  where
-    by : (b : Bool) → is_prefix o.kind ≡ b → if_after (Some o) ≡ Some p → is_prefix p.kind ≡ false
-    by true e h = absurd (let f : None ≡ Some p = rw e at h in cc)
-    by false e h = let f : Some o ≡ Some p = rw e at h in let same : o ≡ p = cc in rw (sym same) e
-
 pub no_prefix : (o : Operator) → if_prefix (Some o) ≡ None → is_prefix o.kind ≡ false
 no_prefix o h = by (is_prefix o.kind) refl
   where
     by : (b : Bool) → is_prefix o.kind ≡ b → is_prefix o.kind ≡ false
     by true e = absurd (let f : Some o ≡ None = rw e at h in cc)
     by false e = e
-
-pub prefix_kind : (o : Option Operator) (p : Operator) → if_prefix o ≡ Some p → is_prefix p.kind ≡ true
-prefix_kind None p h = cc
-prefix_kind (Some o) p h = search rules

@@ -1,33 +1,29 @@
 -- What is printed reads back.
 use Rattle.std.proofs.Common.{◌≡◌, ℕ, suc, Bool, true, false, List, [], ◌∷◌, ◌++◌, length, Option, Some, None, inl, inr, refl, sym, ap, ◌∙◌, subst, append_assoc, arith}
 use Rattle.std.specs.Prelude.{codes}
-use Rattle.std.specs.List.{list_all}
-use Rattle.std.proofs.lemmas.Bool.{cases_Bool, and_parts, and_from}
+use Rattle.std.proofs.lemmas.Bool.{cases_Bool}
 use Rattle.std.proofs.lemmas.Bool.Decides.{nat_tests}
 use Rattle.std.proofs.lemmas.List.{append-nil}
-use Rattle.std.proofs.lemmas.List.Folds.{list_all-append}
 use Rattle.fol_core.specs.RawTree.{RawTree, named, quantified, RawTrees, no_raws, more_raws, raws_of}
 use Rattle.fol_core.specs.declared.raw.Quantifier.{Quantifier}
 use Rattle.fol_core.specs.declared.raw.Quantifier.TheVariants.{All, Exists}
 use Rattle.ladr_lex.specs.Bytes.{is_ordinary}
-use Rattle.ladr_lex.specs.Cuts.{Piece, can_be, Cuts, nothing, gap, token}
-use Rattle.ladr_lex.specs.Lexeme.{Sort, ordinary, Lexeme, open_paren, close_paren, open_square, close_square, comma, full_stop, symbol, unreadable, lexeme}
+use Rattle.ladr_lex.specs.Cuts.{can_be}
+use Rattle.ladr_lex.specs.Lexeme.{Sort, ordinary, Lexeme, open_paren, close_paren, comma, full_stop, symbol}
 use Rattle.ladr_lex.specs.Operators.{OperatorRow, are_lawful, is_prefix, if_prefix, if_after}
 use Rattle.ladr_lex.specs.declared.operators.Operator.{Operator}
-use Rattle.ladr_lex.specs.declared.token.TokenKind.{TokenKind}
-use Rattle.ladr_lex.specs.declared.token.TokenKind.TheVariants.{Open, Close, LeftSquare, RightSquare, Comma, Stop, Ordinary, Quoted, Special, Unreadable}
 use Rattle.ladr_reader.specs.Reads.{Reads, atom, applied, group, bound, prefixed, postfixed, infixed, ReadsAll, single, further}
 use Rattle.ladr_reader.specs.Table.{OperatorTable, table_of, left, right, takes, ends, tree_grows}
-use Rattle.ladr_reader.specs.Worked.{lexemes_in}
 use Rattle.ladr_reader.specs.declared.sides.Side.TheVariants.{Nothing, UpTo}
-use Rattle.ladr_reader.proofs.Lawful.{Lawful, table_lawful, prefix_is, after_is, prefix_room, up_to_room, reads_at_most}
+use Rattle.ladr_reader.proofs.HasText.{has_text, cuts_written}
+use Rattle.ladr_reader.proofs.Lawful.{Lawful, table_lawful, prefix_room, up_to_room, reads_at_most}
 use Rattle.ladr_print.specs.HasText.{kind_of, CanStand, plain, before, behind, between, HasText, HaveTexts}
 use Rattle.ladr_print.specs.Precedences.{is_infix, raws_count, own_precedence, precedence}
 use Rattle.ladr_print.specs.RawText.{Printed, wrapped, left_argument, right_argument, body, word, commas, application_text, with_one, with_two, arranged, text_of, printed, printed_all}
 use Rattle.ladr_print.specs.RawText as text
 use Rattle.ladr_print.specs.ReadsAs.{ReadsAs, ItemAs}
 use Rattle.ladr_print.specs.Spacing.{kept_apart}
-use Rattle.ladr_print.proofs.Operands.{prefix_one, infix_after, postfix_one, no_right, infix_two, left_room, right_room, after_kind, no_prefix, prefix_kind}
+use Rattle.ladr_print.proofs.Operands.{prefix_one, infix_after, postfix_one, no_right, left_room, right_room, no_prefix}
 use Rattle.ladr_print.proofs.Writes.{Writes, follow, spaced_follow, beside_written, symbol_written, open_written, close_written, comma_written, before_alone, behind_alone, behind_last, open_alone, close_alone, comma_alone, stop_alone, stop_written, whole_has}
 
 -- a text that is this term, of this precedence
@@ -229,55 +225,6 @@ good_quantified g h j q x t v w y =
       reads = bound ordinary j q (word q) x (h.spelled q) v a.shows.reads a.fits;
     }
 
--- a symbol's token has a text of its sort
-abbrev pub is_written : Lexeme → Bool
-is_written open_paren = true
-is_written close_paren = true
-is_written open_square = true
-is_written close_square = true
-is_written comma = true
-is_written full_stop = true
-is_written (symbol k s) = can_be (Some (kind_of k)) s
-is_written unreadable = true
-
-written_parts : (ts us : List Lexeme) → list_all is_written (ts ++ us) ≡ true → (list_all is_written ts ≡ true) × (list_all is_written us ≡ true)
-written_parts ts us h = and_parts _ _ (sym (list_all-append is_written ts us) ∙ h)
-
-have_texts_last : (g : OperatorTable) (ks : List RawTree) (t : RawTree) → HaveTexts g (raws_of ks) → HasText g t → HaveTexts g (raws_of (ks ++ t ∷ []))
-have_texts_last g [] t a x = (x, tt)
-have_texts_last g (k ∷ ks) t a x = (a.0, have_texts_last g ks t a.1 x)
-
--- what tokens are is
-mutual
-  pub has_text : (g : OperatorTable) {ts : List Lexeme} {t : RawTree} {p : ℕ} → Reads g ts t p → list_all is_written ts ≡ true → HasText g t
-  has_text g (atom k s none pre) w = (record { sort = k; written = (and_parts _ _ w).0; allowed = plain none pre }, tt)
-  has_text g (applied {ts} {us} k s none pre rs) w =
-      let parts = and_parts (can_be (Some (kind_of k)) s) (list_all is_written (open_paren ∷ (ts ++ close_paren ∷ []))) w in
-      (record { sort = k; written = parts.0; allowed = plain none pre }, have_texts g rs (written_parts ts (close_paren ∷ []) parts.1).0)
-  has_text g (group {ts} r) w = has_text g r (written_parts ts (close_paren ∷ []) w).0
-  has_text g (bound {ts} {t} k j q s x e v r fits) w =
-      let outer = and_parts (can_be (Some (kind_of k)) s) (list_all is_written (symbol j x ∷ ts)) w in
-      let parts = and_parts (can_be (Some (kind_of j)) x) (list_all is_written ts) outer.1 in
-      (record { sort = j; written = parts.0; allowed = v }, has_text g r parts.1)
-  has_text g (prefixed {ts} {t} k s o none e r fits) w =
-      let parts = and_parts (can_be (Some (kind_of k)) s) (list_all is_written ts) w in
-      (record { sort = k; written = parts.0; allowed = before o none (prefix_is (g.op s) o e) (prefix_kind (g.op s) o e) refl }, (has_text g r parts.1, tt))
-  has_text g (postfixed {ts} {t} k s o e n r takes_it) w =
-      let parts = written_parts ts (symbol k s ∷ []) w in
-      (record { sort = k; written = (and_parts _ _ parts.1).0; allowed = behind o (after_is (g.op s) o e) (after_kind (g.op s) o e) n refl }, (has_text g r parts.0, tt))
-  has_text g (infixed {ts} {us} {t} {u} {p} {q} k s o e r takes_it r' fits) w =
-      let parts = written_parts ts (symbol k s ∷ us) w in
-      let inner = and_parts (can_be (Some (kind_of k)) s) (list_all is_written us) parts.1 in (
-        record { sort = k; written = inner.0; allowed = between o (after_is (g.op s) o e) (infix_two o.kind o.precedence q (tree_grows g u) (after_kind (g.op s) o e) fits) refl },
-        (has_text g r parts.0, (has_text g r' inner.1, tt)),
-      )
-
-  pub have_texts : (g : OperatorTable) {ts : List Lexeme} {us : List RawTree} → ReadsAll g ts us → list_all is_written ts ≡ true → HaveTexts g (raws_of us)
-  have_texts g (single r m) w = (has_text g r w, tt)
-  have_texts g (further {ts} {us} {ks} {t} rs r m) w =
-      let parts = written_parts ts (comma ∷ us) w in
-      have_texts_last g ks t (have_texts g rs parts.0) (has_text g r parts.1)
-
 -- and what is so, reads back as printed
 abbrev raws_list : RawTrees → List RawTree
 raws_list no_raws = []
@@ -314,24 +261,6 @@ mutual
   all_good : (g : OperatorTable) → Lawful g → HasWords g → (ts : RawTrees) → HaveTexts g ts → AllGood g (raws_list ts)
   all_good g l h no_raws p = tt
   all_good g l h (more_raws t ts) p = (good g l h t p.0, all_good g l h ts p.1)
-
--- the tokens of a text are written so
-piece_written : (k : TokenKind) (s : List ℕ) → can_be (Some k) s ≡ true → is_written (lexeme k s) ≡ true
-piece_written Open s h = refl
-piece_written Close s h = refl
-piece_written LeftSquare s h = refl
-piece_written RightSquare s h = refl
-piece_written Comma s h = refl
-piece_written Stop s h = refl
-piece_written Ordinary s h = h
-piece_written Quoted s h = h
-piece_written Special s h = h
-piece_written Unreadable s h = refl
-
-pub cuts_written : {i : ℕ} {bytes : List ℕ} {ps : List Piece} → Cuts i bytes ps → list_all is_written (lexemes_in ps) ≡ true
-cuts_written nothing = refl
-cuts_written (gap l c) = cuts_written c
-cuts_written (token {i} {text} {rest} k l c) = and_from _ _ (piece_written k text l.fits) (cuts_written c)
 
 -- so what is printed for a tree that a text reads as, reads back
 table_words : (rows : List OperatorRow) → HasWords (table_of rows)

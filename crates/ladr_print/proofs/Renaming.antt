@@ -15,6 +15,7 @@ use Rattle.fol_core.specs.Tree.{Tree, var, elem, app, Trees, none, more}
 use Rattle.fol_core.specs.declared.raw.Quantifier.TheVariants.{All, Exists}
 use Rattle.fol_core.specs.declared.symbols.Kind.{Kind}
 use Rattle.fol_core.specs.declared.symbols.Kind.TheVariants.{Function, Relation}
+use Rattle.ladr_lex.specs.declared.limits.TheConstants.{MOST_ARGUMENTS}
 use Rattle.ladr_lex.specs.Numeral.{limited_number_of}
 use Rattle.ladr_lex.specs.declared.misuse.Misuse.{Misuse}
 use Rattle.ladr_lex.specs.declared.misuse.Misuse.TheVariants.{TwoKinds, QuantifierInTerm, UnfitAttribute, UnfitNumeral}
@@ -69,7 +70,7 @@ module _ (st : Style) where
   ren_symbol : (name : List ℕ) (arity : ℕ) (kind : Kind) (s : Reading) → with_symbol name arity kind (ren s) ≡ ren (with_symbol name arity kind s)
   ren_symbol name arity kind s =
       let x : Symbol = record { name = name; arity = arity; kind = kind } in
-      ren_met (is_clash s.symbols x) (bytes_eq name (codes "#")) (entered s.symbols x) (s.large || nat_lt 255 arity) s
+      ren_met (is_clash s.symbols x) (bytes_eq name (codes "#")) (entered s.symbols x) (s.large || nat_lt MOST_ARGUMENTS arity) s
 
   -- a variable
   ren_number : (name : List ℕ) (s : Reading) → length (reading_with_name [] name s).variables ≤ 2 ^ 64 →

@@ -8,6 +8,7 @@ use Rattle.std.proofs.lemmas.Bool.Decides.{nat_tests}
 use Rattle.fol_core.specs.Fol.{Fol}
 use Rattle.fol_core.specs.RawTree.{RawTree, named, quantified, no_raws, more_raws}
 use Rattle.fol_core.specs.SymbolTable.{Symbol, KeepsNumbers}
+use Rattle.ladr_lex.specs.declared.limits.TheConstants.{MOST_SYMBOLS}
 use Rattle.ladr_lex.specs.Bytes.{is_ordinary, is_special}
 use Rattle.ladr_lex.specs.Lexeme.{special}
 use Rattle.ladr_lex.specs.Operators.{OperatorRow, operator_of, are_lawful, is_fixed, standard_rows}
@@ -107,11 +108,11 @@ no_row (Some n) h = cc
 
 pub record Sound (s : Reading) : Type 0 where
   pub least : s.least ≡ None
-  pub fewer : length s.symbols ≤ 65535
+  pub fewer : length s.symbols ≤ MOST_SYMBOLS
 
 pub sound_parts : (s : Reading) → is_faultless s ≡ true → Sound s
 sound_parts s h =
-    let first = and_parts (is_none s.least && not s.large) (nat_le (length s.symbols) 65535) h in
+    let first = and_parts (is_none s.least && not s.large) (nat_le (length s.symbols) MOST_SYMBOLS) h in
     let fewer = first.1 in
     record { least = no_row s.least (and_parts (is_none s.least) (not s.large) first.0).0; fewer = grind (arith, nat_tests) }
 

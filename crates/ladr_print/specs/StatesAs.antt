@@ -1,19 +1,14 @@
 -- What a text states.
-use Rattle.std.specs.Prelude.{◌≡◌, ℕ, true, List, Option}
+use Rattle.std.specs.Prelude.{ℕ, List, Option}
 use Rattle.fol_core.specs.Fol.{Fol}
 use Rattle.fol_core.specs.RawTree.{RawTree}
 use Rattle.fol_core.specs.SymbolTable.{Symbol}
-use Rattle.ladr_lex.specs.Operators.{OperatorRow, operator_of, is_fixed, standard_rows}
+pub use Rattle.ladr_reader.specs.Fixed.{KeepsFixed}
 use Rattle.ladr_formulas.specs.Formulas.{formula_reading, IsReadAs}
 use Rattle.ladr_formulas.specs.declared.styles.Style.{Style}
 use Rattle.ladr_reader.specs.Table.{OperatorTable}
 use Rattle.ladr_print.specs.FormulaText.{with_attribute}
 use Rattle.ladr_print.specs.ReadsAs.{ReadsAs}
-
--- the fixed symbols are the operators that they are at the start
-abbrev pub KeepsFixed : List OperatorRow → Type 0
-KeepsFixed rows =
-    (name : List ℕ) → is_fixed name ≡ true → operator_of rows name ≡ operator_of standard_rows name
 
 -- Behind a table of symbols the text reads as this formula, whose variables have these names, with
 -- this attribute behind it if there is one; the table is then this one.

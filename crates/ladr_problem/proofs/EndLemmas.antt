@@ -5,6 +5,7 @@ use Rattle.std.proofs.lemmas.Slice.Eq.{bytes_eq-Decides}
 use Rattle.std.specs.Str.{bytes_eq}
 use Rattle.fol_core.specs.RawTree.{RawTree}
 use Rattle.fol_core.specs.declared.raw.Quantifier.{Quantifier}
+use Rattle.ladr_lex.specs.declared.limits.TheConstants.{MOST_LEVELS}
 use Rattle.ladr_lex.specs.Lexeme.{Lexeme, ordinary, symbol, full_stop, lexemes_of}
 use Rattle.ladr_lex.specs.declared.token.Token.{Token}
 use Rattle.ladr_lex.specs.Operators.{OperatorRow, operator_of, if_prefix, are_lawful}
@@ -25,6 +26,7 @@ use Rattle.ladr_reader.proofs.Runs.{stuck_item}
 use Rattle.ladr_reader.proofs.Sound.{runs}
 use Rattle.ladr_reader.proofs.Complete.{item_one}
 use Rattle.ladr_problem.specs.ListItem.{ListItem, closing, term, closing_tokens, IsListItem, BeginsListItem, IsItemFault}
+use Rattle.ladr_settings.specs.declared.lists.OpenList.{OpenList}
 
 abbrev word : List ℕ
 word = codes "end_of_list"
@@ -43,10 +45,10 @@ closing_is (symbol ordinary s ∷ full_stop ∷ []) e =
 closing_is ts e = cc
 
 -- a term's front is an item's
-term_begins : (g : OperatorTable) (ts : List Lexeme) → terms.BeginsItem g ts → BeginsListItem g ts
-term_begins g ts b = by_test (is_closing (ts ++ b.more)) refl
+term_begins : (list : OpenList) (g : OperatorTable) (ts : List Lexeme) → terms.BeginsItem g ts → BeginsListItem list g ts
+term_begins list g ts b = by_test (is_closing (ts ++ b.more)) refl
   where
-    by_test : (c : Bool) → is_closing (ts ++ b.more) ≡ c → BeginsListItem g ts
+    by_test : (c : Bool) → is_closing (ts ++ b.more) ≡ c → BeginsListItem list g ts
     by_test true e = record { more = b.more; item = closing; read = closing_is (ts ++ b.more) e }
     by_test false e = record { more = b.more; item = term b.tree; read = (λ same. let e = rw same at e in cc, b.item) }
 
@@ -58,16 +60,16 @@ end_begins : (rows : List OperatorRow) → are_lawful rows ≡ true → terms.Be
 end_begins rows h = by_operator (if_prefix (operator_of rows word)) refl
   where
     by_operator : (o : Option Operator) → if_prefix (operator_of rows word) ≡ o → terms.BeginsItem (table_of rows) (end_word ∷ [])
-    by_operator None e = begins 500 (table_of rows) (table_lawful rows h) (table_names rows) (Named word) [] (end_word ∷ []) (runs 500 (table_of rows) (table_lawful rows h) (end_word ∷ []) (Named word) [] (rw e refl))
-    by_operator (Some o) e = begins 500 (table_of rows) (table_lawful rows h) (table_names rows) Operand (waiting o) (end_word ∷ []) (runs 500 (table_of rows) (table_lawful rows h) (end_word ∷ []) Operand (waiting o) (rw e refl))
+    by_operator None e = begins MOST_LEVELS (table_of rows) (table_lawful rows h) (table_names rows) (Named word) [] (end_word ∷ []) (runs MOST_LEVELS (table_of rows) (table_lawful rows h) (end_word ∷ []) (Named word) [] (rw e refl))
+    by_operator (Some o) e = begins MOST_LEVELS (table_of rows) (table_lawful rows h) (table_names rows) Operand (waiting o) (end_word ∷ []) (runs MOST_LEVELS (table_of rows) (table_lawful rows h) (end_word ∷ []) Operand (waiting o) (rw e refl))
 
-stuck : (g : OperatorTable) (xs : List Lexeme) → go 500 g None xs ≡ None
+stuck : (g : OperatorTable) (xs : List Lexeme) → go MOST_LEVELS g None xs ≡ None
 stuck g [] = refl
 stuck g (x ∷ xs) = stuck g xs
 
 -- no term goes on behind a symbol and a full stop
 stuck_behind : (g : OperatorTable) (w : Option Quantifier) (o : Option Operator) (s : List ℕ) (x : Lexeme) (xs : List Lexeme) →
-    go 500 g (next 500 g (next 500 g (begin (start_of_symbol w o s) []) full_stop) x) xs ≡ None
+    go MOST_LEVELS g (next MOST_LEVELS g (next MOST_LEVELS g (begin (start_of_symbol w o s) []) full_stop) x) xs ≡ None
 stuck_behind g None None s x xs = stuck g xs
 stuck_behind g None (Some o) s x xs = stuck g xs
 stuck_behind g (Some w) o s x xs = stuck g xs
@@ -87,20 +89,20 @@ split (a ∷ []) e h = absurd (omega arith)
 split (a ∷ b ∷ []) e h = absurd (omega arith)
 split (a ∷ b ∷ x ∷ xs) e h = (x, xs, cc)
 
-nothing_behind : (g : OperatorTable) (ts : List Lexeme) → Split ts → (i : ListItem) → ¬ IsListItem g ts i
-nothing_behind g ts s closing e = let same = s.2 in cc
-nothing_behind g ts s (term t) item = no_term_behind g s.0 s.1 t (subst (λ (us : List Lexeme). terms.Item g us t) s.2 item.1)
+nothing_behind : (list : OpenList) (g : OperatorTable) (ts : List Lexeme) → Split ts → (i : ListItem) → ¬ IsListItem list g ts i
+nothing_behind list g ts s closing e = let same = s.2 in cc
+nothing_behind list g ts s (term t) item = no_term_behind g s.0 s.1 t (subst (λ (us : List Lexeme). terms.Item g us t) s.2 item.1)
 
 -- token 2 is the first bad one behind `end_of_list.`
-pub bad_behind : (g : OperatorTable) (ts : List Lexeme) → take 2 ts ≡ closing_tokens → 2 < length ts → IsItemFault g ts (Bad 2)
-bad_behind g ts e h =
+pub bad_behind : (list : OpenList) (g : OperatorTable) (ts : List Lexeme) → take 2 ts ≡ closing_tokens → 2 < length ts → IsItemFault list g ts (Bad 2)
+bad_behind list g ts e h =
     let s = split ts e h in (
       record {
         within = omega arith;
         before = record { more = []; item = closing; read = append-nil (take 2 ts) ∙ e };
-        here = λ _ b. nothing_behind g (take 3 ts ++ b.more) (s.0, b.more, ap (λ (us : List Lexeme). take 3 us ++ b.more) s.2) b.item b.read;
+        here = λ _ b. nothing_behind list g (take 3 ts ++ b.more) (s.0, b.more, ap (λ (us : List Lexeme). take 3 us ++ b.more) s.2) b.item b.read;
       },
-      nothing_behind g ts s,
+      nothing_behind list g ts s,
     )
 
 -- tokens that don't begin with `end_of_list.` are no front of it, but for `end_of_list` itself
@@ -119,32 +121,32 @@ end_front rows l (x ∷ y ∷ ts) (suc k) more other h e =
 
 -- elsewhere items of lists are terms
 pub fault_of_term :
-    (rows : List OperatorRow) → are_lawful rows ≡ true → (ts : List Lexeme) → (¬ take 2 ts ≡ closing_tokens) → (f : TermFault) →
-    IsTermFault (table_of rows) ts f → IsItemFault (table_of rows) ts f
-fault_of_term rows l ts other (Bad k) (bad, none) = (
+    (list : OpenList) (rows : List OperatorRow) → are_lawful rows ≡ true → (ts : List Lexeme) → (¬ take 2 ts ≡ closing_tokens) → (f : TermFault) →
+    IsTermFault (table_of rows) ts f → IsItemFault list (table_of rows) ts f
+fault_of_term list rows l ts other (Bad k) (bad, none) = (
   record {
     within = bad.within;
-    before = term_begins (table_of rows) (take k ts) bad.before;
+    before = term_begins list (table_of rows) (take k ts) bad.before;
     here = λ h b. bad.here h (begun b.more b.item h b.read);
   },
   no_item,
 )
   where
-    begun : (more : List Lexeme) (i : ListItem) → k < length ts → IsListItem (table_of rows) (take (k + 1) ts ++ more) i → terms.BeginsItem (table_of rows) (take (k + 1) ts)
+    begun : (more : List Lexeme) (i : ListItem) → k < length ts → IsListItem list (table_of rows) (take (k + 1) ts ++ more) i → terms.BeginsItem (table_of rows) (take (k + 1) ts)
     begun more closing h e = end_front rows l ts k more other h e
     begun more (term t) h item = record { more = more; tree = t; item = item.1 }
 
-    no_item : (i : ListItem) → ¬ IsListItem (table_of rows) ts i
+    no_item : (i : ListItem) → ¬ IsListItem list (table_of rows) ts i
     no_item closing e = other (ap (take 2) e)
     no_item (term t) item = none t item.1
-fault_of_term rows l ts other Deep (t, item, deep) = (t, (λ e. other (ap (take 2) e), item), deep)
-fault_of_term rows l ts other Memory h = tt
+fault_of_term list rows l ts other Deep (t, item, deep) = (t, (λ e. other (ap (take 2) e), item), deep)
+fault_of_term list rows l ts other Memory h = tt
 
-pub one : (g : OperatorTable) (ts : List Lexeme) (i j : ListItem) → IsListItem g ts i → IsListItem g ts j → i ≡ j
-one g ts closing closing h k = refl
-one g ts closing (term t) h k = absurd (k.0 h)
-one g ts (term t) closing h k = absurd (h.0 k)
-one g ts (term t) (term u) h k = ap term (item_one g ts t u h.1 k.1)
+pub one : (list : OpenList) (g : OperatorTable) (ts : List Lexeme) (i j : ListItem) → IsListItem list g ts i → IsListItem list g ts j → i ≡ j
+one list g ts closing closing h k = refl
+one list g ts closing (term t) h k = absurd (k.0 h)
+one list g ts (term t) closing h k = absurd (h.0 k)
+one list g ts (term t) (term u) h k = ap term (item_one g ts t u h.1 k.1)
 
 -- one token is less than `end_of_list.`
 pub too_short : (ts : List Token) → length ts < 2 → ¬ take 2 (lexemes_of ts) ≡ closing_tokens

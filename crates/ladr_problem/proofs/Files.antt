@@ -40,9 +40,7 @@ module _ (m : Mode) (end : ℕ) (s : Sofar) (ts : List Token) (items : List (Lis
 
   stops : (why : Refusal) → IsItemRefused m (start_at end (pieces_of ts) 0) s (lexemes (pieces_of ts)) why → IsStop (File m end s (pieces_of ts ∷ items)) (by_refusal end (pieces_of ts) why)
   stops (refusal.Bad k) h = bad k h
-  stops refusal.Nesting h = breaks h.0 refusal.Nesting h.1 h.2
-  stops refusal.Symbols h = breaks h.0 refusal.Symbols h.1 h.2
-  stops refusal.Arity h = breaks h.0 refusal.Arity h.1 h.2
+  stops (refusal.Large what) h = breaks h.0 (refusal.Large what) h.1 h.2
   stops (refusal.Misused k) h = breaks h.0 (refusal.Misused k) h.1 h.2
   stops refusal.Memory h = tt
 

@@ -1,9 +1,11 @@
-pub mod Counted
 pub mod CutLemmas
 pub mod EndLemmas
+pub mod Endings
 pub mod Entering
 pub mod Files
 pub mod Good
+pub mod Growing
+pub mod History
 pub mod Named
 pub mod Once
 pub mod Readings

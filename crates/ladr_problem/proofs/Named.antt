@@ -1,75 +1,19 @@
 -- The names of a term that is read are symbols of the language.
-use Rattle.std.proofs.Common.{◌≡◌, ℕ, Bool, true, false, if◌then◌else◌, List, [], ◌∷◌, ◌++◌, Option, Some, None}
+use Rattle.std.proofs.Common.{◌≡◌, ℕ, Bool, true, false, if◌then◌else◌, List, [], ◌∷◌, Option, Some, None}
 use Rattle.std.specs.Prelude.{IfSome, codes}
 use Rattle.std.specs.Option.{option_map_or}
 use Rattle.std.specs.Str.{bytes_eq}
 use Rattle.std.proofs.lemmas.Bool.{or_left, or_right}
-use Rattle.fol_core.specs.RawTree.{RawTree, named, quantified, RawTrees, no_raws, more_raws, raws_of}
-use Rattle.ladr_lex.specs.Cuts.{Piece, Cuts, nothing, gap, token, can_be, is_plain_symbol, is_quoted}
-use Rattle.ladr_lex.specs.Lexeme.{Lexeme, lexeme, open_paren, close_paren, open_square, close_square, comma, full_stop, symbol, unreadable}
-use Rattle.ladr_lex.specs.declared.token.TokenKind.{TokenKind}
-use Rattle.ladr_lex.specs.declared.token.TokenKind.TheVariants.{Open, Close, LeftSquare, RightSquare, Comma, Stop, Ordinary, Quoted, Special, Unreadable}
-use Rattle.ladr_problem.specs.Items.{is_stop_kind, in_first_item, items_of, lexemes}
+use Rattle.fol_core.specs.RawTree.{RawTree, named, quantified, RawTrees, no_raws, more_raws}
+use Rattle.ladr_lex.specs.Cuts.{can_be, is_plain_symbol, is_quoted}
+use Rattle.ladr_lex.specs.Lexeme.{Sort, ordinary, quoted, special}
+use Rattle.ladr_lex.specs.declared.token.TokenKind.TheVariants.{Ordinary, Special}
 use Rattle.ladr_problem.specs.Names.{is_name}
-use Rattle.ladr_reader.specs.Reads.{Reads, atom, applied, group, bound, prefixed, postfixed, infixed, ReadsAll, single, further}
+use Rattle.ladr_reader.specs.HasText.{kind_of, HasText, HaveTexts}
 use Rattle.ladr_reader.specs.Table.{OperatorTable}
 use Rattle.ladr_formulas.specs.declared.styles.Style.{Style}
 use Rattle.ladr_rules.specs.Attributes.{Attributed, attributed, attributes_in}
 use Rattle.ladr_rules.specs.Rules.{Sides, pattern_sides, equation_sides, sides_of, is_shaped, shaped_sides}
-
--- symbols among tokens have such names
-abbrev pub HasName : Lexeme → Type 0
-HasName open_paren = Unit {0}
-HasName close_paren = Unit {0}
-HasName open_square = Unit {0}
-HasName close_square = Unit {0}
-HasName comma = Unit {0}
-HasName full_stop = Unit {0}
-HasName (symbol sort name) = is_name name ≡ true
-HasName unreadable = Unit {0}
-
-abbrev pub HaveNames : List Lexeme → Type 0
-HaveNames [] = Unit {0}
-HaveNames (t ∷ ts) = HasName t × HaveNames ts
-
-pub names_parts : (ts us : List Lexeme) → HaveNames (ts ++ us) → HaveNames ts × HaveNames us
-names_parts [] us h = (tt, h)
-names_parts (t ∷ ts) us h = let rest = names_parts ts us h.1 in ((h.0, rest.0), rest.1)
-
-token_named : (kind : TokenKind) (text : List ℕ) → can_be (Some kind) text ≡ true → HasName (lexeme kind text)
-token_named Open text h = tt
-token_named Close text h = tt
-token_named LeftSquare text h = tt
-token_named RightSquare text h = tt
-token_named Comma text h = tt
-token_named Stop text h = tt
-token_named Ordinary text h = or_left (is_plain_symbol text) (is_quoted text) (or_left (can_be (Some Ordinary) text) (can_be (Some Special) text) h)
-token_named Quoted text h = or_right (is_plain_symbol text) (is_quoted text) h
-token_named Special text h = or_left (is_plain_symbol text) (is_quoted text) (or_right (can_be (Some Ordinary) text) (can_be (Some Special) text) h)
-token_named Unreadable text h = tt
-
--- those that a text is cut into
-pub cut_named : (i : ℕ) (bytes : List ℕ) (ts : List Piece) → Cuts i bytes ts → HaveNames (lexemes ts)
-cut_named i _ [] nothing = tt
-cut_named i _ ts (gap longest rest) = cut_named _ _ ts rest
-cut_named i _ (t ∷ ts) (token kind longest rest) = (token_named kind t.text longest.fits, cut_named _ _ ts rest)
-
--- and those of each item
-abbrev pub AllHaveNames : List (List Piece) → Type 0
-AllHaveNames [] = Unit {0}
-AllHaveNames (item ∷ items) = HaveNames (lexemes item) × AllHaveNames items
-
-front_named : (p : Piece) (items : List (List Piece)) → HasName (lexeme p.kind p.text) → AllHaveNames items → AllHaveNames (in_first_item p items)
-front_named p [] h k = ((h, tt), tt)
-front_named p (item ∷ items) h k = ((h, k.0), k.1)
-
-pub items_named : (ps : List Piece) → HaveNames (lexemes ps) → AllHaveNames (items_of ps)
-items_named [] h = tt
-items_named (p ∷ ps) h = by (is_stop_kind p.kind) (items_named ps h.1)
-  where
-    by : (b : Bool) → AllHaveNames (items_of ps) → AllHaveNames (if b then (p ∷ []) ∷ items_of ps else in_first_item p (items_of ps))
-    by true k = ((h.0, tt), k)
-    by false k = front_named p (items_of ps) h.0 k
 
 -- the names of a term, but for the variables of its quantifiers
 abbrev mutual
@@ -81,25 +25,21 @@ abbrev mutual
   AreNamed no_raws = Unit {0}
   AreNamed (more_raws t ts) = IsNamed t × AreNamed ts
 
-named_more : (us : List RawTree) (t : RawTree) → AreNamed (raws_of us) → IsNamed t → AreNamed (raws_of (us ++ t ∷ []))
-named_more [] t h k = (k, tt)
-named_more (u ∷ us) t h k = (h.0, named_more us t h.1 k)
+-- a symbol's text is a name
+pub name_of_sort : (k : Sort) (s : List ℕ) → can_be (Some (kind_of k)) s ≡ true → is_name s ≡ true
+name_of_sort ordinary s h = or_left (is_plain_symbol s) (is_quoted s) (or_left (can_be (Some Ordinary) s) (can_be (Some Special) s) h)
+name_of_sort quoted s h = or_right (is_plain_symbol s) (is_quoted s) h
+name_of_sort special s h = or_left (is_plain_symbol s) (is_quoted s) (or_right (can_be (Some Ordinary) s) (can_be (Some Special) s) h)
 
+-- those of a term that has a text are names
 mutual
-  pub reads_named : (g : OperatorTable) (ts : List Lexeme) (t : RawTree) (p : ℕ) → Reads g ts t p → HaveNames ts → IsNamed t
-  reads_named g _ _ _ (atom k s w o) h = (h.0, tt)
-  reads_named g _ _ _ (applied {ts} {us} k s w o all) h = (h.0, all_named g ts us all (names_parts ts (close_paren ∷ []) h.1.1).0)
-  reads_named g _ t _ (group {ts} {p} r) h = reads_named g ts t p r (names_parts ts (close_paren ∷ []) h.1).0
-  reads_named g _ _ _ (bound {ts} {t} {p} k j w s x word variable r e) h = reads_named g ts t p r h.1.1
-  reads_named g _ _ _ (prefixed {ts} {t} {p} k s o w op r e) h = (h.0, (reads_named g ts t p r h.1, tt))
-  reads_named g _ _ _ (postfixed {ts} {t} {p} k s o op none r e) h = let parts = names_parts ts (symbol k s ∷ []) h in (parts.1.0, (reads_named g ts t p r parts.0, tt))
-  reads_named g _ _ _ (infixed {ts} {us} {t} {u} {p} {q} k s o op r e r' e') h =
-      let parts = names_parts ts (symbol k s ∷ us) h in (parts.1.0, (reads_named g ts t p r parts.0, (reads_named g us u q r' parts.1.1, tt)))
+  pub named_of_text : (g : OperatorTable) (t : RawTree) → HasText g t → IsNamed t
+  named_of_text g (named s ts) h = (name_of_sort h.0.sort s h.0.written, all_of_text g ts h.1)
+  named_of_text g (quantified q x t) h = named_of_text g t h.1
 
-  all_named : (g : OperatorTable) (ts : List Lexeme) (us : List RawTree) → ReadsAll g ts us → HaveNames ts → AreNamed (raws_of us)
-  all_named g ts _ (single {t} {p} r e) h = (reads_named g ts t p r h, tt)
-  all_named g _ _ (further {ts} {us} {ks} {t} {p} all r e) h =
-      let parts = names_parts ts (comma ∷ us) h in named_more ks t (all_named g ts ks all parts.0) (reads_named g us t p r parts.1.1)
+  all_of_text : (g : OperatorTable) (ts : RawTrees) → HaveTexts g ts → AreNamed ts
+  all_of_text g no_raws h = tt
+  all_of_text g (more_raws t ts) h = (named_of_text g t h.0, all_of_text g ts h.1)
 
 -- parts of a term
 pub attributed_named : (t : RawTree) → IsNamed t → IsNamed (attributed t).formula

@@ -32,12 +32,16 @@ use Rattle.ladr_settings.specs.declared.lists.OpenList.{OpenList}
 none_is_some : {A : Type 0} (o : Option A) → o ≡ None → IsTrue (is_some o) → ⊥
 none_is_some o e h = false≢true (rw e at h)
 
+same_open : (k l : OpenList) → Some k ≡ Some l → k ≡ l
+same_open k l e = cc
+
 -- an item is read as one thing
 read_once : (m : Mode) (s : Sofar) (ts : List Lexeme) (i j : FileItem) → IsItemRead m s ts i → IsItemRead m s ts j → i ≡ j
 read_once m s ts (command c) (command d) h k = ap (λ x. command (read_of c x)) (sym h.1 ∙ k.1)
-read_once m s ts (command c) (within j) h k = absurd (none_is_some s.settings.list h.0 k.0)
-read_once m s ts (within i) (command d) h k = absurd (none_is_some s.settings.list k.0 h.0)
-read_once m s ts (within i) (within j) h k = ap within (listed.one (table_of s.settings.operators) ts i j h.1 k.1)
+read_once m s ts (command c) (within j) h k = absurd (none_is_some s.settings.list h.0 (ap is_some k.1))
+read_once m s ts (within i) (command d) h k = absurd (none_is_some s.settings.list k.0 (ap is_some h.1))
+read_once m s ts (within i) (within j) h k =
+    ap within (listed.one h.0 (table_of s.settings.operators) ts i j h.2 (subst (λ (l : OpenList). IsListItem l (table_of s.settings.operators) ts j) (same_open k.0 h.0 (sym k.1 ∙ h.1)) k.2))
 
 take_within : (n m : ℕ) (xs : List Lexeme) → n ≤ m → take n (take m xs) ≡ take n xs
 take_within zero m xs h = refl
@@ -65,33 +69,33 @@ command_once f ts k l x y = same_number k l (no_earlier (commands.BeginsCommand 
     fewer : (xs ys : List Lexeme) → commands.BeginsCommand f (xs ++ ys) → commands.BeginsCommand f xs
     fewer xs ys h = record { more = ys ++ h.more; command = h.command; says = rw (← append_assoc xs ys h.more) h.says }
 
-item_once : (g : OperatorTable) (ts : List Lexeme) (k l : ℕ) → lists.IsBadListToken g ts k → lists.IsBadListToken g ts l → k ≡ l
-item_once g ts k l x y = same_number k l (no_earlier (lists.BeginsListItem g) fewer ts k l x.here y.within y.before) (no_earlier (lists.BeginsListItem g) fewer ts l k y.here x.within x.before)
+item_once : (list : OpenList) (g : OperatorTable) (ts : List Lexeme) (k l : ℕ) → lists.IsBadListToken list g ts k → lists.IsBadListToken list g ts l → k ≡ l
+item_once list g ts k l x y = same_number k l (no_earlier (lists.BeginsListItem list g) fewer ts k l x.here y.within y.before) (no_earlier (lists.BeginsListItem list g) fewer ts l k y.here x.within x.before)
   where
-    fewer : (xs ys : List Lexeme) → lists.BeginsListItem g (xs ++ ys) → lists.BeginsListItem g xs
+    fewer : (xs ys : List Lexeme) → lists.BeginsListItem list g (xs ++ ys) → lists.BeginsListItem list g xs
     fewer xs ys h = record { more = ys ++ h.more; item = h.item; read = rw (← append_assoc xs ys h.more) h.read }
 
 module _ (m : Mode) (s : Sofar) (ts : List Lexeme) where
   bad_once : (o : Option OpenList) → s.settings.list ≡ o → (k l : ℕ) → IsUnreadable m s ts k → IsUnreadable m s ts l → k ≡ l
   bad_once None e k l x y =
-      let a : IsCommandFault (commands_of (is_tester m)) ts (command_fault.Bad k) = subst (λ (o : Option OpenList). MatchOption o (IsCommandFault (commands_of (is_tester m)) ts (command_fault.Bad k)) (λ _. IsItemFault (table_of s.settings.operators) ts (term_fault.Bad k))) e x in
-      let b : IsCommandFault (commands_of (is_tester m)) ts (command_fault.Bad l) = subst (λ (o : Option OpenList). MatchOption o (IsCommandFault (commands_of (is_tester m)) ts (command_fault.Bad l)) (λ _. IsItemFault (table_of s.settings.operators) ts (term_fault.Bad l))) e y in
+      let a : IsCommandFault (commands_of (is_tester m)) ts (command_fault.Bad k) = subst (λ (o : Option OpenList). MatchOption o (IsCommandFault (commands_of (is_tester m)) ts (command_fault.Bad k)) (λ opened. IsItemFault opened (table_of s.settings.operators) ts (term_fault.Bad k))) e x in
+      let b : IsCommandFault (commands_of (is_tester m)) ts (command_fault.Bad l) = subst (λ (o : Option OpenList). MatchOption o (IsCommandFault (commands_of (is_tester m)) ts (command_fault.Bad l)) (λ opened. IsItemFault opened (table_of s.settings.operators) ts (term_fault.Bad l))) e y in
       command_once (commands_of (is_tester m)) ts k l a.0 b.0
   bad_once (Some list) e k l x y =
-      let a : IsItemFault (table_of s.settings.operators) ts (term_fault.Bad k) = subst (λ (o : Option OpenList). MatchOption o (IsCommandFault (commands_of (is_tester m)) ts (command_fault.Bad k)) (λ _. IsItemFault (table_of s.settings.operators) ts (term_fault.Bad k))) e x in
-      let b : IsItemFault (table_of s.settings.operators) ts (term_fault.Bad l) = subst (λ (o : Option OpenList). MatchOption o (IsCommandFault (commands_of (is_tester m)) ts (command_fault.Bad l)) (λ _. IsItemFault (table_of s.settings.operators) ts (term_fault.Bad l))) e y in
-      item_once (table_of s.settings.operators) ts k l a.0 b.0
+      let a : IsItemFault list (table_of s.settings.operators) ts (term_fault.Bad k) = subst (λ (o : Option OpenList). MatchOption o (IsCommandFault (commands_of (is_tester m)) ts (command_fault.Bad k)) (λ opened. IsItemFault opened (table_of s.settings.operators) ts (term_fault.Bad k))) e x in
+      let b : IsItemFault list (table_of s.settings.operators) ts (term_fault.Bad l) = subst (λ (o : Option OpenList). MatchOption o (IsCommandFault (commands_of (is_tester m)) ts (command_fault.Bad l)) (λ opened. IsItemFault opened (table_of s.settings.operators) ts (term_fault.Bad l))) e y in
+      item_once list (table_of s.settings.operators) ts k l a.0 b.0
 
   -- what can't be read isn't read
   not_read : (o : Option OpenList) → s.settings.list ≡ o → (k : ℕ) (i : FileItem) → IsUnreadable m s ts k → IsItemRead m s ts i → ⊥
   not_read None e k (command c) x r =
-      let a : IsCommandFault (commands_of (is_tester m)) ts (command_fault.Bad k) = subst (λ (o : Option OpenList). MatchOption o (IsCommandFault (commands_of (is_tester m)) ts (command_fault.Bad k)) (λ _. IsItemFault (table_of s.settings.operators) ts (term_fault.Bad k))) e x in
+      let a : IsCommandFault (commands_of (is_tester m)) ts (command_fault.Bad k) = subst (λ (o : Option OpenList). MatchOption o (IsCommandFault (commands_of (is_tester m)) ts (command_fault.Bad k)) (λ opened. IsItemFault opened (table_of s.settings.operators) ts (term_fault.Bad k))) e x in
       a.1 c r.1
-  not_read None e k (within j) x r = none_is_some s.settings.list e r.0
+  not_read None e k (within j) x r = none_is_some s.settings.list e (ap is_some r.1)
   not_read (Some list) e k (command c) x r = none_is_some s.settings.list r.0 (ap is_some e)
   not_read (Some list) e k (within j) x r =
-      let a : IsItemFault (table_of s.settings.operators) ts (term_fault.Bad k) = subst (λ (o : Option OpenList). MatchOption o (IsCommandFault (commands_of (is_tester m)) ts (command_fault.Bad k)) (λ _. IsItemFault (table_of s.settings.operators) ts (term_fault.Bad k))) e x in
-      a.1 j r.1
+      let a : IsItemFault list (table_of s.settings.operators) ts (term_fault.Bad k) = subst (λ (o : Option OpenList). MatchOption o (IsCommandFault (commands_of (is_tester m)) ts (command_fault.Bad k)) (λ opened. IsItemFault opened (table_of s.settings.operators) ts (term_fault.Bad k))) e x in
+      a.1 j (subst (λ (l : OpenList). IsListItem l (table_of s.settings.operators) ts j) (same_open r.0 list (sym r.1 ∙ e)) r.2)
 
 abbrev why_of : Result Sofar Refusal → Refusal
 why_of (Ok s) = Memory

@@ -1,5 +1,5 @@
 -- What an item makes of what was read so far, by what its parts answer.
-use Rattle.std.proofs.Common.{◌≡◌, ℕ, suc, true, ◌≤◌, ◌<◌, not, if◌then◌else◌, List, [], ◌∷◌, ◌++◌, length, take, Option, Some, None, is_some, refl, sym, ap, ap₂, ◌∙◌, subst, unwrap_or}
+use Rattle.std.proofs.Common.{◌≡◌, ℕ, suc, true, ◌≤◌, ◌<◌, not, if◌then◌else◌, List, [], ◌∷◌, ◌++◌, length, take, Option, Some, None, refl, sym, ap, ap₂, ◌∙◌, subst, unwrap_or}
 use Rattle.std.specs.Prelude.{nat_lt}
 use Rattle.std.specs.Option.{option_map, option_map_or}
 use Rattle.std.specs.declared.result.Result.{Result}
@@ -10,6 +10,7 @@ use Rattle.fol_core.specs.RawView.{raw_of}
 use Rattle.fol_core.specs.SymbolTable.{Symbol, KeepsNumbers}
 use Rattle.fol_core.specs.Weights.{Rule}
 use Rattle.fol_core.specs.declared.raw.Raw.{Raw}
+use Rattle.ladr_lex.specs.declared.limits.TheConstants.{MOST_LEVELS, MOST_SYMBOLS}
 use Rattle.ladr_lex.specs.declared.misuse.Misuse.{Misuse}
 use Rattle.ladr_commands.specs.declared.command.Command.{Command}
 use Rattle.ladr_problem.specs.ListItem.{term, IsListItem, IsItemFault}
@@ -19,7 +20,8 @@ use Rattle.ladr_problem.specs.Reading.{IsNo, IsTaken, after_formula_read, after_
 use Rattle.ladr_problem.specs.Refusals.{by_misuse, by_term}
 use Rattle.ladr_problem.specs.Sofar.{Sofar}
 use Rattle.ladr_problem.specs.declared.refusal.Refusal.{Refusal}
-use Rattle.ladr_problem.specs.declared.refusal.Refusal.TheVariants.{Bad, Nesting, Symbols, Arity, Misused, Memory}
+use Rattle.ladr_problem.specs.declared.refusal.Limit.TheVariants as limit
+use Rattle.ladr_problem.specs.declared.refusal.Refusal.TheVariants.{Bad, Large, Misused, Memory}
 use Rattle.ladr_formulas.specs.Formulas.{Made, formula_reading}
 use Rattle.ladr_reader.specs.Nesting.{nesting}
 use Rattle.ladr_reader.specs.Table.{table_of}
@@ -56,27 +58,25 @@ module _ (m : Mode) (byte : ℕ) (s : Sofar) where
 
   module _ (l : OpenList) (opened : s.settings.list ≡ Some l) where
     -- a term that is nested too deep, and one that isn't
-    deep_term : (ts : List Lexeme) (t : RawTree) → 500 < nesting ts t → after_item m byte s ts (within (term t)) ≡ Err Nesting
-    deep_term ts t h = ap (λ b. if b then Err Nesting else option_map_or (λ o. after_term m o byte s t) s.settings.list (Ok s)) (lt-ltb 500 (nesting ts t) h)
+    deep_term : (ts : List Lexeme) (t : RawTree) → MOST_LEVELS < nesting ts t → after_item m byte s ts (within (term t)) ≡ Err (Large limit.Nesting)
+    deep_term ts t h = ap (λ b. if b then Err (Large limit.Nesting) else option_map_or (λ o. after_term m o byte s t) s.settings.list (Ok s)) (lt-ltb MOST_LEVELS (nesting ts t) h)
 
-    shallow_term : (ts : List Lexeme) (t : RawTree) → nesting ts t ≤ 500 → after_item m byte s ts (within (term t)) ≡ after_term m l byte s t
-    shallow_term ts t h = ap₂ (λ b o. if b then Err Nesting else option_map_or (λ p. after_term m p byte s t) o (Ok s)) (le-ltb 500 (nesting ts t) h) opened
+    shallow_term : (ts : List Lexeme) (t : RawTree) → nesting ts t ≤ MOST_LEVELS → after_item m byte s ts (within (term t)) ≡ after_term m l byte s t
+    shallow_term ts t h = ap₂ (λ b o. if b then Err (Large limit.Nesting) else option_map_or (λ p. after_term m p byte s t) o (Ok s)) (le-ltb MOST_LEVELS (nesting ts t) h) opened
 
-    pub term_taken : (ts : List Lexeme) (t : RawTree) (u : Sofar) → IsListItem (table_of s.settings.operators) ts (term t) → nesting ts t ≤ 500 → after_term m l byte s t ≡ Ok u → IsTaken m byte s ts u
-    term_taken ts t u read shallow e = (within (term t), (ap is_some opened, read), shallow_term ts t shallow ∙ e)
+    pub term_taken : (ts : List Lexeme) (t : RawTree) (u : Sofar) → IsListItem l (table_of s.settings.operators) ts (term t) → nesting ts t ≤ MOST_LEVELS → after_term m l byte s t ≡ Ok u → IsTaken m byte s ts u
+    term_taken ts t u read shallow e = (within (term t), (l, opened, read), shallow_term ts t shallow ∙ e)
 
-    pub term_refused : (ts : List Lexeme) (t : RawTree) → IsListItem (table_of s.settings.operators) ts (term t) → nesting ts t ≤ 500
+    pub term_refused : (ts : List Lexeme) (t : RawTree) → IsListItem l (table_of s.settings.operators) ts (term t) → nesting ts t ≤ MOST_LEVELS
         → (why : Refusal) → IsNo (after_term m l byte s t) why → IsItemRefused m byte s ts why
     term_refused ts t read shallow (Bad k) refuses = absurd refuses
-    term_refused ts t read shallow Nesting refuses = absurd refuses
-    term_refused ts t read shallow Symbols refuses = (within (term t), (ap is_some opened, read), shallow_term ts t shallow ∙ refuses)
-    term_refused ts t read shallow Arity refuses = (within (term t), (ap is_some opened, read), shallow_term ts t shallow ∙ refuses)
-    term_refused ts t read shallow (Misused k) refuses = (within (term t), (ap is_some opened, read), shallow_term ts t shallow ∙ refuses)
+    term_refused ts t read shallow (Large what) refuses = (within (term t), (l, opened, read), shallow_term ts t shallow ∙ refuses)
+    term_refused ts t read shallow (Misused k) refuses = (within (term t), (l, opened, read), shallow_term ts t shallow ∙ refuses)
     term_refused ts t read shallow Memory refuses = tt
 
-    pub item_refused : (ts : List Lexeme) (fault : TermFault) → IsItemFault (table_of s.settings.operators) ts fault → IsItemRefused m byte s ts (by_term fault)
+    pub item_refused : (ts : List Lexeme) (fault : TermFault) → IsItemFault l (table_of s.settings.operators) ts fault → IsItemRefused m byte s ts (by_term fault)
     item_refused ts (term_fault.Bad k) h = rw opened h
-    item_refused ts term_fault.Deep h = (within (term h.0), (ap is_some opened, h.1), deep_term ts h.0 h.2)
+    item_refused ts term_fault.Deep h = (within (term h.0), (l, opened, h.1), deep_term ts h.0 h.2)
     item_refused ts term_fault.Memory h = tt
 
   -- a formula as the code has read it is the one of the item
@@ -89,8 +89,8 @@ module _ (m : Mode) (byte : ℕ) (s : Sofar) where
       let w : IsWhole (formula_made m s t) r table = subst (λ (u : RawTree). IsWhole (formula_reading (style_in m s) s.symbols u) r table) formula whole in
       let old = take_kept s.symbols table kept in
       λ i.
-      if nat_lt 65535 (length (w.symbols i)) then Err Symbols
-      else (if w.large i then Err Arity
+      if nat_lt MOST_SYMBOLS (length (w.symbols i)) then Err (Large limit.Symbols)
+      else (if w.large i then Err (Large limit.Arity)
       else (if not (is_meant m s.settings) then Ok (record s { symbols = old i })
       else option_map_or (λ l. option_map_or (λ k. Err (Misused k)) (least_misuse l (misused i) (w.formula i) (w.least i))
       (Ok (with_listed l (record { formula = w.formula i; names = w.named i; label = label i; byte = byte }) (weight i) (record s { symbols = w.symbols i }))))
@@ -98,16 +98,16 @@ module _ (m : Mode) (byte : ℕ) (s : Sofar) where
 
   -- a formula with too large an arity is refused for its symbols, else for that arity
   pub large_formula : (list : Option FormulaList) (t u : RawTree) (why : Refusal) → u ≡ (attributed t).formula → (formula_reading (style_in m s) s.symbols u).reading.large ≡ true
-      → IsNo (if nat_lt 65535 (length (formula_reading (style_in m s) s.symbols u).reading.symbols) then Err Symbols else Err Arity) why → IsNo (after_formula m list byte s t) why
+      → IsNo (if nat_lt MOST_SYMBOLS (length (formula_reading (style_in m s) s.symbols u).reading.symbols) then Err (Large limit.Symbols) else Err (Large limit.Arity)) why → IsNo (after_formula m list byte s t) why
   large_formula list t u why formula large refuses =
       let symbols = (formula_made m s t).reading.symbols in
       let wide : (formula_made m s t).reading.large ≡ true = ap (λ (v : RawTree). (formula_reading (style_in m s) s.symbols v).reading.large) (sym formula) ∙ large in
-      let small : Result Sofar Refusal = if nat_lt 65535 (length symbols) then Err Symbols else Err Arity in
-      let read : (if nat_lt 65535 (length (formula_reading (style_in m s) s.symbols u).reading.symbols) then Err Symbols else Err Arity) ≡ small =
-      ap (λ (v : RawTree). if nat_lt 65535 (length (formula_reading (style_in m s) s.symbols v).reading.symbols) then Err Symbols else Err Arity) formula in
+      let small : Result Sofar Refusal = if nat_lt MOST_SYMBOLS (length symbols) then Err (Large limit.Symbols) else Err (Large limit.Arity) in
+      let read : (if nat_lt MOST_SYMBOLS (length (formula_reading (style_in m s) s.symbols u).reading.symbols) then Err (Large limit.Symbols) else Err (Large limit.Arity)) ≡ small =
+      ap (λ (v : RawTree). if nat_lt MOST_SYMBOLS (length (formula_reading (style_in m s) s.symbols v).reading.symbols) then Err (Large limit.Symbols) else Err (Large limit.Arity)) formula in
       let same : small ≡ after_formula m list byte s t = λ i.
-      if nat_lt 65535 (length symbols) then Err Symbols
-      else (if sym wide i then Err Arity
+      if nat_lt MOST_SYMBOLS (length symbols) then Err (Large limit.Symbols)
+      else (if sym wide i then Err (Large limit.Arity)
       else (if not (is_meant m s.settings) then Ok s
       else option_map_or (λ l. after_list l byte s t (formula_made m s t)) list (Ok s))) in
       subst (λ (r : Result Sofar Refusal). IsNo r why) (read ∙ same) refuses
@@ -119,8 +119,8 @@ module _ (m : Mode) (byte : ℕ) (s : Sofar) where
   rule_there t r table (Some made) e is kept =
       let old = take_kept s.symbols table kept in
       let same : after_rule_read m (length s.symbols) (record s { symbols = table }) r ≡ after_rule m s made = λ i.
-      if nat_lt 65535 (length (is.symbols i)) then Err Symbols
-      else (if is.large i then Err Arity
+      if nat_lt MOST_SYMBOLS (length (is.symbols i)) then Err (Large limit.Symbols)
+      else (if is.large i then Err (Large limit.Arity)
       else (if not (is_meant m s.settings) then Ok (record s { symbols = old i })
       else option_map_or (λ k. Err (Misused k)) (is.least i) (Ok (record s { symbols = is.symbols i; weights = s.weights ++ is.rule i ∷ [] })))) in
       same ∙ ap (λ o. option_map_or (after_rule m s) o (unshaped m s)) (sym e)

@@ -1,11 +1,12 @@
 -- What an item makes of what was read so far.
-use Rattle.std.specs.Prelude.{◌≡◌, ℕ, nat_lt, Bool, true, false, not, ◌&&◌, if◌then◌else◌, List, [], ◌∷◌, ◌++◌, length, Option, Some, None, is_some, IsTrue, MatchOption}
+use Rattle.std.specs.Prelude.{◌≡◌, ℕ, nat_lt, Bool, true, false, not, ◌&&◌, if◌then◌else◌, List, [], ◌∷◌, ◌++◌, length, Option, Some, None, MatchOption}
 use Rattle.std.specs.Option.{option_map_or}
 use Rattle.std.specs.declared.result.Result.{Result}
 use Rattle.std.specs.declared.result.Result.TheVariants.{Ok, Err}
 use Rattle.fol_core.specs.Fol.{Fol}
 use Rattle.fol_core.specs.KboRows.{is_weighed}
 use Rattle.fol_core.specs.RawTree.{RawTree}
+use Rattle.fol_problem.specs.declared.problem.Role.{Role}
 use Rattle.fol_problem.specs.declared.problem.Role.TheVariants.{Assumption, Usable, Demodulator, Goal}
 use Rattle.ladr_lex.specs.declared.misuse.Misuse.{Misuse}
 use Rattle.ladr_lex.specs.declared.misuse.Misuse.TheVariants.{UnfitAttribute, UnfitHint, UnfitDemodulator, UnfitRule}
@@ -24,7 +25,8 @@ use Rattle.ladr_rules.specs.Rules.{rule_in, kbo_rule}
 use Rattle.ladr_rules.specs.Shapes.{is_hint, is_demodulator}
 use Rattle.ladr_problem.specs.Sofar.{Sofar, Listed}
 use Rattle.ladr_problem.specs.declared.refusal.Refusal.{Refusal}
-use Rattle.ladr_problem.specs.declared.refusal.Refusal.TheVariants.{Bad, Nesting, Symbols, Arity, Misused, Memory}
+use Rattle.ladr_problem.specs.declared.refusal.Limit.TheVariants as limit
+use Rattle.ladr_problem.specs.declared.refusal.Refusal.TheVariants.{Bad, Large, Misused, Memory}
 use Rattle.ladr_formulas.specs.Formulas.{Made, formula_reading, style_of, names_of_variables}
 use Rattle.ladr_reader.specs.Nesting.{nesting}
 use Rattle.ladr_reader.specs.Table.{table_of}
@@ -55,14 +57,15 @@ abbrev pub IsItemRead : Mode → Sofar → List Lexeme → FileItem → Type 0
 IsItemRead m s ts (command c) =
     (s.settings.list ≡ None) × SaysCommand (commands_of (is_tester m)) ts c
 IsItemRead m s ts (within i) =
-    IsTrue (is_some s.settings.list) × IsListItem (table_of s.settings.operators) ts i
+    (list : OpenList) × (s.settings.list ≡ Some list)
+    × IsListItem list (table_of s.settings.operators) ts i
 
 -- the item can't be read, and token k of it is bad
 abbrev pub IsUnreadable : Mode → Sofar → List Lexeme → ℕ → Type 0
 IsUnreadable m s ts k =
     MatchOption s.settings.list
     (IsCommandFault (commands_of (is_tester m)) ts (command_fault.Bad k))
-    (λ _. IsItemFault (table_of s.settings.operators) ts (term_fault.Bad k))
+    (λ list. IsItemFault list (table_of s.settings.operators) ts (term_fault.Bad k))
 
 abbrev pub style_in : Mode → Sofar → Style
 style_in m s = style_of m s.settings.options.prolog_style_variables
@@ -96,24 +99,34 @@ least_misuse list unfit f least =
     (met (is_demodulators list && not (is_demodulator f)) UnfitDemodulator
     (met unfit UnfitAttribute least))
 
+-- the role of a list's formulas; hints have none
+abbrev pub role_of : FormulaList → Option Role
+role_of Assumptions = Some Assumption
+role_of lists.Usable = Some Usable
+role_of Demodulators = Some Demodulator
+role_of Goals = Some Goal
+role_of Hints = None
+
 -- the formula is added to those of its list
 abbrev pub with_listed : FormulaList → Listed → Option ℕ → Sofar → Sofar
-with_listed Assumptions l w s = record s { formulas = s.formulas ++ (Assumption, l) ∷ [] }
-with_listed lists.Usable l w s = record s { formulas = s.formulas ++ (Usable, l) ∷ [] }
-with_listed Demodulators l w s = record s { formulas = s.formulas ++ (Demodulator, l) ∷ [] }
-with_listed Goals l w s = record s { formulas = s.formulas ++ (Goal, l) ∷ [] }
-with_listed Hints l w s = record s { hints = s.hints ++ (l, w) ∷ [] }
+with_listed list l w s = record s {
+  formulas = option_map_or (λ r. s.formulas ++ (r, l) ∷ []) (role_of list) s.formulas;
+  hints = if is_hints list then s.hints ++ (l, w) ∷ [] else s.hints;
+}
+
+-- what a term in a list states, as it was read
+abbrev pub listed_by : ℕ → RawTree → Made Fol → Listed
+listed_by byte t made = record {
+  formula = made.tree;
+  names = names_of_variables made.reading.variables;
+  label = label_of (attributed t).attributes;
+  byte = byte;
+}
 
 -- with its symbols
 abbrev pub with_formula : FormulaList → ℕ → RawTree → Made Fol → Sofar → Sofar
 with_formula list byte t made s =
-    let l : Listed = record {
-      formula = made.tree;
-      names = names_of_variables made.reading.variables;
-      label = label_of (attributed t).attributes;
-      byte = byte;
-    } in
-    with_listed list l (hint_weight_of (attributed t).attributes)
+    with_listed list (listed_by byte t made) (hint_weight_of (attributed t).attributes)
     (record s { symbols = made.reading.symbols })
 
 -- the formula is misused, or added
@@ -128,8 +141,8 @@ after_list list byte s t made =
 abbrev pub after_formula : Mode → Option FormulaList → ℕ → Sofar → RawTree → Result Sofar Refusal
 after_formula m list byte s t =
     let made = formula_made m s t in
-    if nat_lt MOST_SYMBOLS (length made.reading.symbols) then Err Symbols
-    else (if made.reading.large then Err Arity
+    if nat_lt MOST_SYMBOLS (length made.reading.symbols) then Err (Large limit.Symbols)
+    else (if made.reading.large then Err (Large limit.Arity)
     else (if not (is_meant m s.settings) then Ok s
     else option_map_or (λ l. after_list l byte s t made) list (Ok s)))
 
@@ -144,8 +157,8 @@ unshaped m s = if is_meant m s.settings then Err (Misused UnfitRule) else Ok s
 -- a rule of weights, of the right shape: its symbols count, as those of formulas do
 abbrev pub after_rule : Mode → Sofar → Made Rule → Result Sofar Refusal
 after_rule m s made =
-    if nat_lt MOST_SYMBOLS (length made.reading.symbols) then Err Symbols
-    else (if made.reading.large then Err Arity
+    if nat_lt MOST_SYMBOLS (length made.reading.symbols) then Err (Large limit.Symbols)
+    else (if made.reading.large then Err (Large limit.Arity)
     else (if not (is_meant m s.settings) then Ok s
     else option_map_or (λ k. Err (Misused k)) made.reading.least
     (Ok (record s { symbols = made.reading.symbols; weights = s.weights ++ made.tree ∷ [] }))))
@@ -179,19 +192,15 @@ after_item m byte s ts (command c) = with_settings s (settings_after m c s.setti
 after_item m byte s ts (within closing) =
     Ok (record s { settings = record s.settings { list = None } })
 after_item m byte s ts (within (term t)) =
-    if nat_lt MOST_LEVELS (nesting ts t) then Err Nesting
+    if nat_lt MOST_LEVELS (nesting ts t) then Err (Large limit.Nesting)
     else option_map_or (λ l. after_term m l byte s t) s.settings.list (Ok s)
 
 -- The item is refused so: it can't be read, or is read and passes a limit or is misused. Nothing is
 -- said of memory.
 abbrev pub IsItemRefused : Mode → ℕ → Sofar → List Lexeme → Refusal → Type 0
 IsItemRefused m byte s ts (Bad k) = IsUnreadable m s ts k
-IsItemRefused m byte s ts Nesting =
-    (i : FileItem) × IsItemRead m s ts i × (after_item m byte s ts i ≡ Err Nesting)
-IsItemRefused m byte s ts Symbols =
-    (i : FileItem) × IsItemRead m s ts i × (after_item m byte s ts i ≡ Err Symbols)
-IsItemRefused m byte s ts Arity =
-    (i : FileItem) × IsItemRead m s ts i × (after_item m byte s ts i ≡ Err Arity)
+IsItemRefused m byte s ts (Large what) =
+    (i : FileItem) × IsItemRead m s ts i × (after_item m byte s ts i ≡ Err (Large what))
 IsItemRefused m byte s ts (Misused k) =
     (i : FileItem) × IsItemRead m s ts i × (after_item m byte s ts i ≡ Err (Misused k))
 IsItemRefused m byte s ts Memory = Unit {0}

@@ -17,7 +17,7 @@ use Rattle.ladr_problem.specs.Sofar.{Sofar, Listed, nothing_read}
 use Rattle.ladr_problem.specs.declared.refusal.Limit.{Limit}
 use Rattle.ladr_problem.specs.declared.refusal.Limit.TheVariants as limit
 use Rattle.ladr_problem.specs.declared.refusal.Refusal.{Refusal}
-use Rattle.ladr_problem.specs.declared.refusal.Refusal.TheVariants.{Bad, Nesting, Symbols, Arity, Misused, Memory}
+use Rattle.ladr_problem.specs.declared.refusal.Refusal.TheVariants.{Bad, Large, Misused, Memory}
 use Rattle.ladr_formulas.specs.declared.styles.Mode.{Mode}
 use Rattle.model_tables.specs.Tables.{Finite}
 use Rattle.ladr_formulas.specs.declared.styles.Mode.TheVariants.{Prover, Mace, Tester}
@@ -37,9 +37,7 @@ start_at end ts k = option_map_or (λ t. t.start) (slice_get ts k) end
 -- the refusal of an item that begins at a byte
 abbrev pub refused_at : ℕ → Refusal → Outcome
 refused_at byte (Bad k) = unreadable byte
-refused_at byte Nesting = too_large byte limit.Nesting
-refused_at byte Symbols = too_large byte limit.Symbols
-refused_at byte Arity = too_large byte limit.Arity
+refused_at byte (Large what) = too_large byte what
 refused_at byte (Misused k) = misused byte k
 refused_at byte Memory = unreadable byte
 

@@ -1,6 +1,7 @@
 pub mod Adding
 pub mod Draft
 pub mod File
+pub mod Growth
 pub mod ItemView
 pub mod Items
 pub mod ListItem

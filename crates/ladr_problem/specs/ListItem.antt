@@ -1,4 +1,4 @@
--- What stands in a list: its end, or a term.
+-- What stands in a list that is open: its end, or a term.
 use Rattle.std.specs.Prelude.{◌≡◌, ℕ, ◌+◌, ◌<◌, ◌≤◌, List, [], ◌∷◌, ◌++◌, length, take, codes}
 use Rattle.fol_core.specs.RawTree.{RawTree}
 use Rattle.ladr_lex.specs.declared.limits.TheConstants.{MOST_LEVELS}
@@ -8,6 +8,7 @@ use Rattle.ladr_reader.specs.Reads.{Item}
 use Rattle.ladr_reader.specs.Table.{OperatorTable}
 use Rattle.ladr_reader.specs.declared.fault.TermFault.{TermFault}
 use Rattle.ladr_reader.specs.declared.fault.TermFault.TheVariants.{Bad, Deep, Memory}
+use Rattle.ladr_settings.specs.declared.lists.OpenList.{OpenList}
 
 pub data ListItem : Type 0 where
   closing : ListItem
@@ -17,33 +18,36 @@ pub data ListItem : Type 0 where
 abbrev pub closing_tokens : List Lexeme
 closing_tokens = symbol ordinary (codes "end_of_list") ∷ full_stop ∷ []
 
--- The tokens are this item of a list. `end_of_list.` ends the list also where `end_of_list` is an
+-- The tokens are this item of the list. `end_of_list.` ends the list also where `end_of_list` is an
 -- operator, and is no term there.
-abbrev pub IsListItem : OperatorTable → List Lexeme → ListItem → Type 0
-IsListItem g ts closing = ts ≡ closing_tokens
-IsListItem g ts (term t) = (¬ ts ≡ closing_tokens) × Item g ts t
+abbrev pub IsListItem : OpenList → OperatorTable → List Lexeme → ListItem → Type 0
+IsListItem list g ts closing = ts ≡ closing_tokens
+IsListItem list g ts (term t) = (¬ ts ≡ closing_tokens) × Item g ts t
 
 -- a term that is nested no deeper than its limit, or the end of the list
 abbrev pub IsShallow : List Lexeme → ListItem → Type 0
 IsShallow ts closing = Unit {0}
 IsShallow ts (term t) = nesting ts t ≤ MOST_LEVELS
 
--- some item of a list begins with these tokens
-pub record BeginsListItem (g : OperatorTable) (ts : List Lexeme) : Type 0 where
+-- some item of the list begins with these tokens
+pub record BeginsListItem (list : OpenList) (g : OperatorTable) (ts : List Lexeme) : Type 0 where
   pub more : List Lexeme
   pub item : ListItem
-  pub read : IsListItem g (ts ++ more) item
+  pub read : IsListItem list g (ts ++ more) item
 
--- Token k is the first that goes on with no item of a list, or the tokens end there too early: some
--- item begins with the k tokens before it, and none with it as well.
-pub record IsBadListToken (g : OperatorTable) (ts : List Lexeme) (k : ℕ) : Type 0 where
-  pub within : k ≤ length ts
-  pub before : BeginsListItem g (take k ts)
-  pub here : k < length ts → ¬ BeginsListItem g (take (k + 1) ts)
+-- Token k is the first that goes on with no item of the list, or the tokens end there too early:
+-- some item begins with the k tokens before it, and none with it as well.
+pub record IsBadListToken (list : OpenList) (g : OperatorTable) (ts : List Lexeme) (k : ℕ) : Type 0
+  where
+    pub within : k ≤ length ts
+    pub before : BeginsListItem list g (take k ts)
+    pub here : k < length ts → ¬ BeginsListItem list g (take (k + 1) ts)
 
--- The tokens are no item of a list, and this one is the first bad one; they are a term that is
+-- The tokens are no item of the list, and this one is the first bad one; they are a term that is
 -- nested deeper; nothing is said of memory.
-abbrev pub IsItemFault : OperatorTable → List Lexeme → TermFault → Type 0
-IsItemFault g ts (Bad k) = IsBadListToken g ts k × ((i : ListItem) → ¬ IsListItem g ts i)
-IsItemFault g ts Deep = (t : RawTree) × IsListItem g ts (term t) × (MOST_LEVELS < nesting ts t)
-IsItemFault g ts Memory = Unit {0}
+abbrev pub IsItemFault : OpenList → OperatorTable → List Lexeme → TermFault → Type 0
+IsItemFault list g ts (Bad k) =
+    IsBadListToken list g ts k × ((i : ListItem) → ¬ IsListItem list g ts i)
+IsItemFault list g ts Deep =
+    (t : RawTree) × IsListItem list g ts (term t) × (MOST_LEVELS < nesting ts t)
+IsItemFault list g ts Memory = Unit {0}

@@ -11,7 +11,8 @@ use Rattle.ladr_lex.specs.Lexeme.{Lexeme}
 use Rattle.ladr_problem.specs.Adding.{FileItem, IsItemRead, after_item, least_misuse, with_listed}
 use Rattle.ladr_problem.specs.Sofar.{Sofar, listed_of}
 use Rattle.ladr_problem.specs.declared.refusal.Refusal.{Refusal}
-use Rattle.ladr_problem.specs.declared.refusal.Refusal.TheVariants.{Bad, Nesting, Symbols, Arity, Misused, Memory}
+use Rattle.ladr_problem.specs.declared.refusal.Limit.TheVariants as limit
+use Rattle.ladr_problem.specs.declared.refusal.Refusal.TheVariants.{Bad, Large, Misused, Memory}
 use Rattle.ladr_formulas.specs.declared.formulas.FormulaRead.{FormulaRead}
 use Rattle.ladr_formulas.specs.declared.styles.Mode.{Mode}
 use Rattle.ladr_rules.specs.declared.attributes.Notes.{Notes}
@@ -22,9 +23,7 @@ use Rattle.ladr_settings.specs.declared.lists.FormulaList.{FormulaList}
 -- a term of a list is refused for this; nothing is said of memory
 abbrev pub IsNo : Result Sofar Refusal → Refusal → Type 0
 IsNo r (Bad k) = ⊥
-IsNo r Nesting = ⊥
-IsNo r Symbols = r ≡ Err Symbols
-IsNo r Arity = r ≡ Err Arity
+IsNo r (Large what) = r ≡ Err (Large what)
 IsNo r (Misused k) = r ≡ Err (Misused k)
 IsNo r Memory = Unit {0}
 
@@ -44,8 +43,8 @@ with_read list byte s a r =
 abbrev pub after_formula_read : Mode → Option FormulaList → ℕ → ℕ → Sofar → Notes →
     FormulaRead → Result Sofar Refusal
 after_formula_read m list byte before s a r =
-    if nat_lt MOST_SYMBOLS (length s.symbols) then Err Symbols
-    else (if r.large then Err Arity
+    if nat_lt MOST_SYMBOLS (length s.symbols) then Err (Large limit.Symbols)
+    else (if r.large then Err (Large limit.Arity)
     else (if not (is_meant m s.settings) then Ok (record s { symbols = take before s.symbols })
     else option_map_or (λ l. with_read l byte s a r) list
     (Ok (record s { symbols = take before s.symbols }))))
@@ -58,8 +57,8 @@ IsTaken m byte s ts t = (i : FileItem) × IsItemRead m s ts i × (after_item m b
 -- behind so many
 abbrev pub after_rule_read : Mode → ℕ → Sofar → RuleRead → Result Sofar Refusal
 after_rule_read m before s r =
-    if nat_lt MOST_SYMBOLS (length s.symbols) then Err Symbols
-    else (if r.large then Err Arity
+    if nat_lt MOST_SYMBOLS (length s.symbols) then Err (Large limit.Symbols)
+    else (if r.large then Err (Large limit.Arity)
     else (if not (is_meant m s.settings) then Ok (record s { symbols = take before s.symbols })
     else option_map_or (λ k. Err (Misused k)) r.least
     (Ok (record s { weights = s.weights ++ rule_of r.rule ∷ [] }))))

@@ -2,7 +2,6 @@
 use Rattle.std.specs.Prelude.{ℕ, List}
 use Rattle.ladr_lex.specs.Cuts.{Piece}
 use Rattle.ladr_problem.specs.File.{Outcome, unreadable, misused, too_large, start_at}
-use Rattle.ladr_problem.specs.declared.refusal.Limit.TheVariants as limit
 use Rattle.ladr_problem.specs.declared.refusal.Refusal.{Refusal}
 use Rattle.ladr_problem.specs.declared.refusal.Refusal.TheVariants as refusal
 use Rattle.ladr_problem.specs.declared.stop.RefusalAt.{RefusalAt}
@@ -18,8 +17,6 @@ IsStop says Memory = Unit {0}
 -- the refusal of an item with its place
 abbrev pub by_refusal : ℕ → List Piece → Refusal → RefusalAt
 by_refusal end ts (refusal.Bad k) = Unreadable (start_at end ts k)
-by_refusal end ts refusal.Nesting = TooLarge (start_at end ts 0) limit.Nesting
-by_refusal end ts refusal.Symbols = TooLarge (start_at end ts 0) limit.Symbols
-by_refusal end ts refusal.Arity = TooLarge (start_at end ts 0) limit.Arity
+by_refusal end ts (refusal.Large what) = TooLarge (start_at end ts 0) what
 by_refusal end ts (refusal.Misused row) = Misuse (start_at end ts 0) row
 by_refusal end ts refusal.Memory = Memory

@@ -9,7 +9,7 @@ ghost use Rattle.ladr_problem.specs.Reading.{IsKept};
 ghost use Rattle.ladr_problem.specs.Stops.{IsStop, by_refusal};
 
 use crate::draft::Draft;
-use crate::refusal::{Limit, Refusal};
+use crate::refusal::Refusal;
 use crate::stop::RefusalAt;
 use ladr_formulas::Mode;
 use ladr_lex::{Text, Token, item_from};
@@ -43,9 +43,7 @@ fn by_refusal(end: usize, byte: u64, tokens: &[Token], why: Refusal) -> RefusalA
 {
     match why {
         Refusal::Bad(k) => RefusalAt::Unreadable(start_at(end, tokens, k) as u64),
-        Refusal::Nesting => RefusalAt::TooLarge(byte, Limit::Nesting),
-        Refusal::Symbols => RefusalAt::TooLarge(byte, Limit::Symbols),
-        Refusal::Arity => RefusalAt::TooLarge(byte, Limit::Arity),
+        Refusal::Large(what) => RefusalAt::TooLarge(byte, what),
         Refusal::Misused(misuse) => RefusalAt::Misuse(byte, misuse),
         Refusal::Memory => RefusalAt::Memory,
     }

@@ -9,7 +9,7 @@ ghost use Rattle.ladr_problem.specs.Draft.{sofar_of};
 ghost use Rattle.ladr_problem.specs.Reading.{after_formula_read, with_read, IsNo};
 
 use crate::draft::Draft;
-use crate::refusal::Refusal;
+use crate::refusal::{Limit, Refusal};
 use fol_core::{Raw, RawSub};
 use ladr_formulas::{FormulaRead, Mode, brings_too_many, has_large_arity, read_formula};
 use ladr_lex::{MOST_SYMBOLS, Misuse};
@@ -102,13 +102,13 @@ impl Draft {
     fn refusal_of_large(&mut self, alloc: Global, program: Mode, formula: &Raw) -> Refusal
         ensures { IsNo (if nat_lt MOST_SYMBOLS (length (formula_reading
             (style_in program (sofar_of self.old)) (sofar_of self.old).symbols
-            (raw_of formula.now)).reading.symbols) then Err Refusal.Symbols
-            else Err Refusal.Arity) result }
+            (raw_of formula.now)).reading.symbols) then Err (Refusal.Large Limit.Symbols)
+            else Err (Refusal.Large Limit.Arity)) result }
     {
         let prolog = self.settings.options.prolog_style_variables;
         match brings_too_many(alloc, formula, &mut self.symbols, program, prolog) {
-            Ok(true) => Refusal::Symbols,
-            Ok(false) => Refusal::Arity,
+            Ok(true) => Refusal::Large(Limit::Symbols),
+            Ok(false) => Refusal::Large(Limit::Arity),
             Err(_) => Refusal::Memory,
         }
     }
@@ -131,10 +131,10 @@ impl Draft {
             (sofar_of self.old) notes read)) }
     {
         if self.symbols.len() > MOST_SYMBOLS {
-            return Err(Refusal::Symbols);
+            return Err(Refusal::Large(Limit::Symbols));
         }
         if read.large {
-            return Err(Refusal::Arity);
+            return Err(Refusal::Large(Limit::Arity));
         }
         match list {
             Some(list) if self.settings.is_meant(program) => {

@@ -10,11 +10,12 @@ ghost use Rattle.ladr_reader.specs.declared.fault.TermFault.TheVariants.{Bad};
 ghost use Rattle.ladr_problem.specs.Items.{items_of, lexemes};
 ghost use Rattle.ladr_problem.specs.ListItem.{ListItem, closing, term, IsListItem, IsItemFault};
 ghost use Rattle.ladr_problem.specs.WorkedItems.{with_prefix, two_items};
+ghost use Rattle.ladr_settings.specs.declared.lists.OpenList.{OpenList};
 
 /// Tokens are one item of a list at most.
 pub fn one_item()
-    ensures { (g : OperatorTable) (ts : List Lexeme) (i j : ListItem) → IsListItem g ts i
-        → IsListItem g ts j → i ≡ j }
+    ensures { (list : OpenList) (g : OperatorTable) (ts : List Lexeme) (i j : ListItem)
+        → IsListItem list g ts i → IsListItem list g ts j → i ≡ j }
 {}
 
 /// Tokens are the same as lexemes with their places and without.
@@ -29,16 +30,22 @@ pub fn worked_cuts()
 
 /// Items of lists. `end_of_list.` ends a list also where `end_of_list` is an operator.
 pub fn worked_items()
-    ensures end { IsListItem standard (lexemes_of_text "end_of_list.") closing }
-    ensures term { IsListItem standard (lexemes_of_text "p(a).") (term (unary "p" (constant "a"))) }
-    ensures operator { IsListItem with_prefix (lexemes_of_text "end_of_list.") closing }
-    ensures argument { IsListItem with_prefix (lexemes_of_text "end_of_list a.")
-        (term (unary "end_of_list" (constant "a"))) }
+    ensures end { (list : OpenList) → IsListItem list standard (lexemes_of_text "end_of_list.")
+        closing }
+    ensures term { (list : OpenList) → IsListItem list standard (lexemes_of_text "p(a).")
+        (term (unary "p" (constant "a"))) }
+    ensures operator { (list : OpenList) → IsListItem list with_prefix
+        (lexemes_of_text "end_of_list.") closing }
+    ensures argument { (list : OpenList) → IsListItem list with_prefix
+        (lexemes_of_text "end_of_list a.") (term (unary "end_of_list" (constant "a"))) }
 {}
 
 /// Tokens that are no item of a list, each with its first bad one.
 pub fn worked_item_faults()
-    ensures cut_off { IsItemFault standard (lexemes_of_text "end_of_list") (Bad 1) }
-    ensures operator { IsItemFault with_prefix (lexemes_of_text "end_of_list. a.") (Bad 2) }
-    ensures further { IsItemFault standard (lexemes_of_text "end_of_list a.") (Bad 1) }
+    ensures cut_off { (list : OpenList) → IsItemFault list standard
+        (lexemes_of_text "end_of_list") (Bad 1) }
+    ensures operator { (list : OpenList) → IsItemFault list with_prefix
+        (lexemes_of_text "end_of_list. a.") (Bad 2) }
+    ensures further { (list : OpenList) → IsItemFault list standard
+        (lexemes_of_text "end_of_list a.") (Bad 1) }
 {}

@@ -2,6 +2,7 @@
 ghost use Rattle.std.specs.Prelude.{◌≡◌, ℕ, List, [], codes};
 ghost use Rattle.ladr_lex.specs.declared.misuse.Misuse.TheVariants.{UnknownFlag, TwoKinds, UnfitHint, UnfitDemodulator, UnfitRule, Uncovered};
 ghost use Rattle.ladr_problem.specs.File.{Outcome, Says, problem, unreadable, misused};
+ghost use Rattle.ladr_problem.specs.Growth.{Grown};
 ghost use Rattle.ladr_problem.specs.Proper.{IsProper};
 ghost use Rattle.ladr_problem.specs.Sofar.{Sofar, stated_in, nothing_read};
 ghost use Rattle.ladr_problem.specs.Worked.{labelled_and_goal, one_equation, weighed};
@@ -14,10 +15,14 @@ pub fn one_outcome()
         → o ≡ p }
 {}
 
-/// What a file says to a program is a proper problem.
+/// What a file says to a program has grown of its settings, its formulas and its rules.
+pub fn problems_grow()
+    ensures { (m : Mode) (bytes : List ℕ) (s : Sofar) → Says m bytes (problem s) → Grown m s }
+{}
+
+/// What has grown is a proper problem.
 pub fn problems_are_proper()
-    ensures { (m : Mode) (bytes : List ℕ) (s : Sofar) → Says m bytes (problem s)
-        → IsProper (stated_in s) s.settings.options }
+    ensures { (m : Mode) (s : Sofar) → Grown m s → IsProper (stated_in s) s.settings.options }
 {}
 
 /// Files worked out.

@@ -8,7 +8,8 @@
 // that is named is the one of terms (`proofs/EndLemmas`).
 // `specs/` says the same without code: `File` the items one behind the other, `Adding` what an item adds, `Sofar` what
 // was read so far, `Places` the line, the column and the token of a byte; the other files see the code's data as these.
-// `laws.rt` states that a file says one thing at most, and has files worked out.
+// `Growth` has how what is read grows, whatever text says it; each property of problems is an induction over it.
+// `laws.rt` states that a file says one thing at most, and that what it says has grown, and has files worked out.
 #![tactic(auto)]
 
 mod draft;
@@ -25,6 +26,6 @@ mod stop;
 mod take;
 
 pub use item_laws::{one_item, same_tokens, worked_cuts, worked_item_faults, worked_items};
-pub use laws::{one_outcome, problems_are_proper, worked, worked_formulas};
+pub use laws::{one_outcome, problems_are_proper, problems_grow, worked, worked_formulas};
 pub use read::{FileRead, read_problem, shown, shown_byte};
 pub use refusal::{Limit, Place, ReadError};

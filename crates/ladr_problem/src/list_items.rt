@@ -4,18 +4,20 @@ ghost use Rattle.ladr_lex.specs.Lexeme.{ordinary, symbol, full_stop, lexeme_of, 
 ghost use Rattle.ladr_reader.specs.Table.{table_of};
 ghost use Rattle.ladr_problem.specs.ItemView.{item_of};
 ghost use Rattle.ladr_problem.specs.ListItem.{closing_tokens, IsListItem, IsItemFault, IsShallow};
+ghost use Rattle.ladr_settings.specs.declared.lists.OpenList.{OpenList};
 
 use crate::item::ListItem;
 use ladr_lex::{Ops, Token, TokenKind};
 use ladr_reader::{TermFault, read_term};
 use std::alloc::Global;
 
-/// The item of a list that the tokens are, which are one item with its full stop, or all that is left of a text.
+/// The item that the tokens are in any list, which are one item with its full stop, or all that is left of a text.
 pub fn read_list_item(alloc: Global, ops: &Ops, tokens: &[Token]) -> Result<ListItem, TermFault>
-    ensures read { IfOk result (λ item. IsListItem (table_of ops.now) (lexemes_of tokens.now)
-        (item_of item)) }
+    ensures read { (list : OpenList) → IfOk result (λ item. IsListItem list (table_of ops.now)
+        (lexemes_of tokens.now) (item_of item)) }
     ensures shallow { IfOk result (λ item. IsShallow (lexemes_of tokens.now) (item_of item)) }
-    ensures fault { IfErr result (IsItemFault (table_of ops.now) (lexemes_of tokens.now)) }
+    ensures fault { (list : OpenList) → IfErr result (IsItemFault list (table_of ops.now)
+        (lexemes_of tokens.now)) }
 {
     ops.rows_are_lawful();
     if !begins_with_closing(tokens) {

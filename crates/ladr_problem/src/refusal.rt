@@ -42,9 +42,7 @@ pub enum ReadError {
 #[derive(Clone, Copy)]
 pub enum Refusal {
     Bad(usize),
-    Nesting,
-    Symbols,
-    Arity,
+    Large(Limit),
     Misused(Misuse),
     Memory,
 }
@@ -81,7 +79,7 @@ pub fn by_term(fault: TermFault) -> Refusal
 {
     match fault {
         TermFault::Bad(k) => Refusal::Bad(k),
-        TermFault::Deep => Refusal::Nesting,
+        TermFault::Deep => Refusal::Large(Limit::Nesting),
         TermFault::Memory => Refusal::Memory,
     }
 }

@@ -6,7 +6,7 @@ ghost use Rattle.ladr_problem.specs.Draft.{sofar_of};
 ghost use Rattle.ladr_problem.specs.Reading.{IsNo, after_rule_read};
 
 use crate::draft::Draft;
-use crate::refusal::Refusal;
+use crate::refusal::{Limit, Refusal};
 use fol_core::Raw;
 use ladr_formulas::Mode;
 use ladr_lex::{MOST_SYMBOLS, Misuse};
@@ -43,10 +43,10 @@ impl Draft {
             (sofar_of self.old) read)) }
     {
         if self.symbols.len() > MOST_SYMBOLS {
-            return Err(Refusal::Symbols);
+            return Err(Refusal::Large(Limit::Symbols));
         }
         if read.large {
-            return Err(Refusal::Arity);
+            return Err(Refusal::Large(Limit::Arity));
         }
         if !self.settings.is_meant(program) {
             self.symbols.truncate(before);

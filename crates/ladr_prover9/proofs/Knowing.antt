@@ -13,7 +13,8 @@ use Rattle.ladr_formulas.specs.declared.styles.Mode.TheVariants.{Prover}
 use Rattle.ladr_problem.specs.File.{Says, Outcome}
 use Rattle.ladr_problem.specs.Sofar.{said_in, stated_in}
 use Rattle.ladr_prover9.proofs.Elementless.{NamesNot, all_rows_none}
-use Rattle.ladr_prover9.proofs.FileElements.{says_none}
+use Rattle.ladr_problem.proofs.Growing.{says_grows}
+use Rattle.ladr_prover9.proofs.FileElements.{grown_none}
 use Rattle.ladr_prover9.proofs.Numbered.{AreNumbered}
 use Rattle.ladr_prover9.proofs.Showing.{Known, all_show}
 use Rattle.ladr_prover9.specs.Askings.{IsSoundQuest}
@@ -29,7 +30,7 @@ module _ (law : (prolog : Bool) (table : List Symbol) (t : RawTree) (k : ℕ) �
   asked_none k bytes q h =
       let s = h.0 in
       subst (λ (r : Quest). AllByRecursion (λ (row : InputRow). NamesNot k row.1) (rows_in r.search)) h.2
-      (all_rows_none k (skolem_numbers s.symbols (stated_in s)) (said_in s) (says_none law k bytes s h.1))
+      (all_rows_none k (skolem_numbers s.symbols (stated_in s)) (said_in s) (grown_none law k s (says_grows Prover bytes s h.1)))
 
 -- the lines that a proof rests on are a refutation, of each state that is reached
 pub known_by : (found : FoundProofsRefute) (q : Quest) → IsSoundQuest q → AreNumbered q → ((lines : List PlainLine) → KeepsLimits q → AreRefutingLines q.search lines → LeavesNone q.search) → Known q

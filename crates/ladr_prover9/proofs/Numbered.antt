@@ -22,7 +22,8 @@ use Rattle.ladr_problem.specs.File.{Says, problem}
 use Rattle.ladr_problem.specs.Names.{is_name, are_named}
 use Rattle.ladr_problem.specs.Proper.{IsProper}
 use Rattle.ladr_problem.specs.Sofar.{Sofar, Listed, stated_in}
-use Rattle.ladr_prover9.proofs.FileNames.{IsFlatListed, says_flat}
+use Rattle.ladr_problem.proofs.Growing.{says_grows}
+use Rattle.ladr_prover9.proofs.FileNames.{IsFlatListed, grown_flat}
 use Rattle.ladr_intake.proofs.Names.{name_unbroken}
 use Rattle.ladr_prover9.proofs.StandingProofs.{first, IsNumbered}
 use Rattle.ladr_prover9.proofs.Unbroken.{IsFlat, HasFlatLabel, HasFlatSymbols, text_flat, formula_flat, clause_flat, labelled_flat, words_flat}
@@ -160,7 +161,7 @@ module _ (proper : (m : Mode) (bytes : List ℕ) (s : Sofar) → Says m bytes (p
       let q = quest_by bytes s in
       let own = table_flat s.symbols (proper Prover bytes s says).tellable.named in
       let symbols = all_entered_flat s.symbols (skolems s.symbols (stated_in s).formulas) own (skolems_flat s.symbols 0 0 (all_arities (stated_in s).formulas)) in
-      let all = state_flat q.formulas q.search.stated.formulas (rows_in q.search) t (listed_flat 1 s.formulas (says_flat Prover bytes s says)) in
+      let all = state_flat q.formulas q.search.stated.formulas (rows_in q.search) t (listed_flat 1 s.formulas (grown_flat Prover s (says_grows Prover bytes s says))) in
       lines_numbered q.operators (symbols_in q.search) symbols q.search.options.prolog_style_variables lines
       (subst (AllByRecursion IsFlatLine) (sym h.lines) (all_kept IsFlatLine (λ l. h.among l.number) (quest_lines q t) all))
 

@@ -10,7 +10,7 @@ use clausify::axioms_are_in_order;
 use derivation::lines_without_elements;
 use derivation_laws::{lines_name_no_elements, no_countermodel};
 use ladr_formulas::prover_names_no_element;
-use ladr_problem::{one_outcome, problems_are_proper};
+use ladr_problem::{one_outcome, problems_are_proper, problems_grow};
 use prover_proofs::proofs_refute;
 use prover_steps::searches_end_once;
 use search_lines::{files_are_fit, orders_of_files_keep_variables, rows_are_of_formulas};
@@ -20,6 +20,7 @@ use search_lines::{files_are_fit, orders_of_files_keep_variables, rows_are_of_fo
 pub fn quests_are_sound()
     ensures { (bytes : List ℕ) (q : Quest) → asks bytes q → IsSoundQuest q }
 {
+    problems_grow();
     files_are_fit();
     rows_are_of_formulas();
     orders_of_files_keep_variables();
@@ -46,6 +47,7 @@ pub fn proofs_show()
 {
     one_end();
     one_outcome();
+    problems_grow();
     problems_are_proper();
     prover_names_no_element();
     quests_are_sound();

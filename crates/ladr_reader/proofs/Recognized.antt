@@ -3,9 +3,8 @@ use Rattle.std.proofs.Common.{◌≡◌, ℕ, ◌≤◌, ◌<◌, ◌+◌, Bool,
 use Rattle.std.specs.Option.{is_some}
 use Rattle.fol_core.specs.RawTree.{RawTree}
 use Rattle.fol_core.specs.declared.raw.Quantifier.{Quantifier}
-use Rattle.ladr_lex.specs.Lexeme.{Lexeme, lexeme_of, lexemes_of}
+use Rattle.ladr_lex.specs.Lexeme.{Lexeme, unreadable}
 use Rattle.ladr_lex.specs.declared.operators.Operator.{Operator}
-use Rattle.ladr_lex.specs.declared.token.Token.{Token}
 use Rattle.ladr_reader.specs.Control.{Control, at, turn_of, waits_allow, ends_terms, start, bind_variable, turn_operator, turn_close, turn_comma, turn_stop, turn_act, turn_behind, turn_behind_name, control_step}
 use Rattle.ladr_reader.specs.Machine.{State, standing, start_of, follow_of, variable_of, may_stand_on, closes, whole, begin, bind, behind_operator, behind_close, behind_comma, behind_stop, behind_symbol_name, act, behind_term, step, go, Standing, Operand, Named, Word, Term, Done}
 use Rattle.ladr_reader.specs.Reads.{Item}
@@ -161,14 +160,14 @@ IsControl g ts place ws = control_of (go 0 g (operand []) ts) ≡ at (Some place
 
 -- one token more
 pub control_more :
-    (g : OperatorTable) (tokens : List Token) (i : ℕ) (x : Token) (place : Place) (ws : List Wait) → i < length tokens →
-    x ≡ get_or tokens i x → IsControl g (take i (lexemes_of tokens)) place ws →
-    control_of (go 0 g (operand []) (take (i + 1) (lexemes_of tokens))) ≡ control_step g place ws (lexeme_of x)
-control_more g tokens i x place ws h is e =
+    (g : OperatorTable) (ts : List Lexeme) (i : ℕ) (x : Lexeme) (place : Place) (ws : List Wait) → i < length ts →
+    x ≡ get_or ts i unreadable → IsControl g (take i ts) place ws →
+    control_of (go 0 g (operand []) (take (i + 1) ts)) ≡ control_step g place ws x
+control_more g ts i x place ws h is e =
     let s = state_of _ place ws e in
-    ap control_of (run_more 0 g tokens i x s.stands s.stack h is s.is)
-    ∙ stepped 0 g s.stands s.stack (lexeme_of x)
-    ∙ (λ j. control_step g (s.kind j) (s.waits j) (lexeme_of x))
+    ap control_of (run_more 0 g ts i x s.stands s.stack h is s.is)
+    ∙ stepped 0 g s.stands s.stack x
+    ∙ (λ j. control_step g (s.kind j) (s.waits j) x)
 
 none_of : (s : Option State) → control_of s ≡ None → s ≡ None
 none_of None e = refl

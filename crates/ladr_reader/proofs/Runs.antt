@@ -1,11 +1,11 @@
 -- Runs over the tokens of the code.
-use Rattle.std.proofs.Common.{◌≡◌, ℕ, ◌≤◌, ◌<◌, ◌+◌, List, [], ◌∷◌, ◌++◌, Option, Some, None, length, take, drop, get_or, refl, ap, ◌∙◌, sym, subst, arith, zero, suc, add-one, max, Result, Ok, Err, IfOk, IfErr}
+use Rattle.std.proofs.Common.{◌≡◌, ℕ, ◌≤◌, ◌<◌, ◌+◌, List, [], ◌∷◌, ◌++◌, Option, Some, None, length, take, drop, get_or, refl, ap, ◌∙◌, sym, subst, arith, suc, max, Result, Ok, Err, IfOk, IfErr}
 use Rattle.std.proofs.lemmas.List.{take_more, take-append-drop, take_all, drop_all}
-use Rattle.std.proofs.Math.Seq.{drop-cons}
 use Rattle.fol_core.specs.RawTree.{RawTree, depth}
 use Rattle.fol_core.specs.RawView.{raw_of}
 use Rattle.fol_core.specs.declared.raw.Raw.{Raw}
-use Rattle.ladr_lex.specs.Lexeme.{Lexeme, unreadable, lexeme_of, lexemes_of}
+use Rattle.ladr_lex.specs.declared.limits.TheConstants.{MOST_LEVELS}
+use Rattle.ladr_lex.specs.Lexeme.{Lexeme, unreadable, lexemes_of}
 use Rattle.ladr_lex.specs.declared.token.Token.{Token}
 use Rattle.ladr_reader.specs.Capped.{disjuncts_within, disjuncts}
 use Rattle.ladr_reader.specs.Faults.{IsTermFault, IsFaultWhere}
@@ -31,37 +31,16 @@ pub lexemes_length : (tokens : List Token) → length (lexemes_of tokens) ≡ le
 lexemes_length [] = refl
 lexemes_length (t ∷ ts) = ap suc (lexemes_length ts)
 
-lexeme_at :
-    (tokens : List Token) (i : ℕ) (d : Token) → i < length tokens →
-    get_or (lexemes_of tokens) i unreadable ≡ lexeme_of (get_or tokens i d)
-lexeme_at [] i d h = absurd (omega arith)
-lexeme_at (t ∷ ts) zero d h = refl
-lexeme_at (t ∷ ts) (suc i) d h = lexeme_at ts i d (omega arith)
-
-lexemes_within : (tokens : List Token) (i : ℕ) → i < length tokens → i < length (lexemes_of tokens)
-lexemes_within tokens i h = omega (arith, lexemes_length tokens)
-
--- the tokens from a place on
-pub lexemes_from :
-    (tokens : List Token) (i : ℕ) (x : Token) → i < length tokens → x ≡ get_or tokens i x →
-    drop i (lexemes_of tokens) ≡ lexeme_of x ∷ drop (i + 1) (lexemes_of tokens)
-lexemes_from tokens i x h is =
-    let here : drop i (lexemes_of tokens) ≡ lexeme_of (get_or tokens i x) ∷ drop (i + 1) (lexemes_of tokens) =
-    rw (add-one, ← lexeme_at tokens i x h) (drop-cons (lexemes_of tokens) i unreadable (lexemes_within tokens i h))
-    in
-    here ∙ ap (λ (t : Token). lexeme_of t ∷ drop (i + 1) (lexemes_of tokens)) (sym is)
-
 -- a run over one token more
 pub run_more :
-    (n : ℕ) (g : OperatorTable) (tokens : List Token) (i : ℕ) (x : Token) (place : Standing) (fs : List Frame) → i < length tokens →
-    x ≡ get_or tokens i x → go n g (operand []) (take i (lexemes_of tokens)) ≡ standing (Some place) fs →
-    go n g (operand []) (take (i + 1) (lexemes_of tokens)) ≡ step n g place fs (lexeme_of x)
-run_more n g tokens i x place fs h is e =
-    let ts : List Lexeme = lexemes_of tokens in
-    ap (λ (xs : List Lexeme). go n g (operand []) xs) (take_more ts i unreadable (lexemes_within tokens i h))
+    (n : ℕ) (g : OperatorTable) (ts : List Lexeme) (i : ℕ) (x : Lexeme) (place : Standing) (fs : List Frame) → i < length ts →
+    x ≡ get_or ts i unreadable → go n g (operand []) (take i ts) ≡ standing (Some place) fs →
+    go n g (operand []) (take (i + 1) ts) ≡ step n g place fs x
+run_more n g ts i x place fs h is e =
+    ap (λ (xs : List Lexeme). go n g (operand []) xs) (take_more ts i unreadable h)
     ∙ go_append n g (operand []) (take i ts) (get_or ts i unreadable ∷ [])
     ∙ ap (λ (s : Option State). next n g s (get_or ts i unreadable)) e
-    ∙ ap (λ (l : Lexeme). step n g place fs l) (lexeme_at tokens i x h ∙ ap (λ (t : Token). lexeme_of t) (sym is))
+    ∙ ap (λ (l : Lexeme). step n g place fs l) (sym is)
 
 go_none : (n : ℕ) (g : OperatorTable) (xs : List Lexeme) → go n g None xs ≡ None
 go_none n g [] = refl
@@ -145,21 +124,21 @@ all_noted ts i most unclosed n h e a =
 -- the answer for an item is its tree, unless it is nested too deep
 abbrev pub Answers : OperatorTable → List Lexeme → Result Raw TermFault → Type 0
 Answers g ts r =
-    IfOk r (λ raw. Item g ts (raw_of raw)) × IfOk r (λ raw. nesting ts (raw_of raw) ≤ 500) × IfErr r (IsTermFault g ts)
+    IfOk r (λ raw. Item g ts (raw_of raw)) × IfOk r (λ raw. nesting ts (raw_of raw) ≤ MOST_LEVELS) × IfErr r (IsTermFault g ts)
 
 pub answered :
     (g : OperatorTable) (ts : List Lexeme) (t : RawTree) (n : ℕ) (r : Result Raw TermFault) → Item g ts t → n ≡ most_open 0 ts →
-    IfOk r (λ raw. (raw_of raw ≡ t) × (max (depth t) n ≤ 500)) →
-    IfErr r (λ fault. (fault ≡ Deep) × (500 < max (depth t) n)) → Answers g ts r
+    IfOk r (λ raw. (raw_of raw ≡ t) × (max (depth t) n ≤ MOST_LEVELS)) →
+    IfErr r (λ fault. (fault ≡ Deep) × (MOST_LEVELS < max (depth t) n)) → Answers g ts r
 answered g ts t n (Ok raw) item e ok err = (
   subst (Item g ts) (sym ok.0) item,
-  subst (λ (u : RawTree). nesting ts u ≤ 500) (sym ok.0) (subst (λ (k : ℕ). max (depth t) k ≤ 500) e ok.1),
+  subst (λ (u : RawTree). nesting ts u ≤ MOST_LEVELS) (sym ok.0) (subst (λ (k : ℕ). max (depth t) k ≤ MOST_LEVELS) e ok.1),
   tt,
 )
 answered g ts t n (Err fault) item e ok err = (
   tt,
   tt,
-  subst (IsTermFault g ts) (sym err.0) (t, item, subst (λ (k : ℕ). 500 < max (depth t) k) e err.1),
+  subst (IsTermFault g ts) (sym err.0) (t, item, subst (λ (k : ℕ). MOST_LEVELS < max (depth t) k) e err.1),
 )
 
 -- what is too deep in one sense is so in another
@@ -171,11 +150,11 @@ deep_as leads g ts Memory h = tt
 -- what a run over given tokens tells
 pub run_item :
     (g : OperatorTable) → Lawful g → (ts : List Lexeme) (t : RawTree) (q : ℕ) →
-    go 500 g (operand []) ts ≡ standing (Some (Done (Some (disjuncts t)) q)) [] → Item g ts t
+    go MOST_LEVELS g (operand []) ts ≡ standing (Some (Done (Some (disjuncts t)) q)) [] → Item g ts t
 run_item g lawful ts t q e =
-    let read = sound 500 g lawful ts (Some (disjuncts t)) q [] e in
-    let same : read.0 ≡ t = unbuilt 500 read.0 t (sym read.1) in
+    let read = sound MOST_LEVELS g lawful ts (Some (disjuncts t)) q [] e in
+    let same : read.0 ≡ t = unbuilt MOST_LEVELS read.0 t (sym read.1) in
     subst (Item g ts) same read.2
 
-pub stuck_item : (g : OperatorTable) (ts : List Lexeme) → go 500 g (operand []) ts ≡ None → (t : RawTree) → ¬ Item g ts t
-stuck_item g ts e t item = let read = item_read 500 g item in cc
+pub stuck_item : (g : OperatorTable) (ts : List Lexeme) → go MOST_LEVELS g (operand []) ts ≡ None → (t : RawTree) → ¬ Item g ts t
+stuck_item g ts e t item = let read = item_read MOST_LEVELS g item in cc

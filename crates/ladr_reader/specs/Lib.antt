@@ -1,9 +1,14 @@
 pub mod Capped
 pub mod Control
+pub mod Counts
 pub mod Depths
 pub mod DisjunctView
 pub mod Faults
+pub mod Fixed
+pub mod Fronts
+pub mod HasText
 pub mod Machine
+pub mod Marks
 pub mod Nesting
 pub mod ReadingView
 pub mod Reads

@@ -9,6 +9,8 @@
 // As soon as so much waits that an item can only be too deep (`specs/Depths`), the pass frees what it has built, and
 // `recognizing.rt` goes over the tokens again: it tells whether they are an item at all, and keeps of what waits four
 // bytes apiece, a side and a precedence, but no names and no trees (`waits.rt`, `specs/Control`).
+// `front.rt` reads the term at the front of tokens, up to a delimiter (`specs/Fronts`), and `read_marked` reads tokens of which
+// some are names whatever was declared of them (`specs/Marks`).
 // `laws.rt` states that tokens are one term at most, and has terms and faults worked out. Answered is the one term that
 // tokens are, or the first bad token (`fault.rt`).
 #![tactic(auto)]
@@ -16,6 +18,7 @@
 mod capped;
 mod disjuncts;
 mod fault;
+mod front;
 mod laws;
 mod nesting;
 mod place;
@@ -28,8 +31,9 @@ mod step;
 mod waits;
 
 pub use fault::TermFault;
+pub use front::read_front;
 pub use laws::{
     one_reading, quoted_symbols, worked_declared, worked_disjuncts, worked_faults, worked_levels,
     worked_terms,
 };
-pub use read::{read_literals, read_term, read_tree};
+pub use read::{read_literals, read_marked, read_term, read_tree};

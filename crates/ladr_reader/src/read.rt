@@ -6,6 +6,7 @@ ghost use Rattle.ladr_lex.specs.Lexeme.{lexemes_of};
 ghost use Rattle.ladr_reader.specs.Capped.{unless_too_deep, disjuncts_within, disjuncts, all_within};
 ghost use Rattle.ladr_reader.specs.Depths.{IsTooDeep};
 ghost use Rattle.ladr_reader.specs.Faults.{IsTermFault, IsFaultWhere, IsTermRead};
+ghost use Rattle.ladr_reader.specs.Marks.{marked};
 ghost use Rattle.ladr_reader.specs.Nesting.{nesting, most_open};
 ghost use Rattle.ladr_reader.specs.Reads.{Item};
 ghost use Rattle.ladr_reader.specs.Table.{table_of};
@@ -15,9 +16,9 @@ use crate::capped::{Build, Capped};
 use crate::fault::TermFault;
 use crate::nesting::Parentheses;
 use crate::place::{Reading, Spot};
-use crate::recognizing::recognize;
+use crate::recognizing::{is_marked, recognize};
 use crate::stack::Stack;
-use crate::step::step;
+use crate::step::step_marked;
 use fol_core::Raw;
 use ladr_lex::{MOST_LEVELS, Ops, Token};
 use std::alloc::Global;
@@ -38,7 +39,7 @@ pub fn read_term(alloc: Global, ops: &Ops, tokens: &[Token]) -> Result<Raw, Term
         most: MOST_LEVELS,
     };
     let mut reading = Reading::new(build);
-    let most_open = read_disjuncts(build, ops, tokens, false, &mut reading)?;
+    let most_open = read_disjuncts(build, ops, tokens, &[], false, &mut reading)?;
     let tree = reading.term.take_whole(build)?;
     shallow(tree, most_open)
 }
@@ -51,9 +52,28 @@ pub fn read_tree(alloc: Global, ops: &Ops, tokens: &[Token], most: u16) -> Resul
     ensures fault { IfErr result
         (IsFaultWhere (λ t. most < depth t) (table_of ops.now) (lexemes_of tokens.now)) }
 {
+    read_marked(alloc, ops, tokens, &[], most)
+}
+
+/// The same, where some tokens are names whatever operators or words they are: marks tell of each token whether it is one, and
+/// those behind the last mark are none.
+pub fn read_marked(
+    alloc: Global,
+    ops: &Ops,
+    tokens: &[Token],
+    names: &[bool],
+    most: u16,
+) -> Result<Raw, TermFault>
+    ensures read { IfOk result (λ raw. Item (table_of ops.now)
+        (marked names.now (lexemes_of tokens.now)) (raw_of raw)) }
+    ensures shallow { IfOk result (λ raw. depth (raw_of raw) ≤ most) }
+    ensures fault { IfErr result
+        (IsFaultWhere (λ t. most < depth t) (table_of ops.now)
+        (marked names.now (lexemes_of tokens.now))) }
+{
     let build = Build { alloc, most };
     let mut reading = Reading::new(build);
-    let _open = read_disjuncts(build, ops, tokens, false, &mut reading)?;
+    let _open = read_disjuncts(build, ops, tokens, names, false, &mut reading)?;
     let tree = reading.term.take_whole(build)?;
     match tree.into_tree() {
         Some(raw) => Ok(raw),
@@ -79,7 +99,7 @@ pub fn read_literals(
 {
     let build = Build { alloc, most };
     let mut reading = Reading::new(build);
-    let _open = read_disjuncts(build, ops, tokens, true, &mut reading)?;
+    let _open = read_disjuncts(build, ops, tokens, &[], true, &mut reading)?;
     let Reading { term, .. } = reading;
     match term.into_literals()? {
         Some(literals) => Ok(literals),
@@ -93,21 +113,22 @@ fn read_disjuncts(
     build: Build,
     ops: &Ops,
     tokens: &[Token],
+    names: &[bool],
     literals: bool,
     reading: &mut Reading,
 ) -> Result<usize, TermFault>
     requires { reading.old.spot ≡ AtOperand }
     ensures read { IfOk result (λ most_open. IsTermRead build.most (table_of ops.now)
-        (lexemes_of tokens.now) reading.new.term most_open) }
+        (marked names.now (lexemes_of tokens.now)) reading.new.term most_open) }
     ensures fault { IfErr result (IsFaultWhere (IsTooDeep literals build.most) (table_of ops.now)
-        (lexemes_of tokens.now)) }
+        (marked names.now (lexemes_of tokens.now))) }
 {
-    let found = read_shallow(build, ops, tokens, literals, reading)?;
+    let found = read_shallow(build, ops, tokens, names, literals, reading)?;
     match found {
         Some(most_open) => Ok(most_open),
         None => {
             *reading = Reading::new(build);
-            recognize(build.alloc, ops, tokens)?;
+            recognize(build.alloc, ops, tokens, names)?;
             Err(TermFault::Deep)
         }
     }
@@ -120,17 +141,18 @@ fn read_shallow(
     build: Build,
     ops: &Ops,
     tokens: &[Token],
+    names: &[bool],
     literals: bool,
     reading: &mut Reading,
 ) -> Result<Option<usize>, TermFault>
     requires { reading.old.spot ≡ AtOperand }
     ensures read { IfOk result (λ read. MatchOption read
-        ((t : RawTree) → Item (table_of ops.now) (lexemes_of tokens.now) t
+        ((t : RawTree) → Item (table_of ops.now) (marked names.now (lexemes_of tokens.now)) t
         → IsTooDeep literals build.most t)
-        (λ most_open. IsTermRead build.most (table_of ops.now) (lexemes_of tokens.now)
+        (λ most_open. IsTermRead build.most (table_of ops.now) (marked names.now (lexemes_of tokens.now))
         reading.new.term most_open)) }
     ensures fault { IfErr result (IsFaultWhere (λ _. ⊥) (table_of ops.now)
-        (lexemes_of tokens.now)) }
+        (marked names.now (lexemes_of tokens.now))) }
 {
     ops.rows_are_lawful();
     let mut stack = Stack::new(build.alloc);
@@ -140,7 +162,8 @@ fn read_shallow(
             return Ok(None);
         }
         parentheses.note(token);
-        let goes = step(build, ops, &mut stack, reading, token)?;
+        let is_name = is_marked(names, i);
+        let goes = step_marked(build, ops, &mut stack, reading, token, is_name)?;
         if !goes {
             return Err(TermFault::Bad(i));
         }

@@ -1,11 +1,12 @@
 // Whether tokens are an item, in little memory: one pass that keeps no names and builds no trees.
-ghost use Rattle.std.specs.Prelude.{◌≡◌, ℕ, ◌<◌, length, IfOk, IfErr, MatchOption};
+ghost use Rattle.std.specs.Prelude.{◌≡◌, ℕ, ◌<◌, false, length, get_or, IfOk, IfErr, MatchOption};
 ghost use Rattle.fol_core.specs.RawTree.{RawTree};
-ghost use Rattle.ladr_lex.specs.Lexeme.{lexeme_of, lexemes_of};
+ghost use Rattle.ladr_lex.specs.Lexeme.{lexeme_of, lexemes_of, quoted, symbol};
 ghost use Rattle.ladr_lex.specs.Operators.{operator_of, if_prefix, if_after};
 ghost use Rattle.ladr_reader.specs.Control.{at, turn_of, ends_terms, start, bind_variable, turn_behind_name, turn_behind, turn_act, turn_operator, turn_close, turn_comma, turn_stop, control_step};
 ghost use Rattle.ladr_reader.specs.Faults.{IsFaultWhere};
 ghost use Rattle.ladr_reader.specs.Machine.{start_of, start_of_symbol, follow_of, follow_of_symbol, variable_of};
+ghost use Rattle.ladr_reader.specs.Marks.{as_name, if_marked, in_quotes, marked};
 ghost use Rattle.ladr_reader.specs.Reads.{Item};
 ghost use Rattle.ladr_reader.specs.Table.{table_of, quantifier_of, may_be_bound, right};
 
@@ -38,18 +39,24 @@ pub enum Turn {
     Unfit,
 }
 
-/// Whether the tokens are an item; where they are none, the first of them that goes on with no readable item is the fault.
-pub fn recognize(alloc: Global, ops: &Ops, tokens: &[Token]) -> Result<(), TermFault>
-    ensures item { IfOk result (λ _. (t : RawTree) × Item (table_of ops.now) (lexemes_of tokens.now)
-        t) }
+/// Whether the tokens are an item, where marks tell which of them are names; where they are none, the first of them that goes
+/// on with no readable item is the fault.
+pub fn recognize(
+    alloc: Global,
+    ops: &Ops,
+    tokens: &[Token],
+    names: &[bool],
+) -> Result<(), TermFault>
+    ensures item { IfOk result (λ _. (t : RawTree) × Item (table_of ops.now)
+        (marked names.now (lexemes_of tokens.now)) t) }
     ensures fault { IfErr result (IsFaultWhere (λ _. ⊥) (table_of ops.now)
-        (lexemes_of tokens.now)) }
+        (marked names.now (lexemes_of tokens.now))) }
 {
     ops.rows_are_lawful();
     let mut waits = Waits::new(alloc);
     let mut place = Place::BeforeOperand;
     for (i, token) in tokens.iter().enumerate() {
-        match control_step(ops, &mut waits, place, token)? {
+        match control_marked(ops, &mut waits, place, token, is_marked(names, i))? {
             Some(next) => place = next,
             None => return Err(TermFault::Bad(i)),
         }
@@ -57,6 +64,77 @@ pub fn recognize(alloc: Global, ops: &Ops, tokens: &[Token]) -> Result<(), TermF
     match place {
         Place::BehindItem => Ok(()),
         _ => Err(TermFault::Bad(tokens.len())),
+    }
+}
+
+/// The mark of a token; one behind the last mark has none.
+#[inline(always)]
+pub fn is_marked(names: &[bool], i: usize) -> bool
+    ensures { result ≡ get_or names.now i false }
+{
+    match names.get(i) {
+        Some(mark) => *mark,
+        None => false,
+    }
+}
+
+// One token more, which may be marked as a name.
+fn control_marked(
+    ops: &Ops,
+    waits: &mut Waits,
+    place: Place,
+    token: &Token,
+    is_name: bool,
+) -> Result<Option<Place>, AllocError>
+    ensures { IfOk result (λ next. at next waits.new
+        ≡ control_step (table_of ops.now) place waits.old
+        (if_marked is_name (lexeme_of token.now))) }
+{
+    if is_name {
+        control_name(ops, waits, place, token)
+    } else {
+        control_step(ops, waits, place, token)
+    }
+}
+
+// One that is read as a name, whatever operator or word it is.
+fn control_name(
+    ops: &Ops,
+    waits: &mut Waits,
+    place: Place,
+    token: &Token,
+) -> Result<Option<Place>, AllocError>
+    ensures { IfOk result (λ next. at next waits.new
+        ≡ control_step (table_of ops.now) place waits.old (as_name (lexeme_of token.now))) }
+{
+    match token.kind() {
+        TokenKind::Ordinary | TokenKind::Quoted | TokenKind::Special => {
+            control_quoted(ops, waits, place, token.text())
+        }
+        _ => control_step(ops, waits, place, token),
+    }
+}
+
+// A symbol in quotes, which has no operator and is no word.
+#[tactic(auto, using(crate::proofs::Names::name_starts, crate::proofs::Names::name_follows))]
+fn control_quoted(
+    ops: &Ops,
+    waits: &mut Waits,
+    place: Place,
+    text: &[u8],
+) -> Result<Option<Place>, AllocError>
+    ensures { IfOk result (λ next. at next waits.new
+        ≡ control_step (table_of ops.now) place waits.old
+        (symbol quoted (in_quotes text.now))) }
+{
+    ops.rows_are_lawful();
+    let _ = text;
+    match place {
+        Place::BeforeOperand => Ok(Some(Place::BehindName)),
+        Place::BehindName => turn_behind_name(waits, Turn::Unfit),
+        Place::BehindWord => bind_variable(waits, false),
+        Place::BehindTerm(precedence) => turn_behind(waits, Turn::Unfit, precedence),
+        Place::BehindItem => Ok(None),
     }
 }
 

@@ -1,9 +1,10 @@
 // One token more, and all that it ends.
 ghost use Rattle.std.specs.Prelude.{◌≡◌, ◌<◌, length, true, OnOk, IfOk};
-ghost use Rattle.ladr_lex.specs.Lexeme.{lexeme_of};
+ghost use Rattle.ladr_lex.specs.Lexeme.{full_stop, lexeme_of, quoted, symbol};
 ghost use Rattle.ladr_reader.specs.Machine.{step, begin, bind, behind_symbol_name, behind_term, last_is_closed, act, whole, behind_operator, behind_close, behind_comma, behind_stop};
+ghost use Rattle.ladr_reader.specs.Marks.{as_name, if_marked, in_quotes};
 ghost use Rattle.ladr_reader.specs.ReadingView.{standing_of, goes_on};
-ghost use Rattle.ladr_reader.specs.Table.{table_of, right};
+ghost use Rattle.ladr_reader.specs.Table.{OperatorTable, table_of, right};
 ghost use Rattle.ladr_reader.specs.declared.roles.TermStart.TheVariants.{Precedes};
 
 use crate::capped::{Arguments, Build};
@@ -13,8 +14,8 @@ use crate::roles::{Follow, TermStart, variable_of};
 use crate::sides::{QUANTIFIED, Side, grows, left, right};
 use crate::stack::{Frame, Part, Stack};
 use fol_core::{Name, Quantifier};
-use ladr_lex::{Operator, Ops, Token};
-use std::alloc::AllocError;
+use ladr_lex::{Operator, Ops, Token, TokenKind};
+use std::alloc::{AllocError, Global};
 use std::mem;
 
 /// Goes on behind the token; answers whether a term may begin so.
@@ -44,6 +45,99 @@ pub fn step(
             )
         }
         Spot::AtStop(_) => Ok(false),
+    }
+}
+
+/// Goes on behind the token, which may be marked as a name.
+#[inline(always)]
+pub fn step_marked(
+    build: Build,
+    ops: &Ops,
+    stack: &mut Stack,
+    reading: &mut Reading,
+    token: &Token,
+    is_name: bool,
+) -> Result<bool, AllocError>
+    ensures { IfOk result (λ goes.
+        goes_on goes reading.new stack.new ≡ step build.most (table_of ops.now)
+        (standing_of reading.old) stack.old (if_marked is_name (lexeme_of token.now))) }
+{
+    if is_name {
+        step_name(build, ops, stack, reading, token)
+    } else {
+        step(build, ops, stack, reading, token)
+    }
+}
+
+// Goes on behind a token that is read as a name, whatever operator or word it is.
+#[inline(never)]
+fn step_name(
+    build: Build,
+    ops: &Ops,
+    stack: &mut Stack,
+    reading: &mut Reading,
+    token: &Token,
+) -> Result<bool, AllocError>
+    ensures { IfOk result (λ goes.
+        goes_on goes reading.new stack.new ≡ step build.most (table_of ops.now)
+        (standing_of reading.old) stack.old (as_name (lexeme_of token.now))) }
+{
+    match token.kind() {
+        TokenKind::Ordinary | TokenKind::Quoted | TokenKind::Special => {
+            step_quoted(build, ops, stack, reading, token.text())
+        }
+        _ => step(build, ops, stack, reading, token),
+    }
+}
+
+// Goes on behind a symbol in quotes, which has no operator and is no word.
+#[tactic(auto, using(crate::proofs::Names::name_starts, crate::proofs::Names::name_follows))]
+fn step_quoted(
+    build: Build,
+    ops: &Ops,
+    stack: &mut Stack,
+    reading: &mut Reading,
+    text: &[u8],
+) -> Result<bool, AllocError>
+    ensures { IfOk result (λ goes.
+        goes_on goes reading.new stack.new ≡ step build.most (table_of ops.now)
+        (standing_of reading.old) stack.old (symbol quoted (in_quotes text.now))) }
+{
+    ops.rows_are_lawful();
+    match reading.spot {
+        Spot::AtOperand => begin(
+            stack,
+            reading,
+            TermStart::Names(in_quotes(build.alloc, text)?),
+        ),
+        Spot::AtSymbol => behind_name(build, stack, reading, Follow::FollowsNot),
+        Spot::AtWord(quantifier) => bind(stack, reading, quantifier, None),
+        Spot::AtTerm(precedence) => after(build, stack, reading, Follow::FollowsNot, precedence),
+        Spot::AtStop(_) => Ok(false),
+    }
+}
+
+// The name in quotes.
+fn in_quotes(alloc: Global, text: &[u8]) -> Result<Name, AllocError>
+    ensures { IfOk result (λ name. name ≡ in_quotes text.now) }
+{
+    let mut bytes = Vec::new(alloc);
+    bytes.push(b'"')?;
+    bytes.extend_from_slice(text)?;
+    bytes.push(b'"')?;
+    Ok(Name::new(bytes))
+}
+
+/// Goes on behind a full stop.
+pub fn step_stop(build: Build, stack: &mut Stack, reading: &mut Reading) -> Result<bool, AllocError>
+    ensures { (g : OperatorTable) → IfOk result (λ goes.
+        goes_on goes reading.new stack.new ≡ step build.most g (standing_of reading.old) stack.old
+        full_stop) }
+{
+    match reading.spot {
+        Spot::AtOperand | Spot::AtWord(_) | Spot::AtStop(_) => Ok(false),
+        Spot::AtSymbol => behind_name(build, stack, reading, Follow::Stops),
+        Spot::AtTerm(precedence) => after(build, stack, reading, Follow::Stops, precedence),
     }
 }
 

@@ -1,3 +1,5 @@
+mod Counted
 mod OrderLemmas
 mod Rows
+pub mod Following
 pub mod Ranges

@@ -3,7 +3,7 @@ use Rattle.std.proofs.Common.{◌≡◌, ℕ, Bool, true, false, List, Some, Non
 use Rattle.std.specs.List.{list_any}
 use Rattle.std.proofs.lemmas.Result.{IfOk-at_ok}
 use Rattle.ladr_lex.specs.declared.misuse.Misuse.{Misuse}
-use Rattle.ladr_lex.specs.declared.misuse.Misuse.TheVariants.{UnknownList, UnfitOperator, UnfitSymbol, TooLate, UnmatchedIf, UnfitRule, UnfitInterpretation}
+use Rattle.ladr_lex.specs.declared.misuse.Misuse.TheVariants.{UnknownParameter, UnknownList, UnfitOperator, UnfitSymbol, TooLate, UnmatchedIf, UnfitRule, UnfitInterpretation}
 use Rattle.ladr_commands.specs.declared.command.Command.{Command}
 use Rattle.ladr_commands.specs.declared.command.Command.TheVariants as command
 use Rattle.ladr_commands.specs.declared.command.Value.{Value}
@@ -11,13 +11,13 @@ use Rattle.ladr_commands.specs.declared.command.Value.TheVariants as value
 use Rattle.ladr_lex.specs.Operators.{is_unfit_operator, is_unfit_symbol}
 use Rattle.ladr_interpretations.specs.Good.{is_good}
 use Rattle.ladr_options.proofs.Ranges.{flagged_in_range, numbered_in_range, symbolized_in_range}
-use Rattle.ladr_options.specs.Options.{flagged, numbered, symbolized}
+use Rattle.ladr_options.specs.Options.{flagged, is_among, numbered, symbolized}
 use Rattle.ladr_options.specs.Ranges.{AreInRange}
 use Rattle.ladr_options.specs.declared.options.Options.{Options}
 use Rattle.ladr_options.specs.declared.options.OptionError.{OptionError}
 use Rattle.ladr_formulas.specs.declared.styles.Mode.{Mode}
 use Rattle.fol_core.specs.NamesOnce.{are_apart}
-use Rattle.ladr_settings.specs.Settings.{settings_after, after_meant, after_other, after_value, after_opening, all_declared, is_other, flag_misuse, parameter_misuse, with_options, is_late_style, is_meant, formulas_opened, rules_opened}
+use Rattle.ladr_settings.specs.Settings.{settings_after, after_meant, after_other, after_value, with_assigned, kept_back, after_opening, all_declared, is_other, flag_misuse, parameter_misuse, with_options, is_late_style, is_meant, formulas_opened, rules_opened}
 use Rattle.ladr_settings.specs.declared.lists.OpenList.{OpenList}
 use Rattle.ladr_settings.specs.declared.settings.Settings.{Settings}
 
@@ -33,9 +33,12 @@ options_in_range : (s : Settings) (row : OptionError → Misuse) (made : Result 
 options_in_range s row (Ok o) h = h o refl
 options_in_range s row (Err e) h = tt
 
+assigned_in_range : (name : List ℕ) (v : Value) (s : Settings) → InRange s → IfOk (with_assigned name v s) InRange
+assigned_in_range name (value.Symbol text) s h = options_in_range s parameter_misuse (symbolized name text s.options) (λ o e. symbolized_in_range name text s.options o e h)
+assigned_in_range name (value.Number negative n) s h = options_in_range s parameter_misuse (numbered name negative n s.options) (λ o e. numbered_in_range name negative n s.options o e h)
+
 value_in_range : (name : List ℕ) (v : Value) (s : Settings) → InRange s → IfOk (after_value name v s) InRange
-value_in_range name (value.Symbol text) s h = options_in_range s parameter_misuse (symbolized name text s.options) (λ o e. symbolized_in_range name text s.options o e h)
-value_in_range name (value.Number negative n) s h = options_in_range s parameter_misuse (numbered name negative n s.options) (λ o e. numbered_in_range name negative n s.options o e h)
+value_in_range name v s h = either_way (is_among kept_back name) (Err UnknownParameter) (with_assigned name v s) tt (assigned_in_range name v s h)
 
 opening_in_range : (list : OpenList) (s : Settings) → InRange s → IfOk (after_opening list s) InRange
 opening_in_range list s h = either_way (is_other list) (Err UnknownList) (Ok (record s { list = Some list; listed = true })) tt h

@@ -15,7 +15,7 @@ use Rattle.ladr_lex.specs.Operators.{OperatorRow, standard_rows, is_unfit_operat
 use Rattle.ladr_lex.specs.declared.misuse.Misuse.{Misuse}
 use Rattle.ladr_lex.specs.declared.misuse.Misuse.TheVariants.{UnknownFlag, UnknownParameter, UnfitValue, UnknownList, UnfitOperator, UnfitSymbol, TooLate, UnmatchedIf, UnfitRule, UnfitInterpretation}
 use Rattle.ladr_interpretations.specs.Good.{is_good}
-use Rattle.ladr_options.specs.Options.{start, flagged, numbered, symbolized}
+use Rattle.ladr_options.specs.Options.{start, flagged, is_among, numbered, symbolized}
 use Rattle.ladr_options.specs.declared.options.Options.{Options}
 use Rattle.ladr_options.specs.declared.options.OptionError.{OptionError}
 use Rattle.ladr_options.specs.declared.options.OptionError.TheVariants.{Unknown, NotAValue}
@@ -88,11 +88,19 @@ after_flag on name s =
     if is_late_style name s then Err TooLate
     else with_options s flag_misuse (flagged name on s.options)
 
-abbrev pub after_value : List ℕ → Value → Settings → Result Settings Misuse
-after_value name (value.Symbol text) s =
+-- the parameters that no file sets yet
+abbrev pub kept_back : List (List ℕ)
+kept_back = codes "proof_format" ∷ codes "eval_limit" ∷ []
+
+abbrev pub with_assigned : List ℕ → Value → Settings → Result Settings Misuse
+with_assigned name (value.Symbol text) s =
     with_options s parameter_misuse (symbolized name text s.options)
-after_value name (value.Number negative n) s =
+with_assigned name (value.Number negative n) s =
     with_options s parameter_misuse (numbered name negative n s.options)
+
+abbrev pub after_value : List ℕ → Value → Settings → Result Settings Misuse
+after_value name v s =
+    if is_among kept_back name then Err UnknownParameter else with_assigned name v s
 
 -- the table of operators once all these symbols are declared
 abbrev pub all_declared : ℕ → List ℕ → List (List ℕ) → List OperatorRow → List OperatorRow

@@ -1,5 +1,5 @@
 // Commands and what they make of settings, worked out.
-ghost use Rattle.std.specs.Prelude.{◌≡◌, true, [], ◌∷◌, Ok, Err, Some, codes};
+ghost use Rattle.std.specs.Prelude.{◌≡◌, false, true, [], ◌∷◌, Ok, Err, Some, codes};
 ghost use Rattle.ladr_lex.specs.declared.misuse.Misuse.TheVariants.{UnknownFlag, UnknownParameter, UnfitValue, UnknownList, UnfitOperator, UnfitSymbol, TooLate, UnmatchedIf, UnfitRule, UnfitInterpretation};
 ghost use Rattle.ladr_commands.specs.ByName.{by_name};
 ghost use Rattle.ladr_commands.specs.declared.command.Command.{Command};
@@ -19,6 +19,13 @@ pub fn worked()
         ≡ Err UnknownFlag }
     ensures unknown_parameter { settings_after Prover
         (command.Assign (codes "max_depth") (value.Number true 1)) at_start ≡ Err UnknownParameter }
+    // Some parameters are no file's yet.
+    ensures kept_back { settings_after Prover
+        (command.Assign (codes "proof_format") (value.Number false 2)) at_start
+        ≡ Err UnknownParameter }
+    ensures kept_back_symbol { settings_after Prover
+        (command.Assign (codes "eval_limit") (value.Symbol (codes "none"))) at_start
+        ≡ Err UnknownParameter }
     ensures unfit_value { settings_after Prover (command.Assign (codes "order")
         (value.Symbol (codes "rpo"))) at_start ≡ Err UnfitValue }
     ensures unknown_list { settings_after Prover (command.Formulas (codes "theorems")) at_start

@@ -2,7 +2,8 @@
 ghost use Rattle.std.specs.Prelude.{◌≡◌, ℕ, OnOk, IfOk, Ok, Err};
 ghost use Rattle.std.specs.Option.{option_map_or};
 ghost use Rattle.ladr_lex.specs.declared.misuse.Misuse.{Misuse};
-ghost use Rattle.ladr_settings.specs.Settings.{is_for, is_meant, settings_after, after_meant, after_other, after_flag, after_value, after_operators, after_order, after_opening, after_if, after_end_if, after_interpretation, parameter_misuse, at_start};
+ghost use Rattle.ladr_options.specs.Options.{is_among};
+ghost use Rattle.ladr_settings.specs.Settings.{is_for, kept_back, is_meant, settings_after, after_meant, after_other, after_flag, after_value, after_operators, after_order, after_opening, after_if, after_end_if, after_interpretation, parameter_misuse, at_start};
 ghost use Rattle.ladr_settings.specs.declared.settings.SettingsError.TheVariants.{Misused, Memory};
 
 use crate::lists::OpenList;
@@ -143,6 +144,9 @@ impl Settings {
         ensures row { (m : Misuse) → result ≡ Err (Misused m)
             → after_value name.now value.now self.old ≡ Err m }
     {
+        if is_kept_back(name) {
+            return Err(SettingsError::Misused(Misuse::UnknownParameter));
+        }
         let assigned = match value {
             Value::Symbol(text) => self.options.assign_symbol(name, text.bytes()),
             Value::Number(negative, size) => self.options.assign_number(name, *negative, *size),
@@ -246,6 +250,13 @@ impl Settings {
             Err(NamedError::Memory) => Err(SettingsError::Memory),
         }
     }
+}
+
+// Whether no file sets the parameter of a name yet.
+fn is_kept_back(name: &[u8]) -> bool
+    ensures { result ≡ is_among kept_back name.now }
+{
+    name == b"proof_format".as_slice() || name == b"eval_limit".as_slice()
 }
 
 // Whether the items behind `if` of a name are for a program.

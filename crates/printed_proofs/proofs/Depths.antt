@@ -14,6 +14,7 @@ use Rattle.ladr_formulas.specs.Formulas.{Reading, Made, Bound, meets, with_varia
 use Rattle.ladr_formulas.specs.declared.connectives.Connective.{Connective}
 use Rattle.ladr_formulas.specs.declared.connectives.Connective.TheVariants.{And, Or, IfThen, ThenIf, IfAndOnlyIf}
 use Rattle.ladr_formulas.specs.declared.styles.Style.{Style}
+use Rattle.ladr_lex.specs.declared.limits.TheConstants.{MOST_LEVELS}
 use Rattle.ladr_lex.specs.declared.misuse.Misuse.TheVariants.{QuantifierInTerm, UnfitNumeral}
 use Rattle.ladr_print.specs.FormulaText.{two, denial, formula_raw, with_attribute}
 use Rattle.ladr_print.specs.TermText.{Naming, term_raw, terms_raw}
@@ -143,18 +144,18 @@ label_levels : (n : ℕ) (ts : List RawTree) → AllWithin n ts → IfSome (labe
 label_levels n [] h = tt
 label_levels n (t ∷ ts) h = cond_both (is_label t) _ _ (λ (o : Option RawTree). IfSome o (λ l. depth l ≤ n)) (λ e. h.0) (λ e. label_levels n ts h.1)
 
-with_label : (o : Option RawTree) (t : RawTree) (n m : ℕ) → depth t ≤ n → IfSome o (λ l. depth l ≤ m) → suc (max n m) ≤ 500 → depth (with_attribute o t) ≤ 500
+with_label : (o : Option RawTree) (t : RawTree) (n m : ℕ) → depth t ≤ n → IfSome o (λ l. depth l ≤ m) → suc (max n m) ≤ MOST_LEVELS → depth (with_attribute o t) ≤ MOST_LEVELS
 with_label None t n m h k l = omega (arith, h, l)
 with_label (Some u) t n m h k l = omega (arith, h, k, l)
 
 -- a formula of such a term is printed with its label in at most as many levels
-pub labelled_levels : (t u : RawTree) → depth t ≤ 500 → depth u ≤ depth (attributed t).formula → depth (with_attribute (label_of (attributed t).attributes) u) ≤ 500
+pub labelled_levels : (t u : RawTree) → depth t ≤ MOST_LEVELS → depth u ≤ depth (attributed t).formula → depth (with_attribute (label_of (attributed t).attributes) u) ≤ MOST_LEVELS
 labelled_levels (quantified q x t) u h k = omega (arith, h, k)
 labelled_levels (named s no_raws) u h k = omega (arith, h, k)
 labelled_levels (named s (more_raws t no_raws)) u h k = omega (arith, h, k)
 labelled_levels (named s (more_raws t (more_raws w no_raws))) u h i =
     cond_both (bytes_eq s (codes "#")) (record { formula = t; attributes = attributes_in w }) (record { formula = two s t w; attributes = [] })
-    (λ (a : Attributed). depth u ≤ depth a.formula → depth (with_attribute (label_of a.attributes) u) ≤ 500)
+    (λ (a : Attributed). depth u ≤ depth a.formula → depth (with_attribute (label_of a.attributes) u) ≤ MOST_LEVELS)
     (λ e k. with_label (label_of (attributes_in w)) u (depth t) (depth w) k (label_levels (depth w) (attributes_in w) (attributes_levels w)) (omega (arith, h)))
     (λ e k. omega (arith, h, k)) i
 labelled_levels (named s (more_raws t (more_raws w (more_raws x ts)))) u h k = omega (arith, h, k)

@@ -21,13 +21,14 @@ use Rattle.ladr_formulas.specs.Formulas.{unread, formula_reading, style_of}
 use Rattle.ladr_formulas.specs.declared.styles.Mode.TheVariants.{Prover}
 use Rattle.ladr_formulas.specs.declared.styles.Style.{Style}
 use Rattle.ladr_lex.specs.Operators.{OperatorRow, are_lawful}
+use Rattle.ladr_lex.specs.declared.limits.TheConstants.{MOST_LEVELS}
 use Rattle.ladr_lex.proofs.ClauseOperators.{frees, keeps_fixed}
 use Rattle.ladr_models.specs.Printed.{StatesItself, StateThemselves}
 use Rattle.ladr_print.specs.FormulaText.{formula_raw, with_attribute}
-use Rattle.ladr_print.specs.StatesAs.{KeepsFixed}
 use Rattle.ladr_print.specs.TermText.{name_in}
 use Rattle.ladr_print.proofs.Stating.{sound_parts}
-use Rattle.ladr_problem.specs.File.{Says, problem}
+use Rattle.ladr_print.specs.StatesAs.{KeepsFixed}
+use Rattle.ladr_problem.specs.Growth.{Grown}
 use Rattle.ladr_problem.specs.Proper.{IsProper}
 use Rattle.ladr_problem.specs.Sofar.{Sofar, Listed, stated_in, input_of}
 use Rattle.ladr_problem.specs.Whole.{IsOf}
@@ -50,14 +51,14 @@ use Rattle.proof_print.proofs.FormulaShown.{formula_has, formula_reads}
 use Rattle.proof_print.proofs.Skolems.{skolem_readable, formula_readable}
 use Rattle.derivation_laws.specs.Tables.{AllStandIn}
 
--- a formula of a term of at most 500 levels is printed with as many
+-- a formula of a term of few levels is printed with as many
 shallow_of : (l : Listed) (T : List Symbol) → IsOfTerm l → is_too_deep true (formula_term T l.formula l.names l.label) ≡ false
 shallow_of l T o =
     let v = name_in l.names in
     let levels : depth (formula_raw T v l.formula) ≤ depth (attributed o.tree).formula =
     subst (λ (f : Fol). depth (formula_raw T v f) ≤ depth (attributed o.tree).formula) o.formula (formula_levels T v o.style (attributed o.tree).formula [] (unread o.table)) in
-    let few : depth (with_attribute l.label (formula_raw T v l.formula)) ≤ 500 =
-    subst (λ (a : Option RawTree). depth (with_attribute a (formula_raw T v l.formula)) ≤ 500) o.label (labelled_levels o.tree (formula_raw T v l.formula) o.short levels) in
+    let few : depth (with_attribute l.label (formula_raw T v l.formula)) ≤ MOST_LEVELS =
+    subst (λ (a : Option RawTree). depth (with_attribute a (formula_raw T v l.formula)) ≤ MOST_LEVELS) o.label (labelled_levels o.tree (formula_raw T v l.formula) o.short levels) in
     grind (arith, nat_tests, few)
 
 -- so it can be read again from its text
@@ -77,10 +78,10 @@ read_of rows prolog symbols T l keeps few x o =
       shallow = shallow_of l T o;
     }
 
-module _ (themselves : (input : List ℕ) (s : Sofar) → Says Prover input (problem s) → StateThemselves Prover s)
-    (operators : (input : List ℕ) (s : Sofar) → Says Prover input (problem s) → (are_lawful s.settings.operators ≡ true) × KeepsFixed s.settings.operators)
-    (proper : (input : List ℕ) (s : Sofar) → Says Prover input (problem s) → IsProper (stated_in s) s.settings.options) (stand : SkolemsStandBehind)
-    (input : List ℕ) (s : Sofar) (f : FileRead) (clauses : List OperatorRow) (says : Says Prover input (problem s)) (is_of : IsOf s f) (lawful : are_lawful clauses ≡ true)
+module _ (themselves : (s : Sofar) → Grown Prover s → StateThemselves Prover s)
+    (operators : (s : Sofar) → Grown Prover s → (are_lawful s.settings.operators ≡ true) × KeepsFixed s.settings.operators)
+    (proper : (s : Sofar) → Grown Prover s → IsProper (stated_in s) s.settings.options) (stand : SkolemsStandBehind)
+    (s : Sofar) (f : FileRead) (clauses : List OperatorRow) (grown : Grown Prover s) (is_of : IsOf s f) (lawful : are_lawful clauses ≡ true)
     (are : AreOfClauses f.problem.options.prolog_style_variables f.operators clauses) (few : HasFewSymbols f) where
   abbrev prolog : Bool
   prolog = f.problem.options.prolog_style_variables
@@ -113,10 +114,10 @@ module _ (themselves : (input : List ℕ) (s : Sofar) → Says Prover input (pro
   fits = omega (arith, ap length behind.table, length-append own ss, skolems_count (length own) ss ws behind.witnesses, few)
 
   rows_are : (are_lawful f.operators ≡ true) × KeepsFixed f.operators
-  rows_are = subst (λ (rows : List OperatorRow). (are_lawful rows ≡ true) × KeepsFixed rows) (sym is_of.operators) (operators input s says)
+  rows_are = subst (λ (rows : List OperatorRow). (are_lawful rows ≡ true) × KeepsFixed rows) (sym is_of.operators) (operators s grown)
 
   is_proper : IsProper p s.settings.options
-  is_proper = subst (λ (q : Stated). IsProper q s.settings.options) (same_stated s f is_of) (proper input s says)
+  is_proper = subst (λ (q : Stated). IsProper q s.settings.options) (same_stated s f is_of) (proper s grown)
 
   finds : FindsEach T
   finds = behind.different is_proper.tellable.different
@@ -126,12 +127,12 @@ module _ (themselves : (input : List ℕ) (s : Sofar) → Says Prover input (pro
   states =
       subst (λ (t : List Symbol). All (λ x. StatesItself f.operators st t x.1) s.formulas) (sym is_of.symbols)
       (subst (λ o. All (λ x. StatesItself f.operators (style_of Prover o.prolog_style_variables) s.symbols x.1) s.formulas) (sym is_of.options)
-      (subst (λ (rows : List OperatorRow). All (λ x. StatesItself rows (style_of Prover s.settings.options.prolog_style_variables) s.symbols x.1) s.formulas) (sym is_of.operators) (themselves input s says).formulas))
+      (subst (λ (rows : List OperatorRow). All (λ x. StatesItself rows (style_of Prover s.settings.options.prolog_style_variables) s.symbols x.1) s.formulas) (sym is_of.operators) (themselves s grown).formulas))
 
   formula_read : (k : ℕ) (i : Input) → slice_get f.problem.inputs.items k ≡ Some i → IsReadFormula f.operators prolog T (fol_of i.formula.shape) i.formula.names i.label
   formula_read k i e =
       let x = at_input (λ y. StatesItself f.operators st own y.1) f.problem.inputs.items (subst (All (λ y. StatesItself f.operators st own y.1)) (sym is_of.formulas) states) k i e in
-      let o = at_input (λ y. IsOfTerm y.1) f.problem.inputs.items (subst (All (λ y. IsOfTerm y.1)) (sym is_of.formulas) (formulas_of_terms Prover input s says)) k i e in
+      let o = at_input (λ y. IsOfTerm y.1) f.problem.inputs.items (subst (All (λ y. IsOfTerm y.1)) (sym is_of.formulas) (formulas_of_terms Prover s grown)) k i e in
       read_of f.operators prolog own T (input_of i).1 keeps fits x o
 
   of_formula : (n : ℕ) → n < length T → is_used p.formulas n ≡ true → IsReadableSymbol (table_of clauses) st T n

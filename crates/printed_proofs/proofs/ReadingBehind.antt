@@ -14,6 +14,7 @@ use Rattle.fol_core.specs.declared.raw.Quantifier.TheVariants.{All, Exists}
 use Rattle.fol_core.specs.declared.symbols.Kind.{Kind}
 use Rattle.fol_core.specs.declared.symbols.Kind.TheVariants.{Function, Relation}
 use Rattle.fol_core.proofs.SymbolLemmas.{symbol_there}
+use Rattle.ladr_lex.specs.declared.limits.TheConstants.{MOST_ARGUMENTS}
 use Rattle.ladr_lex.specs.Numeral.{limited_number_of}
 use Rattle.ladr_lex.specs.declared.misuse.Misuse.{Misuse}
 use Rattle.ladr_lex.specs.declared.misuse.Misuse.TheVariants.{TwoKinds, VariableAsFormula, QuantifierInTerm, UnfitAttribute, UnfitNumeral}
@@ -120,8 +121,8 @@ module _ (T : List Symbol) (once : FindsEach T) where
         let stand = stands x (ap (λ (t : List Symbol). entered t x) (sym k.begin) ∙ k.end) (ap (λ (t : List Symbol). is_clash t x) (sym k.begin) ∙ clash) in
         let in_C : Entered T once C x = enters T once C finds within x stand in
         record {
-          same = ap (λ (b : Bool). record (meets (bytes_eq name (codes "#")) UnfitAttribute (meets b TwoKinds (behind C s))) { symbols = entered C x; large = s.large || nat_lt 255 arity }) (in_C.unclashing ∙ sym clash)
-              ∙ met_behind C (entered C x) (entered s.symbols x) (is_clash s.symbols x) (bytes_eq name (codes "#")) (s.large || nat_lt 255 arity) s;
+          same = ap (λ (b : Bool). record (meets (bytes_eq name (codes "#")) UnfitAttribute (meets b TwoKinds (behind C s))) { symbols = entered C x; large = s.large || nat_lt MOST_ARGUMENTS arity }) (in_C.unclashing ∙ sym clash)
+              ∙ met_behind C (entered C x) (entered s.symbols x) (is_clash s.symbols x) (bytes_eq name (codes "#")) (s.large || nat_lt MOST_ARGUMENTS arity) s;
           finds = in_C.finds;
           within = in_C.within;
           number = λ last to back leads keeps.

@@ -5,6 +5,7 @@ ghost use Rattle.fol_core.specs.SymbolTable.{Symbol};
 ghost use Rattle.ladr_formulas.specs.declared.styles.Mode.TheVariants.{Prover};
 ghost use Rattle.ladr_lex.specs.Operators.{OperatorRow, are_lawful};
 ghost use Rattle.ladr_problem.specs.File.{Says, problem};
+ghost use Rattle.ladr_problem.specs.Growth.{Grown};
 ghost use Rattle.ladr_problem.specs.Sofar.{Sofar};
 ghost use Rattle.ladr_problem.specs.Whole.{IsOf};
 ghost use Rattle.ladr_problem.specs.declared.read.FileRead.{FileRead};
@@ -24,7 +25,7 @@ ghost use Rattle.printed_proofs.specs.Accepted.{HasFewClauses, AreAccepted};
 use clausify::{axioms_are_in_order, skolems_stand_behind};
 use ladr_check::offers_are_alone;
 use ladr_models::formulas_state_themselves;
-use ladr_problem::problems_are_proper;
+use ladr_problem::{problems_are_proper, problems_grow};
 
 /// The text of refutations of a file's problem, with this problem in its frame, is read as this problem and these refutations: as
 /// lines that are theirs but for the numbers of symbols, and that are refutations of the problem in these numbers too.
@@ -35,14 +36,15 @@ pub fn printed_refutations_are_read()
         → ArePrintableRefutations f clauses table ps → HoldsNoProof tail
         → ReadsRefutations (whole_text input f clauses table ps tail) f table ps }
 {
+    problems_grow();
     problems_are_proper();
 }
 
 /// Proofs of a file's problem can be printed, in its symbols and its Skolem symbols: each symbol that its clauses may have is read
 /// as itself, and each of its formulas can be a line. The operators of clauses are to be those that the file's are made into.
 pub fn files_can_be_printed()
-    ensures { (input : List ℕ) (s : Sofar) (f : FileRead) (clauses : List OperatorRow)
-        → Says Prover input (problem s) → IsOf s f → IsTrue (are_lawful clauses)
+    ensures { (s : Sofar) (f : FileRead) (clauses : List OperatorRow) → Grown Prover s → IsOf s f
+        → IsTrue (are_lawful clauses)
         → AreOfClauses f.problem.options.prolog_style_variables f.operators clauses
         → HasFewSymbols f → CanPrintFile f clauses }
 {
@@ -96,6 +98,7 @@ pub fn printed_refutations_are_accepted()
         → AreAccepted (whole_text input f clauses table ps tail) f table ps }
 {
     axioms_are_in_order();
+    problems_grow();
     problems_are_proper();
     offers_are_alone();
     printed_refutations_are_read();

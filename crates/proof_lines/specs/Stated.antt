@@ -20,7 +20,7 @@ use Rattle.proof_lines.specs.Literals.{are_shallow}
 use Rattle.proof_lines.specs.Strays.{brings_stray}
 use Rattle.proof_words.specs.Written.{written_of, states_formula}
 
--- a formula line may have 500 levels, an atom of a clause 1,000
+-- a formula line may have the levels of an item, an atom of a clause 1,000
 abbrev pub is_too_deep : Bool → RawTree → Bool
 is_too_deep true t = nat_lt MOST_LEVELS (depth t)
 is_too_deep false t = not (are_shallow (disjuncts t))

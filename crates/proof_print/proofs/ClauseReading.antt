@@ -23,6 +23,7 @@ use Rattle.ladr_formulas.specs.ClauseIn.{atom_in, literal_in, prepended, literal
 use Rattle.ladr_formulas.specs.Formulas.{Reading, Made, meets, free_number, is_variable, is_free_name, with_variable, variable_number, reading_with_name, named_variable, with_symbol, symbol_number, arity_of, is_element, is_too_great, constant_as, term_of, terms_of, relation_of, sentence_as, under, is_denial, connective_of, by_connective, comparison, formula_in, formula_reading}
 use Rattle.ladr_formulas.specs.declared.connectives.Connective.{Connective}
 use Rattle.ladr_formulas.specs.declared.styles.Style.{Style}
+use Rattle.ladr_lex.specs.declared.limits.TheConstants.{MOST_ARGUMENTS, MOST_ELEMENT}
 use Rattle.ladr_lex.specs.Numeral.{is_numeral, limited_number_of}
 use Rattle.ladr_lex.specs.declared.misuse.Misuse.TheVariants.{TwoKinds, UnfitAttribute, UnfitNumeral}
 use Rattle.ladr_print.specs.ClauseText.{literal_raw, clause_raw}
@@ -168,7 +169,7 @@ module _ (st : Style) (plain : st.elements ≡ false) (T : List Symbol) (few : l
 
   -- a symbol that is there changes nothing
   symbol_read : (s : ℕ) (x : Symbol) → slice_get T s ≡ Some x → ReadsAsItself st x → (n : ℕ) (large : Bool) →
-      with_symbol x.name x.arity x.kind (state n large) ≡ state n (large || nat_lt 255 x.arity)
+      with_symbol x.name x.arity x.kind (state n large) ≡ state n (large || nat_lt MOST_ARGUMENTS x.arity)
   symbol_read s x there itself n large =
       let number : number_of T x.name x.arity ≡ Some s = finds s x there in
       let kind : kind_at T s ≡ x.kind = ap (λ (o : Option Symbol). option_map_or (λ y. y.kind) o Function) there in
@@ -178,13 +179,13 @@ module _ (st : Style) (plain : st.elements ≡ false) (T : List Symbol) (few : l
       in
       let stays : entered T x ≡ T = ap (λ (o : Option ℕ). if is_some o then T else T ++ x ∷ []) number in
       let own = itself.no_attribute in
-      (λ i. record (meets (own i) UnfitAttribute (meets (clash i) TwoKinds (state n large))) { symbols = stays i; large = large || nat_lt 255 x.arity })
+      (λ i. record (meets (own i) UnfitAttribute (meets (clash i) TwoKinds (state n large))) { symbols = stays i; large = large || nat_lt MOST_ARGUMENTS x.arity })
 
   known_read : (s m : ℕ) (kind : Kind) (k : Known s m kind) (n : ℕ) (large : Bool) →
-      with_symbol (symbol_name T s) m kind (state n large) ≡ state n (large || nat_lt 255 m)
+      with_symbol (symbol_name T s) m kind (state n large) ≡ state n (large || nat_lt MOST_ARGUMENTS m)
   known_read s m kind k n large =
       (λ i. with_symbol (k.name i) (sym k.arity i) (sym k.kind_is i) (state n large)) ∙ symbol_read s k.found k.at k.itself n large
-      ∙ ap (λ (j : ℕ). state n (large || nat_lt 255 j)) k.arity
+      ∙ ap (λ (j : ℕ). state n (large || nat_lt MOST_ARGUMENTS j)) k.arity
 
   known_number : (s m : ℕ) (kind : Kind) (k : Known s m kind) → unwrap_or (number_of T (symbol_name T s) m) 0 ≡ s
   known_number s m kind k =
@@ -252,7 +253,7 @@ module _ (st : Style) (plain : st.elements ≡ false) (T : List Symbol) (few : l
   constant_read s n large h f o =
       let k = known s 0 Function h f o in
       let name = symbol_name T s in
-      let after = large || nat_lt 255 0 in (
+      let after = large || nat_lt MOST_ARGUMENTS 0 in (
         after,
         ap (λ (m : Made (Option ℕ)). constant_as st name m.tree m.reading) (no_variable name (state n large) (no_name s 0 Function k refl))
             ∙ cond-false (is_element st name) _ _ (no_element name)
@@ -261,7 +262,7 @@ module _ (st : Style) (plain : st.elements ≡ false) (T : List Symbol) (few : l
       )
 
   not_great : (name : List ℕ) → is_too_great st name ≡ false
-  not_great name = ap (λ (b : Bool). (b && is_numeral name) && nat_lt 999999999 (limited_number_of name)) plain
+  not_great name = ap (λ (b : Bool). (b && is_numeral name) && nat_lt MOST_ELEMENT (limited_number_of name)) plain
 
   -- the first numbers between two lists of variables
   record Between (n : ℕ) (xs ys : List ℕ) (m : ℕ) : Type 0 where
@@ -293,7 +294,7 @@ module _ (st : Style) (plain : st.elements ≡ false) (T : List Symbol) (few : l
         let name = symbol_name T s in
         let xs = terms_raw T v (more t ts) in
         let count : arity_of xs ≡ suc (many ts) = arity_count (more t ts) in
-        let after = large || nat_lt 255 (suc (many ts)) in
+        let after = large || nat_lt MOST_ARGUMENTS (suc (many ts)) in
         let begun : with_symbol name (arity_of xs) Function (meets (is_too_great st name) UnfitNumeral (state n large)) ≡ state n after =
         (λ i. with_symbol name (count i) Function (meets (not_great name i) UnfitNumeral (state n large))) ∙ known_read s (suc (many ts)) Function k n large
         in
@@ -325,7 +326,7 @@ module _ (st : Style) (plain : st.elements ≡ false) (T : List Symbol) (few : l
       let name = symbol_name T r in
       let xs = terms_raw T v ts in
       let count : arity_of xs ≡ many ts = arity_count ts in
-      let after = large || nat_lt 255 (many ts) in
+      let after = large || nat_lt MOST_ARGUMENTS (many ts) in
       let begun : with_symbol name (arity_of xs) Relation (meets (is_element st name) UnfitNumeral (state n large)) ≡ state n after =
       (λ i. with_symbol name (count i) Relation (meets (no_element name i) UnfitNumeral (state n large))) ∙ known_read r (many ts) Relation k n large
       in

@@ -1,11 +1,11 @@
--- A formula that is read has no more variables than its tokens, and a file no more tokens than bytes.
-use Rattle.std.proofs.Common.{◌≡◌, ℕ, suc, ◌+◌, ◌≤◌, ◌||◌, Bool, true, false, List, [], ◌∷◌, ◌++◌, length, Option, Some, None, refl, sym, ap, ◌∙◌, arith}
+-- A formula that is read has no more variables than its term has names.
+use Rattle.std.proofs.Common.{◌≡◌, ℕ, suc, ◌+◌, ◌≤◌, ◌||◌, Bool, true, false, List, [], ◌∷◌, length, Option, Some, None, refl, ap, ◌∙◌, arith}
 use Rattle.std.specs.Prelude.{is_some, codes}
 use Rattle.std.specs.Str.{bytes_eq}
-use Rattle.std.proofs.lemmas.Bool.{cond_both, false≢true}
+use Rattle.std.proofs.lemmas.Bool.{cond_both}
 use Rattle.std.proofs.lemmas.List.{length-append}
 use Rattle.fol_core.specs.Fol.{Fol, negation}
-use Rattle.fol_core.specs.RawTree.{RawTree, named, quantified, RawTrees, no_raws, more_raws, raws_of}
+use Rattle.fol_core.specs.RawTree.{RawTree, named, quantified, RawTrees, no_raws, more_raws}
 use Rattle.fol_core.specs.SymbolTable.{is_clash, symbol}
 use Rattle.fol_core.specs.Tree.{Tree}
 use Rattle.fol_core.specs.declared.symbols.Kind.{Kind}
@@ -14,24 +14,9 @@ use Rattle.ladr_formulas.specs.Formulas.{Reading, Made, Bound, meets, bound_numb
 use Rattle.ladr_formulas.specs.declared.connectives.Connective.{Connective}
 use Rattle.ladr_formulas.specs.declared.connectives.Connective.TheVariants.{And, Or, IfThen, ThenIf, IfAndOnlyIf}
 use Rattle.ladr_formulas.specs.declared.styles.Style.{Style}
-use Rattle.ladr_lex.specs.Cuts.{Piece, Cuts, nothing, gap, token, can_be}
-use Rattle.ladr_lex.specs.Lexeme.{Lexeme, close_paren, comma, symbol as lexeme_symbol}
 use Rattle.ladr_lex.specs.declared.misuse.Misuse.{Misuse}
 use Rattle.ladr_lex.specs.declared.misuse.Misuse.TheVariants.{TwoKinds, QuantifierInTerm, UnfitAttribute, UnfitNumeral}
-use Rattle.ladr_lex.specs.declared.token.TokenKind.{TokenKind}
-use Rattle.ladr_lex.specs.declared.token.TokenKind.TheVariants.{Open, Close, LeftSquare, RightSquare, Comma, Stop, Ordinary, Quoted, Special, Unreadable}
-use Rattle.ladr_reader.specs.Reads.{Reads, atom, applied, group, bound, prefixed, postfixed, infixed, ReadsAll, single, further}
-use Rattle.ladr_reader.specs.Table.{OperatorTable}
-
-abbrev mutual
-  -- how many names a term has, those of the quantifiers' variables too
-  pub names_count : RawTree → ℕ
-  names_count (named s ts) = suc (names_count_of ts)
-  names_count (quantified q x t) = suc (names_count t)
-
-  pub names_count_of : RawTrees → ℕ
-  names_count_of no_raws = 0
-  names_count_of (more_raws t ts) = names_count t + names_count_of ts
+use Rattle.ladr_reader.specs.Counts.{names_count, names_count_of}
 
 -- at most so many variables come
 abbrev Brings : ℕ → Reading → Reading → Type 0
@@ -125,45 +110,3 @@ formula_brings st scope s (named name (more_raws t (more_raws u no_raws))) =
     (λ r. formula_brings st scope r t) (λ r. formula_brings st scope r u) (λ r. comparison_brings st scope name t u r) s in
     omega (arith, all)
 formula_brings st scope s (named name (more_raws t (more_raws u (more_raws w ts)))) = omega (arith, relation_brings st scope name (more_raws t (more_raws u (more_raws w ts))) s)
-
--- tokens
-count_more : (us : List RawTree) (t : RawTree) → names_count_of (raws_of (us ++ t ∷ [])) ≡ names_count_of (raws_of us) + names_count t
-count_more [] t = omega arith
-count_more (u ∷ us) t = omega (arith, count_more us t)
-
-mutual
-  pub reads_count : (g : OperatorTable) (ts : List Lexeme) (t : RawTree) (p : ℕ) → Reads g ts t p → names_count t ≤ length ts
-  reads_count g _ _ _ (atom k s w o) = omega arith
-  reads_count g _ _ _ (applied {ts} {us} k s w o all) = omega (arith, reads_all_count g ts us all, length-append ts (close_paren ∷ []))
-  reads_count g _ t _ (group {ts} {p} r) = omega (arith, reads_count g ts t p r, length-append ts (close_paren ∷ []))
-  reads_count g _ _ _ (bound {ts} {t} {p} k j w s x word variable r e) = omega (arith, reads_count g ts t p r)
-  reads_count g _ _ _ (prefixed {ts} {t} {p} k s o w op r e) = omega (arith, reads_count g ts t p r)
-  reads_count g _ _ _ (postfixed {ts} {t} {p} k s o op none r e) = omega (arith, reads_count g ts t p r, length-append ts (lexeme_symbol k s ∷ []))
-  reads_count g _ _ _ (infixed {ts} {us} {t} {u} {p} {q} k s o op r e r' e') =
-      omega (arith, reads_count g ts t p r, reads_count g us u q r', length-append ts (lexeme_symbol k s ∷ us))
-
-  reads_all_count : (g : OperatorTable) (ts : List Lexeme) (us : List RawTree) → ReadsAll g ts us → names_count_of (raws_of us) ≤ length ts
-  reads_all_count g ts _ (single {t} {p} r e) = omega (arith, reads_count g ts t p r)
-  reads_all_count g _ _ (further {ts} {us} {ks} {t} {p} all r e) = omega (arith, reads_all_count g ts ks all, reads_count g us t p r, count_more ks t, length-append ts (comma ∷ us))
-
--- no token is empty
-not_empty : (kind : TokenKind) → can_be (Some kind) [] ≡ false
-not_empty Open = refl
-not_empty Close = refl
-not_empty LeftSquare = refl
-not_empty RightSquare = refl
-not_empty Comma = refl
-not_empty Stop = refl
-not_empty Ordinary = refl
-not_empty Quoted = refl
-not_empty Special = refl
-not_empty Unreadable = refl
-
-has_bytes : (kind : TokenKind) (text : List ℕ) → can_be (Some kind) text ≡ true → 1 ≤ length text
-has_bytes kind [] h = absurd (false≢true (sym (not_empty kind) ∙ h))
-has_bytes kind (b ∷ bs) h = omega arith
-
-pub cuts_count : (i : ℕ) (bytes : List ℕ) (ts : List Piece) → Cuts i bytes ts → length ts ≤ length bytes
-cuts_count i _ [] nothing = omega arith
-cuts_count i _ ts (gap {text} {rest} longest more) = omega (arith, cuts_count _ rest ts more, length-append text rest)
-cuts_count i _ (t ∷ ts) (token {text} {rest} kind longest more) = omega (arith, has_bytes kind text longest.fits, cuts_count _ rest ts more, length-append text rest)

@@ -1,5 +1,5 @@
 -- The clauses of a file's formulas are fit to be lines.
-use Rattle.std.proofs.Common.{◌≡◌, ℕ, zero, suc, ◌≤◌, ◌^◌, Bool, true, List, [], ◌∷◌, length, map, Some, slice_get, refl, sym, ap, subst, arith}
+use Rattle.std.proofs.Common.{◌≡◌, ℕ, zero, suc, ◌+◌, ◌≤◌, ◌^◌, Bool, true, List, [], ◌∷◌, length, map, Some, slice_get, refl, sym, ap, subst, arith}
 use Rattle.std.specs.Prelude.{nat_le}
 use Rattle.std.specs.List.{All, AllByRecursion}
 use Rattle.std.proofs.lemmas.Bool.{or_left, or_right}
@@ -28,11 +28,12 @@ use Rattle.ladr_formulas.specs.Formulas.{unread, formula_reading, style_of}
 use Rattle.ladr_formulas.specs.declared.styles.Mode.TheVariants.{Prover}
 use Rattle.ladr_formulas.specs.declared.styles.Style.{Style}
 use Rattle.ladr_lex.specs.Operators.{OperatorRow}
+use Rattle.ladr_lex.specs.declared.limits.TheConstants.{MOST_LEVELS}
 use Rattle.ladr_models.specs.Printed.{StatesItself, StateThemselves}
 use Rattle.ladr_print.specs.FormulaText.{formula_raw}
 use Rattle.ladr_print.specs.TermText.{name_in}
 use Rattle.ladr_print.proofs.Stating.{sound_parts}
-use Rattle.ladr_problem.specs.File.{Says, problem}
+use Rattle.ladr_problem.specs.Growth.{Grown}
 use Rattle.ladr_problem.specs.Sofar.{Sofar, Listed, input_of}
 use Rattle.ladr_problem.specs.Whole.{IsOf}
 use Rattle.ladr_problem.specs.declared.read.FileRead.{FileRead}
@@ -71,8 +72,8 @@ clause_put : (B : Tree → Type 0) (terms : Substitution) → ((t : Tree) → B 
 clause_put B terms put [] h = tt
 clause_put B terms put (l ∷ c) h = (put l.atom h.0, clause_put B terms put c h.1)
 
-module _ (themselves : (input : List ℕ) (s : Sofar) → Says Prover input (problem s) → StateThemselves Prover s) (stand : SkolemsStandBehind)
-    (input : List ℕ) (s : Sofar) (f : FileRead) (says : Says Prover input (problem s)) (is_of : IsOf s f) (few : HasFewSymbols f) where
+module _ (themselves : (s : Sofar) → Grown Prover s → StateThemselves Prover s) (stand : SkolemsStandBehind)
+    (s : Sofar) (f : FileRead) (grown : Grown Prover s) (is_of : IsOf s f) (few : HasFewSymbols f) where
   abbrev prolog : Bool
   prolog = f.problem.options.prolog_style_variables
 
@@ -114,7 +115,7 @@ module _ (themselves : (input : List ℕ) (s : Sofar) → Says Prover input (pro
   states =
       subst (λ (t : List Symbol). All (λ x. StatesItself f.operators st t x.1) s.formulas) (sym is_of.symbols)
       (subst (λ o. All (λ x. StatesItself f.operators (style_of Prover o.prolog_style_variables) s.symbols x.1) s.formulas) (sym is_of.options)
-      (subst (λ (rows : List OperatorRow). All (λ x. StatesItself rows (style_of Prover s.settings.options.prolog_style_variables) s.symbols x.1) s.formulas) (sym is_of.operators) (themselves input s says).formulas))
+      (subst (λ (rows : List OperatorRow). All (λ x. StatesItself rows (style_of Prover s.settings.options.prolog_style_variables) s.symbols x.1) s.formulas) (sym is_of.operators) (themselves s grown).formulas))
 
   abbrev IsStanding : Tree → Type 0
   IsStanding t = IsAtomOf (Stands T Function) (Stands T Relation) t
@@ -129,28 +130,28 @@ module _ (themselves : (input : List ℕ) (s : Sofar) → Says Prover input (pro
         count = omega (arith, names, ap length x.states.named, many_names reading.variables);
       }))
 
-  -- of a term of at most 500 levels
-  low : (l : Listed) → IsOfTerm l → Atoms (λ x. Unit {0}) (λ (t : Tree). depth_of t ≤ 500) l.formula
+  -- of a term of few levels
+  low : (l : Listed) → IsOfTerm l → Atoms (λ x. Unit {0}) (λ (t : Tree). depth_of t ≤ MOST_LEVELS) l.formula
   low l o =
       let v = name_in l.names in
       let levels : depth (formula_raw T v l.formula) ≤ depth (attributed o.tree).formula =
       subst (λ (g : Fol). depth (formula_raw T v g) ≤ depth (attributed o.tree).formula) o.formula (formula_levels T v o.style (attributed o.tree).formula [] (unread o.table))
       in
-      attributed_levels T v 500 _ l.formula (labelled_levels o.tree (formula_raw T v l.formula) o.short levels)
+      attributed_levels T v MOST_LEVELS _ l.formula (labelled_levels o.tree (formula_raw T v l.formula) o.short levels)
 
   abbrev A : Tree → Type 0
-  A t = IsAtom T used t × (depth_of t ≤ 500)
+  A t = IsAtom T used t × (depth_of t ≤ MOST_LEVELS)
 
   abbrev B : Tree → Type 0
-  B t = IsAtom T used t × (depth_of t ≤ 501)
+  B t = IsAtom T used t × (depth_of t ≤ MOST_LEVELS + 1)
 
   formula_fit : (k : ℕ) (i : Input) → slice_get f.problem.inputs.items k ≡ Some i → Atoms IsLow A (fol_of i.formula.shape)
   formula_fit k i e =
       let g = fol_of i.formula.shape in
       let x = at_input (λ y. StatesItself f.operators st own y.1) f.problem.inputs.items (subst (All (λ y. StatesItself f.operators st own y.1)) (sym is_of.formulas) states) k i e in
-      let o = at_input (λ y. IsOfTerm y.1) f.problem.inputs.items (subst (All (λ y. IsOfTerm y.1)) (sym is_of.formulas) (formulas_of_terms Prover input s says)) k i e in
-      let names = at_input (λ y. HasFewNames y.1) f.problem.inputs.items (subst (All (λ y. HasFewNames y.1)) (sym is_of.formulas) (few_names Prover input s says)) k i e in
-      atoms_both IsLow (λ x. Unit {0}) (IsAtom T used) (λ (t : Tree). depth_of t ≤ 500) g
+      let o = at_input (λ y. IsOfTerm y.1) f.problem.inputs.items (subst (All (λ y. IsOfTerm y.1)) (sym is_of.formulas) (formulas_of_terms Prover s grown)) k i e in
+      let names = at_input (λ y. HasFewNames y.1) f.problem.inputs.items (subst (All (λ y. HasFewNames y.1)) (sym is_of.formulas) (few_names Prover s grown)) k i e in
+      atoms_both IsLow (λ x. Unit {0}) (IsAtom T used) (λ (t : Tree). depth_of t ≤ MOST_LEVELS) g
       (atoms_with (Stands T Function) (Stands T Relation) U g (standing (input_of i).1 x names) (λ n u. or_left (is_used p.formulas n) (nat_le (length own) n) (used_there f.problem.inputs.items k i e n u)))
       (low (input_of i).1 o)
 
@@ -189,14 +190,14 @@ module _ (themselves : (input : List ℕ) (s : Sofar) → Says Prover input (pro
       let d = renumbered c in
       let all : AllAtoms B d = clause_put B (by_place (clause_variables c)) (place (clause_variables c) (count c h)) c h in
       let atoms : AllAtoms (IsAtom T used) d = all_so (λ (l : Lit). B l.atom) (λ (l : Lit). IsAtom T used l.atom) (λ l b. b.0) d all in
-      let levels : AllAtoms (λ (t : Tree). depth_of t ≤ 501) d = all_so (λ (l : Lit). B l.atom) (λ (l : Lit). depth_of l.atom ≤ 501) (λ l b. b.1) d all in
+      let levels : AllAtoms (λ (t : Tree). depth_of t ≤ MOST_LEVELS + 1) d = all_so (λ (l : Lit). B l.atom) (λ (l : Lit). depth_of l.atom ≤ MOST_LEVELS + 1) (λ l b. b.1) d all in
       record {
         over = over T used d atoms;
         kinds = kinds T used d atoms;
         uses = λ n e l. uses T used fits n l d atoms e;
         numbered = numbers_stay c;
         few = count d all;
-        depth = omega (arith, depth_of_atoms 501 d levels);
+        depth = omega (arith, depth_of_atoms (MOST_LEVELS + 1) d levels);
       }
 
   pub rows_fit : AreFitRows f (clauses_in_table own p)

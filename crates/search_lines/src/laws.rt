@@ -8,7 +8,7 @@ ghost use Rattle.fol_core.specs.SymbolTable.{Symbol};
 ghost use Rattle.ladr_formulas.specs.declared.styles.Mode.TheVariants.{Prover};
 ghost use Rattle.ladr_print.specs.ClauseText.{clause_raw};
 ghost use Rattle.ladr_print.specs.TermText.{Naming};
-ghost use Rattle.ladr_problem.specs.File.{Says, problem};
+ghost use Rattle.ladr_problem.specs.Growth.{Grown};
 ghost use Rattle.ladr_problem.specs.Sofar.{Sofar};
 ghost use Rattle.ladr_problem.specs.Whole.{IsOf};
 ghost use Rattle.ladr_problem.specs.declared.read.FileRead.{FileRead};
@@ -41,8 +41,7 @@ pub fn lines_are_fit()
 /// Each clause that the formulas of a file are made into is over the symbols that clauses of its problem may have, with their
 /// arguments and of their kinds; it is numbered, and its atoms have few levels.
 pub fn rows_of_files_are_fit()
-    ensures { (bytes : List ℕ) (s : Sofar) (f : FileRead) → Says Prover bytes (problem s)
-        → IsOf s f → HasFewSymbols f
+    ensures { (s : Sofar) (f : FileRead) → Grown Prover s → IsOf s f → HasFewSymbols f
         → AreFitRows f (clauses_in_table f.problem.symbols (stated_of f.problem)) }
 {
     formulas_state_themselves();
@@ -60,9 +59,9 @@ pub fn fit_rows_are_lines()
     ensures { (f : FileRead) (c : ClauseTree) → IsFitRow f c → IsClauseOfFile f c }
 {}
 
-/// The demodulators of a file are demodulators, and each of its weights for KBO is at least 1.
+/// The demodulators of what has grown are demodulators, and each of its weights for KBO is at least 1.
 pub fn files_are_fit()
-    ensures { (m : Mode) (bytes : List ℕ) (s : Sofar) → Says m bytes (problem s) → IsFitFile s }
+    ensures { (m : Mode) (s : Sofar) → Grown m s → IsFitFile s }
 {}
 
 /// The clauses of formulas are rows of them, where their demodulators are demodulators.

@@ -14,4 +14,5 @@ returns c =
       types = refl;
       fixed_symbols = (refl, refl, refl);
       symbols = (refl, refl, refl);
+      rows = refl;
     }

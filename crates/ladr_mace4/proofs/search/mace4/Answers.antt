@@ -12,7 +12,7 @@ pub find-requires-clause-fits : goal.find-requires-clause-fits
 find-requires-clause-fits g c =
     let read = c.in-Ok.ensures.read in
     let said = read.2 in
-    subst FitsTable said.2 (c.problems_fit.ensures Mace read.0 said.0 said.1)
+    subst FitsTable said.2 (c.problems_fit.ensures Mace said.0 (c.problems_grow.ensures Mace read.0 said.0 said.1))
 
 pub returns-in-Ok-find : goal.returns-in-Ok-find
 returns-in-Ok-find g c =

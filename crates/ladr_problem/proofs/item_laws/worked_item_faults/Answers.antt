@@ -1,5 +1,6 @@
 -- A run of the machine of terms shows each.
 use Rattle.std.proofs.Common.{refl, lit≤}
+use Rattle.ladr_lex.specs.declared.limits.TheConstants.{MOST_LEVELS}
 use Rattle.ladr_lex.specs.Bytes.{is_blank, is_ordinary, is_special}
 use Rattle.ladr_lex.specs.Starts.{start_of}
 use Rattle.ladr_lex.specs.Operators.{standard_rows}
@@ -16,9 +17,9 @@ pub returns : goal.returns
 unfolding start_of is_blank is_ordinary is_special
 returns c =
     record {
-      cut_off = fault_of_term standard_rows refl (lexemes_of_text "end_of_list") (λ e. cc) (Bad 1)
-          (bad_end 500 standard standard_lawful (table_names standard_rows) (lexemes_of_text "end_of_list") 1 _ _ refl refl (λ t q e. absurd (cc)));
-      operator = bad_behind with_prefix (lexemes_of_text "end_of_list. a.") refl (lit≤ tt);
-      further = fault_of_term standard_rows refl (lexemes_of_text "end_of_list a.") (λ e. cc) (Bad 1)
-          (bad_at 500 standard standard_lawful (table_names standard_rows) (lexemes_of_text "end_of_list a.") 1 _ _ (lit≤ tt) refl refl);
+      cut_off = λ list. fault_of_term list standard_rows refl (lexemes_of_text "end_of_list") (λ e. cc) (Bad 1)
+          (bad_end MOST_LEVELS standard standard_lawful (table_names standard_rows) (lexemes_of_text "end_of_list") 1 _ _ refl refl (λ t q e. absurd (cc)));
+      operator = λ list. bad_behind list with_prefix (lexemes_of_text "end_of_list. a.") refl (lit≤ tt);
+      further = λ list. fault_of_term list standard_rows refl (lexemes_of_text "end_of_list a.") (λ e. cc) (Bad 1)
+          (bad_at MOST_LEVELS standard standard_lawful (table_names standard_rows) (lexemes_of_text "end_of_list a.") 1 _ _ (lit≤ tt) refl refl);
     }

@@ -16,8 +16,8 @@ pub returns : goal.returns
 unfolding start_of is_blank is_ordinary is_special
 returns c =
     record {
-      end = refl;
-      term = (λ e. cc, run_item standard standard_lawful _ _ 0 refl);
-      operator = refl;
-      argument = (λ e. cc, run_item with_prefix lawful _ _ 500 refl);
+      end = λ list. refl;
+      term = λ list. (λ e. cc, run_item standard standard_lawful _ _ 0 refl);
+      operator = λ list. refl;
+      argument = λ list. (λ e. cc, run_item with_prefix lawful _ _ 500 refl);
     }

@@ -7,14 +7,14 @@ use Rattle.ladr_problem.proofs.EndLemmas.{bad_behind, fault_of_term, third}
 use Rattle.ladr_problem.proofs.list_items.read_list_item.Goals as goal
 
 pub returns-then-tokens-eq2-clause-read : goal.returns-then-tokens-eq2-clause-read
-returns-then-tokens-eq2-clause-read c =
+returns-then-tokens-eq2-clause-read c = λ list.
     sym (take_all 2 (lexemes_of c.args.tokens.now) (omega (arith, lexemes_length c.args.tokens.now))) ∙ c.if-not-begins_with_closing.ensures
 
 pub returns-else-tokens-eq2-clause-fault : goal.returns-else-tokens-eq2-clause-fault
-returns-else-tokens-eq2-clause-fault c =
-    bad_behind (table_of c.args.ops.now) (lexemes_of c.args.tokens.now) c.if-not-begins_with_closing.ensures
+returns-else-tokens-eq2-clause-fault c = λ list.
+    bad_behind list (table_of c.args.ops.now) (lexemes_of c.args.tokens.now) c.if-not-begins_with_closing.ensures
     (third (lexemes_of c.args.tokens.now) c.if-not-begins_with_closing.ensures (λ e. c.if-tokens-eq2.false (omega (arith, lexemes_length c.args.tokens.now))))
 
 pub returns-in-Err-clause-fault : goal.returns-in-Err-clause-fault
-returns-in-Err-clause-fault c =
-    fault_of_term c.args.ops.now c.rows_are_lawful.ensures (lexemes_of c.args.tokens.now) c.if-not-begins_with_closing.ensures c.in-Err.fault c.in-Err.ensures.fault
+returns-in-Err-clause-fault c = λ list.
+    fault_of_term list c.args.ops.now c.rows_are_lawful.ensures (lexemes_of c.args.tokens.now) c.if-not-begins_with_closing.ensures c.in-Err.fault c.in-Err.ensures.fault

@@ -17,7 +17,10 @@ use Rattle.ladr_problem.specs.Sofar.{Sofar, stated_in, nothing_read}
 use Rattle.ladr_problem.specs.Stops.{IsStop}
 use Rattle.ladr_problem.specs.Whole.{IsFinished}
 use Rattle.ladr_problem.proofs.Files.{stop_along}
-use Rattle.ladr_problem.proofs.Good.{says_proper, has_interpretation, said_same}
+use Rattle.ladr_problem.proofs.Endings.{has_interpretation}
+use Rattle.ladr_problem.proofs.Good.{grown_proper, said_same}
+use Rattle.ladr_problem.proofs.Growing.{says_grows}
+use Rattle.ladr_problem.specs.Growth.{Grown}
 use Rattle.ladr_problem.proofs.Readings.{says_of, placed_error}
 use Rattle.ladr_problem.proofs.read.read_problem.Goals as goal
 
@@ -31,10 +34,13 @@ pub returns-in-Ok-take_file-clause-read : goal.returns-in-Ok-take_file-clause-re
 returns-in-Ok-take_file-clause-read c =
     (sofar_of c.take_file.new.draft, says_of c.args.program c.args.bytes.now (lexed c.args.bytes.now) c.if-bytes-gt-MOST_BYTES.false (cuts_text c.args.bytes.now) _ (finished c), c.finish.ensures.of)
 
-proper : (c : goal.After-finish) → IsProper (stated_in (sofar_of c.take_file.new.draft)) c.take_file.new.draft.settings.options
-proper c =
-    says_proper c.args.program c.args.bytes.now (sofar_of c.take_file.new.draft)
+grown : (c : goal.After-finish) → Grown c.args.program (sofar_of c.take_file.new.draft)
+grown c =
+    says_grows c.args.program c.args.bytes.now (sofar_of c.take_file.new.draft)
     (says_of c.args.program c.args.bytes.now (lexed c.args.bytes.now) c.if-bytes-gt-MOST_BYTES.false (cuts_text c.args.bytes.now) _ (finished c))
+
+proper : (c : goal.After-finish) → IsProper (stated_in (sofar_of c.take_file.new.draft)) c.take_file.new.draft.settings.options
+proper c = grown_proper c.args.program (sofar_of c.take_file.new.draft) (grown c)
 
 pub returns-in-Ok-take_file-clause-few : goal.returns-in-Ok-take_file-clause-few
 returns-in-Ok-take_file-clause-few c = subst (λ (t : List Symbol). length t ≤ MOST_SYMBOLS) (sym c.finish.ensures.of.symbols) (proper c).few

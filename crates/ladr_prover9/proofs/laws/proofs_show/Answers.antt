@@ -1,4 +1,9 @@
 -- Where proofs stand in an output they are refutations, and leave no countermodel.
+use Rattle.std.proofs.Common.{ℕ, List}
+use Rattle.ladr_formulas.specs.declared.styles.Mode.{Mode}
+use Rattle.ladr_problem.specs.File.{Says, problem}
+use Rattle.ladr_problem.specs.Proper.{IsProper}
+use Rattle.ladr_problem.specs.Sofar.{Sofar, stated_in}
 use Rattle.ladr_prover9.proofs.Knowing.{asked_none, show_by}
 use Rattle.ladr_prover9.proofs.Leaving.{asked_leaves}
 use Rattle.ladr_prover9.proofs.Numbered.{asked_numbered}
@@ -6,7 +11,7 @@ use Rattle.ladr_prover9.proofs.laws.proofs_show.Goals as goal
 
 pub returns-clause-show : goal.returns-clause-show
 returns-clause-show c =
-    let proper = c.problems_are_proper.ensures in
+    let proper : (m : Mode) (bytes : List ℕ) (s : Sofar) → Says m bytes (problem s) → IsProper (stated_in s) s.settings.options = λ m bytes s h. c.problems_are_proper.ensures m s (c.problems_grow.ensures m bytes s h) in
     let order = c.axioms_are_in_order.ensures in
     show_by c.one_outcome.ensures c.proofs_refute.ensures.found c.quests_are_sound.ensures (asked_numbered proper)
     (λ bytes q asked lines within refute. asked_leaves proper c.lines_without_elements.ensures c.no_countermodel.ensures order.order order.new bytes q asked within.witnesses lines

@@ -1,5 +1,6 @@
 -- A run of the machine shows each.
 use Rattle.std.proofs.Common.{refl, lit≤}
+use Rattle.ladr_lex.specs.declared.limits.TheConstants.{MOST_LEVELS}
 use Rattle.ladr_lex.specs.Bytes.{is_blank, is_ordinary, is_special}
 use Rattle.ladr_lex.specs.Starts.{start_of}
 use Rattle.ladr_lex.specs.Operators.{standard_rows}
@@ -16,13 +17,13 @@ pub returns : goal.returns
 unfolding start_of is_blank is_ordinary is_special
 returns c =
     record {
-      chain = bad_at 500 standard standard_lawful names (lexemes_of_text "a = b = c.") 3 _ _ (lit≤ tt) refl refl;
-      arrows = bad_at 500 standard standard_lawful names (lexemes_of_text "a <-> b -> c.") 3 _ _ (lit≤ tt) refl refl;
-      quantified = bad_at 500 standard standard_lawful names (lexemes_of_text "-all x p(x).") 1 _ _ (lit≤ tt) refl refl;
-      word = bad_at 500 standard standard_lawful names (lexemes_of_text "all exists p.") 1 _ _ (lit≤ tt) refl refl;
-      quoted_operator = bad_at 500 standard standard_lawful names (lexemes_of_text "a \"+\" b.") 1 _ _ (lit≤ tt) refl refl;
-      quoted_variable = bad_at 500 standard standard_lawful names (lexemes_of_text "all \"x\" p.") 1 _ _ (lit≤ tt) refl refl;
-      two_items = bad_at 500 standard standard_lawful names (lexemes_of_text "a. b.") 2 _ _ (lit≤ tt) refl refl;
-      unclosed = bad_at 500 standard standard_lawful names (lexemes_of_text "p(\"a).") 2 _ _ (lit≤ tt) refl refl;
-      end = bad_end 500 standard standard_lawful names (lexemes_of_text "p(a") 3 _ _ refl refl (λ t q e. absurd (cc));
+      chain = bad_at MOST_LEVELS standard standard_lawful names (lexemes_of_text "a = b = c.") 3 _ _ (lit≤ tt) refl refl;
+      arrows = bad_at MOST_LEVELS standard standard_lawful names (lexemes_of_text "a <-> b -> c.") 3 _ _ (lit≤ tt) refl refl;
+      quantified = bad_at MOST_LEVELS standard standard_lawful names (lexemes_of_text "-all x p(x).") 1 _ _ (lit≤ tt) refl refl;
+      word = bad_at MOST_LEVELS standard standard_lawful names (lexemes_of_text "all exists p.") 1 _ _ (lit≤ tt) refl refl;
+      quoted_operator = bad_at MOST_LEVELS standard standard_lawful names (lexemes_of_text "a \"+\" b.") 1 _ _ (lit≤ tt) refl refl;
+      quoted_variable = bad_at MOST_LEVELS standard standard_lawful names (lexemes_of_text "all \"x\" p.") 1 _ _ (lit≤ tt) refl refl;
+      two_items = bad_at MOST_LEVELS standard standard_lawful names (lexemes_of_text "a. b.") 2 _ _ (lit≤ tt) refl refl;
+      unclosed = bad_at MOST_LEVELS standard standard_lawful names (lexemes_of_text "p(\"a).") 2 _ _ (lit≤ tt) refl refl;
+      end = bad_end MOST_LEVELS standard standard_lawful names (lexemes_of_text "p(a") 3 _ _ refl refl (λ t q e. absurd (cc));
     }

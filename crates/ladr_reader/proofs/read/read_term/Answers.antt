@@ -1,5 +1,6 @@
 use Rattle.std.proofs.Common.{ap, ◌∙◌, arith}
 use Rattle.std.proofs.lemmas.Result.{err_from_is_err_and}
+use Rattle.ladr_lex.specs.declared.limits.TheConstants.{MOST_LEVELS}
 use Rattle.ladr_lex.specs.Lexeme.{lexemes_of}
 use Rattle.ladr_reader.specs.Capped.{whole_of}
 use Rattle.ladr_reader.specs.Table.{table_of}
@@ -15,6 +16,6 @@ returns-in_err-most_open-clause-fault c =
 pub returns : goal.returns
 returns c =
     let read = c.in_ok-most_open.ensures.read in
-    let tree = c.in_ok-tree.ensures ∙ ap (whole_of 500) read.term_is ∙ whole_built 500 read.tree in
+    let tree = c.in_ok-tree.ensures ∙ ap (whole_of MOST_LEVELS) read.term_is ∙ whole_built MOST_LEVELS read.tree in
     let answer = answered (table_of c.args.ops.now) (lexemes_of c.args.tokens.now) read.tree c.in_ok-most_open.most_open c.shallow.result read.item read.most_is (c.shallow.ensures.ok read.tree tree) (c.shallow.ensures.err read.tree tree) in
     record { read = answer.0; shallow = answer.1; fault = answer.2 }

@@ -1,4 +1,5 @@
 use Rattle.std.proofs.Common.{◌≡◌, refl, subst, inl, inr, lit≤, IsTrue}
+use Rattle.ladr_lex.specs.declared.limits.TheConstants.{MOST_LEVELS}
 use Rattle.ladr_lex.specs.Bytes.{is_blank, is_ordinary, is_special}
 use Rattle.ladr_lex.specs.Starts.{start_of}
 use Rattle.ladr_lex.specs.Operators.{standard_rows}
@@ -70,7 +71,7 @@ returns-clause-zeros _ = inl (refl, refl)
 pub returns-clause-content : goal.returns-clause-content
 unfolding start_of is_blank is_ordinary is_special
 returns-clause-content _ =
-    let none = bad_at 500 standard standard_lawful names (tokens_of "p q.") 1 _ _ (lit≤ tt) refl refl in
+    let none = bad_at MOST_LEVELS standard standard_lawful names (tokens_of "p q.") 1 _ _ (lit≤ tt) refl refl in
     inr (refl, (1, refl, inl (record { formula = 1; clause = 1; no_formula = none; no_clause = inl none; later = refl })))
 
 both_read : HasKind worked_tables (tokens_of "p & q.") Formula

@@ -1,5 +1,5 @@
-use Rattle.search_lines.proofs.Files.{says_fit}
+use Rattle.search_lines.proofs.Files.{grown_fit}
 use Rattle.search_lines.proofs.laws.files_are_fit.Goals as goal
 
 pub returns : goal.returns
-returns _ = says_fit
+returns _ = grown_fit

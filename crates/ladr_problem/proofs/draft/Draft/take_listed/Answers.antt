@@ -1,5 +1,4 @@
-use Rattle.std.proofs.Common.{List, ap, subst, sym, refl}
-use Rattle.std.specs.Prelude.{is_some}
+use Rattle.std.proofs.Common.{List, subst, sym, refl}
 use Rattle.std.proofs.lemmas.Result.{on_ok_weaker, IfErr-weaker}
 use Rattle.fol_core.specs.RawView.{raw_of}
 use Rattle.ladr_problem.specs.ItemView.{item_of}
@@ -16,14 +15,14 @@ use Rattle.ladr_problem.proofs.draft.Draft.take_listed.Goals as goal
 
 pub returns-in-Ok-End-clause-ok : goal.returns-in-Ok-End-clause-ok
 returns-in-Ok-End-clause-ok c =
-    let read = subst (λ (i : code.ListItem). IsListItem (table_of c.args.self.now.settings.operators) (lexemes_of c.deref.result.now) (item_of i)) c.in-Ok-End.field-0-is c.in-Ok-End.ensures.read in
-    (within closing, (ap is_some c.requires, subst (λ (ts : List Token). IsListItem (table_of c.args.self.now.settings.operators) (lexemes_of ts) closing) c.deref.ensures.value read), refl)
+    let read = subst (λ (i : code.ListItem). IsListItem c.args.list (table_of c.args.self.now.settings.operators) (lexemes_of c.deref.result.now) (item_of i)) c.in-Ok-End.field-0-is (c.in-Ok-End.ensures.read c.args.list) in
+    (within closing, (c.args.list, c.requires, subst (λ (ts : List Token). IsListItem c.args.list (table_of c.args.self.now.settings.operators) (lexemes_of ts) closing) c.deref.ensures.value read), refl)
 
 -- the item is the term
-read : (c : goal.After-take_term) → IsListItem (table_of c.args.self.now.settings.operators) (lexemes_of c.args.tokens.now.items) (term (raw_of c.in-Ok-Term.raw))
+read : (c : goal.After-take_term) → IsListItem c.args.list (table_of c.args.self.now.settings.operators) (lexemes_of c.args.tokens.now.items) (term (raw_of c.in-Ok-Term.raw))
 read c =
-    subst (λ (ts : List Token). IsListItem (table_of c.args.self.now.settings.operators) (lexemes_of ts) (term (raw_of c.in-Ok-Term.raw))) c.deref.ensures.value
-    (subst (λ (i : code.ListItem). IsListItem (table_of c.args.self.now.settings.operators) (lexemes_of c.deref.result.now) (item_of i)) c.in-Ok-Term.field-0-is c.in-Ok-Term.ensures.read)
+    subst (λ (ts : List Token). IsListItem c.args.list (table_of c.args.self.now.settings.operators) (lexemes_of ts) (term (raw_of c.in-Ok-Term.raw))) c.deref.ensures.value
+    (subst (λ (i : code.ListItem). IsListItem c.args.list (table_of c.args.self.now.settings.operators) (lexemes_of c.deref.result.now) (item_of i)) c.in-Ok-Term.field-0-is (c.in-Ok-Term.ensures.read c.args.list))
 
 shallow : (c : goal.After-take_term) → IsShallow (lexemes_of c.args.tokens.now.items) (term (raw_of c.in-Ok-Term.raw))
 shallow c =
@@ -46,4 +45,4 @@ pub returns-in-Err-clause-refused : goal.returns-in-Err-clause-refused
 returns-in-Err-clause-refused c =
     subst (λ (ts : List Token). IsItemRefused c.args.program c.args.byte (sofar_of c.args.self.now) (lexemes_of ts) c.by_term.result) c.deref.ensures.value
     (subst (λ (why : Refusal). IsItemRefused c.args.program c.args.byte (sofar_of c.args.self.now) (lexemes_of c.deref.result.now) why) (sym c.by_term.ensures)
-    (item_refused c.args.program c.args.byte (sofar_of c.args.self.now) c.args.list c.requires (lexemes_of c.deref.result.now) c.in-Err.fault c.in-Err.ensures.fault))
+    (item_refused c.args.program c.args.byte (sofar_of c.args.self.now) c.args.list c.requires (lexemes_of c.deref.result.now) c.in-Err.fault (c.in-Err.ensures.fault c.args.list)))

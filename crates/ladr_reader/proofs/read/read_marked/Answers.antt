@@ -5,11 +5,12 @@ use Rattle.fol_core.specs.RawTree.{RawTree}
 use Rattle.fol_core.specs.RawView.{raw_of}
 use Rattle.ladr_lex.specs.Lexeme.{lexemes_of}
 use Rattle.ladr_reader.specs.Capped.{whole_of}
+use Rattle.ladr_reader.specs.Marks.{marked}
 use Rattle.ladr_reader.specs.Reads.{Item}
 use Rattle.ladr_reader.specs.Table.{table_of}
 use Rattle.ladr_reader.proofs.Levels.{whole_built, capped_some, capped_none}
 use Rattle.ladr_reader.proofs.Runs.{deep_as}
-use Rattle.ladr_reader.proofs.read.read_tree.Goals as goal
+use Rattle.ladr_reader.proofs.read.read_marked.Goals as goal
 
 pub returns-in_err-_open-clause-fault : goal.returns-in_err-_open-clause-fault
 returns-in_err-_open-clause-fault c =
@@ -21,7 +22,7 @@ returns-in-Some c =
     let read = c.in_ok-_open.ensures.read in
     let tree = c.in_ok-tree.ensures ∙ ap (whole_of c.args.most) read.term_is ∙ whole_built c.args.most read.tree in
     let some = capped_some c.args.most read.tree (raw_of c.in-Some.raw) (ap (option_map raw_of) (sym c.in-Some.is) ∙ c.into_tree.ensures ∙ tree) in
-    record { read = subst (λ (t : RawTree). Item (table_of c.args.ops.now) (lexemes_of c.args.tokens.now) t) some.0 read.item; shallow = some.1; fault = tt }
+    record { read = subst (λ (t : RawTree). Item (table_of c.args.ops.now) (marked c.args.names.now (lexemes_of c.args.tokens.now)) t) some.0 read.item; shallow = some.1; fault = tt }
 
 pub returns : goal.returns
 returns c =

@@ -17,7 +17,7 @@ use Rattle.ladr_interpretations.specs.Good.{is_good}
 use Rattle.ladr_lex.specs.Cuts.{is_plain_symbol}
 use Rattle.ladr_lex.specs.Operators.{OperatorRow, is_quantifier_word, is_precedence, has_precedence, are_lawful, is_fixed, operator_with, type_named, unquoted, is_unfit_operator, is_unfit_symbol, declared}
 use Rattle.ladr_lex.specs.declared.misuse.Misuse.{Misuse}
-use Rattle.ladr_lex.specs.declared.misuse.Misuse.TheVariants.{UnknownList, UnfitOperator, UnfitSymbol, TooLate, UnmatchedIf, UnfitRule, UnfitInterpretation}
+use Rattle.ladr_lex.specs.declared.misuse.Misuse.TheVariants.{UnknownParameter, UnknownList, UnfitOperator, UnfitSymbol, TooLate, UnmatchedIf, UnfitRule, UnfitInterpretation}
 use Rattle.ladr_lex.specs.declared.operators.SymbolType.{SymbolType}
 use Rattle.ladr_lex.specs.declared.operators.SymbolType.TheVariants.{Ordinary, Operates}
 use Rattle.ladr_lex.proofs.OperatorLemmas.{lawful_put, fixed_kept}
@@ -25,12 +25,14 @@ use Rattle.ladr_options.specs.Options.{with_flag, with_value, allows, flagged, f
 use Rattle.ladr_options.specs.declared.names.Flag.{Flag}
 use Rattle.ladr_options.specs.declared.names.Flag.TheVariants.{Auto, UnitDeletion, BackSubsume, BackDemod, Lnh, BinaryResolution, HyperResolution, UrResolution, Factor, Paramodulation, PrologStyleVariables}
 use Rattle.ladr_options.specs.declared.names.Parameter.{Parameter}
-use Rattle.ladr_options.specs.declared.names.Parameter.TheVariants.{MaxWeight, SosLimit, MaxGiven, MaxKept, MaxSeconds, MaxMegs, MaxProofs, MaxModels, DemodStepLimit, AgePart, WeightPart, FalsePart, TruePart, PickGivenRatio, DomainSize, StartSize, EndSize, Increment, SelectionOrder, SelectionMeasure}
+use Rattle.ladr_options.specs.declared.names.Parameter.TheVariants.{MaxWeight, SosLimit, MaxGiven, MaxKept, MaxSeconds, MaxMegs, MaxProofs, MaxModels, DemodStepLimit, AgePart, WeightPart, FalsePart, TruePart, PickGivenRatio, DomainSize, StartSize, EndSize, Increment, SelectionOrder, SelectionMeasure, ProofFormat, EvalLimit}
 use Rattle.ladr_options.specs.declared.options.OptionError.{OptionError}
 use Rattle.ladr_options.specs.declared.options.OptionError.TheVariants.{Unknown, NotAValue}
 use Rattle.ladr_options.specs.declared.options.Options.{Options}
-use Rattle.ladr_print.specs.StatesAs.{KeepsFixed}
-use Rattle.ladr_settings.specs.Settings.{settings_after, after_meant, after_other, after_value, after_operators, after_opening, all_declared, is_other, flag_misuse, parameter_misuse, with_options, is_late_style, is_meant, formulas_opened, rules_opened}
+use Rattle.ladr_reader.specs.Fixed.{KeepsFixed}
+use Rattle.ladr_settings.proofs.Counted.{IsCounted, flagged_counted, numbered_counted, symbolized_counted}
+use Rattle.ladr_settings.specs.Following.{Follows}
+use Rattle.ladr_settings.specs.Settings.{settings_after, after_meant, after_other, after_value, with_assigned, kept_back, after_operators, after_opening, all_declared, is_other, flag_misuse, parameter_misuse, with_options, is_late_style, is_meant, formulas_opened, rules_opened}
 use Rattle.ladr_settings.specs.declared.lists.OpenList.{OpenList}
 use Rattle.ladr_settings.specs.declared.settings.Settings.{Settings}
 
@@ -117,6 +119,8 @@ module _ (s : Options) where
   value_style Increment v = refl
   value_style SelectionOrder v = refl
   value_style SelectionMeasure v = refl
+  value_style ProofFormat v = refl
+  value_style EvalLimit v = refl
 
   number_style : (negative : Bool) (n : ℕ) (p : Parameter) → IfOk (with_number negative n s p) KeepsStyle
   number_style negative n p = if_there (with_stored p s) (stored negative n) NotAValue (λ v. either_way (allows p v) (Ok (with_value p v s)) (Err NotAValue) (value_style p v) tt)
@@ -181,15 +185,6 @@ module _ (p : ℕ) (type : List ℕ) where
       names_fixed ns (declared p type n rows) (right_false (is_unfit_symbol n) (list_any is_unfit_symbol ns) free)
       (λ name f. fixed_kept rows p type n name one f ∙ k name f)
 
--- What a command makes of settings. A list that is open for this program was opened as one.
-pub record Follows (m : Mode) (a b : Settings) : Type 0 where
-  pub lawful : are_lawful a.operators ≡ true → are_lawful b.operators ≡ true
-  pub fixed : KeepsFixed a.operators → KeepsFixed b.operators
-  pub operators : a.listed ≡ true → b.operators ≡ a.operators
-  pub styled : a.listed ≡ true → style b.options ≡ style a.options
-  pub rises : a.listed ≡ true → b.listed ≡ true
-  pub opened : is_meant m b ≡ true → is_some b.list ≡ true → b.listed ≡ true
-
 -- commands stand outside lists
 module _ (m : Mode) (a : Settings) (closed : a.list ≡ None) where
   abbrev F : Settings → Type 0
@@ -202,20 +197,23 @@ module _ (m : Mode) (a : Settings) (closed : a.list ≡ None) where
   choice true r q h k = h
   choice false r q h k = k
 
-  options_follow : (row : OptionError → Misuse) (made : Result Options OptionError) → (a.listed ≡ true → IfOk made (KeepsStyle a.options)) → IfOk (with_options a row made) F
-  options_follow row (Ok o) h = record { lawful = λ l. l; fixed = λ k. k; operators = λ l. refl; styled = λ l. h l; rises = λ l. l; opened = none_open (record a { options = o }) closed }
-  options_follow row (Err e) h = tt
+  options_follow : (row : OptionError → Misuse) (made : Result Options OptionError) → (a.listed ≡ true → IfOk made (KeepsStyle a.options)) → (IsCounted a.options → IfOk made IsCounted) → IfOk (with_options a row made) F
+  options_follow row (Ok o) h count = record { lawful = λ l. l; fixed = λ k. k; operators = λ l. refl; styled = λ l. h l; rises = λ l. l; opened = none_open (record a { options = o }) closed; counted = count }
+  options_follow row (Err e) h count = tt
 
   flag_follows : (on : Bool) (name : List ℕ) → IfOk (if is_late_style name a then Err TooLate else with_options a flag_misuse (flagged name on a.options)) F
   flag_follows on name = by (is_late_style name a) refl
     where
       by : (b : Bool) → is_late_style name a ≡ b → IfOk (if b then Err TooLate else with_options a flag_misuse (flagged name on a.options)) F
       by true e = tt
-      by false e = options_follow flag_misuse (flagged name on a.options) (λ l. flagged_style a.options name on (first_false (bytes_eq name (codes "prolog_style_variables")) a.listed e l))
+      by false e = options_follow flag_misuse (flagged name on a.options) (λ l. flagged_style a.options name on (first_false (bytes_eq name (codes "prolog_style_variables")) a.listed e l)) (flagged_counted name on a.options)
+
+  assigned_follows : (name : List ℕ) (v : Value) → IfOk (with_assigned name v a) F
+  assigned_follows name (value.Symbol text) = options_follow parameter_misuse (symbolized name text a.options) (λ l. symbolized_style a.options name text) (symbolized_counted name text a.options)
+  assigned_follows name (value.Number negative n) = options_follow parameter_misuse (numbered name negative n a.options) (λ l. numbered_style a.options name negative n) (numbered_counted name negative n a.options)
 
   value_follows : (name : List ℕ) (v : Value) → IfOk (after_value name v a) F
-  value_follows name (value.Symbol text) = options_follow parameter_misuse (symbolized name text a.options) (λ l. symbolized_style a.options name text)
-  value_follows name (value.Number negative n) = options_follow parameter_misuse (numbered name negative n a.options) (λ l. numbered_style a.options name negative n)
+  value_follows name v = choice (is_among kept_back name) (Err UnknownParameter) (with_assigned name v a) tt (assigned_follows name v)
 
   operators_follow : (p : ℕ) (type : List ℕ) (names : List (List ℕ)) → IfOk (after_operators p type names a) F
   operators_follow p type names = fitted (nat_lt 0 (length names) && is_unfit_operator p type) refl
@@ -232,6 +230,7 @@ module _ (m : Mode) (a : Settings) (closed : a.list ≡ None) where
         styled = λ l. refl;
         rises = λ l. l;
         opened = none_open named closed;
+        counted = λ c. c;
       }
 
       symbols : (b : Bool) → list_any is_unfit_symbol names ≡ b → (nat_lt 0 (length names) && is_unfit_operator p type) ≡ false
@@ -253,10 +252,11 @@ module _ (m : Mode) (a : Settings) (closed : a.list ≡ None) where
     styled = λ l. ap style options;
     rises = λ l. listed ∙ l;
     opened = none_open b none;
+    counted = λ c. subst IsCounted (sym options) c;
   }
 
   opening_follows : (list : OpenList) → IfOk (after_opening list a) F
-  opening_follows list = choice (is_other list) (Err UnknownList) _ tt (record { lawful = λ h. h; fixed = λ k. k; operators = λ l. refl; styled = λ l. refl; rises = λ l. refl; opened = λ meant some. refl })
+  opening_follows list = choice (is_other list) (Err UnknownList) _ tt (record { lawful = λ h. h; fixed = λ k. k; operators = λ l. refl; styled = λ l. refl; rises = λ l. refl; opened = λ meant some. refl; counted = λ c. c })
 
   meant_follows : (c : Command) → IfOk (after_meant c a) F
   meant_follows (command.Flag on name) = flag_follows on name
@@ -273,7 +273,7 @@ module _ (m : Mode) (a : Settings) (closed : a.list ≡ None) where
 
   -- a list in a block for another program
   other_opening : (list : OpenList) → is_meant m a ≡ false → F (record a { list = Some list })
-  other_opening list other = record { lawful = λ h. h; fixed = λ k. k; operators = λ l. refl; styled = λ l. refl; rises = λ l. l; opened = λ meant some. absurd (false≢true (sym other ∙ meant)) }
+  other_opening list other = record { lawful = λ h. h; fixed = λ k. k; operators = λ l. refl; styled = λ l. refl; rises = λ l. l; opened = λ meant some. absurd (false≢true (sym other ∙ meant)); counted = λ c. c }
 
   other_follows : (c : Command) → is_meant m a ≡ false → F (after_other c a)
   other_follows (command.Flag on name) other = same a refl refl refl closed
@@ -293,3 +293,7 @@ module _ (m : Mode) (a : Settings) (closed : a.list ≡ None) where
       by : (b : Bool) → is_meant m a ≡ b → IfOk (if b then after_meant c a else Ok (after_other c a)) F
       by true e = meant_follows c
       by false e = other_follows c e
+
+-- a list that ends
+pub closing_follows : (m : Mode) (a : Settings) → Follows m a (record a { list = None })
+closing_follows m a = record { lawful = λ h. h; fixed = λ k. k; operators = λ l. refl; styled = λ l. refl; rises = λ l. l; opened = λ meant some. absurd (false≢true some); counted = λ c. c }
