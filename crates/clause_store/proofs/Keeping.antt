@@ -9,7 +9,8 @@ use Rattle.fol_core.specs.Free.{is_in}
 use Rattle.fol_core.specs.Literals.{ClauseTree}
 use Rattle.fol_problem.specs.Stated.{Said}
 use Rattle.derivation.specs.Later.{LaterWord, later_parents}
-use Rattle.derivation.specs.Lines.{FirstWord, assumed, wanted, clausified, denied, copied, resolved, factored, paramodulated, xx_resolved, Inference, copy_inference, clash_inference, factor_inference, para_inference, xx_inference, ContentTree, LineTree, line_at, content_clause, clause_at, AreClauses, After, IsInferred, InputRow, IsInputOf, IsLine, IsAbove, AreLines, IsDerivation, ends_empty, is_empty_clause, formula, clause}
+use Rattle.derivation.specs.Lines.{FirstWord, assumed, wanted, clausified, denied, copied, resolved, factored, paramodulated, xx_resolved, instantiated, Inference, copy_inference, clash_inference, factor_inference, para_inference, xx_inference, ContentTree, LineTree, line_at, content_clause, clause_at, AreClauses, After, IsInferred, instance_of, IsInstance, InputRow, IsInputOf, IsLine, IsAbove, AreLines, IsDerivation, ends_empty, is_empty_clause, formula, clause}
+use Rattle.substitutions.specs.Bindings.{Binding}
 use Rattle.clause_store.specs.Ancestors.{first_parents, line_parents, parents_in, IsWay, IsAncestry}
 use Rattle.clause_store.specs.Laws.{AncestorsDerive, AncestorsRefute}
 use Rattle.clause_store.specs.Lines.{PlainLine, plain_tree, plain_trees}
@@ -81,6 +82,9 @@ module _ (keeps : ℕ → Bool) where
     words_stay ls ws k.1 content (kept_back ls i.parents (flat_map later_parents ws) h) k.5,
   )
 
+  instance_stays : (ls : List LineTree) (n : ℕ) (es : List Binding) (ws : List LaterWord) (content : ContentTree) → AreKept ls (n ∷ flat_map later_parents ws) → IsInstance ls n es ws content → IsInstance (kept ls) n es ws content
+  instance_stays ls n es ws content h k = (k.0, one_clause ls n k.0 h.0 k.1, words_stay ls ws (instance_of es k.0) content h.1 k.2)
+
   input_stays : (ss : List Said) (rows : List InputRow) (ls : List LineTree) (goal : Bool) (n : ℕ) (content : ContentTree) (ms : List ℕ) → AreKept ls (n ∷ ms) → IsInputOf ss rows ls goal n content → IsInputOf ss rows (kept ls) goal n content
   input_stays ss rows ls goal n content ms h k = let f = k.1 in (k.0, (f.0, line_stays ls n (h.0 f.0 f.1) ∙ f.1, f.2, f.3), k.2)
 
@@ -95,6 +99,7 @@ module _ (keeps : ℕ → Bool) where
   is_line_stays ss rows ls (factored n a b) ws content h k = inferred_stays ls (factor_inference n a b) ws content h k
   is_line_stays ss rows ls (paramodulated n a side m b path) ws content h k = inferred_stays ls (para_inference n a side m b path) ws content h k
   is_line_stays ss rows ls (xx_resolved n a) ws content h k = inferred_stays ls (xx_inference n a) ws content h k
+  is_line_stays ss rows ls (instantiated n es) ws content h k = instance_stays ls n es ws content h k
 
 -- the line of a number in two lists, one behind the other
 pub line_front : (xs ys : List LineTree) (m : ℕ) (l : LineTree) → line_at xs m ≡ Some l → line_at (xs ++ ys) m ≡ Some l
@@ -187,6 +192,12 @@ inferred_there ls i ws content h m k = elim (in_either m i.parents (flat_map lat
   | inr j ↦ words_there ls ws h.1 content h.5 m j
 ]
 
+instance_there : (ls : List LineTree) (n : ℕ) (es : List Binding) (ws : List LaterWord) (content : ContentTree) → IsInstance ls n es ws content → (m : ℕ) → is_in m (n ∷ flat_map later_parents ws) ≡ true → IsThere ls m
+instance_there ls n es ws content h m k = elim (in_either m (n ∷ []) (flat_map later_parents ws) k) [
+  | inl j ↦ clauses_there ls (n ∷ []) (h.0 ∷ []) (h.1, tt) m j
+  | inr j ↦ words_there ls ws (instance_of es h.0) content h.2 m j
+]
+
 input_there : (ss : List Said) (rows : List InputRow) (ls : List LineTree) (goal : Bool) (n : ℕ) (ws : List LaterWord) (content : ContentTree) → IsInputOf ss rows ls goal n content → ws ≡ []
     → (m : ℕ) → is_in m (n ∷ flat_map later_parents ws) ≡ true → IsThere ls m
 input_there ss rows ls goal n ws content h e m i = by (m == n) refl (ap (λ v. is_in m (n ∷ flat_map later_parents v)) (sym e) ∙ i)
@@ -215,6 +226,7 @@ parents_there ss rows ls (resolved n k) ws content h m i = inferred_there ls (cl
 parents_there ss rows ls (factored n a b) ws content h m i = inferred_there ls (factor_inference n a b) ws content h m i
 parents_there ss rows ls (paramodulated n a side k b path) ws content h m i = inferred_there ls (para_inference n a side k b path) ws content h m i
 parents_there ss rows ls (xx_resolved n a) ws content h m i = inferred_there ls (xx_inference n a) ws content h m i
+parents_there ss rows ls (instantiated n es) ws content h m i = instance_there ls n es ws content h m i
 
 -- so they have lower numbers
 parents_lower : (ss : List Said) (rows : List InputRow) (earlier : List LineTree) (last : Option ℕ) (ls : List LineTree) → AreUpTo earlier last → AreLines ss rows earlier last ls

@@ -19,7 +19,7 @@ use Rattle.derivation.specs.declared.line.Line.{Line}
 use Rattle.derivation.specs.declared.line.Content.{Content}
 use Rattle.derivation.specs.declared.line.Content.TheVariants as content
 use Rattle.derivation.specs.declared.words.First.{First}
-use Rattle.derivation.specs.declared.words.First.TheVariants.{Assumption, Goal, Clausify, Deny, Copy, BackRewrite, BackUnitDel, Resolve, Hyper, Ur, Factor, Para, XxRes}
+use Rattle.derivation.specs.declared.words.First.TheVariants.{Assumption, Goal, Clausify, Deny, Copy, BackRewrite, BackUnitDel, Resolve, Hyper, Ur, Factor, Para, XxRes, Instantiate}
 use Rattle.term_bank.specs.Bank.{tree_at, IsAt, Grows}
 use Rattle.term_bank.specs.Cells.{AreNumbersBelow}
 use Rattle.term_bank.specs.declared.id.TermId.{TermId}
@@ -50,6 +50,7 @@ means_first (Ur n ss) = refl
 means_first (Factor n a b) = refl
 means_first (Para p) = refl
 means_first (XxRes n a) = refl
+means_first (Instantiate n s) = refl
 
 means_content : (c : Content) → content_tree (plain_content c) ≡ content_of c
 means_content (content.Formula f label) = refl

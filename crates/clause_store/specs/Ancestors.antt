@@ -4,7 +4,7 @@ use Rattle.std.specs.List.{filter, flat_map}
 use Rattle.std.specs.Option.{option_map_or}
 use Rattle.fol_core.specs.Free.{is_in}
 use Rattle.derivation.specs.Later.{later_parents}
-use Rattle.derivation.specs.Lines.{FirstWord, assumed, wanted, clausified, denied, copied, resolved, factored, paramodulated, xx_resolved, LineTree, line_at}
+use Rattle.derivation.specs.Lines.{FirstWord, assumed, wanted, clausified, denied, copied, resolved, factored, paramodulated, xx_resolved, instantiated, LineTree, line_at}
 use Rattle.clause_store.specs.Lines.{PlainLine, plain_trees}
 
 -- the numbers of the lines that a first word takes
@@ -18,6 +18,7 @@ first_parents (resolved n ss) = n ∷ map (λ s. s.clause) ss
 first_parents (factored n a b) = n ∷ []
 first_parents (paramodulated n a side m b path) = n ∷ m ∷ []
 first_parents (xx_resolved n a) = n ∷ []
+first_parents (instantiated n es) = n ∷ []
 
 -- the parents of a line: the lines that it takes by its first word, and by those behind it
 abbrev pub line_parents : LineTree → List ℕ

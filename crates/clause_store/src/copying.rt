@@ -7,6 +7,7 @@ ghost use Rattle.proof_words.specs.Written.{written_first, written_of};
 use derivation::{First, Just, Later, Paramodulation, Rewrite};
 use fol_core::{Name, Raw, RawSub, Raws};
 use std::alloc::{AllocError, Global};
+use substitutions::Subst;
 
 // An equal term as read.
 #[cycle(raw_copy)]
@@ -69,7 +70,19 @@ fn copy_first(alloc: Global, first: &First) -> Result<First, AllocError>
         First::Factor(n, a, b) => First::Factor(*n, *a, *b),
         First::Para(step) => First::Para(copy_paramodulation(alloc, step)?),
         First::XxRes(n, a) => First::XxRes(*n, *a),
+        First::Instantiate(n, subst) => First::Instantiate(*n, copy_subst(alloc, subst)?),
     })
+}
+
+// The same terms for variables.
+fn copy_subst(alloc: Global, subst: &Subst) -> Result<Subst, AllocError>
+    ensures { IfOk result (λ copy. copy ≡ subst.now) }
+{
+    let mut copy = Subst::new(alloc);
+    for (x, term) in &subst.terms {
+        copy.bind(*x, term.copy(alloc)?)?;
+    }
+    Ok(copy)
 }
 
 // The same paramodulation.

@@ -4,7 +4,7 @@ ghost use Rattle.clause_store.specs.Lines.{stored_content, stored_line, plain_co
 
 use crate::copying::{copy_just, copy_label};
 use crate::stored::Stored;
-use derivation::{Content, Just, Line};
+use derivation::{Content, Just, Line, LineNotes};
 use fol_core::{Formula, RawSub};
 use std::alloc::{AllocError, Global};
 use term_bank::Bank;
@@ -51,6 +51,7 @@ impl StoredLine {
             number,
             content,
             just,
+            notes: LineNotes::none(alloc),
         })
     }
 }

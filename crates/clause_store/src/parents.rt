@@ -53,6 +53,7 @@ fn add_first(first: &First, numbers: &mut Vec<u64>) -> Result<(), AllocError>
             add(step.into, numbers)
         }
         First::XxRes(n, _) => add(*n, numbers),
+        First::Instantiate(n, _) => add(*n, numbers),
     }
 }
 

@@ -1,5 +1,5 @@
 // The clauses of a problem.
-ghost use Rattle.std.specs.Prelude.{◌≡◌, ◌≤◌, ℕ, Some, None, Err, IfOk, OnOk, length, map};
+ghost use Rattle.std.specs.Prelude.{◌≡◌, ◌≤◌, ℕ, [], Some, None, Err, IfOk, OnOk, length, map};
 ghost use Rattle.fol_core.specs.EntryView.{skolem_axiom_of};
 ghost use Rattle.fol_core.specs.Literals.{equality};
 ghost use Rattle.fol_core.specs.Meaning.{Meaning, IsLawful};
@@ -37,6 +37,7 @@ fn made(alloc: Global, problem: &Problem, symbols: &mut Symbols) -> Result<Claus
     requires no_relation { HasNoSkolemRelation problem.now.symbols symbols.old }
     ensures clauses { IfOk result (λ c. c.clauses.items
         ≡ clauses_in_table symbols.old (stated_of problem.now)) }
+    ensures answers { IfOk result (λ c. c.answers.items ≡ []) }
     ensures skolem { IfOk result (λ c. map skolem_axiom_of c.skolem.items
         ≡ axioms_in_table symbols.old (stated_of problem.now)) }
     ensures symbols { IfOk result (λ c. map (λ s. s.0) c.symbols.items
@@ -55,6 +56,7 @@ fn made(alloc: Global, problem: &Problem, symbols: &mut Symbols) -> Result<Claus
     let (symbols, numeral) = symbols_and_numeral(alloc, problem)?;
     Ok(Clauses {
         clauses,
+        answers: Vec::new(alloc),
         skolem,
         symbols,
         numeral,
@@ -73,6 +75,8 @@ pub fn clauses_of(
 
     ensures clauses { IfOk result (λ c. c.clauses.items
         ≡ clauses_in_table symbols.old (stated_of problem.now)) }
+    // Answers aren't made yet.
+    ensures answers { IfOk result (λ c. c.answers.items ≡ []) }
     ensures skolem { IfOk result (λ c. map skolem_axiom_of c.skolem.items
         ≡ axioms_in_table symbols.old (stated_of problem.now)) }
     ensures symbols { IfOk result (λ c. map (λ s. s.0) c.symbols.items

@@ -10,12 +10,13 @@ use Rattle.fol_problem.specs.Stated.{Said}
 use Rattle.fol_core.specs.Truth.{Assignment, IsWithin}
 use Rattle.fol_core.specs.Tree.{var}
 use Rattle.substitutions.specs.Atoms.{AreAtoms}
-use Rattle.substitutions.specs.Instances.{followed}
+use Rattle.substitutions.specs.Bindings.{Binding, by_bindings}
+use Rattle.substitutions.specs.Instances.{followed, substitute_clause}
 use Rattle.substitutions.proofs.Numbering.{renumbered_true, true_renumbered}
 use Rattle.substitutions.proofs.Variants.{variants_instances}
 use Rattle.derivation.specs.Laws.{ContentNamesWithin, LinesNameWithin, RowsAreAtoms}
 use Rattle.derivation.specs.Later.{LaterWord, later_parents}
-use Rattle.derivation.specs.Lines.{FirstWord, assumed, wanted, clausified, denied, copied, resolved, factored, paramodulated, xx_resolved, Inference, copy_inference, clash_inference, factor_inference, para_inference, xx_inference, ContentTree, formula, clause, LineTree, line_at, content_clause, clause_at, AreClauses, IsClause, After, IsInferred, InputRow, IsStated, IsInput, IsLine, AreLines, is_empty_clause, ends_empty}
+use Rattle.derivation.specs.Lines.{FirstWord, assumed, wanted, clausified, denied, copied, resolved, factored, paramodulated, xx_resolved, instantiated, Inference, instance_of, IsInstance, copy_inference, clash_inference, factor_inference, para_inference, xx_inference, ContentTree, formula, clause, LineTree, line_at, content_clause, clause_at, AreClauses, IsClause, After, IsInferred, InputRow, IsStated, IsInput, IsLine, AreLines, is_empty_clause, ends_empty}
 use Rattle.substitutions.specs.Apart.{Own, instances}
 use Rattle.derivation.proofs.LaterSound.{word_sound, word_atoms, InstancesTrue}
 use Rattle.derivation.proofs.Lawful.{IsLawfulRule, copy_lawful, clash_lawful, factor_lawful, xx_lawful, para_lawful}
@@ -101,6 +102,17 @@ module _ (m : Meaning) (lawful : IsLawful m) where
       let s = by_place (clause_variables made) in
       after_good ls ws d content after lines (subst (IsGood m lawful) (sym is) (valid_instance m lawful s made atoms valid, atoms_put s made atoms))
 
+  -- and an instance with its words
+  instantiated_good : (ls : List LineTree) (n : ℕ) (es : List Binding) (ws : List LaterWord) (content : ContentTree) → IsInstance ls n es ws content → LinesGood m lawful ls → ContentGood m lawful content
+  instantiated_good ls n es ws content (c, at, after) lines =
+      let parent = clause_good ls n c at lines in
+      let put = by_bindings es in
+      let made = substitute_clause put c in
+      let atoms : AreAtoms made = atoms_put put c parent.1 in
+      let valid : Valid m lawful made = valid_instance m lawful put c parent.1 parent.0 in
+      let s = by_place (clause_variables made) in
+      after_good ls ws (instance_of es c) content after lines (valid_instance m lawful s made atoms valid, atoms_put s made atoms)
+
   row_good : (content : ContentTree) (d : ClauseTree) → IsClause content d → ContentNamesWithin m content → IsTrueClause m d → AreAtoms d → ContentGood m lawful content
   row_good (formula f) d same names holds atoms = tt
   row_good (clause c) d same names holds atoms = (
@@ -130,6 +142,7 @@ module _ (m : Meaning) (lawful : IsLawful m) where
   line_good ss rows ls (paramodulated n a side k b path) ws content is names all atoms good =
       inferred_good ls (para_inference n a side k b path) ws content (para_lawful a side b path) is good
   line_good ss rows ls (xx_resolved n a) ws content is names all atoms good = inferred_good ls (xx_inference n a) ws content (xx_lawful a) is good
+  line_good ss rows ls (instantiated n es) ws content is names all atoms good = instantiated_good ls n es ws content is good
 
   empty_false : (content : ContentTree) → ContentGood m lawful content → IsTrue (is_empty_clause content) → ⊥
   empty_false (formula f) good h = false≢true h

@@ -6,7 +6,7 @@ pub mod LaterSound
 pub mod Lawful
 pub mod Naturality
 pub mod PlaceLemmas
-mod PlaceSteps
+pub mod PlaceSteps
 pub mod Rows
 pub mod RuleSound
 pub mod SideSteps

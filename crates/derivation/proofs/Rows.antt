@@ -7,9 +7,10 @@ use Rattle.fol_core.specs.Fol.{Fol}
 use Rattle.fol_core.specs.Literals.{ClauseTree}
 use Rattle.fol_problem.specs.Stated.{Said}
 use Rattle.derivation.specs.Later.{LaterWord, later_parents, later_fits, Leads}
-use Rattle.derivation.specs.Lines.{FirstWord, assumed, wanted, clausified, denied, copied, resolved, factored, paramodulated, xx_resolved, Inference, inference_of, copy_inference, clash_inference, factor_inference, para_inference, xx_inference, ContentTree, is_formula, is_formula_at, LineTree, clause_at, AreClauses, After, IsInferred, InputRow, IsStated, IsFormulaAt, IsInputOf, IsLine, AreLines, is_empty_clause, ends_empty, IsRefutation}
-use Rattle.derivation.specs.Refused.{Fails, StepFails, all_parents, are_there, InferenceFails, StatedFails, InputFails, LineFails, IsRefusedLine, IsAccepted, HasFault, IsFault}
+use Rattle.derivation.specs.Lines.{FirstWord, assumed, wanted, clausified, denied, copied, resolved, factored, paramodulated, xx_resolved, instantiated, Inference, instance_of, IsInstance, inference_of, copy_inference, clash_inference, factor_inference, para_inference, xx_inference, ContentTree, is_formula, is_formula_at, LineTree, clause_at, AreClauses, After, IsInferred, InputRow, IsStated, IsFormulaAt, IsInputOf, IsLine, AreLines, is_empty_clause, ends_empty, IsRefutation}
+use Rattle.derivation.specs.Refused.{Fails, StepFails, all_parents, are_there, InferenceFails, InstanceFails, StatedFails, InputFails, LineFails, IsRefusedLine, IsAccepted, HasFault, IsFault}
 use Rattle.substitutions.specs.Apart.{Own}
+use Rattle.substitutions.specs.Bindings.{Binding}
 use Rattle.derivation.specs.Rule.{UnifiesFamily, Concludes}
 use Rattle.derivation.specs.Words.{Clash}
 use Rattle.derivation.specs.declared.row.Row.{Row}
@@ -119,6 +120,24 @@ inference_once ls i law natural ws content row other (inl three) (inr fails) = a
 inference_once ls i law natural ws content row other (inr fails) (inl three) = absurd (both_ways (are_there ls (all_parents i ws)) three.1 fails.0)
 inference_once ls i law natural ws content row other (inr fails) (inr again) = step_once ls content i law natural ws row other fails.1 again.1
 
+-- an instance of the clause that is there
+module _ (ls : List LineTree) (n : ℕ) (es : List Binding) (content : ContentTree) where
+  one_there : (c d : ClauseTree) → clause_at ls n ≡ Some c → clause_at ls n ≡ Some d → c ≡ d
+  one_there c d h k = cc
+
+  instance_none : (ws : List LaterWord) (row : Row) → InstanceFails ls n es ws content row → ¬ IsInstance ls n es ws content
+  instance_none ws row (inl three) (c, at, after) =
+      both_ways (are_there ls (n ∷ flat_map later_parents ws)) three.1 (and_from (is_some (clause_at ls n)) (are_there ls (flat_map later_parents ws)) (ap is_some at) (after_there ls ws (instance_of es c) content after))
+  instance_none ws row (inr (there, (c, at, fails))) (d, is, after) =
+      fails_none ls content ws (instance_of es c) row fails (subst (λ b. After ls ws (instance_of es b) content) (one_there d c is at) after)
+
+  instance_once : (ws : List LaterWord) (row other : Row) → InstanceFails ls n es ws content row → InstanceFails ls n es ws content other → row ≡ other
+  instance_once ws row other (inl three) (inl again) = three.0 ∙ sym again.0
+  instance_once ws row other (inl three) (inr fails) = absurd (both_ways (are_there ls (n ∷ flat_map later_parents ws)) three.1 fails.0)
+  instance_once ws row other (inr fails) (inl three) = absurd (both_ways (are_there ls (n ∷ flat_map later_parents ws)) three.1 fails.0)
+  instance_once ws row other (inr (there, (c, at, fails))) (inr (then, (d, is, again))) =
+      fails_once ls content ws (instance_of es c) row other fails (subst (λ b. Fails ls ws (instance_of es b) content other) (one_there d c is at) again)
+
 stated_none : (goal : Bool) (ss : List Said) (ws : List LaterWord) (content : ContentTree) (row : Row) → StatedFails goal ss ws content row → ¬ (IsStated goal content ss × (ws ≡ []))
 stated_none goal ss ws content row (inl four) is = four.1 is.0
 stated_none goal ss ws content row (inr eight) is = eight.2 is.1
@@ -163,6 +182,7 @@ module _ (ss : List Said) (rows : List InputRow) (ls : List LineTree) where
   line_none (paramodulated n a side m b path) ws content row fails is =
       inference_none ls (para_inference n a side m b path) (para_lawful a side b path) (para_natural a side b path) ws content row fails is
   line_none (xx_resolved n a) ws content row fails is = inference_none ls (xx_inference n a) (xx_lawful a) (xx_natural a) ws content row fails is
+  line_none (instantiated n es) ws content row fails is = instance_none ls n es content ws row fails is
 
   line_once : (first : FirstWord) (ws : List LaterWord) (content : ContentTree) (row other : Row) → LineFails ss rows ls first ws content row → LineFails ss rows ls first ws content other → row ≡ other
   line_once assumed ws content row other fails again = stated_once false ss ws content row other fails again
@@ -176,6 +196,7 @@ module _ (ss : List Said) (rows : List InputRow) (ls : List LineTree) where
   line_once (paramodulated n a side m b path) ws content row other fails again =
       inference_once ls (para_inference n a side m b path) (para_lawful a side b path) (para_natural a side b path) ws content row other fails again
   line_once (xx_resolved n a) ws content row other fails again = inference_once ls (xx_inference n a) (xx_lawful a) (xx_natural a) ws content row other fails again
+  line_once (instantiated n es) ws content row other fails again = instance_once ls n es content ws row other fails again
 
   -- a refused line is no line
   pub refused_none : (last : Option ℕ) (l : LineTree) (row : Row) → IsRefusedLine ss rows ls last l row → ¬ IsAccepted ss rows ls last l
@@ -228,6 +249,7 @@ word_lawful (factored n a b) i h = let same : factor_inference n a b ≡ i = cc 
 word_lawful (paramodulated n a side m b path) i h =
     let same : para_inference n a side m b path ≡ i = cc in subst (λ i. IsLawfulRule i.rule × IsNatural i.rule) same (para_lawful a side b path, para_natural a side b path)
 word_lawful (xx_resolved n a) i h = let same : xx_inference n a ≡ i = cc in subst (λ i. IsLawfulRule i.rule × IsNatural i.rule) same (xx_lawful a, xx_natural a)
+word_lawful (instantiated n es) i h = cc
 
 pub whole_fault_none : (ss : List Said) (rows : List InputRow) (ls : List LineTree) (number : ℕ) (row : Row) → IsFault ss rows ls number row → ¬ IsRefutation ss rows ls
 whole_fault_none ss rows [] number row fault is = false≢true is.1

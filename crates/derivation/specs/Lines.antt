@@ -7,6 +7,8 @@ use Rattle.fol_core.specs.Renumbered.{renumbered}
 use Rattle.fol_problem.specs.Stated.{Said}
 use Rattle.fol_problem.specs.declared.problem.Role.{Role}
 use Rattle.fol_problem.specs.declared.problem.Role.TheVariants.{Assumption, Usable, Demodulator, Goal}
+use Rattle.substitutions.specs.Bindings.{Binding, by_bindings}
+use Rattle.substitutions.specs.Instances.{substitute_clause}
 use Rattle.derivation.specs.declared.words.Satellite.{Satellite}
 use Rattle.derivation.specs.Later.{LaterWord, later_parents, later_fits, Leads}
 use Rattle.derivation.specs.Rule.{InferenceRule, Concludes}
@@ -24,6 +26,7 @@ pub data FirstWord : Type 0 where
   factored : ℕ → ℕ → ℕ → FirstWord
   paramodulated : ℕ → ℕ → ℕ → ℕ → ℕ → List ℕ → FirstWord
   xx_resolved : ℕ → ℕ → FirstWord
+  instantiated : ℕ → List Binding → FirstWord
 
 -- the lines that a rule takes, and the rule
 pub record Inference : Type 0 where
@@ -49,7 +52,8 @@ para_inference n a side m b path = inference (n ∷ m ∷ []) (para_rule a side 
 abbrev pub xx_inference : ℕ → ℕ → Inference
 xx_inference n a = inference (n ∷ []) (xx_rule a)
 
--- the rule of a first word; the four that name formulas and input clauses have none
+-- the rule of a first word; the four that name formulas and input clauses have none, and no rule
+-- has just the instance that is asked for
 abbrev pub inference_of : FirstWord → Option Inference
 inference_of assumed = None
 inference_of wanted = None
@@ -60,6 +64,7 @@ inference_of (resolved n ss) = Some (clash_inference n ss)
 inference_of (factored n a b) = Some (factor_inference n a b)
 inference_of (paramodulated n a side m b path) = Some (para_inference n a side m b path)
 inference_of (xx_resolved n a) = Some (xx_inference n a)
+inference_of (instantiated n es) = None
 
 -- a line's formula or clause
 pub data ContentTree : Type 0 where
@@ -113,6 +118,14 @@ abbrev pub IsInferred : List LineTree → Inference → List LaterWord → Conte
 IsInferred ls i ws content =
     (ps : List ClauseTree) × (d : ClauseTree) × AreClauses ls i.parents ps × IsTrue (i.rule.fits ps)
     × Concludes i.rule ps d × After ls ws d content
+
+-- so does an instance of a clause, with terms put in for variables at once
+abbrev pub instance_of : List Binding → ClauseTree → ClauseTree
+instance_of es c = renumbered (substitute_clause (by_bindings es) c)
+
+abbrev pub IsInstance : List LineTree → ℕ → List Binding → List LaterWord → ContentTree → Type 0
+IsInstance ls n es ws content =
+    (c : ClauseTree) × (clause_at ls n ≡ Some c) × After ls ws (instance_of es c) content
 
 abbrev pub is_goal : Role → Bool
 is_goal Assumption = false
@@ -183,6 +196,7 @@ IsLine ss rows ls (factored n a b) ws content = IsInferred ls (factor_inference 
 IsLine ss rows ls (paramodulated n a side m b path) ws content =
     IsInferred ls (para_inference n a side m b path) ws content
 IsLine ss rows ls (xx_resolved n a) ws content = IsInferred ls (xx_inference n a) ws content
+IsLine ss rows ls (instantiated n es) ws content = IsInstance ls n es ws content
 
 -- the number is above the last one
 abbrev pub IsAbove : Option ℕ → ℕ → Type 0

@@ -5,10 +5,11 @@ use Rattle.std.specs.List.{list_all, flat_map}
 use Rattle.fol_core.specs.Literals.{ClauseTree}
 use Rattle.fol_problem.specs.Stated.{Said}
 use Rattle.derivation.specs.Later.{LaterWord, later_parents, later_fits, Leads}
-use Rattle.derivation.specs.Lines.{FirstWord, assumed, wanted, clausified, denied, copied, resolved, factored, paramodulated, xx_resolved, Inference, copy_inference, clash_inference, factor_inference, para_inference, xx_inference, ContentTree, LineTree, clause_at, AreClauses, IsClause, InputRow, IsStated, IsInputOf, IsAbove, IsLine, is_empty_clause, is_formula_at}
+use Rattle.derivation.specs.Lines.{FirstWord, assumed, wanted, clausified, denied, copied, resolved, factored, paramodulated, xx_resolved, instantiated, Inference, instance_of, copy_inference, clash_inference, factor_inference, para_inference, xx_inference, ContentTree, LineTree, clause_at, AreClauses, IsClause, InputRow, IsStated, IsInputOf, IsAbove, IsLine, is_empty_clause, is_formula_at}
 use Rattle.derivation.specs.declared.row.Row.{Row}
 use Rattle.derivation.specs.declared.row.Row.TheVariants.{NoLines, NotAbove, NoParent, NoFormula, NoClause, Misplaced, Differs, OtherClause, NotEmpty}
 use Rattle.substitutions.specs.Apart.{Own}
+use Rattle.substitutions.specs.Bindings.{Binding}
 use Rattle.derivation.specs.Rule.{UnifiesFamily, Concludes}
 
 -- The rows of the words behind a clause: a literal, path or side isn't there or isn't taken; there
@@ -45,6 +46,14 @@ InferenceFails ls i ws content row =
     ((row ≡ NoParent) × (are_there ls (all_parents i ws) ≡ false))
     ⊎ (IsTrue (are_there ls (all_parents i ws)) × StepFails ls i ws content row)
 
+-- so of an instance, which every clause has
+abbrev pub InstanceFails : List LineTree → ℕ → List Binding → List LaterWord → ContentTree → Row →
+    Type 0
+InstanceFails ls n es ws content row =
+    ((row ≡ NoParent) × (are_there ls (n ∷ flat_map later_parents ws) ≡ false))
+    ⊎ (IsTrue (are_there ls (n ∷ flat_map later_parents ws))
+    × ((c : ClauseTree) × (clause_at ls n ≡ Some c) × Fails ls ws (instance_of es c) content row))
+
 -- the rows of a formula: it is none of the problem's, or words stand behind that can't
 abbrev pub StatedFails : Bool → List Said → List LaterWord → ContentTree → Row → Type 0
 StatedFails goal ss ws content row =
@@ -76,6 +85,7 @@ LineFails ss rows ls (paramodulated n a side m b path) ws content row =
     InferenceFails ls (para_inference n a side m b path) ws content row
 LineFails ss rows ls (xx_resolved n a) ws content row =
     InferenceFails ls (xx_inference n a) ws content row
+LineFails ss rows ls (instantiated n es) ws content row = InstanceFails ls n es ws content row
 
 -- the row by which a line is refused: that its number isn't above the last one, else that of its
 -- words

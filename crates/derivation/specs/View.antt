@@ -2,12 +2,12 @@
 use Rattle.std.specs.Prelude.{List, [], ◌∷◌, map}
 use Rattle.fol_core.specs.FormulaView.{fol_of}
 use Rattle.derivation.specs.Later.{LaterWord, flipped, merged, reflexive, unit_deleted, rewritten}
-use Rattle.derivation.specs.Lines.{FirstWord, assumed, wanted, clausified, denied, copied, resolved, factored, paramodulated, xx_resolved, ContentTree, formula, clause, LineTree}
+use Rattle.derivation.specs.Lines.{FirstWord, assumed, wanted, clausified, denied, copied, resolved, factored, paramodulated, xx_resolved, instantiated, ContentTree, formula, clause, LineTree}
 use Rattle.derivation.specs.declared.line.Content.{Content}
 use Rattle.derivation.specs.declared.line.Content.TheVariants.{Formula, Clause}
 use Rattle.derivation.specs.declared.line.Line.{Line}
 use Rattle.derivation.specs.declared.words.First.{First}
-use Rattle.derivation.specs.declared.words.First.TheVariants.{Assumption, Goal, Clausify, Deny, Copy, BackRewrite, BackUnitDel, Resolve, Hyper, Ur, Factor, Para, XxRes}
+use Rattle.derivation.specs.declared.words.First.TheVariants.{Assumption, Goal, Clausify, Deny, Copy, BackRewrite, BackUnitDel, Resolve, Hyper, Ur, Factor, Para, XxRes, Instantiate}
 use Rattle.derivation.specs.declared.words.Later.{Later}
 use Rattle.derivation.specs.declared.words.Later.TheVariants.{Rewrite, Flip, Merge, Xx, UnitDel}
 
@@ -26,6 +26,7 @@ first_word_of (Ur n ss) = resolved n ss.items
 first_word_of (Factor n a b) = factored n a b
 first_word_of (Para p) = paramodulated p.from p.equation p.side p.into p.literal p.path.items
 first_word_of (XxRes n a) = xx_resolved n a
+first_word_of (Instantiate n s) = instantiated n s
 
 abbrev pub later_of : Later → LaterWord
 later_of (Rewrite r) = rewritten r.rule r.literal r.path.items

@@ -20,7 +20,7 @@ pub use laws::{
     conclusion_is_one, content_is_one, fault_is_one, lines_without_elements, refused_is_none,
     refutation_is_sound, unifier_concludes, worked,
 };
-pub use line::{Content, Derivation, Just, Line};
+pub use line::{Content, Derivation, Just, Line, LineNotes};
 pub use places::{are_alike, are_opposite, atom_at, has_literal, has_place, literal_at};
 pub use row::Row;
 pub use words::{First, Later, Paramodulation, Rewrite, Satellite};

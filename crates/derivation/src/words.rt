@@ -1,4 +1,6 @@
 // The words of a line: its first one and those behind.
+use substitutions::Subst;
+
 /// A satellite of a nucleus: the place in the nucleus, the clause's number, and its place there.
 #[derive(Clone, Copy)]
 pub struct Satellite {
@@ -42,6 +44,8 @@ pub enum First {
     Factor(u64, u64, u64),
     Para(Paramodulation),
     XxRes(u64, u64),
+    /// The clause of a line with these terms for its variables; no text has it yet.
+    Instantiate(u64, Subst),
 }
 
 /// A word behind the first: literals are places, `UnitDel` has the number of the unit behind.

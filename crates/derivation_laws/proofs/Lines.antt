@@ -7,20 +7,22 @@ use Rattle.fol_core.specs.Literals.{ClauseTree}
 use Rattle.fol_core.specs.Renumbered.{clause_variables, by_place, renumbered}
 use Rattle.fol_problem.specs.Stated.{Said}
 use Rattle.fol_core.specs.Substitutions.{substitute}
-use Rattle.fol_core.specs.Tree.{var}
-use Rattle.substitutions.specs.Instances.{followed}
+use Rattle.fol_core.specs.Tree.{Tree, var}
+use Rattle.std.specs.List.{AllByRecursion}
+use Rattle.substitutions.specs.Bindings.{Binding, by_bindings}
+use Rattle.substitutions.specs.Instances.{substitute_clause, followed}
 use Rattle.substitutions.specs.Paths.{replaced}
 use Rattle.substitutions.proofs.Variants.{variants_instances}
 use Rattle.derivation.specs.Equations.{equation, is_equation, left_of, right_of, below, is_there}
 use Rattle.derivation.specs.Later.{LaterWord, flipped, merged, reflexive, unit_deleted, rewritten, later_parents, later_fits, Leads, is_unit, is_rule_equation}
-use Rattle.derivation.specs.Lines.{FirstWord, assumed, wanted, clausified, denied, copied, resolved, factored, paramodulated, xx_resolved, Inference, copy_inference, clash_inference, factor_inference, para_inference, xx_inference, inference_of, ContentTree, formula, clause, LineTree, line_at, content_clause, clause_at, AreClauses, IsClause, After, IsInferred, InputRow, IsStated, IsInput, IsLine, AreLines}
+use Rattle.derivation.specs.Lines.{FirstWord, assumed, wanted, clausified, denied, copied, resolved, factored, paramodulated, xx_resolved, instantiated, Inference, copy_inference, clash_inference, factor_inference, para_inference, xx_inference, inference_of, ContentTree, formula, clause, LineTree, line_at, content_clause, clause_at, AreClauses, IsClause, After, IsInferred, IsInstance, instance_of, InputRow, IsStated, IsInput, IsLine, AreLines}
 use Rattle.derivation.specs.Places.{has_literal, has_place, atom_at, with_atom}
 use Rattle.derivation.specs.Words.{only_of, is_one_clause}
 use Rattle.derivation.proofs.Conclusions.{one_lead}
 use Rattle.derivation.proofs.Rows.{word_lawful}
-use Rattle.derivation_laws.specs.Signatures.{Signature, IsTermIn, IsClauseIn, RowsAreIn, ContentIsIn, LinesAreIn, LinesStayIn}
+use Rattle.derivation_laws.specs.Signatures.{Signature, IsTermIn, IsClauseIn, RowsAreIn, ContentIsIn, LinesAreIn, PutsIn, LinesPutIn, LinesStayIn}
 use Rattle.derivation_laws.proofs.Erased.{erased_for, erased_in, term_put_in, term_stays, term_put}
-use Rattle.derivation_laws.proofs.Places.{left_in, right_in, equation_in, below_in, replaced_in, literal_in, atom_in, others_in, with_atom_in, clause_put_in, AreClausesIn}
+use Rattle.derivation_laws.proofs.Places.{left_in, right_in, equation_in, below_in, replaced_in, literal_in, atom_in, others_in, with_atom_in, clause_put_in, renumbered_in, AreClausesIn}
 use Rattle.derivation_laws.proofs.Rules.{only_in, word_keeping, conclusion_in}
 
 module _ (g : Signature) where
@@ -95,6 +97,21 @@ module _ (g : Signature) where
       let laws = word_lawful w n is in
       after_in ls ws h.1 content h.5 i (conclusion_in g n.rule laws.0 laws.1 (word_keeping g w n is) h.0 h.1 h.3 (clauses_in ls n.parents h.0 h.2 i) h.4)
 
+  -- an instance by terms of the signature
+  bindings_in : (es : List Binding) → AllByRecursion (λ e. IsTermIn g e.1) es → (x : ℕ) → IsTermIn g (by_bindings es x)
+  bindings_in [] i x = tt
+  bindings_in (e ∷ es) i x = by (x == e.0) (bindings_in es i.1 x)
+    where
+      by : (b : Bool) → IsTermIn g (by_bindings es x) → IsTermIn g (if b then e.1 else by_bindings es x)
+      by true rest = i.0
+      by false rest = rest
+
+  instance_in : (ls : List LineTree) (n : ℕ) (es : List Binding) → AllByRecursion (λ e. IsTermIn g e.1) es → (ws : List LaterWord) (content : ContentTree) → IsInstance ls n es ws content → LinesAreIn g ls
+      → ContentIsIn g content
+  instance_in ls n es put ws content h i =
+      let made = substitute_clause (by_bindings es) h.0 in
+      after_in ls ws (instance_of es h.0) content h.2 i (renumbered_in g made (clause_put_in g (by_bindings es) (bindings_in es put) h.0 (clause_in ls n h.0 h.1 i)))
+
   -- input clauses
   input_in : (goal : Bool) (f : Fol) (ss : List Said) (content : ContentTree) (rows : List InputRow) → IsInput goal f ss content rows → RowsAreIn g rows → ContentIsIn g content
   input_in goal f ss content [] h i = absurd h
@@ -110,24 +127,25 @@ module _ (g : Signature) where
   lines_push (m ∷ ls) l i here = (i.0, lines_push ls l i.1 here)
 
   module _ (ss : List Said) (rows : List InputRow) (inputs : RowsAreIn g rows) where
-    line_in : (ls : List LineTree) (w : FirstWord) (ws : List LaterWord) (content : ContentTree) → IsLine ss rows ls w ws content → LinesAreIn g ls → ContentIsIn g content
-    line_in ls assumed ws content h i = stated_in false content ss h.0
-    line_in ls wanted ws content h i = stated_in true content ss h.0
-    line_in ls (clausified n) ws content h i = input_in false h.0.0 ss content rows h.0.2 inputs
-    line_in ls (denied n) ws content h i = input_in true h.0.0 ss content rows h.0.2 inputs
-    line_in ls (copied n) ws content h i = inferred_in ls (copied n) (copy_inference n) refl ws content h i
-    line_in ls (resolved n m) ws content h i = inferred_in ls (resolved n m) (clash_inference n m) refl ws content h i
-    line_in ls (factored n a b) ws content h i = inferred_in ls (factored n a b) (factor_inference n a b) refl ws content h i
-    line_in ls (paramodulated n a side m b path) ws content h i = inferred_in ls (paramodulated n a side m b path) (para_inference n a side m b path) refl ws content h i
-    line_in ls (xx_resolved n a) ws content h i = inferred_in ls (xx_resolved n a) (xx_inference n a) refl ws content h i
+    line_in : (ls : List LineTree) (w : FirstWord) (ws : List LaterWord) (content : ContentTree) → PutsIn g w → IsLine ss rows ls w ws content → LinesAreIn g ls → ContentIsIn g content
+    line_in ls assumed ws content put h i = stated_in false content ss h.0
+    line_in ls wanted ws content put h i = stated_in true content ss h.0
+    line_in ls (clausified n) ws content put h i = input_in false h.0.0 ss content rows h.0.2 inputs
+    line_in ls (denied n) ws content put h i = input_in true h.0.0 ss content rows h.0.2 inputs
+    line_in ls (copied n) ws content put h i = inferred_in ls (copied n) (copy_inference n) refl ws content h i
+    line_in ls (resolved n m) ws content put h i = inferred_in ls (resolved n m) (clash_inference n m) refl ws content h i
+    line_in ls (factored n a b) ws content put h i = inferred_in ls (factored n a b) (factor_inference n a b) refl ws content h i
+    line_in ls (paramodulated n a side m b path) ws content put h i = inferred_in ls (paramodulated n a side m b path) (para_inference n a side m b path) refl ws content h i
+    line_in ls (xx_resolved n a) ws content put h i = inferred_in ls (xx_resolved n a) (xx_inference n a) refl ws content h i
+    line_in ls (instantiated n es) ws content put h i = instance_in ls n es put ws content h i
 
-    lines_in : (earlier : List LineTree) (last : Option ℕ) (ls : List LineTree) → AreLines ss rows earlier last ls → LinesAreIn g earlier → LinesAreIn g ls
-    lines_in earlier last [] h i = tt
-    lines_in earlier last (l ∷ ls) h i =
-        let here = line_in earlier l.first l.later l.content h.1 i in (
+    lines_in : (earlier : List LineTree) (last : Option ℕ) (ls : List LineTree) → LinesPutIn g ls → AreLines ss rows earlier last ls → LinesAreIn g earlier → LinesAreIn g ls
+    lines_in earlier last [] put h i = tt
+    lines_in earlier last (l ∷ ls) put h i =
+        let here = line_in earlier l.first l.later l.content put.0 h.1 i in (
           here,
-          lines_in (earlier ++ l ∷ []) (Some l.number) ls h.2 (lines_push earlier l i here),
+          lines_in (earlier ++ l ∷ []) (Some l.number) ls put.1 h.2 (lines_push earlier l i here),
         )
 
 pub stay_in : LinesStayIn
-stay_in g ss rows ls inputs h = lines_in g ss rows inputs [] None ls h tt
+stay_in g ss rows ls inputs put h = lines_in g ss rows inputs [] None ls put h tt

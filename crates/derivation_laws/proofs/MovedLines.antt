@@ -8,17 +8,20 @@ use Rattle.fol_core.specs.Fol.{Fol}
 use Rattle.fol_core.specs.Free.{variables_of}
 use Rattle.fol_core.specs.Literals.{ClauseTree}
 use Rattle.fol_problem.specs.Stated.{Said, said}
-use Rattle.fol_core.specs.Substitutions.{substitute}
+use Rattle.fol_core.specs.Renumbered.{renumbered}
+use Rattle.fol_core.specs.Substitutions.{Substitution, substitute}
 use Rattle.fol_core.specs.Tree.{Tree}
+use Rattle.substitutions.specs.Bindings.{Binding, by_bindings}
+use Rattle.substitutions.specs.Instances.{substitute_clause}
 use Rattle.substitutions.specs.Occurring.{has_variable}
 use Rattle.substitutions.specs.Paths.{replaced}
 use Rattle.derivation.specs.Equations.{equation, is_equation, left_of, right_of, below, is_there}
 use Rattle.derivation.specs.Later.{LaterWord, flipped, merged, reflexive, unit_deleted, rewritten, later_parents, later_fits, Leads, is_unit, is_rule_equation}
-use Rattle.derivation.specs.Lines.{FirstWord, assumed, wanted, clausified, denied, copied, resolved, factored, paramodulated, xx_resolved, Inference, copy_inference, clash_inference, factor_inference, para_inference, xx_inference, inference_of, ContentTree, formula, clause, LineTree, line_at, content_clause, clause_at, is_empty_clause, AreClauses, IsClause, After, IsInferred, IsAmongSaid, IsStated, InputRow, said_at, IsRowOf, IsInput, IsFormulaAt, IsInputOf, IsLine, AreLines, ends_empty}
+use Rattle.derivation.specs.Lines.{FirstWord, assumed, wanted, clausified, denied, copied, resolved, factored, paramodulated, xx_resolved, instantiated, Inference, copy_inference, clash_inference, factor_inference, para_inference, xx_inference, inference_of, ContentTree, formula, clause, LineTree, line_at, content_clause, clause_at, is_empty_clause, AreClauses, IsClause, After, IsInferred, IsInstance, instance_of, IsAmongSaid, IsStated, InputRow, said_at, IsRowOf, IsInput, IsFormulaAt, IsInputOf, IsLine, AreLines, ends_empty}
 use Rattle.derivation.specs.Places.{has_literal, atom_at, with_atom, are_opposite}
 use Rattle.derivation.specs.Words.{only_of}
-use Rattle.derivation_laws.specs.Moved.{Moving, moved_term, moved_literal, moved_clause, moved_formula, moved_content, moved_line, moved_lines, moved_said, moved_rows, IsExchange, RefutationIsMoved}
-use Rattle.derivation_laws.proofs.MovedTerms.{moved_terms_for, moved_put, variables_stay, variable_stays, renumbered_moved, below_moved, there_moved, replaced_moved, has_moved, place_moved, atom_moved, others_moved, with_atom_moved, opposites_moved, left_moved, right_moved, is_equation_moved, equation_moved}
+use Rattle.derivation_laws.specs.Moved.{Moving, moved_term, moved_literal, moved_clause, moved_formula, moved_content, moved_bindings, moved_first, moved_line, moved_lines, moved_said, moved_rows, IsExchange, RefutationIsMoved}
+use Rattle.derivation_laws.proofs.MovedTerms.{moved_terms_for, moved_put, clause_put, variables_stay, variable_stays, renumbered_moved, below_moved, there_moved, replaced_moved, has_moved, place_moved, atom_moved, others_moved, with_atom_moved, opposites_moved, left_moved, right_moved, is_equation_moved, equation_moved}
 use Rattle.derivation_laws.proofs.MovedRules.{only_moved, one_moved, word_movable, backwards, concludes_moved}
 
 module _ (to back : Moving) (x : IsExchange to back) where
@@ -139,6 +142,29 @@ module _ (to back : Moving) (x : IsExchange to back) where
         after_moved ls ws h.1 content h.5,
       )
 
+  -- an instance by moved terms
+  bindings_moved : (es : List Binding) (x : ℕ) → by_bindings (moved_bindings to es) x ≡ moved_term to (by_bindings es x)
+  bindings_moved [] x = refl
+  bindings_moved (e ∷ es) x = by (x == e.0) (bindings_moved es x)
+    where
+      by : (b : Bool) → by_bindings (moved_bindings to es) x ≡ moved_term to (by_bindings es x)
+          → (if b then moved_term to e.1 else by_bindings (moved_bindings to es) x) ≡ moved_term to (if b then e.1 else by_bindings es x)
+      by true rest = refl
+      by false rest = rest
+
+  instance_is_moved : (es : List Binding) (c : ClauseTree) → moved_clause to (instance_of es c) ≡ instance_of (moved_bindings to es) (moved_clause to c)
+  instance_is_moved es c =
+      let same : moved_terms_for to (by_bindings es) ≡ by_bindings (moved_bindings to es) = (λ i x. sym (bindings_moved es x) i) in
+      sym (renumbered_moved to (substitute_clause (by_bindings es) c)) ∙ ap renumbered (clause_put to (by_bindings es) c ∙ ap (λ (s : Substitution). substitute_clause s (moved_clause to c)) same)
+
+  instance_moved : (ls : List LineTree) (n : ℕ) (es : List Binding) (ws : List LaterWord) (content : ContentTree) → IsInstance ls n es ws content
+      → IsInstance (moved_lines to ls) n (moved_bindings to es) ws (moved_content to content)
+  instance_moved ls n es ws content h = (
+    moved_clause to h.0,
+    clause_at_moved ls n ∙ ap (option_map (moved_clause to)) h.1,
+    subst (λ (d : ClauseTree). After (moved_lines to ls) ws d (moved_content to content)) (instance_is_moved es h.0) (after_moved ls ws (instance_of es h.0) content h.2),
+  )
+
   -- what is said, and its clauses
   among_moved : (goal : Bool) (f : Fol) (ss : List Said) → IsAmongSaid goal f ss → IsAmongSaid goal (moved_formula to f) (moved_said to ss)
   among_moved goal f [] h = h
@@ -177,7 +203,11 @@ module _ (to back : Moving) (x : IsExchange to back) where
   input_moved goal f ss content (r ∷ rows) (inr h) = inr (input_moved goal f ss content rows h)
 
   formula_moved : (ls : List LineTree) (n : ℕ) (goal : Bool) (f : Fol) → IsFormulaAt ls n goal f → IsFormulaAt (moved_lines to ls) n goal (moved_formula to f)
-  formula_moved ls n goal f h = (moved_line to h.0, line_moved ls n ∙ ap (option_map (moved_line to)) h.1, ap (moved_content to) h.2, h.3)
+  formula_moved ls n goal f h = (moved_line to h.0, line_moved ls n ∙ ap (option_map (moved_line to)) h.1, ap (moved_content to) h.2, ap (moved_first to) h.3 ∙ by goal)
+    where
+      by : (b : Bool) → moved_first to (if b then wanted else assumed) ≡ (if b then wanted else assumed)
+      by true = refl
+      by false = refl
 
   module _ (ss : List Said) (rows : List InputRow) where
     input_of_moved : (ls : List LineTree) (goal : Bool) (n : ℕ) (content : ContentTree) → IsInputOf ss rows ls goal n content
@@ -185,7 +215,7 @@ module _ (to back : Moving) (x : IsExchange to back) where
     input_of_moved ls goal n content h = (moved_formula to h.0, formula_moved ls n goal h.0 h.1, input_moved goal h.0 ss content rows h.2)
 
     is_line_moved : (ls : List LineTree) (w : FirstWord) (ws : List LaterWord) (content : ContentTree) → IsLine ss rows ls w ws content
-        → IsLine (moved_said to ss) (moved_rows to rows) (moved_lines to ls) w ws (moved_content to content)
+        → IsLine (moved_said to ss) (moved_rows to rows) (moved_lines to ls) (moved_first to w) ws (moved_content to content)
     is_line_moved ls assumed ws content h = (stated_moved false content ss h.0, h.1)
     is_line_moved ls wanted ws content h = (stated_moved true content ss h.0, h.1)
     is_line_moved ls (clausified n) ws content h = (input_of_moved ls false n content h.0, h.1)
@@ -195,6 +225,7 @@ module _ (to back : Moving) (x : IsExchange to back) where
     is_line_moved ls (factored n a b) ws content h = inferred_moved ls (factored n a b) (factor_inference n a b) refl ws content h
     is_line_moved ls (paramodulated n a side m b path) ws content h = inferred_moved ls (paramodulated n a side m b path) (para_inference n a side m b path) refl ws content h
     is_line_moved ls (xx_resolved n a) ws content h = inferred_moved ls (xx_resolved n a) (xx_inference n a) refl ws content h
+    is_line_moved ls (instantiated n es) ws content h = instance_moved ls n es ws content h
 
     are_lines_moved : (earlier : List LineTree) (last : Option ℕ) (ls : List LineTree) → AreLines ss rows earlier last ls
         → AreLines (moved_said to ss) (moved_rows to rows) (moved_lines to earlier) last (moved_lines to ls)

@@ -8,7 +8,7 @@ use Rattle.substitutions.specs.Apart.{Own, instances}
 use Rattle.substitutions.specs.Instances.{substitute_clause}
 use Rattle.substitutions.specs.Paths.{replaced}
 use Rattle.derivation.specs.Equations.{is_equation, left_of, right_of, below, is_no_variable, term_below}
-use Rattle.derivation.specs.Lines.{FirstWord, assumed, wanted, clausified, denied, copied, resolved, factored, paramodulated, xx_resolved, Inference, copy_inference, clash_inference, factor_inference, para_inference, xx_inference, inference_of}
+use Rattle.derivation.specs.Lines.{FirstWord, assumed, wanted, clausified, denied, copied, resolved, factored, paramodulated, xx_resolved, instantiated, Inference, copy_inference, clash_inference, factor_inference, para_inference, xx_inference, inference_of}
 use Rattle.derivation.specs.Places.{has_literal, atom_at, others, with_atom, are_alike}
 use Rattle.derivation.specs.Rule.{InferenceRule, AreSame, UnifiesFamily, Concludes}
 use Rattle.derivation.specs.Words.{only_of, is_one_clause, first_of_two, second_of_two, are_two, copy_rule, Clash, clashes_fit, clash_fits, clash_pairs, all_clash_pairs, clash_rest, satellite_rests, clash_rule, factor_rule, xx_rule, side_of, other_side_of, para_fits, para_rest, para_rule}
@@ -154,6 +154,7 @@ module _ (to back : Moving) (x : IsExchange to back) where
   word_movable wanted i h = absurd (cc)
   word_movable (clausified n) i h = absurd (cc)
   word_movable (denied n) i h = absurd (cc)
+  word_movable (instantiated n es) i h = absurd (cc)
   word_movable (copied n) i h = let same : copy_inference n ≡ i = cc in subst (λ (j : Inference). IsMovable to j.rule) same copy_movable
   word_movable (resolved n ss) i h = let same : clash_inference n ss ≡ i = cc in subst (λ (j : Inference). IsMovable to j.rule) same (clash_movable (map (λ s. (s.place, s.literal)) ss))
   word_movable (factored n a b) i h = let same : factor_inference n a b ≡ i = cc in subst (λ (j : Inference). IsMovable to j.rule) same (factor_movable a b)

@@ -5,9 +5,11 @@ use Rattle.fol_core.specs.Literals.{ClauseTree}
 use Rattle.fol_core.specs.Occurs.{names_in, names_in_any}
 use Rattle.fol_core.specs.Tree.{Tree, var, elem, app, Trees, none, more}
 use Rattle.derivation.specs.Laws.{NamesNone, ContentNamesNone, LinesNameNone}
-use Rattle.derivation.specs.Lines.{ContentTree, formula, clause, LineTree, InputRow}
-use Rattle.derivation_laws.specs.Elements.{NamesNot, ContentNamesNot, LinesNameNot, RowsNameNot, ElementIsNowhere, LinesNameNoElements}
-use Rattle.derivation_laws.specs.Signatures.{Signature, IsTermIn, AreTermsIn, IsAtomIn, IsClauseIn, RowsAreIn, ContentIsIn, LinesAreIn}
+use Rattle.derivation.specs.Lines.{FirstWord, assumed, wanted, clausified, denied, copied, resolved, factored, paramodulated, xx_resolved, instantiated, ContentTree, formula, clause, LineTree, InputRow}
+use Rattle.substitutions.specs.Bindings.{Binding}
+use Rattle.std.specs.List.{AllByRecursion}
+use Rattle.derivation_laws.specs.Elements.{NamesNot, ContentNamesNot, LinesNameNot, RowsNameNot, BindingsNameNot, FirstNamesNot, FirstsNameNot, ElementIsNowhere, LinesNameNoElements}
+use Rattle.derivation_laws.specs.Signatures.{Signature, IsTermIn, AreTermsIn, IsAtomIn, IsClauseIn, RowsAreIn, ContentIsIn, LinesAreIn, PutsIn, LinesPutIn}
 use Rattle.derivation_laws.proofs.Lines.{stay_in}
 
 module _ (k : ℕ) where
@@ -56,6 +58,26 @@ module _ (k : ℕ) where
   rows_in [] h = tt
   rows_in (r ∷ rows) h = (clause_in r.1 h.0, rows_in rows h.1)
 
+  bindings_in : (es : List Binding) → BindingsNameNot k es → AllByRecursion (λ e. IsTermIn but_one e.1) es
+  bindings_in [] h = tt
+  bindings_in (e ∷ es) h = (term_in e.1 h.0, bindings_in es h.1)
+
+  first_in : (w : FirstWord) → FirstNamesNot k w → PutsIn but_one w
+  first_in assumed h = tt
+  first_in wanted h = tt
+  first_in (clausified n) h = tt
+  first_in (denied n) h = tt
+  first_in (copied n) h = tt
+  first_in (resolved n ss) h = tt
+  first_in (factored n a b) h = tt
+  first_in (paramodulated n a side m b path) h = tt
+  first_in (xx_resolved n a) h = tt
+  first_in (instantiated n es) h = bindings_in es h
+
+  firsts_in : (ls : List LineTree) → FirstsNameNot k ls → LinesPutIn but_one ls
+  firsts_in [] h = tt
+  firsts_in (l ∷ ls) h = (first_in l.first h.0, firsts_in ls h.1)
+
   in_content : (content : ContentTree) → ContentIsIn but_one content → ContentNamesNot k content
   in_content (formula f) i = tt
   in_content (clause c) i = in_clause c i
@@ -65,7 +87,7 @@ module _ (k : ℕ) where
   in_lines (l ∷ ls) i = (in_content l.content i.0, in_lines ls i.1)
 
 pub element_nowhere : ElementIsNowhere
-element_nowhere k ss rows ls inputs h = in_lines k ls (stay_in (but_one k) ss rows ls (rows_in k rows inputs) h)
+element_nowhere k ss rows ls inputs firsts h = in_lines k ls (stay_in (but_one k) ss rows ls (rows_in k rows inputs) (firsts_in k ls firsts) h)
 
 -- none of the elements is named
 clause_names_none : (c : ClauseTree) → ((k : ℕ) → NamesNot k c) → NamesNone c
@@ -81,4 +103,4 @@ lines_name_none [] h = tt
 lines_name_none (l ∷ ls) h = (content_names_none l.content (λ k. (h k).0), lines_name_none ls (λ k. (h k).1))
 
 pub no_elements : LinesNameNoElements
-no_elements ss rows ls inputs h = lines_name_none ls (λ k. element_nowhere k ss rows ls (inputs k) h)
+no_elements ss rows ls inputs firsts h = lines_name_none ls (λ k. element_nowhere k ss rows ls (inputs k) (firsts k) h)

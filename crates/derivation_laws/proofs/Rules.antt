@@ -12,7 +12,7 @@ use Rattle.substitutions.specs.Paths.{replaced}
 use Rattle.substitutions.proofs.Composing.{substitute_twice_clause}
 use Rattle.substitutions.proofs.Interleaving.{interleaving_is_apart}
 use Rattle.derivation.specs.Equations.{is_equation, left_of, right_of, term_below}
-use Rattle.derivation.specs.Lines.{FirstWord, assumed, wanted, clausified, denied, copied, resolved, factored, paramodulated, xx_resolved, Inference, copy_inference, clash_inference, factor_inference, para_inference, xx_inference, inference_of}
+use Rattle.derivation.specs.Lines.{FirstWord, assumed, wanted, clausified, denied, copied, resolved, factored, paramodulated, xx_resolved, instantiated, Inference, copy_inference, clash_inference, factor_inference, para_inference, xx_inference, inference_of}
 use Rattle.derivation.specs.Places.{has_literal, atom_at, others, with_atom, are_alike, are_opposite}
 use Rattle.derivation.specs.Rule.{InferenceRule, AreSame, Concludes}
 use Rattle.derivation.specs.Words.{only_of, is_one_clause, first_of_two, second_of_two, are_two, copy_rule, Clash, clashes_fit, clash_fits, clash_pairs, all_clash_pairs, clash_rest, satellite_rests, clash_rule, factor_rule, xx_rule, side_of, other_side_of, para_fits, para_rest, para_rule}
@@ -170,6 +170,7 @@ module _ (g : Signature) where
   word_keeping wanted i h = absurd (cc)
   word_keeping (clausified n) i h = absurd (cc)
   word_keeping (denied n) i h = absurd (cc)
+  word_keeping (instantiated n es) i h = absurd (cc)
   word_keeping (copied n) i h = let same : copy_inference n ≡ i = cc in subst (λ (j : Inference). IsKeeping g j.rule) same copy_keeping
   word_keeping (resolved n ss) i h = let same : clash_inference n ss ≡ i = cc in subst (λ (j : Inference). IsKeeping g j.rule) same (clash_keeping (map (λ s. (s.place, s.literal)) ss))
   word_keeping (factored n a b) i h = let same : factor_inference n a b ≡ i = cc in subst (λ (j : Inference). IsKeeping g j.rule) same (factor_keeping a b)

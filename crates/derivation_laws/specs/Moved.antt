@@ -1,10 +1,11 @@
 -- Terms, clauses, formulas and lines of a proof with other numbers of their symbols.
 use Rattle.std.specs.Prelude.{◌≡◌, ℕ, List, map}
-use Rattle.derivation.specs.Lines.{ContentTree, formula, clause, LineTree, InputRow, IsRefutation}
+use Rattle.derivation.specs.Lines.{FirstWord, assumed, wanted, clausified, denied, copied, resolved, factored, paramodulated, xx_resolved, instantiated, ContentTree, formula, clause, LineTree, InputRow, IsRefutation}
 use Rattle.fol_core.specs.Fol.{Fol, verum, falsum, equal, atom, negation, conjunction, disjunction, implication, equivalence, forall, exists}
 use Rattle.fol_core.specs.Literals.{Lit, ClauseTree, literal, equality}
 use Rattle.fol_problem.specs.Stated.{Said, said}
 use Rattle.fol_core.specs.Tree.{Tree, var, elem, app, Trees, none, more}
+use Rattle.substitutions.specs.Bindings.{Binding}
 
 -- a new number for each symbol
 abbrev pub Moving : Type 0
@@ -43,8 +44,25 @@ abbrev pub moved_content : Moving → ContentTree → ContentTree
 moved_content to (formula f) = formula (moved_formula to f)
 moved_content to (clause c) = clause (moved_clause to c)
 
+-- terms for variables, and the first word that puts them in; the others have no symbols
+abbrev pub moved_bindings : Moving → List Binding → List Binding
+moved_bindings to es = map (λ e. (e.0, moved_term to e.1)) es
+
+abbrev pub moved_first : Moving → FirstWord → FirstWord
+moved_first to assumed = assumed
+moved_first to wanted = wanted
+moved_first to (clausified n) = clausified n
+moved_first to (denied n) = denied n
+moved_first to (copied n) = copied n
+moved_first to (resolved n ss) = resolved n ss
+moved_first to (factored n a b) = factored n a b
+moved_first to (paramodulated n a side m b path) = paramodulated n a side m b path
+moved_first to (xx_resolved n a) = xx_resolved n a
+moved_first to (instantiated n es) = instantiated n (moved_bindings to es)
+
 abbrev pub moved_line : Moving → LineTree → LineTree
-moved_line to l = record l { content = moved_content to l.content }
+moved_line to l =
+    record l { content = moved_content to l.content; first = moved_first to l.first }
 
 abbrev pub moved_lines : Moving → List LineTree → List LineTree
 moved_lines to ls = map (moved_line to) ls

@@ -1,7 +1,7 @@
 -- The elements and symbols that clauses may have, and the lines of derivations.
 use Rattle.std.specs.Prelude.{ℕ, ◌≡◌, Bool, IsTrue, List, length}
 use Rattle.std.specs.List.{AllByRecursion}
-use Rattle.derivation.specs.Lines.{ContentTree, formula, clause, LineTree, InputRow, IsDerivation}
+use Rattle.derivation.specs.Lines.{FirstWord, assumed, wanted, clausified, denied, copied, resolved, factored, paramodulated, xx_resolved, instantiated, ContentTree, formula, clause, LineTree, InputRow, IsDerivation}
 use Rattle.fol_core.specs.Literals.{ClauseTree}
 use Rattle.fol_problem.specs.Stated.{Said}
 use Rattle.fol_core.specs.Tree.{Tree, var, elem, app, Trees, none, more, list_of}
@@ -45,8 +45,25 @@ ContentIsIn g (clause c) = IsClauseIn g c
 abbrev pub LinesAreIn : Signature → List LineTree → Type 0
 LinesAreIn g ls = AllByRecursion (λ l. ContentIsIn g l.content) ls
 
--- the clauses of a derivation's lines are in each signature that its input clauses are in
+-- the terms that a first word puts in are in the signature
+abbrev pub PutsIn : Signature → FirstWord → Type 0
+PutsIn g assumed = Unit {0}
+PutsIn g wanted = Unit {0}
+PutsIn g (clausified n) = Unit {0}
+PutsIn g (denied n) = Unit {0}
+PutsIn g (copied n) = Unit {0}
+PutsIn g (resolved n ss) = Unit {0}
+PutsIn g (factored n a b) = Unit {0}
+PutsIn g (paramodulated n a side m b path) = Unit {0}
+PutsIn g (xx_resolved n a) = Unit {0}
+PutsIn g (instantiated n es) = AllByRecursion (λ e. IsTermIn g e.1) es
+
+abbrev pub LinesPutIn : Signature → List LineTree → Type 0
+LinesPutIn g ls = AllByRecursion (λ l. PutsIn g l.first) ls
+
+-- The clauses of a derivation's lines are in each signature that its input clauses are in, and the
+-- terms that its lines put in.
 abbrev pub LinesStayIn : Type 0
 LinesStayIn =
     (g : Signature) (ss : List Said) (rows : List InputRow) (ls : List LineTree) →
-    RowsAreIn g rows → IsDerivation ss rows ls → LinesAreIn g ls
+    RowsAreIn g rows → LinesPutIn g ls → IsDerivation ss rows ls → LinesAreIn g ls

@@ -20,12 +20,13 @@ pub fn refutations_are_read()
     ensures { RefutationIsRead }
 {}
 
-/// The clauses of a derivation's lines are in each signature that its input clauses are in.
+/// The clauses of a derivation's lines are in each signature that its input clauses are in, and the terms that its lines put in.
 pub fn lines_stay_in()
     ensures { LinesStayIn }
 {}
 
-/// An element that no input clause names is named by no line of a derivation; where none is named, the lines name none.
+/// An element that no input clause names, and no term that a line puts in, is named by no line of a derivation; where none is
+/// named, the lines name none.
 pub fn lines_name_no_elements()
     ensures nowhere { ElementIsNowhere }
     ensures none { LinesNameNoElements }

@@ -5,8 +5,8 @@
 // the symbols of another. In `proofs/`, `MovedTerms`, `MovedRules` and `MovedLines` go through all that a line may be,
 // `MovedRows` through the clauses of formulas, and `Exchanges` finds the exchange that leads from one table to another,
 // symbol by symbol.
-// Elements and symbols: the clauses of a derivation's lines are in each signature that its input clauses are in, and so
-// name no element where those name none. `specs/Signatures` says which elements, functions and relations a clause may
+// Elements and symbols: the clauses of a derivation's lines are in each signature that its input clauses are in, and the
+// terms that its lines put in, and so name no element where those name none. `specs/Signatures` says which elements, functions and relations a clause may
 // have, `specs/Elements` has the case of one element that no input clause names. `Erased` puts a variable in place of
 // each part that a signature lacks, which leaves clauses of the signature as they are, `Rules` shows by that that each
 // rule keeps a signature, and `Lines` goes through all that a line may be.

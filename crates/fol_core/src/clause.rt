@@ -4,7 +4,7 @@ ghost use Rattle.fol_core.specs.ClauseView.{literal_of};
 
 use crate::formula::Shape;
 use crate::symbols::Sym;
-use crate::term::Term;
+use crate::term::{Term, Terms};
 use std::alloc::{AllocError, Global};
 use std::marker::Model;
 
@@ -49,11 +49,13 @@ pub struct Entry {
     pub body: Shape,
 }
 
-/// The clauses of a problem, each with the number of its formula, counted from 1; the Skolem symbols; the symbols of the
-/// formulas by number, and the greatest numeral in them.
+/// The clauses of a problem, each with the number of its formula, counted from 1; by their places, the terms of the answer
+/// that each has, none where its goal asks for nothing; the Skolem symbols; the symbols of the formulas by number, and the
+/// greatest numeral in them.
 #[derive(Drop)]
 pub struct Clauses {
     pub clauses: Vec<(u64, Clause)>,
+    pub answers: Vec<Terms>,
     pub skolem: Vec<Entry>,
     pub symbols: Vec<Sym>,
     pub numeral: Option<u32>,

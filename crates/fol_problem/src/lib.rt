@@ -2,7 +2,8 @@
 // `problem.rt` has all that a file tells a program: its formulas with their roles and places, hints, rules of weights,
 // the weights of names for KBO, the order of functions, and the options. Hints, weights, order and options guide a
 // search and are no part of what the problem states: `specs/Stated` says what it states, each formula in its role, and
-// when an interpretation is a countermodel of it; `specs/StatedCodes` has how the logic stores it.
+// when an interpretation is a countermodel of it; `specs/StatedCodes` has how the logic stores it. `specs/Asks` says what
+// a goal may ask for.
 #![tactic(auto)]
 
 mod problem;

@@ -15,12 +15,14 @@ pub enum Role {
     Goal,
 }
 
-/// A formula of a problem; `byte` is the place of its first byte in the file.
+/// A formula of a problem; `byte` is the place of its first byte in the file. A goal may ask for variables of the
+/// quantifiers in front of it: `answer` has their places among these.
 #[derive(Drop)]
 pub struct Input {
     pub role: Role,
     pub formula: Formula,
     pub label: Option<RawSub>,
+    pub answer: Vec<u64>,
     pub byte: u64,
 }
 

@@ -1,14 +1,12 @@
 -- The end of a file, as a program that tests interpretations takes it.
-use Rattle.std.proofs.Common.{◌≡◌, ℕ, Bool, true, false, List, Option, Some, None, is_some, refl, sym, ap, subst, ◌∙◌}
-use Rattle.std.specs.Prelude.{IsTrue}
+use Rattle.std.proofs.Common.{◌≡◌, ℕ, ◌≤◌, ◌==◌, Bool, true, false, if◌then◌else◌, List, [], ◌∷◌, length, Option, Some, None, refl, sym, ap, subst, ◌∙◌, arith}
 use Rattle.std.specs.Option.{option_map_or}
 use Rattle.ladr_commands.specs.ByName.{ByName}
 use Rattle.ladr_formulas.specs.declared.styles.Mode.{Mode}
 use Rattle.ladr_formulas.specs.declared.styles.Mode.TheVariants.{Prover, Mace, Tester}
-use Rattle.ladr_interpretations.specs.Good as named
 use Rattle.ladr_lex.specs.declared.misuse.Misuse.{Misuse}
 use Rattle.ladr_lex.specs.declared.misuse.Misuse.TheVariants.{Uncovered}
-use Rattle.ladr_problem.specs.File.{Outcome, problem, unreadable, misused, too_large, covered, at_file_end, first_lacking}
+use Rattle.ladr_problem.specs.File.{Outcome, problem, unreadable, misused, too_large, all_tables, covered, at_file_end, first_lacking}
 use Rattle.ladr_problem.specs.Sofar.{Sofar}
 
 abbrev is_problem : Outcome → Bool
@@ -24,7 +22,7 @@ problem_before Mace end o s h = h
 problem_before Tester end (unreadable byte) s h = h
 problem_before Tester end (misused byte row) s h = h
 problem_before Tester end (too_large byte what) s h = h
-problem_before Tester end (problem t) s h = by_interpretation t.settings.interpretation h
+problem_before Tester end (problem t) s h = by_count (length t.settings.interpretations == 0) h
   where
     refuses : (byte : ℕ) (row : Misuse) → misused byte row ≡ problem s → problem t ≡ problem s
     refuses byte row e = let d : false ≡ true = ap is_problem e in cc
@@ -33,28 +31,28 @@ problem_before Tester end (problem t) s h = by_interpretation t.settings.interpr
     by_formula None e = e
     by_formula (Some byte) e = refuses byte Uncovered e
 
-    by_interpretation : (i : Option ByName) → option_map_or (covered t) i (misused end Uncovered) ≡ problem s → problem t ≡ problem s
-    by_interpretation None e = refuses end Uncovered e
-    by_interpretation (Some it) e = by_formula (first_lacking (named.tables_for it t.symbols) t.formulas) e
+    by_count : (b : Bool) → (if b then misused end Uncovered else covered t t.settings.interpretations) ≡ problem s → problem t ≡ problem s
+    by_count true e = refuses end Uncovered e
+    by_count false e = by_formula (first_lacking (all_tables t.settings.interpretations t.symbols) t.formulas) e
 
 -- what is a problem in the end has an interpretation, where it is tested
-pub has_interpretation : (end : ℕ) (o : Outcome) (s : Sofar) → at_file_end Tester end o ≡ problem s → IsTrue (is_some s.settings.interpretation)
+pub has_interpretation : (end : ℕ) (o : Outcome) (s : Sofar) → at_file_end Tester end o ≡ problem s → 1 ≤ length s.settings.interpretations
 has_interpretation end (unreadable byte) s h = cc
 has_interpretation end (misused byte row) s h = cc
 has_interpretation end (too_large byte what) s h = cc
-has_interpretation end (problem t) s h = by_interpretation t.settings.interpretation refl
+has_interpretation end (problem t) s h = by_list t.settings.interpretations refl
   where
     same : problem t ≡ problem s
     same = problem_before Tester end (problem t) s h
 
-    of : Outcome → Option ByName
-    of (problem u) = u.settings.interpretation
-    of (unreadable byte) = None
-    of (misused byte row) = None
-    of (too_large byte what) = None
+    of : Outcome → List ByName
+    of (problem u) = u.settings.interpretations
+    of (unreadable byte) = []
+    of (misused byte row) = []
+    of (too_large byte what) = []
 
-    by_interpretation : (i : Option ByName) → t.settings.interpretation ≡ i → IsTrue (is_some s.settings.interpretation)
-    by_interpretation (Some it) e = ap is_some (sym (ap of same) ∙ e)
-    by_interpretation None e =
-        let refused : misused end Uncovered ≡ problem s = subst (λ (i : Option ByName). option_map_or (covered t) i (misused end Uncovered) ≡ problem s) e h in
+    by_list : (its : List ByName) → t.settings.interpretations ≡ its → 1 ≤ length s.settings.interpretations
+    by_list (it ∷ its) e = omega (arith, ap length (sym (ap of same) ∙ e))
+    by_list [] e =
+        let refused : misused end Uncovered ≡ problem s = subst (λ (its : List ByName). (if length its == 0 then misused end Uncovered else covered t its) ≡ problem s) e h in
         let d : false ≡ true = ap is_problem refused in cc

@@ -6,7 +6,6 @@ use Rattle.fol_problem.proofs.Soundness.{sound_below, sound_push}
 use Rattle.fol_core.specs.Bound.{BindsOnce, HasSymbolsBelow}
 use Rattle.fol_core.specs.FormulaView.{fol_of}
 use Rattle.fol_core.specs.RawTree.{RawTree}
-use Rattle.fol_core.specs.SymbolTable.{Symbol}
 use Rattle.fol_problem.specs.Stated.{said, AreWellFormed, all_said}
 use Rattle.fol_problem.specs.declared.problem.Input.{Input}
 use Rattle.fol_problem.specs.declared.problem.Role.{Role}
@@ -27,7 +26,7 @@ use Rattle.ladr_problem.specs.Proper.{IsProper}
 use Rattle.ladr_problem.specs.Sofar.{Sofar, Listed, said_in, stated_in, input_of}
 use Rattle.ladr_reader.specs.Table.{table_of}
 use Rattle.ladr_rules.specs.Attributes.{attributed, has_unfit_weight}
-use Rattle.ladr_rules.specs.Rules.{Sides, rule_made, shaped_sides}
+use Rattle.ladr_rules.specs.Rules.{Sides, shaped_sides}
 use Rattle.ladr_rules.specs.Shapes.{is_hint, is_demodulator}
 
 -- a formula more, where its list has a role

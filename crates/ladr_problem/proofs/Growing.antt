@@ -1,5 +1,5 @@
 -- What a file says has grown.
-use Rattle.std.proofs.Common.{◌≡◌, ℕ, suc, ◌+◌, ◌<◌, ◌≤◌, ◌^◌, Bool, true, false, not, ◌&&◌, if◌then◌else◌, List, [], ◌∷◌, ◌++◌, length, Option, Some, None, Result, Ok, Err, IfOk, refl, sym, ap, subst, ◌∙◌, arith}
+use Rattle.std.proofs.Common.{◌≡◌, ℕ, suc, ◌+◌, ◌<◌, ◌≤◌, ◌^◌, Bool, true, false, not, if◌then◌else◌, List, [], ◌∷◌, length, Option, Some, None, Result, Ok, Err, IfOk, refl, sym, ap, subst, ◌∙◌, arith}
 use Rattle.std.specs.Prelude.{nat_lt, is_some}
 use Rattle.std.specs.List.{list_all}
 use Rattle.std.specs.Option.{option_map, option_map_or}
@@ -111,6 +111,14 @@ grown_opened m _ (changes t g f ranged) meant some = f.opened meant some
 grown_opened m _ (states {s} list byte t g listed of none) meant some = listed
 grown_opened m _ (weighs {s} t r g of) meant some = grown_opened m s g meant some
 grown_opened m _ (weighs_name {s} t r g e once) meant some = grown_opened m s g meant some
+
+-- there is one interpretation at most
+pub grown_single : (m : Mode) (s : Sofar) → Grown m s → length s.settings.interpretations ≤ 1
+grown_single m _ nothing = omega arith
+grown_single m _ (changes {s} t g f ranged) = f.single (grown_single m s g)
+grown_single m _ (states {s} list byte t g listed of none) = grown_single m s g
+grown_single m _ (weighs {s} t r g of) = grown_single m s g
+grown_single m _ (weighs_name {s} t r g e once) = grown_single m s g
 
 -- a choice, and what is there or isn't
 by_test : (Q : Sofar → Type 0) (b : Bool) (x y : Result Sofar Refusal) → (b ≡ true → IfOk x Q) → (b ≡ false → IfOk y Q) → IfOk (if b then x else y) Q

@@ -37,7 +37,7 @@ pub record IsStated (rows : List OperatorRow) (st : Style) (table : List Symbol)
   pub tree : RawTree
   pub term : IsFormulaTerm rows st before tree
   pub fit : least_misuse list (has_unfit_weight (attributed tree).attributes) l.formula (formula_reading st before (attributed tree).formula).reading.least ≡ None
-  pub is : listed_by l.byte tree (formula_reading st before (attributed tree).formula) ≡ l
+  pub is : listed_by list l.byte tree (formula_reading st before (attributed tree).formula) ≡ l
   pub more : length (formula_reading st before (attributed tree).formula).reading.symbols ≤ length table
   pub kept : KeepsNumbers (formula_reading st before (attributed tree).formula).reading.symbols table
 
@@ -123,7 +123,7 @@ module _ (m : Mode) where
       let made = formula_made m s t in
       let rows = s.settings.operators in
       let st = style_in m s in
-      let l : Listed = listed_by byte t made in
+      let l : Listed = listed_by list byte t made in
       let more : length s.symbols ≤ length made.reading.symbols = table_grows st s.symbols (attributed t).formula in
       let old = has_longer rows st s.symbols made.reading.symbols s.formulas s.hints more (grows_formula st [] (attributed t).formula (unread s.symbols)).symbols (history s g).has in
       let one : (role : Option Role) → role_of list ≡ role → IsStated rows st made.reading.symbols role l = λ role e. record {

@@ -6,6 +6,7 @@ pub mod Files
 pub mod Good
 pub mod Growing
 pub mod History
+pub mod Live
 pub mod Named
 pub mod Once
 pub mod Readings

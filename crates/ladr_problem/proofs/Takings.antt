@@ -5,6 +5,8 @@ use Rattle.std.specs.Option.{option_map, option_map_or}
 use Rattle.std.specs.declared.result.Result.{Result}
 use Rattle.std.specs.declared.result.Result.TheVariants.{Ok, Err}
 use Rattle.std.proofs.lemmas.Bool.{le-ltb, lt-ltb}
+use Rattle.fol_core.specs.Fol.{Fol}
+use Rattle.fol_core.specs.FormulaView.{fol_of}
 use Rattle.fol_core.specs.RawTree.{RawTree}
 use Rattle.fol_core.specs.RawView.{raw_of}
 use Rattle.fol_core.specs.SymbolTable.{Symbol, KeepsNumbers}
@@ -15,10 +17,10 @@ use Rattle.ladr_lex.specs.declared.misuse.Misuse.{Misuse}
 use Rattle.ladr_commands.specs.declared.command.Command.{Command}
 use Rattle.ladr_problem.specs.ListItem.{term, IsListItem, IsItemFault}
 use Rattle.ladr_lex.specs.Lexeme.{Lexeme}
-use Rattle.ladr_problem.specs.Adding.{command, within, IsItemRead, IsItemRefused, after_item, after_term, after_formula, after_list, after_rule, after_weight, unshaped, formula_made, style_in, with_settings, with_listed, least_misuse}
+use Rattle.ladr_problem.specs.Adding.{command, within, IsItemRead, IsItemRefused, after_item, after_term, after_formula, after_list, after_rule, after_weight, unshaped, formula_made, style_in, with_settings, with_listed, kept_answer, least_misuse}
 use Rattle.ladr_problem.specs.Reading.{IsNo, IsTaken, after_formula_read, after_rule_read}
 use Rattle.ladr_problem.specs.Refusals.{by_misuse, by_term}
-use Rattle.ladr_problem.specs.Sofar.{Sofar}
+use Rattle.ladr_problem.specs.Sofar.{Sofar, listed_of}
 use Rattle.ladr_problem.specs.declared.refusal.Refusal.{Refusal}
 use Rattle.ladr_problem.specs.declared.refusal.Limit.TheVariants as limit
 use Rattle.ladr_problem.specs.declared.refusal.Refusal.TheVariants.{Bad, Large, Misused, Memory}
@@ -30,6 +32,7 @@ use Rattle.ladr_reader.specs.declared.fault.TermFault.{TermFault}
 use Rattle.ladr_reader.specs.declared.fault.TermFault.TheVariants as term_fault
 use Rattle.ladr_formulas.specs.declared.formulas.FormulaRead.{FormulaRead}
 use Rattle.ladr_formulas.specs.declared.styles.Mode.{Mode}
+use Rattle.ladr_rules.specs.Asked.{asked}
 use Rattle.ladr_rules.specs.Attributes.{attributed, has_unfit_weight, label_of, hint_weight_of}
 use Rattle.ladr_rules.specs.RuleSeen.{IsRuleIn}
 use Rattle.ladr_rules.specs.Rules.{rule_in}
@@ -79,22 +82,37 @@ module _ (m : Mode) (byte : ℕ) (s : Sofar) where
     item_refused ts term_fault.Deep h = (within (term h.0), (l, opened, h.1), deep_term ts h.0 h.2)
     item_refused ts term_fault.Memory h = tt
 
+  -- places that a list keeps of none or of all
+  same_answer : (list : Option FormulaList) (answer asks : List ℕ) (before : ℕ) (u : Sofar) (a : Notes) (r : FormulaRead)
+      → ((l : FormulaList) → list ≡ Some l → (g : Fol) → kept_answer l answer g ≡ kept_answer l asks g)
+      → after_formula_read m list byte before u a answer r ≡ after_formula_read m list byte before u a asks r
+  same_answer None answer asks before u a r h = refl
+  same_answer (Some l) answer asks before u a r h = ap (λ (places : List ℕ).
+      if nat_lt MOST_SYMBOLS (length u.symbols) then Err (Large limit.Symbols)
+      else (if r.large then Err (Large limit.Arity)
+      else (if not (is_meant m u.settings) then Ok (record u { symbols = take before u.symbols })
+      else option_map_or (λ k. Err (Misused k)) (least_misuse l a.misused (fol_of r.formula.shape) r.least)
+      (Ok (with_listed l (listed_of r.formula (option_map raw_of a.label) places byte) a.hint_weight u)))))
+      (h l refl (fol_of r.formula.shape))
+
   -- a formula as the code has read it is the one of the item
-  pub same_formula : (list : Option FormulaList) (t : RawTree) (f : Raw) (a : Notes) (r : FormulaRead) (table : List Symbol)
+  pub same_formula : (list : Option FormulaList) (t : RawTree) (f : Raw) (a : Notes) (answer : List ℕ) (r : FormulaRead) (table : List Symbol)
       → raw_of f ≡ (attributed t).formula → option_map raw_of a.label ≡ label_of (attributed t).attributes
       → a.misused ≡ has_unfit_weight (attributed t).attributes → a.hint_weight ≡ hint_weight_of (attributed t).attributes
+      → ((l : FormulaList) → list ≡ Some l → (g : Fol) → kept_answer l answer g ≡ kept_answer l (asked t) g)
       → IsWhole (formula_reading (style_in m s) s.symbols (raw_of f)) r table → KeepsNumbers s.symbols table
-      → after_formula_read m list byte (length s.symbols) (record s { symbols = table }) a r ≡ after_formula m list byte s t
-  same_formula list t f a r table formula label misused weight whole kept =
+      → after_formula_read m list byte (length s.symbols) (record s { symbols = table }) a answer r ≡ after_formula m list byte s t
+  same_formula list t f a answer r table formula label misused weight asks whole kept =
       let w : IsWhole (formula_made m s t) r table = subst (λ (u : RawTree). IsWhole (formula_reading (style_in m s) s.symbols u) r table) formula whole in
       let old = take_kept s.symbols table kept in
-      λ i.
+      let read : after_formula_read m list byte (length s.symbols) (record s { symbols = table }) a (asked t) r ≡ after_formula m list byte s t = λ i.
       if nat_lt MOST_SYMBOLS (length (w.symbols i)) then Err (Large limit.Symbols)
       else (if w.large i then Err (Large limit.Arity)
       else (if not (is_meant m s.settings) then Ok (record s { symbols = old i })
       else option_map_or (λ l. option_map_or (λ k. Err (Misused k)) (least_misuse l (misused i) (w.formula i) (w.least i))
-      (Ok (with_listed l (record { formula = w.formula i; names = w.named i; label = label i; byte = byte }) (weight i) (record s { symbols = w.symbols i }))))
-      list (Ok (record s { symbols = old i }))))
+      (Ok (with_listed l (record { formula = w.formula i; names = w.named i; label = label i; answer = kept_answer l (asked t) (w.formula i); byte = byte }) (weight i) (record s { symbols = w.symbols i }))))
+      list (Ok (record s { symbols = old i })))) in
+      same_answer list answer (asked t) (length s.symbols) (record s { symbols = table }) a r asks ∙ read
 
   -- a formula with too large an arity is refused for its symbols, else for that arity
   pub large_formula : (list : Option FormulaList) (t u : RawTree) (why : Refusal) → u ≡ (attributed t).formula → (formula_reading (style_in m s) s.symbols u).reading.large ≡ true

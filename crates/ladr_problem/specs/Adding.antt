@@ -4,6 +4,7 @@ use Rattle.std.specs.Option.{option_map_or}
 use Rattle.std.specs.declared.result.Result.{Result}
 use Rattle.std.specs.declared.result.Result.TheVariants.{Ok, Err}
 use Rattle.fol_core.specs.Fol.{Fol}
+use Rattle.fol_core.specs.Free.{free_vars_of}
 use Rattle.fol_core.specs.KboRows.{is_weighed}
 use Rattle.fol_core.specs.RawTree.{RawTree}
 use Rattle.fol_problem.specs.declared.problem.Role.{Role}
@@ -19,6 +20,7 @@ use Rattle.ladr_problem.specs.ListItem.{ListItem, closing, term, IsListItem, IsI
 use Rattle.ladr_lex.specs.Misuses.{earlier}
 use Rattle.ladr_lex.specs.declared.limits.TheConstants.{MOST_LEVELS, MOST_SYMBOLS}
 use Rattle.ladr_lex.specs.Lexeme.{Lexeme}
+use Rattle.ladr_rules.specs.Asked.{asked}
 use Rattle.ladr_rules.specs.Attributes.{attributed, has_unfit_weight, label_of, hint_weight_of}
 use Rattle.fol_core.specs.Weights.{Rule}
 use Rattle.ladr_rules.specs.Rules.{rule_in, kbo_rule}
@@ -99,6 +101,24 @@ least_misuse list unfit f least =
     (met (is_demodulators list && not (is_demodulator f)) UnfitDemodulator
     (met unfit UnfitAttribute least))
 
+abbrev pub is_goals : FormulaList → Bool
+is_goals Assumptions = false
+is_goals lists.Usable = false
+is_goals Demodulators = false
+is_goals Goals = true
+is_goals Hints = false
+
+abbrev is_none : List ℕ → Bool
+is_none [] = true
+is_none (x ∷ xs) = false
+
+abbrev pub is_closed : Fol → Bool
+is_closed f = is_none (free_vars_of f)
+
+-- closed goals alone ask for anything
+abbrev pub kept_answer : FormulaList → List ℕ → Fol → List ℕ
+kept_answer list places f = if is_goals list && is_closed f then places else []
+
 -- the role of a list's formulas; hints have none
 abbrev pub role_of : FormulaList → Option Role
 role_of Assumptions = Some Assumption
@@ -115,18 +135,19 @@ with_listed list l w s = record s {
 }
 
 -- what a term in a list states, as it was read
-abbrev pub listed_by : ℕ → RawTree → Made Fol → Listed
-listed_by byte t made = record {
+abbrev pub listed_by : FormulaList → ℕ → RawTree → Made Fol → Listed
+listed_by list byte t made = record {
   formula = made.tree;
   names = names_of_variables made.reading.variables;
   label = label_of (attributed t).attributes;
+  answer = kept_answer list (asked t) made.tree;
   byte = byte;
 }
 
 -- with its symbols
 abbrev pub with_formula : FormulaList → ℕ → RawTree → Made Fol → Sofar → Sofar
 with_formula list byte t made s =
-    with_listed list (listed_by byte t made) (hint_weight_of (attributed t).attributes)
+    with_listed list (listed_by list byte t made) (hint_weight_of (attributed t).attributes)
     (record s { symbols = made.reading.symbols })
 
 -- the formula is misused, or added

@@ -1,8 +1,9 @@
 -- What a file says to a program: its items are taken one behind the other.
-use Rattle.std.specs.Prelude.{◌≡◌, ℕ, ◌<◌, ◌≤◌, List, [], ◌∷◌, length, Option, Some, None, is_some, IsTrue, if◌then◌else◌}
+use Rattle.std.specs.Prelude.{◌≡◌, ℕ, ◌<◌, ◌≤◌, ◌==◌, List, [], ◌∷◌, length, map, Option, Some, None, is_some, IsTrue, if◌then◌else◌}
 use Rattle.std.specs.Option.{option_map_or}
-use Rattle.std.specs.List.{slice_get}
+use Rattle.std.specs.List.{list_all, slice_get}
 use Rattle.std.specs.declared.result.Result.TheVariants.{Ok, Err}
+use Rattle.fol_core.specs.SymbolTable.{Symbol}
 use Rattle.fol_problem.specs.declared.problem.Role.{Role}
 use Rattle.ladr_lex.specs.declared.misuse.Misuse.{Misuse}
 use Rattle.ladr_lex.specs.declared.misuse.Misuse.TheVariants.{Uncovered}
@@ -61,20 +62,27 @@ pub data File (m : Mode) (end : ℕ) : Sofar → List (List Piece) → Outcome �
       IsItemRead m s (lexemes ts) i → after_item m (start_at end ts 0) s (lexemes ts) i ≡ Ok t →
       File m end t items o → File m end s (ts ∷ items) o
 
--- where the first formula begins that has a symbol or an element which the tables lack
-abbrev pub first_lacking : Finite → List (Role × Listed) → Option ℕ
-first_lacking t [] = None
-first_lacking t (f ∷ fs) = if covers t f.1.formula then first_lacking t fs else Some f.1.byte
+-- where the first formula begins that has a symbol or an element which some of the tables lack
+abbrev pub first_lacking : List Finite → List (Role × Listed) → Option ℕ
+first_lacking ts [] = None
+first_lacking ts (f ∷ fs) =
+    if list_all (λ t. covers t f.1.formula) ts then first_lacking ts fs else Some f.1.byte
+
+-- the tables of each interpretation
+abbrev pub all_tables : List ByName → List Symbol → List Finite
+all_tables its symbols = map (λ it. tables_for it symbols) its
 
 -- a formula that isn't covered is row 18
-abbrev pub covered : Sofar → ByName → Outcome
-covered s it =
+abbrev pub covered : Sofar → List ByName → Outcome
+covered s its =
     option_map_or (λ byte. misused byte Uncovered)
-    (first_lacking (tables_for it s.symbols) s.formulas) (problem s)
+    (first_lacking (all_tables its s.symbols) s.formulas) (problem s)
 
 -- for a program that tests interpretations: no interpretation is row 18 at the end
 abbrev pub tested : ℕ → Outcome → Outcome
-tested end (problem s) = option_map_or (covered s) s.settings.interpretation (misused end Uncovered)
+tested end (problem s) =
+    if length s.settings.interpretations == 0 then misused end Uncovered
+    else covered s s.settings.interpretations
 tested end (unreadable byte) = unreadable byte
 tested end (misused byte row) = misused byte row
 tested end (too_large byte what) = too_large byte what

@@ -8,7 +8,7 @@ use Rattle.fol_core.specs.RawView.{raw_of}
 use Rattle.fol_core.specs.RuleView.{rule_of}
 use Rattle.ladr_lex.specs.declared.limits.TheConstants.{MOST_SYMBOLS}
 use Rattle.ladr_lex.specs.Lexeme.{Lexeme}
-use Rattle.ladr_problem.specs.Adding.{FileItem, IsItemRead, after_item, least_misuse, with_listed}
+use Rattle.ladr_problem.specs.Adding.{FileItem, IsItemRead, after_item, kept_answer, least_misuse, with_listed}
 use Rattle.ladr_problem.specs.Sofar.{Sofar, listed_of}
 use Rattle.ladr_problem.specs.declared.refusal.Refusal.{Refusal}
 use Rattle.ladr_problem.specs.declared.refusal.Limit.TheVariants as limit
@@ -32,21 +32,22 @@ abbrev pub IsKept : {X : Type 0} → List X → List X → Refusal → Type 0
 IsKept old new why = (k : ℕ) → why ≡ Bad k → new ≡ old
 
 -- what was read with the formula's symbols, and then the formula
-abbrev pub with_read : FormulaList → ℕ → Sofar → Notes → FormulaRead →
+abbrev pub with_read : FormulaList → ℕ → Sofar → Notes → List ℕ → FormulaRead →
     Result Sofar Refusal
-with_read list byte s a r =
+with_read list byte s a answer r =
     option_map_or (λ k. Err (Misused k))
     (least_misuse list a.misused (fol_of r.formula.shape) r.least)
-    (Ok (with_listed list (listed_of r.formula (option_map raw_of a.label) byte) a.hint_weight s))
+    (Ok (with_listed list (listed_of r.formula (option_map raw_of a.label)
+    (kept_answer list answer (fol_of r.formula.shape)) byte) a.hint_weight s))
 
 -- the table has the formula's symbols behind so many
-abbrev pub after_formula_read : Mode → Option FormulaList → ℕ → ℕ → Sofar → Notes →
+abbrev pub after_formula_read : Mode → Option FormulaList → ℕ → ℕ → Sofar → Notes → List ℕ →
     FormulaRead → Result Sofar Refusal
-after_formula_read m list byte before s a r =
+after_formula_read m list byte before s a answer r =
     if nat_lt MOST_SYMBOLS (length s.symbols) then Err (Large limit.Symbols)
     else (if r.large then Err (Large limit.Arity)
     else (if not (is_meant m s.settings) then Ok (record s { symbols = take before s.symbols })
-    else option_map_or (λ l. with_read l byte s a r) list
+    else option_map_or (λ l. with_read l byte s a answer r) list
     (Ok (record s { symbols = take before s.symbols }))))
 
 -- an item is read, and makes this of what was read so far

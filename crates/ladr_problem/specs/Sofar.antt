@@ -13,12 +13,13 @@ use Rattle.fol_core.specs.Weights.{Rule}
 use Rattle.ladr_settings.specs.Settings.{at_start}
 use Rattle.ladr_settings.specs.declared.settings.Settings.{Settings}
 
--- a formula of a list: the printed names of its variables by number, its label, and the place of
--- its item's first byte
+-- a formula of a list: the printed names of its variables by number, its label, the places of the
+-- variables that it asks for, and the place of its item's first byte
 pub record Listed : Type 0 where
   pub formula : Fol
   pub names : List (List ℕ)
   pub label : Option RawTree
+  pub answer : List ℕ
   pub byte : ℕ
 
 -- The settings, the symbols by number, the formulas with their roles, the hints with the weights
@@ -50,17 +51,18 @@ abbrev pub stated_in : Sofar → Stated
 stated_in s = stated s.symbols (said_in s)
 
 -- formulas and hints of the code
-abbrev pub listed_of : Formula → Option RawTree → ℕ → Listed
-listed_of f label byte =
+abbrev pub listed_of : Formula → Option RawTree → List ℕ → ℕ → Listed
+listed_of f label answer byte =
     record {
       formula = fol_of f.shape;
       names = f.names;
       label = label;
+      answer = answer;
       byte = byte;
     }
 
 abbrev pub input_of : Input → Role × Listed
-input_of i = (i.role, listed_of i.formula i.label i.byte)
+input_of i = (i.role, listed_of i.formula i.label i.answer.items i.byte)
 
 abbrev pub hint_of : Hint → Listed × Option ℕ
-hint_of h = (listed_of h.formula h.label h.byte, h.weight)
+hint_of h = (listed_of h.formula h.label [] h.byte, h.weight)

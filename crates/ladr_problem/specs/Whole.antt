@@ -17,7 +17,7 @@ pub record IsOf (s : Sofar) (r : FileRead) : Type 0 where
   pub function_order : r.problem.function_order ≡ s.settings.function_order
   pub options : r.problem.options ≡ s.settings.options
   pub operators : r.operators ≡ s.settings.operators
-  pub interpretation : r.interpretation ≡ s.settings.interpretation
+  pub interpretations : r.interpretations ≡ s.settings.interpretations
 
 -- the items say this to the program, row 18 included
 abbrev pub IsFinished : Mode → ℕ → Sofar → List (List Piece) → Outcome → Type 0

@@ -16,7 +16,7 @@ relation n t = atom n (more t none)
 
 -- a formula without variables and without a label, whose item begins at a byte
 abbrev pub plain : ℕ → Fol → Listed
-plain byte f = record { formula = f; names = []; label = None; byte = byte }
+plain byte f = record { formula = f; names = []; label = None; answer = []; byte = byte }
 
 -- lists were read, with nothing in them
 abbrev pub lists_read : Sofar

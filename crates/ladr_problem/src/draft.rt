@@ -1,5 +1,5 @@
 // What was read of a file so far.
-ghost use Rattle.std.specs.Prelude.{◌≡◌, OnOk, IfOk};
+ghost use Rattle.std.specs.Prelude.{◌≡◌, [], OnOk, IfOk};
 ghost use Rattle.ladr_problem.specs.Adding.{with_listed};
 ghost use Rattle.ladr_problem.specs.Draft.{sofar_of};
 ghost use Rattle.ladr_problem.specs.Sofar.{listed_of, nothing_read};
@@ -35,18 +35,21 @@ impl Draft {
         })
     }
 
-    /// Adds a formula to those of its list; a weight is kept for hints alone.
+    /// Adds a formula to those of its list; a weight is kept for hints alone, which ask for nothing.
     #[inline(always)]
     pub fn add(
         &mut self,
         list: FormulaList,
         formula: Formula,
         label: Option<RawSub>,
+        answer: Vec<u64>,
         weight: Option<u32>,
         byte: u64,
     ) -> Result<(), AllocError>
+        requires { list ≡ FormulaList.Hints → answer.items ≡ [] }
         ensures { OnOk result (sofar_of self.new
-            ≡ with_listed list (listed_of formula label byte) weight (sofar_of self.old)) }
+            ≡ with_listed list (listed_of formula label answer.items byte) weight
+            (sofar_of self.old)) }
     {
         let role = match list {
             FormulaList::Assumptions => Role::Assumption,
@@ -59,6 +62,7 @@ impl Draft {
             role,
             formula,
             label,
+            answer,
             byte,
         })?;
         Ok(())
@@ -73,7 +77,7 @@ impl Draft {
         byte: u64,
     ) -> Result<(), AllocError>
         ensures { OnOk result (sofar_of self.new
-            ≡ with_listed FormulaList.Hints (listed_of formula label byte) weight
+            ≡ with_listed FormulaList.Hints (listed_of formula label [] byte) weight
             (sofar_of self.old)) }
     {
         self.hints.push(Hint {

@@ -1,12 +1,16 @@
 // The problem of a file.
-ghost use Rattle.std.specs.Prelude.{◌≡◌, ◌≤◌, ◌<◌, ◌^◌, ◌++◌, List, unwrap_or, OnOk, IfOk, IfErr, IsTrue, is_some, length, map, take};
+ghost use Rattle.std.specs.Prelude.{◌≡◌, ◌≤◌, ◌<◌, ◌^◌, ◌++◌, List, unwrap_or, OnOk, IfOk, IfErr, length, map, take};
+ghost use Rattle.std.specs.List.{list_all};
+ghost use Rattle.fol_core.specs.FormulaView.{fol_of};
+ghost use Rattle.fol_problem.specs.Asks.{AreLive};
 ghost use Rattle.fol_problem.specs.Stated.{stated_of, IsWellFormed};
+ghost use Rattle.ladr_interpretations.specs.Covers.{covers};
 ghost use Rattle.ladr_problem.specs.Items.{items_of, tokens_of};
 ghost use Rattle.ladr_lex.specs.Cuts.{Cuts, Piece, piece_of, pieces_of};
 ghost use Rattle.ladr_lex.specs.Places.{line_of, column_of};
 ghost use Rattle.ladr_lex.specs.declared.limits.TheConstants.{MOST_BYTES, MOST_SYMBOLS};
 ghost use Rattle.ladr_problem.specs.Draft.{sofar_of};
-ghost use Rattle.ladr_problem.specs.File.{Says, problem, first_lacking, tested};
+ghost use Rattle.ladr_problem.specs.File.{Says, problem, first_lacking, all_tables, tested};
 ghost use Rattle.ladr_options.specs.Ranges.{AreInRange};
 ghost use Rattle.ladr_problem.specs.Names.{AreTellable};
 ghost use Rattle.ladr_formulas.specs.declared.styles.Mode.{Mode};
@@ -20,45 +24,67 @@ use crate::draft::Draft;
 use crate::file::take_all;
 use crate::refusal::{Limit, Place, ReadError};
 use crate::stop::RefusalAt;
-use fol_core::Name;
+use fol_core::{Formula, Name, Symbols};
 use fol_problem::{Input, Problem};
 use ladr_formulas::Mode;
-use ladr_interpretations::{Named, bind, covers};
+use ladr_interpretations::{Interpretations, bind, covers};
 use ladr_lex::{MOST_BYTES, Misuse, Ops, Text, Token, TokenKind, item_from, place_of};
 use ladr_settings::Settings;
 use model_tables::Tables;
 use std::alloc::{AllocError, Global};
 
-/// What a file says: its problem, the operators as they are at its end, and the interpretation, if there is one.
+/// What a file says: its problem, the operators as they are at its end, and the interpretations.
 #[derive(Drop)]
 pub struct FileRead {
     pub problem: Problem,
     pub operators: Ops,
-    pub interpretation: Option<Named>,
+    pub interpretations: Interpretations,
+}
+
+// Whether each of the tables covers a formula.
+fn are_covered(tables: &[Tables], formula: &Formula) -> bool
+    ensures { result ≡ list_all (λ t. covers t (fol_of formula.now.shape)) tables.now }
+{
+    tables.iter().all(|one| covers(one, formula))
 }
 
 // Where the first formula begins that isn't covered.
-fn first_lacking(tables: &Tables, inputs: &[Input]) -> Option<u64>
+fn first_lacking(tables: &[Tables], inputs: &[Input]) -> Option<u64>
     ensures { result ≡ first_lacking tables.now (map input_of inputs.now) }
 {
     for input in inputs {
-        if !covers(tables, &input.formula) {
+        if !are_covered(tables, &input.formula) {
             return Some(input.byte);
         }
     }
     None
 }
 
-// Looks for a formula that the interpretation doesn't cover.
+// The tables of each interpretation for these symbols.
+fn all_tables(
+    alloc: Global,
+    its: &Interpretations,
+    symbols: &Symbols,
+) -> Result<Vec<Tables>, AllocError>
+    ensures { IfOk result (λ ts. ts.items ≡ all_tables its.now symbols.now) }
+{
+    let mut all = Vec::new(alloc);
+    for place in 0..its.len() {
+        all.push(bind(alloc, its.at(place), symbols)?)?;
+    }
+    Ok(all)
+}
+
+// Looks for a formula that an interpretation doesn't cover.
 fn test(alloc: Global, end: usize, draft: &Draft) -> Result<(), RefusalAt>
     ensures ok { OnOk result (tested end (problem (sofar_of draft.now))
         ≡ problem (sofar_of draft.now)) }
     ensures stop { IfErr result (IsStop (λ o. tested end (problem (sofar_of draft.now)) ≡ o)) }
 {
-    let Some(named) = &draft.settings.interpretation else {
+    if draft.settings.interpretations.len() == 0 {
         return Err(RefusalAt::Misuse(end as u64, Misuse::Uncovered));
-    };
-    let tables = match bind(alloc, named, &draft.symbols) {
+    }
+    let tables = match all_tables(alloc, &draft.settings.interpretations, &draft.symbols) {
         Ok(tables) => tables,
         Err(_) => return Err(RefusalAt::Memory),
     };
@@ -231,7 +257,7 @@ fn finish(draft: Draft) -> FileRead
         operators,
         options,
         function_order,
-        interpretation,
+        interpretations,
         ..
     } = settings;
     FileRead {
@@ -245,7 +271,7 @@ fn finish(draft: Draft) -> FileRead
             options,
         },
         operators,
-        interpretation,
+        interpretations,
     }
 }
 
@@ -256,9 +282,11 @@ pub fn read_problem(alloc: Global, program: Mode, bytes: &[u8]) -> Result<FileRe
     // Its symbols are few enough, and can be told apart.
     ensures few { IfOk result (λ r. length r.problem.symbols ≤ MOST_SYMBOLS) }
     ensures tellable { IfOk result (λ r. AreTellable r.problem.symbols) }
+    // Its goals ask for what may be asked of them.
+    ensures asks { IfOk result (λ r. AreLive r.problem.inputs.items) }
     // Its options have values of theirs, and a program that tests interpretations has one.
     ensures ranged { IfOk result (λ r. AreInRange r.problem.options) }
-    ensures interpreted { program ≡ Tester → IfOk result (λ r. IsTrue (is_some r.interpretation)) }
+    ensures interpreted { program ≡ Tester → IfOk result (λ r. length r.interpretations ≡ 1) }
     ensures refused { IfErr result (IsReadError program bytes.now) }
 {
     if bytes.len() as u64 > MOST_BYTES {

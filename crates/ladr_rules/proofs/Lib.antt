@@ -1,4 +1,5 @@
 pub mod Arities
+pub mod AskedParts
 mod Keeping
 pub mod Names
 pub mod Parts

@@ -1,3 +1,4 @@
+pub mod Asked
 pub mod Attributes
 pub mod KeptNames
 pub mod RuleSeen

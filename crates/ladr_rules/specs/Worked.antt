@@ -8,7 +8,8 @@ use Rattle.fol_core.specs.SymbolTable.{Symbol}
 use Rattle.fol_core.specs.Weights.{Rule}
 use Rattle.ladr_lex.specs.declared.misuse.Misuse.{Misuse}
 use Rattle.ladr_formulas.specs.Formulas.{formula_reading}
-use Rattle.ladr_reader.specs.Worked.{constant, unary, binary}
+use Rattle.fol_core.specs.declared.raw.Quantifier.TheVariants.{Exists}
+use Rattle.ladr_reader.specs.Worked.{constant, unary, binary, binder}
 use Rattle.ladr_formulas.specs.WorkedFormulas.{for_prover}
 use Rattle.ladr_formulas.specs.declared.styles.Style.{Style}
 use Rattle.ladr_rules.specs.Rules.{rule_in}
@@ -35,6 +36,13 @@ y = constant "y"
 -- f(t)
 abbrev pub f : RawTree → RawTree
 f t = unary "f" t
+
+-- exists x exists y p, and exists x exists x p
+abbrev pub two_in_front : RawTree
+two_in_front = binder Exists "x" (binder Exists "y" p)
+
+abbrev pub one_twice : RawTree
+one_twice = binder Exists "x" (binder Exists "x" p)
 
 -- bsub_hint_wt(n)
 abbrev pub weighing : String → RawTree

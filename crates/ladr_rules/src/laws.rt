@@ -8,10 +8,11 @@ ghost use Rattle.ladr_lex.specs.declared.misuse.Misuse.TheVariants.{UnfitNumeral
 ghost use Rattle.ladr_reader.specs.Reads.{Item};
 ghost use Rattle.ladr_reader.specs.Worked.{lexemes_of_text, constant, unary, binary, standard};
 ghost use Rattle.ladr_formulas.specs.WorkedFormulas.{for_tester, for_prover, in_prolog};
+ghost use Rattle.ladr_rules.specs.Asked.{asked};
 ghost use Rattle.ladr_rules.specs.Attributes.{attributed, label_of, has_unfit_weight, hint_weight_of};
 ghost use Rattle.ladr_rules.specs.Rules.{kbo_rule};
 ghost use Rattle.ladr_rules.specs.Shapes.{is_hint, is_demodulator};
-ghost use Rattle.ladr_rules.specs.Worked.{p, q, a, b, x, y, f, weighing, weight, weight_is, one_and_twice, formula, weight_rule_in, misuse_of, symbols_of};
+ghost use Rattle.ladr_rules.specs.Worked.{p, q, a, b, x, y, f, weighing, weight, weight_is, one_and_twice, formula, two_in_front, one_twice, weight_rule_in, misuse_of, symbols_of};
 
 /// What attributes say, and which formulas hints and demodulators may be.
 pub fn worked()
@@ -39,6 +40,23 @@ pub fn worked()
     ensures demodulator { is_demodulator (formula (binary "=" (f x) x)) ≡ true }
     ensures variable_on_the_left { is_demodulator (formula (binary "=" x (f x))) ≡ false }
     ensures other_variable { is_demodulator (formula (binary "=" (f x) y)) ≡ false }
+{}
+
+/// What formulas ask for by their attributes. Here p stands under two quantifiers `exists`, or under the same one twice.
+pub fn worked_asked()
+    // exists x exists y p # answer(y), and # answer(x,y)
+    ensures one { asked (binary "#" two_in_front (unary "answer" y)) ≡ 1 ∷ [] }
+    ensures both { asked (binary "#" two_in_front (binary "answer" y x)) ≡ 1 ∷ 0 ∷ [] }
+    // The first that may be asked counts, whatever stands before it.
+    ensures first { asked (binary "#" two_in_front (binary "#" (unary "answer" a)
+        (binary "#" (unary "answer" x) (unary "answer" y)))) ≡ 0 ∷ [] }
+    // answer alone, a variable twice, and a term that is no variable
+    ensures alone { asked (binary "#" two_in_front (constant "answer")) ≡ [] }
+    ensures twice { asked (binary "#" two_in_front (binary "answer" x x)) ≡ [] }
+    ensures other { asked (binary "#" two_in_front (unary "answer" (f x))) ≡ [] }
+    // exists x exists x p # answer(x)
+    ensures same { asked (binary "#" one_twice (unary "answer" x)) ≡ [] }
+    ensures without { asked two_in_front ≡ [] }
 {}
 
 /// Rules of weights.

@@ -11,7 +11,7 @@ use crate::symbols::{declare_all, order_of};
 use fol_core::{Name, NameOrder, Names};
 use ladr_commands::{ByName, Command, Value};
 use ladr_formulas::Mode;
-use ladr_interpretations::{Named, NamedError};
+use ladr_interpretations::{Interpretations, Named, NamedError};
 use ladr_lex::{DeclareError, Misuse, Ops};
 use ladr_options::{OptionError, Options};
 use std::alloc::{AllocError, Global};
@@ -43,7 +43,7 @@ pub struct Settings {
     pub list: Option<OpenList>,
     /// Whether a list for this program was opened.
     pub listed: bool,
-    pub interpretation: Option<Named>,
+    pub interpretations: Interpretations,
 }
 
 impl Settings {
@@ -58,7 +58,7 @@ impl Settings {
             block: None,
             list: None,
             listed: false,
-            interpretation: None,
+            interpretations: Interpretations::new(alloc),
         })
     }
 
@@ -238,12 +238,12 @@ impl Settings {
         ensures row { (m : Misuse) → result ≡ Err (Misused m)
             → after_interpretation read self.old ≡ Err m }
     {
-        if self.interpretation.is_some() {
+        if self.interpretations.len() > 0 {
             return Err(SettingsError::Misused(Misuse::UnfitInterpretation));
         }
         match Named::new(alloc, read) {
             Ok(named) => {
-                self.interpretation = Some(named);
+                self.interpretations.push(named)?;
                 Ok(())
             }
             Err(NamedError::Bad) => Err(SettingsError::Misused(Misuse::UnfitInterpretation)),

@@ -1,7 +1,7 @@
 -- The formulas of a refutation's lines are the problem's.
 use Rattle.std.proofs.Common.{inl, inr, ℕ, Bool, true, false, List, [], ◌∷◌, ◌++◌, Option, Some, subst}
 use Rattle.derivation.specs.Later.{LaterWord}
-use Rattle.derivation.specs.Lines.{FirstWord, assumed, wanted, clausified, denied, copied, resolved, factored, paramodulated, xx_resolved, Inference, copy_inference, clash_inference, factor_inference, para_inference, xx_inference, ContentTree, formula, clause, LineTree, InputRow, After, IsInferred, IsAmongSaid, IsStated, IsInput, IsInputOf, IsLine, AreLines}
+use Rattle.derivation.specs.Lines.{FirstWord, assumed, wanted, clausified, denied, copied, resolved, factored, paramodulated, xx_resolved, instantiated, Inference, copy_inference, clash_inference, factor_inference, para_inference, xx_inference, ContentTree, formula, clause, LineTree, InputRow, After, IsInferred, IsInstance, instance_of, IsAmongSaid, IsStated, IsInput, IsInputOf, IsLine, AreLines}
 use Rattle.derivation.specs.View.{content_of, line_tree, lines_of}
 use Rattle.derivation.specs.declared.line.Content.{Content}
 use Rattle.derivation.specs.declared.line.Content.TheVariants.{Formula, Clause}
@@ -11,6 +11,7 @@ use Rattle.fol_core.specs.Fol.{Fol}
 use Rattle.fol_core.specs.FormulaView.{fol_of}
 use Rattle.fol_core.specs.Literals.{ClauseTree}
 use Rattle.fol_problem.specs.Stated.{Said, AreWellFormed}
+use Rattle.substitutions.specs.Bindings.{Binding}
 
 -- a formula has symbols with numbers below this one alone
 abbrev TreeIsOwn : ℕ → ContentTree → Type 0
@@ -56,6 +57,10 @@ module _ (size : ℕ) (ss : List Said) (well : AreWellFormed size ss) where
   inferred_own ls i ws (formula f) h = absurd (not_after ls ws h.1 f h.5)
   inferred_own ls i ws (clause c) h = tt
 
+  instance_own : (ls : List LineTree) (n : ℕ) (es : List Binding) (ws : List LaterWord) (content : ContentTree) → IsInstance ls n es ws content → TreeIsOwn size content
+  instance_own ls n es ws (formula f) h = absurd (not_after ls ws (instance_of es h.0) f h.2)
+  instance_own ls n es ws (clause c) h = tt
+
   line_own : (rows : List InputRow) (ls : List LineTree) (w : FirstWord) (ws : List LaterWord) (content : ContentTree) → IsLine ss rows ls w ws content → TreeIsOwn size content
   line_own rows ls assumed ws content h = stated_own false content h.0
   line_own rows ls wanted ws content h = stated_own true content h.0
@@ -66,6 +71,7 @@ module _ (size : ℕ) (ss : List Said) (well : AreWellFormed size ss) where
   line_own rows ls (factored n a b) ws content h = inferred_own ls (factor_inference n a b) ws content h
   line_own rows ls (paramodulated n a side m b path) ws content h = inferred_own ls (para_inference n a side m b path) ws content h
   line_own rows ls (xx_resolved n a) ws content h = inferred_own ls (xx_inference n a) ws content h
+  line_own rows ls (instantiated n es) ws content h = instance_own ls n es ws content h
 
   content_own : (c : Content) → TreeIsOwn size (content_of c) → IsOwn size c
   content_own (Formula f label) h = h

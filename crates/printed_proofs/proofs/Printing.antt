@@ -1,15 +1,17 @@
 -- Printed refutations are read as refutations.
 use Rattle.std.proofs.Common.{◌≡◌, ℕ, suc, ◌-◌, ◌<◌, ◌^◌, Bool, false, List, [], ◌∷◌, ◌++◌, length, map, None, refl, sym, ap, ap₂, ◌∙◌, subst, arith}
 use Rattle.std.specs.Global.{Vec}
-use Rattle.std.specs.List.{list_any}
+use Rattle.std.specs.List.{AllByRecursion, list_any}
 use Rattle.std.proofs.lemmas.List.{length-map}
 use Rattle.clausify.specs.Input.{clauses_in_table}
-use Rattle.derivation.specs.Lines.{ContentTree, formula, LineTree, IsRefutation}
-use Rattle.derivation.specs.View.{content_of, line_tree, lines_of}
+use Rattle.derivation.specs.Lines.{FirstWord, ContentTree, formula, LineTree, IsRefutation}
+use Rattle.derivation.specs.View.{first_word_of, content_of, line_tree, lines_of}
 use Rattle.derivation.specs.declared.line.Content.{Content}
 use Rattle.derivation.specs.declared.line.Content.TheVariants.{Formula, Clause}
 use Rattle.derivation.specs.declared.line.Derivation.{Derivation}
 use Rattle.derivation.specs.declared.line.Line.{Line}
+use Rattle.derivation.specs.declared.words.First.{First}
+use Rattle.derivation.specs.declared.words.First.TheVariants as first
 use Rattle.fol_core.specs.FormulaView.{fol_of}
 use Rattle.fol_problem.specs.Stated.{Stated, said, stated, stated_of, all_said, AreWellFormed}
 use Rattle.fol_core.specs.SymbolTable.{Symbol, FindsEach, KeepsNumbers}
@@ -25,14 +27,16 @@ use Rattle.ladr_problem.specs.declared.read.FileRead.{FileRead}
 use Rattle.printed_proofs.specs.Refutations.{content_with, line_with, lines_with, AreAllRefuting, lines_printed, HaveCountedLines, ArePrintableRefutations, whole_text, lines_had, ReadsRefutations}
 use Rattle.printed_proofs.proofs.LinesBehind.{Part, proofs_behind, below}
 use Rattle.printed_proofs.proofs.OwnLines.{IsOwn, AreOwn, AllAreOwn, lines_own}
-use Rattle.printed_proofs.specs.Printed.{PrintedProof, HoldsNoProof, proofs_text}
+use Rattle.printed_proofs.specs.Printed.{PrintedProof, ArePrintableProofs, HoldsNoProof, proofs_text}
 use Rattle.printed_proofs.proofs.PrintedBlocks.{framed, proofs_read}
 use Rattle.proof_lines.specs.ContentTokens.{LineTables, line_tables}
 use Rattle.proof_lines.specs.Strays.{is_stray_relation}
 use Rattle.proof_print.specs.LineTexts.{frame_text}
 use Rattle.proof_print.specs.Names.{AreOfClauses}
-use Rattle.proof_print.specs.Reread.{row_tables}
-use Rattle.derivation_laws.specs.Moved.{Moving, moved_content, moved_lines}
+use Rattle.proof_print.specs.Reread.{row_tables, ArePrintable}
+use Rattle.proof_words.specs.Written.{written_first}
+use Rattle.words_print.specs.Sayable.{IsSayableFirst}
+use Rattle.derivation_laws.specs.Moved.{Moving, moved_content, moved_first, moved_line, moved_lines}
 use Rattle.derivation_laws.specs.Tables.{IsTableOf, KeepsRefutations}
 use Rattle.derivation_laws.proofs.MovedTables.{formula_stays, refutation_read}
 use Rattle.proof_text.specs.Proofs.{Reader, HasProofs}
@@ -43,15 +47,46 @@ use Rattle.proof_text.specs.declared.text.ProofRead.{ProofRead}
 tables_same : (prolog : Bool) (formulas clauses : List OperatorRow) → AreOfClauses prolog formulas clauses → row_tables formulas clauses ≡ line_tables prolog formulas
 tables_same prolog formulas clauses h = λ i. record { formulas = (row_tables formulas clauses).formulas; clauses = record (row_tables formulas clauses).clauses { op = λ name. h name i } }
 
+-- first words that can be said put no terms in
+abbrev AreSaid : List Line → Type 0
+AreSaid ls = AllByRecursion (λ (l : Line). IsSayableFirst (written_first l.just.first)) ls
+
+lines_said : (g : LineTables) (prolog : Bool) (known table : List Symbol) (ls : List Line) → ArePrintable g prolog known table ls → AreSaid ls
+lines_said g prolog known table [] h = tt
+lines_said g prolog known table (l ∷ ls) h = (h.0.words.first, lines_said g prolog known table ls h.1)
+
+proofs_said : (g : LineTables) (prolog : Bool) (known table : List Symbol) (ps : List PrintedProof) → ArePrintableProofs g prolog known table ps → AllByRecursion AreSaid (lines_printed ps)
+proofs_said g prolog known table [] h = tt
+proofs_said g prolog known table (p ∷ ps) h = (lines_said g prolog known table p.lines h.1, proofs_said g prolog known table ps h.2)
+
+first_stays : (to : Moving) (w : First) → IsSayableFirst (written_first w) → first_word_of w ≡ moved_first to (first_word_of w)
+first_stays to first.Assumption h = refl
+first_stays to first.Goal h = refl
+first_stays to (first.Clausify n) h = refl
+first_stays to (first.Deny n) h = refl
+first_stays to (first.Copy n) h = refl
+first_stays to (first.BackRewrite n) h = refl
+first_stays to (first.BackUnitDel n) h = refl
+first_stays to (first.Resolve n s) h = refl
+first_stays to (first.Hyper n ss) h = refl
+first_stays to (first.Ur n ss) h = refl
+first_stays to (first.Factor n a b) h = refl
+first_stays to (first.Para p) h = refl
+first_stays to (first.XxRes n a) h = refl
+first_stays to (first.Instantiate n s) h = absurd h
+
 -- lines of the code are moved as their trees are, where formulas stay
 module _ (to : Moving) (size : ℕ) (stays : (n : ℕ) → n < size → to n ≡ n) where
   content_same : (c : Content) → IsOwn size c → content_of (content_with to c) ≡ moved_content to (content_of c)
   content_same (Formula f label) own = ap formula (sym (formula_stays to (fol_of f.shape) (λ n k. stays n (own n k))))
   content_same (Clause c) own = refl
 
-  lines_same : (ls : List Line) → AreOwn size ls → lines_of (lines_with to ls) ≡ moved_lines to (lines_of ls)
-  lines_same [] own = refl
-  lines_same (l ∷ ls) own = ap₂ (λ (c : ContentTree) (ks : List LineTree). record (line_tree l) { content = c } ∷ ks) (content_same l.content own.0) (lines_same ls own.1)
+  line_same : (l : Line) → IsOwn size l.content → IsSayableFirst (written_first l.just.first) → line_tree (line_with to l) ≡ moved_line to (line_tree l)
+  line_same l own said = ap₂ (λ (c : ContentTree) (w : FirstWord). record (line_tree l) { content = c; first = w }) (content_same l.content own) (first_stays to l.just.first said)
+
+  lines_same : (ls : List Line) → AreOwn size ls → AreSaid ls → lines_of (lines_with to ls) ≡ moved_lines to (lines_of ls)
+  lines_same [] own said = refl
+  lines_same (l ∷ ls) own said = ap₂ (λ (k : LineTree) (ks : List LineTree). k ∷ ks) (line_same l own.0 said.0) (lines_same ls own.1 said.1)
 
 -- the formulas of refutations are the problem's
 all_own : (g : Reader) (p : Stated) (all : List Symbol) → g.problem ≡ p.symbols → AreWellFormed (length p.symbols) p.formulas → (once : FindsEach all) (few : KeepsNumbers g.problem all) (no_stray : list_any (is_stray_relation g.problem) all ≡ false)
@@ -64,11 +99,11 @@ all_own g p all is well once few no_stray (ls ∷ ps) h = (
 
 -- so refutations stay refutations
 all_refute : (p : Stated) (all table : List Symbol) (to : Moving) (size : ℕ) → ((n : ℕ) → n < size → to n ≡ n) → KeepsRefutations p all table to → (ps : List (List Line)) → AllAreOwn size ps
-    → AreAllRefuting p all ps → AreAllRefuting p table (map (lines_with to) ps)
-all_refute p all table to size stays keeps [] own h = tt
-all_refute p all table to size stays keeps (ls ∷ ps) own h = (
-  subst (IsRefutation p.formulas (clauses_in_table table p)) (sym (lines_same to size stays ls own.0)) (keeps (lines_of ls) h.0),
-  all_refute p all table to size stays keeps ps own.1 h.1,
+    → AllByRecursion AreSaid ps → AreAllRefuting p all ps → AreAllRefuting p table (map (lines_with to) ps)
+all_refute p all table to size stays keeps [] own said h = tt
+all_refute p all table to size stays keeps (ls ∷ ps) own said h = (
+  subst (IsRefutation p.formulas (clauses_in_table table p)) (sym (lines_same to size stays ls own.0 said.0)) (keeps (lines_of ls) h.0),
+  all_refute p all table to size stays keeps ps own.1 said.1 h.1,
 )
 
 same_said : (s : Sofar) (f : FileRead) → IsOf s f → all_said f.problem.inputs.items ≡ said_in s
@@ -135,7 +170,8 @@ module _ (proper : (m : Mode) (bytes : List ℕ) (s : Sofar) → Says m bytes (p
       } in
       let are : lines_had read ≡ lines = ap (map (λ (d : Derivation). d.lines.items)) (items_kept f.problem.inputs made.0 few) ∙ made.1 in
       let refute = all_refute p table again.after to (length f.problem.symbols)
-      (below g table once few_table h.can.no_stray again.after to moved.1 moved.2 again.part.problem) moved.3 (lines_printed ps) own h.refute in
+      (below g table once few_table h.can.no_stray again.after to moved.1 moved.2 again.part.problem) moved.3 (lines_printed ps) own
+      (proofs_said (row_tables f.operators clauses) prolog f.problem.symbols table ps h.printable) h.refute in
       record {
         read = read;
         is_read = record {

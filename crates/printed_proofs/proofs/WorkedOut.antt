@@ -20,6 +20,7 @@ use Rattle.fol_problem.specs.declared.problem.Role.TheVariants.{Assumption, Goal
 use Rattle.fol_core.specs.declared.symbols.Kind.TheVariants.{Function, Relation}
 use Rattle.fol_core.specs.SymbolTable.{number_of, FindsEach}
 use Rattle.derivation.specs.declared.line.Content.{Content}
+use Rattle.derivation.specs.declared.line.LineNotes.{LineNotes}
 use Rattle.derivation.specs.declared.line.Content.TheVariants as content
 use Rattle.ladr_formulas.specs.Formulas.{named_variable, style_of}
 use Rattle.ladr_formulas.specs.declared.styles.Mode.TheVariants.{Prover}
@@ -102,8 +103,8 @@ five_text : IsText 5 (content.Clause []) (by_resolve 3 (satellite 0 4 0)) (codes
 unfolding is_ordinary is_special
 five_text = simp (decimal_digit 3 (omega arith), decimal_digit 4 (omega arith), decimal_digit 5 (omega arith))
 
-pub texts_are : (later : Vec Later) → map later_of later.items ≡ [] → lines_text worked_tables two_symbols false (five_lines later) ≡ five_texts
-texts_are later e =
+pub texts_are : (later : Vec Later) (notes : LineNotes) → map later_of later.items ≡ [] → lines_text worked_tables two_symbols false (five_lines later notes) ≡ five_texts
+texts_are later notes e =
     let a = subst (IsText 1 the_formula as_assumption (codes "1 p(a).  [assumption].\n")) (sym e) one_text in
     let b = subst (IsText 2 the_formula as_goal (codes "2 p(a).  [goal].\n")) (sym e) two_text in
     let c = subst (IsText 3 (content.Clause (literal true the_atom ∷ [])) (by_clausify 1) (codes "3 p(a).  [clausify(1)].\n")) (sym e) three_text in
@@ -173,10 +174,10 @@ formula_is : IsPrintableContent g false two_symbols two_symbols the_formula
 unfolding named_variable
 formula_is = ((relation_named, ((constant_named, tt), tt)), record { shallow = refl; unmisused = refl; means = (refl, refl, refl); symbols = refl })
 
-pub lines_back : (later : Vec Later) → map later_of later.items ≡ [] → ReadsLines g false two_symbols two_symbols (five_lines later)
-lines_back later e =
+pub lines_back : (later : Vec Later) (notes : LineNotes) → map later_of later.items ≡ [] → ReadsLines g false two_symbols two_symbols (five_lines later notes)
+lines_back later notes e =
     let none : AreSayable (map later_of later.items) = subst AreSayable (sym e) tt in
-    lines_read standard_rows standard_rows false two_symbols two_symbols (five_lines later) can_print.lawful can_print (
+    lines_read standard_rows standard_rows false two_symbols two_symbols (five_lines later notes) can_print.lawful can_print (
       record { number = lit< tt; words = record { first = tt; later = none; alone = λ h. e }; suits = refl; content = formula_is },
       (
         record { number = lit< tt; words = record { first = tt; later = none; alone = λ h. e }; suits = refl; content = formula_is },

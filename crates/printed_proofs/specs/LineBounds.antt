@@ -7,7 +7,7 @@ use Rattle.derivation.specs.declared.line.Line.{Line}
 use Rattle.derivation.specs.declared.words.Satellite.{Satellite}
 use Rattle.fol_core.specs.Literals.{ClauseTree}
 use Rattle.fol_core.specs.Renumbered.{clause_variables}
-use Rattle.proof_words.specs.Written.{Written, WrittenFirst, written_of, as_assumption, as_goal, by_clausify, by_deny, by_copy, by_back_rewrite, by_back_unit_del, by_resolve, by_hyper, by_ur, by_factor, by_para, by_xx_res}
+use Rattle.proof_words.specs.Written.{Written, WrittenFirst, written_of, as_assumption, as_goal, by_clausify, by_deny, by_copy, by_back_rewrite, by_back_unit_del, by_resolve, by_hyper, by_ur, by_factor, by_para, by_xx_res, by_instantiate}
 use Rattle.words_print.specs.Sayable.{IsShort, AreShort, IsShortSatellite, AreShortSatellites}
 
 -- the numbers of a nucleus and its satellites are below 2 ^ 64
@@ -30,6 +30,7 @@ AreBoundedFirst (by_factor n a b) = IsShort n × IsShort a × IsShort b
 AreBoundedFirst (by_para n a side m b path) =
     IsShort n × IsShort a × IsShort side × IsShort m × IsShort b × AreShort path
 AreBoundedFirst (by_xx_res n a) = IsShort n × IsShort a
+AreBoundedFirst (by_instantiate n es) = IsShort n
 
 -- the numbers of a word behind the first are
 abbrev pub IsBoundedLater : LaterWord → Type 0

@@ -7,6 +7,7 @@ use Rattle.derivation.specs.View.{lines_of}
 use Rattle.derivation.specs.declared.line.Content.{Content}
 use Rattle.derivation.specs.declared.line.Content.TheVariants as content
 use Rattle.derivation.specs.declared.line.Line.{Line}
+use Rattle.derivation.specs.declared.line.LineNotes.{LineNotes}
 use Rattle.derivation.specs.declared.words.First.{First}
 use Rattle.derivation.specs.declared.words.First.TheVariants as words
 use Rattle.derivation.specs.declared.words.Later.{Later}
@@ -41,18 +42,23 @@ abbrev pub the_formula : Content
 the_formula =
     content.Formula (record { shape = Atom (record { 0 = 1 }) (app 0 none ∷ []); names = [] }) None
 
--- a line of the code whose later words are these
-abbrev pub line_by : Vec Later → ℕ → Content → First → Line
-line_by later number content first =
-    record { number = number; content = content; just = record { first = first; steps = later } }
+-- a line of the code with these later words and these notes
+abbrev pub line_by : Vec Later → LineNotes → ℕ → Content → First → Line
+line_by later notes number content first =
+    record {
+      number = number;
+      content = content;
+      just = record { first = first; steps = later };
+      notes = notes;
+    }
 
 -- five lines without later words
-abbrev pub five_lines : Vec Later → List Line
-five_lines later =
-    line_by later 1 the_formula words.Assumption ∷ line_by later 2 the_formula words.Goal
-    ∷ line_by later 3 (content.Clause (literal true the_atom ∷ [])) (words.Clausify 1)
-    ∷ line_by later 4 (content.Clause (literal false the_atom ∷ [])) (words.Deny 2)
-    ∷ line_by later 5 (content.Clause [])
+abbrev pub five_lines : Vec Later → LineNotes → List Line
+five_lines later notes =
+    line_by later notes 1 the_formula words.Assumption ∷ line_by later notes 2 the_formula words.Goal
+    ∷ line_by later notes 3 (content.Clause (literal true the_atom ∷ [])) (words.Clausify 1)
+    ∷ line_by later notes 4 (content.Clause (literal false the_atom ∷ [])) (words.Deny 2)
+    ∷ line_by later notes 5 (content.Clause [])
     (words.Resolve 3 (record { place = 0; clause = 4; literal = 0 })) ∷ []
 
 abbrev pub five_texts : List ℕ
@@ -61,9 +67,9 @@ five_texts =
     ++ codes "4 -p(a).  [deny(2)].\n5 $F.  [resolve(3,a,4,a)].\n"
 
 -- they refute what is stated, this is their text, and it is read as these lines
-pub record WorkedRefutation (later : Vec Later) : Type 0 where
+pub record WorkedRefutation (later : Vec Later) (notes : LineNotes) : Type 0 where
   pub refute : IsRefutation assumed_and_wanted.formulas
-      (clauses_in_table two_symbols assumed_and_wanted) (lines_of (five_lines later))
-  pub text : lines_text worked_tables two_symbols false (five_lines later) ≡ five_texts
+      (clauses_in_table two_symbols assumed_and_wanted) (lines_of (five_lines later notes))
+  pub text : lines_text worked_tables two_symbols false (five_lines later notes) ≡ five_texts
   pub read : ReadsLines (row_tables standard_rows standard_rows) false two_symbols two_symbols
-      (five_lines later)
+      (five_lines later notes)

@@ -11,6 +11,7 @@ ghost use Rattle.ladr_problem.specs.Whole.{IsOf};
 ghost use Rattle.ladr_problem.specs.declared.read.FileRead.{FileRead};
 ghost use Rattle.printed_proofs.specs.Files.{HasFewSymbols, CanPrintFile};
 ghost use Rattle.printed_proofs.specs.Refutations.{ArePrintableRefutations, whole_text, ReadsRefutations};
+ghost use Rattle.derivation.specs.declared.line.LineNotes.{LineNotes};
 ghost use Rattle.derivation.specs.declared.words.Later.{Later};
 ghost use Rattle.printed_proofs.specs.WorkedLines.{WorkedRefutation};
 ghost use Rattle.printed_proofs.specs.Worked.{WorkedFrame, WorkedNoFrame, WorkedBlocks};
@@ -55,7 +56,8 @@ pub fn files_can_be_printed()
 
 /// A refutation of five lines, its text, and what this is read as, worked out.
 pub fn worked_refutation()
-    ensures { (later : Vec Later) → later.items ≡ [] → WorkedRefutation later }
+    ensures { (later : Vec Later) (notes : LineNotes) → later.items ≡ []
+        → WorkedRefutation later notes }
 {}
 
 /// A frame and three that are none, and blocks, worked out.

@@ -48,6 +48,7 @@ fn first_is_bounded(first: &First)
             number_is_short(*n);
             number_is_short(*a);
         }
+        First::Instantiate(n, _) => number_is_short(*n),
     }
 }
 

@@ -1,12 +1,14 @@
 -- How large conclusions are that aren't built.
-use Rattle.std.proofs.Common.{◌≡◌, ℕ, suc, ◌+◌, ◌-◌, ◌<◌, ◌≤◌, Bool, true, false, nat_eq, nat_lt, nat_le, ◌||◌, refl, sym, ap, ◌∙◌, arith}
+use Rattle.std.proofs.Common.{◌≡◌, ℕ, suc, ◌+◌, ◌-◌, ◌<◌, ◌≤◌, Bool, List, true, false, nat_eq, nat_lt, nat_le, ◌||◌, refl, sym, ap, ◌∙◌, arith}
 use Rattle.std.proofs.lemmas.Bool.{lt-ltb, ltb-true, le-ltb, ltb-false, eq-eqb, eqb-true, ne_eqb, eqb-false, le-leb, and_from}
 use Rattle.clause_limits.specs.Sizes.{clause_size, clause_depth}
 use Rattle.clause_limits.proofs.Numbered.{numbered_size, numbered_depth}
-use Rattle.derivation.specs.Lines.{ContentTree, formula, clause, IsClause}
+use Rattle.derivation.specs.Lines.{ContentTree, formula, clause, IsClause, instance_of}
 use Rattle.fol_core.specs.Literals.{ClauseTree}
 use Rattle.fol_core.specs.Renumbered.{renumbered}
 use Rattle.fol_core.specs.Sizes.{saturated}
+use Rattle.substitutions.specs.Bindings.{Binding, by_bindings}
+use Rattle.substitutions.specs.Instances.{substitute_clause}
 use Rattle.proof_check.specs.Bounds.{is_beyond, is_as_large, is_as_deep, may_be}
 
 pub too_deep : (c : ClauseTree) (d : ℕ) → d ≡ saturated (clause_depth c) → 4000 < d → is_beyond c ≡ true
@@ -48,6 +50,12 @@ module _ (c d : ClauseTree) (n : ℕ) where
 -- clauses that are the same, but for their variables, have one size
 pub same_sizes : (c d : ClauseTree) → renumbered c ≡ renumbered d → clause_size c ≡ clause_size d
 same_sizes c d same = sym (numbered_size c) ∙ ap clause_size same ∙ numbered_size d
+
+-- and so has an instance
+pub instance_sizes : (c : ClauseTree) (es : List Binding) (d : ClauseTree) → renumbered c ≡ renumbered (instance_of es d) → clause_size c ≡ clause_size (substitute_clause (by_bindings es) d)
+instance_sizes c es d same =
+    let made = substitute_clause (by_bindings es) d in
+    sym (numbered_size c) ∙ ap clause_size same ∙ numbered_size (renumbered made) ∙ numbered_size made
 
 -- a content that is the clause, but for its variables, has its size
 pub same_size : (content : ContentTree) (d : ClauseTree) → IsClause content (renumbered d) → may_be content d ≡ true

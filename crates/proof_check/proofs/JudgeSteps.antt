@@ -7,7 +7,7 @@ use Rattle.fol_core.specs.Tree.{trees_of}
 use Rattle.substitutions.specs.Instances.{substitute_clause}
 use Rattle.unifiers.specs.Unifier.{IsMostGeneral}
 use Rattle.derivation.specs.Apart.{lefts, rights}
-use Rattle.derivation.specs.Lines.{FirstWord, assumed, wanted, clausified, denied, copied, resolved, factored, paramodulated, xx_resolved}
+use Rattle.derivation.specs.Lines.{FirstWord, assumed, wanted, clausified, denied, copied, resolved, factored, paramodulated, xx_resolved, instantiated}
 use Rattle.substitutions.specs.Apart.{Own, instances, interleaved, apart_of}
 use Rattle.derivation.specs.Rule.{AreSame, Concludes}
 use Rattle.derivation.proofs.Conclusions.{IsNatural, copy_natural, clash_natural, factor_natural, xx_natural, para_natural}
@@ -24,6 +24,7 @@ rule_lawful (factored n a b) = factor_lawful a b
 rule_lawful (paramodulated n a side m b path) = para_lawful a side b path
 rule_lawful (xx_resolved n a) = xx_lawful a
 rule_lawful (copied n) = copy_lawful
+rule_lawful (instantiated n es) = copy_lawful
 rule_lawful assumed = copy_lawful
 rule_lawful wanted = copy_lawful
 rule_lawful (clausified n) = copy_lawful
@@ -35,6 +36,7 @@ rule_natural (factored n a b) = factor_natural a b
 rule_natural (paramodulated n a side m b path) = para_natural a side b path
 rule_natural (xx_resolved n a) = xx_natural a
 rule_natural (copied n) = copy_natural
+rule_natural (instantiated n es) = copy_natural
 rule_natural assumed = copy_natural
 rule_natural wanted = copy_natural
 rule_natural (clausified n) = copy_natural

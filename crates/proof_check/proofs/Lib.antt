@@ -8,6 +8,7 @@ mod EquationSteps
 mod FitSteps
 mod FollowSteps
 mod InferSteps
+mod InstanceSteps
 mod JudgeSteps
 mod LendSteps
 mod PlaceSteps

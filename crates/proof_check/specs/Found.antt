@@ -4,11 +4,12 @@ use Rattle.std.specs.List.{flat_map}
 use Rattle.fol_core.specs.Literals.{ClauseTree}
 use Rattle.fol_problem.specs.Stated.{Said}
 use Rattle.derivation.specs.Later.{LaterWord, later_parents}
-use Rattle.derivation.specs.Lines.{FirstWord, ContentTree, LineTree, InputRow, After, IsInferred, IsStated, IsInputOf, IsLine}
-use Rattle.derivation.specs.Refused.{Fails, are_there, InferenceFails, StatedFails, InputFails, LineFails, IsRefusedLine, IsAccepted}
+use Rattle.derivation.specs.Lines.{FirstWord, ContentTree, LineTree, InputRow, After, IsInferred, IsInstance, IsStated, IsInputOf, IsLine}
+use Rattle.derivation.specs.Refused.{Fails, are_there, InferenceFails, InstanceFails, StatedFails, InputFails, LineFails, IsRefusedLine, IsAccepted}
 use Rattle.derivation.specs.declared.row.Row.{Row}
 use Rattle.derivation.specs.declared.row.Row.TheVariants.{NoParent}
 use Rattle.proof_check.specs.Judged.{inference_by}
+use Rattle.substitutions.specs.Bindings.{Binding}
 
 -- of the words behind a clause; also where a clause that they take isn't there
 abbrev pub AfterAs : List LineTree → List LaterWord → ClauseTree → ContentTree → Option Row → Type 0
@@ -23,6 +24,12 @@ abbrev pub InferredAs : List LineTree → FirstWord → List LaterWord → Conte
 InferredAs ls w ws content o =
     MatchOption o (IsInferred ls (inference_by w) ws content)
     (λ row. InferenceFails ls (inference_by w) ws content row)
+
+-- and of an instance with its words
+abbrev pub InstanceAs : List LineTree → ℕ → List Binding → List LaterWord → ContentTree → Option Row →
+    Type 0
+InstanceAs ls n es ws content o =
+    MatchOption o (IsInstance ls n es ws content) (λ row. InstanceFails ls n es ws content row)
 
 -- of a formula
 abbrev pub StatedAs : Bool → List Said → List LaterWord → ContentTree → Option Row → Type 0

@@ -21,7 +21,7 @@ use Rattle.proof_check.specs.declared.judging.Judged.TheVariants.{Unfit, Apart, 
 abbrev pub clash_of : Satellite → Clash
 clash_of s = (s.place, s.literal)
 
--- the lines that a first word takes and its rule; of the four without a rule none, and any one
+-- the lines that a first word takes and its rule; of those without a rule none, and any one
 abbrev pub inference_by : FirstWord → Inference
 inference_by w = unwrap_or (inference_of w) (inference [] copy_rule)
 

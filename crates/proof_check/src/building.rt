@@ -252,5 +252,6 @@ pub fn build(alloc: Global, first: &First, parents: &[Clause]) -> Result<Pending
         First::Factor(_, a, b) => factor_pending(alloc, parents, *a, *b),
         First::Para(para) => para_pending(alloc, parents, para),
         First::XxRes(_, a) => xx_pending(alloc, parents, *a),
+        First::Instantiate(_, _) => copy_pending(alloc, parents),
     }
 }

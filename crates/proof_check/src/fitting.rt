@@ -133,5 +133,6 @@ pub fn fits(first: &First, parents: &[Clause]) -> bool
         First::Factor(_, a, b) => factor_fits(parents, *a, *b),
         First::Para(para) => para_rule_fits(parents, para),
         First::XxRes(_, a) => xx_fits(parents, *a),
+        First::Instantiate(_, _) => copy_fits(parents),
     }
 }

@@ -51,9 +51,9 @@ fn later_numbers(alloc: Global, word: &Later) -> Result<Vec<u64>, AllocError>
     Ok(numbers)
 }
 
-// Whether all clauses are there that words take.
+/// Whether all clauses are there that words take.
 #[tactic(auto, using(crate::proofs::InferSteps::later_missing, crate::proofs::InferSteps::later_on))]
-fn later_there(alloc: Global, earlier: &[Line], words: &[Later]) -> Result<bool, AllocError>
+pub fn later_there(alloc: Global, earlier: &[Line], words: &[Later]) -> Result<bool, AllocError>
     requires { AreRising (lines_of earlier.now) }
     ensures { IfOk result (λ there. there ≡ are_there (lines_of earlier.now)
         (flat_map later_parents (map later_of words.now))) }
@@ -67,9 +67,9 @@ fn later_there(alloc: Global, earlier: &[Line], words: &[Later]) -> Result<bool,
     Ok(true)
 }
 
-// Whether words lead from a clause to a content.
+/// Whether words lead from a clause to a content.
 #[tactic(auto, using(crate::proofs::InferSteps::following_start, crate::proofs::InferSteps::following_made, crate::proofs::InferSteps::following_misplaced, crate::proofs::InferSteps::following_differs, crate::proofs::InferSteps::following_missing, crate::proofs::InferSteps::following_ends, crate::proofs::InferSteps::following_other))]
-fn after(
+pub fn after(
     alloc: Global,
     earlier: &[Line],
     words: &[Later],
@@ -176,6 +176,7 @@ fn parent_numbers(alloc: Global, first: &First) -> Result<Vec<u64>, AllocError>
         First::Factor(n, _, _) => one_number(alloc, *n),
         First::Para(para) => two_numbers(alloc, para.from, para.into),
         First::XxRes(n, _) => one_number(alloc, *n),
+        First::Instantiate(_, _) => Ok(Vec::new(alloc)),
     }
 }
 

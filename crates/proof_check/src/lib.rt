@@ -10,7 +10,7 @@
 // A conclusion too large for a search, with no word behind it, is compared with the line's clause by size and levels
 // first, and not built where these differ. Else it is built up to a bound, as are the clauses that words make of it
 // (words can make a small clause of a large one); what is beyond counts as want of memory (`bounds.rt`); what a rule
-// puts in is counted first (`putting.rt`). Clauses are numbered for a comparison only where sizes are the same. A
+// puts in is counted first (`putting.rt`), and so is an instance (`instancing.rt`), which no rule makes. Clauses are numbered for a comparison only where sizes are the same. A
 // search calls `judge`, `judge_two`, `judge_many` or `can_clash`, and leaves too large a conclusion unbuilt.
 // `specs/Found` says what is found of a line, `Reached` how far lines are read, `Lent` what a unifier makes of lent
 // parents.
@@ -27,6 +27,7 @@ mod error;
 mod fitting;
 mod following;
 mod inferring;
+mod instancing;
 mod judging;
 mod lending;
 mod line;

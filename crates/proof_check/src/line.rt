@@ -7,6 +7,7 @@ ghost use Rattle.proof_check.specs.Found.{StatedAs, InputAs, LineAs, FoundAs};
 ghost use Rattle.proof_check.specs.Reached.{AreRising};
 
 use crate::inferring::infer;
+use crate::instancing::instantiate;
 use crate::stating::{is_formula_at, is_input_of, is_stated};
 use derivation::{First, Line, Row};
 use fol_core::Clause;
@@ -95,6 +96,16 @@ fn words(
         First::Factor(_, _, _) => infer(alloc, earlier, &line.just, &line.content),
         First::Para(_) => infer(alloc, earlier, &line.just, &line.content),
         First::XxRes(_, _) => infer(alloc, earlier, &line.just, &line.content),
+        First::Instantiate(n, subst) => {
+            instantiate(
+                alloc,
+                earlier,
+                *n,
+                subst,
+                line.just.steps.as_slice(),
+                &line.content,
+            )
+        }
     }
 }
 

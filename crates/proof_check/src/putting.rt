@@ -24,9 +24,9 @@ fn left_behind_bound(bindings: &Subst, x: u64, room: u64) -> Option<u64>
     room.checked_sub(1)
 }
 
-// The same of a term with terms put in.
+/// The same of a term with terms put in.
 #[tactic(auto, using(crate::proofs::PutSteps::none_left, crate::proofs::PutSteps::sizes_next, crate::proofs::PutSteps::sizes_end))]
-fn left_behind_put(bindings: &Subst, term: &Term, room: u64) -> Option<u64>
+pub fn left_behind_put(bindings: &Subst, term: &Term, room: u64) -> Option<u64>
     ensures { MatchOption result
         (room < size_of (substitute (by_bindings bindings.now) (tree_of term.now)))
         (λ left. left + size_of (substitute (by_bindings bindings.now) (tree_of term.now))

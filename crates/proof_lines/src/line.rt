@@ -13,7 +13,7 @@ use crate::operators::LineOperators;
 use crate::parts::{Behind, Parts, read_parts};
 use crate::stating::state;
 use crate::strays::ProblemNames;
-use derivation::Line;
+use derivation::{Line, LineNotes};
 use fol_core::Symbols;
 use fol_problem::Problem;
 use ladr_lex::Token;
@@ -56,6 +56,7 @@ pub fn read_line(
                         number,
                         content,
                         just,
+                        notes: LineNotes::none(alloc),
                     },
                     len: len + 1,
                 }),

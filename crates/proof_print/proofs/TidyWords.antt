@@ -9,7 +9,7 @@ use Rattle.ladr_lex.specs.Cuts.{is_run}
 use Rattle.ladr_lex.specs.Lexeme.{Lexeme, ordinary, open_paren, close_paren, open_square, comma, symbol}
 use Rattle.ladr_lex.proofs.Numerals.{ordinary_decimal}
 use Rattle.ladr_print.proofs.Writes.{Writes}
-use Rattle.proof_words.specs.Written.{Written, WrittenFirst, as_assumption, as_goal, by_clausify, by_deny, by_copy, by_back_rewrite, by_back_unit_del, by_resolve, by_hyper, by_ur, by_factor, by_para, by_xx_res}
+use Rattle.proof_words.specs.Written.{Written, WrittenFirst, as_assumption, as_goal, by_clausify, by_deny, by_copy, by_back_rewrite, by_back_unit_del, by_resolve, by_hyper, by_ur, by_factor, by_para, by_xx_res, by_instantiate}
 use Rattle.words_print.specs.Sayable.{IsShort, AreShort, AreShortSatellites, IsSayableFirst, IsSayableLater, AreSayable, IsSayable}
 use Rattle.words_print.specs.WordTokens.{literal_name, number_token, literal_token, in_parens, further_numbers, further_satellites, subterm_tokens, first_tokens, is_rewriting, later_tokens, between_words, further_tokens, words_tokens, words_text}
 use Rattle.proof_print.proofs.Joined.{Tidy, marked, tidy_append, tidy_written, word_tidy}
@@ -86,6 +86,7 @@ first_tidy (by_para n a side m b p) h =
     (para_tidy n a side m b p h.0 h.2 h.3 h.5.1)
 first_tidy (by_xx_res n a) h =
     call_tidy (codes "xx_res") (number_token n ∷ comma ∷ literal_token a ∷ []) refl (number_tidy n (comma ∷ literal_token a ∷ []) h.0 refl (inl refl, one_place_tidy a))
+first_tidy (by_instantiate n es) h = absurd h
 
 later_tidy : (l : LaterWord) → IsSayableLater l → Tidy (later_tokens l)
 unfolding is_ordinary

@@ -1,16 +1,17 @@
 -- The words of a line as they are written.
 use Rattle.std.specs.Prelude.{ℕ, Bool, true, false, not, List, [], ◌∷◌, map}
 use Rattle.derivation.specs.Later.{LaterWord}
-use Rattle.derivation.specs.Lines.{FirstWord, assumed, wanted, clausified, denied, copied, resolved, factored, paramodulated, xx_resolved}
+use Rattle.derivation.specs.Lines.{FirstWord, assumed, wanted, clausified, denied, copied, resolved, factored, paramodulated, xx_resolved, instantiated}
 use Rattle.derivation.specs.View.{later_of}
 use Rattle.derivation.specs.declared.line.Just.{Just}
 use Rattle.derivation.specs.declared.words.First.{First}
-use Rattle.derivation.specs.declared.words.First.TheVariants.{Assumption, Goal, Clausify, Deny, Copy, BackRewrite, BackUnitDel, Resolve, Hyper, Ur, Factor, Para, XxRes}
+use Rattle.derivation.specs.declared.words.First.TheVariants.{Assumption, Goal, Clausify, Deny, Copy, BackRewrite, BackUnitDel, Resolve, Hyper, Ur, Factor, Para, XxRes, Instantiate}
 use Rattle.derivation.specs.declared.words.Satellite.{Satellite}
 use Rattle.proof_words.specs.declared.names.ContentKind.{ContentKind}
 use Rattle.proof_words.specs.declared.names.ContentKind.TheVariants.{Formula, Clause, Either}
+use Rattle.substitutions.specs.Bindings.{Binding}
 
--- the first word with its numbers, places, side and path
+-- the first word with its numbers, places, side, path and terms; no text has `by_instantiate` yet
 pub data WrittenFirst : Type 0 where
   as_assumption : WrittenFirst
   as_goal : WrittenFirst
@@ -25,6 +26,7 @@ pub data WrittenFirst : Type 0 where
   by_factor : ℕ → ℕ → ℕ → WrittenFirst
   by_para : ℕ → ℕ → ℕ → ℕ → ℕ → List ℕ → WrittenFirst
   by_xx_res : ℕ → ℕ → WrittenFirst
+  by_instantiate : ℕ → List Binding → WrittenFirst
 
 -- all words of a line
 pub record Written : Type 0 where
@@ -65,6 +67,7 @@ written_first (Ur n ss) = by_ur n ss.items
 written_first (Factor n a b) = by_factor n a b
 written_first (Para p) = by_para p.from p.equation p.side p.into p.literal p.path.items
 written_first (XxRes n a) = by_xx_res n a
+written_first (Instantiate n s) = by_instantiate n s
 
 abbrev pub written_of : Just → Written
 written_of j = written (written_first j.first) (map later_of j.steps.items)
@@ -84,3 +87,4 @@ meant (by_ur n ss) = resolved n ss
 meant (by_factor n a b) = factored n a b
 meant (by_para n a side m b path) = paramodulated n a side m b path
 meant (by_xx_res n a) = xx_resolved n a
+meant (by_instantiate n es) = instantiated n es

@@ -6,7 +6,7 @@ ghost use Rattle.proof_words.specs.Written.{written_first};
 ghost use Rattle.prover_proofs.specs.SearchLines.{role_at, clausal_word_at, clausal_line, numbered_line};
 
 use clause_store::{copy_just, copy_label};
-use derivation::{Content, First, Just, Line};
+use derivation::{Content, First, Just, Line, LineNotes};
 use fol_core::Clause;
 use fol_problem::{Input, Role};
 use held_clauses::MadeLine;
@@ -59,6 +59,7 @@ pub fn formula_line(alloc: Global, number: u64, input: &Input) -> Result<Line, A
             first,
             steps: Vec::new(alloc),
         },
+        notes: LineNotes::none(alloc),
     })
 }
 
@@ -80,6 +81,7 @@ pub fn clausal_line(
             first,
             steps: Vec::new(alloc),
         },
+        notes: LineNotes::none(alloc),
     })
 }
 
@@ -93,5 +95,6 @@ pub fn numbered_line(alloc: Global, number: u64, line: &MadeLine) -> Result<Line
         number,
         content: Content::Clause(clause),
         just,
+        notes: LineNotes::none(alloc),
     })
 }

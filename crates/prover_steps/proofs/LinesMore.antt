@@ -6,7 +6,8 @@ use Rattle.std.specs.Option.{option_and_then}
 use Rattle.fol_core.specs.Literals.{ClauseTree}
 use Rattle.fol_problem.specs.Stated.{Said}
 use Rattle.derivation.specs.Later.{LaterWord}
-use Rattle.derivation.specs.Lines.{FirstWord, assumed, wanted, clausified, denied, copied, resolved, factored, paramodulated, xx_resolved, Inference, copy_inference, clash_inference, factor_inference, para_inference, xx_inference, InputRow, LineTree, ContentTree, line_at, content_clause, clause_at, AreClauses, After, IsInferred, IsInputOf, IsAbove, IsLine, AreLines}
+use Rattle.substitutions.specs.Bindings.{Binding}
+use Rattle.derivation.specs.Lines.{FirstWord, assumed, wanted, clausified, denied, copied, resolved, factored, paramodulated, xx_resolved, instantiated, Inference, copy_inference, clash_inference, factor_inference, para_inference, xx_inference, InputRow, LineTree, ContentTree, line_at, content_clause, clause_at, AreClauses, After, IsInferred, IsInstance, IsInputOf, IsAbove, IsLine, AreLines}
 
 pub line_there : (ls more : List LineTree) (n : ℕ) (l : LineTree) → line_at ls n ≡ Some l → line_at (ls ++ more) n ≡ Some l
 line_there [] more n l h = cc
@@ -44,6 +45,9 @@ module _ (ls more : List LineTree) where
   inferred_there : (i : Inference) (ws : List LaterWord) (content : ContentTree) → IsInferred ls i ws content → IsInferred (ls ++ more) i ws content
   inferred_there i ws content (ps, d, are, fits, concludes, after) = (ps, d, clauses_there i.parents ps are, fits, concludes, after_there ws d content after)
 
+  instance_there : (n : ℕ) (es : List Binding) (ws : List LaterWord) (content : ContentTree) → IsInstance ls n es ws content → IsInstance (ls ++ more) n es ws content
+  instance_there n es ws content (c, at, after) = (c, clause_there ls more n c at, after_there ws _ content after)
+
   module _ (ss : List Said) (rows : List InputRow) where
     input_there : (goal : Bool) (n : ℕ) (content : ContentTree) → IsInputOf ss rows ls goal n content → IsInputOf ss rows (ls ++ more) goal n content
     input_there goal n content (f, (l, at, is, word), among) = (f, (l, line_there ls more n l at, is, word), among)
@@ -59,6 +63,7 @@ module _ (ls more : List LineTree) where
     line_stays (factored n a b) ws content is = inferred_there (factor_inference n a b) ws content is
     line_stays (paramodulated n a side m b path) ws content is = inferred_there (para_inference n a side m b path) ws content is
     line_stays (xx_resolved n a) ws content is = inferred_there (xx_inference n a) ws content is
+    line_stays (instantiated n es) ws content is = instance_there n es ws content is
 
 module _ (ss : List Said) (rows : List InputRow) where
   -- a line with a number above all others goes behind them

@@ -6,7 +6,7 @@ use Rattle.fol_core.specs.Literals.{ClauseTree}
 use Rattle.fol_problem.specs.Stated.{Said}
 use Rattle.fol_core.specs.Tree.{Tree}
 use Rattle.derivation.specs.Later.{LaterWord, is_unit}
-use Rattle.derivation.specs.Lines.{FirstWord, assumed, wanted, clausified, denied, copied, resolved, factored, paramodulated, xx_resolved, Inference, InputRow, LineTree, ContentTree, inference_of, AreClauses, IsInferred, IsLine}
+use Rattle.derivation.specs.Lines.{FirstWord, assumed, wanted, clausified, denied, copied, resolved, factored, paramodulated, xx_resolved, instantiated, Inference, InputRow, LineTree, ContentTree, inference_of, AreClauses, IsInferred, IsLine}
 use Rattle.derivation.specs.Rule.{Concludes}
 use Rattle.derivation.specs.declared.words.Satellite.{Satellite}
 use Rattle.proof_words.specs.Written.{WrittenFirst, meant, satellite, by_resolve, by_hyper, by_ur, by_factor, by_para, by_xx_res}
@@ -23,6 +23,7 @@ is_line ss rows ls assumed i ws content is from = cc
 is_line ss rows ls wanted i ws content is from = cc
 is_line ss rows ls (clausified n) i ws content is from = cc
 is_line ss rows ls (denied n) i ws content is from = cc
+is_line ss rows ls (instantiated n es) i ws content is from = cc
 is_line ss rows ls (copied n) i ws content is from = subst (λ i. IsInferred ls i ws content) (ap (λ o. option_map_or (λ i. i) o i) (sym is)) from
 is_line ss rows ls (resolved n s) i ws content is from = subst (λ i. IsInferred ls i ws content) (ap (λ o. option_map_or (λ i. i) o i) (sym is)) from
 is_line ss rows ls (factored n a b) i ws content is from = subst (λ i. IsInferred ls i ws content) (ap (λ o. option_map_or (λ i. i) o i) (sym is)) from

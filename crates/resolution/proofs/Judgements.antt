@@ -4,11 +4,11 @@ use Rattle.std.proofs.lemmas.List.{append-nil, map-append}
 use Rattle.std.specs.Option.{option_map}
 use Rattle.fol_core.specs.Literals.{ClauseTree}
 use Rattle.substitutions.specs.Apart.{Own}
-use Rattle.derivation.specs.Lines.{FirstWord, assumed, wanted, clausified, denied, copied, resolved, factored, paramodulated, xx_resolved, Inference, inference_of}
+use Rattle.derivation.specs.Lines.{FirstWord, assumed, wanted, clausified, denied, copied, resolved, factored, paramodulated, xx_resolved, instantiated, Inference, inference_of}
 use Rattle.derivation.specs.Rule.{UnifiesFamily, Concludes, InferenceRule}
 use Rattle.derivation.specs.View.{first_word_of}
 use Rattle.derivation.specs.declared.words.First.{First}
-use Rattle.derivation.specs.declared.words.First.TheVariants.{Assumption, Goal, Clausify, Deny, Copy, BackRewrite, BackUnitDel, Resolve, Hyper, Ur, Factor, Para, XxRes}
+use Rattle.derivation.specs.declared.words.First.TheVariants.{Assumption, Goal, Clausify, Deny, Copy, BackRewrite, BackUnitDel, Resolve, Hyper, Ur, Factor, Para, XxRes, Instantiate}
 use Rattle.proof_check.specs.Judged.{rule_by}
 use Rattle.proof_words.specs.Written.{written_first}
 use Rattle.prover_steps.specs.Concluded.{Conclusion, concluded, conclusion_by, inferred, left_under, unifying}
@@ -34,6 +34,7 @@ has_rule assumed = record { word = copied 0; by = _; has = refl; is = refl }
 has_rule wanted = record { word = copied 0; by = _; has = refl; is = refl }
 has_rule (clausified n) = record { word = copied n; by = _; has = refl; is = refl }
 has_rule (denied n) = record { word = copied n; by = _; has = refl; is = refl }
+has_rule (instantiated n es) = record { word = copied n; by = _; has = refl; is = refl }
 
 -- it doesn't fit
 pub judged_unfit : (w : FirstWord) (cs : List ClauseTree) → (rule_by w).fits cs ≡ false → None ≡ concluded (rule_by w) cs
@@ -67,6 +68,7 @@ inferred_by Assumption cs o has is = cc
 inferred_by Goal cs o has is = cc
 inferred_by (Clausify n) cs o has is = cc
 inferred_by (Deny n) cs o has is = cc
+inferred_by (Instantiate n s) cs o has is = cc
 
 pub inferred_one : (f : First) (cs : List ClauseTree) (c : Concluded) (old new : List declared.Conclusion) → IsSome (inference_of (first_word_of f)) → Some (clause_of c) ≡ concluded (rule_by (first_word_of f)) cs
     → new ≡ old ++ record { clause = c; first = f } ∷ [] → all_conclusions new ≡ all_conclusions old ++ inferred (written_first f) cs

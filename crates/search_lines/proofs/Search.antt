@@ -15,7 +15,7 @@ use Rattle.search_lines.proofs.Several.{kept_pass, all_mapped_each}
 use Rattle.search_lines.proofs.Words.{tidied_words}
 use Rattle.search_lines.specs.Shapes.{IsFitClause, IsFitLater, IsFitLine, IsFitSource, IsFitQueued, IsFitState}
 use Rattle.proof_words.specs.Spelling.{takes_steps}
-use Rattle.proof_words.specs.Written.{WrittenFirst, states_formula, as_assumption, as_goal, by_clausify, by_deny, by_copy, satellite, by_back_rewrite, by_back_unit_del, by_resolve, by_hyper, by_ur, by_factor, by_para, by_xx_res}
+use Rattle.proof_words.specs.Written.{WrittenFirst, states_formula, as_assumption, as_goal, by_clausify, by_deny, by_copy, satellite, by_back_rewrite, by_back_unit_del, by_resolve, by_hyper, by_ur, by_factor, by_para, by_xx_res, by_instantiate}
 use Rattle.prover_steps.proofs.Lists.{all_append, all_mapped, all_flat, all_both}
 use Rattle.prover_steps.specs.Clashing.{Held}
 use Rattle.prover_steps.specs.Concluded.{Conclusion, inferred}
@@ -41,6 +41,7 @@ takes_clause (by_ur n ss) h = refl
 takes_clause (by_factor n a b) h = refl
 takes_clause (by_para n a side m b path) h = refl
 takes_clause (by_xx_res n a) h = refl
+takes_clause (by_instantiate n es) h = refl
 
 -- a line under any number
 abbrev MakesFit : Queued → Type 0

@@ -7,7 +7,7 @@ use Rattle.fol_core.specs.Literals.{ClauseTree}
 use Rattle.fol_core.specs.Renumbered.{renumbered}
 use Rattle.fol_problem.specs.Stated.{Said}
 use Rattle.proof_words.specs.Spelling.{takes_steps}
-use Rattle.proof_words.specs.Written.{WrittenFirst, states_formula, as_assumption, as_goal, by_clausify, by_deny, by_copy, by_back_rewrite, by_back_unit_del, by_resolve, by_hyper, by_ur, by_factor, by_para, by_xx_res}
+use Rattle.proof_words.specs.Written.{WrittenFirst, states_formula, as_assumption, as_goal, by_clausify, by_deny, by_copy, by_back_rewrite, by_back_unit_del, by_resolve, by_hyper, by_ur, by_factor, by_para, by_xx_res, by_instantiate}
 use Rattle.prover_steps.specs.Searching.{Setting, Queued, MadeLine, SearchState, clause_depth, next_state, SearchReaches}
 use Rattle.prover_steps.specs.Starting.{start_state}
 
@@ -16,7 +16,7 @@ pub record IsFitClause (c : ClauseTree) : Type 0 where
   pub numbered : renumbered c ≡ c
   pub levels : clause_depth c ≤ 1000
 
--- a nucleus has a satellite, and a path has a number
+-- a nucleus has a satellite, and a path has a number; no search puts terms in
 abbrev pub IsFitFirst : WrittenFirst → Type 0
 IsFitFirst as_assumption = Unit {0}
 IsFitFirst as_goal = Unit {0}
@@ -31,6 +31,7 @@ IsFitFirst (by_ur n ss) = 0 < length ss
 IsFitFirst (by_factor n a b) = Unit {0}
 IsFitFirst (by_para n a side m b path) = 0 < length path
 IsFitFirst (by_xx_res n a) = Unit {0}
+IsFitFirst (by_instantiate n es) = ⊥
 
 -- so it has behind the first word
 abbrev pub IsFitLater : LaterWord → Type 0

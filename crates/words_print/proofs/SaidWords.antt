@@ -9,7 +9,7 @@ use Rattle.ladr_lex.specs.Lexeme.{Lexeme, open_paren, close_paren, open_square, 
 use Rattle.ladr_lex.proofs.Numerals.{whole_decimal}
 use Rattle.proof_words.specs.Names.{place_named}
 use Rattle.proof_words.specs.Spelling.{Spelling, passed_then, satellites, path, rewritings, words, number_then, place_then, one_clash, clash, paramodulation, satellite_then, subterm_then, behind_first_word, alone, behind_satellites, behind_path, behind_rewritings, line_words, takes_steps, words_outcome, reads, stops, SaysWords}
-use Rattle.proof_words.specs.Written.{Written, WrittenFirst, written, satellite, as_assumption, as_goal, by_clausify, by_deny, by_copy, by_back_rewrite, by_back_unit_del, by_resolve, by_hyper, by_ur, by_factor, by_para, by_xx_res}
+use Rattle.proof_words.specs.Written.{Written, WrittenFirst, written, satellite, as_assumption, as_goal, by_clausify, by_deny, by_copy, by_back_rewrite, by_back_unit_del, by_resolve, by_hyper, by_ur, by_factor, by_para, by_xx_res, by_instantiate}
 use Rattle.proof_words.specs.declared.class.TokenClass.TheVariants.{Open, Close, Comma}
 use Rattle.proof_words.specs.declared.names.ContentKind.TheVariants.{Either}
 use Rattle.words_print.specs.Sayable.{IsShort, AreShort, IsSayablePath, IsShortSatellite, AreShortSatellites, IsSayableClash, IsSayableFirst, IsSayableLater, AreSayable, IsSayable}
@@ -125,6 +125,7 @@ first_said (by_para n a side m b p) h ts = para_said n a side m b p h ts
 first_said (by_xx_res n a) h ts =
     number_said n h.0 (λ m. wants_comma (place_then (λ c. wants_close (behind_first_word (by_xx_res m c))))) (comma ∷ literal_token a ∷ close_paren ∷ ts)
     ∙ place_said a h.1 (λ c. wants_close (behind_first_word (by_xx_res n c))) (close_paren ∷ ts)
+first_said (by_instantiate n es) h ts = absurd h
 
 -- `rewrite([..])` goes on, or other words do
 abbrev going_on : Bool → WrittenFirst → List LaterWord → Spelling

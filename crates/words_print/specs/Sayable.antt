@@ -3,7 +3,7 @@ use Rattle.std.specs.Prelude.{◌≡◌, ℕ, ◌<◌, ◌^◌, false, List, [],
 use Rattle.derivation.specs.Later.{LaterWord, flipped, merged, reflexive, unit_deleted, rewritten}
 use Rattle.derivation.specs.declared.words.Satellite.{Satellite}
 use Rattle.proof_words.specs.Spelling.{takes_steps}
-use Rattle.proof_words.specs.Written.{Written, WrittenFirst, as_assumption, as_goal, by_clausify, by_deny, by_copy, by_back_rewrite, by_back_unit_del, by_resolve, by_hyper, by_ur, by_factor, by_para, by_xx_res}
+use Rattle.proof_words.specs.Written.{Written, WrittenFirst, as_assumption, as_goal, by_clausify, by_deny, by_copy, by_back_rewrite, by_back_unit_del, by_resolve, by_hyper, by_ur, by_factor, by_para, by_xx_res, by_instantiate}
 
 -- at most 18,446,744,073,709,551,615
 abbrev pub IsShort : ℕ → Type 0
@@ -28,6 +28,7 @@ AreShortSatellites (s ∷ ss) = IsShortSatellite s × AreShortSatellites ss
 abbrev pub IsSayableClash : ℕ → List Satellite → Type 0
 IsSayableClash n ss = IsShort n × (0 < length ss) × AreShortSatellites ss
 
+-- a word with terms can't be said yet
 abbrev pub IsSayableFirst : WrittenFirst → Type 0
 IsSayableFirst as_assumption = Unit {0}
 IsSayableFirst as_goal = Unit {0}
@@ -43,6 +44,7 @@ IsSayableFirst (by_factor n a b) = IsShort n × IsShort a × IsShort b
 IsSayableFirst (by_para n a side m b path) =
     IsShort n × IsShort a × IsShort side × IsShort m × IsShort b × IsSayablePath path
 IsSayableFirst (by_xx_res n a) = IsShort n × IsShort a
+IsSayableFirst (by_instantiate n es) = ⊥
 
 abbrev pub IsSayableLater : LaterWord → Type 0
 IsSayableLater (flipped a) = IsShort a

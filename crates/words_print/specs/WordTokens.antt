@@ -5,7 +5,7 @@ use Rattle.std.specs.Fmt.{decimal}
 use Rattle.derivation.specs.Later.{LaterWord, flipped, merged, reflexive, unit_deleted, rewritten}
 use Rattle.derivation.specs.declared.words.Satellite.{Satellite}
 use Rattle.ladr_lex.specs.Lexeme.{Lexeme, ordinary, open_paren, close_paren, open_square, close_square, comma, full_stop, symbol, unreadable}
-use Rattle.proof_words.specs.Written.{Written, WrittenFirst, as_assumption, as_goal, by_clausify, by_deny, by_copy, by_back_rewrite, by_back_unit_del, by_resolve, by_hyper, by_ur, by_factor, by_para, by_xx_res}
+use Rattle.proof_words.specs.Written.{Written, WrittenFirst, as_assumption, as_goal, by_clausify, by_deny, by_copy, by_back_rewrite, by_back_unit_del, by_resolve, by_hyper, by_ur, by_factor, by_para, by_xx_res, by_instantiate}
 
 -- a number's letters, as digits of 26 that count from 1, in so many steps at most
 abbrev pub letters_within : ℕ → ℕ → List ℕ
@@ -48,7 +48,7 @@ further_satellites (s ∷ ss) =
 abbrev pub subterm_tokens : ℕ → ℕ → List ℕ → List Lexeme
 subterm_tokens n a path = number_token n ∷ in_parens (literal_token a ∷ further_numbers path)
 
--- the first word
+-- the first word; its terms have no text yet, so that `instantiate` is no word that can be said
 abbrev pub first_tokens : WrittenFirst → List Lexeme
 first_tokens as_assumption = word_token "assumption" ∷ []
 first_tokens as_goal = word_token "goal" ∷ []
@@ -68,6 +68,7 @@ first_tokens (by_para n a side m b path) =
     ∷ (in_parens (literal_token a ∷ comma ∷ number_token side ∷ [])
     ++ (comma ∷ subterm_tokens m b path)))
 first_tokens (by_xx_res n a) = word_with "xx_res" (number_token n ∷ comma ∷ literal_token a ∷ [])
+first_tokens (by_instantiate n es) = word_with "instantiate" (number_token n ∷ [])
 
 abbrev pub is_rewriting : LaterWord → Bool
 is_rewriting (rewritten n a path) = true

@@ -39,6 +39,7 @@ fn first_word(out: &mut Vec<u8>, first: &First) -> Result<(), AllocError>
         First::Factor(n, a, b) => factor(out, *n, *a, *b),
         First::Para(step) => para(out, step),
         First::XxRes(n, a) => xx_res(out, *n, *a),
+        First::Instantiate(n, _) => number_word(out, b"instantiate", *n),
     }
 }
 

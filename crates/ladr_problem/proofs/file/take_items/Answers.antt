@@ -1,10 +1,9 @@
 use Rattle.std.proofs.Common.{List, sym, subst}
-use Rattle.ladr_lex.specs.Cuts.{Piece, pieces_of}
+use Rattle.ladr_lex.specs.Cuts.{Piece}
 use Rattle.ladr_lex.specs.Lexed.{lexed_from}
-use Rattle.ladr_lex.specs.declared.token.Token.{Token}
 use Rattle.ladr_problem.specs.Draft.{sofar_of}
 use Rattle.ladr_problem.specs.File.{File}
-use Rattle.ladr_problem.specs.Items.{items_of, in_front, tokens_of}
+use Rattle.ladr_problem.specs.Items.{items_of, tokens_of}
 use Rattle.ladr_problem.specs.Stops.{IsStop}
 use Rattle.ladr_problem.proofs.CutLemmas.{items_ahead, no_items}
 use Rattle.ladr_problem.proofs.Files.{stop_along}

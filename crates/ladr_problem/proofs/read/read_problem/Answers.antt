@@ -1,4 +1,4 @@
-use Rattle.std.proofs.Common.{◌≡◌, ◌≤◌, ◌∙◌, List, length, is_some, ap, sym, subst}
+use Rattle.std.proofs.Common.{◌≡◌, ◌≤◌, List, length, ap, sym, subst, arith}
 use Rattle.ladr_formulas.specs.declared.styles.Mode.{Mode}
 use Rattle.fol_problem.specs.Stated.{AreWellFormed, all_said}
 use Rattle.fol_core.specs.SymbolTable.{Symbol}
@@ -19,8 +19,9 @@ use Rattle.ladr_problem.specs.Whole.{IsFinished}
 use Rattle.ladr_problem.proofs.Files.{stop_along}
 use Rattle.ladr_problem.proofs.Endings.{has_interpretation}
 use Rattle.ladr_problem.proofs.Good.{grown_proper, said_same}
-use Rattle.ladr_problem.proofs.Growing.{says_grows}
+use Rattle.ladr_problem.proofs.Growing.{grown_single, says_grows}
 use Rattle.ladr_problem.specs.Growth.{Grown}
+use Rattle.ladr_problem.proofs.Live.{are_live}
 use Rattle.ladr_problem.proofs.Readings.{says_of, placed_error}
 use Rattle.ladr_problem.proofs.read.read_problem.Goals as goal
 
@@ -51,11 +52,15 @@ returns-in-Ok-take_file-clause-tellable c = subst AreTellable (sym c.finish.ensu
 pub returns-in-Ok-take_file-clause-ranged : goal.returns-in-Ok-take_file-clause-ranged
 returns-in-Ok-take_file-clause-ranged c = subst AreInRange (sym c.finish.ensures.of.options) (proper c).ranged
 
+pub returns-in-Ok-take_file-clause-asks : goal.returns-in-Ok-take_file-clause-asks
+returns-in-Ok-take_file-clause-asks c = are_live c.args.program (sofar_of c.take_file.new.draft) (grown c) c.finish.result.problem.inputs.items c.finish.ensures.of.formulas
+
 pub returns-in-Ok-take_file-clause-interpreted : goal.returns-in-Ok-take_file-clause-interpreted
 returns-in-Ok-take_file-clause-interpreted c = λ tests.
     let f = finished c in
-    let there = has_interpretation (length c.args.bytes.now) f.0 (sofar_of c.take_file.new.draft) (subst (λ (m : Mode). file.at_file_end m (length c.args.bytes.now) f.0 ≡ problem (sofar_of c.take_file.new.draft)) tests f.2) in
-    ap is_some c.finish.ensures.of.interpretation ∙ there
+    let s = sofar_of c.take_file.new.draft in
+    let some = has_interpretation (length c.args.bytes.now) f.0 s (subst (λ (m : Mode). file.at_file_end m (length c.args.bytes.now) f.0 ≡ problem s) tests f.2) in
+    omega (arith, some, grown_single c.args.program s (grown c), ap length c.finish.ensures.of.interpretations)
 
 pub returns-in-Ok-take_file-clause-well_formed : goal.returns-in-Ok-take_file-clause-well_formed
 returns-in-Ok-take_file-clause-well_formed c =

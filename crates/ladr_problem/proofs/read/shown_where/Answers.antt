@@ -1,7 +1,6 @@
-use Rattle.std.proofs.Common.{◌≡◌, ◌∙◌, List, ℕ, sym, arith, subst}
+use Rattle.std.proofs.Common.{◌≡◌, List, ℕ, sym, arith, subst}
 use Rattle.std.specs.Prelude.{IfOk}
 use Rattle.ladr_problem.specs.Items.{tokens_of}
-use Rattle.ladr_problem.specs.Places.{shown_at}
 use Rattle.ladr_problem.proofs.TextEnds.{none_shown}
 use Rattle.ladr_problem.proofs.read.shown_where.Goals as goal
 

@@ -4,6 +4,6 @@ use Rattle.printed_proofs.proofs.WorkedOut.{refuted, texts_are, lines_back}
 use Rattle.printed_proofs.proofs.laws.worked_refutation.Goals as goal
 
 pub returns : goal.returns
-returns _ = λ later none.
+returns _ = λ later notes none.
     let words = ap (map later_of) none in
-    record { refute = refuted (map later_of later.items) words; text = texts_are later words; read = lines_back later words }
+    record { refute = refuted (map later_of later.items) words; text = texts_are later notes words; read = lines_back later notes words }

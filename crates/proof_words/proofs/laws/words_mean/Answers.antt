@@ -1,7 +1,7 @@
 use Rattle.std.proofs.Common.{◌≡◌, refl}
 use Rattle.derivation.specs.View.{first_word_of}
 use Rattle.derivation.specs.declared.words.First.{First}
-use Rattle.derivation.specs.declared.words.First.TheVariants.{Assumption, Goal, Clausify, Deny, Copy, BackRewrite, BackUnitDel, Resolve, Hyper, Ur, Factor, Para, XxRes}
+use Rattle.derivation.specs.declared.words.First.TheVariants.{Assumption, Goal, Clausify, Deny, Copy, BackRewrite, BackUnitDel, Resolve, Hyper, Ur, Factor, Para, XxRes, Instantiate}
 use Rattle.proof_words.specs.Written.{written_first, meant}
 use Rattle.proof_words.proofs.laws.words_mean.Goals as goal
 
@@ -19,6 +19,7 @@ mean (Ur n ss) = refl
 mean (Factor n a b) = refl
 mean (Para p) = refl
 mean (XxRes n a) = refl
+mean (Instantiate n s) = refl
 
 pub returns : goal.returns
 returns _ = mean
