@@ -1,0 +1,12 @@
+pub mod Changed
+pub mod ClashSteps
+pub mod Few
+pub mod FitSteps
+pub mod InstanceSteps
+pub mod JudgeSteps
+pub mod LeaveSteps
+pub mod MeasureSteps
+pub mod OneSteps
+pub mod ParaSteps
+pub mod RuleSteps
+pub mod WriteSteps

@@ -1,0 +1,10 @@
+-- The first literals are written.
+use Rattle.std.proofs.Common.{take}
+use Rattle.substitutions.specs.Bindings.{by_bindings}
+use Rattle.inference.specs.Left.{all_left, left_clause}
+use Rattle.inference.proofs.WriteSteps.{AreLiterals}
+use Rattle.term_classes.specs.Renamed.{own_among}
+use Rattle.inference.proofs.building.built.Given as goal
+
+abbrev pub invariant-loop-one : goal.invariant-loop-one
+invariant-loop-one l = AreLiterals l.numbers (left_clause (own_among l.many (by_bindings l.unifier)) (all_left (take l.one-index l.left))) l.made

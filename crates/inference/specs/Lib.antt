@@ -1,0 +1,6 @@
+pub mod Instance
+pub mod Judged
+pub mod Left
+pub mod Lent
+pub mod Measured
+pub mod Owned
