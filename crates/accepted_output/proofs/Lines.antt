@@ -8,7 +8,7 @@ use Rattle.derivation.specs.declared.line.Content.{Content}
 use Rattle.derivation.specs.declared.line.Content.TheVariants.{Formula, Clause}
 use Rattle.derivation.specs.declared.line.Line.{Line}
 use Rattle.derivation.specs.declared.words.First.{First}
-use Rattle.derivation.specs.declared.words.First.TheVariants.{Assumption, Goal, Clausify, Deny, Copy, BackRewrite, BackUnitDel, Resolve, Hyper, Ur, Factor, Para, XxRes}
+use Rattle.derivation.specs.declared.words.First.TheVariants.{Assumption, Goal, Clausify, Deny, Copy, BackRewrite, BackUnitDel, Resolve, Hyper, Ur, Factor, Para, XxRes, Instantiate}
 use Rattle.fol_core.specs.Literals.{ClauseTree, equality}
 use Rattle.fol_core.specs.Renumbered.{renumbered}
 use Rattle.fol_problem.specs.Stated.{Said}
@@ -21,13 +21,13 @@ use Rattle.ladr_print.specs.HasText.{HasText}
 use Rattle.ladr_problem.specs.declared.read.FileRead.{FileRead}
 use Rattle.ladr_rules.specs.Attributes.{attributed, label_of}
 use Rattle.printed_proofs.specs.LineBounds.{IsBoundedContent, IsBoundedLine}
-use Rattle.derivation_laws.specs.Signatures.{Signature, RowsAreIn, ContentIsIn, LinesAreIn}
-use Rattle.search_lines.specs.Shapes.{IsFitLine}
+use Rattle.derivation_laws.specs.Signatures.{Signature, RowsAreIn, ContentIsIn, LinesAreIn, PutsIn, LinesPutIn}
+use Rattle.search_lines.specs.Shapes.{IsFitFirst, IsFitLine}
 use Rattle.printed_proofs.specs.Files.{full_table, may_be_used, IsClauseOfFile, CanPrintFile}
 use Rattle.proof_lines.specs.Stated.{is_too_deep, line_made, line_misuse}
 use Rattle.proof_print.specs.LineTexts.{formula_term}
 use Rattle.proof_print.specs.Reread.{row_tables, IsPrintableContent, states_content, IsPrintableLine, ArePrintable}
-use Rattle.proof_words.specs.Written.{states_formula, written_first, written_of, meant, by_clausify, by_deny, as_assumption, as_goal}
+use Rattle.proof_words.specs.Written.{WrittenFirst, states_formula, written_first, written_of, meant, as_assumption, as_goal, by_clausify, by_deny, by_copy, by_back_rewrite, by_back_unit_del, by_resolve, by_hyper, by_ur, by_factor, by_para, by_xx_res, by_instantiate}
 use Rattle.prover_proofs.specs.SearchLines.{clausal_lines, stated_lines, made_plain, lines_at, role_at}
 use Rattle.prover_steps.proofs.Lists.{all_append}
 use Rattle.prover_steps.specs.Searching.{MadeLine, SearchState, clause_depth}
@@ -50,6 +50,7 @@ means (Ur n ss) = refl
 means (Factor n a b) = refl
 means (Para p) = refl
 means (XxRes n a) = refl
+means (Instantiate n s) = refl
 
 says : (c : Content) → content_tree (plain_content c) ≡ content_of c
 says (Formula f label) = refl
@@ -89,6 +90,27 @@ pub record IsFitPlain (xs : List Input) (l : PlainLine) : Type 0 where
   pub suits : states_formula l.words.first ≡ states_plain l.content
   pub words : AreFit l.words
   pub content : IsFitContent xs l.content
+
+-- such words put no terms in
+first_puts_in : (g : Signature) (w : WrittenFirst) → IsFitFirst w → PutsIn g (meant w)
+first_puts_in g as_assumption fit = tt
+first_puts_in g as_goal fit = tt
+first_puts_in g (by_clausify n) fit = tt
+first_puts_in g (by_deny n) fit = tt
+first_puts_in g (by_copy n) fit = tt
+first_puts_in g (by_back_rewrite n) fit = tt
+first_puts_in g (by_back_unit_del n) fit = tt
+first_puts_in g (by_resolve n s) fit = tt
+first_puts_in g (by_hyper n ss) fit = tt
+first_puts_in g (by_ur n ss) fit = tt
+first_puts_in g (by_factor n a b) fit = tt
+first_puts_in g (by_para n a side m b path) fit = tt
+first_puts_in g (by_xx_res n a) fit = tt
+first_puts_in g (by_instantiate n es) fit = absurd fit
+
+pub lines_put_in : (xs : List Input) (g : Signature) (ls : List PlainLine) → AllByRecursion (IsFitPlain xs) ls → LinesPutIn g (plain_trees ls)
+lines_put_in xs g [] fit = tt
+lines_put_in xs g (l ∷ ls) fit = (first_puts_in g l.words.first fit.0.words.first, lines_put_in xs g ls fit.1)
 
 -- so are all lines of a state
 module _ (xs : List Input) where

@@ -27,7 +27,7 @@ use Rattle.proof_print.specs.Reread.{row_tables}
 use Rattle.prover_steps.proofs.Lists.{all_kept}
 use Rattle.prover_steps.specs.Searching.{FoundProof, SearchState}
 use Rattle.search_lines.specs.Rows.{IsFitRow, AreFitRows}
-use Rattle.accepted_output.proofs.Lines.{trees_same, IsFitPlain, state_fit, rows_shallow, rows_in, lines_printable}
+use Rattle.accepted_output.proofs.Lines.{trees_same, IsFitPlain, state_fit, lines_put_in, rows_shallow, rows_in, lines_printable}
 use Rattle.accepted_output.proofs.Operators.{tables_same}
 use Rattle.accepted_output.proofs.Signatures.{signature_of}
 use Rattle.accepted_output.proofs.Skolems.{rows_same}
@@ -79,7 +79,8 @@ module _ (bytes : List ℕ) (f : FileRead) (clauses : List OperatorRow) (are : A
       let fit : AllByRecursion (IsFitPlain f.problem.inputs.items) (map plain_line had) =
       subst (AllByRecursion (IsFitPlain f.problem.inputs.items)) (sym (same ∙ h.ancestors.lines)) (all_kept (IsFitPlain f.problem.inputs.items) (λ l. h.ancestors.among l.number) all all_fit) in
       let inside : LinesAreIn (signature_of table (may_be_used f)) (plain_trees (map plain_line had)) =
-      stay (signature_of table (may_be_used f)) p.formulas (clauses_in_table p.symbols p) (plain_trees (map plain_line had)) (rows_in f few (clauses_in_table p.symbols p) rows_fit) refute.0 in
+      stay (signature_of table (may_be_used f)) p.formulas (clauses_in_table p.symbols p) (plain_trees (map plain_line had)) (rows_in f few (clauses_in_table p.symbols p) rows_fit)
+      (lines_put_in f.problem.inputs.items (signature_of table (may_be_used f)) (map plain_line had) fit) refute.0 in
       record {
         proof = record { heads = head_of_proof k r h.lines; lines = had };
         printable = (h.had.head, lines_printable f few clauses can fit_lines had h.had.bounded fit inside, tt);

@@ -5,7 +5,7 @@ use Rattle.derivation.specs.Later.{LaterWord, flipped, merged, reflexive, unit_d
 use Rattle.printed_proofs.specs.LineBounds.{AreBoundedFirst, IsBoundedLater, AreBoundedLater, AreBoundedWords}
 use Rattle.search_lines.specs.Shapes.{IsFitFirst, IsFitLater}
 use Rattle.proof_words.specs.Spelling.{takes_steps}
-use Rattle.proof_words.specs.Written.{Written, WrittenFirst, as_assumption, as_goal, by_clausify, by_deny, by_copy, by_back_rewrite, by_back_unit_del, by_resolve, by_hyper, by_ur, by_factor, by_para, by_xx_res}
+use Rattle.proof_words.specs.Written.{Written, WrittenFirst, as_assumption, as_goal, by_clausify, by_deny, by_copy, by_back_rewrite, by_back_unit_del, by_resolve, by_hyper, by_ur, by_factor, by_para, by_xx_res, by_instantiate}
 use Rattle.words_print.specs.Sayable.{IsSayableFirst, IsSayableLater, AreSayable, IsSayable}
 
 -- whatever the numbers, of a formula or of a clause
@@ -28,6 +28,7 @@ first_said (by_ur n ss) fit bounds = (bounds.0, fit, bounds.1)
 first_said (by_factor n a b) fit bounds = bounds
 first_said (by_para n a side m b path) fit bounds = (bounds.0, bounds.1, bounds.2, bounds.3, bounds.4, (fit, bounds.5))
 first_said (by_xx_res n a) fit bounds = bounds
+first_said (by_instantiate n es) fit bounds = absurd fit
 
 later_said : (w : LaterWord) → IsFitLater w → IsBoundedLater w → IsSayableLater w
 later_said (flipped a) fit bounds = bounds

@@ -14,7 +14,7 @@ use Rattle.ladr_formulas.specs.declared.styles.Mode.TheVariants.{Prover}
 use Rattle.ladr_intake.proofs.Commands.{read_taken}
 use Rattle.ladr_intake.proofs.Readings.{same_stated}
 use Rattle.ladr_intake.specs.Input.{IsAllRead}
-use Rattle.ladr_intake.specs.Refusals.{IsNoInput, no_input_of}
+use Rattle.ladr_intake.specs.Refusals.{IsNoInput, stop_of_error}
 use Rattle.ladr_io.specs.Streams.{Inflow}
 use Rattle.ladr_lex.specs.declared.limits.TheConstants.{MOST_SYMBOLS}
 use Rattle.ladr_problem.specs.File.{Says}
@@ -59,7 +59,7 @@ module _ (proper : (m : Mode) (bytes : List ℕ) (s : Sofar) → Says m bytes (f
       (proofs_none law is.file.problem.options.prolog_style_variables (reader_of is.file).tables is.file.problem.symbols is.file.problem.symbols r.symbols is.blocks _ is.proofs_are)
 
 -- an input that is refused for what it says, or for nothing
-pub refused_by : (a b : Inflow) (bytes : List ℕ) (e : ReadError) → IsAllRead a b bytes → IsProofError bytes e → IsNoInput refuses_proofs a b bytes (no_input_of e)
+pub refused_by : (a b : Inflow) (bytes : List ℕ) (e : ReadError) → IsAllRead a b bytes → IsProofError bytes e → IsNoInput refuses_proofs a b bytes (stop_of_error e)
 refused_by a b bytes (errors.Unreadable place) read h = inl (read, h)
 refused_by a b bytes (errors.Misuse place why) read h = inl (read, h)
 refused_by a b bytes (errors.TooLarge byte what) read h = inl (read, h)

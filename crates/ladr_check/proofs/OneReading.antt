@@ -111,6 +111,7 @@ means (first.Ur n ss) = refl
 means (first.Factor n a b) = refl
 means (first.Para p) = refl
 means (first.XxRes n a) = refl
+means (first.Instantiate n s) = refl
 
 contents_once : (by_formula : Bool) (t : RawTree) (m : Made Fol) (a b : Content) → IsContentOf by_formula t m a → IsContentOf by_formula t m b → content_of a ≡ content_of b
 contents_once true t m (Formula f label) (Formula g other) h k = ap formula (h.0 ∙ sym k.0)

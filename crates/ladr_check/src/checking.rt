@@ -11,9 +11,8 @@ ghost use Rattle.proof_text.specs.Refused.{IsProofError};
 use crate::ends::CheckEnd;
 use crate::judging::judge_proofs;
 use crate::report::report;
-use crate::taking::take_proofs;
 use clausify::own_table;
-use ladr_intake::{Stop, refuse, stop_by};
+use ladr_intake::{Stop, or_refused, take_bytes};
 use ladr_io::{Sink, Source};
 use ladr_output::{Cut, ending};
 use ladr_problem::{ReadError, problems_are_proper, problems_grow};
@@ -31,13 +30,12 @@ pub fn check_text<S: Source, K: Sink>(
     ensures { Checks offers refuses_proofs (S.inflow source.old) (S.inflow source.new)
         (K.outflow sink.old) (K.outflow sink.new) result }
 {
-    match take_proofs(alloc, source) {
-        Ok(read) => match tell(alloc, read, sink) {
-            Ok(end) => Ok(end),
-            Err(cut) => Err(stop_by(cut)),
-        },
-        Err(why) => Err(refuse(alloc, why, sink)),
-    }
+    problems_grow();
+    problems_are_proper();
+    own_table();
+    let bytes = take_bytes(alloc, source, sink)?;
+    let read = or_refused(alloc, read_proof(alloc, &bytes), sink)?;
+    Ok(tell(alloc, read, sink)?)
 }
 
 /// Checks the proofs of a text that is held in memory, however long it is: how that ends, or why it offers none.
@@ -48,12 +46,10 @@ pub fn check_bytes(alloc: Global, bytes: &[u8]) -> Result<CheckEnd, ReadError>
     problems_grow();
     problems_are_proper();
     own_table();
-    match read_proof(alloc, bytes) {
-        Ok(read) => match judge_proofs(alloc, read) {
-            Ok(over) => Ok(over.end),
-            Err(_) => Err(ReadError::Memory),
-        },
-        Err(error) => Err(error),
+    let read = read_proof(alloc, bytes)?;
+    match judge_proofs(alloc, read) {
+        Ok(over) => Ok(over.end),
+        Err(_) => Err(ReadError::Memory),
     }
 }
 
@@ -66,9 +62,6 @@ fn tell<K: Sink>(alloc: Global, read: ProofRead, sink: &mut K) -> Result<CheckEn
     ensures { Tells (λ text. text ≡ []) (IsChecked (offered_by read)) (K.outflow sink.old)
         (K.outflow sink.new) result }
 {
-    let over = match judge_proofs(alloc, read) {
-        Ok(over) => over,
-        Err(_) => return Err(Cut::Memory),
-    };
+    let over = judge_proofs(alloc, read)?;
     ending(report(alloc, over), over.end, sink)
 }

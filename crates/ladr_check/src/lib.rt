@@ -1,8 +1,7 @@
 // The command that checks the proofs of an input.
-// `checking.rt` is the story of a run: `taking.rt` reads the input and what it offers, `judging.rt` makes the clauses
-// of the problem and checks the proofs one after the other, `report.rt` makes the lines, and `ends.rt` has how a check
-// ends, with its status. `check_bytes`, beside it, does the same with a text that is held in memory, whatever its
-// length, and prints nothing.
+// `checking.rt` is the story of a run: `judging.rt` makes the clauses of the problem and checks the proofs one after
+// the other, `report.rt` makes the lines, and `ends.rt` has how a check ends, with its status. `check_bytes`, beside it,
+// does the same with a text that is held in memory, whatever its length, and prints nothing.
 // `specs/Offered` is what bytes offer, `specs/Outcomes` how the check of it comes out, `specs/Shown` what stands in the
 // output. `laws.rt`: bytes offer one thing, or are refused in one way; a check comes out in one way; one accepted proof
 // leaves no countermodel; what stands in an output is so whatever became of the run.
@@ -18,7 +17,6 @@ mod ends;
 mod judging;
 mod laws;
 mod report;
-mod taking;
 
 pub use checking::{check_bytes, check_text};
 pub use ends::CheckEnd;

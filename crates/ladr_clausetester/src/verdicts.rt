@@ -1,5 +1,5 @@
 // The truth of the formulas of an input.
-ghost use Rattle.std.specs.Prelude.{◌≡◌, IfOk, IsTrue, MatchBool, Some, is_some};
+ghost use Rattle.std.specs.Prelude.{◌≡◌, ◌∷◌, [], IfOk, MatchBool, length};
 ghost use Rattle.fol_core.specs.FormulaView.{fol_of};
 ghost use Rattle.fol_problem.specs.Stated.{IsTrueIn, all_said, stated_of};
 ghost use Rattle.ladr_clausetester.specs.Verdicts.{AreTrueAsTold};
@@ -38,22 +38,19 @@ fn hold(alloc: Global, tables: &Tables, inputs: &[Input]) -> Result<Vec<bool>, A
     let mut env = Env::new(alloc);
     let mut all = Vec::new(alloc);
     for input in inputs {
-        match holds(alloc, tables, &input.formula, &mut env) {
-            Ok(true_now) => all.push(true_now)?,
-            Err(error) => return Err(error),
-        }
+        let true_now = holds(alloc, tables, &input.formula, &mut env)?;
+        all.push(true_now)?;
     }
     Ok(all)
 }
 
 /// Whether each formula of an input is true in its interpretation.
 pub fn verdicts(alloc: Global, read: &FileRead) -> Result<Vec<bool>, AllocError>
-    requires { IsTrue (is_some read.now.interpretation) }
-    ensures { IfOk result (λ all. (it : ByName) → read.now.interpretation ≡ Some it
+    requires { length read.now.interpretations ≡ 1 }
+    ensures { IfOk result (λ all. (it : ByName) → read.now.interpretations ≡ it ∷ []
         → AreTrueAsTold (meaning_of (tables_for it read.now.problem.symbols))
         (stated_of read.now.problem).formulas all.items) }
 {
-    let named = read.interpretation.as_ref().unwrap();
-    let tables = bind(alloc, named, &read.problem.symbols)?;
+    let tables = bind(alloc, read.interpretations.at(0), &read.problem.symbols)?;
     hold(alloc, &tables, &read.problem.inputs)
 }

@@ -1,19 +1,27 @@
 -- What the bytes say is what the code has read.
-use Rattle.std.proofs.Common.{◌≡◌, ℕ, List, Some, map, ap, ap₂, sym, subst, ◌∙◌}
+use Rattle.std.proofs.Common.{◌≡◌, ℕ, List, [], ◌∷◌, Result, inl, map, ap, ap₂, sym, subst, ◌∙◌}
+use Rattle.std.specs.Prelude.{IfErr, IsErrAnd}
 use Rattle.fol_problem.specs.Stated.{Stated, said, stated, stated_of, all_said}
 use Rattle.ladr_commands.specs.ByName.{ByName}
+use Rattle.ladr_intake.proofs.Commands.{none_taken, read_taken}
+use Rattle.ladr_intake.specs.Input.{IsAllRead}
 use Rattle.ladr_intake.specs.Posed.{Posed, poses, interprets, posed_by, interpreted_by}
-use Rattle.ladr_intake.specs.Refusals.{refuses}
+use Rattle.ladr_intake.specs.Refusals.{IsNoInput, IsNoneTaken, IsToldBy, refuses, stop_of_error}
 use Rattle.ladr_intake.specs.declared.stops.Refused.{Refused}
 use Rattle.ladr_intake.specs.declared.stops.Refused.TheVariants.{Unreadable, Misuse, TooLarge}
+use Rattle.ladr_intake.specs.declared.stops.Stop.{Stop}
 use Rattle.ladr_interpretations.specs.Good.{tables_for}
+use Rattle.ladr_io.specs.Streams.{Inflow, Outflow}
 use Rattle.ladr_problem.proofs.Good.{said_same}
 use Rattle.ladr_options.specs.declared.options.Options.{Options}
 use Rattle.ladr_problem.specs.File.{Outcome, Says, problem, unreadable, misused, too_large}
+use Rattle.ladr_problem.specs.Places.{IsReadError}
 use Rattle.ladr_problem.specs.Proper.{IsProper}
 use Rattle.ladr_problem.specs.Sofar.{Sofar, said_in, stated_in}
 use Rattle.ladr_problem.specs.Whole.{IsOf}
 use Rattle.ladr_problem.specs.declared.read.FileRead.{FileRead}
+use Rattle.ladr_problem.specs.declared.refusal.ReadError.{ReadError}
+use Rattle.ladr_problem.specs.declared.refusal.ReadError.TheVariants as errors
 use Rattle.ladr_formulas.specs.declared.styles.Mode.{Mode}
 use Rattle.ladr_formulas.specs.declared.styles.Mode.TheVariants.{Tester}
 
@@ -26,8 +34,20 @@ same_stated s r of = sym (λ i. stated (of.symbols i) (same_said s r of i))
 pub poses_read : (m : Mode) (bytes : List ℕ) (r : FileRead) → (s : Sofar) × Says m bytes (problem s) × IsOf s r → poses m bytes (posed_by r)
 poses_read m bytes r h = (h.0, h.1, same_stated h.0 r h.2, sym h.2.options)
 
-pub interprets_read : (bytes : List ℕ) (r : FileRead) (it : ByName) → r.interpretation ≡ Some it → (s : Sofar) × Says Tester bytes (problem s) × IsOf s r → interprets bytes (interpreted_by r it)
-interprets_read bytes r it e h = (h.0, h.1, same_stated h.0 r h.2, (it, sym h.2.interpretation ∙ e, ap (tables_for it) (sym h.2.symbols)))
+pub interprets_read : (bytes : List ℕ) (r : FileRead) (it : ByName) → r.interpretations ≡ it ∷ [] → (s : Sofar) × Says Tester bytes (problem s) × IsOf s r → interprets bytes (interpreted_by r it)
+interprets_read bytes r it e h = (h.0, h.1, same_stated h.0 r h.2, (it, sym h.2.interpretations ∙ e, ap (tables_for it) (sym h.2.symbols)))
+
+-- bytes that were read whole are refused to a program for what they say, or memory was lacking
+error_stops : (m : Mode) (a b : Inflow) (bytes : List ℕ) (e : ReadError) → IsAllRead a b bytes → IsReadError m bytes e → IsNoInput (refuses m) a b bytes (stop_of_error e)
+error_stops m a b bytes (errors.Unreadable place) read h = inl (read, h)
+error_stops m a b bytes (errors.Misuse place why) read h = inl (read, h)
+error_stops m a b bytes (errors.TooLarge byte what) read h = inl (read, h)
+error_stops m a b bytes errors.Memory read h = read_taken a b bytes read
+
+pub problem_refused : {T : Type 0} (m : Mode) (a b : Inflow) (bytes shown : List ℕ) (c c' d : Outflow) (read : Result T ReadError) (stop : Stop)
+    → IsAllRead a b bytes → shown ≡ bytes → IfErr read (IsReadError m shown) → c' ≡ c → IsErrAnd read (λ e. IsToldBy (stop_of_error e) c' d stop) → IsNoneTaken (refuses m) a b c d stop
+problem_refused m a b bytes shown c c' d read stop all is error same told =
+    none_taken (refuses m) a b bytes c c' d read stop (IsReadError m shown) (λ e h. error_stops m a b bytes e all (subst (λ (bs : List ℕ). IsReadError m bs e) is h)) error same told
 
 -- what is posed, by the laws of what bytes say
 pub posed_proper : ((m : Mode) (bytes : List ℕ) (s : Sofar) → Says m bytes (problem s) → IsProper (stated_in s) s.settings.options)

@@ -1,5 +1,5 @@
 -- What the bytes of an input say to a command, whatever their language.
-use Rattle.std.specs.Prelude.{◌≡◌, ℕ, List, Some}
+use Rattle.std.specs.Prelude.{◌≡◌, ℕ, List, [], ◌∷◌}
 use Rattle.fol_problem.specs.Stated.{Stated, stated_of}
 use Rattle.ladr_commands.specs.ByName.{ByName}
 use Rattle.ladr_interpretations.specs.Good.{tables_for}
@@ -31,7 +31,7 @@ poses m bytes x =
 abbrev pub interprets : List ℕ → Interpreted → Type 0
 interprets bytes x =
     (s : Sofar) × Says Tester bytes (problem s) × (stated_in s ≡ x.stated)
-    × ((it : ByName) × (s.settings.interpretation ≡ Some it) × (tables_for it s.symbols ≡ x.tables))
+    × ((it : ByName) × (s.settings.interpretations ≡ it ∷ []) × (tables_for it s.symbols ≡ x.tables))
 
 -- what the code has of a problem, and with an interpretation by names
 abbrev pub posed_by : FileRead → Posed

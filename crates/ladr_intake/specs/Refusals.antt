@@ -2,8 +2,6 @@
 use Rattle.std.specs.Prelude.{◌≡◌, ℕ, List, [], ◌++◌, codes, ◌⊎◌}
 use Rattle.std.specs.Fmt.{decimal}
 use Rattle.ladr_intake.specs.Input.{AreTaken, IsAllRead, IsTooLong, IsFailed}
-use Rattle.ladr_intake.specs.declared.stops.NoInput.{NoInput}
-use Rattle.ladr_intake.specs.declared.stops.NoInput.TheVariants as none
 use Rattle.ladr_intake.specs.declared.stops.Refused.{Refused}
 use Rattle.ladr_intake.specs.declared.stops.Refused.TheVariants.{Unreadable, Misuse, TooLarge}
 use Rattle.ladr_intake.specs.declared.stops.Stop.{Stop}
@@ -74,17 +72,19 @@ IsRefused refuses old new bytes why =
     (IsAllRead old new bytes × refuses bytes why)
     ⊎ (IsTooLong old new bytes × (why ≡ TooLarge MOST_BYTES limits.Input))
 
--- there is no problem to go on with; nothing is said of memory
-abbrev pub IsNoInput : (List ℕ → Refused → Type 0) → Inflow → Inflow → List ℕ → NoInput → Type 0
-IsNoInput refuses old new bytes (none.Refused why) = IsRefused refuses old new bytes why
-IsNoInput refuses old new bytes none.ReadFault = IsFailed old new bytes
-IsNoInput refuses old new bytes none.Memory = AreTaken old new bytes
+-- there is no input to go on with, for this reason; nothing is said of memory
+abbrev pub IsNoInput : (List ℕ → Refused → Type 0) → Inflow → Inflow → List ℕ → Stop → Type 0
+IsNoInput refuses old new bytes (stops.Refused why) = IsRefused refuses old new bytes why
+IsNoInput refuses old new bytes stops.ReadFault = IsFailed old new bytes
+IsNoInput refuses old new bytes stops.WriteFault = ⊥
+IsNoInput refuses old new bytes stops.Memory = AreTaken old new bytes
 
-abbrev pub no_input_of : ReadError → NoInput
-no_input_of (errors.Unreadable place) = none.Refused (Unreadable place)
-no_input_of (errors.Misuse place why) = none.Refused (Misuse place why)
-no_input_of (errors.TooLarge byte what) = none.Refused (TooLarge byte what)
-no_input_of errors.Memory = none.Memory
+-- what was read is refused so
+abbrev pub stop_of_error : ReadError → Stop
+stop_of_error (errors.Unreadable place) = stops.Refused (Unreadable place)
+stop_of_error (errors.Misuse place why) = stops.Refused (Misuse place why)
+stop_of_error (errors.TooLarge byte what) = stops.Refused (TooLarge byte what)
+stop_of_error errors.Memory = stops.Memory
 
 -- the output was cut off
 abbrev pub stop_of_cut : Cut → Stop
@@ -93,7 +93,17 @@ stop_of_cut Memory = stops.Memory
 
 -- It is told so: the line is printed, or what cut it off stands for it. Where memory was lacking
 -- before, nothing is printed.
-abbrev pub IsToldBy : NoInput → Outflow → Outflow → Stop → Type 0
-IsToldBy (none.Refused why) = PieceTells (stops.Refused why) stop_of_cut (refusal_text why)
-IsToldBy none.ReadFault = PieceTells stops.ReadFault stop_of_cut read_fault_line
-IsToldBy none.Memory = λ old new stop. (stop ≡ stops.Memory) × Takes old new []
+abbrev pub IsToldBy : Stop → Outflow → Outflow → Stop → Type 0
+IsToldBy (stops.Refused why) old new stop =
+    PieceTells (stops.Refused why) stop_of_cut (refusal_text why) old new stop
+IsToldBy stops.ReadFault old new stop =
+    PieceTells stops.ReadFault stop_of_cut read_fault_line old new stop
+IsToldBy stops.WriteFault old new stop = ⊥
+IsToldBy stops.Memory old new stop = (stop ≡ stops.Memory) × Takes old new []
+
+-- no input is taken in: there is none to go on with, and it is told so
+abbrev pub IsNoneTaken : (List ℕ → Refused → Type 0) → Inflow → Inflow → Outflow → Outflow → Stop →
+    Type 0
+IsNoneTaken refuses from from' to to' stop =
+    (why : Stop) × ((bytes : List ℕ) × IsNoInput refuses from from' bytes why)
+    × IsToldBy why to to' stop

@@ -15,14 +15,6 @@ pub enum Refused {
     TooLarge { byte: u64, what: Limit },
 }
 
-/// Why there is no problem to go on with.
-#[derive(Drop)]
-pub enum NoInput {
-    Refused(Refused),
-    ReadFault,
-    Memory,
-}
-
 /// Why a command comes to no end of its own: its input is refused, a read or a write failed, or memory was lacking.
 #[derive(Drop)]
 pub enum Stop {
@@ -32,12 +24,13 @@ pub enum Stop {
     Memory,
 }
 
-/// The output was cut off.
-pub fn stop_by(cut: Cut) -> Stop
-    ensures { result ≡ stop_of_cut cut }
-{
-    match cut {
-        Cut::WriteFault => Stop::WriteFault,
-        Cut::Memory => Stop::Memory,
+impl From<Cut> for Stop {
+    ghost from_gives = { λ cut stop. stop ≡ stop_of_cut cut };
+
+    fn from(cut: Cut) -> Stop {
+        match cut {
+            Cut::WriteFault => Stop::WriteFault,
+            Cut::Memory => Stop::Memory,
+        }
     }
 }

@@ -14,13 +14,9 @@ pub fn piece<K: Sink>(text: Result<Vec<u8>, AllocError>, sink: &mut K) -> Result
     ensures lacking { OnErr text (result ≡ Err Cut.Memory) }
     ensures sufficed { OnOk text (result ≡ Err Cut.Memory → ⊥) }
 {
-    match text {
-        Err(_) => Err(Cut::Memory),
-        Ok(text) => match write_all(sink, &text) {
-            Ok(()) => Ok(()),
-            Err(_) => Err(Cut::WriteFault),
-        },
-    }
+    let text = text?;
+    write_all(sink, &text)?;
+    Ok(())
 }
 
 /// Prints the text that a run ends with, if memory sufficed for it, and hands on how it ends.
@@ -36,11 +32,7 @@ pub fn ending<E: Drop, K: Sink>(
     ensures lacking { OnErr text (result ≡ Err Cut.Memory) }
     ensures sufficed { OnOk text (result ≡ Err Cut.Memory → ⊥) }
 {
-    match text {
-        Err(_) => Err(Cut::Memory),
-        Ok(text) => match write_all(sink, &text) {
-            Ok(()) => Ok(end),
-            Err(_) => Err(Cut::WriteFault),
-        },
-    }
+    let text = text?;
+    write_all(sink, &text)?;
+    Ok(end)
 }

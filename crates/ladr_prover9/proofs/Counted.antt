@@ -1,25 +1,18 @@
 -- What a search has counted.
-use Rattle.std.proofs.Common.{◌≡◌, ℕ, zero, suc, ◌<◌, List, [], ◌∷◌, ◌++◌, length, map, get_or, refl, sym, ap, ap₂, ◌∙◌, arith, length-append}
+use Rattle.std.proofs.Common.{◌≡◌, ℕ, zero, suc, ◌<◌, List, [], ◌∷◌, ◌++◌, length, map, get_or, refl, sym, ap, ap₂, subst, ◌∙◌, arith, length-append}
 use Rattle.std.proofs.lemmas.List.{length-map}
-use Rattle.clause_store.specs.Ancestors.{AreAncestors}
-use Rattle.clause_store.specs.Lines.{PlainLine, plain_line, plain_trees}
-use Rattle.derivation.specs.declared.line.Line.{Line}
+use Rattle.clause_store.specs.Lines.{PlainLine}
 use Rattle.given_clause.specs.States.{found_of}
 use Rattle.given_clause.specs.declared.state.FoundProof.{FoundProof}
 use Rattle.prover_steps.specs.Searching as state
-use Rattle.ladr_prover9.specs.Counting.{IsFirstProof}
-use Rattle.prover_proofs.specs.Levels.{level_in}
+use Rattle.ladr_prover9.specs.Counting.{HasExtent, IsFirstProof}
+use Rattle.ladr_prover9.specs.declared.printing.Extent.{Extent}
 
--- without a proof
-pub none_first : (all : List PlainLine) (ps : List FoundProof) → length ps ≡ 0 → IsFirstProof all (map found_of ps) 0 0
-none_first all [] e = (refl, refl)
-none_first all (p ∷ ps) e = absurd (omega (arith, e))
-
--- of the first one, by the lines that the code has
-pub some_first : (all : List PlainLine) (ps : List FoundProof) (none : FoundProof) (lines : List Line) (many level : ℕ) → 0 < length ps → AreAncestors all (get_or ps 0 none).line (map plain_line lines) → many ≡ length lines
-    → level ≡ level_in (plain_trees (map plain_line lines)) (get_or ps 0 none).line → IsFirstProof all (map found_of ps) many level
-some_first all [] none lines many level some h e f = absurd (omega (arith, some))
-some_first all (p ∷ ps) none lines many level some h e f = (map plain_line lines, h, e ∙ sym (length-map lines plain_line), f)
+-- the first proof, with one proof more
+pub first_noted : (all : List PlainLine) (ps : List state.FoundProof) (p : state.FoundProof) (n : ℕ) (old new extent : Extent) → n ≡ suc (length ps) → (n ≡ 1 → new ≡ extent) → (1 < n → new ≡ old)
+    → IsFirstProof all ps old.length old.level → HasExtent all p.line extent.length extent.level → IsFirstProof all (ps ++ p ∷ []) new.length new.level
+first_noted all [] p n old new extent e one more h is = subst (λ (x : Extent). HasExtent all p.line x.length x.level) (sym (one e)) is
+first_noted all (q ∷ ps) p n old new extent e one more h is = subst (λ (x : Extent). HasExtent all q.line x.length x.level) (sym (more (omega (arith, e)))) h
 
 -- of some proofs the last one
 get_end : (ps : List state.FoundProof) (p d : state.FoundProof) → get_or (ps ++ p ∷ []) (length ps) d ≡ p

@@ -6,6 +6,7 @@ pub mod FileNames
 pub mod Knowing
 pub mod Leaving
 pub mod Nothing
+pub mod NoTerms
 pub mod Numbered
 pub mod OneEnd
 pub mod ProofTexts

@@ -1,5 +1,5 @@
 -- What the code has read of a file is what the file asks for.
-use Rattle.std.proofs.Common.{◌≡◌, ℕ, suc, refl, sym, ap, ap₂, ◌∙◌, List, [], ◌∷◌, ◌++◌, map}
+use Rattle.std.proofs.Common.{◌≡◌, ◌<◌, ◌^◌, ℕ, suc, refl, sym, ap, ap₂, ◌∙◌, List, [], ◌∷◌, ◌++◌, map}
 use Rattle.clause_store.specs.Lines.{PlainLine, formula_lines}
 use Rattle.fol_core.specs.RuleView.{rule_of}
 use Rattle.fol_problem.specs.Stated.{Stated, Said, said, stated, stated_of, said_of, all_said}
@@ -15,7 +15,7 @@ use Rattle.ladr_problem.specs.File.{Says, problem}
 use Rattle.ladr_problem.specs.Sofar.{Sofar, Listed, said_in, input_of, hint_of}
 use Rattle.ladr_problem.specs.Whole.{IsOf}
 use Rattle.ladr_problem.specs.declared.read.FileRead.{FileRead}
-use Rattle.ladr_prover9.specs.Quests.{Quest, listed_lines, listed_hint, search_by, quest_by, quest_in, asks}
+use Rattle.ladr_prover9.specs.Quests.{Quest, listed_lines, listed_hint, search_by, quest_by, quest_in, asks, IsHad}
 use Rattle.proof_lines.specs.ContentTokens.{line_tables}
 use Rattle.prover_setup.specs.SearchInputs.{SearchInput, input_in}
 use Rattle.weights.specs.Hints.{HintRow}
@@ -61,3 +61,7 @@ module _ (s : Sofar) (r : FileRead) (is : IsOf s r) where
 
 pub read_asks : (bytes : List ℕ) (s : Sofar) (r : FileRead) → Says Prover bytes (problem s) → IsOf s r → asks bytes (quest_in bytes r)
 read_asks bytes s r says is = (s, says, quest_same s r is bytes)
+
+-- the bytes state what the code has read
+pub read_had : (bytes : List ℕ) (r : FileRead) → r.problem.options.max_proofs < 2 ^ 32 → (s : Sofar) × Says Prover bytes (problem s) × IsOf s r → IsHad bytes
+read_had bytes r few h = record { says = h.0; is_said = h.1; had = r; is_had = h.2; wanted = few }

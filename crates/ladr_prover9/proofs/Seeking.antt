@@ -1,6 +1,6 @@
 -- From one answer of a prover to the next.
 use Rattle.std.proofs.Common.{◌≡◌, ◌⊎◌, ◌<◌, ◌^◌, ◌+◌, length, ℕ, suc, inl, inr, refl, sym, ap, ap₂, ◌∙◌, subst, arith, Result, Ok, Err, None, Some, Option, List, [], ◌∷◌, ◌++◌, append_assoc, length-append}
-use Rattle.std.specs.Prelude.{IfOk, OnErr}
+use Rattle.std.specs.Prelude.{IfOk, OnOk, OnErr}
 use Rattle.std.specs.Global.{Vec}
 use Rattle.std.specs.declared.alloc.AllocError.{AllocError}
 use Rattle.std.proofs.lemmas.List.{append-nil, length-map}
@@ -13,8 +13,9 @@ use Rattle.ladr_io.specs.Times.{Times}
 use Rattle.ladr_output.specs.Telling.{IsPiece, Tells}
 use Rattle.ladr_output.specs.declared.cut.Cut.{Cut}
 use Rattle.ladr_output.specs.declared.cut.Cut.TheVariants.{WriteFault, Memory}
-use Rattle.ladr_prover9.proofs.Steps.{step_text}
+use Rattle.ladr_prover9.proofs.Steps.{step_text, first_stays}
 use Rattle.ladr_prover9.specs.Askings.{quest_of, end_for, HasProof, IsAskedFor, IsSoundQuest}
+use Rattle.ladr_prover9.specs.Counting.{IsFirstProof}
 use Rattle.ladr_prover9.specs.ProofTexts.{IsProofText, IsStateText}
 use Rattle.ladr_prover9.specs.Quests.{Quest, quest_lines}
 use Rattle.ladr_prover9.specs.Story.{HasRung, EndsIn, ProofsGo, ProofsCome}
@@ -151,6 +152,22 @@ module _ (stay : AncestorsStay) (starts : StartsWell) (sound : ReachedAreSound) 
   comes_by : (now : Times) (t : SearchState) (end : ProverEnd) → length t.proofs < 2 ^ 63 → FindsNone (setting_in q.search) s t → EndsIn (setting_in q.search) seconds t now end → (text : List ℕ) → IsStateText q (start_in q.search) text → Tells {E = ProverEnd} (Goes now text) (Comes now t text) a b (Ok end)
   comes_by now t end few k ends text began = let g = h.prints text began in (g.0, record { reached = reached_by t k; ends = ends; prints = prints_by t k (text ++ g.0) g.1; counted = few }, g.2)
 
+  -- its first proof is that of the state before, where it finds none
+  first_by : (t : SearchState) (many level : ℕ) → FindsNone (setting_in q.search) s t → IsFirstProof (quest_lines q s) s.proofs many level → IsFirstProof (quest_lines q t) t.proofs many level
+  first_by t many level k first =
+      let lines = reached_lines (setting_in q.search) s t k.reached in
+      subst (λ (ps : List FoundProof). IsFirstProof (quest_lines q t) ps many level) (sym k.same) (first_stays stay starts sound q is s t lines.0 many level lines.1 h.reached (reached_by t k) first)
+
+  pub first_comes : (now : Times) (t : SearchState) (answer : Answer) (end : ProverEnd) (many level : ℕ) → RunsTo (setting_in q.search) seconds (readings_first w) s t times now (Ok answer) → end_for answer ≡ Some end
+      → IsFirstProof (quest_lines q s) s.proofs many level → IsFirstProof (quest_lines q t) t.proofs many level
+  first_comes now t (Proof n) end many level k e first = absurd cc
+  first_comes now t Proofs end many level k e first = first_by t many level k.0.goes first
+  first_comes now t SosEmpty end many level k e first = first_by t many level k.0.goes first
+  first_comes now t MaxGiven end many level k e first = first_by t many level k.0.goes first
+  first_comes now t MaxKept end many level k e first = first_by t many level k.0.goes first
+  first_comes now t MaxMegs end many level k e first = first_by t many level k.0.goes first
+  first_comes now t (MaxSeconds early late) end many level k e first = first_by t many level k.0.0 first
+
   module _ (start : StartIsWithinLimits) (limits : ReachedAreWithinLimits) where
     for_reason : (r : Reason) (t : SearchState) → EndsWithout (setting_in q.search) s t r → IsReason (setting_in q.search) t r
     for_reason r t k = (within start limits q t (reached_by t k.goes)).reason r k.ended
@@ -181,6 +198,16 @@ module _ (stay : AncestorsStay) (starts : StartsWell) (sound : ReachedAreSound) 
 
     pub many : length t.proofs ≡ suc (length s.proofs)
     many = ap length found ∙ (let e : length (s.proofs ++ k.found.0 ∷ []) ≡ suc (length s.proofs) = omega (arith, length-append s.proofs (k.found.0 ∷ [])) in e)
+
+    -- the first proof is still the first one
+    pub first_next : (many level : ℕ) → IsFirstProof (quest_lines q s) s.proofs many level → IsFirstProof (quest_lines q t) s.proofs many level
+    first_next many level first =
+        let lines = reached_lines (setting_in q.search) s t (reaches_next (setting_in q.search) s k.before t k.goes.reached k.next) in
+        first_stays stay starts sound q is s t lines.0 many level lines.1 h.reached reached_next first
+
+    pub first_shown : (text : Result (Vec ℕ) AllocError) (many level : ℕ) → OnErr text (went ≡ cut_by Memory) → OnOk text (IsFirstProof (quest_lines q t) (s.proofs ++ k.found.0 ∷ []) many level) → IsFirstProof (quest_lines q t) t.proofs many level
+    first_shown (Ok x) many level none first = subst (λ (ps : List FoundProof). IsFirstProof (quest_lines q t) ps many level) (sym found) first
+    first_shown (Err e) many level none first = absurd cc
 
     rung : HasRung q.search seconds t now
     rung = inr (inl (read_here t now reads))

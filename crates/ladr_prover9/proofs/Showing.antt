@@ -98,17 +98,20 @@ cause_is (MaxSeconds from to) h = record {
   opens = refl;
 }
 
+-- lines are a refutation, and leave no countermodel within the limits
+abbrev pub IsShowing : Quest → List PlainLine → Type 0
+IsShowing q lines = AreRefutingLines q.search lines × (KeepsLimits q → LeavesNone q.search)
+
 -- What is known of a quest that the bytes ask for: of the lines of each state that is reached the texts are numbered lines,
 -- and the ones that a proof rests on are a refutation, which leaves no countermodel.
 pub record Known (q : Quest) : Type 0 where
   pub numbered : (t : SearchState) (n : ℕ) (lines : List PlainLine) → AreAncestors (quest_lines q t) n lines → AllByRecursion IsNumbered (map (quest_text q) lines)
-  pub refute : (t : SearchState) → IsReachedIn q.search t → AllByRecursion (λ p. (lines : List PlainLine) → AreAncestors (quest_lines q t) p.line lines → AreRefutingLines q.search lines) t.proofs
-  pub leaves : (lines : List PlainLine) → KeepsLimits q → AreRefutingLines q.search lines → LeavesNone q.search
+  pub refute : (t : SearchState) → IsReachedIn q.search t → AllByRecursion (λ p. (lines : List PlainLine) → AreAncestors (quest_lines q t) p.line lines → IsShowing q lines) t.proofs
 
 module _ (q : Quest) (known : Known q) where
   -- the proofs of a state as forms
   abbrev AllRefute : List (Heads × List PlainLine) → Type 0
-  AllRefute fs = AllByRecursion (λ f. AreRefutingLines q.search f.1) fs
+  AllRefute fs = AllByRecursion (λ f. IsShowing q f.1) fs
 
   record Formed (proofs : List ℕ) : Type 0 where
     forms : List (Heads × List PlainLine)
@@ -116,7 +119,7 @@ module _ (q : Quest) (known : Known q) where
     refute : AllRefute forms
     is : proofs ≡ forms_text (quest_text q) forms
 
-  formed : (t : SearchState) (k : ℕ) (ps : List FoundProof) (text : List ℕ) → AllByRecursion (λ p. (lines : List PlainLine) → AreAncestors (quest_lines q t) p.line lines → AreRefutingLines q.search lines) ps
+  formed : (t : SearchState) (k : ℕ) (ps : List FoundProof) (text : List ℕ) → AllByRecursion (λ p. (lines : List PlainLine) → AreAncestors (quest_lines q t) p.line lines → IsShowing q lines) ps
       → AreProofTexts q (quest_lines q t) k ps text → Formed text
   formed t k [] text refute h = record { forms = []; good = tt; refute = tt; is = h }
   formed t k (p ∷ ps) text refute h =
@@ -130,14 +133,14 @@ module _ (q : Quest) (known : Known q) where
       }
 
   -- there is a form where there is a proof
-  some_form : (t : SearchState) (k : ℕ) (ps : List FoundProof) (text : List ℕ) (refute : AllByRecursion (λ p. (lines : List PlainLine) → AreAncestors (quest_lines q t) p.line lines → AreRefutingLines q.search lines) ps)
+  some_form : (t : SearchState) (k : ℕ) (ps : List FoundProof) (text : List ℕ) (refute : AllByRecursion (λ p. (lines : List PlainLine) → AreAncestors (quest_lines q t) p.line lines → IsShowing q lines) ps)
       (h : AreProofTexts q (quest_lines q t) k ps text) → is_nil ps ≡ false → is_nil (formed t k ps text refute h).forms ≡ false
   unfolding formed
   some_form t k [] text refute h e = e
   some_form t k (p ∷ ps) text refute h e = refl
 
   -- a refutation among others
-  refuting : (front : List (Heads × List PlainLine)) (f : Heads × List PlainLine) (back : List (Heads × List PlainLine)) → AllRefute (front ++ f ∷ back) → AreRefutingLines q.search f.1
+  refuting : (front : List (Heads × List PlainLine)) (f : Heads × List PlainLine) (back : List (Heads × List PlainLine)) → AllRefute (front ++ f ∷ back) → IsShowing q f.1
   refuting [] f back h = h.0
   refuting (x ∷ front) f back h = refuting front f back h.1
 
@@ -147,9 +150,13 @@ module _ (q : Quest) (known : Known q) where
   first_stands (f ∷ fs) last e h = record {
     head = f.0;
     lines = f.1;
-    refute = h.0;
+    refute = h.0.0;
     stands = ([], (tt, (forms_text (quest_text q) fs ++ last, append_assoc (form_text (quest_text q) f) (forms_text (quest_text q) fs) last)));
   }
+
+  first_leaves : (fs : List (Heads × List PlainLine)) → is_nil fs ≡ false → AllRefute fs → KeepsLimits q → LeavesNone q.search
+  first_leaves [] e h within = absurd cc
+  first_leaves (f ∷ fs) e h within = h.0.1 within
 
   -- a text of a state with what stands behind it: nothing, or the last lines
   pub data IsLast (t : SearchState) : List ℕ → Type 0 where
@@ -214,10 +221,10 @@ module _ (q : Quest) (known : Known q) where
           record {
             head = s.form.0;
             lines = s.form.1;
-            refute = refute;
+            refute = refute.0;
             shown = one_front (proof_banner ++ after) (form_text (quest_text q) s.form) rest (forms_text (quest_text q) s.back ++ whole.last) (append_assoc proof_banner after rest ∙ s.tail_is);
           },
-          known.leaves s.form.1 whole.within refute,
+          refute.1 whole.within,
         )
 
     no_banner : (c : Bool) → 61 ≡ first (as_line (verdict_text c)) → ⊥
@@ -246,8 +253,8 @@ module _ (q : Quest) (known : Known q) where
     unfolding forms
     some_there e = some_form t 1 t.proofs whole.proofs (known.refute t whole.reached) whole.are e
 
-    with_none : (before : List ℕ) → HasRefutation q before → HasRefutation q before × LeavesNone q.search
-    with_none before h = (h, known.leaves h.lines whole.within h.refute)
+    with_none : (before : List ℕ) → is_nil forms.forms ≡ false → HasRefutation q before → HasRefutation q before × LeavesNone q.search
+    with_none before some h = (h, first_leaves forms.forms some forms.refute whole.within)
 
     verdict_stands : (before after : List ℕ) → AreWholeLines before → written ≡ frame_text q.input ++ (before ++ (proved_line ++ after)) → HasRefutation q before × LeavesNone q.search
     verdict_stands before after lines e =
@@ -258,7 +265,7 @@ module _ (q : Quest) (known : Known q) where
           | inr (inr s) ↦ elim (last_place t whole.last s.middle tail whole.is_last s.whole s.last_is) [
             | inl none ↦ absurd (omega (arith, none))
             | inr (inl line) ↦ absurd (omega (arith, line))
-            | inr (inr k) ↦ with_none before (subst (HasRefutation q) (sym (s.before_is ∙ ap (λ (u : List ℕ). forms_text (quest_text q) forms.forms ++ u) k.0))
+            | inr (inr k) ↦ with_none before (some_there (proof_there (is_nil t.proofs) k.1)) (subst (HasRefutation q) (sym (s.before_is ∙ ap (λ (u : List ℕ). forms_text (quest_text q) forms.forms ++ u) k.0))
                 (first_stands forms.forms (counters_line t) (some_there (proof_there (is_nil t.proofs) k.1)) forms.refute))
           ]
         ]

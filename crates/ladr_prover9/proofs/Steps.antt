@@ -5,6 +5,7 @@ use Rattle.std.proofs.lemmas.List.{append-nil}
 use Rattle.clause_store.specs.Laws.{AncestorsStay}
 use Rattle.clause_store.specs.Lines.{PlainLine}
 use Rattle.ladr_prover9.specs.Askings.{IsSoundQuest}
+use Rattle.ladr_prover9.specs.Counting.{IsFirstProof}
 use Rattle.ladr_prover9.specs.ProofTexts.{IsProofText, AreProofTexts, IsStateText}
 use Rattle.ladr_prover9.specs.Quests.{Quest, quest_lines}
 use Rattle.proof_print.specs.LineTexts.{frame_text}
@@ -60,6 +61,14 @@ module _ (stay : AncestorsStay) (starts : StartsWell) (sound : ReachedAreSound) 
     texts_stay s t more e r r' (suc k) ps h.1 empty.1 h.3,
     h.4,
   )
+
+  -- the first proof of a state, in a later one
+  pub first_stays : (s t : SearchState) (more : List MadeLine) (many level : ℕ) → t.lines ≡ s.lines ++ more → IsReachedIn q.search s → IsReachedIn q.search t → IsFirstProof (quest_lines q s) s.proofs many level → IsFirstProof (quest_lines q t) s.proofs many level
+  first_stays s t more many level e r r' h = by s.proofs (sound_at s r).proofs h
+    where
+      by : (ps : List FoundProof) → AllByRecursion (EndsEmpty (all_lines (problem_lines q.search.stated.formulas (rows_in q.search)) s)) ps → IsFirstProof (quest_lines q s) ps many level → IsFirstProof (quest_lines q t) ps many level
+      by [] empty f = f
+      by (p ∷ ps) empty f = (f.0, same_ancestors stay q.formulas q.search.stated.formulas (rows_in q.search) is.say s t more e (sound_at s r) (sound_at t r') p f.0 empty.0 f.1, f.2, f.3)
 
   -- the text of a state with that of a step
   pub step_text : (s t : SearchState) (more : List MadeLine) (text step : List ℕ) → t.lines ≡ s.lines ++ more → IsReachedIn q.search s → IsReachedIn q.search t → IsStepText q s t step → IsStateText q s text → IsStateText q t (text ++ step)

@@ -10,11 +10,12 @@ use Rattle.ladr_output.specs.Telling.{IsPiece, Tells, IsEnd}
 use Rattle.ladr_output.specs.declared.cut.Cut.{Cut}
 use Rattle.ladr_output.specs.declared.cut.Cut.TheVariants.{WriteFault, Memory}
 use Rattle.ladr_intake.specs.Refusals.{clause_limit_line}
+use Rattle.ladr_problem.specs.declared.read.FileRead.{FileRead}
 use Rattle.ladr_prover9.proofs.Steps.{start_text}
 use Rattle.ladr_prover9.specs.Counting.{Counts, uncounted, ProvesCounted}
 use Rattle.ladr_prover9.specs.Finding.{over_limit, KeepsLimits, Proves, Proving}
 use Rattle.ladr_prover9.specs.Lines.{closing_lines}
-use Rattle.ladr_prover9.specs.Quests.{Quest}
+use Rattle.ladr_prover9.specs.Quests.{Quest, quest_in, quest_seconds}
 use Rattle.ladr_prover9.specs.Story.{ProofsGo, ProofsCome}
 use Rattle.ladr_prover9.specs.declared.ends.ProverEnd.{ProverEnd}
 use Rattle.ladr_prover9.specs.declared.ends.ProverEnd.TheVariants.{MaxProofs, SosEmpty, MaxMegs, MaxSeconds, MaxGiven, MaxKept, ClauseLimit}
@@ -66,10 +67,6 @@ module _ (q : Quest) (seconds : Option ℕ) (times : Times) where
   come_to : (text more : List ℕ) (end : ProverEnd) (t : SearchState) → KeepsLimits q → Comes t text end more → Proving q seconds times (text ++ more)
   come_to text more end t within comes = inr (within, inr (end, (t, comes)))
 
-  -- so it has, and memory is lacking for what it counted
-  pub count_cut : (a b c : Outflow) (text : List ℕ) (end : ProverEnd) (t : SearchState) → KeepsLimits q → Takes a b text → Tells {E = ProverEnd} (Goes text) (Comes t text) b c (Ok end) → Tells {E = ProverOver} (Proving q seconds times) (ProvesCounted q seconds times) a c (Err Memory)
-  count_cut a b c text end t within took (more, comes, took') = (text ++ more, come_to text more end t within comes, Takes-append a b c text more took took')
-
   -- so it has, and the last lines are printed or cut off
   pub last_told : (a b c d : Outflow) (text : List ℕ) (end : ProverEnd) (over : ProverOver) (t : SearchState) (r : Result ProverOver Cut) → KeepsLimits q → over.end ≡ end → Counts q t over → Takes a b text
       → Tells {E = ProverEnd} (Goes text) (Comes t text) b c (Ok end) → Tells (λ u. u ≡ []) (IsEnd over (closing_lines t end)) c d r → Tells (Proving q seconds times) (ProvesCounted q seconds times) a d r
@@ -110,3 +107,9 @@ module _ (q : Quest) (seconds : Option ℕ) (times : Times) where
 pub told_for : (q q' : Quest) (s s' : Option ℕ) (times : Times) (a b : Outflow) (r : Result ProverOver Cut) → q ≡ q' → s ≡ s' → Tells (Proving q s times) (ProvesCounted q s times) a b r → Tells (Proving q' s' times) (ProvesCounted q' s' times) a b r
 told_for q q' s s' times a b r e f told =
     subst (λ (n : Option ℕ). Tells (Proving q' n times) (ProvesCounted q' n times) a b r) f (subst (λ (x : Quest). Tells (Proving x s times) (ProvesCounted x s times) a b r) e told)
+
+-- of the bytes that were read
+pub told_read : (input bytes : List ℕ) → input ≡ bytes → (read : FileRead) (max : Option ℕ) (times : Times) (a b : Outflow) (r : Result ProverOver Cut) → Tells (Proving (quest_in input read) (quest_seconds max (quest_in input read)) times) (ProvesCounted (quest_in input read) (quest_seconds max (quest_in input read)) times) a b r
+    → Tells (Proving (quest_in bytes read) (quest_seconds max (quest_in bytes read)) times) (ProvesCounted (quest_in bytes read) (quest_seconds max (quest_in bytes read)) times) a b r
+told_read input bytes same read max times a b r told =
+    subst (λ (bs : List ℕ). Tells (Proving (quest_in bs read) (quest_seconds max (quest_in bs read)) times) (ProvesCounted (quest_in bs read) (quest_seconds max (quest_in bs read)) times) a b r) same told

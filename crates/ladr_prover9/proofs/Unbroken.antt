@@ -25,7 +25,7 @@ use Rattle.ladr_print.specs.Spacing.{kept_apart, runs_into}
 use Rattle.ladr_print.specs.TermText.{Naming, symbol_name, term_raw, terms_raw}
 use Rattle.ladr_reader.specs.Table.{OperatorTable, left, right, takes, ends}
 use Rattle.ladr_reader.specs.declared.sides.Side.TheVariants.{UpTo}
-use Rattle.proof_words.specs.Written.{Written, WrittenFirst, as_assumption, as_goal, by_clausify, by_deny, by_copy, by_back_rewrite, by_back_unit_del, by_resolve, by_hyper, by_ur, by_factor, by_para, by_xx_res}
+use Rattle.proof_words.specs.Written.{Written, WrittenFirst, as_assumption, as_goal, by_clausify, by_deny, by_copy, by_back_rewrite, by_back_unit_del, by_resolve, by_hyper, by_ur, by_factor, by_para, by_xx_res, by_instantiate}
 use Rattle.words_print.specs.WordTokens.{letters_within, literal_name, number_token, literal_token, in_parens, further_numbers, further_satellites, subterm_tokens, first_tokens, is_rewriting, later_tokens, between_words, behind_words, further_tokens, words_tokens, token_text, joint_text, words_text}
 
 abbrev pub IsFlat : List ℕ → Type 0
@@ -239,6 +239,7 @@ first_flat (by_para n a side m b path) = (
   ),
 )
 first_flat (by_xx_res n a) = (refl, parens_flat (number_token n ∷ comma ∷ literal_token a ∷ []) (decimal_unbroken n, (refl, (place_flat a, tt))))
+first_flat (by_instantiate n es) = (refl, parens_flat (number_token n ∷ []) (decimal_unbroken n, tt))
 
 later_flat : (w : LaterWord) → AreFlatTokens (later_tokens w)
 later_flat (rewritten n a path) = subterm_flat n a path

@@ -19,13 +19,16 @@ use Rattle.ladr_prover9.specs.declared.ends.ProverOver.{ProverOver}
 use Rattle.prover_proofs.specs.Levels.{level_in}
 use Rattle.prover_steps.specs.Searching.{FoundProof, SearchState}
 
--- the first of these proofs has so many lines, those that its last line rests on, and this level;
--- without a proof both are 0
+-- the proof that ends with this line has so many lines, those that it rests on, and this level
+abbrev pub HasExtent : List PlainLine → ℕ → ℕ → ℕ → Type 0
+HasExtent all line many level =
+    (lines : List PlainLine) × AreAncestors all line lines × (many ≡ length lines)
+    × (level ≡ level_in (plain_trees lines) line)
+
+-- the first of these proofs has so many lines and this level; without a proof both are 0
 abbrev pub IsFirstProof : List PlainLine → List FoundProof → ℕ → ℕ → Type 0
 IsFirstProof all [] many level = (many ≡ 0) × (level ≡ 0)
-IsFirstProof all (p ∷ ps) many level =
-    (lines : List PlainLine) × AreAncestors all p.line lines × (many ≡ length lines)
-    × (level ≡ level_in (plain_trees lines) p.line)
+IsFirstProof all (p ∷ ps) many level = HasExtent all p.line many level
 
 -- these are the numbers of a state
 pub record Counts (q : Quest) (t : SearchState) (over : ProverOver) : Type 0 where

@@ -16,20 +16,20 @@ use crate::counting::counted;
 use crate::ends::{ProverEnd, ProverOver};
 use crate::laws::quests_are_sound;
 use crate::lines::closing_lines;
+use crate::printing::Extent;
 use crate::searching::search_proofs;
-use crate::taking::{Taken, take_quest};
 use clausify::{ClauseError, clauses_of, own_table};
 use fol_core::{Clauses, Entry};
 use fol_problem::Problem;
-use ladr_intake::{Stop, clause_limit, refuse, stop_by};
+use ladr_formulas::Mode;
+use ladr_intake::{Stop, clause_limit, or_refused, take_bytes};
 use ladr_io::{Clock, Sink, Source};
 use ladr_lex::Ops;
 use ladr_output::{Cut, ending, piece};
-use ladr_problem::FileRead;
+use ladr_problem::{FileRead, read_problem};
 use proof_lines::LineOperators;
 use proof_print::frame_text;
 use prover::Prover;
-use prover_steps::lines_are_counted;
 use search_clock::seconds_of;
 use std::alloc::{AllocError, Global};
 
@@ -105,18 +105,17 @@ fn prove_with<'a, K: Sink, C: Clock>(
         (ProvesCounted (quest_of asking.now) seconds (C.times clock.new))
         (K.outflow sink.old) (K.outflow sink.new) result }
 {
-    lines_are_counted();
-    match piece(frame_text(alloc, asking.input), sink) {
-        Ok(()) => {}
-        Err(cut) => return Err(cut),
-    }
-    match search_proofs(alloc, asking, prover, sink, clock) {
-        Ok(end) => match counted(alloc, asking, prover, end) {
-            Ok(over) => ending(closing_lines(alloc, prover, end), over, sink),
-            Err(_) => Err(Cut::Memory),
-        },
-        Err(cut) => Err(cut),
-    }
+    piece(frame_text(alloc, asking.input), sink)?;
+    let mut first = Extent {
+        length: 0,
+        level: 0,
+    };
+    let end = search_proofs(alloc, asking, prover, &mut first, sink, clock)?;
+    ending(
+        closing_lines(alloc, prover, end),
+        counted(prover, first, end),
+        sink,
+    )
 }
 
 // Searches for proofs of what is asked.
@@ -136,9 +135,7 @@ fn prove_asked<K: Sink, C: Clock>(
         (ProvesCounted (quest_of asking.now) seconds (C.times clock.new))
         (K.outflow sink.old) (K.outflow sink.new) result }
 {
-    let Ok(mut prover) = prover_of(alloc, asking, seconds) else {
-        return Err(Cut::Memory);
-    };
+    let mut prover = prover_of(alloc, asking, seconds)?;
     let over = prove_with(alloc, asking, seconds, &mut prover, sink, clock);
     prover.close();
     over
@@ -186,31 +183,38 @@ fn prove_problem<K: Sink, C: Clock>(
     }
 }
 
-// Searches for proofs of what was read.
+// Searches for proofs of what was read of these bytes.
 fn prove<K: Sink, C: Clock>(
     alloc: Global,
-    taken: Taken,
+    input: &[u8],
+    read: FileRead,
     max_seconds: Option<u64>,
     sink: &mut K,
     clock: &mut C,
 ) -> Result<ProverOver, Cut>
-    requires well_formed { IsWellFormed (stated_of taken.read.problem) }
-    requires sound { IsSoundQuest (quest_in taken.bytes.items taken.read) }
+    requires well_formed { IsWellFormed (stated_of read.problem) }
+    requires sound { IsSoundQuest (quest_in input.now read) }
     requires unread { (C.times clock.old).count ≡ 0 }
     requires sink { (K.outflow sink.old).over ≡ false }
-    ensures { let q = quest_in taken.bytes.items taken.read in
+    ensures { let q = quest_in input.now read in
         Tells (Proving q (quest_seconds max_seconds q) (C.times clock.new))
         (ProvesCounted q (quest_seconds max_seconds q) (C.times clock.new))
         (K.outflow sink.old) (K.outflow sink.new) result }
 {
-    let Taken { bytes, read } = taken;
     let FileRead {
         problem,
         operators,
         ..
     } = read;
     let seconds = max_seconds.or(seconds_of(&problem.options));
-    prove_problem(alloc, &bytes, &problem, operators, seconds, sink, clock)
+    prove_problem(alloc, input, &problem, operators, seconds, sink, clock)
+}
+
+// There are fewer proofs wanted than the option has values.
+fn few_wanted(read: &FileRead)
+    ensures { read.now.problem.options.max_proofs < 2 ^ 32 }
+{
+    let _wanted = read.problem.options.max_proofs;
 }
 
 /// Reads the input and searches for proofs of its problem, as the word and its options ask; answers how that ends, with what was
@@ -230,13 +234,11 @@ pub fn prove_counted<S: Source, K: Sink, C: Clock>(
         × (IsHad run.bytes ⊎ HasNothing (K.outflow sink.old) (K.outflow sink.new) result) }
 {
     quests_are_sound();
-    match take_quest(alloc, source) {
-        Ok(taken) => match prove(alloc, taken, max_seconds, sink, clock) {
-            Ok(over) => Ok(over),
-            Err(cut) => Err(stop_by(cut)),
-        },
-        Err(why) => Err(refuse(alloc, why, sink)),
-    }
+    let bytes = take_bytes(alloc, source, sink)?;
+    let input = bytes.as_slice();
+    let read = or_refused(alloc, read_problem(alloc, Mode::Prover, input), sink)?;
+    few_wanted(&read);
+    Ok(prove(alloc, input, read, max_seconds, sink, clock)?)
 }
 
 /// Reads the input and searches for proofs of its problem, as the word and its options ask.
@@ -254,8 +256,6 @@ pub fn prover9<S: Source, K: Sink, C: Clock>(
         (K.outflow sink.old) (K.outflow sink.new) (C.times clock.new) result)
         × (IsHad run.bytes ⊎ HasNothing (K.outflow sink.old) (K.outflow sink.new) result) }
 {
-    match prove_counted(alloc, max_seconds, source, sink, clock) {
-        Ok(over) => Ok(over.end),
-        Err(stop) => Err(stop),
-    }
+    let over = prove_counted(alloc, max_seconds, source, sink, clock)?;
+    Ok(over.end)
 }

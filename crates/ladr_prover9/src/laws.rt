@@ -13,7 +13,9 @@ use ladr_formulas::prover_names_no_element;
 use ladr_problem::{one_outcome, problems_are_proper, problems_grow};
 use prover_proofs::proofs_refute;
 use prover_steps::searches_end_once;
-use search_lines::{files_are_fit, orders_of_files_keep_variables, rows_are_of_formulas};
+use search_lines::{
+    files_are_fit, lines_are_fit, orders_of_files_keep_variables, rows_are_of_formulas,
+};
 
 /// The order of what a file asks for keeps variables, its clauses are rows of its formulas, and the lines of these say what they
 /// say.
@@ -52,6 +54,7 @@ pub fn proofs_show()
     prover_names_no_element();
     quests_are_sound();
     proofs_refute();
+    lines_are_fit();
     lines_name_no_elements();
     lines_without_elements();
     no_countermodel();

@@ -1,6 +1,6 @@
 // The command that searches for proofs of what an input states.
-// `commanding.rt` is the story of a run: the input is read (`taking.rt`), clauses are made and what is asked is put
-// together (`asking.rt`), the input is printed in its frame, proofs are searched for, and the last lines are printed
+// `commanding.rt` is the story of a run: the input is read, clauses are made and what is asked is put together
+// (`asking.rt`), the input is printed in its frame, proofs are searched for, and the last lines are printed
 // (`lines.rt`; `ends.rt` has the ends and statuses). `searching.rt` asks a `prover` for one answer after the other, and
 // prints each proof as it comes (`printing.rt`: lines that `prover_proofs` takes out, by `proof_print`). `counting.rt`
 // has what was counted, with the lines and levels of the first proof: `prove_counted` answers this beside the end,
@@ -27,7 +27,6 @@ mod laws;
 mod lines;
 mod printing;
 mod searching;
-mod taking;
 
 pub use commanding::{prove_counted, prover9};
 pub use ends::{ProverEnd, ProverOver};

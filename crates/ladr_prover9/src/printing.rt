@@ -4,6 +4,7 @@ ghost use Rattle.clause_store.specs.Ancestors.{AreAncestors};
 ghost use Rattle.clause_store.specs.Lines.{plain_line, plain_trees};
 ghost use Rattle.given_clause.specs.States.{found_of};
 ghost use Rattle.ladr_prover9.specs.Askings.{quest_of, IsAskedFor};
+ghost use Rattle.ladr_prover9.specs.Counting.{HasExtent};
 ghost use Rattle.ladr_prover9.specs.ProofTexts.{IsProofText};
 ghost use Rattle.ladr_prover9.specs.Quests.{quest_lines};
 ghost use Rattle.prover.specs.Provers.{state_at};
@@ -18,8 +19,22 @@ use prover::Prover;
 use prover_proofs::{Proof, SearchLines};
 use std::alloc::{AllocError, Global};
 
-/// The proof whose last line has this number, with its level and its greatest size.
-pub fn proof_behind(
+/// How many lines and levels a proof has.
+#[derive(Clone, Copy)]
+pub struct Extent {
+    pub length: u64,
+    pub level: u64,
+}
+
+/// The text of a proof, and how far it extends.
+#[derive(Drop)]
+pub struct PrintedProof {
+    pub text: Vec<u8>,
+    pub extent: Extent,
+}
+
+// The proof whose last line has this number, with its level and its greatest size.
+fn proof_behind(
     alloc: Global,
     asking: &Asking<'_>,
     prover: &Prover<'_>,
@@ -44,27 +59,34 @@ pub fn proof_behind(
     Ok(proof)
 }
 
-/// The text of a proof by its number.
-pub fn proof_text(
+/// A proof by its number, printed.
+pub fn printed_proof(
     alloc: Global,
     asking: &Asking<'_>,
     prover: &Prover<'_>,
     number: u64,
     found: FoundProof,
-) -> Result<Vec<u8>, AllocError>
+) -> Result<PrintedProof, AllocError>
     requires asked { IsAskedFor asking.now }
     requires counted { CountsLinesFrom (suc (length asking.now.problem.now.inputs.items
         + length asking.now.clauses.items)) (state_at prover.now) }
-    ensures { IfOk result (λ v. IsProofText (quest_of asking.now)
+    ensures text { IfOk result (λ r. IsProofText (quest_of asking.now)
         (quest_lines (quest_of asking.now) (state_at prover.now)) number (found_of found)
-        v.items) }
+        r.text.items) }
+    ensures extent { IfOk result (λ r. HasExtent
+        (quest_lines (quest_of asking.now) (state_at prover.now)) found.line
+        r.extent.length r.extent.level) }
 {
     let proof = proof_behind(alloc, asking, prover, found.line)?;
     let lines = proof.lines.as_slice();
-    let heads = Heads {
-        proof: number,
+    let extent = Extent {
         length: lines.len() as u64,
         level: proof.level,
+    };
+    let heads = Heads {
+        proof: number,
+        length: extent.length,
+        level: extent.level,
         weight: proof.size,
         given: found.given,
     };
@@ -75,5 +97,5 @@ pub fn proof_text(
     lines_are_counted(lines);
     heads_are_short(heads);
     let text = proof_bytes(alloc, operators, symbols, lines, heads, prolog)?;
-    Ok(text)
+    Ok(PrintedProof { text, extent })
 }

@@ -1,14 +1,17 @@
 -- The end of a run of which the numbers are told.
 use Rattle.std.proofs.Common.{inl}
+use Rattle.std.proofs.lemmas.Result.{err_from_is_err_and}
 use Rattle.ladr_prover9.proofs.Ending.{ends_alone, stops_alone, had_of, known_so}
 use Rattle.ladr_prover9.proofs.commanding.prover9.Goals as goal
 
-pub returns-in-Ok : goal.returns-in-Ok
-returns-in-Ok g c =
-    let run = c.in-Ok.ensures.0 in
-    (ends_alone _ _ _ _ _ _ c.in-Ok.over run, inl (had_of run.bytes c.in-Ok.ensures.1))
+pub returns : goal.returns
+returns g c =
+    let run = c.in_ok-over.ensures.0 in
+    (ends_alone _ _ _ _ _ _ c.in_ok-over.over run, inl (had_of run.bytes c.in_ok-over.ensures.1))
 
-pub returns-in-Err : goal.returns-in-Err
-returns-in-Err g c =
-    let run = c.in-Err.ensures.0 in
-    (stops_alone _ _ _ _ _ _ c.in-Err.stop run, known_so (g.K.Sink.outflow c.args.sink.now) (g.K.Sink.outflow c.prove_counted.new.sink) c.in-Err.stop run.bytes c.in-Err.ensures.1)
+pub returns-in_err-over : goal.returns-in_err-over
+returns-in_err-over g c =
+    let p = err_from_is_err_and c.from_residual.result c.from_residual.ensures.1 in
+    let stop = c.in_err-over.field-0.0 in
+    let run = c.in_err-over.ensures.0 in
+    rw (p.1, p.2) (stops_alone _ _ _ _ _ _ stop run, known_so (g.K.Sink.outflow c.args.sink.now) (g.K.Sink.outflow c.prove_counted.new.sink) stop run.bytes c.in_err-over.ensures.1)

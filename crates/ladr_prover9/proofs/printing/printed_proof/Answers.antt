@@ -6,7 +6,7 @@ use Rattle.clause_store.specs.Lines.{plain_line}
 use Rattle.derivation.specs.declared.line.Line.{Line}
 use Rattle.given_clause.specs.States.{found_of}
 use Rattle.ladr_prover9.proofs.ProofTexts.{printed, head_by}
-use Rattle.ladr_prover9.proofs.printing.proof_text.Goals as goal
+use Rattle.ladr_prover9.proofs.printing.printed_proof.Goals as goal
 use Rattle.ladr_prover9.specs.Askings.{quest_of}
 use Rattle.printed_proofs.specs.LineBounds.{IsBoundedLine}
 use Rattle.printed_proofs.specs.Printed.{IsShortHead}
@@ -14,8 +14,8 @@ use Rattle.proof_lines.specs.ContentTokens.{tables_of}
 use Rattle.proof_print.specs.LineTexts.{proof_bytes}
 use Rattle.proof_print.specs.declared.texts.Heads.{Heads}
 
-pub returns : goal.returns
-returns c =
+pub returns-clause-text : goal.returns-clause-text
+returns-clause-text c =
     let items = c.in_ok-proof.proof.lines.items in
     let asking = c.args.asking.now in
     let heads : Heads = record { proof = c.args.number; length = length c.as_slice-lines.result.now; level = c.in_ok-proof.proof.level; weight = c.in_ok-proof.proof.size; given = c.args.found.given } in
@@ -36,3 +36,8 @@ returns c =
         head = subst IsShortHead head c.heads_are_short.ensures;
       };
     }
+
+pub returns-clause-extent : goal.returns-clause-extent
+returns-clause-extent c =
+    let items = c.in_ok-proof.proof.lines.items in
+    (map plain_line items, c.in_ok-proof.ensures.lines, ap (λ (ls : List Line). length ls) c.as_slice-lines.ensures.value ∙ sym (length-map items plain_line), c.in_ok-proof.ensures.level)
