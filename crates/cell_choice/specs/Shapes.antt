@@ -3,7 +3,7 @@ use Rattle.std.specs.Prelude.{ℕ, ◌^◌, List, [], ◌∷◌, ◌++◌, map}
 use Rattle.std.specs.List.{range_with_len}
 use Rattle.mace_cells.specs.Numbers.{above_each}
 use Rattle.cell_choice.specs.declared.shape.Shape.{Shape}
-use Rattle.mace_cells.specs.Trails.{Ranking}
+use Rattle.mace_cells.specs.Trails.{Ranking, counts_crossed}
 use Rattle.mace_cells.specs.World.{World, cell_of}
 use Rattle.mace_ground.specs.Cells.{Block, Cell, cell, digits}
 
@@ -30,5 +30,5 @@ abbrev pub ranking_of : World → Ranking
 ranking_of w =
     record {
       indices = map (λ s. s.above) (cell_shapes w.size w.blocks);
-      measure = w.way.measure;
+      counts = counts_crossed w.way.measure;
     }

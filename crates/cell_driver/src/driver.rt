@@ -5,8 +5,6 @@ ghost use Rattle.cell_driver.specs.Comings.{ComesInTime};
 ghost use Rattle.plain_search.specs.Coming.{choice, to_come};
 ghost use Rattle.mace_cells.specs.Choices.{IsUndecided};
 ghost use Rattle.mace_cells.specs.Leaves.{LeavesOpen, choices_of};
-ghost use Rattle.mace_cells.specs.Moves.{GoesBy};
-ghost use Rattle.mace_cells.specs.Readings.{GoesInTime};
 ghost use Rattle.mace_cells.specs.Searches.{HasFound, IsTimed};
 ghost use Rattle.mace_cells.specs.Stacked.{rest_of};
 ghost use Rattle.mace_cells.specs.Standing.{IsStanding, place, beyond};
@@ -26,9 +24,6 @@ fn revise<B: Board>(board: &mut B, frames: &mut Stack<Frame>, frame: Frame) -> b
     requires latest { frames.old.list ≡ frame ∷ rest_of frames.old.list }
     ensures world { B.world board.new ≡ B.world board.old }
     ensures standing { IsStanding (B.world board.new) (B.decided board.new) frames.new }
-    ensures goes { GoesBy (B.world board.old) false
-        (choices_of (B.world board.old) frames.old.list) 0 0 result
-        (choices_of (B.world board.old) frames.new.list) }
     ensures comes { to_come (B.world board.old) false
         (choices_of (B.world board.old) frames.old.list) ≡ to_come (B.world board.old) result
         (choices_of (B.world board.old) frames.new.list) }
@@ -58,9 +53,6 @@ fn retreat<B: Board>(board: &mut B, frames: &mut Stack<Frame>) -> bool
     requires standing { IsStanding (B.world board.old) (B.decided board.old) frames.old }
     ensures world { B.world board.new ≡ B.world board.old }
     ensures standing { IsStanding (B.world board.new) (B.decided board.new) frames.new }
-    ensures goes { GoesBy (B.world board.old) false
-        (choices_of (B.world board.old) frames.old.list) 0 0 result
-        (choices_of (B.world board.old) frames.new.list) }
     ensures comes { to_come (B.world board.old) false
         (choices_of (B.world board.old) frames.old.list) ≡ to_come (B.world board.old) result
         (choices_of (B.world board.old) frames.new.list) }
@@ -89,9 +81,6 @@ fn choose<B: Board>(board: &mut B, frames: &mut Stack<Frame>, cell: u32) -> bool
     requires stands { StandsAs (B.world board.old) (B.decided board.old) (Status.Choose cell) }
     ensures world { B.world board.new ≡ B.world board.old }
     ensures standing { IsStanding (B.world board.new) (B.decided board.new) frames.new }
-    ensures goes { GoesBy (B.world board.old) true
-        (choices_of (B.world board.old) frames.old.list) 0 1 result
-        (choices_of (B.world board.old) frames.new.list) }
     ensures comes { to_come (B.world board.old) true
         (choices_of (B.world board.old) frames.old.list) ≡ choice ∷ to_come (B.world board.old)
         result (choices_of (B.world board.old) frames.new.list) }
@@ -124,9 +113,6 @@ fn step<B: Board>(board: &mut B, frames: &mut Stack<Frame>, cell: u32) -> bool
     requires stands { StandsAs (B.world board.old) (B.decided board.old) (Status.Choose cell) }
     ensures world { B.world board.new ≡ B.world board.old }
     ensures standing { IsStanding (B.world board.new) (B.decided board.new) frames.new }
-    ensures goes { GoesBy (B.world board.old) true
-        (choices_of (B.world board.old) frames.old.list) 0 1 result
-        (choices_of (B.world board.old) frames.new.list) }
     ensures comes { to_come (B.world board.old) true
         (choices_of (B.world board.old) frames.old.list) ≡ choice ∷ to_come (B.world board.old)
         result (choices_of (B.world board.old) frames.new.list) }
@@ -150,9 +136,6 @@ fn back<B: Board>(board: &mut B, frames: &mut Stack<Frame>) -> bool
     requires stands { StandsAs (B.world board.old) (B.decided board.old) Status.Refuted }
     ensures world { B.world board.new ≡ B.world board.old }
     ensures standing { IsStanding (B.world board.new) (B.decided board.new) frames.new }
-    ensures goes { GoesBy (B.world board.old) true
-        (choices_of (B.world board.old) frames.old.list) 0 0 result
-        (choices_of (B.world board.old) frames.new.list) }
     ensures comes { to_come (B.world board.old) true
         (choices_of (B.world board.old) frames.old.list) ≡ to_come (B.world board.old) result
         (choices_of (B.world board.old) frames.new.list) }
@@ -176,9 +159,6 @@ fn descend<B: Board, C: Clock>(
     requires early { IsEarly stop (C.times clock.old) }
     ensures world { B.world board.new ≡ B.world board.old }
     ensures standing { IsStanding (B.world board.new) (B.decided board.new) frames.new }
-    ensures goes { GoesInTime (B.world board.old) stop true
-        (choices_of (B.world board.old) frames.old.list) result
-        (choices_of (B.world board.old) frames.new.list) (C.times clock.old) (C.times clock.new) }
     ensures comes { ComesInTime (B.world board.old) stop true
         (choices_of (B.world board.old) frames.old.list) result
         (choices_of (B.world board.old) frames.new.list) (C.times clock.old) (C.times clock.new) }
@@ -213,9 +193,6 @@ fn begin<B: Board>(board: &mut B, frames: &mut Stack<Frame>, live: bool) -> bool
     requires standing { IsStanding (B.world board.old) (B.decided board.old) frames.old }
     ensures world { B.world board.new ≡ B.world board.old }
     ensures standing { IsStanding (B.world board.new) (B.decided board.new) frames.new }
-    ensures goes { GoesBy (B.world board.old) live
-        (choices_of (B.world board.old) frames.old.list) 0 0 result
-        (choices_of (B.world board.old) frames.new.list) }
     ensures comes { to_come (B.world board.old) live
         (choices_of (B.world board.old) frames.old.list) ≡ to_come (B.world board.old) result
         (choices_of (B.world board.old) frames.new.list) }
@@ -239,9 +216,6 @@ pub fn next_model<B: Board, C: Clock>(
     requires early { IsEarly stop (C.times clock.old) }
     ensures world { B.world board.new ≡ B.world board.old }
     ensures standing { IsStanding (B.world board.new) (B.decided board.new) frames.new }
-    ensures goes { GoesInTime (B.world board.old) stop live
-        (choices_of (B.world board.old) frames.old.list) result
-        (choices_of (B.world board.old) frames.new.list) (C.times clock.old) (C.times clock.new) }
     ensures comes { ComesInTime (B.world board.old) stop live
         (choices_of (B.world board.old) frames.old.list) result
         (choices_of (B.world board.old) frames.new.list) (C.times clock.old) (C.times clock.new) }

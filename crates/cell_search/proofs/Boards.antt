@@ -1,14 +1,13 @@
 -- What a board tells of its decisions.
-use Rattle.std.proofs.Common.{◌≡◌, ℕ, zero, suc, ◌+◌, ◌<◌, true, false, max, List, [], map, length, replicate, refl, ap, ◌∙◌, arith}
+use Rattle.std.proofs.Common.{◌≡◌, ℕ, zero, suc, ◌+◌, ◌<◌, Bool, true, false, max, List, [], map, length, replicate, refl, ap, ◌∙◌, arith}
 use Rattle.std.proofs.lemmas.Option.{none-some}
 use Rattle.mace_cells.proofs.Steps.{carried_itself}
 use Rattle.std.proofs.lemmas.List.{length-map}
 use Rattle.cell_choice.proofs.Shaping.{shapes_many}
 use Rattle.cell_choice.specs.Shapes.{cell_shapes, ranking_of}
 use Rattle.cell_choice.specs.declared.shape.Shape.{Shape}
-use Rattle.mace_cells.specs.declared.way.Measure.{Measure}
 use Rattle.mace_cells.specs.Choices.{Decision}
-use Rattle.mace_cells.specs.Trails.{Partial, partial}
+use Rattle.mace_cells.specs.Trails.{Partial, partial, counts_crossed}
 use Rattle.mace_cells.specs.World.{World, IsBound, cell_of, many_cells}
 use Rattle.model_tables.specs.Size.{AllBelow, bound_of}
 use Rattle.cell_search.specs.Losses.{IsBoard}
@@ -32,14 +31,14 @@ board_at_first w some = record {
   once = tt;
 }
 
-pub first_table : (w : World) (shapes : List Shape) (is : List ℕ) (t : Partial) (stride : ℕ) (m : Measure) → shapes ≡ cell_shapes w.size w.blocks → is ≡ map (λ s. s.above) shapes → stride ≡ max w.size 2 → m ≡ w.way.measure
-    → t ≡ partial (length is) stride (record { indices = is; measure = m }) [] [] → t ≡ partial (many_cells w) (max w.size 2) (ranking_of w) [] []
-first_table w shapes is t stride m same above greatest measure made =
+pub first_table : (w : World) (shapes : List Shape) (is : List ℕ) (t : Partial) (stride : ℕ) (counts : Bool) → shapes ≡ cell_shapes w.size w.blocks → is ≡ map (λ s. s.above) shapes → stride ≡ max w.size 2 → counts ≡ counts_crossed w.way.measure
+    → t ≡ partial (length is) stride (record { indices = is; counts = counts }) [] [] → t ≡ partial (many_cells w) (max w.size 2) (ranking_of w) [] []
+first_table w shapes is t stride counts same above greatest counted made =
     let ranks : List ℕ = map (λ s. s.above) (cell_shapes w.size w.blocks) in
     let indices : is ≡ ranks = above ∙ ap (λ (ss : List Shape). map (λ s. s.above) ss) same in
     let many : length ranks ≡ many_cells w = length-map (cell_shapes w.size w.blocks) (λ s. s.above) ∙ shapes_many w.size w.blocks in
-    made ∙ ap (λ (xs : List ℕ). partial (length xs) stride (record { indices = xs; measure = m }) [] []) indices ∙ ap (λ (n : ℕ). partial n stride (record { indices = ranks; measure = m }) [] []) many
-    ∙ ap (λ (n : ℕ). partial (many_cells w) n (record { indices = ranks; measure = m }) [] []) greatest ∙ ap (λ (x : Measure). partial (many_cells w) (max w.size 2) (record { indices = ranks; measure = x }) [] []) measure
+    made ∙ ap (λ (xs : List ℕ). partial (length xs) stride (record { indices = xs; counts = counts }) [] []) indices ∙ ap (λ (n : ℕ). partial n stride (record { indices = ranks; counts = counts }) [] []) many
+    ∙ ap (λ (n : ℕ). partial (many_cells w) n (record { indices = ranks; counts = counts }) [] []) greatest ∙ ap (λ (b : Bool). partial (many_cells w) (max w.size 2) (record { indices = ranks; counts = b }) [] []) counted
 
 pub zeros_below : (n k : ℕ) → 0 < n → AllBelow n (replicate k 0)
 zeros_below n zero some = tt

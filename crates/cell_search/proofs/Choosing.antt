@@ -8,7 +8,7 @@ use Rattle.cell_choice.specs.Choosing.{IsOfLeastIndex, IsCandidate, IsPreferred,
 use Rattle.cell_choice.specs.Shapes.{index_in}
 use Rattle.mace_cells.specs.Choices.{Decision}
 use Rattle.mace_cells.specs.Numbers.{above_each, above_used}
-use Rattle.mace_cells.specs.Trails.{Partial, IsBlank, score}
+use Rattle.mace_cells.specs.Trails.{Partial, IsBlank}
 use Rattle.mace_cells.specs.World.{World, cell_of, many_cells}
 use Rattle.mace_cells.specs.declared.way.Candidates.{Candidates}
 use Rattle.mace_cells.specs.declared.way.Candidates.TheVariants.{All, LeastIndex, InUse}
@@ -24,7 +24,7 @@ use Rattle.cell_search.proofs.Crossing.{range_below}
 use Rattle.cell_search.proofs.Obeying.{table_of}
 use Rattle.cell_search.proofs.Valuing.{rising_range}
 use Rattle.cell_search.proofs.Viewing.{view_has_values}
-use Rattle.cell_search.specs.Choosing.{IsScored, PickedIsChosen, NoneIsChosen}
+use Rattle.cell_search.specs.Choosing.{IsTableOf, PickedIsChosen, NoneIsChosen, score_of}
 use Rattle.cell_search.specs.Viewing.{left_in}
 
 -- a test of cells is a test of their numbers
@@ -107,7 +107,7 @@ module _ (w : World) where
       ]
 
 -- a table of a search
-module _ (w : World) (t : Partial) (scored : IsScored w t) where
+module _ (w : World) (t : Partial) (scored : IsTableOf w t) where
   abbrev p : ValuesLeft
   p = left_in w t
 
@@ -173,17 +173,11 @@ module _ (w : World) (t : Partial) (scored : IsScored w t) where
   of_least : (k : ℕ) → index_in w k ≤ least_index (map (cell_of w) blanks) → IsOfLeastIndex (index_in w) t k
   of_least k low j blank = let less = least_below w blanks j (blank_in j blank) in omega (arith, low, less)
 
-  -- what is preferred to others has the greater score
-  preferred : (k j : ℕ) → IsBlank t k → IsBlank t j → IsPreferred t w.way.measure k j
-      → (plain.score w.way.measure w p (cell_of w j) < plain.score w.way.measure w p (cell_of w k)) ⊎ ((plain.score w.way.measure w p (cell_of w j) ≡ plain.score w.way.measure w p (cell_of w k)) × (k ≤ j))
-  preferred k j here there (inl less) = let a = scored.scores k here in let b = scored.scores j there in inl (omega (arith, less, a, b))
-  preferred k j here there (inr even) = inr (sym (scored.scores j there) ∙ even.0 ∙ scored.scores k here, even.1)
-
-  best_of : (ks : List ℕ) (k : ℕ) → IsRisingFrom 0 ks → IsAmong k ks → ((j : ℕ) → IsAmong j ks → IsBlank t j × IsPreferred t w.way.measure k j) → best (plain.score w.way.measure w p) (map (cell_of w) ks) ≡ Some (cell_of w k)
+  best_of : (ks : List ℕ) (k : ℕ) → IsRisingFrom 0 ks → IsAmong k ks → ((j : ℕ) → IsAmong j ks → IsBlank t j × IsPreferred (score_of w t) k j) → best (plain.score w.way.measure w p) (map (cell_of w) ks) ≡ Some (cell_of w k)
   best_of ks k rising i all =
-      best_is (plain.score w.way.measure w p) (cell_of w) 0 ks k rising i (λ j h. let a = all j h in preferred k j (all k i).0 a.0 a.1)
+      best_is (plain.score w.way.measure w p) (cell_of w) 0 ks k rising i (λ j h. (all j h).1)
 
-  by_candidates : (a : Candidates) (used k : ℕ) → IsCandidate (index_in w) t a used k → ((j : ℕ) → IsCandidate (index_in w) t a used j → IsPreferred t w.way.measure k j)
+  by_candidates : (a : Candidates) (used k : ℕ) → IsCandidate (index_in w) t a used k → ((j : ℕ) → IsCandidate (index_in w) t a used j → IsPreferred (score_of w t) k j)
       → best (plain.score w.way.measure w p) (candidates a used (map (cell_of w) blanks)) ≡ Some (cell_of w k)
   by_candidates All used k here most = best_of blanks k blanks_rise (blank_in k here) (λ j i. let b = in_blank j i in (b, most j b))
   by_candidates LeastIndex used k here most =
@@ -205,7 +199,7 @@ module _ (w : World) (t : Partial) (scored : IsScored w t) where
         | inr less ↦ inl less
       ]
 
-  pub picked_chosen : (ds : List Decision) (k : ℕ) → IsPicked (index_in w) t w.way (above_used w.fixed ds) k → chosen w ds p ≡ Some (cell_of w k)
+  pub picked_chosen : (ds : List Decision) (k : ℕ) → IsPicked (index_in w) t (score_of w t) w.way.candidates (above_used w.fixed ds) k → chosen w ds p ≡ Some (cell_of w k)
   picked_chosen ds k picked =
       ap (λ (cs : List Cell). best (plain.score w.way.measure w p) (candidates w.way.candidates (above_used w.fixed ds) cs)) open_are
       ∙ by_candidates w.way.candidates (above_used w.fixed ds) k picked.0 picked.1

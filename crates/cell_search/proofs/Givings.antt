@@ -1,12 +1,9 @@
 -- What a search gives, by what it found.
 use Rattle.std.proofs.Common.{◌≡◌, ℕ, zero, suc, Bool, false, List, [], Option, refl, sym, subst}
 use Rattle.ladr_io.specs.Times.{Times}
-use Rattle.mace_cells.proofs.Moving.{goes_nowhere}
 use Rattle.mace_cells.proofs.Reading.{reads_none}
 use Rattle.mace_cells.proofs.Steps.{found, ended}
 use Rattle.mace_cells.specs.Leaves.{choices_of}
-use Rattle.mace_cells.specs.Choices.{Choice}
-use Rattle.mace_cells.specs.Readings.{GoesInTime}
 use Rattle.mace_cells.specs.Searches.{HasFound, IsTimed}
 use Rattle.mace_cells.specs.Trails.{Partial}
 use Rattle.mace_cells.specs.World.{World}
@@ -38,17 +35,6 @@ gives_by w w' p p' fs fs' live old stop late t answer n state worlds lives after
     (subst (λ (v : World). AnswersByCells (course w live fs p stop late) (course v (live_in (follows_after answer n)) fs' p' stop (late_in (follows_after answer n))) answer t) (sym worlds)
     (at_once w p p' fs fs' live stop late t answer n (subst (λ (v : World). HasFound w live (choices_of w fs) (meaning_by_cells v p'.entries) answer (choices_of w fs')) worlds h)
     (subst (λ (v : World). answer ≡ Model → AreTablesFor v (finite_of v p'.entries)) worlds whole) timed)))
-
--- the clock was read as often as the code says
-pub goes_by : (w w' : World) (fs fs' : List Frame) (live old : Bool) (stop : Option ℕ) (t t' : Times) (answer : Answer) → w' ≡ w → old ≡ live
-    → GoesInTime w stop live (choices_of w fs) answer (choices_of w fs') t t' → GoesInTime w stop old (choices_of w fs) answer (choices_of w' fs') t t'
-goes_by w w' fs fs' live old stop t t' answer worlds lives h =
-    subst (λ (b : Bool). GoesInTime w stop b (choices_of w fs) answer (choices_of w' fs') t t') (sym lives)
-    (subst (λ (v : World). GoesInTime w stop live (choices_of w fs) answer (choices_of v fs') t t') (sym worlds) h)
-
--- where nothing is left no cell is chosen, and the clock isn't read
-pub goes_no_more : (w : World) (stop : Option ℕ) (cs : List Choice) (t : Times) → GoesInTime w stop false cs Exhausted cs t t
-goes_no_more w stop cs t = (0, goes_nowhere w false cs, reads_none stop t)
 
 -- what came is what the code says
 pub comes_by : (w w' : World) (fs fs' : List Frame) (live old : Bool) (stop : Option ℕ) (t t' : Times) (answer : Answer) → w' ≡ w → old ≡ live

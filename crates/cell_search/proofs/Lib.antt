@@ -38,6 +38,8 @@ pub mod Finding
 pub mod Closed
 pub mod Choosing
 pub mod Scoring
+pub mod Trials
+pub mod Counted
 pub mod Phasing
 pub mod Settling
 pub mod Leafing

@@ -4,10 +4,10 @@ use Rattle.std.specs.List.{filter, range_with_len}
 use Rattle.std.proofs.lemmas.Bool.{eq-eqb, eqb-true, eqb-false}
 use Rattle.std.proofs.lemmas.List.FromFn.{length-range_with_len}
 use Rattle.std.proofs.lemmas.Nat.{div-add-mod', div-mul-add}
-use Rattle.mace_cells.specs.Trails.{Partial, value_in, is_struck_off, crossings_of, score}
+use Rattle.mace_cells.specs.Trails.{Partial, value_in, is_struck_off, crossings_of, counts_crossed, score}
 use Rattle.mace_cells.specs.World.{World, cell_of, many_cells}
 use Rattle.mace_cells.specs.declared.way.Measure.{Measure}
-use Rattle.mace_cells.specs.declared.way.Measure.TheVariants.{First, MostCrossed}
+use Rattle.mace_cells.specs.declared.way.Measure.TheVariants.{First, MostOccurrences, MostAssigned, MostContradicted, MostCrossed}
 use Rattle.model_tables.specs.Size.{bound_of}
 use Rattle.plain_search.proofs.Rising.{bounded_below, rising_filter}
 use Rattle.plain_search.specs.Closing.{kept}
@@ -22,6 +22,7 @@ use Rattle.cell_search.proofs.Following.{left_blank}
 use Rattle.cell_search.proofs.Keeping.{takes_none}
 use Rattle.cell_search.proofs.Valuing.{rising_range}
 use Rattle.cell_search.specs.Losses.{AreCrossedOnce}
+use Rattle.cell_search.specs.Scores.{is_ranked}
 use Rattle.cell_search.specs.Searchable.{HasAllCells}
 use Rattle.cell_search.specs.Viewing.{left_in}
 
@@ -95,10 +96,14 @@ module _ (s k end : ℕ) (some : 0 < s) (fits : end ≤ s) where
           let same = ap (λ (xs : List ℕ). length xs) (one_elsewhere j js (eqb-false (j / s) k e)) in
           omega (arith, before, same)
 
-pub is_scored : (w : World) (t : Partial) (k : ℕ) → HasAllCells w → t.stride ≡ max w.size 2 → AreCrossedOnce w t.stride t.crossings → k < many_cells w → value_in t.entries k ≡ None → (m : Measure)
-    → score t m k ≡ plain.score m w (left_in w t) (cell_of w k)
-is_scored w t k cells stride once few blank First = refl
-is_scored w t k cells stride once few blank MostCrossed =
+-- what a trail counts is the score, where that is counted
+pub is_scored : (w : World) (t : Partial) (k : ℕ) → HasAllCells w → t.stride ≡ max w.size 2 → AreCrossedOnce w t.stride t.crossings → k < many_cells w → value_in t.entries k ≡ None → (m : Measure) → is_ranked m ≡ true
+    → score t (counts_crossed m) k ≡ plain.score m w (left_in w t) (cell_of w k)
+is_scored w t k cells stride once few blank First h = refl
+is_scored w t k cells stride once few blank MostOccurrences h = absurd (cc)
+is_scored w t k cells stride once few blank MostAssigned h = absurd (cc)
+is_scored w t k cells stride once few blank MostContradicted h = absurd (cc)
+is_scored w t k cells stride once few blank MostCrossed h =
     let end = bound_of w.size (cell_of w k).kind in
     let fits = bound_fits w.size (cell_of w k).kind in
     let some : 0 < t.stride = omega (arith, stride) in

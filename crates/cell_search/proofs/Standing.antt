@@ -24,10 +24,9 @@ use Rattle.cell_search.proofs.Crossing.{range_below}
 use Rattle.cell_search.proofs.Filling.{decided_few}
 use Rattle.cell_search.proofs.Following.{left_blank}
 use Rattle.cell_search.proofs.Obeying.{table_of}
-use Rattle.cell_search.proofs.Scoring.{is_scored}
 use Rattle.cell_search.proofs.Settling.{full_when_none, settled_when_none}
 use Rattle.cell_search.proofs.Tabling.{cells_differ, tables_whole}
-use Rattle.cell_search.specs.Choosing.{IsScored}
+use Rattle.cell_search.specs.Choosing.{IsTableOf, score_of}
 use Rattle.cell_search.specs.Finites.{AreTablesFor, finite_of, meaning_by_cells}
 use Rattle.cell_search.specs.Losses.{IsBoard, decided_in}
 use Rattle.cell_search.specs.Phases.{IsClosedTable}
@@ -58,25 +57,20 @@ module _ (w : World) (t : Partial) (board : IsBoard w t) (cells : HasAllCells w)
   pub behind_table : IsBehind w (decided_in w t.entries) (left_in w t)
   behind_table = (closed.behind, table_of w t cells closed.well)
 
-  scored : IsScored w t
-  scored = record {
-    cells = cells;
-    many = board.many;
-    well = closed.well;
-    scores = λ k blank. let few = blank.0 in let many = board.many in is_scored w t k cells board.stride board.once (omega (arith, few, many)) blank.1 w.way.measure;
-  }
+  is_table : IsTableOf w t
+  is_table = record { cells = cells; many = board.many; well = closed.well }
 
-  pub stands_chosen : (k : ℕ) → IsPicked (index_in w) t w.way (above_used w.fixed (decided_in w t.entries)) k → StandsAs w (decided_in w t.entries) (Choose k)
-  stands_chosen k picked = (left_in w t, (behind_table, picked_is_chosen w t (decided_in w t.entries) k scored picked))
+  pub stands_chosen : (k : ℕ) → IsPicked (index_in w) t (score_of w t) w.way.candidates (above_used w.fixed (decided_in w t.entries)) k → StandsAs w (decided_in w t.entries) (Choose k)
+  stands_chosen k picked = (left_in w t, (behind_table, picked_is_chosen w t (decided_in w t.entries) k is_table picked))
 
   pub stands_settled : ((k : ℕ) → IsBlank t k → ⊥) → StandsAs w (decided_in w t.entries) Settled
-  stands_settled none = (left_in w t, (behind_table, none_is_chosen w t (decided_in w t.entries) scored none))
+  stands_settled none = (left_in w t, (behind_table, none_is_chosen w t (decided_in w t.entries) is_table none))
 
   pub told_settled : WereLeft w (decided_in w t.entries) → ((k : ℕ) → IsBlank t k → ⊥) → IsAsSaid w (decided_in w t.entries) (meaning_by_cells w t.entries) Settled
-  told_settled were none = settled_when_none w t cells closed were (none_is_chosen w t (decided_in w t.entries) scored none)
+  told_settled were none = settled_when_none w t cells closed were (none_is_chosen w t (decided_in w t.entries) is_table none)
 
   pub full_settled : WereLeft w (decided_in w t.entries) → ((k : ℕ) → IsBlank t k → ⊥) → AreTablesFor w (finite_of w t.entries)
-  full_settled were none = tables_whole w t.entries cells.some (full_when_none w t cells closed were (none_is_chosen w t (decided_in w t.entries) scored none))
+  full_settled were none = tables_whole w t.entries cells.some (full_when_none w t cells closed were (none_is_chosen w t (decided_in w t.entries) is_table none))
 
   pub told_chosen : (k : ℕ) → k < many_cells w → value_in t.entries k ≡ None → length t.entries < t.many → IsAsSaid w (decided_in w t.entries) (meaning_by_cells w t.entries) (Choose k)
   told_chosen k few blank room =

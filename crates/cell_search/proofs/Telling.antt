@@ -125,7 +125,7 @@ module _ (w : World) (es : List TrailEntry) (p : ValuesLeft) (has : HasValues w 
       ∙ ap (plain.compared (seen w es e s)) (term_value t h.1) ∙ compared_is (seen w es e s) (seen w es e t)
   equation_is (more s (more t (more u us))) h = absurd h
 
-  atom_is : (t : Tree) → IsAtomOfCells w t → plain.compared (sides w.size p e t).0.value (sides w.size p e t).1.value ≡ atom_seen w es e t
+  pub atom_is : (t : Tree) → IsAtomOfCells w t → plain.compared (sides w.size p e t).0.value (sides w.size p e t).1.value ≡ atom_seen w es e t
   atom_is (var x) h = absurd h
   atom_is (elem k) h = absurd h
   atom_is (app r ts) h = by (r == equality) h
@@ -139,11 +139,11 @@ module _ (w : World) (es : List TrailEntry) (p : ValuesLeft) (has : HasValues w 
           ∙ compared_one (option_and_then (value_in es) (cell_seen w es e Relation r ts))
 
   -- the cells of sides
-  side_cell : (kind : Kind) (s : ℕ) (ts : Trees) → HasCells w kind s (length (list_of ts)) → AreOfCells w ts → (cell_side w.size p e kind s ts).cell ≡ option_map (cell_of w) (cell_seen w es e kind s ts)
+  pub side_cell : (kind : Kind) (s : ℕ) (ts : Trees) → HasCells w kind s (length (list_of ts)) → AreOfCells w ts → (cell_side w.size p e kind s ts).cell ≡ option_map (cell_of w) (cell_seen w es e kind s ts)
   side_cell kind s ts cells h =
       ap (option_and_then (cell_for w.size kind s)) (all_known_is ts h) ∙ known_cell kind s (all_seen w es e ts) (have_cells kind s ts cells)
 
-  term_cell : (t : Tree) → IsOfCells w t → (term_side w.size p e t).cell ≡ option_map (cell_of w) (term_number w es e t)
+  pub term_cell : (t : Tree) → IsOfCells w t → (term_side w.size p e t).cell ≡ option_map (cell_of w) (term_number w es e t)
   term_cell (var x) h = refl
   term_cell (elem k) h = refl
   term_cell (app s ts) h = side_cell Function s ts h.0 h.1

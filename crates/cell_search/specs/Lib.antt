@@ -9,11 +9,14 @@ pub mod SearchCodes
 pub mod Searchable
 pub mod Losses
 pub mod Telling
+pub mod Trials
 pub mod Viewing
 pub mod Following
 pub mod Covering
 pub mod Marks
 pub mod Ways
 pub mod Choosing
+pub mod Scores
+pub mod Counted
 pub mod Phases
 pub mod Leaves

@@ -4,7 +4,7 @@ use Rattle.std.specs.Coded.{Coded, code_by, coded×, coded_ℕ, coded_bool, code
 use Rattle.mace_cells.specs.declared.way.Candidates.{Candidates}
 use Rattle.mace_cells.specs.declared.way.Candidates.TheVariants.{All, LeastIndex, InUse}
 use Rattle.mace_cells.specs.declared.way.Measure.{Measure}
-use Rattle.mace_cells.specs.declared.way.Measure.TheVariants.{First, MostCrossed}
+use Rattle.mace_cells.specs.declared.way.Measure.TheVariants.{First, MostOccurrences, MostAssigned, MostContradicted, MostCrossed}
 use Rattle.mace_cells.specs.declared.way.Way.{Way}
 use Rattle.fol_core.specs.LitCodes.{coded_clause}
 use Rattle.fol_core.specs.Literals.{ClauseTree}
@@ -34,15 +34,24 @@ candidates_back All = refl
 candidates_back LeastIndex = refl
 candidates_back InUse = refl
 
-abbrev measure_tag : Measure → Bool
-measure_tag First = false
-measure_tag MostCrossed = true
+abbrev measure_tag : Measure → ℕ
+measure_tag First = 0
+measure_tag MostOccurrences = 1
+measure_tag MostAssigned = 2
+measure_tag MostContradicted = 3
+measure_tag MostCrossed = 4
 
-abbrev measure_from : Bool → Measure
-measure_from b = if b then MostCrossed else First
+abbrev measure_from : ℕ → Measure
+measure_from n =
+    if n == 0 then First
+    else (if n == 1 then MostOccurrences
+    else (if n == 2 then MostAssigned else (if n == 3 then MostContradicted else MostCrossed)))
 
 pub measure_back : (m : Measure) → measure_from (measure_tag m) ≡ m
 measure_back First = refl
+measure_back MostOccurrences = refl
+measure_back MostAssigned = refl
+measure_back MostContradicted = refl
 measure_back MostCrossed = refl
 
 abbrev way_from : Candidates → Measure → Bool → Way
@@ -50,7 +59,7 @@ way_from c m least = record { candidates = c; measure = m; least_numbers = least
 
 abbrev pub coded_way : Coded Way
 coded_way =
-    code_by (ℕ × (Bool × Bool)) (coded× coded_ℕ (coded× coded_bool coded_bool))
+    code_by (ℕ × (ℕ × Bool)) (coded× coded_ℕ (coded× coded_ℕ coded_bool))
     (λ w. (candidates_tag w.candidates, (measure_tag w.measure, w.least_numbers)))
     (λ p. way_from (candidates_from p.0) (measure_from p.1.0) p.1.1)
     (λ w i. way_from (candidates_back w.candidates i) (measure_back w.measure i) w.least_numbers)
@@ -78,9 +87,7 @@ coded_entry =
 abbrev pub coded_ranking : Coded Ranking
 coded_ranking =
     code_by (List ℕ × Bool) (coded× (coded_list coded_ℕ) coded_bool)
-    (λ r. (r.indices, measure_tag r.measure))
-    (λ p. record { indices = p.0; measure = measure_from p.1 })
-    (λ r i. record { indices = r.indices; measure = measure_back r.measure i })
+    (λ r. (r.indices, r.counts)) (λ p. record { indices = p.0; counts = p.1 }) (λ _. refl)
 
 abbrev pub coded_partial : Coded Partial
 coded_partial =

@@ -1,12 +1,14 @@
 // The board of a search: a partial table of its cells, closed under what the clauses ask.
-ghost use Rattle.std.specs.Prelude.{ℕ, ◌≡◌, ◌<◌, ◌≤◌, ◌^◌, [], None, true, max, IfOk, length, replicate};
+ghost use Rattle.std.specs.Prelude.{ℕ, ◌≡◌, ◌<◌, ◌≤◌, ◌^◌, [], None, true, false, max, IfOk, length, replicate};
 ghost use Rattle.cell_choice.specs.Shapes.{cell_shapes, ranking_of};
 ghost use Rattle.cell_driver.specs.Boards.{IsAsSaid, StandsAs};
+ghost use Rattle.cell_search.specs.Choosing.{IsPickedBehind};
 ghost use Rattle.cell_search.specs.Covering.{AreWholeWays};
 ghost use Rattle.cell_search.specs.Finites.{finite_of, meaning_by_cells, tables_over, AreLeafTables, AreTablesFor};
 ghost use Rattle.cell_search.specs.Following.{left_after};
 ghost use Rattle.cell_search.specs.Phases.{IsClosedTable, phase_after};
 ghost use Rattle.cell_search.specs.Positions.{position, IsLeast};
+ghost use Rattle.cell_search.specs.Scores.{is_ranked};
 ghost use Rattle.cell_search.specs.Searchable.{HasAllCells};
 ghost use Rattle.cell_search.specs.Losses.{decided_in, AreFresh, HadTwoLeft};
 ghost use Rattle.cell_search.specs.Ways.{AreGroups, HaveWalks};
@@ -17,14 +19,15 @@ ghost use Rattle.mace_cells.specs.World.{cell_of, many_cells, IsBound};
 ghost use Rattle.plain_search.specs.Coming.{closed_behind};
 
 use crate::going::close_waiting;
+use crate::scores::{is_ranked, score};
 use crate::setup::Setup;
 use crate::tables::finite;
 use crate::walk::{Group, Walk};
 use crate::walks::room;
-use cell_choice::{Shape, above_decision, greatest_tried, indices, pick};
+use cell_choice::{Shape, above_decision, greatest_tried, highest, indices, limit, pick};
 use cell_driver::{Board, Status};
 use fol_core::Symbols;
-use mace_cells::{Stack, Trail};
+use mace_cells::{Measure, Stack, Trail};
 use model_tables::Tables;
 use std::alloc::{AllocError, Global};
 use std::marker::Model;
@@ -57,6 +60,8 @@ pub struct Cells<'a> {
     groups: Vec<Group<'a>>,
     // The elements of variables.
     env: Vec<u32>,
+    // What the choice prefers cells by, where this is worked out anew for each choice.
+    scores: Vec<u64>,
     // For how many steps all instances were gone over, and whether they were at the beginning.
     head: usize,
     begun: bool,
@@ -64,11 +69,12 @@ pub struct Cells<'a> {
 }
 
 impl<'a> Model for Cells<'a> {
-    ghost use Rattle.std.specs.Prelude.{◌≡◌, ◌≤◌, length};
+    ghost use Rattle.std.specs.Prelude.{◌≡◌, ◌≤◌, false, length};
     ghost use Rattle.cell_choice.specs.Numbers.{uses_by};
     ghost use Rattle.cell_choice.specs.Shapes.{cell_shapes};
     ghost use Rattle.cell_search.specs.Phases.{IsInPhase, IsReady, WasClosed};
     ghost use Rattle.cell_search.specs.Positions.{BoardPosition};
+    ghost use Rattle.cell_search.specs.Scores.{is_ranked};
     ghost use Rattle.cell_search.specs.SearchCodes.{coded_position};
     ghost use Rattle.cell_search.specs.Searchable.{HasAllCells};
     ghost use Rattle.cell_search.specs.Losses.{IsBoard, decided_in};
@@ -87,6 +93,8 @@ impl<'a> Model for Cells<'a> {
       searchable : HasAllCells a.setup;
       ready : IsReady a.setup a.walks.items a.groups.items (length a.env.items);
       env : AllBelow a.setup.size a.env.items;
+      scores : is_ranked a.setup.way.measure ≡ false
+          → length a.scores.items ≡ many_cells a.setup;
       shapes : a.shapes.items ≡ cell_shapes a.setup.size a.setup.blocks;
       uses : a.uses.list ≡ uses_by a.setup.fixed (decided_in a.setup a.trail.entries);
       stack : a.uses.room ≡ many_cells a.setup;
@@ -120,10 +128,12 @@ impl<'a> Cells<'a> {
     {
         let cells = setup.cells() as usize;
         let indices = indices(alloc, &shapes)?;
-        let trail = Trail::new(alloc, setup.size().max(2), indices, setup.way().measure)?;
+        let counts = setup.way().measure.counts_crossed();
+        let trail = Trail::new(alloc, setup.size().max(2), indices, counts)?;
         let uses = Stack::new(alloc, cells, 0)?;
         let room = room(&setup)?;
         let env = zeros(alloc, room)?;
+        let scores = scores(alloc, setup.way().measure, cells)?;
         Ok(Cells {
             setup,
             shapes,
@@ -132,6 +142,7 @@ impl<'a> Cells<'a> {
             walks,
             groups,
             env,
+            scores,
             head: 0,
             begun: false,
             phase: Phase::Waiting,
@@ -217,9 +228,37 @@ impl<'a> Cells<'a> {
         }
     }
 
-    // The cell that is to be chosen in a closed table; or each has a value, and the clauses are true.
-    fn chosen(&self) -> Status
-        requires { IsClosedTable self.now.world self.now.table }
+    // The cell that the plain search chooses in a closed table; nothing where each has a value.
+    fn picked(&mut self) -> Option<u32>
+        requires { IsClosedTable self.old.world self.old.table }
+        ensures same { self.new ≡ self.old }
+        ensures picked { IsPickedBehind self.old.world self.old.table
+            (decided_in self.old.world self.old.table.entries) result }
+    {
+        let way = self.setup.way();
+        let used = self.in_use();
+        if is_ranked(way.measure) {
+            return pick(&self.trail, way.candidates, used);
+        }
+        let limit = limit(&self.trail, &self.shapes, way.candidates, used)?;
+        score(
+            &self.setup,
+            &mut self.trail,
+            &self.shapes,
+            &self.groups,
+            &mut self.env,
+            limit,
+            &mut self.scores,
+        );
+        highest(&self.trail, &self.shapes, limit, &self.scores)
+    }
+
+    // The cell that is to be chosen in a closed table, the plain search choosing this one; or each has a value, and the clauses are
+    // true.
+    fn chosen(&self, picked: Option<u32>) -> Status
+        requires closed { IsClosedTable self.now.world self.now.table }
+        requires picked { IsPickedBehind self.now.world self.now.table
+            (decided_in self.now.world self.now.table.entries) picked }
         ensures told { IsAsSaid self.now.world (decided_in self.now.world self.now.table.entries)
             (meaning_by_cells self.now.world self.now.table.entries) result }
         ensures stands { StandsAs self.now.world
@@ -233,7 +272,7 @@ impl<'a> Cells<'a> {
             (decided_in self.now.world self.now.table.entries)
             (finite_of self.now.world self.now.table.entries) }
     {
-        match pick(&self.trail, self.setup.way(), self.in_use()) {
+        match picked {
             Some(cell) => {
                 let _value = self.trail.value(cell);
                 Status::Choose(cell)
@@ -241,6 +280,17 @@ impl<'a> Cells<'a> {
             None => Status::Settled,
         }
     }
+}
+
+// Room for the scores of so many cells, where they are worked out.
+fn scores(alloc: Global, measure: Measure, many: usize) -> Result<Vec<u64>, AllocError>
+    ensures { IfOk result (λ v. is_ranked measure ≡ false → length v.items ≡ many) }
+{
+    let mut scores = Vec::new(alloc);
+    if !is_ranked(measure) {
+        scores.resize(many, 0)?;
+    }
+    Ok(scores)
 }
 
 // So many zeros.
@@ -297,7 +347,8 @@ impl<'a> Board for Cells<'a> {
 
     fn status(&mut self) -> Status {
         if self.close() {
-            self.chosen()
+            let picked = self.picked();
+            self.chosen(picked)
         } else {
             Status::Refuted
         }

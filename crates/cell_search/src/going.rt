@@ -184,7 +184,13 @@ fn group_of<'a, 'g>(groups: &'g [Group<'a>], cell: u32) -> Option<&'g Group<'a>>
 
 // Goes over the clauses' instances that have a cell which got a value in this step or a later one, those which get one meanwhile
 // too; false where the clauses contradict what was decided.
-fn close(setup: &Setup, trail: &mut Trail, groups: &[Group], env: &mut [u32], from: usize) -> bool
+pub fn close(
+    setup: &Setup,
+    trail: &mut Trail,
+    groups: &[Group],
+    env: &mut [u32],
+    from: usize,
+) -> bool
     requires board { IsBoard setup.now trail.old }
     requires env { AllBelow setup.now.size env.old }
     ensures grows { Grows trail.old trail.new }

@@ -10,7 +10,9 @@
 // (`plain_search`): a look is what an instance tells, what it asks is done, no more and no less, and closing goes over all
 // instances that its steps may touch, so that it comes to the closure of the table. So a closed table is that of the plain
 // search behind the same decisions (`specs/Phases`), and the cell that is picked in it is the one that the plain search
-// chooses (`specs/Choosing`): models come as its leaves do, in their order (`cell_driver`). `tables.rt` has the tables of a
+// chooses (`specs/Choosing`): models come as its leaves do, in their order (`cell_driver`). Where the choice is by scores
+// that no trail keeps, `scores.rt` works them out anew for each choice: `occurrences.rt` by a pass over all instances,
+// `trying.rt` by the closure with each value that a cell has left, which is taken back. `tables.rt` has the tables of a
 // model. Answered is the next model, that there is none, or that the time is over.
 #![tactic(auto)]
 
@@ -21,10 +23,13 @@ mod going;
 mod laws;
 mod literals;
 mod look;
+mod occurrences;
+mod scores;
 mod search;
 mod seen;
 mod setup;
 mod tables;
+mod trying;
 mod walk;
 mod walks;
 

@@ -5,7 +5,6 @@ ghost use Rattle.cell_search.specs.Courses.{world_of, above_numeral, beginning, 
 ghost use Rattle.cell_search.specs.Finites.{tables_over, AreLeafTables};
 ghost use Rattle.cell_search.specs.Searchable.{HasAllCells};
 ghost use Rattle.mace_cells.specs.Choices.{decisions};
-ghost use Rattle.mace_cells.specs.Readings.{GoesInTime};
 ghost use Rattle.mace_ground.specs.Count.{ground_count};
 ghost use Rattle.ladr_io.specs.Watch.{IsEarly};
 ghost use Rattle.mace_search.specs.declared.answer.Answer.TheVariants.{Exhausted, MaxSeconds, Model};
@@ -141,9 +140,6 @@ impl<'a> CellSearch<'a> {
     pub fn next_model<C: Clock>(&mut self, clock: &mut C) -> Answer
         requires { self.old.late ≡ None → IsEarly self.old.stop (C.times clock.old) }
         ensures same { IsSameCourse self.old self.new }
-        ensures clock { self.old.late ≡ None
-            → GoesInTime self.old.world self.old.stop self.old.live self.old.choices result
-            self.new.choices (C.times clock.old) (C.times clock.new) }
         // Of what the plain search still has to do so many choices are passed over: up to a leaf, which is the model; up to its end;
         // or to one more choice. The clock was read once for each.
         ensures comes { self.old.late ≡ None
@@ -176,8 +172,6 @@ impl<'a> CellSearch<'a> {
         requires late { self.old.late ≡ None }
         requires early { IsEarly self.old.stop (C.times clock.old) }
         ensures same { IsSameCourse self.old self.new }
-        ensures clock { GoesInTime self.old.world self.old.stop self.old.live self.old.choices
-            result self.new.choices (C.times clock.old) (C.times clock.new) }
         ensures comes { ComesInTime self.old.world self.old.stop self.old.live self.old.choices
             result self.new.choices (C.times clock.old) (C.times clock.new) }
         ensures leaf { result ≡ Model

@@ -5,7 +5,9 @@ ghost use Rattle.mace_cells.specs.World.{cell_of, many_cells};
 ghost use Rattle.cell_search.specs.Bounds.{cell_bounds};
 ghost use Rattle.model_tables.specs.Size.{bound_of};
 ghost use Rattle.mace_ground.specs.Cells.{found};
+ghost use Rattle.mace_ground.specs.Instances.{ground_literals};
 ghost use Rattle.mace_ground.specs.Spans.{block_of, span_of};
+ghost use Rattle.model_tables.specs.declared.limits.TheConstants.{MOST_CELLS};
 
 use fol_core::{Clause, Sym};
 use mace_cells::Way;
@@ -127,6 +129,13 @@ impl<'a> Setup<'a> {
         ensures { map block_of result.now ≡ self.now.blocks }
     {
         self.ground.blocks().list()
+    }
+
+    /// The ground instances have few literals together.
+    pub fn literals_are_few(&self)
+        ensures { ground_literals self.now.size self.now.clauses ≤ MOST_CELLS }
+    {
+        self.ground.literals_are_few();
     }
 
     /// The clauses, each with the number of its formula.

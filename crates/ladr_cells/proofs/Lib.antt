@@ -1,7 +1,6 @@
 pub mod Carrying
 pub mod Celled
 pub mod Clausal
-pub mod Covering
 pub mod Files
 pub mod Listed
 pub mod Readings

@@ -4,7 +4,6 @@
 // `Fitting`; the proof goes along the definition of a file, item by item), so the clauses of it do, and each term of
 // theirs has a cell (`specs/Worlds`). A solution of the clauses is a countermodel of what is stated, and a model of its
 // symbols can be made a solution; tables with the values of a renamed solution are the renamed interpretation.
-// `proofs/Covering` has what a search has shown so far, from model to model.
 #![tactic(auto)]
 
 mod laws;

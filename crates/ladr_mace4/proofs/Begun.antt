@@ -1,5 +1,5 @@
 -- One size, by what its parts tell.
-use Rattle.std.proofs.Common.{◌≡◌, ℕ, ◌+◌, ◌<◌, ◌≤◌, [], ◌++◌, Result, Ok, Err, IfOk, inr, refl, sym, subst, arith}
+use Rattle.std.proofs.Common.{◌≡◌, ℕ, ◌+◌, ◌<◌, ◌≤◌, [], ◌++◌, Result, Ok, Err, IfOk, inl, inr, refl, sym, subst, arith}
 use Rattle.fol_core.specs.Occurs.{size_needed}
 use Rattle.fol_problem.specs.Stated.{Stated}
 use Rattle.ladr_io.specs.Streams.{Outflow, Takes}
@@ -21,7 +21,7 @@ use Rattle.model_tables.specs.Size.{formulas_of}
 module _ (p : Stated) (s : Plan) (t : Times) (n k r : ℕ) where
   -- nothing of the size is printed yet
   nothing : k < s.wanted → IsInTime s.seconds t → HasRead s.seconds r t → SizeGoes p s t n k r []
-  nothing fewer in_time reads = (between, tt, omega (arith, fewer), in_time, subst (λ (j : ℕ). HasRead s.seconds j t) (omega arith) reads, refl)
+  nothing fewer in_time reads = (between, tt, inl (omega (arith, fewer)), in_time, subst (λ (j : ℕ). HasRead s.seconds j t) (omega arith) reads, refl)
 
   -- the size is skipped
   pub at_skipped : (a b : Outflow) (result : Result Step Cut) → n ≤ s.end → n < size_needed (formulas_of p) → k < s.wanted → IsInTime s.seconds t → HasRead s.seconds r t → IsPiece (skipped_line n) a b result → IfOk result (λ step. step ≡ Over k) → Tells (SizeGoes p s t n k r) (SizeEnds p s t n k r) a b result
@@ -38,7 +38,7 @@ module _ (p : Stated) (s : Plan) (t : Times) (n k r : ℕ) where
   -- the size's line is cut off
   pub at_line : (a b : Outflow) (why : Cut) → IsBegun p s n → k < s.wanted → IsInTime s.seconds t → HasRead s.seconds r t → IsPiece {T = Unit {0}} (size_line n) a b (Err why) → Tells (SizeGoes p s t n k r) (SizeEnds p s t n k r) a b (Err why)
   at_line a b why begun fewer in_time reads piece =
-      cut_by (Unit {0}) (SizeGoes p s t n k r) (SizeEnds p s t n k r) (size_line n) a b why (nothing fewer in_time reads) (opened, begun, omega (arith, fewer), in_time, subst (λ (j : ℕ). HasRead s.seconds j t) (omega arith) reads, refl) piece
+      cut_by (Unit {0}) (SizeGoes p s t n k r) (SizeEnds p s t n k r) (size_line n) a b why (nothing fewer in_time reads) (opened, begun, inl (omega (arith, fewer)), in_time, subst (λ (j : ℕ). HasRead s.seconds j t) (omega arith) reads, refl) piece
 
   -- the search ends as the size begins
   pub at_beginning : (a b : Outflow) (end : SearchEnd) → IsBegun p s n → Takes a b (size_line n) → Stops p s t n k opened end → HasRead s.seconds (r + 1) t → Tells (SizeGoes p s t n k r) (SizeEnds p s t n k r) a b (Ok (Ends end k))

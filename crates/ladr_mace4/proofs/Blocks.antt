@@ -5,17 +5,19 @@ use Rattle.clausify.specs.Behind.{SkolemsStandBehind}
 use Rattle.fol_core.specs.Literals.{equality}
 use Rattle.fol_problem.specs.Stated.{Stated}
 use Rattle.fol_core.specs.SymbolTable.{Symbol}
+use Rattle.ladr_cells.specs.Fitting.{FitsTable}
 use Rattle.ladr_cells.specs.Showing.{IsOneOf}
 use Rattle.ladr_cells.specs.Worlds.{ground_size}
+use Rattle.ladr_intake.specs.Posed.{Posed}
 use Rattle.ladr_io.specs.Times.{Times}
-use Rattle.ladr_mace4.proofs.Known.{InOrder, AreNew, EachSolves}
 use Rattle.ladr_mace4.proofs.SearchBlocks.{SearchBlock, begins, skips, shows, exhausts, block_text, blocks_text, IsShownAmong, AreGood}
 use Rattle.ladr_mace4.proofs.WholeModels.{model_printable, few_skolems}
+use Rattle.ladr_mace4.specs.LeafModels.{LeavesAreModels, LeavesCoverModels}
 use Rattle.ladr_mace4.specs.Models.{IsWholeModel}
 use Rattle.ladr_mace4.specs.Plans.{size_behind}
 use Rattle.ladr_mace4.specs.Rooms.{refused_cells}
 use Rattle.ladr_mace4.specs.Skolems.{all_symbols}
-use Rattle.ladr_mace4.specs.Story.{Size, skipped, searched, Now, between, opened, inside, models_in, models_in_all, models_at, models_by, models_text, size_text, sizes_text, text_at, HasEnded, HaveEnded, IsAtSize, Stops, text_by, SearchGoes, SearchComes}
+use Rattle.ladr_mace4.specs.Story.{Size, skipped, searched, Now, between, opened, inside, models_in, models_in_all, models_at, models_by, models_text, size_text, sizes_text, text_at, HasEnded, HaveEnded, IsAtSize, StaysWithin, Stops, text_by, SearchGoes, SearchComes}
 use Rattle.ladr_mace4.specs.declared.ends.SearchEnd.{SearchEnd}
 use Rattle.ladr_mace4.specs.declared.ends.SearchEnd.TheVariants.{MaxModels, Exhausted, AllModels, MaxMegs, MaxSeconds, GroundLimit, ClauseLimit}
 use Rattle.ladr_mace4.specs.declared.plan.Plan.{Plan}
@@ -98,12 +100,15 @@ among n k (t ∷ ts) u (inr h) = inr (among n (suc k) ts u h)
 abbrev pub ReadBack : Type 0
 ReadBack = (n k : ℕ) (symbols : List Symbol) (t : Finite) → IsPrintable n k symbols t → ReadsBack (model_text symbols k t) symbols t
 
+-- that what bytes pose uses symbols as its table has them
+abbrev pub FilesFit : (List ℕ → Posed → Type 0) → Type 0
+FilesFit says = (bytes : List ℕ) (x : Posed) → says bytes x → FitsTable x.stated
+
 pub record Laws : Type 0 where
-  pub order : InOrder
-  pub new : AreNew
-  pub each : EachSolves
   pub behind : SkolemsStandBehind
   pub back : ReadBack
+  pub models : LeavesAreModels
+  pub cover : LeavesCoverModels
 
 -- the sizes and the numbers of models that a search prints
 abbrev pub IsBounded : Plan → Type 0
@@ -118,6 +123,11 @@ printed_most p s t n j k now MaxMegs h fewer e = subst (λ (at : Now). k + model
 printed_most p s t n j k now (GroundLimit size) h fewer e = subst (λ (at : Now). k + models_at at ≤ s.wanted) (sym h.1) (omega (arith, fewer))
 printed_most p s t n j k now (MaxSeconds first last) h fewer e = omega (arith, h.3, e)
 printed_most p s t n j k now (ClauseLimit formula) h fewer e = absurd h
+
+-- nor while it goes on
+goes_most : (p : Stated) (s : Plan) (n j : ℕ) (now : Now) → StaysWithin p s n j now → j ≤ s.wanted
+goes_most p s n j now (inl fewer) = omega (arith, fewer)
+goes_most p s n j now (inr all) = omega (arith, all.0)
 
 module _ (laws : Laws) (p : Stated) (o : Options) (proper : IsProper p o) where
   few : length p.symbols ≤ equality
@@ -162,7 +172,9 @@ module _ (laws : Laws) (p : Stated) (o : Options) (proper : IsProper p o) where
 
   -- a search that goes on, and one that has come to an end
   pub goes_shows : (s : Plan) (t : Times) (text : List ℕ) → IsBounded s → SearchGoes p s t text → (blocks : List SearchBlock) × AreGood p [] blocks × (text ≡ blocks_text p blocks)
-  goes_shows s t text bounded h = (blocks_by s h.sizes h.now, good_by s h.sizes h.now bounded.0 (omega (arith, h.most, bounded.1)) h.so_far.ended h.so_far.stands, h.text_is ∙ by_same p s h.sizes h.now)
+  goes_shows s t text bounded h =
+      let most = goes_most p s (size_behind s (length h.sizes)) (models_by h.sizes h.now) h.now h.most in
+      (blocks_by s h.sizes h.now, good_by s h.sizes h.now bounded.0 (omega (arith, most, bounded.1)) h.so_far.ended h.so_far.stands, h.text_is ∙ by_same p s h.sizes h.now)
 
   pub comes_shows : (s : Plan) (t : Times) (end : SearchEnd) (printed : ℕ) (text : List ℕ) → IsBounded s → SearchComes p s t end printed text → (blocks : List SearchBlock) × AreGood p [] blocks × (text ≡ blocks_text p blocks)
   comes_shows s t end printed text bounded h =

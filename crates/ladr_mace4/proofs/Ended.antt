@@ -123,7 +123,7 @@ module _ (p : Stated) (s : Plan) (t : Times) (sizes : List Size) (ended : HaveEn
         sizes = sizes ++ size ∷ [];
         now = between;
         so_far = record { ended = ended_more p s s.start sizes size ended h.1 h.2; fewer = few; stands = tt };
-        most = omega (arith, few);
+        most = inl (omega (arith, few));
         in_time = h.5;
         reads = subst (λ (i : ℕ). HasRead s.seconds i t) (omega (arith, reads_more sizes size)) h.6;
         text_is = ap (λ (x : List ℕ). front ++ x) h.7 ∙ sym (text_is size) ∙ sym (append-nil _);

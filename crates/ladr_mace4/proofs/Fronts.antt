@@ -1,6 +1,5 @@
 -- What was written of a search is a front of a whole output.
 use Rattle.std.proofs.Common.{◌≡◌, ℕ, ◌<◌, ◌≤◌, List, [], ◌++◌, length, Option, None, Some, Result, Ok, Err, inl, inr, refl, sym, subst, ap, ◌∙◌, append-nil, append_assoc, arith}
-use Rattle.clausify.specs.Behind.{SkolemsStandBehind}
 use Rattle.clausify.specs.Input.{first_over}
 use Rattle.fol_core.specs.Literals.{equality}
 use Rattle.fol_problem.specs.Stated.{Stated, IsWellFormed}
@@ -12,14 +11,15 @@ use Rattle.ladr_intake.specs.Refusals.{IsRefused}
 use Rattle.ladr_intake.specs.declared.stops.Refused.{Refused}
 use Rattle.ladr_io.specs.Streams.{Inflow, Outflow, greatest, TakesFront}
 use Rattle.ladr_io.specs.Times.{Times, no_times}
-use Rattle.ladr_mace4.proofs.Blocks.{Laws}
-use Rattle.ladr_mace4.proofs.Known.{InOrder, AreNew, EachSolves}
+use Rattle.ladr_cells.specs.Fitting.{FitsTable}
+use Rattle.ladr_mace4.proofs.Blocks.{Laws, FilesFit}
 use Rattle.ladr_mace4.proofs.ClockReadings.{readings_of, sought_as}
 use Rattle.ladr_mace4.proofs.GoingOn.{Comes as HasCome, goes_comes, starts_comes}
 use Rattle.ladr_mace4.proofs.Planned.{plan_in_range}
 use Rattle.ladr_mace4.proofs.Seeking.{comes_by}
 use Rattle.ladr_mace4.specs.Finding.{Sought, Seeks}
 use Rattle.ladr_mace4.specs.Fronts.{times_after, IsFront, WroteFront}
+use Rattle.ladr_mace4.specs.LeafModels.{LeavesAreModels, LeavesCoverModels}
 use Rattle.ladr_mace4.specs.Lines.{end_text}
 use Rattle.ladr_mace4.specs.Plans.{plan_of}
 use Rattle.ladr_mace4.specs.declared.ends.SearchEnd.{SearchEnd}
@@ -41,15 +41,15 @@ of_sought p s t end whole text rest h e =
     record { readings = given.0; end = end; whole = whole; sought = sought_as p s t (times_after no_times given.0) given.1 end whole h; rest = rest; parts = e }
 
 -- a text that a search may come to, or a front of it
-of_comes : (behind : SkolemsStandBehind) (order : InOrder) (new : AreNew) (each : EachSolves) (p : Stated) (well : IsWellFormed p) (few : length p.symbols ≤ equality) (s : Plan) (start : 1 ≤ s.start) (step : 1 ≤ s.step) (text : List ℕ) → first_over 1 p.formulas ≡ None → HasCome behind order new each p well few s start step text → IsFront p s text
-of_comes behind order new each p well few s start step text none h =
+of_comes : (models : LeavesAreModels) (cover : LeavesCoverModels) (p : Stated) (well : IsWellFormed p) (fits : FitsTable p) (few : length p.symbols ≤ equality) (s : Plan) (start : 1 ≤ s.start) (step : 1 ≤ s.step) (text : List ℕ) → first_over 1 p.formulas ≡ None → HasCome models cover p well fits few s start step text → IsFront p s text
+of_comes models cover p well fits few s start step text none h =
     let last = end_text h.printed h.end in
     of_sought p s h.times h.end (h.more ++ last) text (h.rest ++ last) (h.printed, (h.more, comes_by p s h.times h.printed h.more h.end none h.comes, refl)) (ap (λ (u : List ℕ). u ++ last) h.parts ∙ append_assoc text h.rest last)
 
 shorter : (p : Stated) (s : Plan) (text front rest : List ℕ) → IsFront p s text → text ≡ front ++ rest → IsFront p s front
 shorter p s text front rest h e = record { readings = h.readings; end = h.end; whole = h.whole; sought = h.sought; rest = rest ++ h.rest; parts = h.parts ∙ ap (λ (u : List ℕ). u ++ h.rest) e ∙ append_assoc front rest h.rest }
 
-module _ (laws : Laws) (says : List ℕ → Posed → Type 0) (refuses : List ℕ → Refused → Type 0) (language : IsLanguage says refuses) (bytes : List ℕ) (x : Posed) (posed : says bytes x) (words : ModelOptions) (ranged : HasRanges (Mace4 words)) (a b : Inflow) (read : IsAllRead a b bytes) (countable : a.faults < greatest) where
+module _ (laws : Laws) (says : List ℕ → Posed → Type 0) (refuses : List ℕ → Refused → Type 0) (language : IsLanguage says refuses) (fit : FilesFit says) (bytes : List ℕ) (x : Posed) (posed : says bytes x) (words : ModelOptions) (ranged : HasRanges (Mace4 words)) (a b : Inflow) (read : IsAllRead a b bytes) (countable : a.faults < greatest) where
   abbrev p : Stated
   p = x.stated
 
@@ -62,17 +62,20 @@ module _ (laws : Laws) (says : List ℕ → Posed → Type 0) (refuses : List �
   well : IsWellFormed p
   well = (language.proper bytes x posed).well_formed
 
+  fits : FitsTable p
+  fits = fit bytes x posed
+
   few : length p.symbols ≤ equality
   few = omega (arith, (language.proper bytes x posed).few)
 
   -- nothing is printed
   at_start : (o : Option ℕ) → first_over 1 p.formulas ≡ o → (u : List ℕ) → u ≡ [] → IsFront p s u
-  at_start None e u none = subst (IsFront p s) (sym none) (of_comes laws.behind laws.order laws.new laws.each p well few s in_range.0 in_range.1 [] e (starts_comes laws.behind laws.order laws.new laws.each p well few s in_range.0 in_range.1 in_range.2))
+  at_start None e u none = subst (IsFront p s) (sym none) (of_comes laws.models laws.cover p well fits few s in_range.0 in_range.1 [] e (starts_comes laws.models laws.cover p well fits few s in_range.0 in_range.1 in_range.2))
   at_start (Some n) e u none = of_sought p s no_times (ClauseLimit n) (end_text 0 (ClauseLimit n)) u (end_text 0 (ClauseLimit n)) (0, ([], (e, refl, refl), refl)) (ap (λ (v : List ℕ). v ++ end_text 0 (ClauseLimit n)) (sym none))
 
   seeks_front : (t : Times) (u : List ℕ) → Seeks p s t u → IsFront p s u
   seeks_front t u (inl h) = at_start (first_over 1 p.formulas) refl u h.0
-  seeks_front t u (inr (inl h)) = of_comes laws.behind laws.order laws.new laws.each p well few s in_range.0 in_range.1 u h.0 (goes_comes laws.behind laws.order laws.new laws.each p well few s in_range.0 in_range.1 t u h.1)
+  seeks_front t u (inr (inl h)) = of_comes laws.models laws.cover p well fits few s in_range.0 in_range.1 u h.0 (goes_comes laws.models laws.cover p well fits few s in_range.0 in_range.1 t u h.1)
   seeks_front t u (inr (inr h)) = of_sought p s t h.0 (u ++ end_text h.1.0 h.0) u (end_text h.1.0 h.0) (h.1.0, (u, h.1.1, refl)) refl
 
   module _ (t : Times) where

@@ -1,6 +1,7 @@
 -- What is known of a problem that is searched.
 use Rattle.std.proofs.Common.{ℕ, ◌<◌, ◌≤◌, List, length}
 use Rattle.cell_search.specs.Finites.{AreTablesFor}
+use Rattle.cell_search.specs.Searchable.{HasAllCells}
 use Rattle.clausify.specs.Behind.{StandBehind, SkolemsStandBehind}
 use Rattle.clausify.specs.Input.{axioms_in_table}
 use Rattle.fol_core.specs.Literals.{equality}
@@ -8,12 +9,11 @@ use Rattle.fol_core.specs.Meaning.{Meaning}
 use Rattle.fol_core.specs.SkolemAxioms.{AreInOrder}
 use Rattle.fol_problem.specs.Stated.{Stated, IsWellFormed, IsCountermodel, AreNewTo}
 use Rattle.fol_core.specs.SymbolTable.{Symbol, KeepsNumbers}
-use Rattle.ladr_cells.specs.Worlds.{world_for}
-use Rattle.ladr_mace4.proofs.Found.{Facts}
+use Rattle.ladr_cells.specs.Worlds.{CellsForAll, world_for}
+use Rattle.ladr_mace4.specs.LeafModels.{MakesSense}
 use Rattle.ladr_mace4.specs.Skolems.{all_axioms}
 use Rattle.mace_cells.specs.Solutions.{IsCarried}
 use Rattle.mace_cells.specs.World.{Solves, AreAlike}
-use Rattle.ladr_mace4.specs.declared.plan.Plan.{Plan}
 use Rattle.mace_cells.specs.declared.way.Way.{Way}
 use Rattle.mace_search.specs.Models.{IsModel}
 use Rattle.model_tables.specs.Expansion.{IsExpansion}
@@ -42,8 +42,23 @@ AreRenamed =
     → (m : Meaning) → Solves (world_for p n way) m → (r : ℕ → ℕ) → (back : ℕ → ℕ) → IsCarried (world_for p n way).fixed r back (meaning_of e) m
     → AreTablesFor (world_for p n way) u → AreAlike (world_for p n way) m (meaning_of u) → IsIsomorphism n p r t u
 
-pub facts_of : SkolemsStandBehind → InOrder → AreNew → SolutionsSay → EachSolves → AreRenamed → (p : Stated) (s : Plan) (n : ℕ) → 0 < n → IsWellFormed p → length p.symbols ≤ equality → length (all_axioms p) ≤ equality → Facts p s n
-facts_of behind order new say each renamed p s n some well few few_witnesses =
-    let stand : StandBehind p = behind p few few_witnesses in
-    let apart : AreNewTo p.formulas (all_axioms p) = new p.symbols p well few (λ k s e. e) few_witnesses in
-    record { stand = stand; says = say p n s.way well few; each = each p n s.way well few (order p.symbols p well few (λ k s e. e) few_witnesses) apart; renamed = renamed p n s.way some stand apart }
+-- what is known of a problem in a size
+pub record Facts (p : Stated) (way : Way) (n : ℕ) : Type 0 where
+  pub stand : StandBehind p
+  pub says : (m : Meaning) → Solves (world_for p n way) m → IsCountermodel m p.formulas
+  pub each : (t : Finite) → IsModel p n t → (e : Finite) × (IsExpansion t (all_axioms p) e × Solves (world_for p n way) (meaning_of e))
+  pub renamed : (t e u : Finite) → IsInterpretation n p t → IsExpansion t (all_axioms p) e → (m : Meaning) → Solves (world_for p n way) m → (r back : ℕ → ℕ) → IsCarried (world_for p n way).fixed r back (meaning_of e) m
+      → AreTablesFor (world_for p n way) u → AreAlike (world_for p n way) m (meaning_of u) → IsIsomorphism n p r t u
+  pub cells : HasAllCells (world_for p n way)
+
+pub facts_of : SkolemsStandBehind → InOrder → AreNew → SolutionsSay → EachSolves → AreRenamed → CellsForAll → (p : Stated) (way : Way) (n : ℕ) → MakesSense p n → Facts p way n
+facts_of behind order new say each renamed cells p way n sense =
+    let apart : AreNewTo p.formulas (all_axioms p) = new p.symbols p sense.well_formed sense.few (λ k s e. e) sense.few_witnesses in
+    let stand : StandBehind p = behind p sense.few sense.few_witnesses in
+    record {
+      stand = stand;
+      says = say p n way sense.well_formed sense.few;
+      each = each p n way sense.well_formed sense.few (order p.symbols p sense.well_formed sense.few (λ k s e. e) sense.few_witnesses) apart;
+      renamed = renamed p n way sense.some stand apart;
+      cells = cells p n way sense.fits sense.some sense.needed sense.few sense.few_witnesses;
+    }

@@ -10,7 +10,7 @@ use Rattle.ladr_intake.specs.declared.stops.Refused.{Refused}
 use Rattle.ladr_intake.specs.declared.stops.Stop.{Stop}
 use Rattle.ladr_io.specs.Streams.{Inflow, Outflow, AreLastHeld, Takes, TakesFront}
 use Rattle.ladr_io.specs.Times.{Times}
-use Rattle.ladr_mace4.proofs.Blocks.{Laws, IsBounded, goes_shows, comes_shows}
+use Rattle.ladr_mace4.proofs.Blocks.{Laws, FilesFit, IsBounded, goes_shows, comes_shows}
 use Rattle.ladr_mace4.proofs.Fronts.{tells_front}
 use Rattle.ladr_mace4.proofs.SearchBlocks.{SearchBlock, blocks_text, AreGood, Last, nothing, ends, grows, fails, last_text}
 use Rattle.ladr_mace4.proofs.Standing.{exhausted_stands, model_stands}
@@ -89,7 +89,7 @@ plan_bounded words p o h proper =
     given_more None h = tt
     given_more (Some n) h = omega (arith, h)
 
-module _ (laws : Laws) (says : List ℕ → Posed → Type 0) (refuses : List ℕ → Refused → Type 0) (language : IsLanguage says refuses) (bytes : List ℕ) (x : Posed) (posed : says bytes x) where
+module _ (laws : Laws) (says : List ℕ → Posed → Type 0) (refuses : List ℕ → Refused → Type 0) (language : IsLanguage says refuses) (fit : FilesFit says) (bytes : List ℕ) (x : Posed) (posed : says bytes x) where
   proper : IsProper x.stated x.options
   proper = language.proper bytes x posed
 
@@ -152,10 +152,10 @@ module _ (laws : Laws) (says : List ℕ → Posed → Type 0) (refuses : List �
     tells_shows c d (Err WriteFault) h = let y = cut_text goes_all ends_all c d h in cut_shows c d y.0 y.1 y.2
     tells_shows c d (Err Memory) h = whole x.stated c d h.0 (stands h.0 h.1) h.2
 
-pub searches_show : Laws → (says : List ℕ → Posed → Type 0) (refuses : List ℕ → Refused → Type 0) → IsLanguage says refuses → (words : ModelOptions) → HasRanges (Mace4 words) → (a b : Inflow) (c d : Outflow) (t : Times) (r : Result SearchEnd Stop) → Searches says refuses words a b c d t r → ShowsPosed says words a b c d
-searches_show laws says refuses language words ranges a b c d t r h = record {
+pub searches_show : Laws → (says : List ℕ → Posed → Type 0) (refuses : List ℕ → Refused → Type 0) → IsLanguage says refuses → FilesFit says → (words : ModelOptions) → HasRanges (Mace4 words) → (a b : Inflow) (c d : Outflow) (t : Times) (r : Result SearchEnd Stop) → Searches says refuses words a b c d t r → ShowsPosed says words a b c d
+searches_show laws says refuses language fit words ranges a b c d t r h = record {
   bytes = h.bytes;
   taken = h.taken;
-  shows = λ x posed. tells_shows laws says refuses language h.bytes x posed words ranges a b t c d (end_of r) h.tells;
-  fronts = λ x posed read countable. tells_front laws says refuses language h.bytes x posed words ranges a b read countable t c d (end_of r) h.tells;
+  shows = λ x posed. tells_shows laws says refuses language fit h.bytes x posed words ranges a b t c d (end_of r) h.tells;
+  fronts = λ x posed read countable. tells_front laws says refuses language fit h.bytes x posed words ranges a b read countable t c d (end_of r) h.tells;
 }

@@ -1,5 +1,5 @@
 -- Whole tables of a problem's symbols and of its Skolem symbols.
-use Rattle.std.proofs.Common.{◌≡◌, inl, inr, ℕ, zero, suc, ◌+◌, ◌*◌, ◌^◌, ◌<◌, ◌≤◌, ◌||◌, ◌==◌, Bool, true, false, if◌then◌else◌, List, [], ◌∷◌, ◌++◌, map, length, Option, Some, slice_get, refl, sym, ap, ap₂, subst, ◌∙◌, append_assoc, append-nil, arith}
+use Rattle.std.proofs.Common.{◌≡◌, inl, inr, ℕ, zero, suc, ◌+◌, ◌*◌, ◌^◌, ◌<◌, ◌≤◌, ◌||◌, ◌==◌, Bool, true, false, if◌then◌else◌, List, [], ◌∷◌, ◌++◌, map, length, Option, Some, slice_get, refl, sym, ap, ap₂, subst, ◌∙◌, append_assoc, arith}
 use Rattle.std.specs.List.{range_with_len}
 use Rattle.std.specs.Option.{option_map_or}
 use Rattle.std.proofs.lemmas.Bool.{or_cases, or_left, or_right, false≢true, eqb-true, eq-eqb}
@@ -14,26 +14,23 @@ use Rattle.fol_core.specs.Free.{is_in}
 use Rattle.fol_core.specs.Occurs.{occurs_in}
 use Rattle.fol_core.specs.Literals.{equality, AreTrueClauses}
 use Rattle.fol_core.specs.SkolemAxioms.{SkolemAxiom}
-use Rattle.fol_problem.specs.Stated.{Stated, IsCountermodel, AreNewTo}
+use Rattle.fol_problem.specs.Stated.{Stated, IsCountermodel}
 use Rattle.fol_core.specs.SymbolTable.{Symbol, kind_at, arity_at}
 use Rattle.fol_core.specs.declared.symbols.Kind.{Kind}
 use Rattle.fol_core.specs.declared.symbols.Kind.TheVariants.{Function}
 use Rattle.ladr_cells.proofs.Celled.{block_in, found_in, passes, at_end}
 use Rattle.ladr_cells.proofs.Whole.{none_found, same_rows, same_meaning}
 use Rattle.ladr_cells.specs.Worlds.{blocks_for, clauses_for, world_for, ground_size}
-use Rattle.ladr_mace4.proofs.Printable.{listings_rows, rows_many, row_last, witness_row, all_tellable}
+use Rattle.ladr_mace4.proofs.Printable.{listings_rows, all_tellable}
 use Rattle.ladr_mace4.specs.Models.{AreFullRows, IsWholeModel}
 use Rattle.ladr_mace4.specs.Rooms.{refused_cells}
-use Rattle.ladr_mace4.specs.declared.plan.Plan.{Plan}
+use Rattle.mace_cells.specs.declared.way.Way.{Way}
 use Rattle.ladr_mace4.specs.Skolems.{all_symbols, all_axioms}
 use Rattle.ladr_models.specs.ReadsBack.{AreRows, IsPrintable}
 use Rattle.ladr_problem.specs.Names.{AreTellable}
 use Rattle.mace_cells.specs.World.{World}
 use Rattle.mace_ground.specs.Cells.{Block, blocks_of, cells_in, found}
 use Rattle.mace_ground.specs.Instances.{ground_literals}
-use Rattle.mace_search.specs.Models.{IsModel}
-use Rattle.model_tables.proofs.Expanding.{same_top, kept_countermodel}
-use Rattle.model_tables.specs.Expansion.{IsExpansion, with_row, with_values}
 use Rattle.model_tables.specs.Size.{bound_of, AllBelow, IsListing, AreListings, formulas_of}
 use Rattle.model_tables.specs.Tables.{Listing, Finite, listing, row_of, meaning_of}
 
@@ -84,32 +81,6 @@ few_skolems p n some room =
     let same : length more ≡ length (all_axioms p) = length-map (all_axioms p) (λ w. w.symbol) in
     omega (arith, blocks, both, same, few)
 
--- expansions have full rows behind those of a model
-expanded_parts : (n : ℕ) (more : List Symbol) (ws : List SkolemAxiom) (u t : Finite) → u.top + 1 ≡ n → AreFor (length u.rows) more ws → IsExpansion u ws t → (rest : List Listing) × (t.rows ≡ u.rows ++ rest) × AreFullRows n more rest
-expanded_parts n [] [] u t size f x = ([], ap (λ (v : Finite). v.rows) x ∙ sym (append-nil u.rows), tt)
-expanded_parts n [] (w ∷ ws) u t size f x = absurd f
-expanded_parts n (s ∷ more) [] u t size f x = absurd f
-expanded_parts n (s ∷ more) (w ∷ ws) u t size f x =
-    let l = listing Function x.0 in
-    let last : with_row u.rows w.symbol l ≡ u.rows ++ l ∷ [] = ap (λ (k : ℕ). with_row u.rows k l) f.0 ∙ row_last u.rows l in
-    let many : suc (length u.rows) ≡ length (with_row u.rows w.symbol l) = omega (arith, length-append u.rows (l ∷ []), ap (λ (ls : List Listing). length ls) last) in
-    let rest = expanded_parts n more ws (with_values u w.symbol x.0) t size (subst (λ (k : ℕ). AreFor k more ws) many f.3) x.1.1 in
-    (l ∷ rest.0, rest.1 ∙ ap (λ (ls : List Listing). ls ++ rest.0) last ∙ append_assoc u.rows (l ∷ []) rest.0, (witness_row n u s w x.0 size f.1 f.2 x.1.0, rest.2))
-
-pub expanded_model : (p : Stated) (n : ℕ) (y e : Finite) → StandBehind p → AreNewTo p.formulas (all_axioms p) → IsModel p n y → IsExpansion y (all_axioms p) e → AreTrueClauses (meaning_of e) (clauses_for p) → IsWholeModel p n e
-expanded_model p n y e stand new is x holds =
-    let many : length p.symbols ≡ length y.rows = sym (rows_many n p.symbols y.rows (listings_rows n (formulas_of p) 0 p.symbols y.rows is.0.1)) in
-    let parts = expanded_parts n (skolems p.symbols p.formulas) (all_axioms p) y e is.0.0 (subst (λ (k : ℕ). AreFor k (skolems p.symbols p.formulas) (all_axioms p)) many stand.witnesses) x in
-    record {
-      own = y.rows;
-      skolem = parts.0;
-      parts = parts.1;
-      interpretation = (ap (λ (k : ℕ). k + 1) (same_top (all_axioms p) y e x) ∙ is.0.0, is.0.1);
-      full = parts.2;
-      says = subst (λ (T : Type 0). T) (sym (kept_countermodel (all_axioms p) y e x p.formulas new)) is.1;
-      holds = holds;
-    }
-
 -- the numbers that pass a test
 passed : (test : ℕ → Bool) (n left s : ℕ) → is_in s (numbers_passing test n left) ≡ true → (test s ≡ true) × (s < n + left)
 passed test n zero s h = absurd (false≢true h)
@@ -147,12 +118,12 @@ range_both f k (suc m) j all at e here =
     let more : all ≡ suc (m + j) = omega (arith, e) in
     ap (λ (l : ℕ). map f (range_with_len k l)) more ∙ ap (λ (ls : List Listing). f k ∷ ls) (range_both f (k + 1) m j (m + j) at refl (omega (arith, here)))
 
-module _ (p : Stated) (s : Plan) (n : ℕ) (stand : StandBehind p) (t : Finite) (whole : AreTablesFor (world_for p n s.way) t) where
+module _ (p : Stated) (way : Way) (n : ℕ) (stand : StandBehind p) (t : Finite) (whole : AreTablesFor (world_for p n way) t) where
   abbrev table : List Symbol
   table = all_symbols p
 
   abbrev w : World
-  w = world_for p n s.way
+  w = world_for p n way
 
   abbrev own : List ℕ
   own = used_symbols p.symbols p.formulas

@@ -1,8 +1,11 @@
+pub mod Done
 pub mod Finding
 pub mod Fronts
 pub mod ItemTexts
+pub mod LeafModels
 pub mod Lines
 pub mod Models
+pub mod OneEnd
 pub mod Plans
 pub mod Rooms
 pub mod Shown

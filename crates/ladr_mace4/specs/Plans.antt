@@ -7,7 +7,7 @@ use Rattle.ladr_words.specs.declared.task.ModelOptions.{ModelOptions}
 use Rattle.mace_cells.specs.declared.way.Candidates.{Candidates}
 use Rattle.mace_cells.specs.declared.way.Candidates.TheVariants.{All, LeastIndex, InUse}
 use Rattle.mace_cells.specs.declared.way.Measure.{Measure}
-use Rattle.mace_cells.specs.declared.way.Measure.TheVariants.{First, MostCrossed}
+use Rattle.mace_cells.specs.declared.way.Measure.TheVariants.{First, MostOccurrences, MostAssigned, MostContradicted, MostCrossed}
 use Rattle.mace_cells.specs.declared.way.Way.{Way}
 use Rattle.search_clock.specs.Watching.{seconds_of}
 
@@ -23,7 +23,11 @@ abbrev pub candidates_of : ℕ → Candidates
 candidates_of order = if order == 0 then All else (if order == 1 then LeastIndex else InUse)
 
 abbrev pub measure_of : ℕ → Measure
-measure_of number = if number == 0 then First else MostCrossed
+measure_of number =
+    if number == 0 then First
+    else (if number == 1 then MostOccurrences
+    else (if number == 2 then MostAssigned
+    else (if number == 3 then MostContradicted else MostCrossed)))
 
 abbrev pub way_of : Options → Way
 way_of o = record {

@@ -1,10 +1,12 @@
--- How a search for models goes, and what it prints.
-use Rattle.std.specs.Prelude.{◌≡◌, ℕ, suc, ◌+◌, ◌<◌, ◌≤◌, Bool, true, false, List, [], ◌∷◌, ◌++◌, length, IfSome, ◌⊎◌}
+-- How a search for models goes, and what it prints: in each size the models of the leaves that the
+-- plain search finds, in their order.
+use Rattle.std.specs.Prelude.{◌≡◌, ℕ, suc, ◌+◌, ◌<◌, ◌≤◌, List, [], ◌∷◌, ◌++◌, length, ◌⊎◌}
 use Rattle.fol_core.specs.Occurs.{size_needed}
 use Rattle.fol_problem.specs.Stated.{Stated}
 use Rattle.ladr_cells.specs.Showing.{CoverModels}
-use Rattle.ladr_cells.specs.Worlds.{world_for, ground_size}
+use Rattle.ladr_cells.specs.Worlds.{ground_size}
 use Rattle.ladr_io.specs.Times.{Times}
+use Rattle.ladr_mace4.specs.Done.{HasDoneAll, HasDoneSome, ComesToChoice, ComesToLeaf}
 use Rattle.ladr_mace4.specs.Lines.{size_line, skipped_line, exhausted_line}
 use Rattle.ladr_mace4.specs.Models.{AreShown}
 use Rattle.ladr_mace4.specs.Plans.{size_behind}
@@ -16,8 +18,6 @@ use Rattle.ladr_mace4.specs.declared.ends.SearchEnd.TheVariants.{MaxModels, Exha
 use Rattle.ladr_mace4.specs.declared.ends.Step.{Step}
 use Rattle.ladr_mace4.specs.declared.ends.Step.TheVariants.{Over, Ends}
 use Rattle.ladr_mace4.specs.declared.plan.Plan.{Plan}
-use Rattle.mace_cells.specs.Choices.{Choice, MayGoOn}
-use Rattle.mace_cells.specs.Moves.{GoesBy}
 use Rattle.ladr_io.specs.Watch.{IsLate}
 use Rattle.model_tables.specs.ModelText.{model_text}
 use Rattle.model_tables.specs.Size.{formulas_of}
@@ -96,28 +96,14 @@ text_at p n k (inside us chosen) = size_line n ++ models_text p k us
 abbrev pub IsSearchable : Stated → Plan → ℕ → Type 0
 IsSearchable p s n = (size_needed (formulas_of p) ≤ n) × HasRoomForGround s (ground_size n p)
 
--- Cells are chosen, values tried in rising order and choices taken back, from the beginning of size
--- n to here, a model being given for each of these, and so many cells chosen.
-abbrev pub GoesTo : Stated → Plan → ℕ → List Finite → ℕ → Bool → List Choice → Type 0
-GoesTo p s n us chosen live choices =
-    GoesBy (world_for p n s.way) true [] (length us) chosen live choices
-
--- So it comes to choices that are followed, or of which one has a further value, unless each model
--- of the size is one of these, renamed.
-abbrev pub HasCourse : Stated → Plan → ℕ → List Finite → ℕ → Type 0
-HasCourse p s n us chosen =
-    (live : Bool)
-    × ((choices : List Choice) × GoesTo p s n us chosen live choices
-    × (MayGoOn live choices ⊎ CoverModels p n us))
-
 -- Size n ended so: it is skipped exactly where it lacks an element that the formulas name; where it
--- is searched to its end, each of its models is one of those that are shown, renamed, and where a
--- time is set no choice is left.
+-- is searched to its end, all that the plain search does is done, the models that are shown are
+-- those of its leaves, and each model of the size is one of these, renamed.
 abbrev pub HasEnded : Stated → Plan → ℕ → Size → Type 0
 HasEnded p s n skipped = n < size_needed (formulas_of p)
 HasEnded p s n (searched us chosen) =
     IsSearchable p s n × AreShown p n us × CoverModels p n us
-    × IfSome s.seconds (λ seconds. GoesTo p s n us chosen false [])
+    × HasDoneAll p n s.way us chosen
 
 -- the sizes from n on, step by step, ended so, none behind the last
 abbrev pub HaveEnded : Stated → Plan → ℕ → List Size → Type 0
@@ -131,20 +117,23 @@ IsAtSize p s n between = Unit {0}
 IsAtSize p s n opened = IsBegun p s n
 IsAtSize p s n (inside us chosen) =
     IsBegun p s n × HasRoomForGround s (ground_size n p) × AreShown p n us
-    × IfSome s.seconds (λ seconds. HasCourse p s n us chosen)
+    × HasDoneSome p n s.way us chosen
 
--- models of a size are searched for
-abbrev pub IsInside : Now → Type 0
-IsInside between = ⊥
-IsInside opened = ⊥
-IsInside (inside us chosen) = Unit {0}
+-- a model of a size is found, and nothing is done behind it
+abbrev pub IsAtModel : Stated → Plan → ℕ → Now → Type 0
+IsAtModel p s n between = ⊥
+IsAtModel p s n opened = ⊥
+IsAtModel p s n (inside us chosen) = ComesToLeaf p n s.way us chosen
 
--- a size is begun, or the decisions are followed to the next choice of a cell
+-- No more models are printed than are wanted; where as many are, nothing is done behind the last.
+abbrev pub StaysWithin : Stated → Plan → ℕ → ℕ → Now → Type 0
+StaysWithin p s n j now = (j < s.wanted) ⊎ ((j ≡ s.wanted) × IsAtModel p s n now)
+
+-- a size is begun, or a cell is to be chosen next
 abbrev pub IsFollowing : Stated → Plan → ℕ → Now → Type 0
 IsFollowing p s n between = ⊥
 IsFollowing p s n opened = Unit {0}
-IsFollowing p s n (inside us chosen) =
-    (choices : List Choice) × GoesTo p s n us chosen true choices
+IsFollowing p s n (inside us chosen) = ComesToChoice p n s.way us chosen
 
 -- all sizes are behind a search, j models having been printed
 abbrev pub AllIsSearched : ℕ → SearchEnd → Type 0
@@ -159,7 +148,7 @@ EndsCrowded p s t n now end =
 
 -- A search ends at this of size n for this cause, j models having been printed in all.
 abbrev pub Stops : Stated → Plan → Times → ℕ → ℕ → Now → SearchEnd → Type 0
-Stops p s t n j now MaxModels = IsInTime s.seconds t × IsInside now × (j ≡ s.wanted)
+Stops p s t n j now MaxModels = IsInTime s.seconds t × IsAtModel p s n now × (j ≡ s.wanted)
 Stops p s t n j now AllModels =
     IsInTime s.seconds t × (now ≡ between) × (s.end < n) × AllIsSearched j AllModels
 Stops p s t n j now Exhausted =
@@ -174,8 +163,9 @@ Stops p s t n j now (ClauseLimit formula) = ⊥
 -- What is printed of size n, behind k models and r readings of the clock, while it goes on.
 abbrev pub SizeGoes : Stated → Plan → Times → ℕ → ℕ → ℕ → List ℕ → Type 0
 SizeGoes p s t n k r text =
-    (now : Now) × IsAtSize p s n now × (k + models_at now ≤ s.wanted) × IsInTime s.seconds t
-    × HasRead s.seconds (r + readings_at now) t × (text ≡ text_at p n k now)
+    (now : Now) × IsAtSize p s n now × StaysWithin p s n (k + models_at now) now
+    × IsInTime s.seconds t × HasRead s.seconds (r + readings_at now) t
+    × (text ≡ text_at p n k now)
 
 -- How it is over, with j models printed by then, fewer than are wanted; or how the search ends in
 -- it.
@@ -215,7 +205,7 @@ pub record SearchGoes (p : Stated) (s : Plan) (t : Times) (text : List ℕ) : Ty
   pub sizes : List Size
   pub now : Now
   pub so_far : IsBehind p s sizes now
-  pub most : models_by sizes now ≤ s.wanted
+  pub most : StaysWithin p s (size_behind s (length sizes)) (models_by sizes now) now
   pub in_time : IsInTime s.seconds t
   pub reads : HasRead s.seconds (readings_by sizes now) t
   pub text_is : text ≡ text_by p s sizes now

@@ -1,8 +1,9 @@
 -- Searches worked out.
-use Rattle.std.specs.Prelude.{ℕ, true, List, [], ◌∷◌, None, codes}
-use Rattle.fol_core.specs.Fol.{equal, forall, exists}
+use Rattle.std.specs.Prelude.{ℕ, true, false, List, [], ◌∷◌, map, None, codes}
+use Rattle.fol_core.specs.Fol.{Fol, equal, negation, forall, exists}
 use Rattle.fol_problem.specs.Stated.{Stated, stated, said}
-use Rattle.fol_core.specs.Tree.{var}
+use Rattle.fol_core.specs.SymbolTable.{symbol}
+use Rattle.fol_core.specs.Tree.{var, app, none}
 use Rattle.fol_problem.specs.declared.problem.Role.TheVariants.{Assumption}
 use Rattle.fol_core.specs.declared.symbols.Kind.TheVariants.{Function}
 use Rattle.ladr_mace4.specs.Story.{Size, searched}
@@ -35,3 +36,20 @@ bare = record { start_size = None; end_size = None; max_models = None; max_secon
 -- how cells are chosen where an input says nothing of it
 abbrev pub usual : Way
 usual = record { candidates = InUse; measure = MostCrossed; least_numbers = true }
+
+-- of three constants, the second is neither of the others
+abbrev pub apart : ℕ → ℕ → Fol
+apart x y = negation (equal (app x none) (app y none))
+
+abbrev pub unlike : Stated
+unlike =
+    stated (map (λ name. symbol name 0 Function) (codes "a" ∷ codes "b" ∷ codes "c" ∷ []))
+    (said Assumption (apart 0 1) ∷ said Assumption (apart 1 2) ∷ [])
+
+-- their values, up to this element
+abbrev pub constants : ℕ → List ℕ → Finite
+constants top values = record { top = top; rows = map (λ v. listing Function (v ∷ [])) values }
+
+-- each value is tried
+abbrev pub thorough : Way
+thorough = record usual { least_numbers = false }

@@ -123,9 +123,11 @@ impl<'a> Asked<'a> {
         interpretation_text(alloc, tables, &self.symbols, k)
     }
 
-    /// What is asked makes sense to a search: its formulas have its symbols alone, which are few enough, as are those of its clauses.
+    /// What is asked makes sense to a search: its formulas have its symbols alone, as its table has them, which are few enough, as are
+    /// those of its clauses.
     pub fn is_proper(&self)
         ensures well_formed { IsWellFormed self.now }
+        ensures fits { FitsTable self.now }
         ensures few { length self.now.symbols ≤ equality }
         ensures few_witnesses { length (all_axioms self.now) ≤ equality }
     {

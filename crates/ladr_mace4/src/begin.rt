@@ -42,10 +42,7 @@ pub fn begin<K: Sink, C: Clock>(
         × HasRoomForGround plan (ground_size n asked.now)) (λ end. (j : ℕ) → j < plan.wanted
         → Stops asked.now plan (C.times clock.new) n j opened end)) }
 {
-    match print_item(alloc, asked, SearchItem::Begins(n), sink) {
-        Ok(()) => {}
-        Err(cut) => return Err(cut),
-    }
+    print_item(alloc, asked, SearchItem::Begins(n), sink)?;
     if let Some(last) = watch.look(clock) {
         let first = watch.first.unwrap_or(0);
         return Ok(Some(SearchEnd::MaxSeconds { first, last }));

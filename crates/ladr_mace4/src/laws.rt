@@ -1,39 +1,72 @@
 // What searches amount to, and searches worked out: the functions do nothing, and their contracts
 // are the laws.
-ghost use Rattle.std.specs.Prelude.{◌≡◌, true, false, None, Some};
-ghost use Rattle.ladr_cells.specs.Worlds.{ground_size};
+ghost use Rattle.std.specs.Prelude.{◌≡◌, [], ◌∷◌, true, false, map, None, Some};
+ghost use Rattle.ladr_cells.specs.Worlds.{ground_size, world_for};
 ghost use Rattle.ladr_formulas.specs.declared.styles.Mode.TheVariants.{Mace};
 ghost use Rattle.ladr_intake.specs.Posed.{poses};
 ghost use Rattle.ladr_intake.specs.Refusals.{refuses};
-ghost use Rattle.ladr_mace4.specs.Plans.{plan_of, way_of};
+ghost use Rattle.ladr_mace4.specs.Done.{choices_among, leaf_models};
+ghost use Rattle.ladr_mace4.specs.LeafModels.{LeavesAreModels, LeavesCoverModels};
+ghost use Rattle.ladr_mace4.specs.OneEnd.{SearchEndIsOne, RunsEndAlike};
+ghost use Rattle.ladr_mace4.specs.Plans.{measure_of, plan_of, way_of};
 ghost use Rattle.ladr_mace4.specs.Shown.{SearchesShow};
 ghost use Rattle.ladr_mace4.specs.Story.{sizes_text, readings_in_all};
-ghost use Rattle.ladr_mace4.specs.Worked.{lonely, lonely_sizes, lonely_text, bare, usual};
+ghost use Rattle.ladr_mace4.specs.Worked.{alone, bare, constants, lonely, lonely_sizes, lonely_text, thorough, unlike, usual};
 ghost use Rattle.ladr_options.specs.Options.{start};
 ghost use Rattle.mace_cells.specs.declared.way.Candidates.TheVariants.{All, LeastIndex};
-ghost use Rattle.mace_cells.specs.declared.way.Measure.TheVariants.{First, MostCrossed};
+ghost use Rattle.mace_cells.specs.declared.way.Measure.TheVariants.{First, MostOccurrences, MostAssigned, MostContradicted, MostCrossed};
+ghost use Rattle.plain_search.specs.Coming.{events};
 
+use cell_search::leaves_are_solutions;
 use clausify::{axioms_are_in_order, skolems_stand_behind};
-use ladr_cells::solutions_are_models;
+use ladr_cells::{cells_for_all, isomorphisms_are_carried, problems_fit, solutions_are_models};
 use ladr_intake::files_are_a_language;
 use ladr_models::texts_read_back;
+use ladr_problem::problems_grow;
+
+/// The tables of the leaves that the plain search of a size finds are models of what is stated, no two
+/// the same, and each model of the size is one of them, its elements renamed.
+pub fn leaves_are_models()
+    ensures models { LeavesAreModels }
+    ensures cover { LeavesCoverModels }
+{
+    skolems_stand_behind();
+    axioms_are_in_order();
+    solutions_are_models();
+    isomorphisms_are_carried();
+    cells_for_all();
+    leaves_are_solutions();
+}
+
+/// Where no time is over, a search for the same comes to one end, with one text, and so do runs with the same bytes and words.
+pub fn one_end()
+    ensures once { SearchEndIsOne }
+    ensures alike { RunsEndAlike }
+{
+    files_are_a_language();
+}
 
 /// Where the text of a model stands in the output of a run, it makes each assumption of the input
 /// true and each goal false, with its Skolem symbols the clauses too, and reads back as it is; where
 /// the line of an exhausted size stands, each model of it stands before, its elements renamed. So it
 /// is whatever became of the run; and where the input was read whole, all that was printed is a
-/// front of a whole output.
+/// front of a whole output. Where no time is over, runs with the same bytes and words come to the same
+/// end, with the same text.
 pub fn searches_show()
-    ensures { SearchesShow (poses Mace) (refuses Mace) }
+    ensures show { SearchesShow (poses Mace) (refuses Mace) }
+    ensures once { SearchEndIsOne }
+    ensures alike { RunsEndAlike }
 {
-    axioms_are_in_order();
+    one_end();
     skolems_stand_behind();
-    solutions_are_models();
+    leaves_are_models();
+    problems_grow();
+    problems_fit();
     files_are_a_language();
     texts_read_back();
 }
 
-/// A search through two sizes, and what is asked of searches.
+/// A search through two sizes, the models of sizes, and what is asked of searches.
 pub fn worked()
     // What is printed of two sizes, of which the first has a model.
     ensures searched { sizes_text lonely 1 1 0 lonely_sizes ≡ lonely_text }
@@ -57,10 +90,23 @@ pub fn worked()
           megs = 500;
           way = usual;
         } }
+    // The models of sizes, in the order in which they are found: none of two elements where all are one; the first two of
+    // three constants being given values, and then the last, each from the least on.
+    ensures models { (leaf_models lonely 1 usual ≡ alone ∷ []) × (leaf_models lonely 2 usual ≡ []) }
+    ensures two { leaf_models unlike 2 thorough
+        ≡ constants 1 (0 ∷ 1 ∷ 0 ∷ []) ∷ constants 1 (1 ∷ 0 ∷ 1 ∷ []) ∷ [] }
+    ensures least_two { leaf_models unlike 2 usual ≡ constants 1 (0 ∷ 1 ∷ 0 ∷ []) ∷ [] }
+    ensures least_three { leaf_models unlike 3 usual
+        ≡ constants 2 (0 ∷ 1 ∷ 0 ∷ []) ∷ constants 2 (0 ∷ 1 ∷ 2 ∷ []) ∷ [] }
+    // So many cells are chosen for them: one, where the others follow from its value, or each of the three.
+    ensures chosen { (choices_among (events (world_for unlike 2 usual)) ≡ 1)
+        × (choices_among (events (world_for unlike 3 usual)) ≡ 3) }
     // How cells are chosen by an input that asks for it.
     ensures first { way_of (record start
         { selection_order = 0; selection_measure = 0; lnh = false })
         ≡ record { candidates = All; measure = First; least_numbers = false } }
     ensures least { way_of (record start { selection_order = 1 })
         ≡ record { candidates = LeastIndex; measure = MostCrossed; least_numbers = true } }
+    ensures measures { map measure_of (0 ∷ 1 ∷ 2 ∷ 3 ∷ 4 ∷ [])
+        ≡ First ∷ MostOccurrences ∷ MostAssigned ∷ MostContradicted ∷ MostCrossed ∷ [] }
 {}

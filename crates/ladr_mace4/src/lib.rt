@@ -7,9 +7,11 @@
 // models found by `cell_search`. All that they print are items (`SearchItem`), and `printing.rt` is the one place that
 // prints: an item's text, or the last lines. `lines.rt` makes the lines, and `ends.rt` has how a search ends, with its
 // status.
-// In `specs/`, `Story` says how a search goes and what it prints, `Models` which models it shows, `Finding` what a run
-// amounts to, `Shown` what stands in its output to those who asked for models, and `Fronts` that a search that is cut
-// off left a front of a whole output. `laws.rt` states what stands in the output, whatever became of the run.
+// In `specs/`, `Story` says how a search goes and what it prints: in each size the models of the leaves that the plain
+// search finds, in their order (`Done`), which are the models of what is stated (`Models`, `LeafModels`). `Finding` says
+// what a run amounts to, `Shown` what stands in its output to those who asked for models, `Fronts` that a search that is
+// cut off left a front of a whole output, and `OneEnd` that there is one whole output where no time is over. `laws.rt`
+// states what stands in the output, whatever became of the run.
 // `proofs/Standing` proves what `Shown` says of the lines that stand in an output: the output is made of blocks
 // (`proofs/SearchBlocks`), each of whole lines, and no line of a block, nor one behind them, begins like another block,
 // since no name of a symbol has a line's end in it.
@@ -28,6 +30,6 @@ mod search;
 mod sizes;
 
 pub use ends::SearchEnd;
-pub use laws::{searches_show, worked};
+pub use laws::{leaves_are_models, one_end, searches_show, worked};
 pub use plan::Plan;
 pub use search::mace4;

@@ -13,19 +13,18 @@ ghost use Rattle.model_tables.specs.ModelText.{model_text};
 
 use crate::asked::Asked;
 use crate::ends::{SearchEnd, Step};
+use crate::laws::leaves_are_models;
 use crate::plan::Plan;
 use crate::printing::{SearchItem, print_item};
 use cell_search::CellSearch;
-use clausify::{axioms_are_in_order, skolems_stand_behind};
-use ladr_cells::{isomorphisms_are_carried, solutions_are_models};
 use ladr_io::{Clock, Sink};
 use ladr_output::Cut;
 use mace_search::Answer;
 use search_clock::Watch;
 use std::alloc::Global;
 
-/// Prints the models of a size, behind its line and k models before them, and that it is exhausted,
-/// unless the search ends by then.
+/// Prints the models of a size, behind its line and k models before them, in the order in which they
+/// are found, and that it is exhausted, unless the search ends by then.
 pub fn models<K: Sink, C: Clock>(
     alloc: Global,
     asked: &Asked,
@@ -52,14 +51,8 @@ pub fn models<K: Sink, C: Clock>(
     ensures watched { (j : ℕ) → result ≡ Ok (Step.Over j) → IsWatched watch (C.times clock.new) }
 {
     asked.is_proper();
-    skolems_stand_behind();
-    axioms_are_in_order();
-    solutions_are_models();
-    isomorphisms_are_carried();
-    let mut search = match asked.search(alloc, n, plan.way, watch.stop()) {
-        Ok(search) => search,
-        Err(_) => return Err(Cut::Memory),
-    };
+    leaves_are_models();
+    let mut search = asked.search(alloc, n, plan.way, watch.stop())?;
     let mut printed = k;
     while printed < plan.wanted {
         match search.next_model(clock) {
@@ -71,10 +64,7 @@ pub fn models<K: Sink, C: Clock>(
             Answer::Model => {}
         }
         printed += 1;
-        match show(alloc, asked, &search, printed, sink) {
-            Ok(()) => {}
-            Err(cut) => return Err(cut),
-        }
+        show(alloc, asked, &search, printed, sink)?;
     }
     Ok(Step::Ends(SearchEnd::MaxModels, printed))
 }
@@ -92,10 +82,8 @@ fn show<K: Sink>(
         (tables_over (all_symbols asked.now) search.now.tables)) (K.outflow sink.old)
         (K.outflow sink.new) result }
 {
-    match asked.tables(alloc, search) {
-        Ok(tables) => print_item(alloc, asked, SearchItem::Shows(&tables, number), sink),
-        Err(_) => Err(Cut::Memory),
-    }
+    let tables = asked.tables(alloc, search)?;
+    print_item(alloc, asked, SearchItem::Shows(&tables, number), sink)
 }
 
 // Prints that a size is exhausted, so many models being printed by then.
@@ -110,8 +98,6 @@ fn exhausted<K: Sink>(
     ensures piece { IsPiece (exhausted_line n) (K.outflow sink.old) (K.outflow sink.new) result }
     ensures step { IfOk result (λ step. step ≡ Step.Over printed) }
 {
-    match print_item(alloc, asked, SearchItem::Exhausts(n), sink) {
-        Ok(()) => Ok(Step::Over(printed)),
-        Err(cut) => Err(cut),
-    }
+    print_item(alloc, asked, SearchItem::Exhausts(n), sink)?;
+    Ok(Step::Over(printed))
 }

@@ -50,10 +50,9 @@ pub fn one_size<K: Sink, C: Clock>(
     if u64::from(n) < needed {
         return skipped(alloc, asked, n, k, sink);
     }
-    match begin(alloc, asked, plan, n, watch, sink, clock) {
-        Ok(None) => models(alloc, asked, plan, n, k, *watch, sink, clock),
-        Ok(Some(end)) => Ok(Step::Ends(end, k)),
-        Err(cut) => Err(cut),
+    match begin(alloc, asked, plan, n, watch, sink, clock)? {
+        None => models(alloc, asked, plan, n, k, *watch, sink, clock),
+        Some(end) => Ok(Step::Ends(end, k)),
     }
 }
 
@@ -69,8 +68,6 @@ fn skipped<K: Sink>(
     ensures piece { IsPiece (skipped_line n) (K.outflow sink.old) (K.outflow sink.new) result }
     ensures step { IfOk result (λ step. step ≡ Step.Over printed) }
 {
-    match print_item(alloc, asked, SearchItem::Skips(n), sink) {
-        Ok(()) => Ok(Step::Over(printed)),
-        Err(cut) => Err(cut),
-    }
+    print_item(alloc, asked, SearchItem::Skips(n), sink)?;
+    Ok(Step::Over(printed))
 }

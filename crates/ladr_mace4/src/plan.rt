@@ -61,6 +61,9 @@ fn way_of(options: &Options) -> Way
     };
     let measure = match options.selection_measure {
         0 => Measure::First,
+        1 => Measure::MostOccurrences,
+        2 => Measure::MostAssigned,
+        3 => Measure::MostContradicted,
         _ => Measure::MostCrossed,
     };
     Way {

@@ -20,10 +20,10 @@ use clausify::ClauseError;
 use fol_problem::Problem;
 use ladr_cells::problems_fit;
 use ladr_formulas::Mode;
-use ladr_intake::{Stop, refuse, stop_by, take_in};
+use ladr_intake::{Stop, or_refused, take_bytes};
 use ladr_io::{Clock, Sink, Source};
 use ladr_output::Cut;
-use ladr_problem::problems_grow;
+use ladr_problem::{problems_grow, read_problem};
 use ladr_words::{ModelOptions, Task};
 use std::alloc::Global;
 
@@ -77,10 +77,8 @@ fn find<K: Sink, C: Clock>(
         (C.times clock.new)) (K.outflow sink.old) (K.outflow sink.new) result }
 {
     let plan = search_plan(words, &problem.options);
-    match seek(alloc, problem, plan, sink, clock) {
-        Ok(over) => print_end(alloc, over, sink),
-        Err(cut) => Err(cut),
-    }
+    let over = seek(alloc, problem, plan, sink, clock)?;
+    print_end(alloc, over, sink)
 }
 
 /// Reads the input and searches for its models, as the words and its options ask.
@@ -100,11 +98,7 @@ pub fn mace4<S: Source, K: Sink, C: Clock>(
 {
     problems_grow();
     problems_fit();
-    match take_in(alloc, Mode::Mace, source) {
-        Ok(read) => match find(alloc, &read.problem, words, sink, clock) {
-            Ok(end) => Ok(end),
-            Err(cut) => Err(stop_by(cut)),
-        },
-        Err(why) => Err(refuse(alloc, why, sink)),
-    }
+    let bytes = take_bytes(alloc, source, sink)?;
+    let read = or_refused(alloc, read_problem(alloc, Mode::Mace, &bytes), sink)?;
+    Ok(find(alloc, &read.problem, words, sink, clock)?)
 }

@@ -41,12 +41,12 @@ pub fn search_sizes<K: Sink, C: Clock>(
     let mut printed = 0;
     let mut n = plan.start;
     while n <= plan.end {
-        match one_size(
+        let step = one_size(
             alloc, asked, plan, needed, n, printed, &mut watch, sink, clock,
-        ) {
-            Ok(Step::Over(now)) => printed = now,
-            Ok(Step::Ends(end, printed)) => return Ok(SearchOver { end, printed }),
-            Err(cut) => return Err(cut),
+        )?;
+        match step {
+            Step::Over(now) => printed = now,
+            Step::Ends(end, printed) => return Ok(SearchOver { end, printed }),
         }
         n += plan.step;
     }

@@ -192,7 +192,7 @@ allows StartSize v = nat_le 1 v && nat_le v 200
 allows EndSize v = nat_le 1 v && nat_le v 200
 allows Increment v = nat_le 1 v && nat_le v 200
 allows SelectionOrder v = nat_le v 2
-allows SelectionMeasure v = v == 0 || v == 4
+allows SelectionMeasure v = nat_le v 4
 allows ProofFormat v = nat_le 1 v && nat_le v 2
 allows EvalLimit v = nat_le v 1000000
 

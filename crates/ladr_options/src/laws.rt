@@ -17,7 +17,7 @@ pub fn worked()
     ensures ratio { numbered (codes "pick_given_ratio") false 3 start
         ≡ Ok (record start { age_part = 1; weight_part = 3; false_part = 0; true_part = 0 }) }
     ensures no_size { numbered (codes "start_size") false 0 start ≡ Err NotAValue }
-    ensures no_measure { numbered (codes "selection_measure") false 3 start ≡ Err NotAValue }
+    ensures no_measure { numbered (codes "selection_measure") false 5 start ≡ Err NotAValue }
     ensures format { numbered (codes "proof_format") false 2 start
         ≡ Ok (record start { proof_format = 2 }) }
     ensures no_format { numbered (codes "proof_format") false 3 start ≡ Err NotAValue }

@@ -291,7 +291,7 @@ fn allows(parameter: Parameter, value: u32) -> bool
         Parameter::StartSize | Parameter::EndSize | Parameter::Increment => 1 <= value
             && value <= 200,
         Parameter::SelectionOrder => value <= 2,
-        Parameter::SelectionMeasure => value == 0 || value == 4,
+        Parameter::SelectionMeasure => value <= 4,
         Parameter::ProofFormat => 1 <= value && value <= 2,
         Parameter::EvalLimit => value <= 1_000_000,
     }

@@ -1,4 +1,5 @@
 pub mod Causes
+pub mod Ended
 pub mod Limits
 pub mod Runs
 pub mod Words

@@ -32,15 +32,16 @@ pub struct Exit {
     pub cause: Cause,
 }
 
-/// A command came to no end of its own.
-pub fn cause_of(stop: Stop) -> Cause
-    ensures { result ≡ cause_of stop }
-{
-    match stop {
-        Stop::Refused(refused) => Cause::Refused(refused),
-        Stop::ReadFault => Cause::ReadFault,
-        Stop::WriteFault => Cause::WriteFault,
-        Stop::Memory => Cause::Memory,
+impl From<Stop> for Cause {
+    ghost from_gives = { λ stop cause. cause ≡ cause_of stop };
+
+    fn from(stop: Stop) -> Cause {
+        match stop {
+            Stop::Refused(refused) => Cause::Refused(refused),
+            Stop::ReadFault => Cause::ReadFault,
+            Stop::WriteFault => Cause::WriteFault,
+            Stop::Memory => Cause::Memory,
+        }
     }
 }
 

@@ -2,28 +2,27 @@
 ghost use Rattle.std.specs.Prelude.{◌≡◌, ◌≢◌, ℕ, Option, false, None, Some, map};
 ghost use Rattle.std.specs.String.{string_bytes};
 ghost use Rattle.ladr_check.specs.Shown.{ShowsProofs};
-ghost use Rattle.ladr_intake.specs.Refusals.{stop_of_cut};
-ghost use Rattle.ladr_output.specs.Telling.{result_of_piece};
-ghost use Rattle.ladr_top.specs.Causes.{cause_by, cause_of, status_of};
+ghost use Rattle.ladr_top.specs.Causes.{status_of};
+ghost use Rattle.ladr_top.specs.Ended.{RunsTask, cause_in};
 ghost use Rattle.ladr_top.specs.Limits.{AreLimits};
 ghost use Rattle.ladr_top.specs.Runs.{ReadNothing, RefusesWords, RunsCheck, RunsClausetester, RunsMace4, RunsMade, RunsProver9, ShowsMace4, ShowsProver9, ChecksProver9, ChecksSoFar};
-ghost use Rattle.ladr_words.specs.Tasks.{task_of};
+ghost use Rattle.ladr_words.specs.Tasks.{HasRanges, task_of};
 ghost use Rattle.ladr_words.specs.declared.task.ModelOptions.{ModelOptions};
 ghost use Rattle.ladr_words.specs.declared.task.Task.TheVariants.{Check, Clausetester, Mace4, Made, Prover9};
 
-use crate::cause::{Cause, Exit, cause_of, status};
+use crate::cause::{Cause, Exit, status};
 use crate::limits::limits_are_told;
 use crate::lines::no_command;
 use accepted_output::outputs_are_accepted;
 use fol_core::Interpretation;
-use ladr_check::{CheckEnd, check_text, checks_show};
-use ladr_clausetester::{Tested, clausetester};
-use ladr_intake::{Stop, stop_by};
+use ladr_check::{check_text, checks_show};
+use ladr_clausetester::clausetester;
+use ladr_intake::Stop;
 use ladr_io::{Clock, Sink, Source};
-use ladr_mace4::{SearchEnd, mace4, searches_show};
+use ladr_mace4::{mace4, searches_show};
 use ladr_made::made;
-use ladr_output::{Cut, piece};
-use ladr_prover9::{ProverEnd, proofs_show, prover9};
+use ladr_output::piece;
+use ladr_prover9::{proofs_show, prover9};
 use ladr_words::{Task, WordsError, task_of};
 use std::alloc::Global;
 
@@ -68,7 +67,8 @@ pub fn run<I: Interpretation, S: Source, K: Sink, C: Clock>(
         → RunsClausetester (S.inflow source.old) (S.inflow source.new) (K.outflow sink.old)
         (K.outflow sink.new) result.cause }
 
-    // Models of what the input states are searched for.
+    // Models of what the input states are searched for: of each size that is searched the leaves of the plain search are printed, in their
+    // order, till as many as are wanted stand there. So where no time is set, bytes and words tell the whole output.
     ensures mace4 { (o : ModelOptions) → task_of (map string_bytes words.now) ≡ Some (Mace4 o)
         → RunsMace4 o (S.inflow source.old) (S.inflow source.new) (K.outflow sink.old)
         (K.outflow sink.new) (C.times clock.new) result.cause }
@@ -119,78 +119,69 @@ pub fn run<I: Interpretation, S: Source, K: Sink, C: Clock>(
     outputs_are_accepted();
     limits_are_told();
     match task_of(alloc, words) {
-        Ok(Task::Check) => exit(checked(check_text(alloc, source, sink))),
-        Ok(Task::Clausetester) => exit(tested(clausetester(alloc, source, sink))),
-        Ok(Task::Mace4 { options }) => exit(searched(mace4(alloc, options, source, sink, clock))),
-        Ok(Task::Made { size }) => exit(generated(made(alloc, size, sink))),
-        Ok(Task::Prover9 { max_seconds }) => {
-            exit(refuted(prover9(alloc, max_seconds, source, sink, clock)))
-        }
+        Ok(task) => exit(ended(alloc, task, source, sink, clock)),
         Err(WordsError::NoCommand) => exit(refuse(alloc, sink)),
-        Err(WordsError::Memory) => exit(Cause::Memory),
+        Err(WordsError::Memory) => exit(Err(Stop::Memory)),
     }
 }
 
-fn checked(ended: Result<CheckEnd, Stop>) -> Cause
-    ensures { result ≡ cause_by Cause.Check ended }
+// How a task ends, or why it comes to no end of its own.
+fn ended<S: Source, K: Sink, C: Clock>(
+    alloc: Global,
+    task: Task,
+    source: &mut S,
+    sink: &mut K,
+    clock: &mut C,
+) -> Result<Cause, Stop>
+    requires ranges { HasRanges task }
+    requires unread { (C.times clock.old).count ≡ 0 }
+    requires source { (S.inflow source.old).over ≡ false }
+    requires sink { (K.outflow sink.old).over ≡ false }
+    ensures runs { RunsTask task (S.inflow source.old) (S.inflow source.new) (K.outflow sink.old)
+        (K.outflow sink.new) (C.times clock.new) (cause_in result) }
+    ensures untouched { (n : ℕ) → task ≡ Made n → source.new ≡ source.old }
+    ensures clock { ((o : ModelOptions) → task ≢ Mace4 o)
+        → ((t : Option ℕ) → task ≢ Prover9 t) → C.times clock.new ≡ C.times clock.old }
 {
-    match ended {
-        Ok(end) => Cause::Check(end),
-        Err(stop) => cause_of(stop),
-    }
-}
-
-fn tested(ended: Result<Tested, Stop>) -> Cause
-    ensures { result ≡ cause_by Cause.Clausetester ended }
-{
-    match ended {
-        Ok(end) => Cause::Clausetester(end),
-        Err(stop) => cause_of(stop),
-    }
-}
-
-fn searched(ended: Result<SearchEnd, Stop>) -> Cause
-    ensures { result ≡ cause_by Cause.Mace4 ended }
-{
-    match ended {
-        Ok(end) => Cause::Mace4(end),
-        Err(stop) => cause_of(stop),
-    }
-}
-
-fn generated(ended: Result<(), Cut>) -> Cause
-    ensures { result ≡ result_of_piece Cause.Made (λ cut. cause_of (stop_of_cut cut)) ended }
-{
-    match ended {
-        Ok(()) => Cause::Made,
-        Err(cut) => cause_of(stop_by(cut)),
-    }
-}
-
-fn refuted(ended: Result<ProverEnd, Stop>) -> Cause
-    ensures { result ≡ cause_by Cause.Prover9 ended }
-{
-    match ended {
-        Ok(end) => Cause::Prover9(end),
-        Err(stop) => cause_of(stop),
+    match task {
+        Task::Check => Ok(Cause::Check(check_text(alloc, source, sink)?)),
+        Task::Clausetester => Ok(Cause::Clausetester(clausetester(alloc, source, sink)?)),
+        Task::Mace4 { options } => Ok(Cause::Mace4(mace4(alloc, options, source, sink, clock)?)),
+        Task::Made { size } => {
+            made(alloc, size, sink)?;
+            Ok(Cause::Made)
+        }
+        Task::Prover9 { max_seconds } => {
+            let end = prover9(alloc, max_seconds, source, sink, clock)?;
+            Ok(Cause::Prover9(end))
+        }
     }
 }
 
 // Prints the line for words that are no command.
-fn refuse<K: Sink>(alloc: Global, sink: &mut K) -> Cause
+fn refuse<K: Sink>(alloc: Global, sink: &mut K) -> Result<Cause, Stop>
     requires { (K.outflow sink.old).over ≡ false }
-    ensures { RefusesWords (K.outflow sink.old) (K.outflow sink.new) result }
+    ensures { RefusesWords (K.outflow sink.old) (K.outflow sink.new) (cause_in result) }
 {
-    match piece(no_command(alloc), sink) {
-        Ok(()) => Cause::Words,
-        Err(cut) => cause_of(stop_by(cut)),
+    piece(no_command(alloc), sink)?;
+    Ok(Cause::Words)
+}
+
+fn cause_in(ended: Result<Cause, Stop>) -> Cause
+    ensures { result ≡ cause_in ended }
+{
+    match ended {
+        Ok(cause) => cause,
+        Err(stop) => Cause::from(stop),
     }
 }
 
-fn exit(cause: Cause) -> Exit
-    ensures status { result.status ≡ status_of cause }
-    ensures cause { result.cause ≡ cause }
+// The exit of a run that ended so.
+fn exit(ended: Result<Cause, Stop>) -> Exit
+    ensures status { result.status ≡ status_of result.cause }
+    ensures cause { result.cause ≡ cause_in ended }
 {
+    let cause = cause_in(ended);
     Exit {
         status: status(&cause),
         cause,

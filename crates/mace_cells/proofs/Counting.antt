@@ -8,10 +8,8 @@ use Rattle.std.proofs.lemmas.Bool.{cases_lt, false≢true}
 use Rattle.std.proofs.lemmas.List.{length-replicate}
 use Rattle.cell_ranks.proofs.Ranking.{past_flags}
 use Rattle.cell_ranks.specs.Ranks.{Ranked}
-use Rattle.mace_cells.specs.Trails.{crossings_of, AreCounted, partial, value_in, score, is_missing, counts_crossed, counted_up, lowered, CanRaise, CanLower, IsRankedBy, AreFlagged, AreScored}
+use Rattle.mace_cells.specs.Trails.{crossings_of, AreCounted, partial, value_in, score, is_missing, counted_up, lowered, CanRaise, CanLower, IsRankedBy, AreFlagged, AreScored}
 use Rattle.mace_cells.specs.declared.trail.TrailEntry.{TrailEntry}
-use Rattle.mace_cells.specs.declared.way.Measure.{Measure}
-use Rattle.mace_cells.specs.declared.way.Measure.TheVariants.{First, MostCrossed}
 
 pub few_crossings : (stride k : ℕ) (ks : List ℕ) → crossings_of stride k ks ≤ length ks
 few_crossings stride k [] = omega arith
@@ -79,40 +77,40 @@ pub cell_within : (stride many at end : ℕ) → end ≡ many * stride → at < 
 cell_within stride many at end e h = (div-lt_iff_lt-mul {k = stride} {x = at} {y = many} (some_stride stride many at end e h)).1 (omega (arith, h, e))
 
 -- where it counts, the scores are these counts
-pub scored_more : (m : Measure) (r : Ranked) (stride cell value many : ℕ) (ks : List ℕ) → value < stride → cell < many → AreScored m stride ks many r.scores → AreScored m stride ((cell * stride + value) ∷ ks) many (counted_up m r cell).scores
-scored_more First r stride cell value many ks fits within scored = scored
-scored_more MostCrossed r stride cell value many ks fits within scored = (
+pub scored_more : (m : Bool) (r : Ranked) (stride cell value many : ℕ) (ks : List ℕ) → value < stride → cell < many → AreScored m stride ks many r.scores → AreScored m stride ((cell * stride + value) ∷ ks) many (counted_up m r cell).scores
+scored_more false r stride cell value many ks fits within scored = scored
+scored_more true r stride cell value many ks fits within scored = (
   length-set r.scores cell (get_or r.scores cell 0 + 1) ∙ scored.0,
   counted_more stride cell value (get_or r.scores cell 0 + 1) ks r.scores fits (omega (arith, within, scored.0)) scored.1 refl,
 )
 
-pub scored_less : (m : Measure) (r : Ranked) (stride at many : ℕ) (ks : List ℕ) → at / stride < many → AreScored m stride (at ∷ ks) many r.scores → AreScored m stride ks many (lowered m r (at / stride)).scores
-scored_less First r stride at many ks within scored = scored
-scored_less MostCrossed r stride at many ks within scored =
+pub scored_less : (m : Bool) (r : Ranked) (stride at many : ℕ) (ks : List ℕ) → at / stride < many → AreScored m stride (at ∷ ks) many r.scores → AreScored m stride ks many (lowered m r (at / stride)).scores
+scored_less false r stride at many ks within scored = scored
+scored_less true r stride at many ks within scored =
     let here : at / stride < length r.scores = omega (arith, within, scored.0) in
     let some = some_counted stride at ks r.scores here scored.1 in (
       length-set r.scores (at / stride) (get_or r.scores (at / stride) 0 - 1) ∙ scored.0,
       counted_less stride at (get_or r.scores (at / stride) 0 - 1) ks r.scores here scored.1 (omega (arith, some)),
     )
 
-pub can_raise : (m : Measure) (r : Ranked) (stride cell many : ℕ) (ks : List ℕ) → cell < many → length ks + 1 < 2 ^ 64 → AreScored m stride ks many r.scores → CanRaise m r cell
-can_raise First r stride cell many ks within few scored = tt
-can_raise MostCrossed r stride cell many ks within few scored =
+pub can_raise : (m : Bool) (r : Ranked) (stride cell many : ℕ) (ks : List ℕ) → cell < many → length ks + 1 < 2 ^ 64 → AreScored m stride ks many r.scores → CanRaise m r cell
+can_raise false r stride cell many ks within few scored = tt
+can_raise true r stride cell many ks within few scored =
     let here : cell < length r.scores = omega (arith, within, scored.0) in
     (here, omega (arith, scored.1 cell here, few_crossings stride cell ks, few))
 
-pub can_lower : (m : Measure) (r : Ranked) (stride at many : ℕ) (ks : List ℕ) → at / stride < many → AreScored m stride (at ∷ ks) many r.scores → CanLower m r (at / stride)
-can_lower First r stride at many ks within scored = tt
-can_lower MostCrossed r stride at many ks within scored = let here : at / stride < length r.scores = omega (arith, within, scored.0) in (here, some_counted stride at ks r.scores here scored.1)
+pub can_lower : (m : Bool) (r : Ranked) (stride at many : ℕ) (ks : List ℕ) → at / stride < many → AreScored m stride (at ∷ ks) many r.scores → CanLower m r (at / stride)
+can_lower false r stride at many ks within scored = tt
+can_lower true r stride at many ks within scored = let here : at / stride < length r.scores = omega (arith, within, scored.0) in (here, some_counted stride at ks r.scores here scored.1)
 
 -- all else stays
-pub kept_raised : (m : Measure) (r : Ranked) (k : ℕ) → ((counted_up m r k).indices ≡ r.indices) × ((counted_up m r k).free ≡ r.free)
-kept_raised First r k = (refl, refl)
-kept_raised MostCrossed r k = (refl, refl)
+pub kept_raised : (m : Bool) (r : Ranked) (k : ℕ) → ((counted_up m r k).indices ≡ r.indices) × ((counted_up m r k).free ≡ r.free)
+kept_raised false r k = (refl, refl)
+kept_raised true r k = (refl, refl)
 
-pub kept_lowered : (m : Measure) (r : Ranked) (k : ℕ) → ((lowered m r k).indices ≡ r.indices) × ((lowered m r k).free ≡ r.free)
-kept_lowered First r k = (refl, refl)
-kept_lowered MostCrossed r k = (refl, refl)
+pub kept_lowered : (m : Bool) (r : Ranked) (k : ℕ) → ((lowered m r k).indices ≡ r.indices) × ((lowered m r k).free ≡ r.free)
+kept_lowered false r k = (refl, refl)
+kept_lowered true r k = (refl, refl)
 
 -- a cell gets a value, or loses it
 pub flagged_set : (values : List (Option ℕ)) (free : List Bool) (k : ℕ) (o : Option ℕ) → k < length values → AreFlagged values free → AreFlagged (set values k o) (set free k (is_missing o))
@@ -142,19 +140,19 @@ flagged_at_first n = record { many = length-replicate n true ∙ sym (length-rep
     both (suc m) zero h = refl
     both (suc m) (suc k) h = both m k (omega (arith, h))
 
-pub scored_at_first : (m : Measure) (stride n : ℕ) → AreScored m stride [] n (if counts_crossed m then replicate n 0 else [])
-scored_at_first First stride n = refl
-scored_at_first MostCrossed stride n = (length-replicate n 0, none_counted stride n)
+pub scored_at_first : (m : Bool) (stride n : ℕ) → AreScored m stride [] n (if m then replicate n 0 else [])
+scored_at_first false stride n = refl
+scored_at_first true stride n = (length-replicate n 0, none_counted stride n)
 
 -- the cells are ranked as the steps say
-pub ranked_by : (many stride : ℕ) (measure : Measure) (r : Ranked) (es : List TrailEntry) (ks : List ℕ) (values : List (Option ℕ)) → ((k : ℕ) → get_or r.indices k 0 < 256) → length values ≡ many → ((k : ℕ) → get_or values k None ≡ value_in es k) → AreFlagged values r.free → AreScored measure stride ks many r.scores
-    → IsRankedBy (partial many stride (record { indices = r.indices; measure = measure }) es ks) r
-ranked_by many stride measure r es ks values bytes is read flagged scored = record {
+pub ranked_by : (many stride : ℕ) (counts : Bool) (r : Ranked) (es : List TrailEntry) (ks : List ℕ) (values : List (Option ℕ)) → ((k : ℕ) → get_or r.indices k 0 < 256) → length values ≡ many → ((k : ℕ) → get_or values k None ≡ value_in es k) → AreFlagged values r.free → AreScored counts stride ks many r.scores
+    → IsRankedBy (partial many stride (record { indices = r.indices; counts = counts }) es ks) r
+ranked_by many stride counts r es ks values bytes is read flagged scored = record {
   indices = refl;
   bytes = bytes;
   blank = λ k free. let within = flag_within k free in (omega (arith, within, flagged.many, is), missing (value_in es k) (ap is_missing (sym (read k)) ∙ sym (flagged.each k (omega (arith, within, flagged.many))) ∙ free));
   free = λ k blank. flagged.each k (omega (arith, blank.0, is)) ∙ ap is_missing (read k ∙ blank.1);
-  scores = score_is measure scored;
+  scores = score_is counts scored;
 }
   where
     missing : (o : Option ℕ) → is_missing o ≡ true → o ≡ None
@@ -164,6 +162,6 @@ ranked_by many stride measure r es ks values bytes is read flagged scored = reco
     flag_within : (k : ℕ) → get_or r.free k false ≡ true → k < length r.free
     flag_within k free = elim (cases_lt k (length r.free)) [ inl less ↦ less | inr past ↦ absurd (false≢true (sym (past_flags r.free k past) ∙ free)) ]
 
-    score_is : (m : Measure) → AreScored m stride ks many r.scores → (k : ℕ) → k < many → get_or r.scores k 0 ≡ score (partial many stride (record { indices = r.indices; measure = measure }) es ks) m k
-    score_is First h k within = ap (λ (ss : List ℕ). get_or ss k 0) h
-    score_is MostCrossed h k within = h.1 k (omega (arith, within, h.0))
+    score_is : (m : Bool) → AreScored m stride ks many r.scores → (k : ℕ) → k < many → get_or r.scores k 0 ≡ score (partial many stride (record { indices = r.indices; counts = counts }) es ks) m k
+    score_is false h k within = ap (λ (ss : List ℕ). get_or ss k 0) h
+    score_is true h k within = h.1 k (omega (arith, within, h.0))

@@ -3,5 +3,4 @@ pub mod Steps
 pub mod Drives
 pub mod Making
 pub mod Reading
-pub mod Moving
 pub mod Counting

@@ -44,9 +44,3 @@ IsAhead m (c ∷ cs) =
 -- it is ahead, or the decisions are still being followed and it agrees with all of them
 abbrev pub IsOpen : Bool → List Choice → Meaning → Type 0
 IsOpen live cs m = (IsTrue live × AgreesWith m (decisions cs)) ⊎ IsAhead m cs
-
--- decisions are being followed, or some choice has a further value to be tried
-abbrev pub MayGoOn : Bool → List Choice → Type 0
-MayGoOn true cs = Unit {0}
-MayGoOn false [] = ⊥
-MayGoOn false (c ∷ cs) = (c.value < c.most) ⊎ MayGoOn false cs

@@ -1,8 +1,6 @@
-pub mod Boards
 pub mod Choices
 pub mod Leaves
 pub mod Made
-pub mod Moves
 pub mod Numbers
 pub mod Readings
 pub mod Searches

@@ -4,12 +4,13 @@ use Rattle.std.specs.List.{list_any, slice_index_or, slice_set}
 use Rattle.cell_ranks.specs.Ranks.{Ranked, ranked, IsFree}
 use Rattle.mace_cells.specs.declared.trail.TrailEntry.{TrailEntry}
 use Rattle.mace_cells.specs.declared.way.Measure.{Measure}
-use Rattle.mace_cells.specs.declared.way.Measure.TheVariants.{First, MostCrossed}
+use Rattle.mace_cells.specs.declared.way.Measure.TheVariants.{First, MostOccurrences, MostAssigned, MostContradicted, MostCrossed}
 
--- how cells are ranked for the choice: by the index of each, and by what counts
+-- how cells are ranked for the choice: by the index of each, and whether by how many values are
+-- crossed off each
 pub record Ranking : Type 0 where
   pub indices : List ℕ
-  pub measure : Measure
+  pub counts : Bool
 
 -- how many cells there are, one more than the greatest value, how cells are ranked, the values that
 -- cells have, and the values that were crossed off, each as the number cell * stride + value; the
@@ -97,11 +98,11 @@ abbrev pub AreCounted : ℕ → List ℕ → List ℕ → Type 0
 AreCounted stride ks counts =
     (k : ℕ) → k < length counts → slice_index_or counts k 0 ≡ crossings_of stride k ks
 
--- what is greatest in the cell to be chosen: how many values are crossed off it; or all cells are
--- alike
-abbrev pub score : Partial → Measure → ℕ → ℕ
-score t First k = 0
-score t MostCrossed k = crossed_off t k
+-- what is greatest in the first cell in rank: how many values are crossed off it, where that counts;
+-- else all cells are alike
+abbrev pub score : Partial → Bool → ℕ → ℕ
+score t false k = 0
+score t true k = crossed_off t k
 
 -- a cell that has no value
 abbrev pub IsBlank : Partial → ℕ → Type 0
@@ -114,7 +115,7 @@ pub record IsRankedBy (t : Partial) (r : Ranked) : Type 0 where
   pub blank : (k : ℕ) → IsFree r k → IsBlank t k
   pub free : (k : ℕ) → IsBlank t k → IsFree r k
   pub scores : (k : ℕ) → k < t.many
-      → slice_index_or r.scores k 0 ≡ score t t.ranking.measure k
+      → slice_index_or r.scores k 0 ≡ score t t.ranking.counts k
 
 abbrev pub is_missing : Option ℕ → Bool
 is_missing None = true
@@ -127,31 +128,34 @@ pub record AreFlagged (values : List (Option ℕ)) (free : List Bool) : Type 0 w
       → slice_index_or free k false ≡ is_missing (slice_index_or values k None)
 
 -- where it counts how many values are crossed off each cell, the scores tell this
-abbrev pub AreScored : Measure → ℕ → List ℕ → ℕ → List ℕ → Type 0
-AreScored First stride ks many scores = scores ≡ []
-AreScored MostCrossed stride ks many scores = (length scores ≡ many) × AreCounted stride ks scores
+abbrev pub AreScored : Bool → ℕ → List ℕ → ℕ → List ℕ → Type 0
+AreScored false stride ks many scores = scores ≡ []
+AreScored true stride ks many scores = (length scores ≡ many) × AreCounted stride ks scores
 
 -- one more value is crossed off a cell, or one less
-abbrev pub counted_up : Measure → Ranked → ℕ → Ranked
-counted_up First r k = r
-counted_up MostCrossed r k =
+abbrev pub counted_up : Bool → Ranked → ℕ → Ranked
+counted_up false r k = r
+counted_up true r k =
     ranked r.indices r.free (slice_set r.scores k (slice_index_or r.scores k 0 + 1))
 
-abbrev pub lowered : Measure → Ranked → ℕ → Ranked
-lowered First r k = r
-lowered MostCrossed r k =
+abbrev pub lowered : Bool → Ranked → ℕ → Ranked
+lowered false r k = r
+lowered true r k =
     ranked r.indices r.free (slice_set r.scores k (slice_index_or r.scores k 0 - 1))
 
 -- a cell has a score that can be raised, or lowered, where it counts
-abbrev pub CanRaise : Measure → Ranked → ℕ → Type 0
-CanRaise First r k = Unit {0}
-CanRaise MostCrossed r k = (k < length r.scores) × (slice_index_or r.scores k 0 + 1 < 2 ^ 64)
+abbrev pub CanRaise : Bool → Ranked → ℕ → Type 0
+CanRaise false r k = Unit {0}
+CanRaise true r k = (k < length r.scores) × (slice_index_or r.scores k 0 + 1 < 2 ^ 64)
 
-abbrev pub CanLower : Measure → Ranked → ℕ → Type 0
-CanLower First r k = Unit {0}
-CanLower MostCrossed r k = (k < length r.scores) × (0 < slice_index_or r.scores k 0)
+abbrev pub CanLower : Bool → Ranked → ℕ → Type 0
+CanLower false r k = Unit {0}
+CanLower true r k = (k < length r.scores) × (0 < slice_index_or r.scores k 0)
 
--- whether it counts how many values are crossed off a cell
+-- whether a measure counts how many values are crossed off a cell
 abbrev pub counts_crossed : Measure → Bool
 counts_crossed First = false
+counts_crossed MostOccurrences = false
+counts_crossed MostAssigned = false
+counts_crossed MostContradicted = false
 counts_crossed MostCrossed = true

@@ -3,10 +3,9 @@ ghost use Rattle.std.specs.Prelude.{ℕ, ◌≡◌, ◌+◌, ◌*◌, ◌^◌, �
 ghost use Rattle.cell_ranks.specs.Ranks.{Ranked, IsFree, IsForemost};
 ghost use Rattle.mace_cells.specs.Made.{IsMade};
 ghost use Rattle.mace_cells.specs.Stacked.{stacked, IsItemAt};
-ghost use Rattle.mace_cells.specs.Trails.{partial, value_in, is_struck_off, undone, cells_written, struck, before_decision, latest_mark, earliest, counts_crossed, counted_up, lowered, CanRaise, CanLower, IsRankedBy, AreFlagged, AreScored};
+ghost use Rattle.mace_cells.specs.Trails.{partial, value_in, is_struck_off, undone, cells_written, struck, before_decision, latest_mark, earliest, counted_up, lowered, CanRaise, CanLower, IsRankedBy, AreFlagged, AreScored};
 
 use crate::stack::Stack;
-use crate::way::Measure;
 use cell_ranks::Ranks;
 use std::alloc::{AllocError, Global};
 use std::marker::Model;
@@ -24,14 +23,14 @@ pub struct TrailEntry {
 #[derive(Drop)]
 pub struct Trail {
     stride: usize,
-    measure: Measure,
+    counts: bool,
     // By cell.
     values: Vec<Option<u8>>,
     // By cell and value.
     crossed: Vec<bool>,
     entries: Stack<TrailEntry>,
     crossings: Stack<usize>,
-    // The cells without a value, and where that counts how many values are crossed off each.
+    // The cells without a value, and where it is counted how many values are crossed off each.
     ranks: Ranks,
 }
 
@@ -43,7 +42,7 @@ impl Model for Trail {
     ghost Value = { Partial };
 
     ghost view = { λ a. partial (length a.values.items) a.stride
-        (record { indices = a.ranks.indices; measure = a.measure }) a.entries.list a.crossings.list };
+        (record { indices = a.ranks.indices; counts = a.counts }) a.entries.list a.crossings.list };
 
     ghost invariant = { λ a. record {
       small : length a.values.items < 2 ^ 32;
@@ -55,22 +54,23 @@ impl Model for Trail {
           (struck a.crossings.list) a.crossed.items;
       ranked : length a.ranks.indices ≡ length a.values.items;
       free : AreFlagged a.values.items a.ranks.free;
-      scored : AreScored a.measure a.stride a.crossings.list (length a.values.items)
+      scored : AreScored a.counts a.stride a.crossings.list (length a.values.items)
           a.ranks.scores;
     } };
 }
 
 impl Trail {
-    /// A table of cells with these indices, none of which has a value, of values below `stride`.
+    /// A table of cells with these indices, none of which has a value, of values below `stride`; whether it counts how many of them
+    /// are crossed off each cell.
     pub fn new(
         alloc: Global,
         stride: u32,
         indices: Vec<u8>,
-        measure: Measure,
+        counts: bool,
     ) -> Result<Trail, AllocError>
         requires { length indices.items < 2 ^ 32 }
         ensures { IfOk result (λ t. t ≡ partial (length indices.items) stride
-            (record { indices = indices.items; measure = measure }) [] []) }
+            (record { indices = indices.items; counts = counts }) [] []) }
     {
         let many = indices.len();
         let stride = stride as usize;
@@ -82,12 +82,12 @@ impl Trail {
         };
         let values = no_values(alloc, many)?;
         let crossed = no_flags(alloc, many * stride)?;
-        let ranks = Ranks::new(alloc, indices, counts_crossed(measure))?;
+        let ranks = Ranks::new(alloc, indices, counts)?;
         let entries = Stack::new(alloc, many, blank)?;
         let crossings = Stack::new(alloc, many * stride, 0)?;
         Ok(Trail {
             stride,
-            measure,
+            counts,
             values,
             crossed,
             entries,
@@ -97,10 +97,10 @@ impl Trail {
     }
 
     /// How many cells there are.
-    pub fn cells(&self) -> usize
+    pub fn cells(&self) -> u32
         ensures { result ≡ self.now.many }
     {
-        self.values.len()
+        self.values.len() as u32
     }
 
     /// The value that a cell has.
@@ -185,7 +185,7 @@ impl Trail {
     {
         let at = place(cell, value, self.stride, self.crossed.len());
         self.crossed[at] = true;
-        raise(&mut self.ranks, self.measure, cell);
+        raise(&mut self.ranks, self.counts, cell);
         self.crossings.push(at);
     }
 
@@ -207,7 +207,7 @@ impl Trail {
                 &mut self.crossed,
                 &mut self.ranks,
                 &mut self.crossings,
-                self.measure,
+                self.counts,
                 self.stride,
                 mark,
             );
@@ -240,43 +240,27 @@ fn no_flags(alloc: Global, many: usize) -> Result<Vec<bool>, AllocError>
     Ok(flags)
 }
 
-// Whether it counts how many values are crossed off a cell.
-fn counts_crossed(measure: Measure) -> bool
-    ensures { result ≡ counts_crossed measure }
-{
-    match measure {
-        Measure::First => false,
-        Measure::MostCrossed => true,
-    }
-}
-
 // One more value is crossed off a cell.
-fn raise(ranks: &mut Ranks, measure: Measure, cell: u32)
+fn raise(ranks: &mut Ranks, counts: bool, cell: u32)
     requires cell { cell < length ranks.old.indices }
-    requires room { CanRaise measure ranks.old cell }
-    ensures { ranks.new ≡ counted_up measure ranks.old cell }
+    requires room { CanRaise counts ranks.old cell }
+    ensures { ranks.new ≡ counted_up counts ranks.old cell }
 {
-    match measure {
-        Measure::First => {}
-        Measure::MostCrossed => {
-            let score = ranks.score(cell);
-            ranks.set_score(cell, score + 1);
-        }
+    if counts {
+        let score = ranks.score(cell);
+        ranks.set_score(cell, score + 1);
     }
 }
 
 // One value less is.
-fn lower(ranks: &mut Ranks, measure: Measure, cell: u32)
+fn lower(ranks: &mut Ranks, counts: bool, cell: u32)
     requires cell { cell < length ranks.old.indices }
-    requires some { CanLower measure ranks.old cell }
-    ensures { ranks.new ≡ lowered measure ranks.old cell }
+    requires some { CanLower counts ranks.old cell }
+    ensures { ranks.new ≡ lowered counts ranks.old cell }
 {
-    match measure {
-        Measure::First => {}
-        Measure::MostCrossed => {
-            let score = ranks.score(cell);
-            ranks.set_score(cell, score - 1);
-        }
+    if counts {
+        let score = ranks.score(cell);
+        ranks.set_score(cell, score - 1);
     }
 }
 
@@ -315,7 +299,7 @@ fn uncross(
     crossed: &mut Vec<bool>,
     ranks: &mut Ranks,
     crossings: &mut Stack<usize>,
-    measure: Measure,
+    counts: bool,
     stride: usize,
     mark: usize,
 )
@@ -323,11 +307,11 @@ fn uncross(
     requires few { length ranks.old.indices < 2 ^ 32 }
     requires made { IsMade false (length crossed.old.items)
         (struck crossings.old.list) crossed.old.items }
-    requires scored { AreScored measure stride crossings.old.list (length ranks.old.indices)
+    requires scored { AreScored counts stride crossings.old.list (length ranks.old.indices)
         ranks.old.scores }
     ensures made { IsMade false (length crossed.new.items)
         (struck crossings.new.list) crossed.new.items }
-    ensures scored { AreScored measure stride crossings.new.list (length ranks.new.indices)
+    ensures scored { AreScored counts stride crossings.new.list (length ranks.new.indices)
         ranks.new.scores }
     ensures length { length crossed.new.items ≡ length crossed.old.items }
     ensures indices { ranks.new.indices ≡ ranks.old.indices }
@@ -341,6 +325,6 @@ fn uncross(
         }
         crossings.pop();
         crossed[at] = false;
-        lower(ranks, measure, (at / stride) as u32);
+        lower(ranks, counts, (at / stride) as u32);
     }
 }

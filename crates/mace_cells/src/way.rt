@@ -1,4 +1,6 @@
 // How a search goes about its choices.
+ghost use Rattle.std.specs.Prelude.{◌≡◌};
+ghost use Rattle.mace_cells.specs.Trails.{counts_crossed};
 
 /// Which of the cells without a value may be chosen: all, those of least index, or those of which the index is in use.
 #[derive(Clone, Copy)]
@@ -8,11 +10,31 @@ pub enum Candidates {
     InUse,
 }
 
-/// Which of these is chosen: the first, or the first with the most values crossed off.
+/// Which of these is chosen: the first; the first that stands in the most ground clauses that aren't known to be true; of which the
+/// values that are left give the most other cells a value, or the most of them contradict the clauses; or the first with the most
+/// values crossed off.
 #[derive(Clone, Copy)]
 pub enum Measure {
     First,
+    MostOccurrences,
+    MostAssigned,
+    MostContradicted,
     MostCrossed,
+}
+
+impl Measure {
+    /// Whether it counts how many values are crossed off a cell.
+    pub fn counts_crossed(self) -> bool
+        ensures { result ≡ counts_crossed self }
+    {
+        match self {
+            Measure::MostCrossed => true,
+            Measure::First
+            | Measure::MostOccurrences
+            | Measure::MostAssigned
+            | Measure::MostContradicted => false,
+        }
+    }
 }
 
 /// How a search chooses a cell, and whether it tries the values of functions by the least-number heuristic.

@@ -3,6 +3,7 @@ ghost use Rattle.std.specs.Prelude.{◌≡◌, ◌+◌, ◌^◌, ◌<◌, ◌≤
 ghost use Rattle.fol_core.specs.SymbolTable.{arity_at, kind_at};
 ghost use Rattle.mace_ground.specs.Cells.{blocks_of, cells_in};
 ghost use Rattle.mace_ground.specs.Count.{blocks_in, clause_trees, ground_count};
+ghost use Rattle.mace_ground.specs.Instances.{ground_literals};
 ghost use Rattle.mace_ground.specs.Spans.{placed, block_of};
 ghost use Rattle.model_tables.specs.declared.limits.TheConstants.{MOST_CELLS};
 
@@ -21,9 +22,10 @@ pub struct Ground<'a> {
 }
 
 impl<'a> Model for Ground<'a> {
-    ghost use Rattle.std.specs.Prelude.{map};
-    ghost use Rattle.mace_ground.specs.Instances.{Instances};
+    ghost use Rattle.std.specs.Prelude.{◌≤◌, map};
+    ghost use Rattle.mace_ground.specs.Instances.{Instances, ground_literals};
     ghost use Rattle.mace_ground.specs.GroundCodes.{coded_instances};
+    ghost use Rattle.model_tables.specs.declared.limits.TheConstants.{MOST_CELLS};
 
     ghost Value = { Instances };
 
@@ -34,6 +36,9 @@ impl<'a> Model for Ground<'a> {
       blocks = a.blocks.blocks;
       clauses = map (λ row. row.1) a.clauses.now;
     } };
+
+    ghost invariant = { λ a. ground_literals a.blocks.size
+        (map (λ row. row.1) a.clauses.now) ≤ MOST_CELLS };
 }
 
 impl<'a> Ground<'a> {
@@ -85,6 +90,13 @@ impl<'a> Ground<'a> {
         ensures { map (λ row. row.1) result.now ≡ self.now.clauses }
     {
         self.clauses
+    }
+
+    /// The ground instances have few literals together.
+    pub fn literals_are_few(&self)
+        ensures { ground_literals self.now.size self.now.clauses ≤ MOST_CELLS }
+    {
+        let _clauses = &self.clauses;
     }
 }
 

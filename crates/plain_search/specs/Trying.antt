@@ -9,7 +9,7 @@ use Rattle.mace_cells.specs.World.{World, cell_of, many_cells}
 use Rattle.mace_cells.specs.declared.way.Candidates.{Candidates}
 use Rattle.mace_cells.specs.declared.way.Candidates.TheVariants.{All, LeastIndex, InUse}
 use Rattle.mace_cells.specs.declared.way.Measure.{Measure}
-use Rattle.mace_cells.specs.declared.way.Measure.TheVariants.{First, MostCrossed}
+use Rattle.mace_cells.specs.declared.way.Measure.TheVariants.{First, MostOccurrences, MostAssigned, MostContradicted, MostCrossed}
 use Rattle.mace_ground.specs.Cells.{Cell}
 use Rattle.mace_ground.specs.Instances.{assigned_by}
 use Rattle.model_tables.specs.Size.{bound_of}
@@ -44,12 +44,7 @@ candidates All used cs = cs
 candidates LeastIndex used cs = up_to (least_index cs) cs
 candidates InUse used cs = up_to (max used (least_index cs)) cs
 
--- how many values are crossed off a cell, where that counts
-abbrev pub score : Measure → World → ValuesLeft → Cell → ℕ
-score First w p c = 0
-score MostCrossed w p c = bound_of w.size c.kind - length (p c)
-
--- The other scores. By the first, a cell counts in each ground clause that isn't known to be true
+-- The scores of cells. By the first, a cell counts in each ground clause that isn't known to be true
 -- and of which a literal has it as a side: a literal is known to be true by the values of its sides,
 abbrev pub is_known_true : ℕ → ValuesLeft → Assignment → Lit → Bool
 is_known_true n p e l = unwrap_or (truth_known l.positive (sides n p e l.atom)) false
@@ -72,7 +67,7 @@ counts_in n p c g =
 abbrev pub occurrences : World → ValuesLeft → Cell → ℕ
 occurrences w p c = count_by (counts_in w.size p c) (instances_of w.size w.clauses)
 
--- By the others each value that the cell has left is tried, whatever the greatest is that a search
+-- By the next two each value that the cell has left is tried, whatever the greatest is that a search
 -- tries: the closure with the value
 abbrev pub tried_table : World → ValuesLeft → Cell → ℕ → Option ValuesLeft
 tried_table w p c v = closure w (with_left p c (v ∷ []))
@@ -91,6 +86,14 @@ assignments w p c = sum_by (λ v. assigned w p c (tried_table w p c v)) (p c)
 -- how many of the values meet a contradiction
 abbrev pub contradictions : World → ValuesLeft → Cell → ℕ
 contradictions w p c = count_by (λ v. is_none (tried_table w p c v)) (p c)
+
+-- what counts in a cell: nothing; one of these; or how many values are crossed off it
+abbrev pub score : Measure → World → ValuesLeft → Cell → ℕ
+score First w p c = 0
+score MostOccurrences w p c = occurrences w p c
+score MostAssigned w p c = assignments w p c
+score MostContradicted w p c = contradictions w p c
+score MostCrossed w p c = bound_of w.size c.kind - length (p c)
 
 -- the first cell of the greatest score
 abbrev pub better : (Cell → ℕ) → Cell → Option Cell → Option Cell

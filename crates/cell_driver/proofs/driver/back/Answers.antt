@@ -1,6 +1,5 @@
 use Rattle.std.proofs.Common.{true, false, refl}
 use Rattle.mace_cells.proofs.Drives.{both, refuted_at, gone_back}
-use Rattle.mace_cells.proofs.Moving.{goes_behind, refutes_choices}
 use Rattle.cell_driver.proofs.Coming.{came_on, was_refuted}
 use Rattle.cell_driver.proofs.driver.back.Goals as goal
 
@@ -11,11 +10,6 @@ returns-clause-leaves g c =
 
 pub returns-clause-rises : goal.returns-clause-rises
 returns-clause-rises g c = gone_back c.retreat.result _ _ _ _ c.retreat.ensures.rises
-
-pub returns-clause-goes : goal.returns-clause-goes
-returns-clause-goes g c =
-    let w = g.B.Board.world c.args.board.now in
-    goes_behind w w true false c.retreat.result c.args.frames.now.list c.args.frames.now.list c.retreat.new.frames.list 0 0 0 refl refl (refutes_choices w _ c.args.frames.now.list c.requires.standing.decided c.requires.refuted) c.retreat.ensures.goes
 
 pub returns-clause-comes : goal.returns-clause-comes
 returns-clause-comes g c =

@@ -1,11 +1,7 @@
-use Rattle.std.proofs.Common.{List, ap, ◌∙◌}
-use Rattle.mace_cells.specs.Choices.{Decision}
-use Rattle.mace_cells.specs.Numbers.{greatest_tried}
+use Rattle.std.proofs.Common.{ap}
 use Rattle.mace_cells.specs.Stacked.{Stacked}
-use Rattle.mace_cells.specs.World.{cell_of}
 use Rattle.mace_cells.specs.declared.frame.Frame.{Frame}
 use Rattle.mace_cells.proofs.Drives.{few_decided, first_value, no_value, comes_on}
-use Rattle.mace_cells.proofs.Moving.{to_choose, chooses_value, chooses_none}
 use Rattle.cell_driver.proofs.Coming.{chose_none, chose_value}
 use Rattle.cell_driver.proofs.driver.choose.Goals as goal
 
@@ -21,16 +17,6 @@ returns-in-Some-clause-leaves g c =
 
 pub returns-in-Some-clause-rises : goal.returns-in-Some-clause-rises
 returns-in-Some-clause-rises g c = comes_on _ _ _ (record { cell = c.args.cell; value = c.in-Some.value; most = c.most-most.result }) (ap (λ (s : Stacked Frame). s.list) c.push.ensures)
-
-pub returns-in-None-clause-goes : goal.returns-in-None-clause-goes
-returns-in-None-clause-goes g c = chooses_none (g.B.Board.world c.args.board.now) c.args.frames.now.list (cell_of (g.B.Board.world c.args.board.now) c.args.cell)
-    (to_choose (g.B.Board.world c.args.board.now) (g.B.Board.decided c.args.board.now) c.args.frames.now.list c.args.cell c.requires.standing.decided c.requires.cell c.requires.undecided c.requires.room)
-
-pub returns-in-Some-clause-goes : goal.returns-in-Some-clause-goes
-returns-in-Some-clause-goes g c =
-    chooses_value (g.B.Board.world c.args.board.now) c.args.frames.now.list _ (record { cell = c.args.cell; value = c.in-Some.value; most = c.most-most.result })
-    (to_choose (g.B.Board.world c.args.board.now) (g.B.Board.decided c.args.board.now) c.args.frames.now.list c.args.cell c.requires.standing.decided c.requires.cell c.requires.undecided c.requires.room) c.in-Some.ensures.next.1 c.most-most.ensures.fits
-    (c.most-most.ensures.tried ∙ ap (λ (ds : List Decision). greatest_tried (g.B.Board.world c.args.board.now) ds (cell_of (g.B.Board.world c.args.board.now) c.args.cell)) c.requires.standing.decided) (ap (λ (s : Stacked Frame). s.list) c.push.ensures)
 
 pub returns-in-Some-clause-comes : goal.returns-in-Some-clause-comes
 returns-in-Some-clause-comes g c =

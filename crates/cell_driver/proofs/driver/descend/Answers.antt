@@ -1,10 +1,7 @@
-use Rattle.std.proofs.Common.{◌≡◌, ◌+◌, ◌<◌, suc, true, false, length, refl, ap, ◌∙◌, arith}
-use Rattle.mace_cells.proofs.Moving.{goes_nowhere, goes_behind, few_of}
-use Rattle.mace_cells.proofs.Reading.{reads_none, reads_both}
+use Rattle.std.proofs.Common.{true, false, refl, ◌∙◌}
 use Rattle.mace_cells.proofs.Steps.{itself}
 use Rattle.mace_cells.proofs.Drives.{both, at_end, smaller, few_choices, still, refuted_still, few_still, undecided_still}
 use Rattle.mace_cells.specs.Leaves.{choices_of}
-use Rattle.mace_cells.specs.World.{many_cells}
 use Rattle.cell_driver.proofs.Coming.{come_nowhere, goes_on_by, goes_on_chosen, goes_to_end, goes_to_leaf, goes_too_late, stands_still}
 use Rattle.cell_driver.specs.declared.board.Status.TheVariants.{Choose, Refuted, Settled}
 use Rattle.cell_driver.proofs.driver.descend.Goals as goal
@@ -16,7 +13,6 @@ loop-board-init g c = record {
   leaves = itself (g.B.Board.world c.args.board.now) true _;
   early = c.requires.early;
   came = come_nowhere (g.B.Board.world c.args.board.now) c.args.stop true (choices_of (g.B.Board.world c.args.board.now) c.args.frames.now.list) (g.C.Clock.times c.args.clock.now);
-  goes = (0, goes_nowhere (g.B.Board.world c.args.board.now) true _, reads_none c.args.stop _);
 }
 
 pub back-requires-clause-standing : goal.back-requires-clause-standing
@@ -41,12 +37,6 @@ loop-board-preserved-else-not-back g c = record {
   leaves = both (g.B.Board.world c.args.board.now) (g.B.Board.world c.status.new.self) true true true _ _ _ (c.status.ensures.world ∙ c.loop-board.invariant.world) c.loop-board.invariant.leaves c.if-not-back.ensures.leaves;
   came = goes_on_by (g.B.Board.world c.args.board.now) (g.B.Board.world c.status.new.self) (c.status.ensures.world ∙ c.loop-board.invariant.world) c.args.stop true c.args.frames.now.list c.loop-board.frames.list (g.C.Clock.times c.args.clock.now) (g.C.Clock.times c.loop-board.clock) true true c.back.new.frames.list c.loop-board.invariant.came c.if-not-back.ensures.comes;
   early = c.loop-board.invariant.early;
-  goes =
-      let so_far = c.loop-board.invariant.goes in (
-        so_far.0,
-        goes_behind (g.B.Board.world c.args.board.now) (g.B.Board.world c.status.new.self) true true true _ _ _ so_far.0 0 so_far.0 (omega arith) (c.status.ensures.world ∙ c.loop-board.invariant.world) so_far.1 c.if-not-back.ensures.goes,
-        so_far.2,
-      );
 }
 
 pub step-requires-clause-standing : goal.step-requires-clause-standing
@@ -76,43 +66,7 @@ loop-board-preserved g c = record {
   leaves = both (g.B.Board.world c.args.board.now) (g.B.Board.world c.status.new.self) true true true _ _ _ (c.status.ensures.world ∙ c.loop-board.invariant.world) c.loop-board.invariant.leaves c.if-not-step.ensures.leaves;
   came = goes_on_chosen (g.B.Board.world c.args.board.now) (g.B.Board.world c.status.new.self) (c.status.ensures.world ∙ c.loop-board.invariant.world) c.args.stop true c.args.frames.now.list c.loop-board.frames.list (g.C.Clock.times c.args.clock.now) (g.C.Clock.times c.loop-board.clock) true true c.step.new.frames.list _ c.loop-board.invariant.came c.if-not-step.ensures.comes c.late.ensures.goes;
   early = c.in_default.ensures.late;
-  goes =
-      let so_far = c.loop-board.invariant.goes in (
-        so_far.0 + 1,
-        goes_behind (g.B.Board.world c.args.board.now) (g.B.Board.world c.status.new.self) true true true _ _ _ so_far.0 1 (so_far.0 + 1) refl (c.status.ensures.world ∙ c.loop-board.invariant.world) so_far.1 c.if-not-step.ensures.goes,
-        reads_both c.args.stop so_far.0 1 (so_far.0 + 1) _ _ _ refl so_far.2 c.late.ensures.goes,
-      );
 }
-
-pub returns-then-not-back-clause-goes : goal.returns-then-not-back-clause-goes
-returns-then-not-back-clause-goes g c =
-    let so_far = c.loop-board.invariant.goes in (
-      so_far.0,
-      goes_behind (g.B.Board.world c.args.board.now) (g.B.Board.world c.status.new.self) true true false _ _ _ so_far.0 0 so_far.0 (omega arith) (c.status.ensures.world ∙ c.loop-board.invariant.world) so_far.1 c.if-not-back.ensures.goes,
-      so_far.2,
-    )
-
-pub returns-then-not-step-clause-goes : goal.returns-then-not-step-clause-goes
-returns-then-not-step-clause-goes g c =
-    let so_far = c.loop-board.invariant.goes in (
-      so_far.0 + 1,
-      goes_behind (g.B.Board.world c.args.board.now) (g.B.Board.world c.status.new.self) true true false _ _ _ so_far.0 1 (so_far.0 + 1) refl (c.status.ensures.world ∙ c.loop-board.invariant.world) so_far.1 c.if-not-step.ensures.goes,
-      reads_both c.args.stop so_far.0 1 (so_far.0 + 1) _ _ _ refl so_far.2 c.late.ensures.goes,
-    )
-
-pub returns-in-Some-clause-goes : goal.returns-in-Some-clause-goes
-returns-in-Some-clause-goes g c =
-    let so_far = c.loop-board.invariant.goes in
-    let w = g.B.Board.world c.args.board.now in
-    let w' = g.B.Board.world c.status.new.self in
-    let standing = still _ _ _ _ c.loop-board.frames c.status.ensures.world c.status.ensures.decided c.loop-board.invariant.standing in
-    let few : length c.loop-board.frames.list < many_cells w' = few_choices w' _ _ standing.decided (few_still _ _ _ _ c.status.ensures.world c.status.ensures.decided c.in-Choose.ensures.told.1) in
-    let same : many_cells w' ≡ many_cells w = ap many_cells (c.status.ensures.world ∙ c.loop-board.invariant.world) in (
-      so_far.0,
-      so_far.1,
-      reads_both c.args.stop so_far.0 1 (suc so_far.0) _ _ _ (omega arith) so_far.2 c.late.ensures.goes,
-      few_of w c.loop-board.frames.list (omega (arith, few, same)),
-    )
 
 pub back-requires-clause-stands : goal.back-requires-clause-stands
 back-requires-clause-stands g c = stands_still _ _ _ _ Refuted c.status.ensures.world c.status.ensures.decided c.in-Refuted.ensures.stands

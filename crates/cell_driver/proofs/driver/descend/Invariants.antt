@@ -1,8 +1,6 @@
 -- the decisions are being followed, and the clock was early
-use Rattle.std.proofs.Common.{◌≡◌, ℕ, ◌-◌, ◌^◌, true}
+use Rattle.std.proofs.Common.{◌≡◌, ◌-◌, ◌^◌, true}
 use Rattle.mace_cells.specs.Leaves.{LeavesOpen, choices_of}
-use Rattle.mace_cells.specs.Moves.{GoesBy}
-use Rattle.mace_cells.specs.Readings.{ReadsOn}
 use Rattle.mace_cells.specs.Standing.{IsStanding, place}
 use Rattle.mace_cells.specs.World.{many_cells}
 use Rattle.cell_driver.proofs.Coming.{HasCome}
@@ -16,9 +14,6 @@ invariant-loop-board g l = record {
   leaves : LeavesOpen (g.B.Board.world l.fn.board) true (choices_of (g.B.Board.world l.fn.board) l.fn.frames.list) true (choices_of (g.B.Board.world l.fn.board) l.frames.list);
   early : IsEarly l.stop (g.C.Clock.times l.clock);
   came : HasCome (g.B.Board.world l.fn.board) l.stop true (choices_of (g.B.Board.world l.fn.board) l.fn.frames.list) true (choices_of (g.B.Board.world l.fn.board) l.frames.list) (g.C.Clock.times l.fn.clock) (g.C.Clock.times l.clock);
-  goes : (chosen : ℕ)
-      × GoesBy (g.B.Board.world l.fn.board) true (choices_of (g.B.Board.world l.fn.board) l.fn.frames.list) 0 chosen true (choices_of (g.B.Board.world l.fn.board) l.frames.list)
-      × ReadsOn l.stop chosen (g.C.Clock.times l.fn.clock) (g.C.Clock.times l.clock);
 }
 
 abbrev pub decreases-loop-board : goal.decreases-loop-board

@@ -1,6 +1,5 @@
 use Rattle.std.proofs.Common.{true}
 use Rattle.mace_cells.proofs.Drives.{found_after}
-use Rattle.mace_cells.proofs.Moving.{time_behind}
 use Rattle.cell_driver.proofs.Coming.{goes_behind}
 use Rattle.cell_driver.proofs.driver.next_model.Goals as goal
 
@@ -8,11 +7,6 @@ pub returns-then-begin-clause-found : goal.returns-then-begin-clause-found
 returns-then-begin-clause-found g c =
     found_after (g.B.Board.world c.args.board.now) (g.B.Board.world c.begin.new.board) c.args.live (g.B.Board.found c.descend.new.board) c.descend.result c.args.frames.now.list c.begin.new.frames.list c.descend.new.frames.list
     c.begin.ensures.world c.if-begin.ensures.leaves c.descend.ensures.found
-
-pub returns-then-begin-clause-goes : goal.returns-then-begin-clause-goes
-returns-then-begin-clause-goes g c =
-    time_behind (g.B.Board.world c.args.board.now) (g.B.Board.world c.begin.new.board) c.args.stop c.args.live c.descend.result c.args.frames.now.list c.begin.new.frames.list c.descend.new.frames.list _ _
-    c.begin.ensures.world c.if-begin.ensures.goes c.descend.ensures.goes
 
 pub returns-then-begin-clause-comes : goal.returns-then-begin-clause-comes
 returns-then-begin-clause-comes g c =

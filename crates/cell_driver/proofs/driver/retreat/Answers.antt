@@ -5,18 +5,14 @@ use Rattle.mace_cells.specs.World.{World, many_cells}
 use Rattle.mace_cells.specs.declared.frame.Frame.{Frame}
 use Rattle.mace_cells.proofs.Steps.{itself}
 use Rattle.mace_cells.proofs.Drives.{both, latest_of, beyond_rest}
-use Rattle.mace_cells.proofs.Moving.{goes_nowhere, goes_behind}
 use Rattle.cell_driver.proofs.Coming.{came_on}
 use Rattle.cell_driver.proofs.driver.retreat.Goals as goal
 
 pub loop-frame-init : goal.loop-frame-init
-loop-frame-init g c = record { world = refl; standing = c.requires.standing; leaves = itself (g.B.Board.world c.args.board.now) false _; goes = goes_nowhere (g.B.Board.world c.args.board.now) false _; came = refl; behind = omega arith }
+loop-frame-init g c = record { world = refl; standing = c.requires.standing; leaves = itself (g.B.Board.world c.args.board.now) false _; came = refl; behind = omega arith }
 
 pub returns-then-revise-clause-leaves : goal.returns-then-revise-clause-leaves
 returns-then-revise-clause-leaves g c = both _ _ false false true _ _ _ c.loop-frame.invariant.world c.loop-frame.invariant.leaves c.if-revise.ensures.leaves
-
-pub returns-then-revise-clause-goes : goal.returns-then-revise-clause-goes
-returns-then-revise-clause-goes g c = goes_behind _ _ false false true _ _ _ 0 0 0 refl c.loop-frame.invariant.world c.loop-frame.invariant.goes c.if-revise.ensures.goes
 
 pub loop-frame-preserved : goal.loop-frame-preserved
 loop-frame-preserved g c =
@@ -31,7 +27,6 @@ loop-frame-preserved g c =
       world = c.revise.ensures.world ∙ c.loop-frame.invariant.world;
       standing = c.revise.ensures.standing;
       leaves = both _ _ false false false _ _ _ c.loop-frame.invariant.world c.loop-frame.invariant.leaves c.if-revise.ensures.leaves;
-      goes = goes_behind _ _ false false false _ _ _ 0 0 0 refl c.loop-frame.invariant.world c.loop-frame.invariant.goes c.if-revise.ensures.goes;
       came = came_on (g.B.Board.world c.args.board.now) (g.B.Board.world c.loop-frame.board) false false false c.args.frames.now.list c.loop-frame.frames.list c.revise.new.frames.list c.loop-frame.invariant.world c.loop-frame.invariant.came c.if-revise.ensures.comes;
       behind = omega (arith, c.loop-frame.invariant.behind, less, new);
     }

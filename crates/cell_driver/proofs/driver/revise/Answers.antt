@@ -1,9 +1,8 @@
-use Rattle.std.proofs.Common.{◌≡◌, suc, List, ◌∷◌, length, refl, ap, ◌∙◌, arith}
+use Rattle.std.proofs.Common.{◌≡◌, suc, List, ◌∷◌, length, ap, ◌∙◌, arith}
 use Rattle.mace_cells.specs.Stacked.{Stacked, rest_of}
 use Rattle.mace_cells.specs.World.{many_cells}
 use Rattle.mace_cells.specs.declared.frame.Frame.{Frame}
 use Rattle.mace_cells.proofs.Drives.{few_decided, rest_decided, further_value, no_further, latest_decided, latest_within}
-use Rattle.mace_cells.proofs.Moving.{tries_value, takes_latest_back}
 use Rattle.cell_driver.proofs.Coming.{further, no_further as no_more}
 use Rattle.cell_driver.proofs.driver.revise.Goals as goal
 
@@ -32,16 +31,6 @@ returns-in-Some-clause-leaves g c =
 pub next_value-requires-clause-open : goal.next_value-requires-clause-open
 next_value-requires-clause-open g c =
     c.undo.ensures.open c.args.frame.cell (latest_within (g.B.Board.world c.args.board.now) _ _ c.args.frame c.requires.standing.within c.requires.latest) (latest_decided (g.B.Board.world c.args.board.now) _ _ _ c.args.frame c.requires.standing.decided c.requires.latest)
-
-pub returns-in-None-clause-goes : goal.returns-in-None-clause-goes
-returns-in-None-clause-goes g c = takes_latest_back (g.B.Board.world c.args.board.now) c.args.frames.now.list c.pop.new.self.list c.args.frame c.requires.latest (ap (λ (s : Stacked Frame). s.list) c.pop.ensures)
-
-pub returns-in-Some-clause-goes : goal.returns-in-Some-clause-goes
-returns-in-Some-clause-goes g c =
-    let popped : c.pop.new.self.list ≡ rest_of c.args.frames.now.list = ap (λ (s : Stacked Frame). s.list) c.pop.ensures in
-    let frame : Frame = record { cell = c.args.frame.cell; value = c.in-Some.value; most = c.args.frame.most } in
-    tries_value (g.B.Board.world c.args.board.now) c.args.frames.now.list c.push.new.self.list c.args.frame frame c.requires.latest (omega (arith, c.in-Some.ensures.next.0, c.from.ensures)) c.in-Some.ensures.next.1 refl refl
-    (ap (λ (s : Stacked Frame). s.list) c.push.ensures ∙ ap (λ (fs : List Frame). frame ∷ fs) popped)
 
 pub returns-in-Some-clause-comes : goal.returns-in-Some-clause-comes
 returns-in-Some-clause-comes g c =

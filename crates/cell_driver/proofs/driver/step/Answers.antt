@@ -1,6 +1,5 @@
-use Rattle.std.proofs.Common.{true, false, refl}
+use Rattle.std.proofs.Common.{true, false}
 use Rattle.mace_cells.proofs.Drives.{both, gone_back_at}
-use Rattle.mace_cells.proofs.Moving.{goes_behind}
 use Rattle.cell_driver.proofs.Coming.{came_chosen}
 use Rattle.cell_driver.proofs.driver.step.Goals as goal
 
@@ -10,10 +9,6 @@ returns-else-choose-clause-leaves g c =
 
 pub returns-else-choose-clause-rises : goal.returns-else-choose-clause-rises
 returns-else-choose-clause-rises g c = gone_back_at _ (g.B.Board.world c.choose.new.board) c.retreat.result _ _ _ c.choose.ensures.world c.if-choose.ensures.rises c.retreat.ensures.rises
-
-pub returns-else-choose-clause-goes : goal.returns-else-choose-clause-goes
-returns-else-choose-clause-goes g c =
-    goes_behind _ _ true false c.retreat.result c.args.frames.now.list c.choose.new.frames.list c.retreat.new.frames.list 1 0 1 refl c.choose.ensures.world c.if-choose.ensures.goes c.retreat.ensures.goes
 
 pub returns-else-choose-clause-comes : goal.returns-else-choose-clause-comes
 returns-else-choose-clause-comes g c =

@@ -9,7 +9,7 @@ use Rattle.ladr_mace4.proofs.models.models.Given as goal
 abbrev pub invariant-loop-printed : goal.invariant-loop-printed
 invariant-loop-printed g l = record {
   so_far : (us : List Finite)
-      × (SoFar l.asked l.plan l.n l.k us l.search l.printed (g.K.Sink.outflow l.fn.sink) (g.K.Sink.outflow l.sink) × HasGone us l.search (g.C.Clock.times l.fn.clock) (g.C.Clock.times l.clock));
+      × (SoFar l.asked l.plan l.n l.k us l.search l.printed (g.K.Sink.outflow l.fn.sink) (g.K.Sink.outflow l.sink) × HasGone l.asked l.plan l.n us l.search (g.C.Clock.times l.fn.clock) (g.C.Clock.times l.clock));
   stop : l.search.stop ≡ time_to_stop l.watch.seconds (g.C.Clock.times l.fn.clock);
   early : IsEarly l.search.stop (g.C.Clock.times l.clock);
   writes : (g.K.Sink.outflow l.sink).over ≡ false;

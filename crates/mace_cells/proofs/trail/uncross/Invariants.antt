@@ -10,7 +10,7 @@ invariant-loop-at l = record {
   same : length l.crossed.items ≡ length l.fn.crossed.items;
   indices : l.ranks.indices ≡ l.fn.ranks.indices;
   free : l.ranks.free ≡ l.fn.ranks.free;
-  scored : AreScored l.measure l.stride l.crossings.list (length l.ranks.indices) l.ranks.scores;
+  scored : AreScored l.counts l.stride l.crossings.list (length l.ranks.indices) l.ranks.scores;
   room : l.crossings.room ≡ l.fn.crossings.room;
   rest : earliest l.mark l.crossings.list ≡ earliest l.mark l.fn.crossings.list;
 }

@@ -32,6 +32,7 @@ invariant_of-self c =
       searchable = before.searchable;
       ready = subst (λ (n : ℕ). IsReady w a.walks.items a.groups.items n) (sym (ap (λ (xs : List ℕ). length xs) kept ∙ long)) before.ready;
       env = subst (AllBelow w.size) (sym kept) after.env;
+      scores = before.scores;
       shapes = before.shapes;
       uses = before.uses ∙ ap (uses_by w.fixed) (sym after.decided);
       stack = before.stack;

@@ -34,6 +34,7 @@ invariant_of-self c =
       searchable = c.self.invariant.searchable;
       ready = c.self.invariant.ready;
       env = c.self.invariant.env;
+      scores = c.self.invariant.scores;
       shapes = c.self.invariant.shapes;
       uses =
           uses_more w t c.assign.new.self c.args.cell c.args.value (length t.crossings) c.index-shape.result.now.above c.in_use.result c.above_decision-used.result a.uses.list c.push.new.self.list c.self.invariant.uses

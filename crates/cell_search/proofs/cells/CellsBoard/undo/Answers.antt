@@ -24,6 +24,7 @@ invariant_of-self c =
       searchable = c.self.invariant.searchable;
       ready = c.self.invariant.ready;
       env = c.self.invariant.env;
+      scores = c.self.invariant.scores;
       shapes = c.self.invariant.shapes;
       uses =
           ap (λ (s : Stacked ℕ). s.list) c.pop.ensures ∙ ap rest_of c.self.invariant.uses ∙ uses_rest a.setup.fixed (decided_in a.setup a.trail.entries)

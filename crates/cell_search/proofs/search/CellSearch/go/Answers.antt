@@ -3,9 +3,8 @@ use Rattle.cell_driver.specs.Comings.{ComesInTime}
 use Rattle.cell_search.specs.Courses.{Course, AnswersByCells, live_in, late_in}
 use Rattle.mace_cells.specs.Choices.{Decision}
 use Rattle.mace_cells.specs.Leaves.{choices_of}
-use Rattle.mace_cells.specs.Readings.{GoesInTime}
 use Rattle.cell_search.specs.Finites.{AreLeafTables, finite_of}
-use Rattle.cell_search.proofs.Givings.{comes_by, gives_by, goes_by}
+use Rattle.cell_search.proofs.Givings.{comes_by, gives_by}
 use Rattle.cell_search.proofs.search.CellSearch.go.Goals as goal
 
 pub returns-clause-gives : goal.returns-clause-gives
@@ -26,15 +25,6 @@ returns-clause-gives g c =
     c.len.result c.follows_after-self-inside.result c.next_model-answer.ensures.world (ap (λ (s : Course). s.live) c.self.view_is ∙ c.requires.live) c.follows_after-self-inside.ensures c.next_model-answer.ensures.found
     (λ e. (c.next_model-answer.ensures.full e).0)
     c.next_model-answer.ensures.late)
-
-pub returns-clause-clock : goal.returns-clause-clock
-returns-clause-clock g c =
-    let a = c.self.inside in
-    let new = c.next_model-answer.new in
-    let t = g.C.Clock.times c.args.clock.now in
-    let t' = g.C.Clock.times new.clock in
-    subst (λ (s : Course). GoesInTime s.world s.stop s.live s.choices c.next_model-answer.result (choices_of new.board.world new.frames.list) t t') c.self.view_is
-    (goes_by a.cells.world new.board.world a.frames.list new.frames.list c.args.live (live_in a.state) a.stop t t' c.next_model-answer.result c.next_model-answer.ensures.world (ap (λ (s : Course). s.live) c.self.view_is ∙ c.requires.live) c.next_model-answer.ensures.goes)
 
 pub returns-clause-chosen : goal.returns-clause-chosen
 returns-clause-chosen g c =

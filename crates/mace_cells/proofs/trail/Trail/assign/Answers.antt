@@ -38,5 +38,5 @@ invariant_of-self c =
       free =
           subst (λ (r : Ranked). AreFlagged (set xs c.args.cell (Some c.args.value)) r.free) (sym c.close.ensures)
           (flagged_set xs c.self.inside.ranks.free c.args.cell (Some c.args.value) within c.self.invariant.free);
-      scored = subst (λ (r : Ranked). AreScored c.self.inside.measure c.self.inside.stride c.self.inside.crossings.list (length xs) r.scores) (sym c.close.ensures) c.self.invariant.scored;
+      scored = subst (λ (r : Ranked). AreScored c.self.inside.counts c.self.inside.stride c.self.inside.crossings.list (length xs) r.scores) (sym c.close.ensures) c.self.invariant.scored;
     }

@@ -11,7 +11,7 @@ returns c =
       a.ranks,
       (
         subst (λ (t : Partial). IsRankedBy t a.ranks) c.self.view_is
-            (ranked_by _ a.stride a.measure a.ranks a.entries.list a.crossings.list a.values.items c.indices_are_bytes.ensures refl (λ k. value_read _ a.entries.list a.values.items k c.self.invariant.values) c.self.invariant.free c.self.invariant.scored),
+            (ranked_by _ a.stride a.counts a.ranks a.entries.list a.crossings.list a.values.items c.indices_are_bytes.ensures refl (λ k. value_read _ a.entries.list a.values.items k c.self.invariant.values) c.self.invariant.free c.self.invariant.scored),
         c.first.ensures,
       ),
     )

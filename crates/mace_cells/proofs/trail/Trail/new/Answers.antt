@@ -17,8 +17,8 @@ invariant_of-result c =
     let long : length values ≡ n = ap (λ (os : List (Option ℕ)). length os) blank ∙ length-replicate n None in
     let flags : c.in_ok-crossed.crossed.items ≡ replicate (n * c.args.stride) false = c.in_ok-crossed.ensures ∙ ap (λ (k : ℕ). replicate (k * c.args.stride) false) many in
     let made = c.in_ok-ranks.ensures in
-    let counts : c.in_ok-ranks.ranks.scores ≡ (if counts_crossed c.args.measure then replicate n 0 else []) =
-    ap (λ (r : Ranked). r.scores) made ∙ ap (λ (b : Bool). if b then replicate n 0 else []) c.counts_crossed.ensures in
+    let counts : c.in_ok-ranks.ranks.scores ≡ (if c.args.counts then replicate n 0 else []) =
+    ap (λ (r : Ranked). r.scores) made in
     let room : c.in_ok-entries.entries.room ≡ n = ap (λ (s : Stacked TrailEntry). s.room) c.in_ok-entries.ensures ∙ many in
     let more : c.in_ok-crossings.crossings.room ≡ n * c.args.stride = ap (λ (s : Stacked ℕ). s.room) c.in_ok-crossings.ensures ∙ ap (λ (k : ℕ). k * c.args.stride) many in
     rw long record {
@@ -31,6 +31,6 @@ invariant_of-result c =
       ranked = ap (λ (r : Ranked). length r.indices) made;
       free = subst (λ (os : List (Option ℕ)). AreFlagged os c.in_ok-ranks.ranks.free) (sym blank) (subst (λ (bs : List Bool). AreFlagged (replicate n None) bs) (sym (ap (λ (r : Ranked). r.free) made)) (flagged_at_first n));
       scored =
-          subst (λ (js : List ℕ). AreScored c.args.measure c.args.stride js n c.in_ok-ranks.ranks.scores) (sym (ap (λ (s : Stacked ℕ). s.list) c.in_ok-crossings.ensures))
-          (subst (λ (ss : List ℕ). AreScored c.args.measure c.args.stride [] n ss) (sym counts) (scored_at_first c.args.measure c.args.stride n));
+          subst (λ (js : List ℕ). AreScored c.args.counts c.args.stride js n c.in_ok-ranks.ranks.scores) (sym (ap (λ (s : Stacked ℕ). s.list) c.in_ok-crossings.ensures))
+          (subst (λ (ss : List ℕ). AreScored c.args.counts c.args.stride [] n ss) (sym counts) (scored_at_first c.args.counts c.args.stride n));
     }
