@@ -1,8 +1,8 @@
 -- What a search in memory has printed, and what a check makes of it.
-use Rattle.std.proofs.Common.{◌≡◌, ◌⊎◌, ℕ, zero, suc, ◌<◌, inl, inr, Bool, true, false, if◌then◌else◌, None, Result, Ok, Err, IfOk, List, [], ◌∷◌, ◌++◌, length, refl, sym, ap, ◌∙◌, subst, append_assoc, arith}
+use Rattle.std.proofs.Common.{◌≡◌, ◌⊎◌, ℕ, ◌<◌, inl, inr, Bool, false, if◌then◌else◌, None, Result, Ok, Err, IfOk, List, [], ◌∷◌, ◌++◌, length, refl, sym, ap, ◌∙◌, subst, append_assoc, arith}
 use Rattle.accepted_output.specs.Accepted.{AreAllAccepted, TellsProved, OutputsAreAccepted}
 use Rattle.ladr_check.specs.Checking.{IsJudged}
-use Rattle.ladr_check.specs.Offered.{offered_by, refuses_proofs}
+use Rattle.ladr_check.specs.Offered.{refuses_proofs}
 use Rattle.ladr_check.specs.Outcomes.{ComesOut, EndIsOne}
 use Rattle.ladr_check.specs.declared.ends.CheckEnd.{CheckEnd}
 use Rattle.ladr_check.specs.declared.ends.CheckEnd.TheVariants as ends
@@ -108,4 +108,4 @@ unrefused text why is h = is.1.1.alone.2 why h
 -- so it is told
 pub proved_so : (bytes text : List ℕ) (over : ProverOver) → Finds bytes over text → (0 < over.proofs → (n : ℕ) × AreAllAccepted bytes text n) → (r : Result Proved AllocError) → IfOk r (λ p. p ≡ proved_by over) → IfOk r (IsProved bytes)
 proved_so bytes text over finds all (Ok p) h = inr (record { over = over; text = text; finds = finds; told = h; accepted = all })
-proved_so bytes text over finds all (Err e) h = tt
+proved_so bytes text over found all (Err e) h = tt

@@ -1,11 +1,10 @@
 -- Runs over streams in memory.
-use Rattle.std.proofs.Common.{◌≡◌, ℕ, ◌+◌, ◌≤◌, ◌<◌, inl, inr, List, [], ◌++◌, length, sym, ap, ◌∙◌, subst, arith, length-append}
+use Rattle.std.proofs.Common.{◌≡◌, ℕ, ◌<◌, inl, inr, List, [], ◌++◌, length, sym, ap, ◌∙◌, subst, arith, length-append}
 use Rattle.std.proofs.lemmas.List.{append-nil}
 use Rattle.ladr_formulas.specs.declared.styles.Mode.{Mode}
 use Rattle.ladr_intake.specs.Input.{IsAllRead}
 use Rattle.ladr_intake.specs.Refusals.{IsRefused, refuses}
 use Rattle.ladr_intake.specs.declared.stops.Refused.{Refused}
-use Rattle.ladr_intake.specs.declared.stops.Refused.TheVariants.{TooLarge}
 use Rattle.ladr_io.specs.Memory.{SourceState, SinkState, inflow_of, outflow_of}
 use Rattle.ladr_io.specs.Streams.{Takes}
 use Rattle.ladr_lex.specs.declared.limits.TheConstants.{MOST_BYTES}

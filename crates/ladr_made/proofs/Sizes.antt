@@ -1,5 +1,5 @@
 -- The search at one size after the other.
-use Rattle.std.proofs.Common.{◌≡◌, ℕ, ◌+◌, ◌≤◌, ◌<◌, Ok, None, List, refl, subst, arith, below_more}
+use Rattle.std.proofs.Common.{◌≡◌, ℕ, ◌+◌, ◌≤◌, Ok, None, List, refl, subst, arith, below_more}
 use Rattle.ladr_formulas.specs.declared.styles.Mode.TheVariants.{Mace}
 use Rattle.ladr_intake.specs.Posed.{poses}
 use Rattle.ladr_intake.specs.Refusals.{refuses}

@@ -1,5 +1,5 @@
 -- A size that is passed is exhausted too.
-use Rattle.std.proofs.Common.{◌≡◌, ◌∙◌, List, ℕ, Option, sym, subst}
+use Rattle.std.proofs.Common.{◌∙◌, List, ℕ, Option, sym, subst}
 use Rattle.std.specs.Prelude.{MatchOption}
 use Rattle.ladr_formulas.specs.declared.styles.Mode.TheVariants.{Mace}
 use Rattle.ladr_intake.specs.Refusals.{refuses}

@@ -1,5 +1,5 @@
 -- What the search in memory has come to, or why its text is refused.
-use Rattle.std.proofs.Common.{◌≡◌, List, ℕ, Ok, Err, subst}
+use Rattle.std.proofs.Common.{List, ℕ, Ok, Err, subst}
 use Rattle.ladr_formulas.specs.declared.styles.Mode.TheVariants.{Mace}
 use Rattle.ladr_intake.specs.Posed.{poses}
 use Rattle.ladr_intake.specs.Refusals.{refuses}

@@ -2,7 +2,7 @@
 use Rattle.std.proofs.Common.{subst}
 use Rattle.ladr_check.specs.Checking.{IsJudged}
 use Rattle.ladr_check.specs.declared.ends.CheckEnd.{CheckEnd}
-use Rattle.ladr_check.specs.declared.ends.CheckEnd.TheVariants.{Accepted, NotAccepted, ClauseLimit}
+use Rattle.ladr_check.specs.declared.ends.CheckEnd.TheVariants.{NotAccepted, ClauseLimit}
 use Rattle.ladr_intake.specs.declared.stops.Refused.TheVariants.{Unreadable, Misuse, TooLarge}
 use Rattle.ladr_made.proofs.Accepting.{comes_out, unrefused}
 use Rattle.ladr_made.proofs.proving.is_accepted.Goals as goal

@@ -1,5 +1,5 @@
 -- What the search in memory has told, or why its text is refused.
-use Rattle.std.proofs.Common.{◌≡◌, ◌<◌, inl, List, ℕ, None, Err, sym, subst}
+use Rattle.std.proofs.Common.{◌<◌, inl, List, ℕ, None, Err, sym, subst}
 use Rattle.accepted_output.specs.Accepted.{AreAllAccepted}
 use Rattle.ladr_formulas.specs.declared.styles.Mode.TheVariants.{Prover}
 use Rattle.ladr_intake.specs.Refusals.{refuses}
