@@ -8,12 +8,12 @@ use Rattle.fol_core.specs.Meaning.{Meaning}
 use Rattle.cell_choice.specs.Shapes.{ranking_of}
 use Rattle.mace_cells.specs.Choices.{Decision, AgreesWith, IsUndecided, IsLatest}
 use Rattle.mace_cells.specs.Stacked.{rest_of}
-use Rattle.mace_cells.specs.Trails.{Partial, partial, HasTwoLeft, value_in, is_struck_off, earliest, before_decision, latest_mark, cut_to, undone}
+use Rattle.mace_cells.specs.Trails.{Partial, partial, value_in, is_struck_off, earliest, before_decision, latest_mark, cut_to, undone}
 use Rattle.mace_cells.specs.World.{World, Solves, cell_of, many_cells}
 use Rattle.mace_cells.specs.declared.trail.TrailEntry.{TrailEntry}
 use Rattle.mace_ground.specs.Cells.{Cell, value_at}
 use Rattle.model_tables.specs.Size.{bound_of}
-use Rattle.cell_search.specs.Losses.{AreCrossedOnce, Extends, Spares, decision_of, decided_in, LosesNone, LostNone, AreFresh, HadTwoLeft, IsBoard}
+use Rattle.cell_search.specs.Losses.{AreCrossedOnce, Extends, Spares, decision_of, decided_in, LosesNone, LostNone, AreFresh, IsBoard}
 
 abbrev pub entry : ℕ → ℕ → Bool → ℕ → TrailEntry
 entry cell value decided mark = record { cell = cell; value = value; decided = decided; mark = mark }
@@ -54,21 +54,6 @@ lost_more w stride k (e ∷ es) ks h = by e.decided h (λ g. lost_more w stride 
         (omega (arith, g.0), subst (λ (js : List ℕ). LosesNone w stride es js) (sym same) g.1, subst (λ (js : List ℕ). LostNone w stride es js) (sym same) g.2)
     by false g rest = rest g
 
--- a cell had two values left
-abbrev HadTwo : World → ℕ → TrailEntry → List TrailEntry → List ℕ → Type 0
-HadTwo w stride e es ks = HasTwoLeft (partial (many_cells w) stride (ranking_of w) es ks) e.cell (bound_of w.size (cell_of w e.cell).kind)
-
-chosen_more : (w : World) (stride k : ℕ) (es : List TrailEntry) (ks : List ℕ) → HadTwoLeft w stride es ks → HadTwoLeft w stride es (k ∷ ks)
-chosen_more w stride k [] ks h = tt
-chosen_more w stride k (e ∷ es) ks h = by e.decided h (λ g. chosen_more w stride k es ks g)
-  where
-    by : (b : Bool) → MatchBool b ((e.mark ≤ length ks) × HadTwo w stride e es (earliest e.mark ks) × HadTwoLeft w stride es (earliest e.mark ks)) (HadTwoLeft w stride es ks) → (HadTwoLeft w stride es ks → HadTwoLeft w stride es (k ∷ ks))
-        → MatchBool b ((e.mark ≤ suc (length ks)) × HadTwo w stride e es (earliest e.mark (k ∷ ks)) × HadTwoLeft w stride es (earliest e.mark (k ∷ ks))) (HadTwoLeft w stride es (k ∷ ks))
-    by true g rest =
-        let same = earliest_more e.mark k ks g.0 in
-        (omega (arith, g.0), subst (λ (js : List ℕ). HadTwo w stride e es js) (sym same) g.1, subst (λ (js : List ℕ). HadTwoLeft w stride es js) (sym same) g.2)
-    by false g rest = rest g
-
 module _ (w : World) (t : Partial) (board : IsBoard w t) where
   -- a cell gets the one value that it can have
   pub assigned : (cell v mark : ℕ) → cell < many_cells w → value_in t.entries cell ≡ None → ((m : Meaning) → Solves w m → AgreesWith m (decided_in w t.entries) → value_at m (cell_of w cell) ≡ v)
@@ -81,7 +66,6 @@ module _ (w : World) (t : Partial) (board : IsBoard w t) where
     fresh = (within, blank, board.fresh);
     present = λ m s agrees. let old = board.present m s agrees in (extends_more w m (entry cell v false mark) t.entries old.0 (only m s agrees), old.1);
     before = board.before;
-    chosen = board.chosen;
     once = board.once;
   }
 
@@ -96,13 +80,12 @@ module _ (w : World) (t : Partial) (board : IsBoard w t) where
     fresh = board.fresh;
     present = λ m s agrees. let old = board.present m s agrees in (old.0, spares_more w m t.stride cell v t.crossings fits old.1 (other m s agrees));
     before = lost_more w t.stride (cell * t.stride + v) t.entries t.crossings board.before;
-    chosen = chosen_more w t.stride (cell * t.stride + v) t.entries t.crossings board.chosen;
     once = (spare, rw (mod-mul-add cell t.stride v fits, div-mul-add cell t.stride v fits) small, board.once);
   }
 
   -- a value is decided
-  pub decided : (cell v : ℕ) → cell < many_cells w → value_in t.entries cell ≡ None → HasTwoLeft t cell (bound_of w.size (cell_of w cell).kind) → IsBoard w (partial t.many t.stride t.ranking (entry cell v true (length t.crossings) ∷ t.entries) t.crossings)
-  decided cell v within blank two =
+  pub decided : (cell v : ℕ) → cell < many_cells w → value_in t.entries cell ≡ None → IsBoard w (partial t.many t.stride t.ranking (entry cell v true (length t.crossings) ∷ t.entries) t.crossings)
+  decided cell v within blank =
       let same = earliest_all t.crossings in record {
         some = board.some;
         many = board.many;
@@ -111,7 +94,6 @@ module _ (w : World) (t : Partial) (board : IsBoard w t) where
         fresh = (within, blank, board.fresh);
         present = λ m s agrees. let old = board.present m s agrees.1 in (extends_more w m (entry cell v true (length t.crossings)) t.entries old.0 agrees.0, old.1);
         before = (omega arith, subst (λ (js : List ℕ). LosesNone w t.stride t.entries js) (sym same) board.present, subst (λ (js : List ℕ). LostNone w t.stride t.entries js) (sym same) board.before);
-        chosen = (omega arith, subst (λ (js : List ℕ). HadTwo w t.stride (entry cell v true (length t.crossings)) t.entries js) (sym same) two, subst (λ (js : List ℕ). HadTwoLeft w t.stride t.entries js) (sym same) board.chosen);
         once = board.once;
       }
 
@@ -134,33 +116,30 @@ record IsTakenBack (w : World) (stride : ℕ) (es : List TrailEntry) (ks : List 
   pub fresh : AreFresh w (before_decision es)
   pub present : LosesNone w stride (before_decision es) (cut_to (latest_mark es) ks)
   pub before : LostNone w stride (before_decision es) (cut_to (latest_mark es) ks)
-  pub chosen : HadTwoLeft w stride (before_decision es) (cut_to (latest_mark es) ks)
   pub decided : decided_in w (before_decision es) ≡ rest_of (decided_in w es)
-  pub reopened : (j : ℕ) × ((j < many_cells w) × (value_in (before_decision es) j ≡ None) × HasTwoLeft (partial (many_cells w) stride (ranking_of w) (before_decision es) (cut_to (latest_mark es) ks)) j (bound_of w.size (cell_of w j).kind) × IsLatest (decided_in w es) (cell_of w j))
+  pub reopened : (j : ℕ) × ((j < many_cells w) × (value_in (before_decision es) j ≡ None) × IsLatest (decided_in w es) (cell_of w j))
 
-taken_back : (w : World) (stride : ℕ) (es : List TrailEntry) (ks : List ℕ) → AreFresh w es → LostNone w stride es ks → HadTwoLeft w stride es ks → 0 < length (decided_in w es) → IsTakenBack w stride es ks
-taken_back w stride [] ks fresh lost two some = absurd (omega (arith, some))
-taken_back w stride (e ∷ es) ks fresh lost two some = by e.decided refl lost two some (λ l h s. taken_back w stride es ks fresh.2 l h s)
+taken_back : (w : World) (stride : ℕ) (es : List TrailEntry) (ks : List ℕ) → AreFresh w es → LostNone w stride es ks → 0 < length (decided_in w es) → IsTakenBack w stride es ks
+taken_back w stride [] ks fresh lost some = absurd (omega (arith, some))
+taken_back w stride (e ∷ es) ks fresh lost some = by e.decided refl lost some (λ l s. taken_back w stride es ks fresh.2 l s)
   where
     by : (b : Bool) → e.decided ≡ b → MatchBool b ((e.mark ≤ length ks) × LosesNone w stride es (earliest e.mark ks) × LostNone w stride es (earliest e.mark ks)) (LostNone w stride es ks)
-        → MatchBool b ((e.mark ≤ length ks) × HadTwo w stride e es (earliest e.mark ks) × HadTwoLeft w stride es (earliest e.mark ks)) (HadTwoLeft w stride es ks)
-        → 0 < length (if b then decision_of w e ∷ decided_in w es else decided_in w es) → (LostNone w stride es ks → HadTwoLeft w stride es ks → 0 < length (decided_in w es) → IsTakenBack w stride es ks) → IsTakenBack w stride (e ∷ es) ks
-    by true t l h s rest = rw t record { fresh = fresh.2; present = l.1; before = l.2; chosen = h.2; decided = refl; reopened = (e.cell, (fresh.0, fresh.1, h.1, refl)) }
-    by false t l h s rest = let r = rest l h s in rw t record { fresh = r.fresh; present = r.present; before = r.before; chosen = r.chosen; decided = r.decided; reopened = r.reopened }
+        → 0 < length (if b then decision_of w e ∷ decided_in w es else decided_in w es) → (LostNone w stride es ks → 0 < length (decided_in w es) → IsTakenBack w stride es ks) → IsTakenBack w stride (e ∷ es) ks
+    by true t l s rest = rw t record { fresh = fresh.2; present = l.1; before = l.2; decided = refl; reopened = (e.cell, (fresh.0, fresh.1, refl)) }
+    by false t l s rest = let r = rest l s in rw t record { fresh = r.fresh; present = r.present; before = r.before; decided = r.decided; reopened = r.reopened }
 
 pub taken : (w : World) (t : Partial) → IsBoard w t → 0 < length (decided_in w t.entries) → IsBoard w (undone t) × (decided_in w (before_decision t.entries) ≡ rest_of (decided_in w t.entries))
 taken w t board some =
-    let b = taken_back w t.stride t.entries t.crossings board.fresh board.before board.chosen some in
-    (record { some = board.some; many = board.many; stride = board.stride; ranking = board.ranking; fresh = b.fresh; present = b.present; before = b.before; chosen = b.chosen; once = once_cut w t.stride (latest_mark t.entries) t.crossings board.once }, b.decided)
+    let b = taken_back w t.stride t.entries t.crossings board.fresh board.before some in
+    (record { some = board.some; many = board.many; stride = board.stride; ranking = board.ranking; fresh = b.fresh; present = b.present; before = b.before; once = once_cut w t.stride (latest_mark t.entries) t.crossings board.once }, b.decided)
 
--- the cell of the latest decision has no value then, and two left
+-- the cell of the latest decision has no value then
 pub reopened : (w : World) (t : Partial) → IsBoard w t → ((j k : ℕ) → j < many_cells w → k < many_cells w → cell_of w j ≡ cell_of w k → j ≡ k) → 0 < length (decided_in w t.entries)
-    → (k : ℕ) → k < many_cells w → IsLatest (decided_in w t.entries) (cell_of w k)
-    → (value_in (before_decision t.entries) k ≡ None) × HasTwoLeft (undone t) k (bound_of w.size (cell_of w k).kind)
+    → (k : ℕ) → k < many_cells w → IsLatest (decided_in w t.entries) (cell_of w k) → value_in (before_decision t.entries) k ≡ None
 reopened w t board once some k within latest =
-    let b = taken_back w t.stride t.entries t.crossings board.fresh board.before board.chosen some in
-    let same : b.reopened.0 ≡ k = once b.reopened.0 k b.reopened.1.0 within (one_latest (decided_in w t.entries) _ _ b.reopened.1.3 latest) in
-    (ap (value_in (before_decision t.entries)) (sym same) ∙ b.reopened.1.1, subst (λ (j : ℕ). HasTwoLeft (undone t) j (bound_of w.size (cell_of w j).kind)) same b.reopened.1.2)
+    let b = taken_back w t.stride t.entries t.crossings board.fresh board.before some in
+    let same : b.reopened.0 ≡ k = once b.reopened.0 k b.reopened.1.0 within (one_latest (decided_in w t.entries) _ _ b.reopened.1.2 latest) in
+    ap (value_in (before_decision t.entries)) (sym same) ∙ b.reopened.1.1
   where
     one_latest : (ds : List Decision) (c d : Cell) → IsLatest ds c → IsLatest ds d → c ≡ d
     one_latest [] c d h g = absurd h

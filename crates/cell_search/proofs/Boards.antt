@@ -27,7 +27,6 @@ board_at_first w some = record {
   fresh = tt;
   present = λ m solves agrees. ((λ k v within given. absurd (none-some _ given)), (λ k v within fits struck here. let h : false ≡ true = struck in cc));
   before = tt;
-  chosen = tt;
   once = tt;
 }
 

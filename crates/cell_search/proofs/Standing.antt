@@ -1,13 +1,12 @@
 -- What a closed table tells the search.
-use Rattle.std.proofs.Common.{◌≡◌, ℕ, ◌+◌, ◌*◌, ◌<◌, true, false, not, List, ◌∷◌, length, Option, None, Some, inl, inr, sym, ap, ◌∙◌, subst, arith}
+use Rattle.std.proofs.Common.{◌≡◌, ℕ, ◌+◌, ◌*◌, ◌<◌, true, false, not, List, ◌∷◌, length, Option, None, Some, sym, ap, ◌∙◌, subst, arith}
 use Rattle.std.specs.List.{range_with_len}
-use Rattle.std.proofs.lemmas.Option.{none-some}
 use Rattle.cell_choice.specs.Choosing.{IsPicked}
 use Rattle.cell_choice.specs.Shapes.{index_in}
 use Rattle.cell_driver.specs.Boards.{HasNext, IsAsSaid, IsBehind, StandsAs}
 use Rattle.cell_driver.specs.declared.board.Status.TheVariants.{Choose, Settled}
 use Rattle.mace_cells.specs.Numbers.{above_used}
-use Rattle.mace_cells.specs.Trails.{Partial, IsBlank, HasTwoLeft, value_in, is_struck_off}
+use Rattle.mace_cells.specs.Trails.{Partial, IsBlank, value_in, is_struck_off}
 use Rattle.mace_cells.specs.World.{World, IsNextValue, cell_of, many_cells}
 use Rattle.model_tables.specs.Size.{bound_of}
 use Rattle.plain_search.proofs.Meeting.{next_by_search}
@@ -77,12 +76,6 @@ module _ (w : World) (t : Partial) (board : IsBoard w t) (cells : HasAllCells w)
       let less = decided_few w t.entries in
       let many = board.many in
       (few, omega (arith, less, room, many), undecided_by w (cells_differ w cells.once cells.some) t.entries k board.fresh few blank)
-
-  pub open_chosen : (k : ℕ) → k < many_cells w → value_in t.entries k ≡ None → (value_in t.entries k ≡ None) × HasTwoLeft t k (bound_of w.size (cell_of w k).kind)
-  open_chosen k few blank = elim (closed.well k few) [
-    | inl given ↦ absurd (none-some given.0 (sym blank ∙ given.1))
-    | inr two ↦ (blank, two)
-  ]
 
   first_of : (k from most : ℕ) (o : Option ℕ) → k < many_cells w → value_in t.entries k ≡ None → IsLeast t k from most (bound_of w.size (cell_of w k).kind) o → IsFirst (left_in w t (cell_of w k)) from most o
   first_of k from most o few blank least =

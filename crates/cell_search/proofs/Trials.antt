@@ -22,7 +22,6 @@ use Rattle.cell_search.proofs.Boarding.{decided, earliest_all, earliest_more, en
 use Rattle.cell_search.proofs.Following.{left_blank}
 use Rattle.cell_search.proofs.Obeying.{table_of}
 use Rattle.cell_search.proofs.Phasing.{waits_behind}
-use Rattle.cell_search.proofs.Standing.{open_chosen}
 use Rattle.cell_search.proofs.Tabling.{cells_differ}
 use Rattle.cell_search.proofs.Viewing.{assigned_view, is_uncrossed, view_has_values}
 use Rattle.cell_search.proofs.Ways.{range_more}
@@ -271,7 +270,7 @@ module _ (w : World) (t : Partial) (board : IsBoard w t) (cells : HasAllCells w)
   with_value = with_step t e
 
   pub step_board : IsBoard w with_value
-  step_board = decided w t board k v few blank (open_chosen w t board cells table k few blank).1
+  step_board = decided w t board k v few blank
 
   among : IsAmong v (left_in w t (cell_of w k))
   among = subst (IsAmong v) (sym (left_blank w t cells k few blank)) (is_uncrossed t k (bound_of w.size (cell_of w k).kind) v small left)

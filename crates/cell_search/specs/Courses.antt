@@ -17,7 +17,6 @@ use Rattle.mace_search.specs.declared.answer.Answer.TheVariants as answers
 use Rattle.mace_search.specs.declared.answer.Answer.TheVariants.{Model, MaxSeconds}
 use Rattle.model_tables.specs.Tables.{Finite, meaning_of}
 use Rattle.cell_search.specs.Finites.{finite_of, AreTablesFor}
-use Rattle.cell_search.specs.Losses.{AreFresh, HadTwoLeft, decided_in}
 use Rattle.cell_search.specs.declared.search.State.{State}
 use Rattle.cell_search.specs.declared.search.State.TheVariants.{Following, Found, Exhausted, Late}
 
@@ -65,13 +64,6 @@ beginning w stop =
 -- the same search, further on
 abbrev pub IsSameCourse : Course → Course → Type 0
 IsSameCourse s s' = (s'.world ≡ s.world) × (s'.stop ≡ s.stop)
-
--- The decisions of the partial table are the choices that stand. Each was made of a cell that had no
--- value then, and at least two left: one with a single value left gets that value.
-pub record ChoseOpen (s : Course) : Type 0 where
-  pub decided : decided_in s.world s.table.entries ≡ decisions s.choices
-  pub fresh : AreFresh s.world s.table.entries
-  pub two : HadTwoLeft s.world s.table.stride s.table.entries s.table.crossings
 
 -- What an answer says: the tables have a value for each cell, and are a model that was ahead, and
 -- is ahead no more; none was ahead; or the time is over, and nothing was passed over.

@@ -3,7 +3,7 @@ use Rattle.std.specs.Prelude.{ℕ, ◌+◌, ◌*◌, ◌/◌, ◌%◌, ◌≡◌
 use Rattle.fol_core.specs.Meaning.{Meaning}
 use Rattle.cell_choice.specs.Shapes.{ranking_of}
 use Rattle.mace_cells.specs.Choices.{Decision, AgreesWith}
-use Rattle.mace_cells.specs.Trails.{Partial, partial, HasTwoLeft, value_in, is_struck_off, earliest}
+use Rattle.mace_cells.specs.Trails.{Partial, value_in, is_struck_off, earliest}
 use Rattle.mace_cells.specs.World.{World, Solves, cell_of, many_cells}
 use Rattle.mace_cells.specs.declared.trail.TrailEntry.{TrailEntry}
 use Rattle.mace_ground.specs.Cells.{value_at}
@@ -48,16 +48,6 @@ abbrev pub AreFresh : World → List TrailEntry → Type 0
 AreFresh w [] = Unit {0}
 AreFresh w (e ∷ es) = (e.cell < many_cells w) × (value_in es e.cell ≡ None) × AreFresh w es
 
--- each decision was one of a cell that had two values left, by what was crossed off before
-abbrev pub HadTwoLeft : World → ℕ → List TrailEntry → List ℕ → Type 0
-HadTwoLeft w stride [] ks = Unit {0}
-HadTwoLeft w stride (e ∷ es) ks =
-    MatchBool e.decided
-    ((e.mark ≤ length ks)
-    × HasTwoLeft (partial (many_cells w) stride (ranking_of w) es (earliest e.mark ks)) e.cell
-    (bound_of w.size (cell_of w e.cell).kind)
-    × HadTwoLeft w stride es (earliest e.mark ks)) (HadTwoLeft w stride es ks)
-
 -- each value was crossed off once, and is one that its cell can have
 abbrev pub AreCrossedOnce : World → ℕ → List ℕ → Type 0
 AreCrossedOnce w stride [] = Unit {0}
@@ -66,8 +56,7 @@ AreCrossedOnce w stride (j ∷ js) =
     × (j % stride < bound_of w.size (cell_of w (j / stride)).kind)
     × AreCrossedOnce w stride js
 
--- A partial table of the cells from which nothing is lost, in which no cell was decided that had one
--- value left, and no value was crossed off twice.
+-- A partial table of the cells from which nothing is lost, in which no value was crossed off twice.
 pub record IsBoard (w : World) (t : Partial) : Type 0 where
   pub some : 0 < w.size
   pub many : t.many ≡ many_cells w
@@ -76,5 +65,4 @@ pub record IsBoard (w : World) (t : Partial) : Type 0 where
   pub fresh : AreFresh w t.entries
   pub present : LosesNone w t.stride t.entries t.crossings
   pub before : LostNone w t.stride t.entries t.crossings
-  pub chosen : HadTwoLeft w t.stride t.entries t.crossings
   pub once : AreCrossedOnce w t.stride t.crossings

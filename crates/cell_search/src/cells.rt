@@ -10,11 +10,10 @@ ghost use Rattle.cell_search.specs.Phases.{IsClosedTable, phase_after};
 ghost use Rattle.cell_search.specs.Positions.{position, IsLeast};
 ghost use Rattle.cell_search.specs.Scores.{is_ranked};
 ghost use Rattle.cell_search.specs.Searchable.{HasAllCells};
-ghost use Rattle.cell_search.specs.Losses.{decided_in, AreFresh, HadTwoLeft};
+ghost use Rattle.cell_search.specs.Losses.{decided_in};
 ghost use Rattle.cell_search.specs.Ways.{AreGroups, HaveWalks};
 ghost use Rattle.mace_cells.specs.Numbers.{above_used, greatest_tried};
-ghost use Rattle.mace_cells.specs.Trails.{HasTwoLeft, partial, value_in};
-ghost use Rattle.model_tables.specs.Size.{bound_of};
+ghost use Rattle.mace_cells.specs.Trails.{partial, value_in};
 ghost use Rattle.mace_cells.specs.World.{cell_of, many_cells, IsBound};
 ghost use Rattle.plain_search.specs.Coming.{closed_behind};
 
@@ -157,15 +156,6 @@ impl<'a> Cells<'a> {
         finite(alloc, &self.setup, &self.trail, symbols)
     }
 
-    /// Each decision is one of a cell that had no value, and two left.
-    pub fn decides_open(&self)
-        ensures fresh { AreFresh self.now.world self.now.table.entries }
-        ensures two { HadTwoLeft self.now.world self.now.table.stride self.now.table.entries
-            self.now.table.crossings }
-    {
-        let _setup = &self.setup;
-    }
-
     // The least number above those in use.
     fn in_use(&self) -> u32
         ensures { result ≡ above_used self.now.world.fixed
@@ -264,8 +254,7 @@ impl<'a> Cells<'a> {
         ensures stands { StandsAs self.now.world
             (decided_in self.now.world self.now.table.entries) result }
         ensures open { (cell : ℕ) → result ≡ Status.Choose cell
-            → (value_in self.now.table.entries cell ≡ None) × HasTwoLeft self.now.table cell
-            (bound_of self.now.world.size (cell_of self.now.world cell).kind) }
+            → value_in self.now.table.entries cell ≡ None }
         ensures full { result ≡ Status.Settled
             → AreTablesFor self.now.world (finite_of self.now.world self.now.table.entries) }
         ensures leaf { AreLeafTables self.now.world
@@ -322,9 +311,8 @@ impl<'a> Board for Cells<'a> {
     ghost use Rattle.cell_search.specs.Losses.{decided_in};
     ghost use Rattle.cell_search.specs.Phases.{IsClosedTable};
     ghost use Rattle.cell_search.specs.Viewing.{left_in};
-    ghost use Rattle.mace_cells.specs.Trails.{HasTwoLeft, value_in};
+    ghost use Rattle.mace_cells.specs.Trails.{value_in};
     ghost use Rattle.mace_cells.specs.World.{cell_of};
-    ghost use Rattle.model_tables.specs.Size.{bound_of};
     ghost use Rattle.plain_search.specs.Lefts.{IsAmong};
     ghost use Rattle.std.specs.Prelude.{◌≡◌, None};
 
@@ -336,8 +324,7 @@ impl<'a> Board for Cells<'a> {
 
     ghost is_closed = { λ b. IsClosedTable b.world b.table };
 
-    ghost is_open = { λ b k. (value_in b.table.entries k ≡ None)
-        × HasTwoLeft b.table k (bound_of b.world.size (cell_of b.world k).kind) };
+    ghost is_open = { λ b k. value_in b.table.entries k ≡ None };
 
     ghost is_full = { λ b. AreTablesFor b.world (finite_of b.world b.table.entries)
         × AreLeafTables b.world (decided_in b.world b.table.entries)

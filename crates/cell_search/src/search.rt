@@ -1,7 +1,7 @@
 // The search for the models of a size, cell by cell.
 ghost use Rattle.std.specs.Prelude.{◌≡◌, ℕ, ◌≤◌, [], true, false, None, Some, IfOk};
 ghost use Rattle.cell_driver.specs.Comings.{ComesInTime};
-ghost use Rattle.cell_search.specs.Courses.{world_of, above_numeral, beginning, IsSameCourse, ChoseOpen, AnswersByCells, follows_after};
+ghost use Rattle.cell_search.specs.Courses.{world_of, above_numeral, beginning, IsSameCourse, AnswersByCells, follows_after};
 ghost use Rattle.cell_search.specs.Finites.{tables_over, AreLeafTables};
 ghost use Rattle.cell_search.specs.Searchable.{HasAllCells};
 ghost use Rattle.mace_cells.specs.Choices.{decisions};
@@ -149,7 +149,6 @@ impl<'a> CellSearch<'a> {
             → AreLeafTables self.new.world (decisions self.new.choices) self.new.tables }
         ensures gives { self.old.late ≡ None
             → AnswersByCells self.old self.new result (C.times clock.new) }
-        ensures chosen { ChoseOpen self.new }
         // An answer that ends the search comes again, with no reading.
         ensures over { self.old.late ≡ None → self.old.live ≡ false → self.old.choices ≡ []
             → (result ≡ Exhausted) × (self.new ≡ self.old) × (C.times clock.new
@@ -157,7 +156,6 @@ impl<'a> CellSearch<'a> {
         ensures again { (last : ℕ) → self.old.late ≡ Some last → (result ≡ MaxSeconds last)
             × (self.new ≡ self.old) × (C.times clock.new ≡ C.times clock.old) }
     {
-        self.cells.decides_open();
         match self.state {
             State::Following => self.go(true, clock),
             State::Found => self.go(false, clock),
@@ -177,10 +175,8 @@ impl<'a> CellSearch<'a> {
         ensures leaf { result ≡ Model
             → AreLeafTables self.new.world (decisions self.new.choices) self.new.tables }
         ensures gives { AnswersByCells self.old self.new result (C.times clock.new) }
-        ensures chosen { ChoseOpen self.new }
     {
         let answer = next_model(&mut self.cells, &mut self.frames, live, self.stop, clock);
-        self.cells.decides_open();
         self.state = follows_after(answer, self.frames.len());
         answer
     }

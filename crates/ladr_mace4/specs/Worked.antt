@@ -37,7 +37,7 @@ bare = record { start_size = None; end_size = None; max_models = None; max_secon
 abbrev pub usual : Way
 usual = record { candidates = InUse; measure = MostCrossed; least_numbers = true }
 
--- of three constants, the second is neither of the others
+-- of three constants, the second has the value of neither of the others
 abbrev pub apart : ℕ → ℕ → Fol
 apart x y = negation (equal (app x none) (app y none))
 

@@ -15,6 +15,7 @@ ghost use Rattle.ladr_mace4.specs.Worked.{alone, bare, constants, lonely, lonely
 ghost use Rattle.ladr_options.specs.Options.{start};
 ghost use Rattle.mace_cells.specs.declared.way.Candidates.TheVariants.{All, LeastIndex};
 ghost use Rattle.mace_cells.specs.declared.way.Measure.TheVariants.{First, MostOccurrences, MostAssigned, MostContradicted, MostCrossed};
+ghost use Rattle.model_tables.specs.Expansion.{SomeExpansion, ExpansionPicks, ExpansionSays};
 ghost use Rattle.plain_search.specs.Coming.{events};
 
 use cell_search::leaves_are_solutions;
@@ -23,6 +24,7 @@ use ladr_cells::{cells_for_all, isomorphisms_are_carried, problems_fit, solution
 use ladr_intake::files_are_a_language;
 use ladr_models::texts_read_back;
 use ladr_problem::problems_grow;
+use model_tables::expansions;
 
 /// The tables of the leaves that the plain search of a size finds are models of what is stated, no two
 /// the same, and each model of the size is one of them, its elements renamed.
@@ -51,13 +53,18 @@ pub fn one_end()
 /// the line of an exhausted size stands, each model of it stands before, its elements renamed. So it
 /// is whatever became of the run; and where the input was read whole, all that was printed is a
 /// front of a whole output. Where no time is over, runs with the same bytes and words come to the same
-/// end, with the same text.
+/// end, with the same text. All tables, those of a model too, can be given values of Skolem symbols that
+/// pick witnesses, in which the formulas say what they said.
 pub fn searches_show()
     ensures show { SearchesShow (poses Mace) (refuses Mace) }
     ensures once { SearchEndIsOne }
     ensures alike { RunsEndAlike }
+    ensures expand { SomeExpansion }
+    ensures pick { ExpansionPicks }
+    ensures say { ExpansionSays }
 {
     one_end();
+    expansions();
     skolems_stand_behind();
     leaves_are_models();
     problems_grow();
@@ -101,6 +108,14 @@ pub fn worked()
     // So many cells are chosen for them: one, where the others follow from its value, or each of the three.
     ensures chosen { (choices_among (events (world_for unlike 2 usual)) ≡ 1)
         × (choices_among (events (world_for unlike 3 usual)) ≡ 3) }
+    // By how often cells are sides of clauses the second constant comes first, and gets the least value; not so by what the values
+    // assign or contradict.
+    ensures by_occurrences { leaf_models unlike 2 (record usual
+        { candidates = All; measure = MostOccurrences }) ≡ constants 1 (1 ∷ 0 ∷ 1 ∷ []) ∷ [] }
+    ensures by_assignments { leaf_models unlike 2 (record usual { measure = MostAssigned })
+        ≡ constants 1 (0 ∷ 1 ∷ 0 ∷ []) ∷ [] }
+    ensures by_contradictions { leaf_models unlike 2 (record usual { measure = MostContradicted })
+        ≡ constants 1 (0 ∷ 1 ∷ 0 ∷ []) ∷ [] }
     // How cells are chosen by an input that asks for it.
     ensures first { way_of (record start
         { selection_order = 0; selection_measure = 0; lnh = false })

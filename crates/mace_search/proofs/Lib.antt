@@ -1,4 +1,1 @@
-pub mod Completing
-pub mod Next
-pub mod Spared
 pub mod Watching

@@ -21,6 +21,10 @@ abbrev pub tables : ℕ → ℕ → ℕ → Finite
 tables x y z =
     record { top = 1; rows = listing Function (x ∷ []) ∷ listing Relation (y ∷ z ∷ []) ∷ [] }
 
+-- one element, of which `p` is true or not
+abbrev pub single : ℕ → Finite
+single y = record { top = 0; rows = listing Function (0 ∷ []) ∷ listing Relation (y ∷ []) ∷ [] }
+
 -- so many readings of a clock, of which the first was 9, and the last two were these
 abbrev pub readings : ℕ → ℕ → ℕ → Times
 readings n between last = record { count = n; first = 9; last = last; between = between }

@@ -1,20 +1,18 @@
 // The models of a problem worked out, and a clock's readings: the functions do nothing, and their
 // contracts are the examples.
 ghost use Rattle.std.specs.Prelude.{ℕ, ◌≡◌, None, Some};
-ghost use Rattle.mace_search.specs.Models.{IsNextModel, NoneFrom};
+ghost use Rattle.mace_search.specs.Models.{IsModel};
 ghost use Rattle.ladr_io.specs.Watch.{IsEarly, IsLate};
-ghost use Rattle.mace_search.specs.Worked.{spared, tables, readings};
-ghost use Rattle.model_tables.specs.Order.{table_number};
+ghost use Rattle.mace_search.specs.Worked.{spared, tables, single, readings};
 
-/// Of the eight tables of two elements two are models, those with the numbers 1 and 6; a single
-/// element gives none.
+/// Of two elements `a` is one and `p` holds of the other: no model where `p` holds of none, or of `a`, or where `a` is no element. A
+/// single element gives none.
 pub fn worked()
-    ensures numbers { (table_number (tables 0 0 1) ≡ 1) × (table_number (tables 1 1 0) ≡ 6) }
-    ensures first { IsNextModel spared 2 0 (tables 0 0 1) }
-    ensures second { IsNextModel spared 2 2 (tables 1 1 0) }
-    ensures end { NoneFrom spared 2 7 }
-    ensures left_out { ¬ IsNextModel spared 2 0 (tables 1 1 0) × ¬ NoneFrom spared 2 2 }
-    ensures single { NoneFrom spared 1 0 }
+    ensures models { IsModel spared 2 (tables 0 0 1) × IsModel spared 2 (tables 1 1 0) }
+    ensures empty { ¬ IsModel spared 2 (tables 0 0 0) }
+    ensures spoiled { ¬ IsModel spared 2 (tables 0 1 0) × ¬ IsModel spared 2 (tables 1 1 1) }
+    ensures beyond { ¬ IsModel spared 2 (tables 2 0 1) }
+    ensures alone { ¬ IsModel spared 1 (single 0) × ¬ IsModel spared 1 (single 1) }
 {}
 
 /// Of a stop at 10 and the readings behind the first: 9 is before it, and 10 reaches it. The first

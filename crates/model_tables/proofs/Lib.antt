@@ -3,12 +3,8 @@ pub mod Elements
 pub mod Exchange
 pub mod Expanding
 pub mod Filling
-pub mod Kept
 pub mod Numbers
-pub mod Orders
 pub mod Places
-pub mod Refill
-pub mod Rows
 pub mod Setting
 pub mod Sizing
 pub mod Slots

@@ -2,7 +2,7 @@
 use Rattle.std.proofs.Common.{◌≡◌, ℕ, zero, suc, ◌+◌, ◌<◌, ◌≤◌, ◌==◌, ◌||◌, not, Bool, true, false, if◌then◌else◌, List, [], ◌∷◌, ◌++◌, length, min, drop, get_or, codes, refl, sym, ap, ◌∙◌, append_assoc, arith}
 use Rattle.std.proofs.lemmas.List.{drop_all}
 use Rattle.fol_core.specs.SymbolTable.{Symbol, name_at, arity_at}
-use Rattle.model_tables.specs.ModelText.{entry_text, entry_line, entries_of, entry_lines, lines_behind}
+use Rattle.model_tables.specs.ModelText.{entry_text, entry_line, entries_of, entry_lines, lines_behind, lines_end, text_end}
 use Rattle.model_tables.specs.Tables.{Listing}
 
 -- the entries from i on
@@ -45,9 +45,13 @@ none_left (s ∷ ss) (m ∷ ls) zero l = absurd (omega arith)
 none_left (s ∷ ss) (m ∷ ls) (suc i) l = none_left ss ls i (omega arith)
 
 -- what ends the lines
-pub lines_end : (ss : List Symbol) (ls : List Listing) (i : ℕ) (before : Bool) → min (length ls) (length ss) ≤ i → lines_from before (rest_of ss ls i) ≡ (if before then codes "\n" else [])
-lines_end ss ls i before l = ap (lines_from before) (none_left ss ls i l) ∙ by before
+pub lines_over : (ss : List Symbol) (ls : List Listing) (i : ℕ) (before : Bool) → min (length ls) (length ss) ≤ i → lines_from before (rest_of ss ls i) ≡ lines_end before
+lines_over ss ls i before l = ap (lines_from before) (none_left ss ls i l) ∙ by before
   where
-    by : (b : Bool) → lines_from b [] ≡ (if b then codes "\n" else [])
+    by : (b : Bool) → lines_from b [] ≡ lines_end b
     by true = refl
     by false = refl
+
+-- what ends the text stands behind the lines
+pub closed_text : (start lines out : List ℕ) (before : Bool) → out ++ lines_end before ≡ start ++ lines → out ++ text_end before ≡ start ++ lines ++ codes "]).\n"
+closed_text start lines out before e = sym (append_assoc out (lines_end before) (codes "]).\n")) ∙ ap (λ (t : List ℕ). t ++ codes "]).\n") e

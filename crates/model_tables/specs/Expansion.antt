@@ -56,7 +56,11 @@ IsExpansion t (w ∷ ws) u =
     (values : List ℕ)
     × (AreLeastWitnesses t w values × IsExpansion (with_values t w.symbol values) ws u)
 
--- there is one expansion at most
+-- there is an expansion of all tables
+abbrev pub SomeExpansion : Type 0
+SomeExpansion = (t : Finite) (ws : List SkolemAxiom) → (u : Finite) × IsExpansion t ws u
+
+-- and no other one
 abbrev pub OneExpansion : Type 0
 OneExpansion =
     (t u v : Finite) (ws : List SkolemAxiom) → IsExpansion t ws u → IsExpansion t ws v → u ≡ v

@@ -1,7 +1,6 @@
 pub mod Digits
 pub mod Expansion
 pub mod ModelText
-pub mod Order
 pub mod Isomorphism
 pub mod Size
 pub mod Tables

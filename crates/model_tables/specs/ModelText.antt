@@ -51,15 +51,34 @@ abbrev pub entry_lines : List (List ℕ) → List ℕ
 entry_lines [] = []
 entry_lines (e ∷ es) = codes "\n    " ++ e ++ lines_behind es
 
--- the line of a symbol with values, where an entry stands before, or none
-abbrev pub entry_line : Bool → List ℕ → ℕ → Listing → List ℕ
-entry_line before name arity l =
-    if length l.values == 0 then []
-    else (if before then codes ",\n    " else codes "\n    ")
-    ++ entry_text name arity l.kind l.values
+-- The text of an interpretation of a size with these entries, by a number of its own.
+abbrev pub entries_text : ℕ → ℕ → List (List ℕ) → List ℕ
+entries_text size k es =
+    codes "interpretation(" ++ decimal size ++ codes ", [number = " ++ decimal k
+    ++ codes ",seconds = 0], [" ++ entry_lines es ++ codes "]).\n"
 
 -- the text of tables for these symbols, as model number k
 unfoldable pub model_text : List Symbol → ℕ → Finite → List ℕ
-model_text ss k t =
-    codes "interpretation(" ++ decimal (t.top + 1) ++ codes ", [number = " ++ decimal k
-    ++ codes ",seconds = 0], [" ++ entry_lines (entries_of ss t.rows) ++ codes "]).\n"
+model_text ss k t = entries_text (t.top + 1) k (entries_of ss t.rows)
+
+-- The parts that are written one behind the other: what stands before the entries, what an entry's
+-- line begins with, and the line of a symbol, if it has values, where an entry stands before or none
+-- does; what ends the last line, and what ends the text.
+abbrev pub text_beginning : ℕ → ℕ → List ℕ
+text_beginning size k =
+    codes "interpretation(" ++ decimal size ++ codes ", [number = " ++ decimal k
+    ++ codes ",seconds = 0], ["
+
+abbrev pub entry_start : Bool → List ℕ
+entry_start before = if before then codes ",\n    " else codes "\n    "
+
+abbrev pub entry_line : Bool → List ℕ → ℕ → Listing → List ℕ
+entry_line before name arity l =
+    if length l.values == 0 then []
+    else entry_start before ++ entry_text name arity l.kind l.values
+
+abbrev pub lines_end : Bool → List ℕ
+lines_end before = if before then codes "\n" else []
+
+abbrev pub text_end : Bool → List ℕ
+text_end before = lines_end before ++ codes "]).\n"

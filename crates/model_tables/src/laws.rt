@@ -2,9 +2,8 @@
 ghost use Rattle.std.specs.Prelude.{ℕ, ◌≡◌, [], ◌∷◌};
 ghost use Rattle.fol_problem.specs.Stated.{Stated, IsCountermodel};
 ghost use Rattle.fol_core.specs.declared.symbols.Kind.TheVariants.{Function};
-ghost use Rattle.model_tables.specs.Expansion.{IsExpansion, OneExpansion, ExpansionPicks, ExpansionKeeps, ExpansionSays};
+ghost use Rattle.model_tables.specs.Expansion.{IsExpansion, SomeExpansion, OneExpansion, ExpansionPicks, ExpansionKeeps, ExpansionSays};
 ghost use Rattle.model_tables.specs.ModelText.{model_text};
-ghost use Rattle.model_tables.specs.Order.{table_count, table_number};
 ghost use Rattle.model_tables.specs.Isomorphism.{IsIsomorphism};
 ghost use Rattle.model_tables.specs.Size.{IsInterpretation};
 ghost use Rattle.model_tables.specs.Tables.{Finite, listing, meaning_of};
@@ -15,20 +14,20 @@ pub fn is_isomorphic_to_itself()
     ensures { (n : ℕ) (p : Stated) (t : Finite) → IsIsomorphism n p (λ x. x) t t }
 {}
 
-/// Tables of three elements: they are an interpretation of this size and a countermodel, come at a place among all, and have a
-/// text; with names exchanged they are other tables.
+/// Tables of three elements: they are an interpretation of this size and a countermodel, and have a text; with names
+/// exchanged they are other tables.
 pub fn worked()
     ensures interpretation { IsInterpretation 3 apart (tables 0 1) }
     ensures countermodel { IsCountermodel (meaning_of (tables 0 1)) apart.formulas }
-    ensures place { (table_count (tables 0 1) ≡ 72) × (table_number (tables 0 1) ≡ 9) }
     ensures text { model_text apart.symbols 7 (tables 0 1) ≡ tables_text }
     ensures operation { model_text group_symbols 1 group ≡ group_text }
     ensures isomorphism { IsIsomorphism 3 apart exchange (tables 0 1) (tables 1 0) }
 {}
 
-/// The tables with the values of Skolem symbols are the only ones that have them, pick witnesses, and keep the tables of all other
+/// All tables can be given values of Skolem symbols, in one way: with these they pick witnesses, and keep the tables of all other
 /// symbols and what is said in these.
 pub fn expansions()
+    ensures some { SomeExpansion }
     ensures one { OneExpansion }
     ensures picks { ExpansionPicks }
     ensures keeps { ExpansionKeeps }

@@ -3,14 +3,16 @@
 // have, `evaluate.rt` finds values and truth. `closures.rt` tells the truth of a closure: it steps through the elements
 // of the free variables in a loop, so that many variables take no stack, and it takes no memory, given the room that
 // `room.rt` makes. `sizes.rt` has the size that a problem needs and what values are below, `limits.rt` the limits;
-// `text.rt` makes the text of an interpretation.
-// The values of Skolem symbols (`specs/Expansion`) and the order of the tables of a size (`specs/Order`) are
-// definitions alone, which the laws of the search for models rest on. `laws.rt` states what holds of the text, of
-// renamings (`specs/Isomorphism`) and of the values of Skolem symbols, and has tables worked out.
-// What is used above: the truth of a closure in tables, told without memory; the laws of least witnesses; the text.
+// `text.rt` makes the text of tables, of the parts that `entries.rt` writes of any interpretation.
+// The values of Skolem symbols (`specs/Expansion`) are definitions alone, which the laws of the search for models rest
+// on. `laws.rt` states what holds of the text, of renamings (`specs/Isomorphism`) and of the values of Skolem symbols,
+// and has tables worked out.
+// What is used above: the truth of a closure in tables, told without memory; the laws of least witnesses; the text and
+// its parts.
 #![tactic(auto)]
 
 mod closures;
+mod entries;
 mod env;
 mod evaluate;
 mod laws;
@@ -20,6 +22,7 @@ mod sizes;
 mod tables;
 
 pub use closures::closure_truth;
+pub use entries::{put_end, put_entry, text_beginning};
 pub use env::Env;
 pub use evaluate::{truth, value};
 pub use laws::{expansions, is_isomorphic_to_itself, worked, worked_expansions};

@@ -1,7 +1,11 @@
 use Rattle.std.proofs.Common.{subst, sym}
+use Rattle.model_tables.proofs.Decided.{some_expansion}
 use Rattle.model_tables.proofs.Expanding.{same_top, kept_row, kept_truth, kept_countermodel, expansion_picks}
 use Rattle.model_tables.proofs.Filling.{one_expansion}
 use Rattle.model_tables.proofs.laws.expansions.Goals as goal
+
+pub returns-clause-some : goal.returns-clause-some
+returns-clause-some c = some_expansion
 
 pub returns-clause-one : goal.returns-clause-one
 returns-clause-one c = λ t u v ws h k. one_expansion ws t u v h k

@@ -1,5 +1,5 @@
 use Rattle.std.proofs.Common.{◌++◌, ◌∙◌, List, ℕ, ap, sym, append_assoc, arith}
-use Rattle.model_tables.proofs.Texts.{lines_next, lines_end}
+use Rattle.model_tables.proofs.Texts.{lines_next, lines_over}
 use Rattle.model_tables.proofs.text.entries.Goals as goal
 
 pub loop-number-preserved : goal.loop-number-preserved
@@ -12,5 +12,5 @@ loop-number-preserved c =
 
 pub returns : goal.returns
 returns c =
-    let end = lines_end c.args.symbols.now c.args.rows.now c.loop-number.number c.loop-number.before (omega (arith, c.min-number-end.ensures)) in
-    rw (c.in_ok-text.ensures, c.end.ensures) (ap (λ (t : List ℕ). c.loop-number.out.items ++ t) (sym end) ∙ c.loop-number.invariant)
+    let end = lines_over c.args.symbols.now c.args.rows.now c.loop-number.number c.loop-number.before (omega (arith, c.min-number-end.ensures)) in
+    ap (λ (t : List ℕ). c.loop-number.out.items ++ t) (sym end) ∙ c.loop-number.invariant

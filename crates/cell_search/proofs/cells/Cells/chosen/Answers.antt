@@ -2,9 +2,7 @@ use Rattle.std.proofs.Common.{◌≡◌, ℕ, ◌<◌, None, Some, Option, IfNon
 use Rattle.cell_driver.specs.Boards.{IsAsSaid, StandsAs}
 use Rattle.cell_driver.specs.declared.board.Status.TheVariants.{Choose, Settled}
 use Rattle.mace_cells.specs.Numbers.{above_used}
-use Rattle.mace_cells.specs.Trails.{HasTwoLeft, value_in}
-use Rattle.mace_cells.specs.World.{cell_of}
-use Rattle.model_tables.specs.Size.{bound_of}
+use Rattle.mace_cells.specs.Trails.{value_in}
 use Rattle.cell_search.specs.Choosing.{IsPickedBehind, score_of}
 use Rattle.cell_search.specs.Finites.{AreLeafTables, AreTablesFor, finite_of, meaning_by_cells}
 use Rattle.cell_search.specs.Losses.{decided_in}
@@ -12,7 +10,7 @@ use Rattle.cell_search.specs.Phases.{IsClosedTable}
 use Rattle.cell_search.specs.Positions.{BoardPosition}
 use Rattle.cell_search.proofs.Leafing.{leaf_tables}
 use Rattle.cell_search.proofs.Preferring.{picked_open, picked_within}
-use Rattle.cell_search.proofs.Standing.{full_settled, open_chosen, stands_chosen, stands_settled, told_chosen, told_settled}
+use Rattle.cell_search.proofs.Standing.{full_settled, stands_chosen, stands_settled, told_chosen, told_settled}
 use Rattle.cell_search.proofs.cells.Cells.chosen.Goals as goal
 
 pub returns-in-Some-clause-told : goal.returns-in-Some-clause-told
@@ -48,15 +46,11 @@ returns-in-Some-clause-open c = λ j is.
     let k = c.in-Some.cell in
     let same : c.in-Some.cell ≡ j = cc in
     let board = c.self.invariant.board in
-    let closed = subst (λ (p : BoardPosition). IsClosedTable p.world p.table) (sym c.self.view_is) c.requires.closed in
     let picked : IsPickedBehind a.setup a.trail (decided_in a.setup a.trail.entries) (Some k) =
     subst (λ (p : BoardPosition). IsPickedBehind p.world p.table (decided_in p.world p.table.entries) (Some k)) (sym c.self.view_is)
     (subst (IsPickedBehind c.args.self.now.world c.args.self.now.table (decided_in c.args.self.now.world c.args.self.now.table.entries)) c.in-Some.is c.requires.picked) in
-    let few = picked_within a.setup a.trail board (score_of a.setup a.trail) (above_used a.setup.fixed (decided_in a.setup a.trail.entries)) k picked in
     let blank = picked_open a.setup a.trail board (score_of a.setup a.trail) (above_used a.setup.fixed (decided_in a.setup a.trail.entries)) k picked in
-    subst (λ (p : BoardPosition). (value_in p.table.entries j ≡ None) × HasTwoLeft p.table j (bound_of p.world.size (cell_of p.world j).kind)) c.self.view_is
-    (subst (λ (i : ℕ). (value_in a.trail.entries i ≡ None) × HasTwoLeft a.trail i (bound_of a.setup.size (cell_of a.setup i).kind)) same
-    (open_chosen a.setup a.trail board c.self.invariant.searchable closed k few blank))
+    subst (λ (p : BoardPosition). value_in p.table.entries j ≡ None) c.self.view_is (subst (λ (i : ℕ). value_in a.trail.entries i ≡ None) same blank)
 
 pub returns-in-None-clause-told : goal.returns-in-None-clause-told
 returns-in-None-clause-told c =

@@ -3,9 +3,8 @@ use Rattle.cell_choice.specs.Numbers.{uses_by}
 use Rattle.cell_choice.specs.declared.shape.Shape.{Shape}
 use Rattle.mace_cells.specs.Numbers.{above_used}
 use Rattle.mace_cells.specs.Stacked.{Stacked}
-use Rattle.mace_cells.specs.Trails.{Partial, HasTwoLeft, value_in}
+use Rattle.mace_cells.specs.Trails.{Partial, value_in}
 use Rattle.mace_cells.specs.World.{cell_of, many_cells}
-use Rattle.model_tables.specs.Size.{bound_of}
 use Rattle.cell_search.specs.Positions.{BoardPosition}
 use Rattle.plain_search.specs.Lefts.{IsAmong}
 use Rattle.plain_search.specs.Meeting.{WereLeft}
@@ -26,11 +25,11 @@ invariant_of-self c =
     let t = a.trail in
     let e = entry c.args.cell c.args.value true (length t.crossings) in
     let within = subst (λ (p : BoardPosition). c.args.cell < many_cells p.world) (sym c.self.view_is) c.requires.cell in
-    let opened = subst (λ (p : BoardPosition). (value_in p.table.entries c.args.cell ≡ None) × HasTwoLeft p.table c.args.cell (bound_of p.world.size (cell_of p.world c.args.cell).kind)) (sym c.self.view_is) c.requires.open in
+    let opened = subst (λ (p : BoardPosition). value_in p.table.entries c.args.cell ≡ None) (sym c.self.view_is) c.requires.open in
     let closed = subst (λ (p : BoardPosition). IsClosedTable p.world p.table) (sym c.self.view_is) c.requires.closed in
     let left = subst (λ (p : BoardPosition). IsAmong c.args.value (left_in p.world p.table (cell_of p.world c.args.cell))) (sym c.self.view_is) c.requires.left in
     record {
-      board = subst (λ (u : Partial). IsBoard w u) (sym c.assign.ensures) (decided w t c.self.invariant.board c.args.cell c.args.value within opened.0 opened.1);
+      board = subst (λ (u : Partial). IsBoard w u) (sym c.assign.ensures) (decided w t c.self.invariant.board c.args.cell c.args.value within opened);
       searchable = c.self.invariant.searchable;
       ready = c.self.invariant.ready;
       env = c.self.invariant.env;
@@ -51,7 +50,7 @@ invariant_of-self c =
       phase =
           subst (λ (n : ℕ). IsWaiting w c.assign.new.self true n) (sym c.len-self-inside.ensures.len)
           (subst (λ (u : Partial). IsWaiting w u true (length t.entries)) (sym c.assign.ensures)
-          (waits_behind w t e c.self.invariant.searchable closed refl within opened.0 left));
+          (waits_behind w t e c.self.invariant.searchable closed refl within opened left));
     }
 
 pub index-shape-requires : goal.index-shape-requires

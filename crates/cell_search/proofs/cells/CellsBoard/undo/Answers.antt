@@ -2,9 +2,8 @@ use Rattle.std.proofs.Common.{◌≡◌, ℕ, ◌<◌, List, None, length, sym, 
 use Rattle.mace_cells.specs.Choices.{IsLatest}
 use Rattle.cell_choice.specs.Numbers.{uses_by}
 use Rattle.mace_cells.specs.Stacked.{Stacked, rest_of}
-use Rattle.mace_cells.specs.Trails.{Partial, HasTwoLeft, value_in}
+use Rattle.mace_cells.specs.Trails.{Partial, value_in}
 use Rattle.mace_cells.specs.World.{cell_of, many_cells}
-use Rattle.model_tables.specs.Size.{bound_of}
 use Rattle.cell_search.specs.Positions.{BoardPosition}
 use Rattle.plain_search.specs.Meeting.{WereLeft}
 use Rattle.cell_search.specs.Losses.{decided_in, IsBoard}
@@ -58,7 +57,7 @@ returns-clause-open c = λ k within latest.
     let here = subst (λ (p : BoardPosition). k < many_cells p.world) (sym c.self.view_is) within in
     let last = subst (λ (p : BoardPosition). IsLatest (decided_in p.world p.table.entries) (cell_of p.world k)) (sym c.self.view_is) latest in
     let again = reopened a.setup a.trail c.self.invariant.board (cells_differ a.setup c.self.invariant.searchable.once c.self.invariant.searchable.some) some k here last in
-    subst (λ (t : Partial). (value_in t.entries k ≡ None) × HasTwoLeft t k (bound_of a.setup.size (cell_of a.setup k).kind)) (sym c.undo.ensures) again
+    subst (λ (t : Partial). value_in t.entries k ≡ None) (sym c.undo.ensures) again
 
 pub returns-clause-closed : goal.returns-clause-closed
 returns-clause-closed c =

@@ -26,11 +26,6 @@ returns-clause-gives g c =
     (λ e. (c.next_model-answer.ensures.full e).0)
     c.next_model-answer.ensures.late)
 
-pub returns-clause-chosen : goal.returns-clause-chosen
-returns-clause-chosen g c =
-    let new = c.next_model-answer.new in
-    record { decided = c.next_model-answer.ensures.standing.decided; fresh = c.decides_open.ensures.fresh; two = c.decides_open.ensures.two }
-
 pub returns-clause-comes : goal.returns-clause-comes
 returns-clause-comes g c =
     let a = c.self.inside in

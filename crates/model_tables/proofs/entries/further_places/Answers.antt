@@ -1,6 +1,6 @@
 use Rattle.std.proofs.Common.{◌≡◌, ◌-◌, ◌+◌, ◌∙◌, suc, append_assoc, codes, arith}
 use Rattle.model_tables.specs.ModelText.{further_places}
-use Rattle.model_tables.proofs.text.further_places.Goals as goal
+use Rattle.model_tables.proofs.entries.further_places.Goals as goal
 
 pub loop-preserved : goal.loop-preserved
 loop-preserved c =
