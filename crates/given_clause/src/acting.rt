@@ -348,7 +348,8 @@ fn conflict(
     first_conflict(alloc, units.as_slice(), held)
 }
 
-/// A unit gives a proof with the first unit that is opposite and unifies.
+/// A unit gives a proof with the first unit that is opposite and unifies: what they make is the empty clause.
+#[tactic(auto, using(crate::proofs::Conflicts::conflict_met))]
 pub fn meet_units(alloc: Global, search: &mut Search, held: &Held) -> Result<(), AllocError>
     requires { IsInOrder (state_of search.old) }
     ensures waiting { OnOk result (search.new.waiting ≡ search.old.waiting) }
@@ -358,12 +359,12 @@ pub fn meet_units(alloc: Global, search: &mut Search, held: &Held) -> Result<(),
     if !is_unit(held.clause()) {
         return Ok(());
     }
-    let Some(Conclusion { clause, first }) = conflict(alloc, search, held)? else {
+    let Some(conclusion) = conflict(alloc, search, held)? else {
         return Ok(());
     };
     let queued = Queued {
-        clause: clause.numbered(alloc)?,
-        first,
+        clause: Clause::new(alloc),
+        first: conclusion.first,
         later: Vec::new(alloc),
         input: None,
         usable: false,

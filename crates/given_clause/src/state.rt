@@ -5,8 +5,8 @@ use derivation::{First, Later};
 use discrim_tree::Tries;
 use fol_core::Clause;
 use held_clauses::MadeLine;
+use inference::LargeClause;
 use std::collections::VecDeque;
-use term_unifiers::LargeClause;
 
 /// A clause in the queue with its words. An input clause has its number, and whether it is to be used at once.
 #[derive(Drop)]

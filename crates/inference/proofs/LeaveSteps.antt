@@ -30,20 +30,20 @@ whole_beside k [] d = refl
 whole_beside k (l ∷ c) d = ap (λ ts. record { parent = k; literal = l; change = None } ∷ ts) (whole_beside k c d)
 
 -- the literals but for one
-suc_test : (k a : ℕ) → (suc k == suc a) ≡ (k == a)
+pub suc_test : (k a : ℕ) → (suc k == suc a) ≡ (k == a)
 suc_test k a = elim (cases_eq k a) [
   | inl e ↦ eq-eqb (suc k) (suc a) (ap suc e) ∙ sym (eq-eqb k a e)
   | inr d ↦ ne_eqb (suc k) (suc a) (λ e. d (omega (arith, e))) ∙ sym (ne_eqb k a d)
 ]
 
-zero_test : (k : ℕ) → (suc k == 0) ≡ false
+pub zero_test : (k : ℕ) → (suc k == 0) ≡ false
 zero_test k = ne_eqb (suc k) 0 (λ e. absurd (omega (arith, e)))
 
 pub others_same : (p q : ℕ → Bool) (c : ClauseTree) → ((k : ℕ) → p k ≡ q k) → others p c ≡ others q c
 others_same p q [] h = refl
 others_same p q (l ∷ c) h = ap₂ (λ b d. if b then d else l ∷ d) (h 0) (others_same (λ k. p (suc k)) (λ k. q (suc k)) c (λ k. h (suc k)))
 
-none_out : (c : ClauseTree) → others (λ _. false) c ≡ c
+pub none_out : (c : ClauseTree) → others (λ _. false) c ≡ c
 none_out [] = refl
 none_out (l ∷ c) = ap (λ d. l ∷ d) (none_out c)
 

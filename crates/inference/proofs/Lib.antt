@@ -1,5 +1,7 @@
 pub mod Changed
 pub mod ClashSteps
+pub mod CoverSteps
+pub mod Exchanging
 pub mod Few
 pub mod FitSteps
 pub mod InstanceSteps
@@ -8,5 +10,9 @@ pub mod LeaveSteps
 pub mod MeasureSteps
 pub mod OneSteps
 pub mod ParaSteps
+pub mod Placing
+pub mod PlainSteps
+pub mod PutSteps
 pub mod RuleSteps
+pub mod WordSteps
 pub mod WriteSteps

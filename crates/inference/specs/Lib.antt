@@ -1,3 +1,4 @@
+pub mod Followed
 pub mod Instance
 pub mod Judged
 pub mod Left

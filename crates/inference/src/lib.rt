@@ -6,26 +6,40 @@
 // (`building.rt`), or hands it on unbuilt where it is too large for a search (`large.rt`). `judging.rt` leads from a word
 // to its rule; `clashing.rt` tells alone whether a clash has a unifier.
 // `instance.rt` makes the instance of a clause that terms for its variables give, which is no rule's conclusion.
-// `specs/Left` says what is left of parents, `specs/Judged` what a rule comes to; the rules themselves are those of
-// `derivation`. No call of the program is made to it yet: the search and `check` still have bodies of their own for the rules
-// (`resolution`, `paramod`, `proof_check`).
+// A later word: `words.rt` has one function for each, on any clause whose words are being followed (`underway.rt`), as a
+// plain clause, which is changed in place (`plain.rt`, `changing.rt`). `rewriting.rt` tells the sides of a rule, and
+// `putting.rt` what it makes of a term, counted before it is built. `specs/Followed` says what a later word comes to.
+// The search and `check` call these same functions. `specs/Left` says what is left of parents, `specs/Judged` what a rule
+// comes to; the rules themselves are those of `derivation`.
 #![tactic(auto)]
 
 mod building;
+mod changing;
 mod clashing;
 mod concluding;
 mod fitting;
+mod followed;
 mod instance;
 mod judging;
 mod large;
 mod leaving;
 mod left;
 mod measuring;
+mod plain;
+mod putting;
+mod rewriting;
 mod rules;
+mod underway;
+mod words;
 
 pub use clashing::can_clash;
-pub use instance::{Instantiated, instantiate};
+pub use followed::Followed;
+pub use instance::{Instantiated, LargeInstance, instantiate};
 pub use judging::judge;
 pub use large::{LargeClause, LargeConclusion};
 pub use left::{Change, Left};
+pub use putting::MOST_BUILT_SYMBOLS;
+pub use rewriting::rule_sides;
 pub use rules::{Judged, Putting, clash, copy, factor, paramodulate, reflexivity};
+pub use underway::{Put, Underway};
+pub use words::{delete_unit, drop_reflexive, flip, follow, merge, rewrite};

@@ -5,7 +5,7 @@ use Rattle.fol_core.specs.Tree.{Tree}
 use Rattle.derivation.specs.Equations.{is_equation, left_of, right_of, is_no_variable}
 use Rattle.derivation.specs.Places.{atom_at, has_literal}
 use Rattle.derivation.specs.Words.{side_of}
-use Rattle.proof_words.specs.Written.{by_para}
+use Rattle.proof_words.specs.Written.{WrittenFirst, by_para}
 use Rattle.prover_steps.specs.Clashing.{Held, places_of}
 use Rattle.prover_steps.specs.Concluded.{Conclusion, inferred}
 use Rattle.prover_steps.specs.Equalities.{into_paths, from_sides, is_bare_variable, is_oriented}
@@ -29,11 +29,12 @@ replacing_side s = side_of s.side (atom_at s.from.clause s.equation)
 abbrev pub atom_into : SiteTree → Tree
 atom_into s = atom_at s.into.clause s.literal
 
--- what comes of the term at a path
+-- the word of a step into a path, and what comes of the term there
+abbrev pub word_at : SiteTree → List ℕ → WrittenFirst
+word_at s path = by_para s.from.number s.equation s.side s.into.number s.literal path
+
 abbrev pub paramodulant_at : SiteTree → List ℕ → List Conclusion
-paramodulant_at s path =
-    inferred (by_para s.from.number s.equation s.side s.into.number s.literal path)
-    (s.from.clause ∷ s.into.clause ∷ [])
+paramodulant_at s path = inferred (word_at s path) (s.from.clause ∷ s.into.clause ∷ [])
 
 -- of all terms of a literal that may be replaced
 abbrev pub paramodulants_in : (Tree → Tree → Bool) → SiteTree → List Conclusion

@@ -1,10 +1,11 @@
 // Terms of a literal replaced by a side of an equation.
-ghost use Rattle.std.specs.Prelude.{◌≡◌, ◌<◌, ◌++◌, Some, OnOk, length};
+ghost use Rattle.std.specs.Prelude.{◌≡◌, ◌<◌, ◌++◌, Some, IfOk, OnOk, length};
 ghost use Rattle.std.specs.List.{flat_map};
 ghost use Rattle.fol_core.specs.TermView.{tree_of};
 ghost use Rattle.fol_core.specs.Tree.{app, trees_of};
 ghost use Rattle.paramod.specs.Replacing.{site_of};
-ghost use Rattle.paramod.specs.Sites.{replacing_side, atom_into, paramodulant_at};
+ghost use Rattle.paramod.specs.Sites.{replacing_side, atom_into, word_at, paramodulant_at};
+ghost use Rattle.proof_words.specs.Written.{written_first};
 ghost use Rattle.prover_steps.specs.Equalities.{paths_of, paths_below};
 ghost use Rattle.resolution.specs.View.{all_conclusions};
 ghost use Rattle.substitutions.specs.Paths.{subterm_at};
@@ -13,8 +14,24 @@ use crate::sides::may_be_replaced;
 use crate::site::Site;
 use derivation::{First, Paramodulation};
 use fol_core::Term;
-use resolution::{Conclusion, infer_of_two};
+use inference::{Putting, paramodulate};
+use resolution::{Concluded, Conclusion};
 use std::alloc::{AllocError, Global};
+
+// The word of a step into a path.
+fn word_for(alloc: Global, site: &Site, path: &[u64]) -> Result<First, AllocError>
+    ensures { IfOk result (λ f. written_first f ≡ word_at (site_of site.now) path.now) }
+{
+    let path = Vec::from_slice(alloc, path)?;
+    Ok(First::Para(Paramodulation {
+        from: site.from.number(),
+        equation: site.equation,
+        side: site.side,
+        into: site.into.number(),
+        literal: site.literal,
+        path,
+    }))
+}
 
 // At a path where a term is.
 fn add_at(
@@ -33,22 +50,25 @@ fn add_at(
     if !may_be_replaced(site.term, term) {
         return Ok(());
     }
-    let path = Vec::from_slice(alloc, path)?;
-    let step = Paramodulation {
-        from: site.from.number(),
+    let at = Putting {
         equation: site.equation,
         side: site.side,
-        into: site.into.number(),
         literal: site.literal,
         path,
     };
-    infer_of_two(
+    let judged = paramodulate(
         alloc,
-        First::Para(step),
+        at,
         site.from.clause(),
+        site.term,
         site.into.clause(),
-        made,
+        term,
     )?;
+    let Some(clause) = Concluded::of(alloc, judged)? else {
+        return Ok(());
+    };
+    let first = word_for(alloc, site, path)?;
+    made.push(Conclusion { clause, first })?;
     Ok(())
 }
 

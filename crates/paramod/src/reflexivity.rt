@@ -10,7 +10,8 @@ use derivation::{First, sides};
 use discrim_tree::may_meet;
 use fol_core::Clause;
 use held_clauses::Held;
-use resolution::{Conclusion, infer};
+use inference::reflexivity;
+use resolution::{Concluded, Conclusion};
 use std::alloc::{AllocError, Global};
 
 // Whether a literal may be an inequation whose sides may meet.
@@ -39,14 +40,13 @@ fn add_at(alloc: Global, given: &Held, a: u64, made: &mut Vec<Conclusion>) -> Re
     if !may_reflect(given.clause(), a) {
         return Ok(());
     }
-    let mut parents = Vec::new(alloc);
-    parents.push(given.clause().copy(alloc)?)?;
-    infer(
-        alloc,
-        First::XxRes(given.number(), a),
-        parents.as_slice(),
-        made,
-    )
+    let judged = reflexivity(alloc, a, given.clause())?;
+    let Some(clause) = Concluded::of(alloc, judged)? else {
+        return Ok(());
+    };
+    let first = First::XxRes(given.number(), a);
+    made.push(Conclusion { clause, first })?;
+    Ok(())
 }
 
 /// Adds all that resolution with reflexivity makes of a given clause, in its order.

@@ -1,27 +1,30 @@
 -- How large conclusions are that aren't built.
-use Rattle.std.proofs.Common.{◌≡◌, ℕ, suc, ◌+◌, ◌-◌, ◌<◌, ◌≤◌, Bool, List, true, false, nat_eq, nat_lt, nat_le, ◌||◌, refl, sym, ap, ◌∙◌, arith}
+use Rattle.std.proofs.Common.{◌≡◌, ℕ, suc, ◌+◌, ◌-◌, ◌<◌, ◌≤◌, Bool, true, false, nat_eq, nat_lt, nat_le, ◌||◌, refl, sym, ap, ◌∙◌, arith}
 use Rattle.std.proofs.lemmas.Bool.{lt-ltb, ltb-true, le-ltb, ltb-false, eq-eqb, eqb-true, ne_eqb, eqb-false, le-leb, and_from}
 use Rattle.clause_limits.specs.Sizes.{clause_size, clause_depth}
+use Rattle.clause_limits.specs.declared.measured.Measure.{Measure}
 use Rattle.clause_limits.proofs.Numbered.{numbered_size, numbered_depth}
-use Rattle.derivation.specs.Lines.{ContentTree, formula, clause, IsClause, instance_of}
+use Rattle.derivation.specs.Lines.{ContentTree, formula, clause, IsClause}
 use Rattle.fol_core.specs.Literals.{ClauseTree}
 use Rattle.fol_core.specs.Renumbered.{renumbered}
 use Rattle.fol_core.specs.Sizes.{saturated}
-use Rattle.substitutions.specs.Bindings.{Binding, by_bindings}
-use Rattle.substitutions.specs.Instances.{substitute_clause}
+use Rattle.inference.specs.Measured.{clause_measured}
 use Rattle.proof_check.specs.Bounds.{is_beyond, is_as_large, is_as_deep, may_be}
 
-pub too_deep : (c : ClauseTree) (d : ℕ) → d ≡ saturated (clause_depth c) → 4000 < d → is_beyond c ≡ true
-too_deep c d is lt = ap (λ b. b || nat_lt 16777216 (clause_size c)) (lt-ltb 4000 (clause_depth c) (omega (arith, is, lt)))
+pub too_deep : (c : ClauseTree) (m : Measure) → m ≡ clause_measured c → 4000 < m.depth → true ≡ is_beyond c
+too_deep c m is lt =
+    let at : m.depth ≡ saturated (clause_depth c) = ap (λ (n : Measure). n.depth) is in
+    sym (ap (λ b. b || nat_lt 16777216 (clause_size c)) (lt-ltb 4000 (clause_depth c) (omega (arith, at, lt))))
 
-pub not_too_deep : (c : ClauseTree) (d n : ℕ) → d ≡ saturated (clause_depth c) → d ≤ 4000 → n ≡ saturated (clause_size c) → nat_lt 16777216 n ≡ is_beyond c
-not_too_deep c d n is le size =
-    let not_deep : nat_lt 4000 (clause_depth c) ≡ false = le-ltb 4000 (clause_depth c) (omega (arith, is, le)) in
-    sym (ap (λ b. b || nat_lt 16777216 (clause_size c)) not_deep ∙ by (nat_lt 16777216 (clause_size c)) refl)
+pub not_too_deep : (c : ClauseTree) (m : Measure) → m ≡ clause_measured c → m.depth ≤ 4000 → nat_lt 16777216 m.size ≡ is_beyond c
+not_too_deep c m is le =
+    let at : m.depth ≡ saturated (clause_depth c) = ap (λ (n : Measure). n.depth) is in
+    let not_deep : nat_lt 4000 (clause_depth c) ≡ false = le-ltb 4000 (clause_depth c) (omega (arith, at, le)) in
+    sym (ap (λ b. b || nat_lt 16777216 (clause_size c)) not_deep ∙ by (nat_lt 16777216 (clause_size c)) (ap (λ (n : Measure). n.size) is) refl)
   where
-    by : (b : Bool) → nat_lt 16777216 (clause_size c) ≡ b → nat_lt 16777216 (clause_size c) ≡ nat_lt 16777216 n
-    by true e = let h : 16777216 < clause_size c = ltb-true 16777216 (clause_size c) e in e ∙ sym (lt-ltb 16777216 n (omega (arith, h, size)))
-    by false e = let h : clause_size c ≤ 16777216 = ltb-false 16777216 (clause_size c) e in e ∙ sym (le-ltb 16777216 n (omega (arith, h, size)))
+    by : (b : Bool) → m.size ≡ saturated (clause_size c) → nat_lt 16777216 (clause_size c) ≡ b → nat_lt 16777216 (clause_size c) ≡ nat_lt 16777216 m.size
+    by true size e = let h : 16777216 < clause_size c = ltb-true 16777216 (clause_size c) e in e ∙ sym (lt-ltb 16777216 m.size (omega (arith, h, size)))
+    by false size e = let h : clause_size c ≤ 16777216 = ltb-false 16777216 (clause_size c) e in e ∙ sym (le-ltb 16777216 m.size (omega (arith, h, size)))
 
 -- tests that tell the same
 same_tests : (a b p q : ℕ) → (a ≡ b → p ≡ q) → (p ≡ q → a ≡ b) → nat_eq a b ≡ nat_eq p q
@@ -50,12 +53,6 @@ module _ (c d : ClauseTree) (n : ℕ) where
 -- clauses that are the same, but for their variables, have one size
 pub same_sizes : (c d : ClauseTree) → renumbered c ≡ renumbered d → clause_size c ≡ clause_size d
 same_sizes c d same = sym (numbered_size c) ∙ ap clause_size same ∙ numbered_size d
-
--- and so has an instance
-pub instance_sizes : (c : ClauseTree) (es : List Binding) (d : ClauseTree) → renumbered c ≡ renumbered (instance_of es d) → clause_size c ≡ clause_size (substitute_clause (by_bindings es) d)
-instance_sizes c es d same =
-    let made = substitute_clause (by_bindings es) d in
-    sym (numbered_size c) ∙ ap clause_size same ∙ numbered_size (renumbered made) ∙ numbered_size made
 
 -- a content that is the clause, but for its variables, has its size
 pub same_size : (content : ContentTree) (d : ClauseTree) → IsClause content (renumbered d) → may_be content d ≡ true

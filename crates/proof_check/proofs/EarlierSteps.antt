@@ -3,14 +3,16 @@ use Rattle.std.proofs.Common.{◌≡◌, inl, inr, ℕ, zero, suc, ◌+◌, ◌<
 use Rattle.std.proofs.lemmas.Bool.{eq-eqb, ne_eqb, cases_lt}
 use Rattle.std.proofs.lemmas.Bool.Decides.{nat_tests}
 use Rattle.std.proofs.lemmas.Cmp.{ranked}
-use Rattle.std.proofs.lemmas.List.{drop_all, append-nil}
+use Rattle.std.proofs.lemmas.List.{drop_all, append-nil, map-append}
 use Rattle.std.specs.List.Sorted.{IsSearchInRange, IsBinarySearchResult, IsNonDecreasingBy}
+use Rattle.std.specs.Borrow.{Bor}
 use Rattle.std.specs.Ordering.{nat_cmp, ordering_index}
 use Rattle.fol_core.specs.Literals.{ClauseTree}
 use Rattle.derivation.specs.Lines.{LineTree, line_at, clause_at, AreClauses}
 use Rattle.derivation.specs.Refused.{are_there}
 use Rattle.derivation.specs.View.{line_tree, lines_of}
 use Rattle.derivation.specs.declared.line.Line.{Line}
+use Rattle.inference.specs.Lent.{lent_clauses}
 use Rattle.proof_check.specs.Reached.{AreAbove, AreRising}
 
 drop_next : {X : Type 0} (xs : List X) (i : ℕ) (x : X) → i < length xs → x ≡ get_or xs i x → drop i xs ≡ x ∷ drop (i + 1) xs
@@ -70,11 +72,14 @@ pub record Finding (ls : List LineTree) (ns : List ℕ) (i : ℕ) (cs : List Cla
 pub finding_start : (ls : List LineTree) (ns : List ℕ) → Finding ls ns 0 []
 finding_start ls ns = record { front = λ ds are. are; missing = λ h. h }
 
-pub clauses_next : (ls : List LineTree) (ns : List ℕ) (i n : ℕ) (cs : List ClauseTree) (c : ClauseTree) → Finding ls ns i cs → i < length ns → n ≡ get_or ns i n → Some c ≡ clause_at ls n
-    → Finding ls ns (i + 1) (cs ++ c ∷ [])
-clauses_next ls ns i n cs c found h is there = record {
-  front = λ ds are. subst (AreClauses ls ns) (sym (append_assoc cs (c ∷ []) ds))
-      (found.front (c ∷ ds) (subst (λ ms. AreClauses ls ms (c ∷ ds)) (sym (drop_next ns i n h is)) (sym there, are)));
+lent_push : (cs : List (Bor ClauseTree)) (c : Bor ClauseTree) → lent_clauses (cs ++ c ∷ []) ≡ lent_clauses cs ++ c.now ∷ []
+lent_push cs c = map-append (λ (b : Bor ClauseTree). b.now) cs (c ∷ [])
+
+pub clauses_next : (ls : List LineTree) (ns : List ℕ) (i n : ℕ) (cs : List (Bor ClauseTree)) (c : Bor ClauseTree) → Finding ls ns i (lent_clauses cs) → i < length ns → n ≡ get_or ns i n → Some c.now ≡ clause_at ls n
+    → Finding ls ns (i + 1) (lent_clauses (cs ++ c ∷ []))
+clauses_next ls ns i n cs c found h is there = subst (Finding ls ns (i + 1)) (sym (lent_push cs c)) record {
+  front = λ ds are. subst (AreClauses ls ns) (sym (append_assoc (lent_clauses cs) (c.now ∷ []) ds))
+      (found.front (c.now ∷ ds) (subst (λ ms. AreClauses ls ms (c.now ∷ ds)) (sym (drop_next ns i n h is)) (sym there, are)));
   missing = λ e. found.missing (ap (are_there ls) (drop_next ns i n h is) ∙ ap (λ b. b && are_there ls (drop (i + 1) ns)) (sym (ap is_some there)) ∙ e);
 }
 

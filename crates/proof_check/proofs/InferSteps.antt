@@ -15,10 +15,11 @@ use Rattle.derivation.specs.declared.row.Row.{Row}
 use Rattle.derivation.specs.declared.row.Row.TheVariants as causes
 use Rattle.derivation.specs.declared.words.Later.{Later}
 use Rattle.derivation.specs.declared.words.Satellite.{Satellite}
-use Rattle.proof_check.specs.Judged.{inference_by, LeadsAs, JudgedAs, rule_by, parents_by}
+use Rattle.inference.specs.Followed.{FollowsAs}
+use Rattle.inference.specs.Judged.{inference_by, JudgedAs, rule_by, parents_by}
+use Rattle.inference.specs.declared.followed.Followed.TheVariants.{Misplaced, Differs, Done}
+use Rattle.inference.specs.declared.rules.Judged.TheVariants.{Unfit, Apart, Small, Large}
 use Rattle.proof_check.specs.Found.{AfterAs, InferredAs}
-use Rattle.proof_check.specs.declared.following.Followed.TheVariants.{Misplaced, Differs, Made}
-use Rattle.proof_check.specs.declared.judging.Judged.TheVariants.{Unfit, Apart, Numbered, Large}
 
 -- the words from one on
 abbrev pub words_from : List Later → ℕ → List LaterWord
@@ -56,7 +57,7 @@ following_start ls ws d content = record { onward = λ a. a; fails = λ row f. f
 
 module _ (ls : List LineTree) (ws : List Later) (d0 : ClauseTree) (content : ContentTree) (i : ℕ) (d : ClauseTree) (w : Later) where
   pub following_made : Following ls ws d0 content i d → i < length ws → w ≡ get_or ws i w → (ps : List ClauseTree) (b : ClauseTree) → AreClauses ls (later_parents (later_of w)) ps
-      → LeadsAs (later_of w) d ps (Made b) → Following ls ws d0 content (i + 1) b
+      → FollowsAs (later_of w) d ps b Done → Following ls ws d0 content (i + 1) b
   following_made going h is ps b are leads = record {
     onward = λ after. going.onward (subst (λ us. After ls us d content) (sym (words_next ws i w h is)) (ps, b, are, leads.0, leads.1, after));
     fails = λ row fails. going.fails row (subst (λ us. Fails ls us d content row) (sym (words_next ws i w h is)) (ps, are, inr (inr (leads.0, (b, leads.1, fails)))));
@@ -64,12 +65,12 @@ module _ (ls : List LineTree) (ws : List Later) (d0 : ClauseTree) (content : Con
   }
 
   pub following_misplaced : Following ls ws d0 content i d → i < length ws → w ≡ get_or ws i w → (ps : List ClauseTree) → AreClauses ls (later_parents (later_of w)) ps
-      → LeadsAs (later_of w) d ps Misplaced → Fails ls (words_from ws 0) d0 content causes.Misplaced
-  following_misplaced going h is ps are leads = going.fails causes.Misplaced (subst (λ us. Fails ls us d content causes.Misplaced) (sym (words_next ws i w h is)) (ps, are, inl (refl, leads)))
+      → (b : ClauseTree) → FollowsAs (later_of w) d ps b Misplaced → Fails ls (words_from ws 0) d0 content causes.Misplaced
+  following_misplaced going h is ps are b leads = going.fails causes.Misplaced (subst (λ us. Fails ls us d content causes.Misplaced) (sym (words_next ws i w h is)) (ps, are, inl (refl, leads.0)))
 
   pub following_differs : Following ls ws d0 content i d → i < length ws → w ≡ get_or ws i w → (ps : List ClauseTree) → AreClauses ls (later_parents (later_of w)) ps
-      → LeadsAs (later_of w) d ps Differs → Fails ls (words_from ws 0) d0 content causes.Differs
-  following_differs going h is ps are leads = going.fails causes.Differs (subst (λ us. Fails ls us d content causes.Differs) (sym (words_next ws i w h is)) (ps, are, inr (inl (refl, leads.0, leads.1))))
+      → (b : ClauseTree) → FollowsAs (later_of w) d ps b Differs → Fails ls (words_from ws 0) d0 content causes.Differs
+  following_differs going h is ps are b leads = going.fails causes.Differs (subst (λ us. Fails ls us d content causes.Differs) (sym (words_next ws i w h is)) (ps, are, inr (inl (refl, leads.0, leads.1))))
 
   pub following_missing : Following ls ws d0 content i d → i < length ws → w ≡ get_or ws i w → are_there ls (later_parents (later_of w)) ≡ false → there_from ls ws 0 ≡ false
   following_missing going h is e = going.missing (later_missing ls ws i w h is e)
@@ -124,7 +125,7 @@ module _ (ls : List LineTree) (w : FirstWord) (ws : List LaterWord) (content : C
   pub rule_differs : (cs : List ClauseTree) → AreClauses ls (parents_by w) cs → IsTrue (are_there ls (all_parents (inference_by w) ws)) → JudgedAs (rule_by w) cs Apart → InferredAs ls w ws content (Some causes.Differs)
   rule_differs cs are there judged = inr (there, (cs, are, inr (inl (refl, judged.0, judged.1))))
 
-  pub rule_after : (cs : List ClauseTree) (c : ClauseTree) (o : Option Row) → AreClauses ls (parents_by w) cs → IsTrue (are_there ls (all_parents (inference_by w) ws)) → JudgedAs (rule_by w) cs (Numbered c)
+  pub rule_after : (cs : List ClauseTree) (c : ClauseTree) (o : Option Row) → AreClauses ls (parents_by w) cs → IsTrue (are_there ls (all_parents (inference_by w) ws)) → JudgedAs (rule_by w) cs (Small c)
       → AfterAs ls ws c content o → InferredAs ls w ws content o
   rule_after cs c None are there judged after = (cs, c, are, judged.0, judged.1, after)
   rule_after cs c (Some row) are there judged (inl fails) = inr (there, (cs, are, inr (inr (judged.0, (c, judged.1, fails)))))

@@ -1,19 +1,7 @@
-mod ApartSteps
 mod BoundSteps
-mod BuildSteps
 mod CheckSteps
-mod ClashSteps
 mod EarlierSteps
-mod EquationSteps
-mod FitSteps
-mod FollowSteps
 mod InferSteps
 mod InstanceSteps
-mod JudgeSteps
-mod LendSteps
-mod PlaceSteps
-mod PutSteps
-mod RuleSteps
 mod SameSteps
-pub mod Shallow
 mod StateSteps

@@ -8,7 +8,7 @@ use Rattle.derivation.specs.Lines.{FirstWord, ContentTree, LineTree, InputRow, A
 use Rattle.derivation.specs.Refused.{Fails, are_there, InferenceFails, InstanceFails, StatedFails, InputFails, LineFails, IsRefusedLine, IsAccepted}
 use Rattle.derivation.specs.declared.row.Row.{Row}
 use Rattle.derivation.specs.declared.row.Row.TheVariants.{NoParent}
-use Rattle.proof_check.specs.Judged.{inference_by}
+use Rattle.inference.specs.Judged.{inference_by}
 use Rattle.substitutions.specs.Bindings.{Binding}
 
 -- of the words behind a clause; also where a clause that they take isn't there

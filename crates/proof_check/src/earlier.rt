@@ -4,6 +4,7 @@ ghost use Rattle.std.specs.Option.{option_map};
 ghost use Rattle.derivation.specs.Lines.{line_at, clause_at, AreClauses};
 ghost use Rattle.derivation.specs.Refused.{are_there};
 ghost use Rattle.derivation.specs.View.{line_tree, lines_of};
+ghost use Rattle.inference.specs.Lent.{lent_clauses};
 ghost use Rattle.proof_check.specs.Reached.{AreRising};
 
 use derivation::{Content, Line};
@@ -49,21 +50,21 @@ pub fn are_there(earlier: &[Line], numbers: &[u64]) -> bool
     true
 }
 
-/// Copies of the clauses of some lines, where they are there.
+/// The clauses of some lines, lent, where they are there.
 #[tactic(auto, using(crate::proofs::EarlierSteps::finding_start, crate::proofs::EarlierSteps::clauses_next, crate::proofs::EarlierSteps::clauses_missing, crate::proofs::EarlierSteps::clauses_all))]
-pub fn copied_clauses(
+pub fn clauses_at<'a>(
     alloc: Global,
-    earlier: &[Line],
+    earlier: &'a [Line],
     numbers: &[u64],
-) -> Result<Option<Vec<Clause>>, AllocError>
+) -> Result<Option<Vec<&'a Clause>>, AllocError>
     requires { AreRising (lines_of earlier.now) }
     ensures { IfOk result (λ o. MatchOption o (are_there (lines_of earlier.now) numbers.now ≡ false)
-        (λ cs. AreClauses (lines_of earlier.now) numbers.now cs.items)) }
+        (λ cs. AreClauses (lines_of earlier.now) numbers.now (lent_clauses cs.items))) }
 {
     let mut found = Vec::new(alloc);
     for number in numbers {
         match clause_at(earlier, *number) {
-            Some(clause) => found.push(clause.copy(alloc)?)?,
+            Some(clause) => found.push(clause)?,
             None => return Ok(None),
         }
     }

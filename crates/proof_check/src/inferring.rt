@@ -1,24 +1,27 @@
 // Whether a line is what its words make of earlier ones.
-ghost use Rattle.std.specs.Prelude.{◌≡◌, ◌↔◌, ◌∷◌, [], IsTrue, IfOk, map};
+ghost use Rattle.std.specs.Prelude.{◌≡◌, ◌↔◌, ◌∷◌, [], List, Some, false, IsTrue, IfOk, map};
 ghost use Rattle.std.specs.List.{flat_map};
 ghost use Rattle.derivation.specs.Later.{later_parents};
-ghost use Rattle.derivation.specs.Lines.{IsClause, AreClauses};
+ghost use Rattle.derivation.specs.Lines.{LineTree, IsClause, AreClauses};
 ghost use Rattle.derivation.specs.Refused.{are_there, all_parents};
 ghost use Rattle.derivation.specs.View.{first_word_of, later_of, content_of, lines_of};
+ghost use Rattle.derivation.specs.declared.row.Row.TheVariants.{OtherClause};
+ghost use Rattle.fol_core.specs.Literals.{ClauseTree};
 ghost use Rattle.fol_core.specs.Renumbered.{renumbered};
-ghost use Rattle.proof_check.specs.Judged.{inference_by, parents_by};
+ghost use Rattle.inference.specs.Judged.{inference_by, parents_by};
+ghost use Rattle.inference.specs.Lent.{lent_clauses};
+ghost use Rattle.inference.specs.Measured.{clause_measured};
 ghost use Rattle.proof_check.specs.Found.{AfterAs, InferredAs};
 ghost use Rattle.proof_check.specs.Reached.{AreRising};
 
-use crate::bounds::{built, is_beyond, may_be, may_be_same};
-use crate::earlier::{are_there, copied_clauses};
-use crate::following::{Followed, follow};
-use crate::judging::{Judged, judge};
+use crate::bounds::{is_beyond, may_be, may_be_same, would_be_beyond};
+use crate::earlier::{are_there, clauses_at};
+use clause_limits::Measure;
 use derivation::{Content, First, Just, Later, Line, Row, Satellite};
 use fol_core::{Clause, renumber};
+use inference::{Followed, Judged, LargeConclusion, follow, judge};
 use std::alloc::{AllocError, Global};
 use substitutions::same_clause;
-use term_unifiers::LargeClause;
 
 /// Whether a content is a clause, but for the numbers of variables.
 pub fn is_clause(alloc: Global, content: &Content, clause: &Clause) -> Result<bool, AllocError>
@@ -83,13 +86,14 @@ pub fn after(
     let mut clause = clause;
     for word in words {
         let numbers = later_numbers(alloc, word)?;
-        let Some(parents) = copied_clauses(alloc, earlier, numbers.as_slice())? else {
+        let Some(parents) = clauses_at(alloc, earlier, numbers.as_slice())? else {
             return Ok(Some(Row::NoParent));
         };
-        match follow(alloc, word, &clause, parents.as_slice())? {
+        match follow(alloc, word, &mut clause, parents.as_slice())? {
             Followed::Misplaced => return Ok(Some(Row::Misplaced)),
             Followed::Differs => return Ok(Some(Row::Differs)),
-            Followed::Made(next) => clause = next,
+            Followed::TooLarge => return Err(AllocError),
+            Followed::Done => {}
         }
         if is_beyond(&clause) {
             return Err(AllocError);
@@ -102,26 +106,43 @@ pub fn after(
     }
 }
 
-// The same of a conclusion that isn't built: where no word follows, one that is larger than the content, or smaller, isn't it. One
-// that is beyond the bounds counts as want of memory.
+/// Whether a clause that isn't built has to be, for the words behind it or for a content: not where no word follows and it is
+/// larger than the content, or smaller. One that is beyond the bounds counts as want of memory.
 #[tactic(auto, using(crate::proofs::InferSteps::other_size))]
+pub fn has_to_be_built(
+    words: &[Later],
+    measure: Measure,
+    content: &Content,
+) -> Result<bool, AllocError>
+    ensures { IfOk result (λ b. b ≡ false → (d : ClauseTree) → measure ≡ clause_measured d
+        → (ls : List LineTree) → AfterAs ls (map later_of words.now) (renumbered d)
+        (content_of content.now) (Some OtherClause)) }
+{
+    if words.is_empty() && !may_be(content, measure) {
+        return Ok(false);
+    }
+    if would_be_beyond(measure) {
+        return Err(AllocError);
+    }
+    Ok(true)
+}
+
+// Whether words lead from a conclusion that isn't built to a content.
 fn after_large(
     alloc: Global,
     earlier: &[Line],
     words: &[Later],
-    large: &LargeClause,
+    large: &LargeConclusion,
     content: &Content,
 ) -> Result<Option<Row>, AllocError>
     requires { AreRising (lines_of earlier.now) }
     ensures { IfOk result (AfterAs (lines_of earlier.now) (map later_of words.now)
         (renumbered large.now) (content_of content.now)) }
 {
-    if words.is_empty() && !may_be(content, large) {
+    if !has_to_be_built(words, large.measure(), content)? {
         return Ok(Some(Row::OtherClause));
     }
-    let Some(clause) = built(alloc, large)? else {
-        return Err(AllocError);
-    };
+    let clause = large.numbered(alloc)?;
     after(alloc, earlier, words, clause, content)
 }
 
@@ -186,12 +207,12 @@ fn rule_and_words(
     alloc: Global,
     earlier: &[Line],
     just: &Just,
-    parents: &[Clause],
+    parents: &[&Clause],
     content: &Content,
 ) -> Result<Option<Row>, AllocError>
     requires rising { AreRising (lines_of earlier.now) }
     requires parents { AreClauses (lines_of earlier.now)
-        (parents_by (first_word_of just.now.first)) parents.now }
+        (parents_by (first_word_of just.now.first)) (lent_clauses parents.now) }
     requires there { IsTrue (are_there (lines_of earlier.now)
         (all_parents (inference_by (first_word_of just.now.first))
         (map later_of just.now.steps.items))) }
@@ -201,7 +222,7 @@ fn rule_and_words(
     match judge(alloc, &just.first, parents)? {
         Judged::Unfit => Ok(Some(Row::Misplaced)),
         Judged::Apart => Ok(Some(Row::Differs)),
-        Judged::Numbered(small) => {
+        Judged::Small(small) => {
             let clause = small.into_clause();
             after(alloc, earlier, just.steps.as_slice(), clause, content)
         }
@@ -224,7 +245,7 @@ pub fn infer(
         (map later_of just.now.steps.items) (content_of content.now)) }
 {
     let numbers = parent_numbers(alloc, &just.first)?;
-    let Some(parents) = copied_clauses(alloc, earlier, numbers.as_slice())? else {
+    let Some(parents) = clauses_at(alloc, earlier, numbers.as_slice())? else {
         return Ok(Some(Row::NoParent));
     };
     if !later_there(alloc, earlier, just.steps.as_slice())? {

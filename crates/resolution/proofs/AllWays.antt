@@ -9,7 +9,7 @@ use Rattle.derivation.specs.Lines.{clash_inference}
 use Rattle.derivation.specs.Places.{has_literal}
 use Rattle.derivation.specs.Words.{clash_rule}
 use Rattle.derivation.specs.declared.words.Satellite.{Satellite}
-use Rattle.proof_check.specs.Judged.{clash_of}
+use Rattle.inference.specs.Judged.{clash_of}
 use Rattle.prover_steps.specs.Clashing.{Held, Partner, Clashing, is_same_held, clashings, clashes_of, satellites_in, takes_part, places_of, unit_partners}
 use Rattle.prover_steps.specs.Concluded.{Conclusion, concluded, inferred}
 use Rattle.resolution.specs.Meeting.{NeverClash}
@@ -48,9 +48,6 @@ ways_same c all f none (t ∷ ts) (k ∷ ks) stand =
 
 -- what comes of a nucleus vanishes there
 module _ (kind : ClashKind) (n g : ℕ) (c : ClauseTree) where
-  clauses_in : Clashing → List ClauseTree
-  clauses_in ms = map (λ m. m.1.0.clause) ms
-
   clashes_split : (ms : Clashing) (k : ℕ) (p : Partner) (es : Clashing) → map clash_of (satellites_in (ms ++ (k, p) ∷ es)) ≡ map clash_of (satellites_in ms) ++ (k, p.1) ∷ map clash_of (satellites_in es)
   clashes_split [] k p es = refl
   clashes_split (m ∷ ms) k p es = ap (λ ks. (m.0, m.1.1) ∷ ks) (clashes_split ms k p es)

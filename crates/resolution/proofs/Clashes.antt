@@ -9,8 +9,8 @@ use Rattle.derivation.specs.Rule.{UnifiesFamily}
 use Rattle.derivation.specs.Words.{clash_rule}
 use Rattle.substitutions.specs.Apart.{Own}
 use Rattle.derivation.specs.declared.words.Satellite.{Satellite}
-use Rattle.proof_check.specs.Judged.{clash_of}
-use Rattle.proof_check.specs.Lent.{lent_clauses}
+use Rattle.inference.specs.Judged.{clash_of}
+use Rattle.inference.specs.Lent.{lent_clauses}
 use Rattle.proof_words.specs.Written.{meant, satellite}
 use Rattle.prover_steps.specs.Clashing.{Partner, Clashing, satellites_in}
 use Rattle.prover_steps.specs.Concluded.{Conclusion, inferred}
@@ -52,10 +52,7 @@ untried g (t ∷ ts) f h none =
         ap₂ (λ x y. x ++ y) (one p parts.0) (each ps parts.1 one)
 
 module _ (kind : ClashKind) (n g : ℕ) where
-  -- nothing is taken any more
-  pub finish_none : (used : Bool) (ss : List Satellite) (cs : List ClauseTree) → used ≡ false → comes_of (clashing_word kind n) g used ss cs [] ≡ []
-  finish_none used ss cs e = ap (λ b. if b || false then inferred (clashing_word kind n (ss ++ [])) (cs ++ []) else []) e
-
+  -- no place is left
   pub finish_some : (used : Bool) (ss : List Satellite) (cs : List ClauseTree) → used ≡ true → comes_of (clashing_word kind n) g used ss cs [] ≡ inferred (clashing_word kind n ss) cs
   finish_some used ss cs e =
       ap (λ b. if b || false then inferred (clashing_word kind n (ss ++ [])) (cs ++ []) else []) e ∙ ap₂ (λ x y. inferred (clashing_word kind n x) y) (append-nil ss) (append-nil cs)

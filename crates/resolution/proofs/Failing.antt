@@ -24,7 +24,7 @@ use Rattle.proof_words.specs.Written.{WrittenFirst, meant, satellite, by_resolve
 use Rattle.prover_steps.specs.Concluded.{concluded, conclusion_by, inferred, left_under, unifying}
 use Rattle.prover_steps.specs.StepLaws.{WorksOut}
 use Rattle.prover_steps.proofs.Working.{works_out}
-use Rattle.proof_check.specs.Judged.{clash_of}
+use Rattle.inference.specs.Judged.{clash_of}
 use Rattle.resolution.specs.Meeting.{NeverClash, NeverMerge}
 
 -- what is worked out is what is concluded

@@ -4,7 +4,7 @@ use Rattle.std.specs.List.{list_any}
 use Rattle.fol_core.specs.Literals.{ClauseTree}
 use Rattle.derivation.specs.Words.{clash_rule}
 use Rattle.derivation.specs.declared.words.Satellite.{Satellite}
-use Rattle.proof_check.specs.Judged.{clash_of}
+use Rattle.inference.specs.Judged.{clash_of}
 use Rattle.proof_words.specs.Written.{WrittenFirst}
 use Rattle.prover_steps.specs.Clashing.{Partner, Clashing, satellites_in}
 use Rattle.prover_steps.specs.Concluded.{Conclusion, concluded, inferred}

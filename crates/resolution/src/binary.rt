@@ -9,13 +9,13 @@ ghost use Rattle.prover_steps.specs.Concluded.{inferred};
 ghost use Rattle.resolution.specs.Tries.{resolvents_from, resolvents_tried};
 ghost use Rattle.resolution.specs.View.{all_conclusions};
 
-use crate::conclusion::Conclusion;
-use crate::inferring::infer_of_two;
+use crate::conclusion::{Concluded, Conclusion};
 use crate::meeting::may_clash;
 use crate::opposing::opposing;
 use clause_index::HeldSet;
 use derivation::{First, Satellite, has_literal};
 use held_clauses::Held;
+use inference::clash;
 use std::alloc::{AllocError, Global};
 
 /// Adds what the literals of two clauses make by resolution, if anything.
@@ -39,13 +39,13 @@ pub fn add_resolvent(
         clause: other.number(),
         literal: j,
     };
-    infer_of_two(
-        alloc,
-        First::Resolve(given.number(), satellite),
-        given.clause(),
-        other.clause(),
-        made,
-    )
+    let judged = clash(alloc, &[satellite], &[given.clause(), other.clause()])?;
+    let Some(clause) = Concluded::of(alloc, judged)? else {
+        return Ok(());
+    };
+    let first = First::Resolve(given.number(), satellite);
+    made.push(Conclusion { clause, first })?;
+    Ok(())
 }
 
 // Whether a literal is resolved with another clause: with the clause itself, where it is positive.

@@ -1,20 +1,17 @@
 // Partners taken for the places of a nucleus, one place after the other: what can't be unified so far is not gone on with.
 ghost use Rattle.std.specs.Prelude.{◌≡◌, ◌++◌, ◌∷◌, [], ◌+◌, ◌==◌, ◌||◌, false, IfOk, OnOk, length};
 ghost use Rattle.std.specs.List.{flat_map, list_any};
-ghost use Rattle.derivation.specs.Lines.{resolved};
-ghost use Rattle.derivation.specs.View.{first_word_of};
-ghost use Rattle.proof_check.specs.Lent.{lent_clauses};
+ghost use Rattle.inference.specs.Lent.{lent_clauses};
 ghost use Rattle.proof_words.specs.Written.{written_first};
 ghost use Rattle.resolution.specs.Trying.{clashing_word, partner_of, all_tried};
 ghost use Rattle.resolution.specs.View.{all_conclusions};
 ghost use Rattle.resolution.specs.Ways.{ways_of, is_tried, comes_of, IsStuck};
 
-use crate::conclusion::Conclusion;
-use crate::inferring::infer_of_many;
+use crate::conclusion::{Concluded, Conclusion};
 use crate::partners::{Candidate, ClashKind, Meetings};
 use derivation::{First, Satellite};
 use fol_core::Clause;
-use proof_check::can_clash;
+use inference::{can_clash, clash};
 use std::alloc::{AllocError, Global};
 
 /// A nucleus by its number, and the number of the given clause.
@@ -34,10 +31,8 @@ pub struct Taken<'a> {
 
 // The word of a step.
 fn word_for(alloc: Global, nucleus: Nucleus, satellites: &[Satellite]) -> Result<First, AllocError>
-    ensures word { IfOk result (λ f. written_first f
+    ensures { IfOk result (λ f. written_first f
         ≡ clashing_word nucleus.kind nucleus.number satellites.now) }
-    ensures meant { IfOk result (λ f. first_word_of f
-        ≡ resolved nucleus.number satellites.now) }
 {
     let all = Vec::from_slice(alloc, satellites)?;
     match nucleus.kind {
@@ -107,8 +102,14 @@ fn finish(
     if !used {
         return Ok(());
     }
-    let word = word_for(alloc, nucleus, taken.satellites.as_slice())?;
-    infer_of_many(alloc, word, taken.clauses.as_slice(), made)
+    let satellites = taken.satellites.as_slice();
+    let judged = clash(alloc, satellites, taken.clauses.as_slice())?;
+    let Some(clause) = Concluded::of(alloc, judged)? else {
+        return Ok(());
+    };
+    let first = word_for(alloc, nucleus, satellites)?;
+    made.push(Conclusion { clause, first })?;
+    Ok(())
 }
 
 /// Adds what comes of the satellites that are taken and all ways to go on.

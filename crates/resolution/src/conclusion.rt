@@ -1,12 +1,12 @@
 // A conclusion.
 ghost use Rattle.std.specs.Prelude.{◌≡◌, IfOk};
-ghost use Rattle.resolution.specs.View.{clause_of};
+ghost use Rattle.std.specs.Option.{option_map};
+ghost use Rattle.resolution.specs.View.{clause_of, judged_clause};
 
 use clause_limits::SmallClause;
 use derivation::First;
-use fol_core::Clause;
+use inference::{Judged, LargeClause};
 use std::alloc::{AllocError, Global};
-use term_unifiers::LargeClause;
 
 /// The clause of a conclusion: built, with its variables numbered, exactly where it isn't too large.
 #[derive(Drop)]
@@ -16,13 +16,15 @@ pub enum Concluded {
 }
 
 impl Concluded {
-    /// The clause with its variables numbered.
-    pub fn numbered(self, alloc: Global) -> Result<Clause, AllocError>
-        ensures { IfOk result (λ c. c ≡ clause_of self) }
+    /// What a rule comes to, without its parents, if that is a conclusion.
+    pub fn of(alloc: Global, judged: Judged) -> Result<Option<Concluded>, AllocError>
+        ensures { IfOk result (λ o. option_map clause_of o ≡ judged_clause judged.entry) }
     {
-        match self {
-            Concluded::Numbered(clause) => Ok(clause.into_clause()),
-            Concluded::Large(clause) => clause.numbered(alloc),
+        match judged {
+            Judged::Unfit => Ok(None),
+            Judged::Apart => Ok(None),
+            Judged::Small(clause) => Ok(Some(Concluded::Numbered(clause))),
+            Judged::Large(clause) => Ok(Some(Concluded::Large(clause.kept(alloc)?))),
         }
     }
 }

@@ -5,11 +5,11 @@ ghost use Rattle.prover_steps.specs.Clashing.{places_of, factors_of};
 ghost use Rattle.resolution.specs.Tries.{factor_at, factor_tried};
 ghost use Rattle.resolution.specs.View.{all_conclusions};
 
-use crate::conclusion::Conclusion;
-use crate::inferring::infer;
+use crate::conclusion::{Concluded, Conclusion};
 use crate::meeting::may_merge;
 use derivation::First;
 use held_clauses::Held;
+use inference::factor;
 use std::alloc::{AllocError, Global};
 
 // Adds what the clause gives where its literals at two places are made the same, if anything.
@@ -26,14 +26,13 @@ fn add_factor(
     if !may_merge(given.clause(), a, b) {
         return Ok(());
     }
-    let mut parents = Vec::new(alloc);
-    parents.push(given.clause().copy(alloc)?)?;
-    infer(
-        alloc,
-        First::Factor(given.number(), a, b),
-        parents.as_slice(),
-        made,
-    )
+    let judged = factor(alloc, a, b, given.clause())?;
+    let Some(clause) = Concluded::of(alloc, judged)? else {
+        return Ok(());
+    };
+    let first = First::Factor(given.number(), a, b);
+    made.push(Conclusion { clause, first })?;
+    Ok(())
 }
 
 // Where the second place is behind the first.

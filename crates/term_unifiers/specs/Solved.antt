@@ -1,9 +1,8 @@
--- What is found of unifiers and matches.
-use Rattle.std.specs.Prelude.{◌≡◌, Bool, true, false, List, Option, Some, None}
+-- What is found of unifiers.
+use Rattle.std.specs.Prelude.{◌≡◌}
 use Rattle.fol_core.specs.Literals.{ClauseTree}
-use Rattle.fol_core.specs.Substitutions.{Substitution, substitute}
-use Rattle.fol_core.specs.Tree.{Tree, Trees}
-use Rattle.substitutions.specs.Bindings.{Binding}
+use Rattle.fol_core.specs.Substitutions.{Substitution}
+use Rattle.fol_core.specs.Tree.{Trees}
 use Rattle.substitutions.specs.Instances.{substitute_clause}
 use Rattle.unifiers.specs.Unifier.{Unifies, IsMostGeneral}
 
@@ -14,12 +13,3 @@ IsUnified ss ts c d = (s : Substitution) × IsMostGeneral s ss ts × (d ≡ subs
 -- or nothing unifies
 abbrev pub HasNoUnifier : Trees → Trees → Type 0
 HasNoUnifier ss ts = (s : Substitution) → ¬ Unifies s ss ts
-
--- a match is found, with these bindings, or none is
-abbrev pub IsMatch : Bool → Option (List Binding) → List Binding → Type 0
-IsMatch true o bs = o ≡ Some bs
-IsMatch false o bs = o ≡ None
-
--- nothing makes of one term the other
-abbrev pub HasNoMatch : Tree → Tree → Type 0
-HasNoMatch s t = (u : Substitution) → ¬ (substitute u s ≡ t)

@@ -1,7 +1,8 @@
 // What of a list of terms fits another one, found by going through them all.
-use fol_core::{Clause, Term, Terms};
+use fol_core::{Term, Terms};
 use std::alloc::{AllocError, Global};
-use term_unifiers::{match_of, unify};
+use term_classes::Pairs;
+use term_matches::is_instance;
 
 /// Which numbers of terms are left.
 #[derive(Clone, Copy)]
@@ -63,11 +64,9 @@ pub fn all_linear(alloc: Global, terms: &[Term]) -> Result<Vec<Term>, AllocError
 
 // Whether terms without a variable of both unify.
 fn do_unify(alloc: Global, s: &Term, t: &Term) -> Result<bool, AllocError> {
-    let mut lefts = Terms::new(alloc);
-    lefts.push(s.copy(alloc)?)?;
-    let mut rights = Terms::new(alloc);
-    rights.push(t.copy(alloc)?)?;
-    Ok(unify(alloc, lefts, rights, Clause::new(alloc))?.is_some())
+    let mut pairs = Pairs::new(alloc, 1)?;
+    pairs.push(s, 0, t, 0)?;
+    Ok(pairs.unify()?.is_some())
 }
 
 /// What of those terms that are left fits a term that has none of their variables.
@@ -82,10 +81,10 @@ pub fn scanned(alloc: Global, terms: &[Term], left: Left, t: &Term) -> Result<Sc
         if !left.has(number) {
             continue;
         }
-        if match_of(alloc, s, t)?.is_some() {
+        if is_instance(alloc, s, t) {
             found.generalizations.push(number)?;
         }
-        if match_of(alloc, t, s)?.is_some() {
+        if is_instance(alloc, t, s) {
             found.instances.push(number)?;
         }
         if do_unify(alloc, s, t)? {

@@ -3,7 +3,7 @@ use Rattle.std.proofs.lemmas.List.{length-map}
 use Rattle.std.proofs.Common.{◌≡◌, ◌++◌, ◌∷◌, [], ◌||◌, ◌==◌, Bool, List, map, flat_map, ap, ap₂, sym, ◌∙◌, arith}
 use Rattle.fol_core.specs.Literals.{ClauseTree}
 use Rattle.derivation.specs.declared.words.Satellite.{Satellite}
-use Rattle.proof_check.specs.Lent.{lent_clauses}
+use Rattle.inference.specs.Lent.{lent_clauses}
 use Rattle.proof_words.specs.Written.{satellite}
 use Rattle.prover_steps.specs.Concluded.{Conclusion}
 use Rattle.resolution.specs.Trying.{clashing_word, partner_of, tried_at, all_tried}

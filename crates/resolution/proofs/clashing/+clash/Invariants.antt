@@ -1,6 +1,6 @@
 -- Fewer places are left; what is taken stays, and what the partners so far give is made.
 use Rattle.std.proofs.Common.{◌≡◌, ◌+◌, ◌*◌, ◌++◌, flat_map, take, length}
-use Rattle.proof_check.specs.Lent.{lent_clauses}
+use Rattle.inference.specs.Lent.{lent_clauses}
 use Rattle.resolution.specs.Trying.{partner_of, all_tried}
 use Rattle.resolution.specs.View.{all_conclusions}
 use Rattle.resolution.specs.declared.partners.Candidate.{Candidate}

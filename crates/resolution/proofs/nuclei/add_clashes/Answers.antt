@@ -1,5 +1,5 @@
 use Rattle.std.proofs.Common.{◌≡◌, [], ◌∷◌, ◌++◌, ap, ◌∙◌}
-use Rattle.proof_check.specs.Lent.{lent_clauses}
+use Rattle.inference.specs.Lent.{lent_clauses}
 use Rattle.resolution.specs.Trying.{all_tried}
 use Rattle.resolution.specs.View.{all_conclusions}
 use Rattle.resolution.proofs.AllWays.{clashes_given}

@@ -1,9 +1,0 @@
--- The first arguments are made.
-use Rattle.std.proofs.Common.{◌≡◌, map, take}
-use Rattle.fol_core.specs.Substitutions.{substitute}
-use Rattle.fol_core.specs.TermView.{tree_of}
-use Rattle.substitutions.specs.Apart.{interleaved}
-use Rattle.proof_check.proofs.apart.+term_apart.Given as goal
-
-abbrev pub invariant-loop-term : goal.invariant-loop-term
-invariant-loop-term l = l.made ≡ map (λ t. substitute (interleaved l.count l.parent) (tree_of t)) (take l.term-index l.term-items)

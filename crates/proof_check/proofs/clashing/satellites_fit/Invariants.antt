@@ -1,7 +1,0 @@
--- The clashes from here on decide.
-use Rattle.std.proofs.Common.{◌≡◌}
-use Rattle.proof_check.proofs.ClashSteps.{lent_fit}
-use Rattle.proof_check.proofs.clashing.satellites_fit.Given as goal
-
-abbrev pub invariant-loop-i : goal.invariant-loop-i
-invariant-loop-i l = lent_fit l.nucleus l.satellites l.others 0 ≡ lent_fit l.nucleus l.satellites l.others l.i

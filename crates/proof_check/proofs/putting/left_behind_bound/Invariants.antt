@@ -1,8 +1,0 @@
--- The bindings left decide.
-use Rattle.std.proofs.Common.{◌≡◌, drop, map}
-use Rattle.substitutions.specs.Bindings.{by_bindings}
-use Rattle.substitutions.specs.View.{binding_of}
-use Rattle.proof_check.proofs.putting.left_behind_bound.Given as goal
-
-abbrev pub invariant-loop-y : goal.invariant-loop-y
-invariant-loop-y l = by_bindings (map binding_of (drop l.y-index l.y-items)) l.x ≡ by_bindings l.bindings l.x
