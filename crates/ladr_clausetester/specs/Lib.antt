@@ -1,3 +1,4 @@
+pub mod Filtering
 pub mod Report
 pub mod Testing
 pub mod Verdicts

@@ -1,19 +1,12 @@
 -- Interpretations worked out.
-use Rattle.std.specs.Prelude.{ℕ, [], ◌∷◌, codes}
+use Rattle.std.specs.Prelude.{[], ◌∷◌, codes}
 use Rattle.fol_core.specs.Fol.{equal, atom, forall, exists}
-use Rattle.fol_core.specs.Meaning.{Meaning}
 use Rattle.fol_problem.specs.Stated.{Stated, stated, said}
 use Rattle.fol_core.specs.SymbolTable.{symbol}
 use Rattle.fol_core.specs.Tree.{Tree, var, app, none, more}
 use Rattle.fol_problem.specs.declared.problem.Role.TheVariants.{Assumption, Goal}
 use Rattle.fol_core.specs.declared.symbols.Kind.TheVariants.{Function, Relation}
 use Rattle.ladr_commands.specs.ByName.{ByName, by_name, table}
-use Rattle.ladr_interpretations.specs.Good.{tables_for}
-use Rattle.model_tables.specs.Tables.{meaning_of}
-
--- an interpretation by names, by its tables for the symbols of what is stated
-abbrev pub meaning_in : Stated → ByName → Meaning
-meaning_in p it = meaning_of (tables_for it p.symbols)
 
 abbrev pub f : Tree → Tree
 f t = app 0 (more t none)
@@ -27,6 +20,10 @@ involution =
 
 abbrev pub exchange : ByName
 exchange = by_name 2 (table Function (codes "f") 1 (1 ∷ 0 ∷ []) ∷ [])
+
+-- and one that isn't its own inverse
+abbrev pub collapse : ByName
+collapse = by_name 2 (table Function (codes "f") 1 (0 ∷ 0 ∷ []) ∷ [])
 
 abbrev pub g : Tree → Tree
 g t = app 1 (more t none)

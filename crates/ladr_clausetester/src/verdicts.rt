@@ -1,16 +1,13 @@
 // The truth of the formulas of an input.
-ghost use Rattle.std.specs.Prelude.{◌≡◌, ◌∷◌, [], IfOk, MatchBool, length};
+ghost use Rattle.std.specs.Prelude.{IfOk, MatchBool};
 ghost use Rattle.fol_core.specs.FormulaView.{fol_of};
 ghost use Rattle.fol_problem.specs.Stated.{IsTrueIn, all_said, stated_of};
-ghost use Rattle.ladr_clausetester.specs.Verdicts.{AreTrueAsTold};
-ghost use Rattle.ladr_commands.specs.ByName.{ByName};
-ghost use Rattle.ladr_interpretations.specs.Good.{tables_for};
+ghost use Rattle.ladr_clausetester.specs.Verdicts.{AreTrueAsTold, meaning_in};
 ghost use Rattle.model_tables.specs.Tables.{meaning_of};
 
 use fol_core::{Formula, free_vars};
-use fol_problem::Input;
-use ladr_interpretations::bind;
-use ladr_problem::FileRead;
+use fol_problem::{Input, Problem};
+use ladr_interpretations::{Named, bind};
 use model_tables::{Env, Tables, closure_truth, reserve_closure};
 use std::alloc::{AllocError, Global};
 
@@ -44,13 +41,11 @@ fn hold(alloc: Global, tables: &Tables, inputs: &[Input]) -> Result<Vec<bool>, A
     Ok(all)
 }
 
-/// Whether each formula of an input is true in its interpretation.
-pub fn verdicts(alloc: Global, read: &FileRead) -> Result<Vec<bool>, AllocError>
-    requires { length read.now.interpretations ≡ 1 }
-    ensures { IfOk result (λ all. (it : ByName) → read.now.interpretations ≡ it ∷ []
-        → AreTrueAsTold (meaning_of (tables_for it read.now.problem.symbols))
-        (stated_of read.now.problem).formulas all.items) }
+/// Whether each formula of a problem is true in an interpretation.
+pub fn verdicts(alloc: Global, problem: &Problem, named: &Named) -> Result<Vec<bool>, AllocError>
+    ensures { IfOk result (λ all. AreTrueAsTold (meaning_in (stated_of problem.now) named.now)
+        (stated_of problem.now).formulas all.items) }
 {
-    let tables = bind(alloc, read.interpretations.at(0), &read.problem.symbols)?;
-    hold(alloc, &tables, &read.problem.inputs)
+    let tables = bind(alloc, named, &problem.symbols)?;
+    hold(alloc, &tables, &problem.inputs)
 }

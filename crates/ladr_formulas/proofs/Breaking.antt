@@ -14,7 +14,7 @@ use Rattle.ladr_lex.specs.Misuses.{misuse_row, earlier}
 use Rattle.ladr_lex.specs.Numeral.{is_numeral, limited_number_of}
 use Rattle.ladr_lex.specs.declared.limits.TheConstants.{MOST_ELEMENT}
 use Rattle.ladr_lex.specs.declared.misuse.Misuse.{Misuse}
-use Rattle.ladr_lex.specs.declared.misuse.Misuse.TheVariants.{UnknownFlag, UnknownParameter, UnfitValue, UnknownList, UnfitOperator, UnfitSymbol, TooLate, UnmatchedIf, TwoKinds, VariableAsFormula, QuantifierInTerm, UnfitAttribute, UnfitHint, UnfitDemodulator, UnfitRule, UnfitNumeral, UnfitInterpretation, Uncovered}
+use Rattle.ladr_lex.specs.declared.misuse.Misuse.TheVariants.{UnknownFlag, UnknownParameter, UnfitValue, UnknownList, UnfitOperator, UnfitSymbol, TooLate, UnmatchedIf, TwoKinds, VariableAsFormula, QuantifierInTerm, UnfitAttribute, UnfitHint, UnfitDemodulator, UnfitRule, UnfitNumeral, UnfitInterpretation, Uncovered, VariableAmongNames}
 use Rattle.ladr_formulas.specs.Counting.{names_bound}
 use Rattle.ladr_formulas.specs.Broken.{broken_if, broken_by_term, broken_by_terms, broken_by_relation, broken_by_compared, broken_by_formula, broken_by_symbols, broken, broken_outside, least_of}
 use Rattle.ladr_formulas.specs.Formulas.{Reading, Made, Bound, Style, meets, bound_number, free_number, is_variable, with_variable, variable_number, reading_with_name, named_variable, with_symbol, symbol_number, arity_of, is_too_great, is_element, constant_as, term_of, terms_of, relation_of, sentence_as, equation_read, under, is_denial, connective_of, connective_read, joined_by, by_connective, comparison, formula_in, unread, formula_reading}
@@ -29,11 +29,11 @@ use Rattle.ladr_formulas.proofs.OrderLemmas.{same_variable}
 
 -- the row of a misuse, or a greater number
 abbrev low : Option Misuse → ℕ
-low None = 19
+low None = 20
 low (Some m) = misuse_row m
 
 abbrev lowest : List Misuse → ℕ
-lowest [] = 19
+lowest [] = 20
 lowest (m ∷ ms) = min (misuse_row m) (lowest ms)
 
 abbrev misuse_at : ℕ → Option Misuse
@@ -55,12 +55,13 @@ misuse_at n =
     else (if n == 15 then Some UnfitRule
     else (if n == 16 then Some UnfitNumeral
     else (if n == 17 then Some UnfitInterpretation
-    else (if n == 18 then Some Uncovered else None)))))))))))))))))
+    else (if n == 18 then Some Uncovered
+    else (if n == 19 then Some VariableAmongNames else None))))))))))))))))))
 
 -- a misuse is told by its row
 record IsAtRow (m : Misuse) : Type 0 where
   told : misuse_at (misuse_row m) ≡ Some m
-  small : misuse_row m ≤ 18
+  small : misuse_row m ≤ 19
 
 at_row : (m : Misuse) → IsAtRow m
 at_row UnknownFlag = record { told = refl; small = omega arith }
@@ -81,6 +82,7 @@ at_row UnfitRule = record { told = refl; small = omega arith }
 at_row UnfitNumeral = record { told = refl; small = omega arith }
 at_row UnfitInterpretation = record { told = refl; small = omega arith }
 at_row Uncovered = record { told = refl; small = omega arith }
+at_row VariableAmongNames = record { told = refl; small = omega arith }
 
 low_told : (o : Option Misuse) → misuse_at (low o) ≡ o
 low_told None = refl
@@ -101,7 +103,7 @@ low_least : (ms : List Misuse) → low (least_of ms) ≡ lowest ms
 low_least [] = refl
 low_least (m ∷ ms) = low_earlier m (least_of ms) ∙ ap (min (misuse_row m)) (low_least ms)
 
-lowest_small : (ms : List Misuse) → lowest ms ≤ 19
+lowest_small : (ms : List Misuse) → lowest ms ≤ 20
 lowest_small [] = omega arith
 lowest_small (m ∷ ms) = let s = lowest_small ms in omega (arith, s)
 
@@ -109,7 +111,7 @@ lowest_both : (ms ns : List Misuse) → lowest (ms ++ ns) ≡ min (lowest ms) (l
 lowest_both [] ns = let s = lowest_small ns in omega (arith, s)
 lowest_both (m ∷ ms) ns = let e = lowest_both ms ns in omega (arith, e)
 
-low_small : (o : Option Misuse) → low o ≤ 19
+low_small : (o : Option Misuse) → low o ≤ 20
 low_small None = omega arith
 low_small (Some m) = let s = (at_row m).small in omega (arith, s)
 
@@ -122,9 +124,9 @@ low_met false row s = let k = low_small s.least in omega (arith, k)
 
 -- a row where a test says so, and a greater number else
 abbrev row_if : ℕ → Bool → ℕ
-row_if n b = if b then n else 19
+row_if n b = if b then n else 20
 
-or_row : (n : ℕ) → n ≤ 19 → (a b : Bool) → row_if n (a || b) ≡ min (row_if n a) (row_if n b)
+or_row : (n : ℕ) → n ≤ 20 → (a b : Bool) → row_if n (a || b) ≡ min (row_if n a) (row_if n b)
 or_row n h true true = omega (arith, h)
 or_row n h true false = omega (arith, h)
 or_row n h false true = omega (arith, h)

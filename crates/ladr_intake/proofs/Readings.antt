@@ -1,8 +1,7 @@
 -- What the bytes say is what the code has read.
-use Rattle.std.proofs.Common.{◌≡◌, ℕ, List, [], ◌∷◌, Result, inl, map, ap, ap₂, sym, subst, ◌∙◌}
+use Rattle.std.proofs.Common.{◌≡◌, ℕ, List, Result, inl, map, ap, ap₂, sym, subst, ◌∙◌}
 use Rattle.std.specs.Prelude.{IfErr, IsErrAnd}
 use Rattle.fol_problem.specs.Stated.{Stated, said, stated, stated_of, all_said}
-use Rattle.ladr_commands.specs.ByName.{ByName}
 use Rattle.ladr_intake.proofs.Commands.{none_taken, read_taken}
 use Rattle.ladr_intake.specs.Input.{IsAllRead}
 use Rattle.ladr_intake.specs.Posed.{Posed, poses, interprets, posed_by, interpreted_by}
@@ -10,7 +9,6 @@ use Rattle.ladr_intake.specs.Refusals.{IsNoInput, IsNoneTaken, IsToldBy, refuses
 use Rattle.ladr_intake.specs.declared.stops.Refused.{Refused}
 use Rattle.ladr_intake.specs.declared.stops.Refused.TheVariants.{Unreadable, Misuse, TooLarge}
 use Rattle.ladr_intake.specs.declared.stops.Stop.{Stop}
-use Rattle.ladr_interpretations.specs.Good.{tables_for}
 use Rattle.ladr_io.specs.Streams.{Inflow, Outflow}
 use Rattle.ladr_problem.proofs.Good.{said_same}
 use Rattle.ladr_options.specs.declared.options.Options.{Options}
@@ -34,8 +32,8 @@ same_stated s r of = sym (λ i. stated (of.symbols i) (same_said s r of i))
 pub poses_read : (m : Mode) (bytes : List ℕ) (r : FileRead) → (s : Sofar) × Says m bytes (problem s) × IsOf s r → poses m bytes (posed_by r)
 poses_read m bytes r h = (h.0, h.1, same_stated h.0 r h.2, sym h.2.options)
 
-pub interprets_read : (bytes : List ℕ) (r : FileRead) (it : ByName) → r.interpretations ≡ it ∷ [] → (s : Sofar) × Says Tester bytes (problem s) × IsOf s r → interprets bytes (interpreted_by r it)
-interprets_read bytes r it e h = (h.0, h.1, same_stated h.0 r h.2, (it, sym h.2.interpretations ∙ e, ap (tables_for it) (sym h.2.symbols)))
+pub interprets_read : (bytes : List ℕ) (r : FileRead) → (s : Sofar) × Says Tester bytes (problem s) × IsOf s r → interprets bytes (interpreted_by r)
+interprets_read bytes r h = (h.0, h.1, same_stated h.0 r h.2, sym h.2.interpretations)
 
 -- bytes that were read whole are refused to a program for what they say, or memory was lacking
 error_stops : (m : Mode) (a b : Inflow) (bytes : List ℕ) (e : ReadError) → IsAllRead a b bytes → IsReadError m bytes e → IsNoInput (refuses m) a b bytes (stop_of_error e)

@@ -1,3 +1,4 @@
 pub mod Covers
 pub mod Good
+pub mod NamedText
 pub mod Worked

@@ -79,6 +79,13 @@ impl Named {
         self.read.size()
     }
 
+    /// The entries in the order read.
+    pub fn entries(&self) -> &[TableEntry]
+        ensures { result.now ≡ self.now.entries }
+    {
+        self.read.entries()
+    }
+
     // The values of the entry for a symbol's name, arity and kind, none where there is no such entry.
     fn values_for(&self, name: &[u8], arity: u64, kind: Kind) -> &[u32]
         ensures { result.now ≡ values_for self.now.entries (symbol name.now arity kind) }

@@ -1,7 +1,7 @@
 -- The rows of misuse.
 use Rattle.std.specs.Prelude.{ℕ, nat_lt, Option, Some, None, if◌then◌else◌}
 use Rattle.ladr_lex.specs.declared.misuse.Misuse.{Misuse}
-use Rattle.ladr_lex.specs.declared.misuse.Misuse.TheVariants.{UnknownFlag, UnknownParameter, UnfitValue, UnknownList, UnfitOperator, UnfitSymbol, TooLate, UnmatchedIf, TwoKinds, VariableAsFormula, QuantifierInTerm, UnfitAttribute, UnfitHint, UnfitDemodulator, UnfitRule, UnfitNumeral, UnfitInterpretation, Uncovered}
+use Rattle.ladr_lex.specs.declared.misuse.Misuse.TheVariants.{UnknownFlag, UnknownParameter, UnfitValue, UnknownList, UnfitOperator, UnfitSymbol, TooLate, UnmatchedIf, TwoKinds, VariableAsFormula, QuantifierInTerm, UnfitAttribute, UnfitHint, UnfitDemodulator, UnfitRule, UnfitNumeral, UnfitInterpretation, Uncovered, VariableAmongNames}
 
 -- the number of a misuse's row
 abbrev pub misuse_row : Misuse → ℕ
@@ -23,6 +23,7 @@ misuse_row UnfitRule = 15
 misuse_row UnfitNumeral = 16
 misuse_row UnfitInterpretation = 17
 misuse_row Uncovered = 18
+misuse_row VariableAmongNames = 19
 
 -- the one of the lesser row, of a misuse and another, if there is another
 abbrev pub earlier : Misuse → Option Misuse → Misuse

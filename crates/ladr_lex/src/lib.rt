@@ -32,7 +32,7 @@ pub use language::Language;
 pub use laws::{
     one_cutting, one_numeral, one_operator, worked, worked_clauses, worked_items, worked_operators,
 };
-pub use limits::{MOST_ARGUMENTS, MOST_BYTES, MOST_ELEMENT, MOST_LEVELS, MOST_SYMBOLS};
+pub use limits::{MOST_ARGUMENTS, MOST_BYTES, MOST_ELEMENT, MOST_LEVELS, MOST_NAMES, MOST_SYMBOLS};
 pub use misuse::Misuse;
 pub use numeral::{is_numeral, number, whole_number};
 pub use operators::{DeclareError, Operator, OperatorKind, Ops};

@@ -41,6 +41,8 @@ pub enum Misuse {
     UnfitInterpretation,
     /// A formula that the interpretation doesn't cover, or no interpretation.
     Uncovered,
+    /// A variable among names that are to differ.
+    VariableAmongNames,
 }
 
 impl Misuse {
@@ -67,6 +69,7 @@ impl Misuse {
             Misuse::UnfitNumeral => 16,
             Misuse::UnfitInterpretation => 17,
             Misuse::Uncovered => 18,
+            Misuse::VariableAmongNames => 19,
         }
     }
 

@@ -2,8 +2,9 @@
 use Rattle.std.proofs.Common.{◌≡◌, ℕ, ◌<◌, ◌==◌, Bool, true, false, if◌then◌else◌, List, [], ◌∷◌, length, map, refl, ap}
 use Rattle.fol_core.specs.SymbolTable.{Symbol}
 use Rattle.ladr_commands.specs.ByName.{NamedTable, table}
+use Rattle.ladr_interpretations.specs.NamedText.{table_text}
 use Rattle.ladr_problem.specs.Names.{is_name}
-use Rattle.model_tables.specs.ModelText.{entry_text, entries_of}
+use Rattle.model_tables.specs.ModelText.{entries_of}
 use Rattle.model_tables.specs.Size.{AllBelow}
 use Rattle.model_tables.specs.Tables.{Listing}
 
@@ -12,9 +13,6 @@ abbrev pub named : List Symbol → List Listing → List NamedTable
 named [] ls = []
 named (s ∷ ss) [] = []
 named (s ∷ ss) (l ∷ ls) = if length l.values == 0 then named ss ls else table l.kind s.name s.arity l.values ∷ named ss ls
-
-abbrev pub table_text : NamedTable → List ℕ
-table_text e = entry_text e.head.name e.head.arity e.head.kind e.values
 
 texts_step : (empty : Bool) (e : NamedTable) (es : List NamedTable) (bs : List (List ℕ)) → bs ≡ map table_text es
     → (if empty then bs else table_text e ∷ bs) ≡ map table_text (if empty then es else e ∷ es)

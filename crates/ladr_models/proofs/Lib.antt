@@ -1,4 +1,6 @@
+pub mod Again
 pub mod Entries
+pub mod Interpreted
 pub mod Parsing
 pub mod Reading
 pub mod Restating

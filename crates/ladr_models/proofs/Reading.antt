@@ -10,7 +10,8 @@ use Rattle.ladr_lex.specs.Cuts.{pieces_of, Cuts}
 use Rattle.ladr_lex.specs.Lexeme.{Lexeme, lexeme_of, lexemes_of}
 use Rattle.ladr_lex.specs.declared.token.Token.{Token}
 use Rattle.ladr_lex.proofs.Unique.{cut_once}
-use Rattle.ladr_models.proofs.Entries.{named, table_text, texts_are}
+use Rattle.ladr_interpretations.specs.NamedText.{table_text}
+use Rattle.ladr_models.proofs.Entries.{named, texts_are}
 use Rattle.ladr_models.proofs.Parsing.{all_said, tester_said}
 use Rattle.ladr_models.proofs.Tabling.{found_differ, rows_back, all_new, all_filled, all_plain}
 use Rattle.ladr_models.proofs.Writing.{all_tokens, whole_text, whole_written}

@@ -177,11 +177,11 @@ all_filled n (s ∷ ss) [] a = refl
 all_filled n (s ∷ ss) (l ∷ ls) a = one_filled (length l.values == 0) n s a.0.0 l (named ss ls) refl a.0.1 (all_filled n ss ls a.1)
 
 -- and can be printed
-small_bound : (n : ℕ) (kind : Kind) → n ≤ 200 → bound_of n kind ≤ 1000000000
+pub small_bound : (n : ℕ) (kind : Kind) → n ≤ 200 → bound_of n kind ≤ 1000000000
 small_bound n Function h = omega (arith, h)
 small_bound n Relation h = omega arith
 
-all_small : (b : ℕ) (xs : List ℕ) → b ≤ 1000000000 → AllBelow b xs → AllBelow 1000000000 xs
+pub all_small : (b : ℕ) (xs : List ℕ) → b ≤ 1000000000 → AllBelow b xs → AllBelow 1000000000 xs
 all_small b [] l h = tt
 all_small b (x ∷ xs) l h = (omega (arith, h.0, l), all_small b xs l h.1)
 

@@ -12,7 +12,8 @@ use Rattle.ladr_lex.specs.Lexeme.{Sort, ordinary, quoted, special, Lexeme, lexem
 use Rattle.ladr_lex.specs.declared.token.TokenKind.{TokenKind}
 use Rattle.ladr_lex.specs.declared.token.TokenKind.TheVariants.{LeftSquare, RightSquare, Ordinary, Special}
 use Rattle.ladr_lex.proofs.Numerals.{ordinary_decimal}
-use Rattle.ladr_models.proofs.Entries.{table_text, IsPlain, ArePlain}
+use Rattle.ladr_interpretations.specs.NamedText.{table_text}
+use Rattle.ladr_models.proofs.Entries.{IsPlain, ArePlain}
 use Rattle.ladr_problem.specs.Names.{is_name}
 use Rattle.ladr_print.specs.Spacing.{runs_into}
 use Rattle.ladr_print.proofs.Longest.{longest_front}

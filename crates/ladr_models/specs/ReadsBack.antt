@@ -46,6 +46,21 @@ pub record SayTables (tokens : List Lexeme) (symbols : List Symbol) (t : Finite)
   pub good : IsTrue (is_good read)
   pub tables : tables_for read symbols ≡ t
 
+-- The tokens are this interpretation by names and nothing else, also among the commands of the
+-- program that tests interpretations; it is one.
+pub record SayNamed (tokens : List Lexeme) (it : ByName) : Type 0 where
+  pub says : SaysCommand interpretation_item tokens (Interpretation it)
+  pub only : (c : Command) → SaysCommand interpretation_item tokens c → c ≡ Interpretation it
+  pub command : SaysCommand tester_commands tokens (Interpretation it)
+  pub good : IsTrue (is_good it)
+
+-- The text is cut into tokens, in one way, and these say the interpretation.
+pub record ReadsAs (text : List ℕ) (it : ByName) : Type 0 where
+  pub pieces : List Piece
+  pub cuts : Cuts 0 text pieces
+  pub only : (others : List Piece) → Cuts 0 text others → others ≡ pieces
+  pub say : SayNamed (lexemes_in pieces) it
+
 -- The text is cut into tokens, in one way, and these say the tables.
 pub record ReadsBack (text : List ℕ) (symbols : List Symbol) (t : Finite) : Type 0 where
   pub pieces : List Piece

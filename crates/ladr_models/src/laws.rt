@@ -1,5 +1,6 @@
 // Laws of the texts of interpretations and formulas: the functions do nothing, and their contracts are the laws.
-ghost use Rattle.std.specs.Prelude.{◌≡◌, ℕ, List, [], ◌∷◌, IsTrue, codes};
+ghost use Rattle.std.specs.Prelude.{◌≡◌, ◌<◌, ◌^◌, ℕ, List, [], ◌∷◌, IsTrue, codes};
+ghost use Rattle.std.specs.List.{AllByRecursion};
 ghost use Rattle.fol_core.specs.SymbolTable.{Symbol};
 ghost use Rattle.ladr_commands.specs.ByName.{by_name};
 ghost use Rattle.ladr_commands.specs.Commands.{interpretation_item};
@@ -11,10 +12,12 @@ ghost use Rattle.ladr_lex.specs.declared.token.Token.{Token};
 ghost use Rattle.ladr_formulas.specs.declared.styles.Mode.{Mode};
 ghost use Rattle.ladr_lex.specs.Operators.{are_lawful};
 ghost use Rattle.ladr_models.specs.Printed.{formula_texts, StateThemselves};
-ghost use Rattle.ladr_models.specs.ReadsBack.{IsPrintable, ReadsBack, SayTables};
+ghost use Rattle.ladr_models.specs.ReadsBack.{IsPrintable, ReadsAs, ReadsBack, SayTables};
 ghost use Rattle.ladr_models.specs.Worked.{pair, pair_tables, pair_text, pair_tokens, pair_entries};
 ghost use Rattle.ladr_interpretations.specs.Good.{is_good, tables_for};
+ghost use Rattle.ladr_interpretations.specs.NamedText.{named_text};
 ghost use Rattle.ladr_print.specs.StatesAs.{KeepsFixed};
+ghost use Rattle.ladr_problem.specs.File.{Says, problem};
 ghost use Rattle.ladr_problem.specs.Growth.{Grown};
 ghost use Rattle.ladr_problem.specs.Sofar.{Sofar};
 ghost use Rattle.ladr_problem.specs.Worked.{labelled_and_goal};
@@ -30,6 +33,14 @@ pub fn texts_read_back()
     ensures tokens { (n k : ℕ) (symbols : List Symbol) (t : Finite) (ts : List Token)
         → IsPrintable n k symbols t → Cuts 0 (model_text symbols k t) (pieces_of ts)
         → SayTables (lexemes_of ts) symbols t }
+{}
+
+/// What is written of an interpretation of a file, by any number that the code can print, reads back as this interpretation:
+/// with the names and the entries that were read.
+pub fn interpretations_read_back()
+    ensures { (m : Mode) (bytes : List ℕ) (s : Sofar) → Says m bytes (problem s)
+        → AllByRecursion (λ it. (k : ℕ) → k < 2 ^ 64 → ReadsAs (named_text it k) it)
+        s.settings.interpretations }
 {}
 
 /// Each formula of what has grown is what its printed text says behind the symbols at the end, with the operators and the style

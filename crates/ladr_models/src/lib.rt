@@ -3,7 +3,8 @@
 // of which `ladr_interpretations` gives back the tables; one is worked out. `specs/ReadsBack` says which tables that
 // holds of, and what it is to read back. A text above 16,777,216 bytes has tokens too, which `ladr_lex` refuses to
 // make: the law says nothing of that limit. In `proofs/`, `Writing` finds the tokens of the text, `Parsing` what they
-// say, `Tabling` what tables come of it.
+// say, `Tabling` what tables come of it. An interpretation of a file, written again as it was read, reads back as it:
+// its names are symbols of the language (`Named`), as those of a problem's symbols are.
 // Formulas: each formula and hint of a file, printed with the operators and symbols at the file's end, is stated by its
 // text behind these symbols (`specs/Printed`). Operators and the style of variables can't be changed once a list was
 // opened, so those at the end are those that every formula was read with (`proofs/Settled`); what is kept of a formula
@@ -12,4 +13,4 @@
 
 mod laws;
 
-pub use laws::{formulas_state_themselves, texts_read_back, worked};
+pub use laws::{formulas_state_themselves, interpretations_read_back, texts_read_back, worked};

@@ -45,14 +45,14 @@ use Rattle.ladr_settings.specs.declared.lists.OpenList.TheVariants.{Formulas, We
 use Rattle.ladr_settings.specs.declared.settings.Settings.{Settings}
 
 -- the tokens of each item are written so, and those of them all are few
-abbrev AreWritten : List Lexeme → Type 0
+abbrev pub AreWritten : List Lexeme → Type 0
 AreWritten ts = list_all is_written ts ≡ true
 
-abbrev AllWritten : List (List Piece) → Type 0
+abbrev pub AllWritten : List (List Piece) → Type 0
 AllWritten [] = Unit {0}
 AllWritten (item ∷ items) = AreWritten (lexemes item) × AllWritten items
 
-cut_written : (ps : List Piece) → lexemes ps ≡ lexemes_in ps
+pub cut_written : (ps : List Piece) → lexemes ps ≡ lexemes_in ps
 cut_written [] = refl
 cut_written (p ∷ ps) = ap (λ (ts : List Lexeme). lexeme p.kind p.text ∷ ts) (cut_written ps)
 
@@ -60,7 +60,7 @@ front_written : (p : Piece) (items : List (List Piece)) → AreWritten (lexemes 
 front_written p [] h k = (h, tt)
 front_written p (item ∷ items) h k = (and_from _ _ (and_parts _ _ h).0 k.0, k.1)
 
-items_written : (ps : List Piece) → AreWritten (lexemes ps) → AllWritten (items_of ps)
+pub items_written : (ps : List Piece) → AreWritten (lexemes ps) → AllWritten (items_of ps)
 items_written [] h = tt
 items_written (p ∷ ps) h = by (is_stop_kind p.kind) (items_written ps (and_parts _ _ h).1)
   where
@@ -111,14 +111,6 @@ grown_opened m _ (changes t g f ranged) meant some = f.opened meant some
 grown_opened m _ (states {s} list byte t g listed of none) meant some = listed
 grown_opened m _ (weighs {s} t r g of) meant some = grown_opened m s g meant some
 grown_opened m _ (weighs_name {s} t r g e once) meant some = grown_opened m s g meant some
-
--- there is one interpretation at most
-pub grown_single : (m : Mode) (s : Sofar) → Grown m s → length s.settings.interpretations ≤ 1
-grown_single m _ nothing = omega arith
-grown_single m _ (changes {s} t g f ranged) = f.single (grown_single m s g)
-grown_single m _ (states {s} list byte t g listed of none) = grown_single m s g
-grown_single m _ (weighs {s} t r g of) = grown_single m s g
-grown_single m _ (weighs_name {s} t r g e once) = grown_single m s g
 
 -- a choice, and what is there or isn't
 by_test : (Q : Sofar → Type 0) (b : Bool) (x y : Result Sofar Refusal) → (b ≡ true → IfOk x Q) → (b ≡ false → IfOk y Q) → IfOk (if b then x else y) Q

@@ -284,9 +284,9 @@ pub fn read_problem(alloc: Global, program: Mode, bytes: &[u8]) -> Result<FileRe
     ensures tellable { IfOk result (λ r. AreTellable r.problem.symbols) }
     // Its goals ask for what may be asked of them.
     ensures asks { IfOk result (λ r. AreLive r.problem.inputs.items) }
-    // Its options have values of theirs, and a program that tests interpretations has one.
+    // Its options have values of theirs, and a program that tests interpretations has some.
     ensures ranged { IfOk result (λ r. AreInRange r.problem.options) }
-    ensures interpreted { program ≡ Tester → IfOk result (λ r. length r.interpretations ≡ 1) }
+    ensures interpreted { program ≡ Tester → IfOk result (λ r. 0 < length r.interpretations) }
     ensures refused { IfErr result (IsReadError program bytes.now) }
 {
     if bytes.len() as u64 > MOST_BYTES {

@@ -37,3 +37,4 @@ pub use laws::{
     worked_terms,
 };
 pub use read::{read_literals, read_marked, read_term, read_tree};
+pub use roles::quantifier_of;

@@ -1,12 +1,11 @@
 -- Commands keep the operators lawful; once a list was opened, they keep the operators and the style of variables.
-use Rattle.std.proofs.Common.{◌≡◌, ℕ, ◌≤◌, Bool, true, false, List, [], ◌∷◌, ◌++◌, Option, Some, None, is_some, Result, Ok, Err, IfOk, not, ◌&&◌, ◌||◌, nat_lt, length, if◌then◌else◌, inl, inr, refl, sym, ap, ◌∙◌, subst, arith}
+use Rattle.std.proofs.Common.{◌≡◌, ℕ, Bool, true, false, List, [], ◌∷◌, ◌++◌, Option, Some, None, is_some, Result, Ok, Err, IfOk, not, ◌&&◌, ◌||◌, nat_lt, length, if◌then◌else◌, inl, inr, refl, sym, ap, ◌∙◌, subst, arith}
 use Rattle.std.specs.Prelude.{codes, unwrap_or, is_none}
 use Rattle.std.specs.List.{list_any}
 use Rattle.std.specs.Option.{option_map_or}
 use Rattle.std.specs.Str.{bytes_eq}
 use Rattle.std.proofs.lemmas.Bool.{false≢true, cases_Bool}
 use Rattle.std.proofs.lemmas.Bool.Decides.{nat_tests}
-use Rattle.std.proofs.lemmas.List.{length-append}
 use Rattle.std.proofs.lemmas.Slice.Eq.{bytes_eq-Decides}
 use Rattle.fol_core.specs.NamesOnce.{are_apart}
 use Rattle.ladr_commands.specs.declared.command.Command.{Command}
@@ -199,7 +198,7 @@ module _ (m : Mode) (a : Settings) (closed : a.list ≡ None) where
   choice false r q h k = k
 
   options_follow : (row : OptionError → Misuse) (made : Result Options OptionError) → (a.listed ≡ true → IfOk made (KeepsStyle a.options)) → (IsCounted a.options → IfOk made IsCounted) → IfOk (with_options a row made) F
-  options_follow row (Ok o) h count = record { lawful = λ l. l; fixed = λ k. k; operators = λ l. refl; styled = λ l. h l; rises = λ l. l; opened = none_open (record a { options = o }) closed; counted = count; single = λ n. n }
+  options_follow row (Ok o) h count = record { lawful = λ l. l; fixed = λ k. k; operators = λ l. refl; styled = λ l. h l; rises = λ l. l; opened = none_open (record a { options = o }) closed; counted = count }
   options_follow row (Err e) h count = tt
 
   flag_follows : (on : Bool) (name : List ℕ) → IfOk (if is_late_style name a then Err TooLate else with_options a flag_misuse (flagged name on a.options)) F
@@ -232,7 +231,6 @@ module _ (m : Mode) (a : Settings) (closed : a.list ≡ None) where
         rises = λ l. l;
         opened = none_open named closed;
         counted = λ c. c;
-        single = λ n. n;
       }
 
       symbols : (b : Bool) → list_any is_unfit_symbol names ≡ b → (nat_lt 0 (length names) && is_unfit_operator p type) ≡ false
@@ -246,8 +244,8 @@ module _ (m : Mode) (a : Settings) (closed : a.list ≡ None) where
       fitted false e = symbols (list_any is_unfit_symbol names) refl e
 
   -- the operators and options are as they were, and so is whether a list was opened
-  same : (b : Settings) → b.operators ≡ a.operators → b.options ≡ a.options → b.listed ≡ a.listed → b.list ≡ None → (length a.interpretations ≤ 1 → length b.interpretations ≤ 1) → F b
-  same b operators options listed none single = record {
+  same : (b : Settings) → b.operators ≡ a.operators → b.options ≡ a.options → b.listed ≡ a.listed → b.list ≡ None → F b
+  same b operators options listed none = record {
     lawful = λ h. subst (λ (rows : List OperatorRow). are_lawful rows ≡ true) (sym operators) h;
     fixed = λ k. subst KeepsFixed (sym operators) k;
     operators = λ l. operators;
@@ -255,47 +253,40 @@ module _ (m : Mode) (a : Settings) (closed : a.list ≡ None) where
     rises = λ l. listed ∙ l;
     opened = none_open b none;
     counted = λ c. subst IsCounted (sym options) c;
-    single = single;
   }
 
   opening_follows : (list : OpenList) → IfOk (after_opening list a) F
-  opening_follows list = choice (is_other list) (Err UnknownList) _ tt (record { lawful = λ h. h; fixed = λ k. k; operators = λ l. refl; styled = λ l. refl; rises = λ l. refl; opened = λ meant some. refl; counted = λ c. c; single = λ n. n })
+  opening_follows list = choice (is_other list) (Err UnknownList) _ tt (record { lawful = λ h. h; fixed = λ k. k; operators = λ l. refl; styled = λ l. refl; rises = λ l. refl; opened = λ meant some. refl; counted = λ c. c })
 
   meant_follows : (c : Command) → IfOk (after_meant c a) F
   meant_follows (command.Flag on name) = flag_follows on name
   meant_follows (command.Assign name v) = value_follows name v
   meant_follows (command.Op p type names) = operators_follow p type names
-  meant_follows (command.FunctionOrder names) = choice (are_apart names) (Ok (record a { function_order = names })) (Err UnfitRule) (same (record a { function_order = names }) refl refl refl closed (λ n. n)) tt
-  meant_follows (command.PredicateOrder names) = same a refl refl refl closed (λ n. n)
+  meant_follows (command.FunctionOrder names) = choice (are_apart names) (Ok (record a { function_order = names })) (Err UnfitRule) (same (record a { function_order = names }) refl refl refl closed) tt
+  meant_follows (command.PredicateOrder names) = same a refl refl refl closed
   meant_follows (command.Formulas name) = opening_follows (formulas_opened name)
   meant_follows (command.List name) = opening_follows (rules_opened name)
-  meant_follows (command.If name) = choice (is_some a.block) (Err UnmatchedIf) (Ok (record a { block = Some name })) tt (same (record a { block = Some name }) refl refl refl closed (λ n. n))
-  meant_follows command.EndIf = choice (is_some a.block) (Ok (record a { block = None })) (Err UnmatchedIf) (same (record a { block = None }) refl refl refl closed (λ n. n)) tt
-  meant_follows (command.Interpretation it) = by (nat_lt 0 (length a.interpretations)) (is_good it) refl
-    where
-      one : Settings
-      one = record a { interpretations = a.interpretations ++ it ∷ [] }
-
-      by : (b good : Bool) → nat_lt 0 (length a.interpretations) ≡ b → IfOk (if b || not good then Err UnfitInterpretation else Ok one) F
-      by true good e = tt
-      by false false e = tt
-      by false true e = same one refl refl refl closed (λ n. let none : length a.interpretations ≤ 0 = grind (arith, nat_tests, e) in omega (arith, none, length-append a.interpretations (it ∷ [])))
+  meant_follows (command.If name) = choice (is_some a.block) (Err UnmatchedIf) (Ok (record a { block = Some name })) tt (same (record a { block = Some name }) refl refl refl closed)
+  meant_follows command.EndIf = choice (is_some a.block) (Ok (record a { block = None })) (Err UnmatchedIf) (same (record a { block = None }) refl refl refl closed) tt
+  meant_follows (command.Interpretation it) =
+      let one : Settings = record a { interpretations = a.interpretations ++ it ∷ [] } in
+      choice (is_good it) (Ok one) (Err UnfitInterpretation) (same one refl refl refl closed) tt
 
   -- a list in a block for another program
   other_opening : (list : OpenList) → is_meant m a ≡ false → F (record a { list = Some list })
-  other_opening list other = record { lawful = λ h. h; fixed = λ k. k; operators = λ l. refl; styled = λ l. refl; rises = λ l. l; opened = λ meant some. absurd (false≢true (sym other ∙ meant)); counted = λ c. c; single = λ n. n }
+  other_opening list other = record { lawful = λ h. h; fixed = λ k. k; operators = λ l. refl; styled = λ l. refl; rises = λ l. l; opened = λ meant some. absurd (false≢true (sym other ∙ meant)); counted = λ c. c }
 
   other_follows : (c : Command) → is_meant m a ≡ false → F (after_other c a)
-  other_follows (command.Flag on name) other = same a refl refl refl closed (λ n. n)
-  other_follows (command.Assign name v) other = same a refl refl refl closed (λ n. n)
-  other_follows (command.Op p type names) other = same a refl refl refl closed (λ n. n)
-  other_follows (command.FunctionOrder names) other = same a refl refl refl closed (λ n. n)
-  other_follows (command.PredicateOrder names) other = same a refl refl refl closed (λ n. n)
+  other_follows (command.Flag on name) other = same a refl refl refl closed
+  other_follows (command.Assign name v) other = same a refl refl refl closed
+  other_follows (command.Op p type names) other = same a refl refl refl closed
+  other_follows (command.FunctionOrder names) other = same a refl refl refl closed
+  other_follows (command.PredicateOrder names) other = same a refl refl refl closed
   other_follows (command.Formulas name) other = other_opening (formulas_opened name) other
   other_follows (command.List name) other = other_opening (rules_opened name) other
-  other_follows (command.If name) other = same a refl refl refl closed (λ n. n)
-  other_follows command.EndIf other = same (record a { block = None }) refl refl refl closed (λ n. n)
-  other_follows (command.Interpretation it) other = same a refl refl refl closed (λ n. n)
+  other_follows (command.If name) other = same a refl refl refl closed
+  other_follows command.EndIf other = same (record a { block = None }) refl refl refl closed
+  other_follows (command.Interpretation it) other = same a refl refl refl closed
 
   pub command_follows : (c : Command) → IfOk (settings_after m c a) F
   command_follows c = by (is_meant m a) refl
@@ -306,4 +297,4 @@ module _ (m : Mode) (a : Settings) (closed : a.list ≡ None) where
 
 -- a list that ends
 pub closing_follows : (m : Mode) (a : Settings) → Follows m a (record a { list = None })
-closing_follows m a = record { lawful = λ h. h; fixed = λ k. k; operators = λ l. refl; styled = λ l. refl; rises = λ l. l; opened = λ meant some. absurd (false≢true some); counted = λ c. c; single = λ n. n }
+closing_follows m a = record { lawful = λ h. h; fixed = λ k. k; operators = λ l. refl; styled = λ l. refl; rises = λ l. l; opened = λ meant some. absurd (false≢true some); counted = λ c. c }

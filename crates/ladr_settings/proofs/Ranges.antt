@@ -1,5 +1,5 @@
 -- A command keeps the options in range.
-use Rattle.std.proofs.Common.{◌≡◌, ℕ, Bool, true, false, List, [], ◌∷◌, ◌++◌, Some, None, is_some, Result, Ok, Err, IfOk, not, ◌&&◌, ◌||◌, nat_lt, length, if◌then◌else◌, refl}
+use Rattle.std.proofs.Common.{◌≡◌, ℕ, Bool, true, false, List, [], ◌∷◌, ◌++◌, Some, None, is_some, Result, Ok, Err, IfOk, ◌&&◌, nat_lt, length, if◌then◌else◌, refl}
 use Rattle.std.specs.List.{list_any}
 use Rattle.std.proofs.lemmas.Result.{IfOk-at_ok}
 use Rattle.ladr_lex.specs.declared.misuse.Misuse.{Misuse}
@@ -56,7 +56,7 @@ meant_in_range (command.Formulas name) s h = opening_in_range (formulas_opened n
 meant_in_range (command.List name) s h = opening_in_range (rules_opened name) s h
 meant_in_range (command.If name) s h = either_way (is_some s.block) (Err UnmatchedIf) (Ok (record s { block = Some name })) tt h
 meant_in_range command.EndIf s h = either_way (is_some s.block) (Ok (record s { block = None })) (Err UnmatchedIf) h tt
-meant_in_range (command.Interpretation it) s h = either_way (nat_lt 0 (length s.interpretations) || not (is_good it)) (Err UnfitInterpretation) (Ok (record s { interpretations = s.interpretations ++ it ∷ [] })) tt h
+meant_in_range (command.Interpretation it) s h = either_way (is_good it) (Ok (record s { interpretations = s.interpretations ++ it ∷ [] })) (Err UnfitInterpretation) h tt
 
 other_in_range : (c : Command) (s : Settings) → InRange s → InRange (after_other c s)
 other_in_range (command.Flag on name) s h = h

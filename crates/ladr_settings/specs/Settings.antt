@@ -1,5 +1,5 @@
 -- What the commands of a file set, and how they are misused.
-use Rattle.std.specs.Prelude.{ℕ, Bool, true, false, not, ◌&&◌, ◌||◌, if◌then◌else◌, List, [], ◌∷◌, ◌++◌, Option, Some, None, is_some, length, nat_lt, codes}
+use Rattle.std.specs.Prelude.{ℕ, Bool, true, false, ◌&&◌, if◌then◌else◌, List, [], ◌∷◌, ◌++◌, Option, Some, None, is_some, length, nat_lt, codes}
 use Rattle.std.specs.List.{list_any}
 use Rattle.std.specs.Option.{option_map_or}
 use Rattle.std.specs.Str.{bytes_eq}
@@ -132,11 +132,11 @@ after_if name s = if is_some s.block then Err UnmatchedIf else Ok (record s { bl
 abbrev pub after_end_if : Settings → Result Settings Misuse
 after_end_if s = if is_some s.block then Ok (record s { block = None }) else Err UnmatchedIf
 
--- a second interpretation is misuse, and so is a bad one
+-- a bad interpretation is misuse
 abbrev pub after_interpretation : ByName → Settings → Result Settings Misuse
 after_interpretation it s =
-    if nat_lt 0 (length s.interpretations) || not (is_good it) then Err UnfitInterpretation
-    else Ok (record s { interpretations = s.interpretations ++ it ∷ [] })
+    if is_good it then Ok (record s { interpretations = s.interpretations ++ it ∷ [] })
+    else Err UnfitInterpretation
 
 -- what a command that is meant for the program makes of the settings, or its misuse of the least
 -- row

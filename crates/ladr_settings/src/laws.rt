@@ -46,7 +46,8 @@ pub fn worked()
     ensures unfit_interpretation { settings_after Tester (command.Interpretation (by_name 0 []))
         at_start ≡ Err UnfitInterpretation }
     ensures second_interpretation { settings_after Tester (command.Interpretation (by_name 1 []))
-        (record at_start { interpretations = by_name 2 [] ∷ [] }) ≡ Err UnfitInterpretation }
+        (record at_start { interpretations = by_name 2 [] ∷ [] })
+        ≡ Ok (record at_start { interpretations = by_name 2 [] ∷ by_name 1 [] ∷ [] }) }
     ensures assumptions { settings_after Prover (command.Formulas (codes "sos")) at_start
         ≡ Ok (record at_start { list = Some (list.Formulas Assumptions); listed = true }) }
     ensures predicates { settings_after Prover

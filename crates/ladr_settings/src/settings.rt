@@ -238,9 +238,6 @@ impl Settings {
         ensures row { (m : Misuse) → result ≡ Err (Misused m)
             → after_interpretation read self.old ≡ Err m }
     {
-        if self.interpretations.len() > 0 {
-            return Err(SettingsError::Misused(Misuse::UnfitInterpretation));
-        }
         match Named::new(alloc, read) {
             Ok(named) => {
                 self.interpretations.push(named)?;

@@ -43,10 +43,7 @@ pub fn declare_all(
     ensures symbol { result ≡ Err UnfitSymbol → list_any is_unfit_symbol symbols.now ≡ true }
 {
     for symbol in symbols {
-        match declare(operators, precedence, type_name, symbol.bytes()) {
-            Ok(()) => {}
-            Err(error) => return Err(error),
-        }
+        declare(operators, precedence, type_name, symbol.bytes())?;
     }
     Ok(())
 }
@@ -68,8 +65,5 @@ fn declare(
         → is_unfit_operator precedence type_name.now ≡ false }
     ensures symbol { result ≡ Err UnfitSymbol → is_unfit_symbol symbol.now ≡ true }
 {
-    match operators.declare(precedence, type_name, symbol) {
-        Ok(()) => Ok(()),
-        Err(error) => Err(error),
-    }
+    operators.declare(precedence, type_name, symbol)
 }

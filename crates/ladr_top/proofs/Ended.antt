@@ -32,7 +32,7 @@ module _ (o : Option Task) (k k' : Task) (has : o ≡ Some k) (is : o ≡ Some k
 -- one that reads nothing generates a problem
 pub only_made : (k : Task) → ReadNothing (Some k) → (n : ℕ) × (k ≡ task.Made n)
 only_made task.Check h = absurd h
-only_made task.Clausetester h = absurd h
+only_made (task.Clausetester filter) h = absurd h
 only_made (task.Mace4 words) h = absurd h
 only_made (task.Made n) h = (n, refl)
 only_made (task.Prover9 seconds) h = absurd h

@@ -10,8 +10,8 @@ use Rattle.model_tables.specs.declared.limits.TheConstants.{MOST_CELLS}
 -- element that a numeral names
 abbrev pub AreOfTheLanguage : Type 0
 AreOfTheLanguage =
-    (MOST_BYTES ≡ 16777216) × (MOST_LEVELS ≡ 500) × (MOST_SYMBOLS ≡ 65535)
-    × (MOST_ARGUMENTS ≡ 255) × (MOST_ELEMENT ≡ 999999999)
+    (MOST_BYTES ≡ 16777216) × (MOST_LEVELS ≡ 900) × (MOST_SYMBOLS ≡ 1000000)
+    × (MOST_ARGUMENTS ≡ 1000) × (MOST_ELEMENT ≡ 999999999)
 
 -- levels of an atom of a clause in a proof's line, and of such a literal, whose denial counts
 abbrev pub AreOfLines : Type 0

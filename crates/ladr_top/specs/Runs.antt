@@ -5,6 +5,7 @@ use Rattle.accepted_output.specs.Accepted.{WritesAccepted, WritesAcceptedSoFar}
 use Rattle.ladr_check.specs.Checking.{Checks}
 use Rattle.ladr_check.specs.Offered.{offers, refuses_proofs}
 use Rattle.ladr_check.specs.declared.ends.CheckEnd.{CheckEnd}
+use Rattle.ladr_clausetester.specs.Filtering.{Filters}
 use Rattle.ladr_clausetester.specs.Testing.{Tests}
 use Rattle.ladr_clausetester.specs.declared.testing.Tested.{Tested}
 use Rattle.ladr_formulas.specs.declared.styles.Mode.TheVariants.{Tester, Mace}
@@ -53,11 +54,16 @@ RunsCheck from from' to to' cause =
     (r : Result CheckEnd Stop) × Checks offers refuses_proofs from from' to to' r
     × (cause ≡ cause_by Check r)
 
--- The input is a file in the language of this program: of `clausetester`, or of `mace4` with these
--- words.
+-- The input is a file in the language of this program: of `clausetester`, which tests or filters,
+-- or of `mace4` with these words.
 abbrev pub RunsClausetester : Inflow → Inflow → Outflow → Outflow → Cause → Type 0
 RunsClausetester from from' to to' cause =
     (r : Result Tested Stop) × Tests interprets (refuses Tester) from from' to to' r
+    × (cause ≡ cause_by Clausetester r)
+
+abbrev pub RunsFilter : Inflow → Inflow → Outflow → Outflow → Cause → Type 0
+RunsFilter from from' to to' cause =
+    (r : Result Tested Stop) × Filters interprets (refuses Tester) from from' to to' r
     × (cause ≡ cause_by Clausetester r)
 
 abbrev pub RunsMace4 : ModelOptions → Inflow → Inflow → Outflow → Outflow → Times → Cause → Type 0

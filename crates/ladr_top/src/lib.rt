@@ -4,10 +4,10 @@
 // `status_of` and a clause of `run`. `lines.rt` has the line for words that are no command, `limits.rt` the limits by
 // their numbers.
 // The laws on what stands in outputs are called where `run` begins: `checks_show` of `ladr_check`, `searches_show` of
-// `ladr_mace4`, `proofs_show` of `ladr_prover9` and `outputs_are_accepted` of `accepted_output`. `specs/Runs` says what
-// a run of each command amounts to, by the definitions of the commands' crates, and `specs/Causes` has the statuses;
-// `proofs/Lacking` has runs in which memory was lacking before a command began, and `Checked` what becomes of the law
-// on accepted outputs by how a run ended.
+// `ladr_mace4`, `proofs_show` of `ladr_prover9`, `outputs_are_accepted` of `accepted_output` and `filters_read_back` of
+// `ladr_clausetester`. `specs/Runs` says what a run of each command amounts to, by the definitions of the commands'
+// crates, and `specs/Causes` has the statuses; `proofs/Lacking` has runs in which memory was lacking before a command
+// began, and `Checked` what becomes of the law on accepted outputs by how a run ended.
 // The way of each command through the crates is drawn in `docs/crates.md`.
 #![tactic(auto)]
 

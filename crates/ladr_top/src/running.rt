@@ -1,11 +1,11 @@
 // The one call of the program.
-ghost use Rattle.std.specs.Prelude.{◌≡◌, ◌≢◌, ℕ, Option, false, None, Some, map};
+ghost use Rattle.std.specs.Prelude.{◌≡◌, ◌≢◌, ℕ, Option, true, false, None, Some, map};
 ghost use Rattle.std.specs.String.{string_bytes};
 ghost use Rattle.ladr_check.specs.Shown.{ShowsProofs};
 ghost use Rattle.ladr_top.specs.Causes.{status_of};
-ghost use Rattle.ladr_top.specs.Ended.{RunsTask, cause_in};
+ghost use Rattle.ladr_top.specs.Ended.{RunsTask, TestsOrFilters, cause_in};
 ghost use Rattle.ladr_top.specs.Limits.{AreLimits};
-ghost use Rattle.ladr_top.specs.Runs.{ReadNothing, RefusesWords, RunsCheck, RunsClausetester, RunsMace4, RunsMade, RunsProver9, ShowsMace4, ShowsProver9, ChecksProver9, ChecksSoFar};
+ghost use Rattle.ladr_top.specs.Runs.{ReadNothing, RefusesWords, RunsCheck, RunsClausetester, RunsFilter, RunsMace4, RunsMade, RunsProver9, ShowsMace4, ShowsProver9, ChecksProver9, ChecksSoFar};
 ghost use Rattle.ladr_words.specs.Tasks.{HasRanges, task_of};
 ghost use Rattle.ladr_words.specs.declared.task.ModelOptions.{ModelOptions};
 ghost use Rattle.ladr_words.specs.declared.task.Task.TheVariants.{Check, Clausetester, Mace4, Made, Prover9};
@@ -16,7 +16,7 @@ use crate::lines::no_command;
 use accepted_output::outputs_are_accepted;
 use fol_core::Interpretation;
 use ladr_check::{check_text, checks_show};
-use ladr_clausetester::clausetester;
+use ladr_clausetester::{Tested, clausetester, filter_interpretations, filters_read_back};
 use ladr_intake::Stop;
 use ladr_io::{Clock, Sink, Source};
 use ladr_mace4::{mace4, searches_show};
@@ -62,9 +62,15 @@ pub fn run<I: Interpretation, S: Source, K: Sink, C: Clock>(
         → ShowsProofs (S.inflow source.old) (S.inflow source.new) (K.outflow sink.old)
         (K.outflow sink.new) }
 
-    // The input is tested.
-    ensures clausetester { task_of (map string_bytes words.now) ≡ Some Clausetester
+    // The formulas of the input are tested in each of its interpretations.
+    ensures clausetester { task_of (map string_bytes words.now) ≡ Some (Clausetester false)
         → RunsClausetester (S.inflow source.old) (S.inflow source.new) (K.outflow sink.old)
+        (K.outflow sink.new) result.cause }
+
+    // Just those interpretations of the input are written, in their order and as they were read, in which the closure of each formula is
+    // true.
+    ensures filter { task_of (map string_bytes words.now) ≡ Some (Clausetester true)
+        → RunsFilter (S.inflow source.old) (S.inflow source.new) (K.outflow sink.old)
         (K.outflow sink.new) result.cause }
 
     // Models of what the input states are searched for: of each size that is searched the leaves of the plain search are printed, in their
@@ -117,6 +123,7 @@ pub fn run<I: Interpretation, S: Source, K: Sink, C: Clock>(
     searches_show();
     proofs_show();
     outputs_are_accepted();
+    filters_read_back();
     limits_are_told();
     match task_of(alloc, words) {
         Ok(task) => exit(ended(alloc, task, source, sink, clock)),
@@ -145,7 +152,9 @@ fn ended<S: Source, K: Sink, C: Clock>(
 {
     match task {
         Task::Check => Ok(Cause::Check(check_text(alloc, source, sink)?)),
-        Task::Clausetester => Ok(Cause::Clausetester(clausetester(alloc, source, sink)?)),
+        Task::Clausetester { filter } => {
+            Ok(Cause::Clausetester(test(alloc, filter, source, sink)?))
+        }
         Task::Mace4 { options } => Ok(Cause::Mace4(mace4(alloc, options, source, sink, clock)?)),
         Task::Made { size } => {
             made(alloc, size, sink)?;
@@ -155,6 +164,25 @@ fn ended<S: Source, K: Sink, C: Clock>(
             let end = prover9(alloc, max_seconds, source, sink, clock)?;
             Ok(Cause::Prover9(end))
         }
+    }
+}
+
+// Tests the formulas of the input, or filters its interpretations.
+fn test<S: Source, K: Sink>(
+    alloc: Global,
+    filter: bool,
+    source: &mut S,
+    sink: &mut K,
+) -> Result<Tested, Stop>
+    requires source { (S.inflow source.old).over ≡ false }
+    requires sink { (K.outflow sink.old).over ≡ false }
+    ensures { TestsOrFilters filter (S.inflow source.old) (S.inflow source.new)
+        (K.outflow sink.old) (K.outflow sink.new) result }
+{
+    if filter {
+        filter_interpretations(alloc, source, sink)
+    } else {
+        clausetester(alloc, source, sink)
     }
 }
 

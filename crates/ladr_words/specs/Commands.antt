@@ -2,7 +2,7 @@
 use Rattle.std.specs.Prelude.{ℕ, List, [], Some, true, codes, ⊤}
 use Rattle.clap.specs.Simple.{App, new_app, new_rule, with_rule, with_subcommand}
 use Rattle.clap.specs.Walk.{Rule}
-use Rattle.clap.specs.declared.builder.action.ArgAction.TheVariants.{Set}
+use Rattle.clap.specs.declared.builder.action.ArgAction.TheVariants.{Set, SetTrue}
 use Rattle.clap.specs.declared.builder.value_parser.ValueParser.TheVariants.{Unsigned}
 
 -- an option of a letter, with a number from least to most
@@ -21,6 +21,10 @@ needed_number name least most = record (new_rule name) {
   required = true;
 }
 
+-- a flag: a word of two dashes and its name
+unfoldable pub flag : List ℕ → Rule
+flag name = record (new_rule name) { long = Some name; action = Some SetTrue }
+
 -- the command with one more argument
 unfoldable pub taking : App → Rule → App
 taking command argument = with_rule command argument
@@ -33,9 +37,9 @@ having command part = with_subcommand command part.top
 unfoldable pub check_app : App
 check_app = new_app (codes "check")
 
--- clausetester
+-- clausetester [--filter]
 unfoldable pub clausetester_app : App
-clausetester_app = new_app (codes "clausetester")
+clausetester_app = taking (new_app (codes "clausetester")) (flag (codes "filter"))
 
 -- mace4 [-n N] [-N N] [-m M] [-t S]
 unfoldable pub mace4_app : App
@@ -77,5 +81,5 @@ ladr_app =
 
 -- what a proof opens to compute with the program's command
 unfoldable pub ladr_on_literals : ⊤
-unfolding number_option needed_number taking having check_app clausetester_app mace4_app made_app prover9_app bare_app ladr_app
+unfolding number_option needed_number flag taking having check_app clausetester_app mace4_app made_app prover9_app bare_app ladr_app
 ladr_on_literals = tt

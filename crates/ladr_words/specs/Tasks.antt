@@ -1,5 +1,6 @@
 -- The task that words are.
-use Rattle.std.specs.Prelude.{ℕ, ◌==◌, ◌&&◌, ◌^◌, ◌-◌, ◌≤◌, if◌then◌else◌, nat_le, List, length, Option, Some, None, option_and_then, option_map, IfSome, codes}
+use Rattle.std.specs.Prelude.{ℕ, ◌==◌, ◌&&◌, ◌^◌, ◌-◌, ◌≤◌, if◌then◌else◌, nat_le, Bool, false, List, length, Option, Some, None, option_and_then, option_map, IfSome, codes}
+use Rattle.std.specs.Option.{option_map_or}
 use Rattle.std.specs.Str.{bytes_eq}
 use Rattle.std.specs.Str.Parse.{digits_value, without_leading_plus}
 use Rattle.clap.specs.Walk.{Row, one_of}
@@ -29,6 +30,11 @@ number_given name rows = option_and_then number_written (one_of name rows)
 abbrev pub number_within : List ℕ → ℕ → ℕ → List Row → Option ℕ
 number_within name least most rows = option_and_then (within least most) (number_given name rows)
 
+-- whether a flag is given
+abbrev pub flag_given : List ℕ → List Row → Bool
+flag_given name rows =
+    option_map_or (λ text. bytes_eq text (codes "true")) (one_of name rows) false
+
 -- the options of a search for models
 abbrev pub model_options : List Row → ModelOptions
 model_options rows = record {
@@ -50,7 +56,7 @@ prover_seconds rows = number_within (codes "max_seconds") 0 2147483647 rows
 abbrev pub task_named : List ℕ → List Row → Option Task
 task_named name rows =
     if bytes_eq name (codes "check") then Some Check
-    else (if bytes_eq name (codes "clausetester") then Some Clausetester
+    else (if bytes_eq name (codes "clausetester") then Some (Clausetester (flag_given (codes "filter") rows))
     else (if bytes_eq name (codes "mace4") then Some (Mace4 (model_options rows))
     else (if bytes_eq name (codes "made") then option_map Made (made_size rows)
     else (if bytes_eq name (codes "prover9") then Some (Prover9 (prover_seconds rows)) else None))))
@@ -69,7 +75,7 @@ IsFrom least most given = IfSome given (λ n. (least ≤ n) × (n ≤ most))
 -- each number of a task is in its range
 abbrev pub HasRanges : Task → Type 0
 HasRanges Check = Unit {0}
-HasRanges Clausetester = Unit {0}
+HasRanges (Clausetester filter) = Unit {0}
 HasRanges (Mace4 options) =
     IsFrom 1 200 options.start_size × IsFrom 1 200 options.end_size
     × IsFrom 1 2147483647 options.max_models × IsFrom 0 2147483647 options.max_seconds

@@ -1,5 +1,5 @@
 -- Command lines worked out.
-use Rattle.std.specs.Prelude.{ℕ, ◌≡◌, ◌≤◌, ◌≢◌, List, [], ◌∷◌, Option, Some, None, codes, slice_index}
+use Rattle.std.specs.Prelude.{ℕ, ◌≡◌, ◌≤◌, ◌≢◌, true, false, List, [], ◌∷◌, Option, Some, None, codes, slice_index}
 use Rattle.ladr_words.specs.Tasks.{task_of, number_written}
 use Rattle.ladr_words.specs.declared.task.Task.{Task}
 use Rattle.ladr_words.specs.declared.task.Task.TheVariants.{Check, Clausetester, Mace4, Made, Prover9}
@@ -21,7 +21,8 @@ mace4 words = codes "mace4" ∷ words
 abbrev pub WorkedLines : Type 0
 WorkedLines =
     (task_of (codes "check" ∷ []) ≡ Some Check)
-    × (task_of (codes "clausetester" ∷ []) ≡ Some Clausetester)
+    × (task_of (codes "clausetester" ∷ []) ≡ Some (Clausetester false))
+    × (task_of (codes "clausetester" ∷ codes "--filter" ∷ []) ≡ Some (Clausetester true))
     × (task_of (codes "prover9" ∷ []) ≡ Some (Prover9 None))
     × (task_of (codes "prover9" ∷ codes "-t" ∷ codes "60" ∷ []) ≡ Some (Prover9 (Some 60)))
     × (task_of (codes "made" ∷ codes "2" ∷ []) ≡ Some (Made 2))
@@ -42,6 +43,9 @@ WorkedRefusals =
     × (task_of (codes "prooftrans" ∷ []) ≡ None)
     × (task_of (codes "check" ∷ codes "-t" ∷ codes "5" ∷ []) ≡ None)
     × (task_of (codes "clausetester" ∷ codes "extra" ∷ []) ≡ None)
+    × (task_of (codes "clausetester" ∷ codes "--filter" ∷ codes "--filter" ∷ []) ≡ None)
+    × (task_of (codes "clausetester" ∷ codes "-f" ∷ []) ≡ None)
+    × (task_of (codes "check" ∷ codes "--filter" ∷ []) ≡ None)
     × (task_of (codes "prover9" ∷ codes "extra" ∷ []) ≡ None)
     × (task_of (codes "prover9" ∷ codes "-n" ∷ codes "3" ∷ []) ≡ None)
     × (task_of (codes "made" ∷ []) ≡ None)

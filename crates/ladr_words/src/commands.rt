@@ -2,7 +2,7 @@
 ghost use Rattle.std.specs.Prelude.{◌≡◌, IfOk, false};
 ghost use Rattle.clap.specs.Words.{rule_of, app_of, shape_of};
 ghost use Rattle.clap.specs.declared.builder.command.Command.TheViews.{out-Command};
-ghost use Rattle.ladr_words.specs.Commands.{number_option, needed_number, bare_app, check_app, clausetester_app, mace4_app, made_app, prover9_app, ladr_app, taking, having};
+ghost use Rattle.ladr_words.specs.Commands.{number_option, needed_number, flag, bare_app, check_app, clausetester_app, mace4_app, made_app, prover9_app, ladr_app, taking, having};
 
 use clap::builder::ValueParser;
 use clap::{Arg, ArgAction, Command};
@@ -30,6 +30,15 @@ fn needed_number<'a>(alloc: Global, name: &'a str, least: u64, most: u64) -> Arg
         .required(true)
         .action(ArgAction::Set)
         .value_parser(ValueParser::unsigned(least, most))
+}
+
+// A flag: a word of two dashes and its name.
+#[tactic(auto, unfolding(crate::specs::Commands::flag))]
+fn flag<'a>(alloc: Global, name: &'a str) -> Arg<'a>
+    ensures rule { rule_of result ≡ flag name.entry.now }
+    ensures local { result.global ≡ false }
+{
+    Arg::new(alloc, name).long(name).action(ArgAction::SetTrue)
 }
 
 // The command with one more argument.
@@ -61,11 +70,14 @@ fn check<'a>(alloc: Global) -> Command<'a>
 }
 
 #[tactic(auto, unfolding(crate::specs::Commands::clausetester_app))]
-fn clausetester<'a>(alloc: Global) -> Command<'a>
-    ensures app { app_of result ≡ clausetester_app }
-    ensures local { (out-Command result).has_globals ≡ false }
+fn clausetester<'a>(alloc: Global) -> Result<Command<'a>, AllocError>
+    ensures app { IfOk result (λ c. app_of c ≡ clausetester_app) }
+    ensures local { IfOk result (λ c. (out-Command c).has_globals ≡ false) }
 {
-    Command::new(alloc, "clausetester")
+    let command = Command::new(alloc, "clausetester");
+    let filter = flag(alloc, "filter");
+    let command = taking(command, filter)?;
+    Ok(command)
 }
 
 // The command with one more option of a letter, with a number from `least` to `most`.
@@ -140,7 +152,7 @@ pub fn ladr<'a>(alloc: Global) -> Result<Command<'a>, AllocError>
     ensures { IfOk result (λ c. app_of c ≡ ladr_app) }
 {
     let command = having(bare(alloc), check(alloc))?;
-    let command = having(command, clausetester(alloc))?;
+    let command = having(command, clausetester(alloc)?)?;
     let command = having(command, mace4(alloc)?)?;
     let command = having(command, made(alloc)?)?;
     let command = having(command, prover9(alloc)?)?;

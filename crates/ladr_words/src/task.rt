@@ -9,7 +9,7 @@ use thiserror::Error;
 #[derive(Clone, Copy)]
 pub enum Task {
     Check,
-    Clausetester,
+    Clausetester { filter: bool },
     Mace4 { options: ModelOptions },
     Made { size: u64 },
     Prover9 { max_seconds: Option<u64> },

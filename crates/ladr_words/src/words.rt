@@ -5,7 +5,7 @@ ghost use Rattle.clap.specs.Words.{rows_of, found_of, kind_of, fault_of, subcomm
 ghost use Rattle.clap.specs.Simple.{subcommand_rows_of};
 ghost use Rattle.clap.specs.declared.error.kind.ErrorKind.TheVariants.{OutOfMemory};
 ghost use Rattle.ladr_words.specs.Commands.{ladr_app};
-ghost use Rattle.ladr_words.specs.Tasks.{task_of, task_named, number_given, number_within, within, model_options, prover_seconds, made_size, IsFrom, HasRanges};
+ghost use Rattle.ladr_words.specs.Tasks.{task_of, task_named, flag_given, number_given, number_within, within, model_options, prover_seconds, made_size, IsFrom, HasRanges};
 
 use crate::commands::ladr;
 use crate::task::{ModelOptions, Task, WordsError};
@@ -69,7 +69,9 @@ fn task_named(name: &str, matches: &ArgMatches) -> Option<Task>
 {
     match name {
         "check" => Some(Task::Check),
-        "clausetester" => Some(Task::Clausetester),
+        "clausetester" => Some(Task::Clausetester {
+            filter: flag_given(matches, "filter"),
+        }),
         "mace4" => Some(Task::Mace4 {
             options: model_options(matches),
         }),
@@ -79,6 +81,13 @@ fn task_named(name: &str, matches: &ArgMatches) -> Option<Task>
         }),
         _ => None,
     }
+}
+
+// Whether a flag is given.
+fn flag_given(matches: &ArgMatches, name: &str) -> bool
+    ensures { result ≡ flag_given name.now (rows_of (found_of matches.now)) }
+{
+    matches.get_one(name).unwrap_or(false)
 }
 
 // The options of a search for models.

@@ -1,11 +1,20 @@
 use Rattle.std.proofs.Common.{◌≡◌, ℕ, zero, suc, true, refl, arith, leb}
 use Rattle.std.proofs.lemmas.Bool.{leb-true}
 use Rattle.std.specs.Fmt.{digits}
+use Rattle.ladr_interpretations.specs.NamedText.{named_text}
 use Rattle.ladr_clausetester.proofs.laws.worked.Goals as goal
 
 pub returns-clause-printed : goal.returns-clause-printed
 unfolding digits
 returns-clause-printed c = refl
+
+pub returns-clause-several : goal.returns-clause-several
+unfolding digits
+returns-clause-several c = refl
+
+pub returns-clause-filtered : goal.returns-clause-filtered
+unfolding digits named_text
+returns-clause-filtered c = refl
 
 -- what holds of 0 and 1 holds of each element of two
 each : (P : ℕ → Type 0) → P 0 → P 1 → (n : ℕ) → leb n 1 ≡ true → P n

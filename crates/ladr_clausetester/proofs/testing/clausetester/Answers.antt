@@ -1,5 +1,5 @@
 use Rattle.std.proofs.Common.{◌≡◌, ◌∙◌, [], Ok, Err, refl}
-use Rattle.ladr_clausetester.proofs.Testings.{tests_by}
+use Rattle.ladr_clausetester.proofs.Testings.{runs_by}
 use Rattle.ladr_clausetester.specs.Testing.{IsTested}
 use Rattle.ladr_formulas.specs.declared.styles.Mode.TheVariants.{Tester}
 use Rattle.ladr_intake.proofs.Commands.{in_every_language, none_runs}
@@ -16,19 +16,12 @@ returns-in_err-read g c =
     none_runs interprets (refuses Tester) (Unit {0}) (λ x text. text ≡ []) IsTested _ _ _ _ c.in_err-read.field-0.0 c.from_residual-in_err-read.result tt
     (problem_refused Tester _ _ c.in_ok-bytes.bytes.items c.deref.result.now _ _ _ c.read_problem.result _ c.in_ok-bytes.ensures.read c.deref.ensures.value c.read_problem.ensures.refused c.in_ok-bytes.ensures.kept c.in_err-read.ensures.refused) c.from_residual-in_err-read.ensures.1
 
-pub test-requires-clause-interpreted : goal.test-requires-clause-interpreted
-test-requires-clause-interpreted g c =
-    let some = c.read_problem.ensures.interpreted refl in
-    rw c.in_ok-read.ensures.read at some
-
 pub returns-in_err-test : goal.returns-in_err-test
 returns-in_err-test g c =
-    let some = c.read_problem.ensures.interpreted refl in
     let said = c.read_problem.ensures.read in
-    tests_by c.in_ok-read.read _ _ c.in_ok-bytes.bytes.items c.deref.result.now _ _ _ (Err c.in_err-test.field-0.0) c.from_residual-in_err-test.result (rw c.in_ok-read.ensures.read at some) c.in_ok-bytes.ensures.read c.deref.ensures.value (rw c.in_ok-read.ensures.read at said) (c.in_ok-read.ensures.kept ∙ c.in_ok-bytes.ensures.kept) c.in_err-test.ensures c.from_residual-in_err-test.ensures.1
+    runs_by IsTested c.in_ok-read.read _ _ c.in_ok-bytes.bytes.items c.deref.result.now _ _ _ (Err c.in_err-test.field-0.0) c.from_residual-in_err-test.result c.in_ok-bytes.ensures.read c.deref.ensures.value (rw c.in_ok-read.ensures.read at said) (c.in_ok-read.ensures.kept ∙ c.in_ok-bytes.ensures.kept) c.in_err-test.ensures c.from_residual-in_err-test.ensures.1
 
 pub returns : goal.returns
 returns g c =
-    let some = c.read_problem.ensures.interpreted refl in
     let said = c.read_problem.ensures.read in
-    tests_by c.in_ok-read.read _ _ c.in_ok-bytes.bytes.items c.deref.result.now _ _ _ (Ok c.in_ok-test.field-0) _ (rw c.in_ok-read.ensures.read at some) c.in_ok-bytes.ensures.read c.deref.ensures.value (rw c.in_ok-read.ensures.read at said) (c.in_ok-read.ensures.kept ∙ c.in_ok-bytes.ensures.kept) c.in_ok-test.ensures refl
+    runs_by IsTested c.in_ok-read.read _ _ c.in_ok-bytes.bytes.items c.deref.result.now _ _ _ (Ok c.in_ok-test.field-0) _ c.in_ok-bytes.ensures.read c.deref.ensures.value (rw c.in_ok-read.ensures.read at said) (c.in_ok-read.ensures.kept ∙ c.in_ok-bytes.ensures.kept) c.in_ok-test.ensures refl

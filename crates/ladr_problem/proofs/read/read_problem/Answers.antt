@@ -19,7 +19,7 @@ use Rattle.ladr_problem.specs.Whole.{IsFinished}
 use Rattle.ladr_problem.proofs.Files.{stop_along}
 use Rattle.ladr_problem.proofs.Endings.{has_interpretation}
 use Rattle.ladr_problem.proofs.Good.{grown_proper, said_same}
-use Rattle.ladr_problem.proofs.Growing.{grown_single, says_grows}
+use Rattle.ladr_problem.proofs.Growing.{says_grows}
 use Rattle.ladr_problem.specs.Growth.{Grown}
 use Rattle.ladr_problem.proofs.Live.{are_live}
 use Rattle.ladr_problem.proofs.Readings.{says_of, placed_error}
@@ -60,7 +60,7 @@ returns-in-Ok-take_file-clause-interpreted c = λ tests.
     let f = finished c in
     let s = sofar_of c.take_file.new.draft in
     let some = has_interpretation (length c.args.bytes.now) f.0 s (subst (λ (m : Mode). file.at_file_end m (length c.args.bytes.now) f.0 ≡ problem s) tests f.2) in
-    omega (arith, some, grown_single c.args.program s (grown c), ap length c.finish.ensures.of.interpretations)
+    omega (arith, some, ap length c.finish.ensures.of.interpretations)
 
 pub returns-in-Ok-take_file-clause-well_formed : goal.returns-in-Ok-take_file-clause-well_formed
 returns-in-Ok-take_file-clause-well_formed c =

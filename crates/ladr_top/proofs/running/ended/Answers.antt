@@ -13,11 +13,11 @@ returns-in_err-check_text-in-Check-clause-runs g c = rw c.in-Check.is (Err c.in_
 pub returns-in_ok-check_text-in-Check-clause-runs : goal.returns-in_ok-check_text-in-Check-clause-runs
 returns-in_ok-check_text-in-Check-clause-runs g c = rw c.in-Check.is (Ok c.in_ok-check_text-in-Check.field-0, c.in_ok-check_text-in-Check.ensures, refl)
 
-pub returns-in_err-clausetester-in-Clausetester-clause-runs : goal.returns-in_err-clausetester-in-Clausetester-clause-runs
-returns-in_err-clausetester-in-Clausetester-clause-runs g c = rw c.in-Clausetester.is (Err c.in_err-clausetester-in-Clausetester.field-0.0, c.in_err-clausetester-in-Clausetester.ensures, stopped_in c.from_residual-in_err-clausetester-in-Clausetester.result c.in_err-clausetester-in-Clausetester.field-0.0 c.from_residual-in_err-clausetester-in-Clausetester.ensures.1)
+pub returns-in_err-test-in-Clausetester-clause-runs : goal.returns-in_err-test-in-Clausetester-clause-runs
+returns-in_err-test-in-Clausetester-clause-runs g c = rw c.in-Clausetester.is (Err c.in_err-test-in-Clausetester.field-0.0, c.in_err-test-in-Clausetester.ensures, stopped_in c.from_residual-in_err-test-in-Clausetester.result c.in_err-test-in-Clausetester.field-0.0 c.from_residual-in_err-test-in-Clausetester.ensures.1)
 
-pub returns-in_ok-clausetester-in-Clausetester-clause-runs : goal.returns-in_ok-clausetester-in-Clausetester-clause-runs
-returns-in_ok-clausetester-in-Clausetester-clause-runs g c = rw c.in-Clausetester.is (Ok c.in_ok-clausetester-in-Clausetester.field-0, c.in_ok-clausetester-in-Clausetester.ensures, refl)
+pub returns-in_ok-test-in-Clausetester-clause-runs : goal.returns-in_ok-test-in-Clausetester-clause-runs
+returns-in_ok-test-in-Clausetester-clause-runs g c = rw c.in-Clausetester.is (Ok c.in_ok-test-in-Clausetester.field-0, c.in_ok-test-in-Clausetester.ensures, refl)
 
 pub returns-in_err-mace4-in-Mace4-clause-runs : goal.returns-in_err-mace4-in-Mace4-clause-runs
 returns-in_err-mace4-in-Mace4-clause-runs g c = rw c.in-Mace4.is (Err c.in_err-mace4-in-Mace4.field-0.0, c.in_err-mace4-in-Mace4.ensures, stopped_in c.from_residual-in_err-mace4-in-Mace4.result c.in_err-mace4-in-Mace4.field-0.0 c.from_residual-in_err-mace4-in-Mace4.ensures.1)

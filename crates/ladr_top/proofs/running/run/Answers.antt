@@ -1,4 +1,4 @@
-use Rattle.std.proofs.Common.{◌≡◌, ◌∙◌, [], Err, Some, refl, sym, ap, subst}
+use Rattle.std.proofs.Common.{◌≡◌, ◌∙◌, [], true, false, Err, Some, refl, sym, ap, subst}
 use Rattle.ladr_intake.specs.declared.stops.Stop.TheVariants as stops
 use Rattle.ladr_io.proofs.StreamLaws.{Takes-none}
 use Rattle.ladr_output.specs.declared.cut.Cut.TheVariants as cuts
@@ -23,7 +23,10 @@ returns-in-Ok-clause-proofs g c = λ e.
     c.checks_show.ensures.show _ _ _ _ run.0 run.1
 
 pub returns-in-Ok-clause-clausetester : goal.returns-in-Ok-clause-clausetester
-returns-in-Ok-clause-clausetester g c = λ e. ran _ c.in-Ok.task (task.Clausetester) c.in-Ok.ensures.task e _ _ _ _ (g.C.Clock.times c.ended.new.clock) _ _ c.exit.ensures.cause c.ended.ensures.runs
+returns-in-Ok-clause-clausetester g c = λ e. ran _ c.in-Ok.task (task.Clausetester false) c.in-Ok.ensures.task e _ _ _ _ (g.C.Clock.times c.ended.new.clock) _ _ c.exit.ensures.cause c.ended.ensures.runs
+
+pub returns-in-Ok-clause-filter : goal.returns-in-Ok-clause-filter
+returns-in-Ok-clause-filter g c = λ e. ran _ c.in-Ok.task (task.Clausetester true) c.in-Ok.ensures.task e _ _ _ _ (g.C.Clock.times c.ended.new.clock) _ _ c.exit.ensures.cause c.ended.ensures.runs
 
 pub returns-in-Ok-clause-mace4 : goal.returns-in-Ok-clause-mace4
 returns-in-Ok-clause-mace4 g c = λ o e. ran _ c.in-Ok.task (task.Mace4 o) c.in-Ok.ensures.task e _ _ _ _ (g.C.Clock.times c.ended.new.clock) _ _ c.exit.ensures.cause c.ended.ensures.runs
@@ -73,6 +76,9 @@ returns-in-Err-Memory-clause-proofs g c = λ e. none_accepted _ _
 
 pub returns-in-Err-Memory-clause-clausetester : goal.returns-in-Err-Memory-clause-clausetester
 returns-in-Err-Memory-clause-clausetester g c = λ e. (Err stops.Memory, lacking _ _ _ _ _ _ _ tt, c.exit-in-Err-Memory.ensures.cause)
+
+pub returns-in-Err-Memory-clause-filter : goal.returns-in-Err-Memory-clause-filter
+returns-in-Err-Memory-clause-filter g c = λ e. (Err stops.Memory, lacking _ _ _ _ _ _ _ tt, c.exit-in-Err-Memory.ensures.cause)
 
 pub returns-in-Err-Memory-clause-mace4 : goal.returns-in-Err-Memory-clause-mace4
 returns-in-Err-Memory-clause-mace4 g c = λ o e. (Err stops.Memory, lacking _ _ _ _ _ _ _ c.requires.unread, c.exit-in-Err-Memory.ensures.cause)
