@@ -19,9 +19,10 @@ _ladr() {
         case ${COMP_WORDS[1]} in
             mace4) options="-n -N -m -t" ;;
             prover9) options="-t" ;;
+            clausetester) options="--filter" ;;
         esac
         for option in "${COMP_WORDS[@]:2:COMP_CWORD - 2}"; do
-            [[ $option == -? ]] && options=" $options " && options=${options/" $option "/ }
+            [[ $option == -? || $option == --filter ]] && options=" $options " && options=${options/" $option "/ }
         done
     fi
     mapfile -t COMPREPLY < <(compgen -W "$options" -- "$word")
