@@ -1,20 +1,20 @@
 mod Behind
 mod Bodies
-mod Claims
-mod Clauses
+pub mod Claims
+pub mod Clauses
 mod Closures
 mod Crossing
 mod Fronting
 mod FormSets
 mod FreeNames
 mod Fresh
-mod FormTruth
-mod WholeLaws
+pub mod FormTruth
+pub mod WholeLaws
 mod Works
 mod Marks
 mod NameLemmas
 mod Rows
-mod Scopes
-mod Sets
+pub mod Scopes
+pub mod Sets
 mod SkolemLemmas
 mod Substituting

@@ -60,7 +60,7 @@ pub free_of : (sign : Bool) (f : Fol) (y : ℕ) → IsTrue (is_in y (free_vars_o
 free_of sign f y i = absurd (closure_free f y (free_form sign (closure_of f) y i))
 
 module _ (m : Meaning) where
-  abbrev AllTrue : List ClauseTree → Type 0
+  abbrev pub AllTrue : List ClauseTree → Type 0
   AllTrue cs = (e : Assignment) → IsWithin m e → all_true m e cs ≡ true
 
   -- numbered clauses in front of others
@@ -117,7 +117,7 @@ module _ (m : Meaning) where
         → AllTrue (clauses_in symbols k [] var (nnf_of true (closure_of f)))
     taken_follows k f once below picks h = form_follows true k f once below picks (λ e. true_to m e (closure_of f) (closure_same zeros e f h))
 
-    role_follows : (k : ℕ) (role : Role) (f : Fol) → BindsOnce f → HasSymbolsBelow equality f → PicksWitnesses m (skolem_axioms symbols k [] var (nnf_of (is_taken role) (closure_of f))) → IsAsRoled m role f
+    pub role_follows : (k : ℕ) (role : Role) (f : Fol) → BindsOnce f → HasSymbolsBelow equality f → PicksWitnesses m (skolem_axioms symbols k [] var (nnf_of (is_taken role) (closure_of f))) → IsAsRoled m role f
         → AllTrue (clauses_in symbols k [] var (nnf_of (is_taken role) (closure_of f)))
     role_follows k Assumption f once below picks h = taken_follows k f once below picks h
     role_follows k Usable f once below picks h = taken_follows k f once below picks h

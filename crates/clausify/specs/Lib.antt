@@ -1,3 +1,4 @@
+pub mod Asked
 pub mod Behind
 pub mod Capped
 pub mod Clausal

@@ -8,7 +8,7 @@
 // `specs/` defines the clauses of what a file states: `Forms` the negation normal form, `Fronts` that with the
 // quantifiers of free variables in front, `Skolem` what stands for existential variables and what each symbol is to
 // pick, `Clausal` the clauses, `Names` the names of Skolem symbols, `Input` all of it for the formulas of a file in
-// order.
+// order, `Asked` the answers that the clauses of goals have, for laws above.
 // `laws.rt` has the laws that clauses and formulas say the same in every interpretation and that Skolem symbols are in
 // order, and formulas worked out.
 #![tactic(auto)]

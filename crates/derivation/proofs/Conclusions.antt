@@ -156,7 +156,7 @@ one_conclusion r law natural cs c d fits (own, general, is) (other, most, was) =
     (ap r.rest back.1 ∙ natural.rest back.0 (instances other cs) (law.kept other cs fits))
     ∙ sym was
 
-in_all : (p : ℕ → Bool) (xs : List ℕ) (x : ℕ) → IsTrue (list_all p xs) → IsTrue (is_in x xs) → IsTrue (p x)
+pub in_all : (p : ℕ → Bool) (xs : List ℕ) (x : ℕ) → IsTrue (list_all p xs) → IsTrue (is_in x xs) → IsTrue (p x)
 in_all p [] x all i = absurd (false≢true i)
 in_all p (y ∷ ys) x all i =
     let parts = and_parts (p y) (list_all p ys) all in

@@ -70,6 +70,15 @@ module _ (m : Meaning) (g : ℕ → ℕ) (e : Assignment) where
   InstancesTrue (c ∷ cs) = ((s : Substitution) → IsTrue (true_in (atom_true m g e) (substitute_clause s c))) × InstancesTrue cs
 
 module _ (m : Meaning) (g : ℕ → ℕ) (e : Assignment) where
+  -- the one instance of its parent that a word uses is true
+  abbrev pub UsedIsTrue : (w : LaterWord) (c d : ClauseTree) (ps : List ClauseTree) → Leads w c ps d → Type 0
+  UsedIsTrue (flipped a) c d ps leads = Unit {0}
+  UsedIsTrue (merged a) c d ps leads = Unit {0}
+  UsedIsTrue (reflexive a) c d ps leads = Unit {0}
+  UsedIsTrue (unit_deleted a n) c d ps leads = IsTrue (true_in (atom_true m g e) (substitute_clause leads.0.0 (only_of ps)))
+  UsedIsTrue (rewritten n a path) c d ps leads = IsTrue (true_in (atom_true m g e) (substitute_clause leads.0 (only_of ps)))
+
+module _ (m : Meaning) (g : ℕ → ℕ) (e : Assignment) where
   only_true : (ps : List ClauseTree) → IsTrue (is_one_clause ps) → InstancesTrue m g e ps → (s : Substitution) → IsTrue (true_in (atom_true m g e) (substitute_clause s (only_of ps)))
   only_true ps one all = one_parent (λ cs. InstancesTrue m g e cs → (s : Substitution) → IsTrue (true_in (atom_true m g e) (substitute_clause s (only_of cs)))) (λ c h. h.0) ps one all
 
@@ -80,15 +89,15 @@ module _ (m : Meaning) (g : ℕ → ℕ) (e : Assignment) where
   ]
 
   -- one word, by cases
-  pub word_sound : (w : LaterWord) (c d : ClauseTree) (ps : List ClauseTree) → IsTrue (later_fits w c ps) → Leads w c ps d
-      → IsTrue (true_in (atom_true m g e) c) → InstancesTrue m g e ps → IsTrue (true_in (atom_true m g e) d)
-  word_sound (flipped a) c d ps fits leads h all =
+  pub word_sound_at : (w : LaterWord) (c d : ClauseTree) (ps : List ClauseTree) → IsTrue (later_fits w c ps) → (leads : Leads w c ps d)
+      → IsTrue (true_in (atom_true m g e) c) → UsedIsTrue m g e w c d ps leads → IsTrue (true_in (atom_true m g e) d)
+  word_sound_at (flipped a) c d ps fits leads h used =
       let p = and_parts (has_place c a) (is_equation (atom_at c a)) fits in
       subst (λ d. IsTrue (true_in (atom_true m g e) d)) (sym leads)
       (with_atom_true (atom_true m g e) c a (equation (right_of (atom_at c a)) (left_of (atom_at c a)))
       (eqb_turned (val m g e (right_of (atom_at c a))) (val m g e (left_of (atom_at c a))) ∙ sym (equation_true m g e (atom_at c a) p.1))
       ∙ h)
-  word_sound (merged a) c d ps fits leads h all =
+  word_sound_at (merged a) c d ps fits leads h used =
       subst (λ d. IsTrue (true_in (atom_true m g e) d)) (sym leads.1)
       (elim (among_others (atom_true m g e) (λ k. k == a) c h) [
         | inl j ↦ j
@@ -98,7 +107,7 @@ module _ (m : Meaning) (g : ℕ → ℕ) (e : Assignment) where
             stays (atom_true m g e) (λ k. k == a) c leads.0.0 (ne_eqb leads.0.0 a (λ same. let e : leads.0.0 ≡ a = same in absurd (omega (arith, e, lt))))
             (at_place (atom_true m g e) c leads.0.0 ∙ ap (holds_option (atom_true m g e)) leads.0.2 ∙ sym (at_place (atom_true m g e) c a) ∙ here)
       ])
-  word_sound (reflexive a) c d ps fits leads h all =
+  word_sound_at (reflexive a) c d ps fits leads h used =
       let p = and_parts (has_literal false c a) (is_equation (atom_at c a)) fits in
       subst (λ d. IsTrue (true_in (atom_true m g e) d)) (sym leads.1)
       (elim (among_others (atom_true m g e) (λ k. k == a) c h) [
@@ -107,7 +116,7 @@ module _ (m : Meaning) (g : ℕ → ℕ) (e : Assignment) where
             sym (ap not (equation_true m g e (atom_at c a) p.1 ∙ eq-eqb (val m g e (left_of (atom_at c a))) (val m g e (right_of (atom_at c a))) (ap (val m g e) leads.0)))
             ∙ sym (at_sign (atom_true m g e) false c a p.0) ∙ subst (λ k. IsTrue (true_at (atom_true m g e) c k)) (eqb-true q.0 a q.1) q.2))
       ])
-  word_sound (unit_deleted a n) c d ps fits leads h all =
+  word_sound_at (unit_deleted a n) c d ps fits leads h used =
       let p = and_parts (is_one_clause ps) (is_unit (only_of ps) && are_opposite c a (only_of ps) 0) fits in
       let q = and_parts (is_unit (only_of ps)) (are_opposite c a (only_of ps) 0) p.1 in
       let s = leads.0.0 in
@@ -117,9 +126,9 @@ module _ (m : Meaning) (g : ℕ → ℕ) (e : Assignment) where
         | inr r ↦ absurd (opposite_false (atom_true m g e) c a (substitute_clause s (only_of ps)) 0 (opposite_put c a s (only_of ps) q.1)
             (sym leads.0.1 ∙ sym (first_atom_put s (only_of ps) q.0))
             (subst (λ k. IsTrue (true_at (atom_true m g e) c k)) (eqb-true r.0 a r.1) r.2)
-            (unit_true (atom_true m g e) s (only_of ps) q.0 (only_true ps p.0 all s)))
+            (unit_true (atom_true m g e) s (only_of ps) q.0 used))
       ])
-  word_sound (rewritten n a path) c d ps fits leads h all =
+  word_sound_at (rewritten n a path) c d ps fits leads h used =
       let p0 = and_parts (is_one_clause ps) (is_unit (only_of ps) && (has_literal true (only_of ps) 0 && (is_rule_equation (atom_at (only_of ps) 0) && (has_place c a && is_there (below (atom_at c a) path))))) fits in
       let p1 = and_parts (is_unit (only_of ps)) (has_literal true (only_of ps) 0 && (is_rule_equation (atom_at (only_of ps) 0) && (has_place c a && is_there (below (atom_at c a) path)))) p0.1 in
       let p2 = and_parts (has_literal true (only_of ps) 0) (is_rule_equation (atom_at (only_of ps) 0) && (has_place c a && is_there (below (atom_at c a) path))) p1.1 in
@@ -127,7 +136,7 @@ module _ (m : Meaning) (g : ℕ → ℕ) (e : Assignment) where
       let p4 = and_parts (is_equation (atom_at (only_of ps) 0)) (list_all (λ x. has_variable x (left_of (atom_at (only_of ps) 0))) (variables_of (right_of (atom_at (only_of ps) 0)))) p3.0 in
       let s = leads.0 in
       let rule = atom_at (only_of ps) 0 in
-      let here : IsTrue (true_at (atom_true m g e) (substitute_clause s (only_of ps)) 0) = unit_true (atom_true m g e) s (only_of ps) p1.0 (only_true ps p0.0 all s) in
+      let here : IsTrue (true_at (atom_true m g e) (substitute_clause s (only_of ps)) 0) = unit_true (atom_true m g e) s (only_of ps) p1.0 used in
       let holding : IsTrue (atom_true m g e (substitute s rule)) =
       ap (atom_true m g e) (sym (first_atom_put s (only_of ps) p1.0))
       ∙ sym (at_sign (atom_true m g e) true (substitute_clause s (only_of ps)) 0 (first_put s (only_of ps) true ∙ p2.0)) ∙ here in
@@ -139,6 +148,21 @@ module _ (m : Meaning) (g : ℕ → ℕ) (e : Assignment) where
       (with_atom_true (atom_true m g e) c a (replaced (atom_at c a) path (substitute s (right_of rule)))
       (replaced_atom m g e (atom_at c a) path (substitute s (left_of rule)) (substitute s (right_of rule)) leads.1 (sym equal))
       ∙ h)
+
+  -- where all instances are true, so is the one that is used
+  used_true : (w : LaterWord) (c d : ClauseTree) (ps : List ClauseTree) → IsTrue (later_fits w c ps) → (leads : Leads w c ps d)
+      → InstancesTrue m g e ps → UsedIsTrue m g e w c d ps leads
+  used_true (flipped a) c d ps fits leads all = tt
+  used_true (merged a) c d ps fits leads all = tt
+  used_true (reflexive a) c d ps fits leads all = tt
+  used_true (unit_deleted a n) c d ps fits leads all =
+      only_true ps (and_parts (is_one_clause ps) (is_unit (only_of ps) && are_opposite c a (only_of ps) 0) fits).0 all leads.0.0
+  used_true (rewritten n a path) c d ps fits leads all =
+      only_true ps (and_parts (is_one_clause ps) (is_unit (only_of ps) && (has_literal true (only_of ps) 0 && (is_rule_equation (atom_at (only_of ps) 0) && (has_place c a && is_there (below (atom_at c a) path))))) fits).0 all leads.0
+
+  pub word_sound : (w : LaterWord) (c d : ClauseTree) (ps : List ClauseTree) → IsTrue (later_fits w c ps) → Leads w c ps d
+      → IsTrue (true_in (atom_true m g e) c) → InstancesTrue m g e ps → IsTrue (true_in (atom_true m g e) d)
+  word_sound w c d ps fits leads h all = word_sound_at w c d ps fits leads h (used_true w c d ps fits leads all)
 
 -- a replacement in an atom is an atom
 pub replaced_is_atom : (t : Tree) (path : List ℕ) (u new : Tree) → below t path ≡ Some u → IsAtom t → IsAtom (replaced t path new)

@@ -14,27 +14,27 @@ use Rattle.derivation.proofs.Conclusions.{pair_put, IsNatural}
 use Rattle.derivation.proofs.Lawful.{IsLawfulRule}
 
 -- what unifies the sides of pairs makes each pair the same
-same_pairs : (s : Substitution) (ps : List (Tree × Tree)) → Unifies s (lefts ps) (rights ps) → AreSame (map (pair_put s) ps)
+pub same_pairs : (s : Substitution) (ps : List (Tree × Tree)) → Unifies s (lefts ps) (rights ps) → AreSame (map (pair_put s) ps)
 same_pairs s [] h = tt
 same_pairs s (p ∷ ps) h = (
   first_same (substitute s p.0) (substitute s p.1) (substitute_all s (lefts ps)) (substitute_all s (rights ps)) h,
   same_pairs s ps (others_same (substitute s p.0) (substitute s p.1) (substitute_all s (lefts ps)) (substitute_all s (rights ps)) h),
 )
 
-pairs_same : (s : Substitution) (ps : List (Tree × Tree)) → AreSame (map (pair_put s) ps) → Unifies s (lefts ps) (rights ps)
+pub pairs_same : (s : Substitution) (ps : List (Tree × Tree)) → AreSame (map (pair_put s) ps) → Unifies s (lefts ps) (rights ps)
 pairs_same s [] h = refl
 pairs_same s (p ∷ ps) h = ap₂ more h.0 (pairs_same s ps h.1)
 
 -- one substitution behind renamed parents
-behind_apart : (s : Substitution) (apart : Own) (cs : List ClauseTree) → instances (λ k. followed (apart k) s) cs ≡ map (substitute_clause s) (instances apart cs)
+pub behind_apart : (s : Substitution) (apart : Own) (cs : List ClauseTree) → instances (λ k. followed (apart k) s) cs ≡ map (substitute_clause s) (instances apart cs)
 behind_apart s apart [] = refl
 behind_apart s apart (c ∷ cs) = ap₂ (λ d ds. d ∷ ds) (sym (substitute_twice_clause (apart 0) s c)) (behind_apart s (λ k. apart (suc k)) cs)
 
-all_twice : (s u : Substitution) (cs : List ClauseTree) → map (substitute_clause u) (map (substitute_clause s) cs) ≡ map (substitute_clause (followed s u)) cs
+pub all_twice : (s u : Substitution) (cs : List ClauseTree) → map (substitute_clause u) (map (substitute_clause s) cs) ≡ map (substitute_clause (followed s u)) cs
 all_twice s u [] = refl
 all_twice s u (c ∷ cs) = ap₂ (λ d ds. d ∷ ds) (substitute_twice_clause s u c) (all_twice s u cs)
 
-all_same : (s u : Substitution) (cs : List ClauseTree) → ((x : ℕ) → s x ≡ u x) → map (substitute_clause s) cs ≡ map (substitute_clause u) cs
+pub all_same : (s u : Substitution) (cs : List ClauseTree) → ((x : ℕ) → s x ≡ u x) → map (substitute_clause s) cs ≡ map (substitute_clause u) cs
 all_same s u [] h = refl
 all_same s u (c ∷ cs) h = ap₂ (λ d ds. d ∷ ds) (substitute_alike_clause s u c (λ x i. h x)) (all_same s u cs h)
 

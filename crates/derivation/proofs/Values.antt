@@ -99,7 +99,7 @@ module _ (m : Meaning) (lawful : IsLawful m) where
     val_is e (elem k) h = inside_same k h
     val_is e (app f ts) h = ap (m.function f) (vals_are e ts h)
 
-    vals_are : (e : Assignment) (ts : Trees) → AllNameElements m ts → vals m (inside m lawful) e ts ≡ values_of m e ts
+    pub vals_are : (e : Assignment) (ts : Trees) → AllNameElements m ts → vals m (inside m lawful) e ts ≡ values_of m e ts
     vals_are e none h = refl
     vals_are e (more t ts) h = ap₂ (λ v vs. v ∷ vs) (val_is e t h.0) (vals_are e ts h.1)
 
@@ -108,7 +108,7 @@ module _ (m : Meaning) (lawful : IsLawful m) where
   literal_is e positive (elem k) h = refl
   literal_is e positive (app r ts) h = ap (by_vals m (inside m lawful) positive r) (vals_are e ts h)
 
-  clause_is : (e : Assignment) (c : ClauseTree) → NamesWithin m c → true_in (atom_true m (inside m lawful) e) c ≡ is_true_clause m e c
+  pub clause_is : (e : Assignment) (c : ClauseTree) → NamesWithin m c → true_in (atom_true m (inside m lawful) e) c ≡ is_true_clause m e c
   clause_is e [] h = refl
   clause_is e (l ∷ c) h = ap₂ (λ a b. a || b) (literal_is e l.positive l.atom h.0) (clause_is e c h.1)
 

@@ -53,7 +53,7 @@ module _ (g : Signature) where
     term_put_in s h (elem k) i = i
     term_put_in s h (app f ts) i = (ap (g.functions f) (count_put s ts) ∙ i.0, terms_put_in s h ts i.1)
 
-    terms_put_in : (s : Substitution) → ((x : ℕ) → IsTermIn g (s x)) → (ts : Trees) → AreTermsIn g ts → AreTermsIn g (substitute_all s ts)
+    pub terms_put_in : (s : Substitution) → ((x : ℕ) → IsTermIn g (s x)) → (ts : Trees) → AreTermsIn g ts → AreTermsIn g (substitute_all s ts)
     terms_put_in s h none i = tt
     terms_put_in s h (more t ts) i = (term_put_in s h t i.0, terms_put_in s h ts i.1)
 
@@ -86,7 +86,7 @@ module _ (g : Signature) where
     term_put s (elem k) i = ap (λ (b : Bool). if b then elem k else var 0) i
     term_put s (app f ts) i = ap₂ (λ (b : Bool) us. if b then app f us else var 0) (ap (g.functions f) (count_put s ts) ∙ i.0) (terms_put s ts i.1)
 
-    terms_put : (s : Substitution) (ts : Trees) → AreTermsIn g ts → all_erased (substitute_all s ts) ≡ substitute_all (erased_for s) ts
+    pub terms_put : (s : Substitution) (ts : Trees) → AreTermsIn g ts → all_erased (substitute_all s ts) ≡ substitute_all (erased_for s) ts
     terms_put s none i = refl
     terms_put s (more t ts) i = ap₂ more (term_put s t i.0) (terms_put s ts i.1)
 
@@ -105,7 +105,7 @@ module _ (g : Signature) where
         by true e rest = (refl, rest (arguments_same f f (all_erased ts) (substitute_all u ts) e))
         by false e rest = absurd (cc)
 
-    all_whole : (u : Substitution) (ts : Trees) → all_erased ts ≡ substitute_all u ts → AreTermsIn g ts
+    pub all_whole : (u : Substitution) (ts : Trees) → all_erased ts ≡ substitute_all u ts → AreTermsIn g ts
     all_whole u none h = tt
     all_whole u (more t ts) h = (
       whole u t (first_same (erased t) (substitute u t) (all_erased ts) (substitute_all u ts) h),

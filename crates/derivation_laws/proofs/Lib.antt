@@ -9,5 +9,5 @@ pub mod MovedTables
 pub mod MovedTerms
 pub mod NoElements
 pub mod Places
-mod RowAtoms
+pub mod RowAtoms
 pub mod Rules

@@ -7,7 +7,7 @@ use Rattle.fol_core.specs.Literals.{ClauseTree}
 use Rattle.fol_core.specs.Renumbered.{clause_variables, by_place, renumbered}
 use Rattle.fol_problem.specs.Stated.{Said}
 use Rattle.fol_core.specs.Substitutions.{substitute}
-use Rattle.fol_core.specs.Tree.{Tree, var}
+use Rattle.fol_core.specs.Tree.{var}
 use Rattle.std.specs.List.{AllByRecursion}
 use Rattle.substitutions.specs.Bindings.{Binding, by_bindings}
 use Rattle.substitutions.specs.Instances.{substitute_clause, followed}
@@ -28,7 +28,7 @@ use Rattle.derivation_laws.proofs.Rules.{only_in, word_keeping, conclusion_in}
 module _ (g : Signature) where
   -- What a word makes of a clause of the signature is in it. A rule puts terms in for the variables
   -- of its left side, and makes the same with those erased: the rewritten term has nothing that is.
-  lead_in : (w : LaterWord) (c : ClauseTree) (ps : List ClauseTree) (d : ClauseTree) → IsTrue (later_fits w c ps) → IsClauseIn g c → AreClausesIn g ps → Leads w c ps d → IsClauseIn g d
+  pub lead_in : (w : LaterWord) (c : ClauseTree) (ps : List ClauseTree) (d : ClauseTree) → IsTrue (later_fits w c ps) → IsClauseIn g c → AreClausesIn g ps → Leads w c ps d → IsClauseIn g d
   lead_in (flipped a) c ps d fits i j h =
       let p = and_parts (has_place c a) (is_equation (atom_at c a)) fits in
       let t = atom_at c a in
@@ -65,7 +65,7 @@ module _ (g : Signature) where
       subst (IsClauseIn g) (sym (variants_instances d c (sym same))) (clause_put_in g s (λ x. tt) d i)
 
   -- lines by their numbers
-  content_clause_in : (content : ContentTree) (c : ClauseTree) → content_clause content ≡ Some c → ContentIsIn g content → IsClauseIn g c
+  pub content_clause_in : (content : ContentTree) (c : ClauseTree) → content_clause content ≡ Some c → ContentIsIn g content → IsClauseIn g c
   content_clause_in (formula f) c h i = absurd (cc)
   content_clause_in (clause d) c h i = let same : d ≡ c = cc in subst (IsClauseIn g) same i
 
@@ -98,7 +98,7 @@ module _ (g : Signature) where
       after_in ls ws h.1 content h.5 i (conclusion_in g n.rule laws.0 laws.1 (word_keeping g w n is) h.0 h.1 h.3 (clauses_in ls n.parents h.0 h.2 i) h.4)
 
   -- an instance by terms of the signature
-  bindings_in : (es : List Binding) → AllByRecursion (λ e. IsTermIn g e.1) es → (x : ℕ) → IsTermIn g (by_bindings es x)
+  pub bindings_in : (es : List Binding) → AllByRecursion (λ e. IsTermIn g e.1) es → (x : ℕ) → IsTermIn g (by_bindings es x)
   bindings_in [] i x = tt
   bindings_in (e ∷ es) i x = by (x == e.0) (bindings_in es i.1 x)
     where

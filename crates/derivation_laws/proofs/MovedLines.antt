@@ -39,14 +39,14 @@ module _ (to back : Moving) (x : IsExchange to back) where
   content_moved (formula f) = refl
   content_moved (clause c) = refl
 
-  clause_at_moved : (ls : List LineTree) (n : ℕ) → clause_at (moved_lines to ls) n ≡ option_map (moved_clause to) (clause_at ls n)
+  pub clause_at_moved : (ls : List LineTree) (n : ℕ) → clause_at (moved_lines to ls) n ≡ option_map (moved_clause to) (clause_at ls n)
   clause_at_moved ls n = ap (option_and_then (λ (l : LineTree). content_clause l.content)) (line_moved ls n) ∙ by (line_at ls n)
     where
       by : (o : Option LineTree) → option_and_then (λ (l : LineTree). content_clause l.content) (option_map (moved_line to) o) ≡ option_map (moved_clause to) (option_and_then (λ (l : LineTree). content_clause l.content) o)
       by None = refl
       by (Some l) = content_moved l.content
 
-  clauses_moved : (ls : List LineTree) (ns : List ℕ) (cs : List ClauseTree) → AreClauses ls ns cs → AreClauses (moved_lines to ls) ns (map (moved_clause to) cs)
+  pub clauses_moved : (ls : List LineTree) (ns : List ℕ) (cs : List ClauseTree) → AreClauses ls ns cs → AreClauses (moved_lines to ls) ns (map (moved_clause to) cs)
   clauses_moved ls [] [] h = tt
   clauses_moved ls [] (c ∷ cs) h = absurd h
   clauses_moved ls (n ∷ ns) [] h = absurd h
@@ -68,10 +68,10 @@ module _ (to back : Moving) (x : IsExchange to back) where
       ap₂ (λ p q. p && q) (is_equation_moved to back x t)
       (λ i. list_all (λ y. has y i) ((ap variables_of (right_moved to t) ∙ variables_stay to (right_of t)) i))
 
-  atom_only : (ps : List ClauseTree) → atom_at (only_of (map (moved_clause to) ps)) 0 ≡ moved_term to (atom_at (only_of ps) 0)
+  pub atom_only : (ps : List ClauseTree) → atom_at (only_of (map (moved_clause to) ps)) 0 ≡ moved_term to (atom_at (only_of ps) 0)
   atom_only ps = ap (λ c. atom_at c 0) (only_moved to back x ps) ∙ atom_moved to (only_of ps) 0
 
-  fits_moved : (w : LaterWord) (c : ClauseTree) (ps : List ClauseTree) → later_fits w (moved_clause to c) (map (moved_clause to) ps) ≡ later_fits w c ps
+  pub fits_moved : (w : LaterWord) (c : ClauseTree) (ps : List ClauseTree) → later_fits w (moved_clause to c) (map (moved_clause to) ps) ≡ later_fits w c ps
   fits_moved (flipped a) c ps = ap₂ (λ p q. p && q) (place_moved to c a) (ap is_equation (atom_moved to c a) ∙ is_equation_moved to back x (atom_at c a))
   fits_moved (merged a) c ps = place_moved to c a
   fits_moved (reflexive a) c ps = ap₂ (λ p q. p && q) (has_moved to false c a) (ap is_equation (atom_moved to c a) ∙ is_equation_moved to back x (atom_at c a))
@@ -87,7 +87,7 @@ module _ (to back : Moving) (x : IsExchange to back) where
       (ap₂ (λ p q. p && q) (place_moved to c a)
       (ap (λ t. is_there (below t path)) (atom_moved to c a) ∙ ap is_there (below_moved to (atom_at c a) path) ∙ there_moved to (below (atom_at c a) path))))))
 
-  leads_moved : (w : LaterWord) (c : ClauseTree) (ps : List ClauseTree) (d : ClauseTree) → Leads w c ps d → Leads w (moved_clause to c) (map (moved_clause to) ps) (moved_clause to d)
+  pub leads_moved : (w : LaterWord) (c : ClauseTree) (ps : List ClauseTree) (d : ClauseTree) → Leads w c ps d → Leads w (moved_clause to c) (map (moved_clause to) ps) (moved_clause to d)
   leads_moved (flipped a) c ps d h =
       let atom = atom_at c a in
       let flipped_atom = sym (equation_moved to back x (right_of atom) (left_of atom)) ∙ ap₂ equation (sym (right_moved to atom) ∙ ap right_of (sym (atom_moved to c a))) (sym (left_moved to atom) ∙ ap left_of (sym (atom_moved to c a))) in
@@ -143,7 +143,7 @@ module _ (to back : Moving) (x : IsExchange to back) where
       )
 
   -- an instance by moved terms
-  bindings_moved : (es : List Binding) (x : ℕ) → by_bindings (moved_bindings to es) x ≡ moved_term to (by_bindings es x)
+  pub bindings_moved : (es : List Binding) (x : ℕ) → by_bindings (moved_bindings to es) x ≡ moved_term to (by_bindings es x)
   bindings_moved [] x = refl
   bindings_moved (e ∷ es) x = by (x == e.0) (bindings_moved es x)
     where
@@ -243,7 +243,7 @@ module _ (to back : Moving) (x : IsExchange to back) where
   empty_moved (clause []) = refl
   empty_moved (clause (l ∷ c)) = refl
 
-  ends_moved : (ls : List LineTree) → ends_empty (moved_lines to ls) ≡ ends_empty ls
+  pub ends_moved : (ls : List LineTree) → ends_empty (moved_lines to ls) ≡ ends_empty ls
   ends_moved [] = refl
   ends_moved (l ∷ []) = empty_moved l.content
   ends_moved (l ∷ k ∷ ls) = ends_moved (k ∷ ls)

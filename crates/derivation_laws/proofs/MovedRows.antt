@@ -21,7 +21,7 @@ index_moved to [] k h = absurd (omega arith)
 index_moved to (x ∷ xs) zero h = refl
 index_moved to (x ∷ xs) (suc k) h = index_moved to xs k (omega arith)
 
-abbrev all_somes : List Said → ℕ
+abbrev pub all_somes : List Said → ℕ
 all_somes [] = 0
 all_somes (s ∷ ss) = somes (form s) + all_somes ss
 
@@ -76,10 +76,10 @@ module _ (to : Moving) where
   abbrev said_moved : Said → Said
   said_moved s = said s.role (moved_formula to s.formula)
 
-  form_moved : (s : Said) → form (said_moved s) ≡ moved_formula to (form s)
+  pub form_moved : (s : Said) → form (said_moved s) ≡ moved_formula to (form s)
   form_moved s = ap (nnf_of (is_taken s.role)) (closure_moved s.formula) ∙ nnf_moved (is_taken s.role) (closure_of s.formula)
 
-  somes_stay : (f : Fol) → somes (moved_formula to f) ≡ somes f
+  pub somes_stay : (f : Fol) → somes (moved_formula to f) ≡ somes f
   somes_stay verum = refl
   somes_stay falsum = refl
   somes_stay (equal s t) = refl
@@ -93,7 +93,7 @@ module _ (to : Moving) where
   somes_stay (exists x f) = ap (λ n. n + 1) (somes_stay f)
 
   -- clauses
-  abbrev all_moved : List ClauseTree → List ClauseTree
+  abbrev pub all_moved : List ClauseTree → List ClauseTree
   all_moved cs = map (moved_clause to) cs
 
   each_moved : (c : ClauseTree) (ds : List ClauseTree) → with_each (moved_clause to c) (all_moved ds) ≡ all_moved (with_each c ds)
@@ -104,7 +104,7 @@ module _ (to : Moving) where
   distributed_moved [] ds = refl
   distributed_moved (c ∷ cs) ds = ap₂ (λ es fs. es ++ fs) (each_moved c ds) (distributed_moved cs ds) ∙ sym (map-append (moved_clause to) (with_each c ds) (distributed cs ds))
 
-  variables_moved : (xs : List ℕ) → moved_terms to (trees_of (map var xs)) ≡ trees_of (map var xs)
+  pub variables_moved : (xs : List ℕ) → moved_terms to (trees_of (map var xs)) ≡ trees_of (map var xs)
   variables_moved [] = refl
   variables_moved (x ∷ xs) = ap (more (var x)) (variables_moved xs)
 
@@ -133,7 +133,7 @@ module _ (to : Moving) where
     literals_moved terms positive (exists y f) = refl
 
     module _ (symbols : List ℕ) where
-      clauses_in_moved : (k : ℕ) (scope : List ℕ) (terms : Substitution) (f : Fol) → k + somes f ≤ length symbols
+      pub clauses_in_moved : (k : ℕ) (scope : List ℕ) (terms : Substitution) (f : Fol) → k + somes f ≤ length symbols
           → clauses_in (map to symbols) k scope (moved_terms_for to terms) (moved_formula to f) ≡ all_moved (clauses_in symbols k scope terms f)
       clauses_in_moved k scope terms (conjunction f g) h =
           let second = ap (λ n. clauses_in (map to symbols) (k + n) scope (moved_terms_for to terms) (moved_formula to g)) (somes_stay f) ∙ clauses_in_moved (k + somes f) scope terms g (omega arith) in
@@ -186,7 +186,7 @@ arities_count n (equivalence f g) = refl
 arities_count n (forall x f) = arities_count (n + 1) f
 arities_count n (exists x f) = omega (arith, arities_count n f)
 
-all_count : (ss : List Said) → length (all_arities ss) ≡ all_somes ss
+pub all_count : (ss : List Said) → length (all_arities ss) ≡ all_somes ss
 all_count [] = refl
 all_count (s ∷ ss) = length-append (arities 0 (form s)) (all_arities ss) ∙ ap₂ (λ a b. a + b) (arities_count 0 (form s)) (all_count ss)
 

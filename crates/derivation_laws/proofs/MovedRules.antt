@@ -171,14 +171,14 @@ backwards to back x = record { there = x.again; again = x.there; equality_stays 
 
 -- a conclusion of moved parents is that of the parents, moved
 module _ (to back : Moving) (x : IsExchange to back) (r : InferenceRule) (movable : IsMovable to r) (backward : IsMovable back r) (cs : List ClauseTree) where
-  unifies_moved : (own : Own) → UnifiesFamily r cs own → UnifiesFamily r (map (moved_clause to) cs) (moved_own to own)
+  pub unifies_moved : (own : Own) → UnifiesFamily r cs own → UnifiesFamily r (map (moved_clause to) cs) (moved_own to own)
   unifies_moved own h = subst AreSame (sym (movable.pairs (instances own cs)) ∙ ap r.pairs (instances_put to own cs)) (same_moved to (r.pairs (instances own cs)) h)
 
-  taken_back : (other : Own) → instances (moved_own back other) cs ≡ map (moved_clause back) (instances other (map (moved_clause to) cs))
+  pub taken_back : (other : Own) → instances (moved_own back other) cs ≡ map (moved_clause back) (instances other (map (moved_clause to) cs))
   taken_back other =
       ap (instances (moved_own back other)) (sym (clauses_back to back x.there cs)) ∙ sym (instances_put back other (map (moved_clause to) cs))
 
-  unifies_back : (other : Own) → UnifiesFamily r (map (moved_clause to) cs) other → UnifiesFamily r cs (moved_own back other)
+  pub unifies_back : (other : Own) → UnifiesFamily r (map (moved_clause to) cs) other → UnifiesFamily r cs (moved_own back other)
   unifies_back other h =
       let all = instances other (map (moved_clause to) cs) in
       subst AreSame (sym (backward.pairs all) ∙ ap r.pairs (sym (taken_back other))) (same_moved back (r.pairs all) h)

@@ -3,12 +3,12 @@ use Rattle.std.proofs.Common.{◌≡◌, inl, inr, ℕ, suc, ◌<◌, true, fals
 use Rattle.std.specs.Option.{option_map_or}
 use Rattle.std.proofs.lemmas.Bool.{or_left, or_right, eq-eqb}
 use Rattle.std.proofs.lemmas.Option.{slice_get-get_or}
-use Rattle.clausify.specs.Input.{all_arities, skolems, all_rows, clauses_in_table}
+use Rattle.clausify.specs.Input.{all_arities, skolems, all_rows, clauses_in_table, skolem_numbers}
 use Rattle.clausify.specs.Names.{next_constant, next_function, skolem_symbols, all_entered, entered_numbers}
 use Rattle.derivation.specs.Lines.{InputRow, IsRefutation}
 use Rattle.fol_core.specs.Bound.{has_symbol, have_symbol, uses_symbol}
 use Rattle.fol_core.specs.Fol.{Fol, verum, falsum, equal, atom, negation, conjunction, disjunction, implication, equivalence, forall, exists}
-use Rattle.fol_problem.specs.Stated.{Said, said, AreWellFormed}
+use Rattle.fol_problem.specs.Stated.{Said, Stated, said, AreWellFormed, IsWellFormed}
 use Rattle.fol_core.specs.SymbolTable.{Symbol, symbol, number_of, kind_at, is_same_kind, is_clash, entered, FindsEach, KeepsNumbers}
 use Rattle.fol_core.specs.Tree.{Tree, var, elem, app, Trees, none, more}
 use Rattle.fol_core.specs.declared.symbols.Kind.{Kind}
@@ -16,7 +16,7 @@ use Rattle.fol_core.specs.declared.symbols.Kind.TheVariants.{Function, Relation}
 use Rattle.fol_core.proofs.Places.{slice_get_more, slice_get_last, slice_get-push_cases}
 use Rattle.fol_core.proofs.SymbolLemmas.{symbol_there, number_of_push, FindsEach-push}
 use Rattle.derivation_laws.specs.Moved.{Moving, moved_term, moved_terms, moved_formula, moved_lines, moved_said, moved_rows}
-use Rattle.derivation_laws.specs.Tables.{StandsIn, AllStandIn, IsWithinTable, LeadsTo, RefutationIsRead}
+use Rattle.derivation_laws.specs.Tables.{StandsIn, AllStandIn, IsWithinTable, LeadsTo, IsTableOf, HasSkolems, RefutationIsRead}
 use Rattle.derivation_laws.proofs.Exchanges.{leads_to}
 use Rattle.derivation_laws.proofs.MovedLines.{refutation_moved}
 use Rattle.derivation_laws.proofs.MovedRows.{all_rows_moved}
@@ -144,28 +144,40 @@ symbols_count : (input : List Symbol) (c f : ℕ) (ns : List ℕ) → length (sk
 symbols_count input c f [] = refl
 symbols_count input c f (n ∷ ns) = ap suc (symbols_count input (next_constant input c n) (next_function input f n) ns)
 
-pub refutation_read : RefutationIsRead
-refutation_read p all table well has is within =
+-- numbers are exchanged so that the formulas and the Skolem symbols have those of the other table
+pub table_moved : (p : Stated) (all table : List Symbol) → IsWellFormed p → HasSkolems p all → IsTableOf p table → IsWithinTable table all
+    → (to : Moving) × (back : Moving) × LeadsTo all table to back × (moved_said to p.formulas ≡ p.formulas)
+    × (map to (skolem_numbers all p) ≡ skolem_numbers table p) × (length (skolem_numbers all p) ≡ length (all_arities p.formulas))
+table_moved p all table well has is within =
     let once = has.is_table.finds in
     let sk = skolems p.symbols p.formulas in
     let last = all_entered table sk in
     let entered_all = all_enter all once table is.finds within sk has.skolem in
     let leads = leads_to all last once entered_all.finds has.few entered_all.within in
     let to = leads.0 in
-    let numbers = entered_numbers all sk in
     let below : (n : ℕ) → n < length p.symbols → to n ≡ n = λ n h.
     let x = get_or p.symbols n (symbol [] 0 Function) in
     let at = slice_get-get_or p.symbols n (symbol [] 0 Function) h in
-    leads.2.same n n x (has.is_table.keeps n x at) (entered_all.keeps n x (is.keeps n x at)) in
-    let said_same = said_stays to (length p.symbols) below p.formulas well in
-    let rows : moved_rows to (clauses_in_table all p) ≡ clauses_in_table table p =
-    sym (all_rows_moved to leads.2.exchange.equality_stays numbers p.formulas (numbers_count all sk ∙ symbols_count p.symbols 0 0 (all_arities p.formulas)))
-    ∙ ap₂ all_rows (numbers_moved all once last to leads.1 leads.2 table is.finds within sk has.skolem (λ n x e. e)) said_same in (
+    leads.2.same n n x (has.is_table.keeps n x at) (entered_all.keeps n x (is.keeps n x at)) in (
       to,
       leads.1,
       record { exchange = leads.2.exchange; same = λ n m x h k. leads.2.same n m x h (entered_all.keeps m x k) },
+      said_stays to (length p.symbols) below p.formulas well,
+      numbers_moved all once last to leads.1 leads.2 table is.finds within sk has.skolem (λ n x e. e),
+      numbers_count all sk ∙ symbols_count p.symbols 0 0 (all_arities p.formulas),
+    )
+
+pub refutation_read : RefutationIsRead
+refutation_read p all table well has is within =
+    let moved = table_moved p all table well has is within in
+    let to = moved.0 in
+    let rows : moved_rows to (clauses_in_table all p) ≡ clauses_in_table table p =
+    sym (all_rows_moved to moved.2.exchange.equality_stays (skolem_numbers all p) p.formulas moved.5) ∙ ap₂ all_rows moved.4 moved.3 in (
+      to,
+      moved.1,
+      moved.2,
       λ ls h.
-          let moved = refutation_moved to leads.1 p.formulas (clauses_in_table all p) ls leads.2.exchange h in
-          let with_rows = subst (λ (rows : List InputRow). IsRefutation (moved_said to p.formulas) rows (moved_lines to ls)) rows moved in
-          subst (λ (ss : List Said). IsRefutation ss (clauses_in_table table p) (moved_lines to ls)) said_same with_rows,
+          let with_rows = subst (λ (rows : List InputRow). IsRefutation (moved_said to p.formulas) rows (moved_lines to ls)) rows
+          (refutation_moved to moved.1 p.formulas (clauses_in_table all p) ls moved.2.exchange h) in
+          subst (λ (ss : List Said). IsRefutation ss (clauses_in_table table p) (moved_lines to ls)) moved.3 with_rows,
     )

@@ -66,7 +66,7 @@ module _ (to : Moving) where
     variable_stays_in x none = refl
     variable_stays_in x (more t ts) = ap₂ (λ p q. p || q) (variable_stays x t) (variable_stays_in x ts)
 
-  clause_variables_stay : (c : ClauseTree) → clause_variables (moved_clause to c) ≡ clause_variables c
+  pub clause_variables_stay : (c : ClauseTree) → clause_variables (moved_clause to c) ≡ clause_variables c
   clause_variables_stay [] = refl
   clause_variables_stay (l ∷ c) = ap₂ joined (variables_stay l.atom) (clause_variables_stay c)
 
@@ -203,7 +203,7 @@ module _ (to : Moving) where
         term_back (elem k) = refl
         term_back (app f ts) = ap₂ app (there f) (terms_back ts)
 
-        terms_back : (ts : Trees) → moved_terms back (moved_terms to ts) ≡ ts
+        pub terms_back : (ts : Trees) → moved_terms back (moved_terms to ts) ≡ ts
         terms_back none = refl
         terms_back (more t ts) = ap₂ more (term_back t) (terms_back ts)
 

@@ -48,7 +48,7 @@ literal_atoms terms positive (equivalence f g) = tt
 literal_atoms terms positive (forall x f) = tt
 literal_atoms terms positive (exists x f) = tt
 
-clause_atoms : (symbols : List ℕ) (k : ℕ) (scope : List ℕ) (terms : Substitution) (f : Fol) → AllAtoms (clauses_in symbols k scope terms f)
+pub clause_atoms : (symbols : List ℕ) (k : ℕ) (scope : List ℕ) (terms : Substitution) (f : Fol) → AllAtoms (clauses_in symbols k scope terms f)
 clause_atoms symbols k scope terms (conjunction f g) =
     both_atoms (clauses_in symbols k scope terms f) (clauses_in symbols (k + somes f) scope terms g) (clause_atoms symbols k scope terms f) (clause_atoms symbols (k + somes f) scope terms g)
 clause_atoms symbols k scope terms (disjunction f g) =

@@ -39,7 +39,7 @@ module _ (g : Signature) where
   atoms_erasable : (t u : Tree) → IsAtomIn g t → IsAtomIn g u → IsErasable (t, u)
   atoms_erasable t u i j s h = sym (atom_put g s t i) ∙ ap (erased_atom g) h ∙ atom_put g s u j
 
-  same_erased : (s : Substitution) (ps : List (Tree × Tree)) → AllByRecursion IsErasable ps → AreSame (map (pair_put s) ps) → AreSame (map (pair_put (erased_for g s)) ps)
+  pub same_erased : (s : Substitution) (ps : List (Tree × Tree)) → AllByRecursion IsErasable ps → AreSame (map (pair_put s) ps) → AreSame (map (pair_put (erased_for g s)) ps)
   same_erased s [] e h = tt
   same_erased s (p ∷ ps) e h = (e.0 s h.0, same_erased s ps e.1 h.1)
 

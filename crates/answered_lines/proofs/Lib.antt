@@ -1,0 +1,14 @@
+pub mod AnswerInstances
+pub mod AnswersStay
+pub mod AskedRows
+pub mod Conclusions
+pub mod Contents
+pub mod Good
+pub mod GoodLines
+pub mod GoodSteps
+pub mod MovedAnswers
+pub mod PlainLines
+pub mod ReadAnswers
+pub mod RefusedLines
+pub mod UnansweredClauses
+pub mod WorkedLemmas

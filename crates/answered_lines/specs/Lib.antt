@@ -1,0 +1,10 @@
+pub mod Answering
+pub mod Laws
+pub mod Lines
+pub mod Moved
+pub mod Refused
+pub mod Shows
+pub mod Stays
+pub mod Steps
+pub mod View
+pub mod Worked
