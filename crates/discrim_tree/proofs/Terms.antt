@@ -7,7 +7,7 @@ use Rattle.unifiers.specs.Matching.{matched}
 use Rattle.unifiers.specs.Unifier.{Unifies, solution, unifier_of}
 use Rattle.unifiers.proofs.Found.{most_general, none_there}
 use Rattle.unifiers.proofs.MatchesFound.{match_makes, match_found}
-use Rattle.term_classes.proofs.Renamed.{both_made, made_of_both}
+use Rattle.term_unifiers.proofs.Renamed.{both_made, made_of_both}
 use Rattle.discrim_tree.specs.Laws.{InstancesAreMade, UnifiersAreOfTwo}
 use Rattle.discrim_tree.specs.Terms.{has_instance, apart_as, can_unify}
 

@@ -5,7 +5,7 @@ ghost use Rattle.discrim_tree.specs.Terms.{can_unify};
 
 use fol_core::Term;
 use std::alloc::{AllocError, Global};
-use term_classes::TermPair;
+use term_unifiers::TermPair;
 
 /// Whether two terms, with variables of their own each, have a unifier.
 pub fn can_unify(alloc: Global, s: &Term, t: &Term) -> Result<bool, AllocError>

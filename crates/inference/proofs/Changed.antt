@@ -11,8 +11,8 @@ use Rattle.fol_core.specs.Tree.{Tree, app, more, trees_of}
 use Rattle.fol_core.specs.declared.term.Term.{Term}
 use Rattle.fol_core.proofs.Putting.{put_each}
 use Rattle.inference.specs.Left.{changed, changed_all}
-use Rattle.term_classes.specs.Written.{IsWritten, AreWritten}
-use Rattle.term_classes.proofs.Written.{next_written, application_written}
+use Rattle.term_unifiers.specs.Written.{IsWritten, AreWritten}
+use Rattle.term_unifiers.proofs.Written.{next_written, application_written}
 
 -- what one makes of items, and another of the one of a number
 abbrev pub list_two : (Term → Tree) → (Term → Tree) → List Term → ℕ → List Tree

@@ -13,7 +13,7 @@ use Rattle.fol_core.specs.Tree.{Tree, var, elem, app, Trees, none, more}
 use Rattle.substitutions.specs.Apart.{Own}
 use Rattle.inference.specs.Left.{ChangeTree, LeftTree, changed, changed_all, all_left, left_atom, left_clause, left_tree, symbols_lent}
 use Rattle.inference.specs.declared.left.Left.{Left}
-use Rattle.term_classes.specs.Renamed.{own_among}
+use Rattle.term_unifiers.specs.Renamed.{own_among}
 
 -- no variable becomes more
 abbrev pub AreFew : Substitution → ℕ → Type 0

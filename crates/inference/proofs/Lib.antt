@@ -14,5 +14,6 @@ pub mod Placing
 pub mod PlainSteps
 pub mod PutSteps
 pub mod RuleSteps
+pub mod SizeSteps
 pub mod WordSteps
 pub mod WriteSteps

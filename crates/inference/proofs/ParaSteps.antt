@@ -23,7 +23,7 @@ use Rattle.inference.proofs.RuleSteps.{left_beside, whole_put}
 
 -- where the path is there, it is the instance that is changed
 mutual
-  changed_there : (s : Substitution) (t : Tree) (path : List ℕ) (new u : Tree) → subterm_at t path ≡ Some u → changed s t path new ≡ replaced (substitute s t) path new
+  pub changed_there : (s : Substitution) (t : Tree) (path : List ℕ) (new u : Tree) → subterm_at t path ≡ Some u → changed s t path new ≡ replaced (substitute s t) path new
   changed_there s t [] new u h = refl
   changed_there s (var x) (k ∷ path) new u h = cc
   changed_there s (elem n) (k ∷ path) new u h = refl

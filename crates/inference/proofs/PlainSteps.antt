@@ -102,10 +102,10 @@ put_too_large c a path t u place at lt =
 
 -- a rule put in
 module _ (c : ClauseTree) (a : ℕ) (path : List ℕ) (left right t : Tree) (at : below (atom_at c a) path ≡ Some t) where
-  pub put_differs : IsExchanged left right t made.Differs → PutAs c a path left right c put.Differs
+  pub put_differs : IsExchanged left right t made.Differs → PutAs is_too_large c a path left right c put.Differs
   put_differs is = (t, at, is, refl)
 
-  pub put_large : IsTrue (has_place c a) → IsExchanged left right t made.TooLarge → PutAs c a path left right c put.TooLarge
+  pub put_large : IsTrue (has_place c a) → IsExchanged left right t made.TooLarge → PutAs is_too_large c a path left right c put.TooLarge
   put_large place is = (t, is.0, at, is.1, put_too_large c a path t is.0 place at is.2, refl)
 
 -- sides that are the same, or not

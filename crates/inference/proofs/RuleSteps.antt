@@ -17,8 +17,8 @@ use Rattle.inference.specs.Judged.{CanUnify, Equates, IsConclusion, JudgedAs}
 use Rattle.inference.specs.Left.{LeftTree, Leaves, left_clause, left_literal, all_whole}
 use Rattle.inference.specs.declared.rules.Judged.{Judged}
 use Rattle.inference.specs.declared.rules.Judged.TheVariants.{Unfit, Apart, Small, Large}
-use Rattle.term_classes.specs.Renamed.{Equated, own_among, left_sides, right_sides}
-use Rattle.term_classes.specs.Solved.{HasNoUnifier}
+use Rattle.term_unifiers.specs.Renamed.{Equated, own_among, left_sides, right_sides}
+use Rattle.term_unifiers.specs.Solved.{HasNoUnifier}
 
 under_apart : (s : Substitution) (apart : Own) (cs : List ClauseTree) → instances (λ k. followed (apart k) s) cs ≡ map (substitute_clause s) (instances apart cs)
 under_apart s apart [] = refl

@@ -19,42 +19,42 @@ use Rattle.inference.specs.declared.underway.Put.{Put}
 use Rattle.inference.specs.declared.underway.Put.TheVariants as put
 
 -- the sides exchanged
-pub flips_no_place : (a : ℕ) (c : ClauseTree) (ps : List ClauseTree) → has_place c a ≡ false → FollowsAs (flipped a) c ps c Misplaced
-flips_no_place a c ps h = (and_left (has_place c a) (is_equation (atom_at c a)) h, refl)
+pub flips_no_place : (x : ClauseTree → Bool) (a : ℕ) (c : ClauseTree) (ps : List ClauseTree) → has_place c a ≡ false → FollowsAs x (flipped a) c ps c Misplaced
+flips_no_place x a c ps h = (and_left (has_place c a) (is_equation (atom_at c a)) h, refl)
 
-pub flips_no_equation : (a : ℕ) (c : ClauseTree) (ps : List ClauseTree) → is_equation (atom_at c a) ≡ false → FollowsAs (flipped a) c ps c Misplaced
-flips_no_equation a c ps h = (and_right (has_place c a) (is_equation (atom_at c a)) h, refl)
+pub flips_no_equation : (x : ClauseTree → Bool) (a : ℕ) (c : ClauseTree) (ps : List ClauseTree) → is_equation (atom_at c a) ≡ false → FollowsAs x (flipped a) c ps c Misplaced
+flips_no_equation x a c ps h = (and_right (has_place c a) (is_equation (atom_at c a)) h, refl)
 
-pub flips : (a : ℕ) (c d : ClauseTree) (ps : List ClauseTree) → IsTrue (has_place c a) → IsTrue (is_equation (atom_at c a)) → d ≡ with_atom c a (equation (right_of (atom_at c a)) (left_of (atom_at c a))) → FollowsAs (flipped a) c ps d Done
-flips a c d ps h k is = (and_from (has_place c a) (is_equation (atom_at c a)) h k, is)
+pub flips : (x : ClauseTree → Bool) (a : ℕ) (c d : ClauseTree) (ps : List ClauseTree) → IsTrue (has_place c a) → IsTrue (is_equation (atom_at c a)) → d ≡ with_atom c a (equation (right_of (atom_at c a)) (left_of (atom_at c a))) → FollowsAs x (flipped a) c ps d Done
+flips x a c d ps h k is = (and_from (has_place c a) (is_equation (atom_at c a)) h k, is)
 
 -- a literal that is repeated
-pub merges_no_place : (a : ℕ) (c : ClauseTree) (ps : List ClauseTree) → has_place c a ≡ false → FollowsAs (merged a) c ps c Misplaced
-merges_no_place a c ps h = (h, refl)
+pub merges_no_place : (x : ClauseTree → Bool) (a : ℕ) (c : ClauseTree) (ps : List ClauseTree) → has_place c a ≡ false → FollowsAs x (merged a) c ps c Misplaced
+merges_no_place x a c ps h = (h, refl)
 
-pub merges_not : (a : ℕ) (c : ClauseTree) (ps : List ClauseTree) → IsTrue (has_place c a) → (IsRepeated c a → ⊥) → FollowsAs (merged a) c ps c Differs
-merges_not a c ps h never = (h, (λ e leads. never leads.0), refl)
+pub merges_not : (x : ClauseTree → Bool) (a : ℕ) (c : ClauseTree) (ps : List ClauseTree) → IsTrue (has_place c a) → (IsRepeated c a → ⊥) → FollowsAs x (merged a) c ps c Differs
+merges_not x a c ps h never = (h, (λ e leads. never leads.0), refl)
 
-pub merges : (a : ℕ) (c d : ClauseTree) (ps : List ClauseTree) → IsTrue (has_place c a) → IsRepeated c a → d ≡ others (λ k. k == a) c → FollowsAs (merged a) c ps d Done
-merges a c d ps h repeated is = (h, (repeated, is))
+pub merges : (x : ClauseTree → Bool) (a : ℕ) (c d : ClauseTree) (ps : List ClauseTree) → IsTrue (has_place c a) → IsRepeated c a → d ≡ others (λ k. k == a) c → FollowsAs x (merged a) c ps d Done
+merges x a c d ps h repeated is = (h, (repeated, is))
 
 -- an equation that is false of the same
-pub drops_no_literal : (a : ℕ) (c : ClauseTree) (ps : List ClauseTree) → has_literal false c a ≡ false → FollowsAs (reflexive a) c ps c Misplaced
-drops_no_literal a c ps h = (and_left (has_literal false c a) (is_equation (atom_at c a)) h, refl)
+pub drops_no_literal : (x : ClauseTree → Bool) (a : ℕ) (c : ClauseTree) (ps : List ClauseTree) → has_literal false c a ≡ false → FollowsAs x (reflexive a) c ps c Misplaced
+drops_no_literal x a c ps h = (and_left (has_literal false c a) (is_equation (atom_at c a)) h, refl)
 
-pub drops_no_equation : (a : ℕ) (c : ClauseTree) (ps : List ClauseTree) → is_equation (atom_at c a) ≡ false → FollowsAs (reflexive a) c ps c Misplaced
-drops_no_equation a c ps h = (and_right (has_literal false c a) (is_equation (atom_at c a)) h, refl)
+pub drops_no_equation : (x : ClauseTree → Bool) (a : ℕ) (c : ClauseTree) (ps : List ClauseTree) → is_equation (atom_at c a) ≡ false → FollowsAs x (reflexive a) c ps c Misplaced
+drops_no_equation x a c ps h = (and_right (has_literal false c a) (is_equation (atom_at c a)) h, refl)
 
-pub drops_not : (a : ℕ) (c : ClauseTree) (ps : List ClauseTree) → IsTrue (has_literal false c a) → IsTrue (is_equation (atom_at c a)) → same_tree (left_of (atom_at c a)) (right_of (atom_at c a)) ≡ false → FollowsAs (reflexive a) c ps c Differs
-drops_not a c ps h k differ = (
+pub drops_not : (x : ClauseTree → Bool) (a : ℕ) (c : ClauseTree) (ps : List ClauseTree) → IsTrue (has_literal false c a) → IsTrue (is_equation (atom_at c a)) → same_tree (left_of (atom_at c a)) (right_of (atom_at c a)) ≡ false → FollowsAs x (reflexive a) c ps c Differs
+drops_not x a c ps h k differ = (
   and_from (has_literal false c a) (is_equation (atom_at c a)) h k,
   (λ e leads. false≢true (sym differ ∙ subst (λ t. IsTrue (same_tree (left_of (atom_at c a)) t)) leads.0 (same_itself (left_of (atom_at c a))))),
   refl,
 )
 
-pub drops : (a : ℕ) (c d : ClauseTree) (ps : List ClauseTree) → IsTrue (has_literal false c a) → IsTrue (is_equation (atom_at c a)) → IsTrue (same_tree (left_of (atom_at c a)) (right_of (atom_at c a))) → d ≡ others (λ k. k == a) c
-    → FollowsAs (reflexive a) c ps d Done
-drops a c d ps h k same is = (and_from (has_literal false c a) (is_equation (atom_at c a)) h k, (tree_same (left_of (atom_at c a)) (right_of (atom_at c a)) same, is))
+pub drops : (x : ClauseTree → Bool) (a : ℕ) (c d : ClauseTree) (ps : List ClauseTree) → IsTrue (has_literal false c a) → IsTrue (is_equation (atom_at c a)) → IsTrue (same_tree (left_of (atom_at c a)) (right_of (atom_at c a))) → d ≡ others (λ k. k == a) c
+    → FollowsAs x (reflexive a) c ps d Done
+drops x a c d ps h k same is = (and_from (has_literal false c a) (is_equation (atom_at c a)) h k, (tree_same (left_of (atom_at c a)) (right_of (atom_at c a)) same, is))
 
 -- matches that are found or not
 some_match : (o : Option (List Binding)) → is_some o ≡ true → (bs : List Binding) × (o ≡ Some bs)
@@ -76,36 +76,36 @@ unit_not (l ∷ []) h = absurd (h refl)
 unit_not (l ∷ k ∷ c) h = refl
 
 -- a literal that an instance of a unit denies
-pub deletes_no_unit : (a n : ℕ) (c u : ClauseTree) → (length u ≡ 1 → ⊥) → FollowsAs (unit_deleted a n) c (u ∷ []) c Misplaced
-deletes_no_unit a n c u h = (and_left (is_unit u) (are_opposite c a u 0) (unit_not u h), refl)
+pub deletes_no_unit : (x : ClauseTree → Bool) (a n : ℕ) (c u : ClauseTree) → (length u ≡ 1 → ⊥) → FollowsAs x (unit_deleted a n) c (u ∷ []) c Misplaced
+deletes_no_unit x a n c u h = (and_left (is_unit u) (are_opposite c a u 0) (unit_not u h), refl)
 
-pub deletes_no_literal : (a n : ℕ) (c u : ClauseTree) → are_opposite c a u 0 ≡ false → FollowsAs (unit_deleted a n) c (u ∷ []) c Misplaced
-deletes_no_literal a n c u h = (and_right (is_unit u) (are_opposite c a u 0) h, refl)
+pub deletes_no_literal : (x : ClauseTree → Bool) (a n : ℕ) (c u : ClauseTree) → are_opposite c a u 0 ≡ false → FollowsAs x (unit_deleted a n) c (u ∷ []) c Misplaced
+deletes_no_literal x a n c u h = (and_right (is_unit u) (are_opposite c a u 0) h, refl)
 
-pub deletes_not : (a n : ℕ) (c u : ClauseTree) (t : Tree) → length u ≡ 1 → IsTrue (are_opposite c a u 0) → t ≡ atom_at u 0 → is_some (matched t (atom_at c a) []) ≡ false → FollowsAs (unit_deleted a n) c (u ∷ []) c Differs
-deletes_not a n c u t one opposite at h = (
+pub deletes_not : (x : ClauseTree → Bool) (a n : ℕ) (c u : ClauseTree) (t : Tree) → length u ≡ 1 → IsTrue (are_opposite c a u 0) → t ≡ atom_at u 0 → is_some (matched t (atom_at c a) []) ≡ false → FollowsAs x (unit_deleted a n) c (u ∷ []) c Differs
+deletes_not x a n c u t one opposite at h = (
   and_from (is_unit u) (are_opposite c a u 0) (unit_is u one) opposite,
   (λ e leads. no_match t (atom_at c a) h leads.0.0 (ap (substitute leads.0.0) at ∙ leads.0.1)),
   refl,
 )
 
-pub deletes : (a n : ℕ) (c d u : ClauseTree) (t : Tree) → length u ≡ 1 → IsTrue (are_opposite c a u 0) → t ≡ atom_at u 0 → is_some (matched t (atom_at c a) []) ≡ true → d ≡ others (λ k. k == a) c → FollowsAs (unit_deleted a n) c (u ∷ []) d Done
-deletes a n c d u t one opposite at h is =
+pub deletes : (x : ClauseTree → Bool) (a n : ℕ) (c d u : ClauseTree) (t : Tree) → length u ≡ 1 → IsTrue (are_opposite c a u 0) → t ≡ atom_at u 0 → is_some (matched t (atom_at c a) []) ≡ true → d ≡ others (λ k. k == a) c → FollowsAs x (unit_deleted a n) c (u ∷ []) d Done
+deletes x a n c d u t one opposite at h is =
     let found = some_match (matched t (atom_at c a) []) h in (
       and_from (is_unit u) (are_opposite c a u 0) (unit_is u one) opposite,
       ((by_bindings found.0, ap (substitute (by_bindings found.0)) (sym at) ∙ match_makes t (atom_at c a) found.0 found.1), is),
     )
 
 -- other numbers of clauses
-pub no_units : (a n : ℕ) (c : ClauseTree) (ps : List (Bor ClauseTree)) → (length ps ≡ 1 → ⊥) → FollowsAs (unit_deleted a n) c (lent_clauses ps) c Misplaced
-no_units a n c [] h = (refl, refl)
-no_units a n c (p ∷ []) h = absurd (h refl)
-no_units a n c (p ∷ q ∷ ps) h = (refl, refl)
+pub no_units : (x : ClauseTree → Bool) (a n : ℕ) (c : ClauseTree) (ps : List (Bor ClauseTree)) → (length ps ≡ 1 → ⊥) → FollowsAs x (unit_deleted a n) c (lent_clauses ps) c Misplaced
+no_units x a n c [] h = (refl, refl)
+no_units x a n c (p ∷ []) h = absurd (h refl)
+no_units x a n c (p ∷ q ∷ ps) h = (refl, refl)
 
-pub no_rules : (n a : ℕ) (path : List ℕ) (c : ClauseTree) (ps : List (Bor ClauseTree)) → (length ps ≡ 1 → ⊥) → FollowsAs (rewritten n a path) c (lent_clauses ps) c Misplaced
-no_rules n a path c [] h = (refl, refl)
-no_rules n a path c (p ∷ []) h = absurd (h refl)
-no_rules n a path c (p ∷ q ∷ ps) h = (refl, refl)
+pub no_rules : (x : ClauseTree → Bool) (n a : ℕ) (path : List ℕ) (c : ClauseTree) (ps : List (Bor ClauseTree)) → (length ps ≡ 1 → ⊥) → FollowsAs x (rewritten n a path) c (lent_clauses ps) c Misplaced
+no_rules x n a path c [] h = (refl, refl)
+no_rules x n a path c (p ∷ []) h = absurd (h refl)
+no_rules x n a path c (p ∷ q ∷ ps) h = (refl, refl)
 
 -- a rule
 abbrev takes : Bool → Bool → Bool → Bool → Bool → Bool
@@ -123,11 +123,11 @@ takes_place u p r h t e = and_right u (p && (r && (h && t))) (and_right p (r && 
 takes_there : (u p r h t : Bool) → t ≡ false → takes u p r h t ≡ false
 takes_there u p r h t e = and_right u (p && (r && (h && t))) (and_right p (r && (h && t)) (and_right r (h && t) (and_right h t e)))
 
-pub no_rule : (n a : ℕ) (path : List ℕ) (c r : ClauseTree) → is_rule_clause r ≡ false → FollowsAs (rewritten n a path) c (r ∷ []) c Misplaced
-no_rule n a path c r h = (takes_rule (is_unit r) (has_literal true r 0) (is_rule_equation (atom_at r 0)) (has_place c a) (is_there (below (atom_at c a) path)) h, refl)
+pub no_rule : (x : ClauseTree → Bool) (n a : ℕ) (path : List ℕ) (c r : ClauseTree) → is_rule_clause r ≡ false → FollowsAs x (rewritten n a path) c (r ∷ []) c Misplaced
+no_rule x n a path c r h = (takes_rule (is_unit r) (has_literal true r 0) (is_rule_equation (atom_at r 0)) (has_place c a) (is_there (below (atom_at c a) path)) h, refl)
 
-pub rewrites_no_place : (n a : ℕ) (path : List ℕ) (c r : ClauseTree) → has_place c a ≡ false → FollowsAs (rewritten n a path) c (r ∷ []) c Misplaced
-rewrites_no_place n a path c r h = (takes_place (is_unit r) (has_literal true r 0) (is_rule_equation (atom_at r 0)) (has_place c a) (is_there (below (atom_at c a) path)) h, refl)
+pub rewrites_no_place : (x : ClauseTree → Bool) (n a : ℕ) (path : List ℕ) (c r : ClauseTree) → has_place c a ≡ false → FollowsAs x (rewritten n a path) c (r ∷ []) c Misplaced
+rewrites_no_place x n a path c r h = (takes_place (is_unit r) (has_literal true r 0) (is_rule_equation (atom_at r 0)) (has_place c a) (is_there (below (atom_at c a) path)) h, refl)
 
 there : (o : Option Tree) (t : Tree) → o ≡ Some t → IsTrue (is_there o)
 there o t e = ap is_there e
@@ -165,8 +165,8 @@ module _ (n a : ℕ) (path : List ℕ) (c r : ClauseTree) (left right : Tree) (p
       none_some : (x : Tree) → None ≡ Some x → ⊥
       none_some x e = absurd (cc)
 
-  pub rewrites_by : (d : ClauseTree) (p : Put) → PutAs c a path left right d p → FollowsAs (rewritten n a path) c (r ∷ []) d (followed_put p)
-  rewrites_by d put.Missing is = (takes_there (is_unit r) (has_literal true r 0) (is_rule_equation (atom_at r 0)) (has_place c a) (is_there (below (atom_at c a) path)) is.0, is.1)
-  rewrites_by d put.Differs (t, at, e, same) = (rule_fits t at, rule_never t at e, same)
-  rewrites_by d put.TooLarge (t, u, at, e, large, same) = (rule_fits t at, (with_part c a path u, rule_leads t u (with_part c a path u) at e refl, large), same)
-  rewrites_by d put.Done (t, u, at, e, is) = (rule_fits t at, rule_leads t u d at e is)
+  pub rewrites_by : (x : ClauseTree → Bool) (d : ClauseTree) (p : Put) → PutAs x c a path left right d p → FollowsAs x (rewritten n a path) c (r ∷ []) d (followed_put p)
+  rewrites_by x d put.Missing is = (takes_there (is_unit r) (has_literal true r 0) (is_rule_equation (atom_at r 0)) (has_place c a) (is_there (below (atom_at c a) path)) is.0, is.1)
+  rewrites_by x d put.Differs (t, at, e, same) = (rule_fits t at, rule_never t at e, same)
+  rewrites_by x d put.TooLarge (t, u, at, e, large, same) = (rule_fits t at, (with_part c a path u, rule_leads t u (with_part c a path u) at e refl, large), same)
+  rewrites_by x d put.Done (t, u, at, e, is) = (rule_fits t at, rule_leads t u d at e is)

@@ -16,8 +16,8 @@ use Rattle.inference.specs.Left.{all_left, change_tree, changed, left_atom, left
 use Rattle.inference.specs.declared.left.Change.{Change}
 use Rattle.inference.specs.declared.left.Left.{Left}
 use Rattle.inference.proofs.MeasureSteps.{left_next}
-use Rattle.term_classes.specs.Written.{IsWritten}
-use Rattle.term_classes.proofs.Written.{joined_grows}
+use Rattle.term_unifiers.specs.Written.{IsWritten}
+use Rattle.term_unifiers.proofs.Written.{joined_grows}
 
 -- from what the unifier's own says of a term
 pub written_of : {E : Type 0} (r : Result Term E) (old new : List ℕ) (u : Tree) → OnOk r (new ≡ joined old (variables_of u)) → IfOk r (λ t. (behind : List ℕ) → tree_of t ≡ substitute (by_place (new ++ behind)) u) → IfOk r (λ t. IsWritten old new u (tree_of t))

@@ -10,6 +10,7 @@ use Rattle.fol_core.specs.Sizes.{size_of}
 use Rattle.fol_core.specs.Substitutions.{substitute}
 use Rattle.fol_core.specs.TermView.{tree_of}
 use Rattle.fol_core.specs.Tree.{Tree}
+use Rattle.fol_core.specs.declared.term.Term.{Term}
 use Rattle.inference.specs.declared.followed.Followed.{Followed}
 use Rattle.inference.specs.declared.followed.Followed.TheVariants.{Misplaced, Differs, TooLarge, Done}
 use Rattle.inference.specs.declared.putting.Exchanged.{Exchanged}
@@ -20,15 +21,16 @@ use Rattle.substitutions.specs.Bindings.{by_bindings}
 use Rattle.substitutions.specs.Paths.{replaced}
 use Rattle.unifiers.specs.Matching.{matched}
 
--- a word, from one clause to the next: only where it is done the clause is another one
-abbrev pub FollowsAs : LaterWord → ClauseTree → List ClauseTree → ClauseTree → Followed → Type 0
-FollowsAs w c ps d Misplaced = (later_fits w c ps ≡ false) × (d ≡ c)
-FollowsAs w c ps d Differs =
+-- a word, from one clause to the next: only where it is done the clause is another one; a form of
+-- clauses may be too small for some of them, which a test tells
+abbrev pub FollowsAs : (ClauseTree → Bool) → LaterWord → ClauseTree → List ClauseTree → ClauseTree → Followed → Type 0
+FollowsAs exceeds w c ps d Misplaced = (later_fits w c ps ≡ false) × (d ≡ c)
+FollowsAs exceeds w c ps d Differs =
     IsTrue (later_fits w c ps) × ((e : ClauseTree) → ¬ Leads w c ps e) × (d ≡ c)
-FollowsAs w c ps d TooLarge =
+FollowsAs exceeds w c ps d TooLarge =
     IsTrue (later_fits w c ps)
-    × ((e : ClauseTree) × Leads w c ps e × (is_too_large e ≡ true)) × (d ≡ c)
-FollowsAs w c ps d Done = IsTrue (later_fits w c ps) × Leads w c ps d
+    × ((e : ClauseTree) × Leads w c ps e × (exceeds e ≡ true)) × (d ≡ c)
+FollowsAs exceeds w c ps d Done = IsTrue (later_fits w c ps) × Leads w c ps d
 
 -- what is put in for a term: the right side under what makes the left side it
 abbrev pub exchanged : Tree → Tree → Tree → Option Tree
@@ -57,16 +59,21 @@ pub record AreRuleSides (r : ClauseTree) (left right : Tree) : Type 0 where
 abbrev pub with_part : ClauseTree → ℕ → List ℕ → Tree → ClauseTree
 with_part c a path new = with_atom c a (replaced (atom_at c a) path new)
 
+-- what is put in, unless the clause would be too large
+abbrev pub IsPutIn : ClauseTree → ℕ → List ℕ → Tree → Option Term → Type 0
+IsPutIn c a path u None = is_too_large (with_part c a path u) ≡ true
+IsPutIn c a path u (Some t) = (tree_of t ≡ u) × (is_too_large (with_part c a path u) ≡ false)
+
 -- a rule put in at a path: there is no term, or no instance of the left side; the clause would be
 -- too large; or it is done
-abbrev pub PutAs : ClauseTree → ℕ → List ℕ → Tree → Tree → ClauseTree → Put → Type 0
-PutAs c a path left right d put.Missing = (is_there (below (atom_at c a) path) ≡ false) × (d ≡ c)
-PutAs c a path left right d put.Differs =
+abbrev pub PutAs : (ClauseTree → Bool) → ClauseTree → ℕ → List ℕ → Tree → Tree → ClauseTree → Put → Type 0
+PutAs exceeds c a path left right d put.Missing = (is_there (below (atom_at c a) path) ≡ false) × (d ≡ c)
+PutAs exceeds c a path left right d put.Differs =
     (t : Tree) × (below (atom_at c a) path ≡ Some t) × (exchanged left right t ≡ None) × (d ≡ c)
-PutAs c a path left right d put.TooLarge =
+PutAs exceeds c a path left right d put.TooLarge =
     (t : Tree) × (u : Tree) × (below (atom_at c a) path ≡ Some t)
-    × (exchanged left right t ≡ Some u) × (is_too_large (with_part c a path u) ≡ true) × (d ≡ c)
-PutAs c a path left right d put.Done =
+    × (exchanged left right t ≡ Some u) × (exceeds (with_part c a path u) ≡ true) × (d ≡ c)
+PutAs exceeds c a path left right d put.Done =
     (t : Tree) × (u : Tree) × (below (atom_at c a) path ≡ Some t)
     × (exchanged left right t ≡ Some u) × (d ≡ with_part c a path u)
 

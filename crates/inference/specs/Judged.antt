@@ -10,7 +10,7 @@ use Rattle.fol_core.specs.Renumbered.{renumbered}
 use Rattle.inference.specs.declared.rules.Judged.{Judged}
 use Rattle.inference.specs.declared.rules.Judged.TheVariants.{Unfit, Apart, Small, Large}
 use Rattle.substitutions.specs.Apart.{Own, apart_of}
-use Rattle.term_classes.specs.Renamed.{Equated}
+use Rattle.term_unifiers.specs.Renamed.{Equated}
 
 -- the places of a clash
 abbrev pub clash_of : Satellite → Clash

@@ -6,13 +6,13 @@ ghost use Rattle.fol_core.specs.Substitutions.{substitute};
 ghost use Rattle.fol_core.specs.TermView.{tree_of};
 ghost use Rattle.inference.specs.Left.{changed, left_clause, left_literal, left_tree};
 ghost use Rattle.substitutions.specs.Bindings.{by_bindings};
-ghost use Rattle.term_classes.specs.Renamed.{own_among};
-ghost use Rattle.term_classes.specs.Written.{IsWritten};
+ghost use Rattle.term_unifiers.specs.Renamed.{own_among};
+ghost use Rattle.term_unifiers.specs.Written.{IsWritten};
 
 use crate::left::{Change, Left};
 use fol_core::{Clause, Literal, Term, Terms};
 use std::alloc::{AllocError, Global};
-use term_classes::{Numbers, Solution};
+use term_unifiers::{Numbers, Solution};
 
 // A term of one of so many parents with another one's at a path.
 fn written_with(

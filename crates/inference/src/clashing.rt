@@ -10,7 +10,7 @@ use crate::fitting::{atom, clash_fits};
 use derivation::Satellite;
 use fol_core::Clause;
 use std::alloc::{AllocError, Global};
-use term_classes::Pairs;
+use term_unifiers::Pairs;
 
 /// The atoms of a nucleus with those of its satellites, renamed apart.
 pub fn clash_pairs(

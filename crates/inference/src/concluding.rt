@@ -3,7 +3,7 @@ ghost use Rattle.std.specs.Prelude.{IfOk, map};
 ghost use Rattle.inference.specs.Judged.{IsConclusion};
 ghost use Rattle.inference.specs.Left.{left_clause, left_tree};
 ghost use Rattle.substitutions.specs.Bindings.{by_bindings};
-ghost use Rattle.term_classes.specs.Renamed.{own_among};
+ghost use Rattle.term_unifiers.specs.Renamed.{own_among};
 
 use crate::building::built;
 use crate::large::LargeConclusion;
@@ -12,7 +12,7 @@ use crate::measuring::is_too_large;
 use crate::rules::Judged;
 use clause_limits::SmallClause;
 use std::alloc::{AllocError, Global};
-use term_classes::Solution;
+use term_unifiers::Solution;
 
 /// The conclusion under a unifier of so many parents: built exactly where it isn't too large for a search.
 #[tactic(auto, using(clause_limits::proofs::Numbered::numbered_as_large))]

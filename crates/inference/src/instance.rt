@@ -2,7 +2,6 @@
 ghost use Rattle.std.specs.Prelude.{◌≡◌, true, IfOk, map};
 ghost use Rattle.clause_limits.specs.Sizes.{is_too_large, measured};
 ghost use Rattle.derivation.specs.Lines.{instance_of};
-ghost use Rattle.fol_core.specs.Renumbered.{renumbered};
 ghost use Rattle.fol_core.specs.Substitutions.{substitute};
 ghost use Rattle.fol_core.specs.TermView.{tree_of};
 ghost use Rattle.inference.specs.Instance.{IsMade, all_measured};
@@ -12,7 +11,7 @@ ghost use Rattle.substitutions.specs.Instances.{substitute_clause};
 
 use crate::measuring::is_beyond;
 use clause_limits::{Measure, SmallClause};
-use fol_core::{Clause, Term, renumber};
+use fol_core::{Clause, Term};
 use std::alloc::{AllocError, Global};
 use std::marker::Model;
 use substitutions::{Subst, apply_clause};
@@ -54,12 +53,11 @@ impl<'a> LargeInstance<'a> {
         self.measure
     }
 
-    /// The clause, built however large it is, with its variables numbered.
-    pub fn numbered(&self, alloc: Global) -> Result<Clause, AllocError>
-        ensures { IfOk result (λ c. c ≡ renumbered self.now) }
+    /// The terms and the clause: for who builds the instance on shared terms.
+    pub fn parts(&self) -> (&Subst, &Clause)
+        ensures { self.now ≡ substitute_clause (by_bindings result.0.now) result.1.now }
     {
-        let clause = apply_clause(alloc, self.parent, self.values)?;
-        renumber(alloc, &clause)
+        (self.values, self.parent)
     }
 }
 

@@ -1,21 +1,19 @@
 // Conclusions that are too large for a search: the unifier beside what is left, and nothing of them built.
 ghost use Rattle.std.specs.Prelude.{◌≡◌, true, IfOk, map};
 ghost use Rattle.clause_limits.specs.Sizes.{is_too_large};
-ghost use Rattle.fol_core.specs.Renumbered.{renumbered};
 ghost use Rattle.inference.specs.Left.{change_tree, left_clause, left_tree};
 ghost use Rattle.inference.specs.Measured.{clause_measured};
 ghost use Rattle.inference.specs.Owned.{owned_change_tree, owned_tree};
 ghost use Rattle.substitutions.specs.Bindings.{by_bindings};
-ghost use Rattle.term_classes.specs.Renamed.{own_among};
+ghost use Rattle.term_unifiers.specs.Renamed.{own_among};
 
-use crate::building::built;
 use crate::left::{Change, Left};
 use crate::measuring::measure_all;
 use clause_limits::Measure;
-use fol_core::{Clause, Literal, Term};
+use fol_core::{Literal, Term};
 use std::alloc::{AllocError, Global};
 use std::marker::Model;
-use term_classes::Solution;
+use term_unifiers::Solution;
 
 /// A conclusion that is too large to be built, of parents that are lent; contracts see the clause.
 #[derive(Drop)]
@@ -32,7 +30,7 @@ impl<'a> Model for LargeConclusion<'a> {
     ghost use Rattle.fol_core.specs.LitCodes.{coded_clause};
     ghost use Rattle.inference.specs.Left.{left_clause, left_tree};
     ghost use Rattle.substitutions.specs.Bindings.{by_bindings};
-    ghost use Rattle.term_classes.specs.Renamed.{own_among};
+    ghost use Rattle.term_unifiers.specs.Renamed.{own_among};
 
     ghost Value = { ClauseTree };
 
@@ -64,13 +62,6 @@ impl<'a> LargeConclusion<'a> {
         ensures { result ≡ clause_measured self.now }
     {
         measure_all(&self.unifier, self.many, self.left.as_slice())
-    }
-
-    /// The clause, built however large it is, with its variables numbered.
-    pub fn numbered(&self, alloc: Global) -> Result<Clause, AllocError>
-        ensures { IfOk result (λ c. c ≡ renumbered self.now) }
-    {
-        built(alloc, &self.unifier, self.many, self.left.as_slice())
     }
 
     /// The unifier, the number of parents, and what is left: for who builds the clause on shared terms.
@@ -173,7 +164,7 @@ impl Model for LargeClause {
     ghost use Rattle.inference.specs.Left.{left_clause};
     ghost use Rattle.inference.specs.Owned.{owned_tree};
     ghost use Rattle.substitutions.specs.Bindings.{by_bindings};
-    ghost use Rattle.term_classes.specs.Renamed.{own_among};
+    ghost use Rattle.term_unifiers.specs.Renamed.{own_among};
 
     ghost Value = { ClauseTree };
 

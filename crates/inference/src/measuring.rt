@@ -7,12 +7,12 @@ ghost use Rattle.fol_core.specs.TermView.{tree_of};
 ghost use Rattle.inference.specs.Left.{changed, left_clause, left_literal, left_tree, symbols_lent};
 ghost use Rattle.inference.specs.Measured.{clause_measured};
 ghost use Rattle.substitutions.specs.Bindings.{by_bindings};
-ghost use Rattle.term_classes.specs.Renamed.{own_among};
+ghost use Rattle.term_unifiers.specs.Renamed.{own_among};
 
 use crate::left::{Change, Left};
 use clause_limits::{MOST_CLAUSE_LEVELS, MOST_CLAUSE_SYMBOLS, Measure, left_behind};
 use fol_core::Term;
-use term_classes::Solution;
+use term_unifiers::Solution;
 
 // A term of one of so many parents with another one's at a path; where the path isn't there, the term itself.
 fn measured_with(

@@ -1,5 +1,6 @@
 // A plain clause whose words are being followed: changed in place.
 ghost use Rattle.std.specs.Prelude.{◌≡◌, ◌↔◌, ◌<◌, ◌==◌, [], Some, IsTrue, IfOk, OnOk, is_some, length};
+ghost use Rattle.clause_limits.specs.Sizes.{is_too_large};
 ghost use Rattle.derivation.specs.Equations.{below, equation, is_equation, left_of, right_of};
 ghost use Rattle.derivation.specs.Later.{IsRepeated};
 ghost use Rattle.derivation.specs.Places.{atom_at, has_literal, has_place, others, with_atom};
@@ -39,7 +40,7 @@ fn put_made(clause: &mut Clause, place: usize, path: &[u64], made: Exchanged) ->
     requires { IsTrue (has_place clause.old place) }
     ensures { (left right t : Tree) → below (atom_at clause.old place) path.now ≡ Some t
         → IsExchanged left right t made
-        → PutAs clause.old place path.now left right clause.new result }
+        → PutAs is_too_large clause.old place path.now left right clause.new result }
 {
     match made {
         Exchanged::Differs => Put::Differs,
@@ -53,6 +54,8 @@ fn put_made(clause: &mut Clause, place: usize, path: &[u64], made: Exchanged) ->
 
 impl Underway for Clause {
     ghost clause = { λ c. c };
+
+    ghost exceeds = { is_too_large };
 
     fn has_literal(&self, positive: bool, place: u64) -> bool
         ensures { result ≡ has_literal positive self.now place }
@@ -120,7 +123,7 @@ impl Underway for Clause {
         right: &Term,
     ) -> Result<Put, AllocError>
         requires { IsTrue (has_place self.old place) }
-        ensures { IfOk result (PutAs self.old place path.now (tree_of left.now)
+        ensures { IfOk result (PutAs is_too_large self.old place path.now (tree_of left.now)
             (tree_of right.now) self.new) }
     {
         let Some(term) = below(atom(self, place), path) else {

@@ -1,18 +1,20 @@
 // What a rule makes of a term: counted before it is built.
-ghost use Rattle.std.specs.Prelude.{◌≡◌, ◌<◌, ◌+◌, MatchOption, IfOk};
+ghost use Rattle.std.specs.Prelude.{◌≡◌, ◌<◌, ◌+◌, [], MatchOption, IfOk};
+ghost use Rattle.std.specs.Option.{option_map};
 ghost use Rattle.fol_core.specs.Sizes.{size_of};
 ghost use Rattle.fol_core.specs.Substitutions.{substitute};
 ghost use Rattle.fol_core.specs.TermView.{tree_of};
 ghost use Rattle.inference.specs.Followed.{IsExchanged};
 ghost use Rattle.substitutions.specs.Bindings.{by_bindings};
+ghost use Rattle.unifiers.specs.Matching.{matched};
 
 use clause_limits::left_behind;
 use fol_core::Term;
 use std::alloc::{AllocError, Global};
 use term_matches::Matches;
 
-/// How many symbols and variables a term may have that a rule puts into a plain clause.
-pub const MOST_BUILT_SYMBOLS: u64 = 16_777_216;
+// How many symbols and variables a term may have that a rule puts into a plain clause.
+const MOST_BUILT_SYMBOLS: u64 = 16_777_216;
 
 /// What a rule makes of a term: it is no instance of the left side; there would be too many symbols and variables; or what is put in
 /// for it.
@@ -62,6 +64,24 @@ fn left_behind_put(found: &Matches, term: &Term, room: u64) -> Option<u64>
     }
 }
 
+/// What matches the left side of a rule onto a term, if it is an instance of it.
+pub fn match_of<'a>(
+    alloc: Global,
+    left: &Term,
+    term: &'a Term,
+) -> Result<Option<Matches<'a>>, AllocError>
+    ensures { IfOk result (λ o. option_map (λ m. m.bindings) o
+        ≡ matched (tree_of left.now) (tree_of term.now) []) }
+{
+    let mut found = Matches::new(alloc);
+    found.reserve(left)?;
+    if found.match_onto(left, term) {
+        Ok(Some(found))
+    } else {
+        Ok(None)
+    }
+}
+
 /// What a rule makes of a term, by its sides.
 pub fn put_for(
     alloc: Global,
@@ -71,11 +91,9 @@ pub fn put_for(
 ) -> Result<Exchanged, AllocError>
     ensures { IfOk result (IsExchanged (tree_of left.now) (tree_of right.now) (tree_of term.now)) }
 {
-    let mut found = Matches::new(alloc);
-    found.reserve(left)?;
-    if !found.match_onto(left, term) {
+    let Some(found) = match_of(alloc, left, term)? else {
         return Ok(Exchanged::Differs);
-    }
+    };
     if left_behind_put(&found, right, MOST_BUILT_SYMBOLS).is_none() {
         return Ok(Exchanged::TooLarge);
     }

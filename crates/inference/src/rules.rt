@@ -10,7 +10,7 @@ ghost use Rattle.inference.specs.Left.{Leaves, all_left, all_whole, left_clause}
 ghost use Rattle.inference.specs.Lent.{lent_clauses};
 ghost use Rattle.substitutions.specs.Apart.{apart_of};
 ghost use Rattle.substitutions.specs.Bindings.{by_bindings};
-ghost use Rattle.term_classes.specs.Renamed.{left_sides, own_among, right_sides};
+ghost use Rattle.term_unifiers.specs.Renamed.{left_sides, own_among, right_sides};
 ghost use Rattle.unifiers.specs.Unifier.{IsMostGeneral};
 
 use crate::clashing::clash_pairs;
@@ -23,7 +23,7 @@ use clause_limits::SmallClause;
 use derivation::{Satellite, are_alike, has_literal, sides};
 use fol_core::{Clause, Term};
 use std::alloc::{AllocError, Global};
-use term_classes::{Pairs, Solution};
+use term_unifiers::{Pairs, Solution};
 
 /// What a rule comes to: a literal, path or side isn't there or isn't taken; what has to be equal isn't; or the clause that it
 /// concludes, built with its variables numbered exactly where it isn't too large for a search.

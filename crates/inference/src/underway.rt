@@ -1,5 +1,5 @@
 // A clause whose words are being followed.
-ghost use Rattle.std.specs.Prelude.{◌≡◌, ◌↔◌, ◌==◌, [], IsTrue, IfOk, OnOk, is_some};
+ghost use Rattle.std.specs.Prelude.{Bool, ◌≡◌, ◌↔◌, ◌==◌, [], IsTrue, IfOk, OnOk, is_some};
 ghost use Rattle.derivation.specs.Equations.{equation, is_equation, left_of, right_of};
 ghost use Rattle.derivation.specs.Later.{IsRepeated};
 ghost use Rattle.derivation.specs.Places.{atom_at, has_literal, has_place, others, with_atom};
@@ -24,6 +24,9 @@ pub enum Put {
 /// A clause in some form, of which later words ask what they have to know, and which they change.
 pub trait Underway {
     ghost clause: { Self → ClauseTree };
+
+    // Which clauses are too large for the form.
+    ghost exceeds: { ClauseTree → Bool };
 
     /// Whether there is a literal of the sign at the place.
     fn has_literal(&self, positive: bool, place: u64) -> bool
@@ -75,6 +78,6 @@ pub trait Underway {
         right: &Term,
     ) -> Result<Put, AllocError>
         requires { IsTrue (has_place (clause self.old) place) }
-        ensures { IfOk result (PutAs (clause self.old) place path.now (tree_of left.now)
+        ensures { IfOk result (PutAs exceeds (clause self.old) place path.now (tree_of left.now)
             (tree_of right.now) (clause self.new)) };
 }

@@ -7,6 +7,7 @@ ghost use Rattle.fol_core.specs.Literals.{ClauseTree};
 ghost use Rattle.fol_core.specs.TermView.{tree_of};
 ghost use Rattle.inference.specs.Followed.{AreRuleSides, FollowsAs, followed_put};
 ghost use Rattle.inference.specs.Lent.{lent_clauses};
+ghost use Rattle.inference.specs.declared.followed.Followed.TheVariants.{TooLarge};
 
 use crate::fitting::atom;
 use crate::followed::Followed;
@@ -36,7 +37,7 @@ fn is_denied<C: Underway>(clause: &C, a: u64, unit: &Clause) -> bool
 #[tactic(auto, using(crate::proofs::WordSteps::flips_no_place, crate::proofs::WordSteps::flips_no_equation, crate::proofs::WordSteps::flips))]
 pub fn flip<C: Underway>(clause: &mut C, a: u64) -> Result<Followed, AllocError>
     ensures { (ps : List ClauseTree)
-        → IfOk result (FollowsAs (flipped a) (C.clause clause.old) ps (C.clause clause.new)) }
+        → IfOk result (FollowsAs C.exceeds (flipped a) (C.clause clause.old) ps (C.clause clause.new)) }
 {
     if !has_place(clause, a) {
         return Ok(Followed::Misplaced);
@@ -51,8 +52,9 @@ pub fn flip<C: Underway>(clause: &mut C, a: u64) -> Result<Followed, AllocError>
 /// L | C, where L is in C / C
 #[tactic(auto, using(crate::proofs::WordSteps::merges_no_place, crate::proofs::WordSteps::merges_not, crate::proofs::WordSteps::merges))]
 pub fn merge<C: Underway>(clause: &mut C, a: u64) -> Followed
-    ensures { (ps : List ClauseTree)
-        → FollowsAs (merged a) (C.clause clause.old) ps (C.clause clause.new) result }
+    ensures follows { (ps : List ClauseTree)
+        → FollowsAs C.exceeds (merged a) (C.clause clause.old) ps (C.clause clause.new) result }
+    ensures held { result ≡ TooLarge → ⊥ }
 {
     if !has_place(clause, a) {
         return Followed::Misplaced;
@@ -67,8 +69,9 @@ pub fn merge<C: Underway>(clause: &mut C, a: u64) -> Followed
 /// t != t | C / C
 #[tactic(auto, using(crate::proofs::WordSteps::drops_no_literal, crate::proofs::WordSteps::drops_no_equation, crate::proofs::WordSteps::drops_not, crate::proofs::WordSteps::drops, crate::proofs::OneSteps::sign_place))]
 pub fn drop_reflexive<C: Underway>(clause: &mut C, a: u64) -> Followed
-    ensures { (ps : List ClauseTree)
-        → FollowsAs (reflexive a) (C.clause clause.old) ps (C.clause clause.new) result }
+    ensures follows { (ps : List ClauseTree)
+        → FollowsAs C.exceeds (reflexive a) (C.clause clause.old) ps (C.clause clause.new) result }
+    ensures held { result ≡ TooLarge → ⊥ }
 {
     if !clause.has_literal(false, a) {
         return Followed::Misplaced;
@@ -91,7 +94,7 @@ pub fn delete_unit<C: Underway>(
     a: u64,
     unit: &Clause,
 ) -> Result<Followed, AllocError>
-    ensures { (n : ℕ) → IfOk result (FollowsAs (unit_deleted a n) (C.clause clause.old)
+    ensures { (n : ℕ) → IfOk result (FollowsAs C.exceeds (unit_deleted a n) (C.clause clause.old)
         (unit.now ∷ []) (C.clause clause.new)) }
 {
     if unit.len() != 1 {
@@ -131,7 +134,7 @@ fn rewrite_by<C: Underway>(
 ) -> Result<Followed, AllocError>
     requires place { IsTrue (has_place (C.clause clause.old) a) }
     requires rule { AreRuleSides rule.now (tree_of left.now) (tree_of right.now) }
-    ensures { (n : ℕ) → IfOk result (FollowsAs (rewritten n a path.now) (C.clause clause.old)
+    ensures { (n : ℕ) → IfOk result (FollowsAs C.exceeds (rewritten n a path.now) (C.clause clause.old)
         (rule.now ∷ []) (C.clause clause.new)) }
 {
     let put = clause.rewrite_at(alloc, a, path, left, right)?;
@@ -147,7 +150,7 @@ pub fn rewrite<C: Underway>(
     path: &[u64],
     rule: &Clause,
 ) -> Result<Followed, AllocError>
-    ensures { (n : ℕ) → IfOk result (FollowsAs (rewritten n a path.now) (C.clause clause.old)
+    ensures { (n : ℕ) → IfOk result (FollowsAs C.exceeds (rewritten n a path.now) (C.clause clause.old)
         (rule.now ∷ []) (C.clause clause.new)) }
 {
     if !has_place(clause, a) {
@@ -167,7 +170,7 @@ fn delete_unit_of<C: Underway>(
     a: u64,
     parents: &[&Clause],
 ) -> Result<Followed, AllocError>
-    ensures { (n : ℕ) → IfOk result (FollowsAs (unit_deleted a n) (C.clause clause.old)
+    ensures { (n : ℕ) → IfOk result (FollowsAs C.exceeds (unit_deleted a n) (C.clause clause.old)
         (lent_clauses parents.now) (C.clause clause.new)) }
 {
     if parents.len() != 1 {
@@ -185,7 +188,7 @@ fn rewrite_of<C: Underway>(
     path: &[u64],
     parents: &[&Clause],
 ) -> Result<Followed, AllocError>
-    ensures { (n : ℕ) → IfOk result (FollowsAs (rewritten n a path.now) (C.clause clause.old)
+    ensures { (n : ℕ) → IfOk result (FollowsAs C.exceeds (rewritten n a path.now) (C.clause clause.old)
         (lent_clauses parents.now) (C.clause clause.new)) }
 {
     if parents.len() != 1 {
@@ -201,7 +204,7 @@ pub fn follow<C: Underway>(
     clause: &mut C,
     parents: &[&Clause],
 ) -> Result<Followed, AllocError>
-    ensures { IfOk result (FollowsAs (later_of word.now) (C.clause clause.old)
+    ensures { IfOk result (FollowsAs C.exceeds (later_of word.now) (C.clause clause.old)
         (lent_clauses parents.now) (C.clause clause.new)) }
 {
     match word {

@@ -1,12 +1,12 @@
 -- Words behind a clause, one after the other.
-use Rattle.std.proofs.Common.{◌≡◌, inl, inr, ℕ, suc, ◌+◌, ◌<◌, ◌≤◌, Bool, true, false, ◌&&◌, IsTrue, List, [], ◌∷◌, ◌++◌, map, length, get_or, drop, take, Option, Some, None, is_some, refl, sym, ap, ◌∙◌, subst, add-one, drop-cons}
+use Rattle.std.proofs.Common.{◌≡◌, ◌↔◌, inl, inr, ℕ, suc, ◌+◌, ◌<◌, ◌≤◌, Bool, true, false, ◌&&◌, IsTrue, List, [], ◌∷◌, ◌++◌, map, length, get_or, drop, take, Option, Some, None, is_some, refl, sym, ap, ◌∙◌, subst, add-one, drop-cons}
 use Rattle.std.specs.List.{flat_map}
 use Rattle.std.proofs.lemmas.Bool.{and_left, and_right, and_from, false≢true}
 use Rattle.std.proofs.lemmas.List.{drop_all, take_all, take_more}
 use Rattle.std.proofs.lemmas.List.Folds.{list_all-append}
 use Rattle.fol_core.specs.Literals.{ClauseTree}
 use Rattle.fol_core.specs.Renumbered.{renumbered}
-use Rattle.derivation.specs.Later.{LaterWord, later_parents}
+use Rattle.derivation.specs.Later.{LaterWord, Leads, later_fits, later_parents}
 use Rattle.derivation.specs.Lines.{FirstWord, ContentTree, LineTree, clause_at, AreClauses, IsClause, After}
 use Rattle.derivation.specs.Refused.{Fails, are_there, all_parents}
 use Rattle.derivation.specs.Rule.{Concludes}
@@ -15,15 +15,9 @@ use Rattle.derivation.specs.declared.row.Row.{Row}
 use Rattle.derivation.specs.declared.row.Row.TheVariants as causes
 use Rattle.derivation.specs.declared.words.Later.{Later}
 use Rattle.derivation.specs.declared.words.Satellite.{Satellite}
-use Rattle.inference.specs.Followed.{FollowsAs}
 use Rattle.inference.specs.Judged.{inference_by, JudgedAs, rule_by, parents_by}
-use Rattle.inference.specs.declared.followed.Followed.TheVariants.{Misplaced, Differs, Done}
 use Rattle.inference.specs.declared.rules.Judged.TheVariants.{Unfit, Apart, Small, Large}
-use Rattle.proof_check.specs.Found.{AfterAs, InferredAs}
-
--- the words from one on
-abbrev pub words_from : List Later → ℕ → List LaterWord
-words_from ws i = map later_of (drop i ws)
+use Rattle.proof_check.specs.Found.{AfterAs, InferredAs, words_from}
 
 drop_next : (ws : List Later) (i : ℕ) (w : Later) → i < length ws → w ≡ get_or ws i w → drop i ws ≡ w ∷ drop (i + 1) ws
 drop_next ws i w h is = rw (add-one, drop-cons ws i w) (ap (λ t. t ∷ drop (suc i) ws) (sym is))
@@ -57,7 +51,7 @@ following_start ls ws d content = record { onward = λ a. a; fails = λ row f. f
 
 module _ (ls : List LineTree) (ws : List Later) (d0 : ClauseTree) (content : ContentTree) (i : ℕ) (d : ClauseTree) (w : Later) where
   pub following_made : Following ls ws d0 content i d → i < length ws → w ≡ get_or ws i w → (ps : List ClauseTree) (b : ClauseTree) → AreClauses ls (later_parents (later_of w)) ps
-      → FollowsAs (later_of w) d ps b Done → Following ls ws d0 content (i + 1) b
+      → IsTrue (later_fits (later_of w) d ps) × Leads (later_of w) d ps b → Following ls ws d0 content (i + 1) b
   following_made going h is ps b are leads = record {
     onward = λ after. going.onward (subst (λ us. After ls us d content) (sym (words_next ws i w h is)) (ps, b, are, leads.0, leads.1, after));
     fails = λ row fails. going.fails row (subst (λ us. Fails ls us d content row) (sym (words_next ws i w h is)) (ps, are, inr (inr (leads.0, (b, leads.1, fails)))));
@@ -65,15 +59,25 @@ module _ (ls : List LineTree) (ws : List Later) (d0 : ClauseTree) (content : Con
   }
 
   pub following_misplaced : Following ls ws d0 content i d → i < length ws → w ≡ get_or ws i w → (ps : List ClauseTree) → AreClauses ls (later_parents (later_of w)) ps
-      → (b : ClauseTree) → FollowsAs (later_of w) d ps b Misplaced → Fails ls (words_from ws 0) d0 content causes.Misplaced
+      → (b : ClauseTree) → (later_fits (later_of w) d ps ≡ false) × (b ≡ d) → Fails ls (words_from ws 0) d0 content causes.Misplaced
   following_misplaced going h is ps are b leads = going.fails causes.Misplaced (subst (λ us. Fails ls us d content causes.Misplaced) (sym (words_next ws i w h is)) (ps, are, inl (refl, leads.0)))
 
   pub following_differs : Following ls ws d0 content i d → i < length ws → w ≡ get_or ws i w → (ps : List ClauseTree) → AreClauses ls (later_parents (later_of w)) ps
-      → (b : ClauseTree) → FollowsAs (later_of w) d ps b Differs → Fails ls (words_from ws 0) d0 content causes.Differs
+      → (b : ClauseTree) → IsTrue (later_fits (later_of w) d ps) × ((e : ClauseTree) → Leads (later_of w) d ps e → ⊥) × (b ≡ d) → Fails ls (words_from ws 0) d0 content causes.Differs
   following_differs going h is ps are b leads = going.fails causes.Differs (subst (λ us. Fails ls us d content causes.Differs) (sym (words_next ws i w h is)) (ps, are, inr (inl (refl, leads.0, leads.1))))
 
   pub following_missing : Following ls ws d0 content i d → i < length ws → w ≡ get_or ws i w → are_there ls (later_parents (later_of w)) ≡ false → there_from ls ws 0 ≡ false
   following_missing going h is e = going.missing (later_missing ls ws i w h is e)
+
+-- no clause is too large where none may be
+pub following_never : (ls : List LineTree) (ws : List Later) (d0 : ClauseTree) (content : ContentTree) (w : LaterWord) (c d : ClauseTree) (ps : List ClauseTree) → IsTrue (later_fits w c ps) × ((e : ClauseTree) × Leads w c ps e × (false ≡ true)) × (d ≡ c) → Fails ls (words_from ws 0) d0 content causes.Differs
+following_never ls ws d0 content w c d ps is = absurd (false≢true is.1.2)
+
+-- the words from one on, on another form of the clause
+pub following_shared : (ls : List LineTree) (ws : List Later) (d0 : ClauseTree) (content : ContentTree) (i : ℕ) (d : ClauseTree) (o : Option Row) → Following ls ws d0 content i d → AfterAs ls (words_from ws i) d content o → AfterAs ls (words_from ws 0) d0 content o
+following_shared ls ws d0 content i d None going after = going.onward after
+following_shared ls ws d0 content i d (Some row) going (inl fails) = inl (going.fails row fails)
+following_shared ls ws d0 content i d (Some row) going (inr missing) = inr (missing.0, going.missing missing.1)
 
 module _ (ls : List LineTree) (ws : List Later) (d0 : ClauseTree) (content : ContentTree) (i : ℕ) (d : ClauseTree) where
   pub following_ends : Following ls ws d0 content i d → length ws ≤ i → IsClause content d → After ls (words_from ws 0) d0 content
@@ -81,6 +85,10 @@ module _ (ls : List LineTree) (ws : List Later) (d0 : ClauseTree) (content : Con
 
   pub following_other : Following ls ws d0 content i d → length ws ≤ i → (IsClause content d → ⊥) → Fails ls (words_from ws 0) d0 content causes.OtherClause
   following_other going h apart = going.fails causes.OtherClause (subst (λ us. Fails ls us d content causes.OtherClause) (sym (ap (map later_of) (drop_all i ws h))) (refl, apart))
+
+-- a content that isn't as large isn't the clause
+pub other_clause : (content : ContentTree) (d : ClauseTree) → (IsClause content d → false ≡ true) → IsTrue false ↔ IsClause content d
+other_clause content d apart = (λ h. absurd (false≢true h), λ is. absurd (false≢true (apart is)))
 
 -- no word follows, and the content isn't it
 pub other_size : (ls : List LineTree) (ws : List Later) (d : ClauseTree) (content : ContentTree) → ws ≡ [] → (IsClause content d → false ≡ true) → AfterAs ls (map later_of ws) d content (Some causes.OtherClause)

@@ -1,7 +1,8 @@
-mod BoundSteps
 mod CheckSteps
 mod EarlierSteps
 mod InferSteps
 mod InstanceSteps
 mod SameSteps
+mod SizeSteps
 mod StateSteps
+mod Alike

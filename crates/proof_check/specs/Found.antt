@@ -1,15 +1,21 @@
 -- What is found of a line: nothing against it, or the row.
-use Rattle.std.specs.Prelude.{ℕ, ◌≡◌, Bool, false, ◌⊎◌, List, [], Option, MatchOption}
+use Rattle.std.specs.Prelude.{ℕ, ◌≡◌, Bool, false, ◌⊎◌, List, [], drop, map, Option, MatchOption}
 use Rattle.std.specs.List.{flat_map}
 use Rattle.fol_core.specs.Literals.{ClauseTree}
 use Rattle.fol_problem.specs.Stated.{Said}
 use Rattle.derivation.specs.Later.{LaterWord, later_parents}
 use Rattle.derivation.specs.Lines.{FirstWord, ContentTree, LineTree, InputRow, After, IsInferred, IsInstance, IsStated, IsInputOf, IsLine}
 use Rattle.derivation.specs.Refused.{Fails, are_there, InferenceFails, InstanceFails, StatedFails, InputFails, LineFails, IsRefusedLine, IsAccepted}
+use Rattle.derivation.specs.View.{later_of}
 use Rattle.derivation.specs.declared.row.Row.{Row}
 use Rattle.derivation.specs.declared.row.Row.TheVariants.{NoParent}
+use Rattle.derivation.specs.declared.words.Later.{Later}
 use Rattle.inference.specs.Judged.{inference_by}
 use Rattle.substitutions.specs.Bindings.{Binding}
+
+-- the words from one on
+abbrev pub words_from : List Later → ℕ → List LaterWord
+words_from ws i = map later_of (drop i ws)
 
 -- of the words behind a clause; also where a clause that they take isn't there
 abbrev pub AfterAs : List LineTree → List LaterWord → ClauseTree → ContentTree → Option Row → Type 0

@@ -1,5 +1,5 @@
 // Whether a line is what its words make of earlier ones.
-ghost use Rattle.std.specs.Prelude.{◌≡◌, ◌↔◌, ◌∷◌, [], List, Some, false, IsTrue, IfOk, map};
+ghost use Rattle.std.specs.Prelude.{◌≡◌, ◌↔◌, ◌≤◌, ◌∷◌, [], List, Some, false, IsTrue, IfOk, length, map};
 ghost use Rattle.std.specs.List.{flat_map};
 ghost use Rattle.derivation.specs.Later.{later_parents};
 ghost use Rattle.derivation.specs.Lines.{LineTree, IsClause, AreClauses};
@@ -11,15 +11,16 @@ ghost use Rattle.fol_core.specs.Renumbered.{renumbered};
 ghost use Rattle.inference.specs.Judged.{inference_by, parents_by};
 ghost use Rattle.inference.specs.Lent.{lent_clauses};
 ghost use Rattle.inference.specs.Measured.{clause_measured};
-ghost use Rattle.proof_check.specs.Found.{AfterAs, InferredAs};
+ghost use Rattle.proof_check.specs.Found.{AfterAs, InferredAs, words_from};
 ghost use Rattle.proof_check.specs.Reached.{AreRising};
 
-use crate::bounds::{is_beyond, may_be, may_be_same, would_be_beyond};
 use crate::earlier::{are_there, clauses_at};
-use clause_limits::Measure;
+use crate::sizes::{may_be, may_be_same};
+use clause_limits::{Measure, is_too_large};
 use derivation::{Content, First, Just, Later, Line, Row, Satellite};
 use fol_core::{Clause, renumber};
 use inference::{Followed, Judged, LargeConclusion, follow, judge};
+use shared_clauses::SharedClause;
 use std::alloc::{AllocError, Global};
 use substitutions::same_clause;
 
@@ -70,8 +71,77 @@ pub fn later_there(alloc: Global, earlier: &[Line], words: &[Later]) -> Result<b
     Ok(true)
 }
 
-/// Whether words lead from a clause to a content.
-#[tactic(auto, using(crate::proofs::InferSteps::following_start, crate::proofs::InferSteps::following_made, crate::proofs::InferSteps::following_misplaced, crate::proofs::InferSteps::following_differs, crate::proofs::InferSteps::following_missing, crate::proofs::InferSteps::following_ends, crate::proofs::InferSteps::following_other))]
+// Whether a content is a clause on shared terms, but for the numbers of variables. It is built only where it is as large as the
+// content and has no more levels.
+#[tactic(auto, using(crate::proofs::InferSteps::other_clause))]
+fn is_shared_clause(
+    alloc: Global,
+    content: &Content,
+    shared: &SharedClause,
+) -> Result<bool, AllocError>
+    ensures { IfOk result (λ is. IsTrue is ↔ IsClause (content_of content.now) shared.now) }
+{
+    if !may_be(content, shared.measure()) {
+        return Ok(false);
+    }
+    let clause = shared.plain(alloc)?;
+    is_clause(alloc, content, &clause)
+}
+
+/// Whether words lead from a clause on shared terms to a content.
+#[tactic(auto, using(crate::proofs::InferSteps::following_start, crate::proofs::InferSteps::following_made, crate::proofs::InferSteps::following_misplaced, crate::proofs::InferSteps::following_differs, crate::proofs::InferSteps::following_never, crate::proofs::InferSteps::following_missing, crate::proofs::InferSteps::following_ends, crate::proofs::InferSteps::following_other))]
+pub fn after_shared(
+    alloc: Global,
+    earlier: &[Line],
+    words: &[Later],
+    shared: SharedClause,
+    content: &Content,
+) -> Result<Option<Row>, AllocError>
+    requires { AreRising (lines_of earlier.now) }
+    ensures { IfOk result (AfterAs (lines_of earlier.now) (map later_of words.now) shared
+        (content_of content.now)) }
+{
+    let mut shared = shared;
+    for word in words {
+        let numbers = later_numbers(alloc, word)?;
+        let Some(parents) = clauses_at(alloc, earlier, numbers.as_slice())? else {
+            return Ok(Some(Row::NoParent));
+        };
+        match follow(alloc, word, &mut shared, parents.as_slice())? {
+            Followed::Misplaced => return Ok(Some(Row::Misplaced)),
+            Followed::Differs => return Ok(Some(Row::Differs)),
+            // No clause is too large for shared terms.
+            Followed::TooLarge => return Ok(Some(Row::Differs)),
+            Followed::Done => {}
+        }
+    }
+    if is_shared_clause(alloc, content, &shared)? {
+        Ok(None)
+    } else {
+        Ok(Some(Row::OtherClause))
+    }
+}
+
+// Whether words from one on lead from a plain clause to a content, on shared terms.
+fn after_from(
+    alloc: Global,
+    earlier: &[Line],
+    words: &[Later],
+    first: usize,
+    clause: &Clause,
+    content: &Content,
+) -> Result<Option<Row>, AllocError>
+    requires rising { AreRising (lines_of earlier.now) }
+    requires first { first ≤ length words.now }
+    ensures { IfOk result (AfterAs (lines_of earlier.now) (words_from words.now first) clause.now
+        (content_of content.now)) }
+{
+    let shared = SharedClause::of(alloc, clause)?;
+    after_shared(alloc, earlier, &words[first..], shared, content)
+}
+
+/// Whether words lead from a clause to a content: on shared terms from where it becomes too large.
+#[tactic(auto, using(crate::proofs::InferSteps::following_start, crate::proofs::InferSteps::following_made, crate::proofs::InferSteps::following_misplaced, crate::proofs::InferSteps::following_differs, crate::proofs::InferSteps::following_missing, crate::proofs::InferSteps::following_ends, crate::proofs::InferSteps::following_other, crate::proofs::InferSteps::following_shared))]
 pub fn after(
     alloc: Global,
     earlier: &[Line],
@@ -84,7 +154,10 @@ pub fn after(
         (content_of content.now)) }
 {
     let mut clause = clause;
-    for word in words {
+    for (i, word) in words.iter().enumerate() {
+        if is_too_large(&clause) {
+            return after_from(alloc, earlier, words, i, &clause, content);
+        }
         let numbers = later_numbers(alloc, word)?;
         let Some(parents) = clauses_at(alloc, earlier, numbers.as_slice())? else {
             return Ok(Some(Row::NoParent));
@@ -92,11 +165,10 @@ pub fn after(
         match follow(alloc, word, &mut clause, parents.as_slice())? {
             Followed::Misplaced => return Ok(Some(Row::Misplaced)),
             Followed::Differs => return Ok(Some(Row::Differs)),
-            Followed::TooLarge => return Err(AllocError),
+            Followed::TooLarge => {
+                return after_from(alloc, earlier, words, i, &clause, content);
+            }
             Followed::Done => {}
-        }
-        if is_beyond(&clause) {
-            return Err(AllocError);
         }
     }
     if is_clause(alloc, content, &clause)? {
@@ -106,28 +178,19 @@ pub fn after(
     }
 }
 
-/// Whether a clause that isn't built has to be, for the words behind it or for a content: not where no word follows and it is
-/// larger than the content, or smaller. One that is beyond the bounds counts as want of memory.
+/// Whether a content may be what words make of a clause that isn't built: not where no word follows and it is larger than the
+/// content, or smaller.
 #[tactic(auto, using(crate::proofs::InferSteps::other_size))]
-pub fn has_to_be_built(
-    words: &[Later],
-    measure: Measure,
-    content: &Content,
-) -> Result<bool, AllocError>
-    ensures { IfOk result (λ b. b ≡ false → (d : ClauseTree) → measure ≡ clause_measured d
-        → (ls : List LineTree) → AfterAs ls (map later_of words.now) (renumbered d)
-        (content_of content.now) (Some OtherClause)) }
+pub fn may_lead(words: &[Later], measure: Measure, content: &Content) -> bool
+    ensures { result ≡ false → (d : ClauseTree) → measure ≡ clause_measured d
+        → (ls : List LineTree) → AfterAs ls (map later_of words.now) d (content_of content.now)
+        (Some OtherClause) }
 {
-    if words.is_empty() && !may_be(content, measure) {
-        return Ok(false);
-    }
-    if would_be_beyond(measure) {
-        return Err(AllocError);
-    }
-    Ok(true)
+    !words.is_empty() || may_be(content, measure)
 }
 
 // Whether words lead from a conclusion that isn't built to a content.
+#[tactic(auto, using(crate::proofs::Alike::after_conclusion))]
 fn after_large(
     alloc: Global,
     earlier: &[Line],
@@ -139,11 +202,11 @@ fn after_large(
     ensures { IfOk result (AfterAs (lines_of earlier.now) (map later_of words.now)
         (renumbered large.now) (content_of content.now)) }
 {
-    if !has_to_be_built(words, large.measure(), content)? {
+    if !may_lead(words, large.measure(), content) {
         return Ok(Some(Row::OtherClause));
     }
-    let clause = large.numbered(alloc)?;
-    after(alloc, earlier, words, clause, content)
+    let shared = SharedClause::of_conclusion(alloc, large)?;
+    after_shared(alloc, earlier, words, shared, content)
 }
 
 // The numbers of the lines that a first word takes; of the words without a rule none.

@@ -7,14 +7,16 @@ ghost use Rattle.proof_check.specs.Found.{AfterAs, InstanceAs};
 ghost use Rattle.proof_check.specs.Reached.{AreRising};
 
 use crate::earlier::clause_at;
-use crate::inferring::{after, has_to_be_built, later_there};
+use crate::inferring::{after, after_shared, later_there, may_lead};
 use derivation::{Content, Later, Line, Row};
 use fol_core::Clause;
 use inference::{Instantiated, LargeInstance};
+use shared_clauses::SharedClause;
 use std::alloc::{AllocError, Global};
 use substitutions::Subst;
 
 // Whether words lead from an instance that isn't built to a content.
+#[tactic(auto, using(crate::proofs::Alike::after_numbered))]
 fn after_large(
     alloc: Global,
     earlier: &[Line],
@@ -26,11 +28,11 @@ fn after_large(
     ensures { IfOk result (AfterAs (lines_of earlier.now) (map later_of words.now)
         (renumbered large.now) (content_of content.now)) }
 {
-    if !has_to_be_built(words, large.measure(), content)? {
+    if !may_lead(words, large.measure(), content) {
         return Ok(Some(Row::OtherClause));
     }
-    let clause = large.numbered(alloc)?;
-    after(alloc, earlier, words, clause, content)
+    let shared = SharedClause::of_instance(alloc, large)?;
+    after_shared(alloc, earlier, words, shared, content)
 }
 
 // Whether words lead from the instance to a content.

@@ -4,14 +4,14 @@
 // `stating.rt`, an instance by `instancing.rt`, all else by `inferring.rt`, which finds the parents (`earlier.rt`) and
 // hands them to `inference`: what a first word comes to is found there, and what the words behind it make of its clause, by
 // the functions that the search calls too.
-// A conclusion or an instance that is too large for a search, with no word behind it, is compared with the line's clause
-// by size and levels first, and not built where these differ. Else it is built up to a bound, as are the clauses that
-// words make of it (words can make a small clause of a large one); what is beyond counts as want of memory
-// (`bounds.rt`). Clauses are numbered for a comparison only where sizes are the same.
+// A conclusion or an instance that is too large for a search isn't built: with no word behind it, it is compared with the line's
+// clause by size and levels first; else it goes on shared terms (`shared_clauses`), as does a clause that words make too large,
+// and is built only where it is as large as the line's clause and has no more levels (`sizes.rt`). So no clause on the way is too
+// large, and want of memory is told only where an allocation was refused. Clauses are numbered for a comparison only where
+// sizes are the same.
 // `specs/Found` says what is found of a line, `Reached` how far lines are read.
 #![tactic(auto)]
 
-mod bounds;
 mod checking;
 mod earlier;
 mod error;
@@ -19,6 +19,7 @@ mod inferring;
 mod instancing;
 mod line;
 mod sameness;
+mod sizes;
 mod stating;
 
 pub use checking::check;

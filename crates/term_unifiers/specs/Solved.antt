@@ -1,15 +1,20 @@
 -- What is found of unifiers.
-use Rattle.std.specs.Prelude.{◌≡◌}
-use Rattle.fol_core.specs.Literals.{ClauseTree}
 use Rattle.fol_core.specs.Substitutions.{Substitution}
 use Rattle.fol_core.specs.Tree.{Trees}
-use Rattle.substitutions.specs.Instances.{substitute_clause}
-use Rattle.unifiers.specs.Unifier.{Unifies, IsMostGeneral}
+use Rattle.std.specs.Prelude.{◌≡◌, List}
+use Rattle.std.specs.Prelude.{ℕ}
+use Rattle.term_unifiers.specs.Merging.{Merging, IsMerging, FitsLinks}
+use Rattle.term_unifiers.specs.Shapes.{Shape}
+use Rattle.unifiers.specs.Unifier.{Unifies}
 
--- a clause with a most general unifier put in
-abbrev pub IsUnified : Trees → Trees → ClauseTree → ClauseTree → Type 0
-IsUnified ss ts c d = (s : Substitution) × IsMostGeneral s ss ts × (d ≡ substitute_clause s c)
-
--- or nothing unifies
+-- nothing unifies
 abbrev pub HasNoUnifier : Trees → Trees → Type 0
-HasNoUnifier ss ts = (s : Substitution) → ¬ Unifies s ss ts
+HasNoUnifier ss ts = (u : Substitution) → ¬ Unifies u ss ts
+
+-- nodes with pairs, before any are merged
+pub record IsBegun (shapes : List Shape) (left_numbers right_numbers : List ℕ) (m : Merging)
+    : Type 0 where
+  pub merging : IsMerging shapes m
+  pub lefts : m.lefts ≡ left_numbers
+  pub rights : m.rights ≡ right_numbers
+  pub apart : (label : Substitution) → FitsLinks label m.links

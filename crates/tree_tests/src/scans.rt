@@ -1,8 +1,8 @@
 // What of a list of terms fits another one, found by going through them all.
 use fol_core::{Term, Terms};
 use std::alloc::{AllocError, Global};
-use term_classes::Pairs;
 use term_matches::is_instance;
+use term_unifiers::Pairs;
 
 /// Which numbers of terms are left.
 #[derive(Clone, Copy)]

@@ -2,7 +2,7 @@
 use Rattle.std.proofs.Common.{List, IsTrue, ap}
 use Rattle.fol_core.specs.Tree.{Tree}
 use Rattle.fol_core.specs.TermView.{tree_of}
-use Rattle.term_classes.proofs.Renamed.{unified_apart}
+use Rattle.term_unifiers.proofs.Renamed.{unified_apart}
 use Rattle.discrim_tree.proofs.Terms.{test_is}
 use Rattle.discrim_tree.proofs.comparing.can_unify.Goals as goal
 

@@ -7,9 +7,9 @@ use Rattle.substitutions.specs.Bindings.{by_bindings}
 use Rattle.inference.specs.Left.{changed}
 use Rattle.inference.proofs.Changed.{written_changed, written_here, written_there}
 use Rattle.inference.proofs.WriteSteps.{moved, written_of}
-use Rattle.term_classes.specs.Renamed.{own_among}
-use Rattle.term_classes.specs.Written.{IsWritten}
-use Rattle.term_classes.proofs.Written.{element_written, written_as}
+use Rattle.term_unifiers.specs.Renamed.{own_among}
+use Rattle.term_unifiers.specs.Written.{IsWritten}
+use Rattle.term_unifiers.proofs.Written.{element_written, written_as}
 use Rattle.inference.proofs.building.+written_with.Goals.{then-place-number+in_ok-written-in-App, else-place-number+in_ok-written-in-App-2}
 use Rattle.inference.proofs.building.+written_with.Goals as goal
 

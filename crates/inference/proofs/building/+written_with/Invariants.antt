@@ -3,8 +3,8 @@ use Rattle.fol_core.specs.Substitutions.{substitute}
 use Rattle.fol_core.specs.TermView.{tree_of}
 use Rattle.substitutions.specs.Bindings.{by_bindings}
 use Rattle.inference.proofs.Changed.{changed_so_far}
-use Rattle.term_classes.specs.Renamed.{own_among}
-use Rattle.term_classes.specs.Written.{AreWritten}
+use Rattle.term_unifiers.specs.Renamed.{own_among}
+use Rattle.term_unifiers.specs.Written.{AreWritten}
 use Rattle.inference.proofs.building.+written_with.Given as goal
 
 abbrev pub decreases-written_with : goal.decreases-written_with

@@ -2,7 +2,7 @@
 use Rattle.fol_core.specs.TermView.{tree_of}
 use Rattle.substitutions.specs.Bindings.{by_bindings}
 use Rattle.inference.proofs.WriteSteps.{literals_all, literals_next, no_literals}
-use Rattle.term_classes.specs.Renamed.{own_among}
+use Rattle.term_unifiers.specs.Renamed.{own_among}
 use Rattle.inference.proofs.building.built.Goals as goal
 
 pub loop-one-init : goal.loop-one-init

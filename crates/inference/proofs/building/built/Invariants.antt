@@ -3,7 +3,7 @@ use Rattle.std.proofs.Common.{take}
 use Rattle.substitutions.specs.Bindings.{by_bindings}
 use Rattle.inference.specs.Left.{all_left, left_clause}
 use Rattle.inference.proofs.WriteSteps.{AreLiterals}
-use Rattle.term_classes.specs.Renamed.{own_among}
+use Rattle.term_unifiers.specs.Renamed.{own_among}
 use Rattle.inference.proofs.building.built.Given as goal
 
 abbrev pub invariant-loop-one : goal.invariant-loop-one

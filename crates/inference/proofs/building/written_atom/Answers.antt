@@ -3,7 +3,7 @@ use Rattle.fol_core.specs.Substitutions.{substitute}
 use Rattle.fol_core.specs.TermView.{tree_of}
 use Rattle.substitutions.specs.Bindings.{by_bindings}
 use Rattle.inference.proofs.WriteSteps.{atom_changed, atom_whole, written_of}
-use Rattle.term_classes.specs.Renamed.{own_among}
+use Rattle.term_unifiers.specs.Renamed.{own_among}
 use Rattle.inference.proofs.building.written_atom.Goals as goal
 
 pub returns-in-None : goal.returns-in-None

@@ -4,7 +4,7 @@ use Rattle.clause_limits.specs.Sizes.{measured}
 use Rattle.fol_core.specs.Substitutions.{substitute}
 use Rattle.fol_core.specs.TermView.{tree_of}
 use Rattle.substitutions.specs.Bindings.{by_bindings}
-use Rattle.term_classes.proofs.Measured.{measured_made, measured_next}
+use Rattle.term_unifiers.proofs.Measured.{measured_made, measured_next}
 use Rattle.inference.proofs.instance.+measure_with.Goals as goal
 
 pub loop-term-preserved : goal.loop-term-preserved

@@ -6,7 +6,7 @@ use Rattle.fol_core.specs.TermView.{tree_of}
 use Rattle.substitutions.specs.Bindings.{by_bindings}
 use Rattle.inference.specs.Left.{changed}
 use Rattle.inference.proofs.Changed.{measured_changed, measured_here, measured_there}
-use Rattle.term_classes.specs.Renamed.{own_among}
+use Rattle.term_unifiers.specs.Renamed.{own_among}
 use Rattle.inference.proofs.measuring.+measured_with.Goals.{then-place-number, else-place-number}
 use Rattle.inference.proofs.measuring.+measured_with.Goals as goal
 

@@ -6,7 +6,7 @@ use Rattle.fol_core.specs.TermView.{tree_of}
 use Rattle.fol_core.specs.Tree.{trees_of}
 use Rattle.substitutions.specs.Bindings.{by_bindings}
 use Rattle.inference.proofs.Changed.{changed_so_far}
-use Rattle.term_classes.specs.Renamed.{own_among}
+use Rattle.term_unifiers.specs.Renamed.{own_among}
 use Rattle.inference.proofs.measuring.+measured_with.Given as goal
 
 abbrev pub invariant-loop-i : goal.invariant-loop-i

@@ -1,7 +1,7 @@
 -- A literal more, and all of them.
 use Rattle.substitutions.specs.Bindings.{by_bindings}
 use Rattle.inference.proofs.MeasureSteps.{measured_all_left, measured_next}
-use Rattle.term_classes.specs.Renamed.{own_among}
+use Rattle.term_unifiers.specs.Renamed.{own_among}
 use Rattle.inference.proofs.measuring.measure_all.Goals as goal
 
 pub loop-one-preserved : goal.loop-one-preserved

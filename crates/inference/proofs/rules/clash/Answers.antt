@@ -3,8 +3,8 @@ use Rattle.std.proofs.Common.{◌∙◌, MatchOption, sym, subst}
 use Rattle.substitutions.specs.Bindings.{by_bindings}
 use Rattle.unifiers.specs.Unifier.{IsMostGeneral}
 use Rattle.inference.proofs.RuleSteps.{judged_apart}
-use Rattle.term_classes.specs.Renamed.{left_sides, right_sides}
-use Rattle.term_classes.specs.Solved.{HasNoUnifier}
+use Rattle.term_unifiers.specs.Renamed.{left_sides, right_sides}
+use Rattle.term_unifiers.specs.Solved.{HasNoUnifier}
 use Rattle.std.proofs.Common.{map}
 use Rattle.derivation.specs.Words.{clash_rule}
 use Rattle.derivation.proofs.Conclusions.{clash_natural}

@@ -3,7 +3,7 @@ use Rattle.std.proofs.Common.{IfOk, ◌∙◌, ◌++◌, ap, subst}
 use Rattle.substitutions.specs.Bindings.{by_bindings}
 use Rattle.inference.specs.Judged.{IsConclusion}
 use Rattle.inference.specs.Left.{all_left, all_whole, left_clause}
-use Rattle.term_classes.specs.Renamed.{own_among}
+use Rattle.term_unifiers.specs.Renamed.{own_among}
 use Rattle.inference.proofs.rules.conclude_whole.Goals as goal
 
 pub returns : goal.returns

@@ -4,7 +4,7 @@ use Rattle.substitutions.specs.Bindings.{by_bindings}
 use Rattle.derivation.specs.Places.{others}
 use Rattle.inference.specs.Judged.{IsConclusion}
 use Rattle.inference.specs.Left.{all_left, all_whole, left_clause}
-use Rattle.term_classes.specs.Renamed.{own_among}
+use Rattle.term_unifiers.specs.Renamed.{own_among}
 use Rattle.inference.proofs.rules.conclude_without.Goals as goal
 
 pub returns : goal.returns

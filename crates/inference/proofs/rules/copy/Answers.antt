@@ -4,8 +4,8 @@ use Rattle.std.proofs.lemmas.Result.{IfOk-weaker}
 use Rattle.substitutions.specs.Bindings.{by_bindings}
 use Rattle.unifiers.specs.Unifier.{IsMostGeneral}
 use Rattle.inference.proofs.RuleSteps.{judged, judged_apart}
-use Rattle.term_classes.specs.Renamed.{left_sides, right_sides}
-use Rattle.term_classes.specs.Solved.{HasNoUnifier}
+use Rattle.term_unifiers.specs.Renamed.{left_sides, right_sides}
+use Rattle.term_unifiers.specs.Solved.{HasNoUnifier}
 use Rattle.derivation.specs.Words.{copy_rule}
 use Rattle.derivation.proofs.Conclusions.{copy_natural}
 use Rattle.derivation.proofs.Lawful.{copy_lawful}

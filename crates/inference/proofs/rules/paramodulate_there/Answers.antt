@@ -3,8 +3,8 @@ use Rattle.std.proofs.Common.{◌∷◌, [], MatchOption, subst}
 use Rattle.substitutions.specs.Bindings.{by_bindings}
 use Rattle.unifiers.specs.Unifier.{IsMostGeneral}
 use Rattle.inference.proofs.RuleSteps.{judged_apart}
-use Rattle.term_classes.specs.Renamed.{left_sides, right_sides}
-use Rattle.term_classes.specs.Solved.{HasNoUnifier}
+use Rattle.term_unifiers.specs.Renamed.{left_sides, right_sides}
+use Rattle.term_unifiers.specs.Solved.{HasNoUnifier}
 use Rattle.derivation.specs.Words.{para_rule}
 use Rattle.derivation.proofs.Conclusions.{para_natural}
 use Rattle.derivation.proofs.Lawful.{para_lawful}

@@ -8,5 +8,5 @@ use Rattle.inference.proofs.words.delete_unit_of.Goals as goal
 
 pub returns : goal.returns
 returns g c = λ n.
-    subst (λ (ps : List ClauseTree). IfOk c.delete_unit.result (FollowsAs (unit_deleted c.args.a n) (g.C.Underway.clause c.args.clause.now) ps (g.C.Underway.clause c.delete_unit.new.clause)))
+    subst (λ (ps : List ClauseTree). IfOk c.delete_unit.result (FollowsAs g.C.Underway.exceeds (unit_deleted c.args.a n) (g.C.Underway.clause c.args.clause.now) ps (g.C.Underway.clause c.delete_unit.new.clause)))
     (sym (one_parent c.args.parents.now c.index-parents-0.result c.if-parents-ne1.false c.index-parents-0.is)) (c.delete_unit.ensures n)

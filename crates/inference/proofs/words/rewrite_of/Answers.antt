@@ -8,5 +8,5 @@ use Rattle.inference.proofs.words.rewrite_of.Goals as goal
 
 pub returns : goal.returns
 returns g c = λ n.
-    subst (λ (ps : List ClauseTree). IfOk c.rewrite.result (FollowsAs (rewritten n c.args.a c.args.path.now) (g.C.Underway.clause c.args.clause.now) ps (g.C.Underway.clause c.rewrite.new.clause)))
+    subst (λ (ps : List ClauseTree). IfOk c.rewrite.result (FollowsAs g.C.Underway.exceeds (rewritten n c.args.a c.args.path.now) (g.C.Underway.clause c.args.clause.now) ps (g.C.Underway.clause c.rewrite.new.clause)))
     (sym (one_parent c.args.parents.now c.index-parents-0.result c.if-parents-ne1.false c.index-parents-0.is)) (c.rewrite.ensures n)

@@ -1,0 +1,7 @@
+pub mod Alike
+mod BoundSteps
+mod FollowSteps
+mod MakeSteps
+mod NodeSteps
+mod PutSteps
+mod WaySteps

@@ -1,0 +1,7 @@
+pub mod Bound
+pub mod Lefts
+pub mod Nodes
+pub mod Rewriting
+pub mod Shared
+pub mod Ways
+pub mod Worked

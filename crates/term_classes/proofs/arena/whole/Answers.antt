@@ -1,8 +1,0 @@
--- Both are below 2 ^ 64.
-use Rattle.std.proofs.Common.{arith}
-use Rattle.term_classes.specs.Arenas.{whole}
-use Rattle.term_classes.proofs.arena.whole.Goals as goal
-
-pub returns : goal.returns
-unfolding whole
-returns c = omega arith

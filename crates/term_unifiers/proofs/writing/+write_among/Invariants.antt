@@ -1,0 +1,15 @@
+-- The first arguments are written.
+use Rattle.std.proofs.Common.{map, take}
+use Rattle.fol_core.specs.Substitutions.{substitute}
+use Rattle.fol_core.specs.TermView.{tree_of}
+use Rattle.substitutions.specs.Bindings.{by_bindings}
+use Rattle.term_unifiers.specs.Renamed.{own_among}
+use Rattle.term_unifiers.specs.Solutions.{bindings_of}
+use Rattle.term_unifiers.specs.Written.{AreWritten}
+use Rattle.term_unifiers.proofs.writing.+write_among.Given as goal
+
+abbrev pub decreases-write_among : goal.decreases-write_among
+decreases-write_among l = goal.size-write_among l
+
+abbrev pub invariant-loop-term : goal.invariant-loop-term
+invariant-loop-term l = AreWritten l.fn.numbers l.numbers (map (λ t. substitute (own_among l.many (by_bindings (bindings_of l.found)) l.parent) (tree_of t)) (take l.term-index l.term-items)) l.made
