@@ -1,20 +1,19 @@
 -- Passes over a clause, from place to place.
 use Rattle.std.proofs.Common.{◌≡◌, ℕ, zero, suc, ◌+◌, ◌<◌, ◌≤◌, Bool, true, false, if◌then◌else◌, length, List, [], ◌∷◌, ◌++◌, Option, Some, None, get_or, take, drop, map, refl, sym, ap, ap₂, ◌∙◌, append-nil, append_assoc, arith}
 use Rattle.std.proofs.lemmas.List.{length-append, length-map, length-take-le, drop_all, take_all, take_at}
-use Rattle.std.specs.List.{list_any}
 use Rattle.std.specs.Option.{option_map, option_map_or}
 use Rattle.fol_core.specs.ClauseView.{literal_of}
 use Rattle.fol_core.specs.Literals.{Lit, literal, ClauseTree}
 use Rattle.fol_core.specs.Tree.{Tree}
 use Rattle.fol_core.specs.declared.clause.Literal.{Literal}
-use Rattle.demodulate.proofs.Placing.{with_atom_length}
+use Rattle.inference.proofs.Placing.{with_atom_length}
 use Rattle.demodulate.specs.Passes.{words_then, flips_behind, left_out_behind, FlipsOn, PassGoesOn}
 use Rattle.derivation.specs.Equations.{equation, left_of, right_of}
-use Rattle.derivation.specs.Later.{LaterWord, flipped, merged, reflexive, unit_deleted}
+use Rattle.derivation.specs.Later.{LaterWord, flipped, unit_deleted}
 use Rattle.derivation.specs.Places.{atom_at, with_atom}
 use Rattle.prover_steps.specs.Clashing.{Held}
 use Rattle.prover_steps.specs.Rewriting.{Simplified, simplified, then_word}
-use Rattle.prover_steps.specs.Shortening.{is_turned, flips_from, left_out, same_literal, is_merged, is_false_equation, is_left_out, first_denying, is_denied, followed_by}
+use Rattle.prover_steps.specs.Shortening.{is_turned, flips_from, left_out, first_denying, is_denied, followed_by}
 
 -- a clause taken apart at a place
 take_next : (c : ClauseTree) (i : ℕ) (k : Lit) → i < length c → take (suc i) c ≡ take i c ++ get_or c i k ∷ []
@@ -107,12 +106,6 @@ module _ (ls : List Literal) (c : ClauseTree) (view : map literal_of ls ≡ c) (
 
   front_is : length (take i c) ≡ i
   front_is = length-take-le i c (omega (arith, h))
-
-  pub is_merged_there : (b : Bool) → b ≡ list_any (same_literal (literal_of l)) (take i c) → is_merged (take i c) (literal_of l) ≡ (if b then Some (merged i) else None)
-  is_merged_there b e = ap (λ x. if x then Some (merged (length (take i c))) else None) (sym e) ∙ ap (λ n. if b then Some (merged n) else None) front_is
-
-  pub is_left_out_there : (b : Bool) → b ≡ is_false_equation (literal_of l) → is_left_out (take i c) (literal_of l) ≡ (if b then Some (reflexive i) else None)
-  is_left_out_there b e = ap (λ x. if x then Some (reflexive (length (take i c))) else None) (sym e) ∙ ap (λ n. if b then Some (reflexive n) else None) front_is
 
   pub is_denied_there : (us : List Held) (o : Option ℕ) → o ≡ first_denying us (literal_of l) → is_denied us (take i c) (literal_of l) ≡ option_map (unit_deleted i) o
   is_denied_there us o e = ap (λ p. option_map (λ n. unit_deleted (length (take i c)) n) p) (sym e) ∙ ap (λ m. option_map (λ n. unit_deleted m n) o) front_is

@@ -1,5 +1,5 @@
 -- The first place at which a rule fits.
-use Rattle.std.proofs.Common.{◌≡◌, ℕ, zero, suc, ◌+◌, ◌<◌, ◌≤◌, Bool, true, false, if◌then◌else◌, is_some, length, List, [], ◌∷◌, ◌++◌, Option, Some, None, get_or, take, map, refl, sym, ap, ap₂, subst, ◌∙◌, append-nil, append_assoc, arith}
+use Rattle.std.proofs.Common.{◌≡◌, ℕ, zero, suc, ◌+◌, ◌<◌, ◌≤◌, Bool, true, false, if◌then◌else◌, is_some, length, unwrap_or, List, [], ◌∷◌, ◌++◌, Option, Some, None, get_or, take, map, refl, sym, ap, ap₂, subst, ◌∙◌, append-nil, append_assoc, arith}
 use Rattle.std.proofs.lemmas.List.{take_all}
 use Rattle.std.specs.List.{AllByRecursion, find}
 use Rattle.std.specs.Option.{option_map, option_map_or}
@@ -9,9 +9,9 @@ use Rattle.fol_core.specs.TermView.{tree_of, tree_list}
 use Rattle.fol_core.specs.Tree.{Tree, Trees, more, app, trees_of}
 use Rattle.fol_core.specs.declared.clause.Literal.{Literal}
 use Rattle.fol_core.specs.declared.term.Term.{Term}
-use Rattle.demodulate.proofs.Exchanging.{later_argument}
+use Rattle.inference.proofs.Exchanging.{later_argument}
 use Rattle.demodulate.specs.Passes.{words_then}
-use Rattle.demodulate.specs.Steps.{step_below, whole_step, step_at}
+use Rattle.demodulate.specs.Steps.{put_by, step_below, whole_step, step_at}
 use Rattle.derivation.specs.Later.{LaterWord, rewritten}
 use Rattle.derivation.specs.Places.{with_atom}
 use Rattle.prover_steps.specs.Clashing.{Held}
@@ -36,13 +36,27 @@ top_first (r ∷ rs) t = by (rewritten_by r t) refl (top_first rs t)
         ∙ sym (ap (λ o. option_map_or (λ q. top_of t q None) (if is_some o then Some r else find (λ q. is_some (rewritten_by q t)) rs) None) e
         ∙ ap (λ o. option_map_or (λ v. Some (record { rule = r.number; path = []; result = v })) o None) e)
 
-pub top_found : (rs : List Held) (r : Held) (t u : Tree) → find (λ q. is_some (rewritten_by q t)) rs ≡ Some r → rewritten_by r t ≡ Some u → step_at_top rs t ≡ Some (record { rule = r.number; path = []; result = u })
-top_found rs r t u is e =
-    top_first rs t ∙ ap (λ o. option_map_or (λ q. top_of t q None) o None) is ∙ ap (λ o. option_map_or (λ v. Some (record { rule = r.number; path = []; result = v })) o None) e
+some_fits : (rs : List Held) (r : Held) (t : Tree) → find (λ q. is_some (rewritten_by q t)) rs ≡ Some r → is_some (rewritten_by r t) ≡ true
+some_fits [] r t is = absurd (cc)
+some_fits (q ∷ rs) r t is = by (is_some (rewritten_by q t)) refl (some_fits rs r t) is
+  where
+    by : (b : Bool) → is_some (rewritten_by q t) ≡ b → (find (λ p. is_some (rewritten_by p t)) rs ≡ Some r → is_some (rewritten_by r t) ≡ true) → (if b then Some q else find (λ p. is_some (rewritten_by p t)) rs) ≡ Some r
+        → is_some (rewritten_by r t) ≡ true
+    by true e rest is = let same : q ≡ r = cc in ap (λ p. is_some (rewritten_by p t)) (sym same) ∙ e
+    by false e rest is = rest is
 
-pub top_missed : (rs : List Held) (r : Held) (t : Tree) → find (λ q. is_some (rewritten_by q t)) rs ≡ Some r → rewritten_by r t ≡ None → step_at_top rs t ≡ None
-top_missed rs r t is e =
-    top_first rs t ∙ ap (λ o. option_map_or (λ q. top_of t q None) o None) is ∙ ap (λ o. option_map_or (λ v. Some (record { rule = r.number; path = []; result = v })) o None) e
+pub top_fits : (rs : List Held) (r : Held) (t : Tree) → find (λ q. is_some (rewritten_by q t)) rs ≡ Some r → is_some (rewritten_by r t) ≡ true
+top_fits rs r t is = some_fits rs r t is
+
+abbrev step_to : Held → Tree → Option (RewriteStep Tree)
+step_to r u = Some (record { rule = r.number; path = []; result = u })
+
+pub top_found : (rs : List Held) (r : Held) (t : Tree) → find (λ q. is_some (rewritten_by q t)) rs ≡ Some r → step_to r (put_by r t) ≡ step_at_top rs t
+top_found rs r t is = sym (top_first rs t ∙ ap (λ o. option_map_or (λ q. top_of t q None) o None) is ∙ by (rewritten_by r t) (some_fits rs r t is))
+  where
+    by : (o : Option Tree) → is_some o ≡ true → option_map_or (step_to r) o None ≡ step_to r (unwrap_or o t)
+    by None h = absurd (cc)
+    by (Some u) h = refl
 
 pub top_none : (rs : List Held) (t : Tree) → find (λ q. is_some (rewritten_by q t)) rs ≡ None → step_at_top rs t ≡ None
 top_none rs t is = top_first rs t ∙ ap (λ o. option_map_or (λ q. top_of t q None) o None) is
@@ -148,14 +162,14 @@ module _ (too_large : ClauseTree → Bool) (rs : List Held) where
   steps_end zero c ws e = ap (simplified c) (append-nil ws)
   steps_end (suc k) c ws e = cc
 
-  pub steps_none : (k : ℕ) (c : ClauseTree) (ws : List LaterWord) → None ≡ clause_step rs 0 c → steps_left k c ws ≡ simplified c ws
-  steps_none zero c ws e = ap (simplified c) (append-nil ws)
-  steps_none (suc k) c ws e = ap (λ o. words_then ws (one_step k c o)) (sym e) ∙ ap (simplified c) (append-nil ws)
-
-  pub steps_large : (k : ℕ) (c : ClauseTree) (ws : List LaterWord) (w : LaterWord) (d : ClauseTree) → Some (w, d) ≡ clause_step rs 0 c → too_large d ≡ true → steps_left k c ws ≡ simplified c ws
-  steps_large zero c ws w d e large = ap (simplified c) (append-nil ws)
-  steps_large (suc k) c ws w d e large =
-      ap (λ o. words_then ws (one_step k c o)) (sym e) ∙ ap (λ b. words_then ws (if b then simplified c [] else then_word w (normal_form too_large rs k d))) large ∙ ap (simplified c) (append-nil ws)
+  pub steps_stop : (k : ℕ) (c : ClauseTree) (ws : List LaterWord) → ((s : LaterWord × ClauseTree) → clause_step rs 0 c ≡ Some s → too_large s.1 ≡ true) → steps_left k c ws ≡ simplified c ws
+  steps_stop zero c ws stop = ap (simplified c) (append-nil ws)
+  steps_stop (suc k) c ws stop = by (clause_step rs 0 c) refl ∙ ap (simplified c) (append-nil ws)
+    where
+      by : (o : Option (LaterWord × ClauseTree)) → clause_step rs 0 c ≡ o → words_then ws (one_step k c (clause_step rs 0 c)) ≡ words_then ws (simplified c [])
+      by None e = ap (λ o. words_then ws (one_step k c o)) e
+      by (Some s) e =
+          ap (λ o. words_then ws (one_step k c o)) e ∙ ap (λ b. words_then ws (if b then simplified c [] else then_word s.0 (normal_form too_large rs k s.1))) (stop s e)
 
   pub steps_on : (m k : ℕ) (c : ClauseTree) (ws : List LaterWord) (w : LaterWord) (d : ClauseTree) (vs : List LaterWord) → Some (w, d) ≡ clause_step rs 0 c → too_large d ≡ false → m ≡ suc k → vs ≡ ws ++ w ∷ []
       → steps_left m c ws ≡ steps_left k d vs

@@ -1,39 +1,41 @@
 // A clause rewritten step by step.
-ghost use Rattle.std.specs.Prelude.{◌≡◌, ◌<◌, ◌≤◌, ◌∷◌, IfOk, length};
+ghost use Rattle.std.specs.Prelude.{◌≡◌, ◌≤◌, ◌∷◌, IfOk, IsTrue, is_some};
 ghost use Rattle.std.specs.Option.{option_map};
 ghost use Rattle.clause_index.specs.Normal.{HaveNoStep};
 ghost use Rattle.demodulate.specs.Resumed.{AreLiteralsNormalBefore};
-ghost use Rattle.demodulate.specs.Steps.{placed_step, IsPlaceIn, TakesClause, tidied_of, with_part_at};
+ghost use Rattle.demodulate.specs.Steps.{IsFit, IsPlaceIn, IsTaken, placed_step, put_by, tidied_of};
 ghost use Rattle.fol_core.specs.TermView.{tree_of};
-ghost use Rattle.prover_steps.specs.Rewriting.{clause_step, normal_form};
+ghost use Rattle.inference.specs.Followed.{IsPutIn};
+ghost use Rattle.prover_steps.specs.Rewriting.{clause_step, normal_form, rewritten_by};
 ghost use Rattle.prover_steps.specs.Searching.{is_too_large};
 
-use crate::literals::exchange;
 use crate::rewriting::{atom_step, is_passed, place_within};
-use crate::step::{PlacedStep, Step, Tidied};
+use crate::step::{PlacedStep, Step, Taken, Tidied};
 use clause_index::{NormalTerms, Rules};
-use clause_limits::is_too_large;
 use derivation::{Later, Rewrite};
 use discrim_tree::Tries;
 use fol_core::{Clause, Term};
+use held_clauses::{Held, rule_left, rule_right};
+use inference::{exchange, match_of, put_small};
 use std::alloc::{AllocError, Global};
 
 // The first step of a clause, with the place of its literal.
 #[tactic(auto, using(crate::proofs::Redexes::normal_literals_more, crate::proofs::Redexes::literal_step, crate::proofs::Redexes::no_literal_step))]
-fn first_in_clause(
+fn first_in_clause<'a>(
     alloc: Global,
-    rules: &Rules,
+    rules: &'a Rules,
     known: &mut NormalTerms,
-    clause: &Clause,
+    clause: &'a Clause,
     from: &[u64],
     tries: &mut Tries,
-) -> Result<Option<PlacedStep>, AllocError>
+) -> Result<Option<PlacedStep<'a>>, AllocError>
     requires before { AreLiteralsNormalBefore rules.now from.now 0 clause.now }
     requires known { HaveNoStep rules.now known.old }
     ensures step { IfOk result (λ o. option_map (placed_step clause.now) o
         ≡ clause_step rules.now 0 clause.now) }
     ensures known { HaveNoStep rules.now known.new }
     ensures place { IfOk result (λ o. IsPlaceIn clause.now o) }
+    ensures fits { IfOk result (λ o. IsFit (option_map (λ p. p.step) o)) }
     ensures on { tries.old ≤ tries.new }
 {
     for (place, literal) in clause.literals.iter().enumerate() {
@@ -65,23 +67,62 @@ fn place_below(alloc: Global, literal: usize, path: &[u64]) -> Result<Vec<u64>, 
     Ok(place)
 }
 
-// A step is taken, unless it makes the clause too large.
-#[tactic(auto, using(crate::proofs::Placing::with_atom_length))]
-fn take_step(clause: &mut Clause, place: usize, path: &[u64], part: Term) -> bool
-    requires { place < length clause.old }
-    ensures { TakesClause clause.old (with_part_at clause.old place path.now (tree_of part))
-        clause.new result }
+// What a step puts in, unless it makes the clause too large.
+#[tactic(auto, using(derivation::proofs::SideSteps::or_tree, derivation::proofs::SideSteps::or_variable))]
+fn part_of(
+    alloc: Global,
+    clause: &Clause,
+    place: usize,
+    path: &[u64],
+    rule: &Held,
+    term: &Term,
+) -> Result<Option<Term>, AllocError>
+    requires { IsTrue (is_some (rewritten_by rule.now (tree_of term.now))) }
+    ensures { IfOk result (IsPutIn clause.now place path.now
+        (put_by rule.now (tree_of term.now))) }
 {
-    let old = exchange(clause, place, path, part);
-    if is_too_large(clause) {
-        exchange(clause, place, path, old);
-        return false;
+    let variable = Term::Var(0);
+    let left = rule_left(rule).unwrap_or(&variable);
+    let right = rule_right(rule).unwrap_or(&variable);
+    match match_of(alloc, left, term)? {
+        Some(found) => put_small(alloc, clause, place, path, found, right),
+        None => Ok(None),
     }
-    true
+}
+
+// The next step, built, unless it makes the clause too large.
+fn next_step(
+    alloc: Global,
+    rules: &Rules,
+    known: &mut NormalTerms,
+    clause: &Clause,
+    from: &[u64],
+    tries: &mut Tries,
+) -> Result<Option<Taken>, AllocError>
+    requires before { AreLiteralsNormalBefore rules.now from.now 0 clause.now }
+    requires known { HaveNoStep rules.now known.old }
+    ensures step { IfOk result (IsTaken clause.now (clause_step rules.now 0 clause.now)) }
+    ensures known { HaveNoStep rules.now known.new }
+    ensures on { tries.old ≤ tries.new }
+{
+    let Some(found) = first_in_clause(alloc, rules, known, clause, from, tries)? else {
+        return Ok(None);
+    };
+    let PlacedStep { place, step } = found;
+    let Step { rule, path, term } = step;
+    match part_of(alloc, clause, place, path.as_slice(), rule, term)? {
+        None => Ok(None),
+        Some(part) => Ok(Some(Taken {
+            rule: rule.number(),
+            place,
+            path,
+            part,
+        })),
+    }
 }
 
 // A clause after so many steps, or after as many as there are, or as don't make it too large; with their words.
-#[tactic(auto, using(crate::proofs::Redexes::steps_end, crate::proofs::Redexes::steps_none, crate::proofs::Redexes::steps_large, crate::proofs::Redexes::steps_on, crate::proofs::Resuming::nothing_before_literals))]
+#[tactic(auto, using(crate::proofs::Redexes::steps_end, crate::proofs::Redexes::steps_stop, crate::proofs::Resuming::nothing_before_literals))]
 fn after_steps(
     alloc: Global,
     rules: &Rules,
@@ -99,22 +140,23 @@ fn after_steps(
     let mut words = Vec::new(alloc);
     let mut from = Vec::new(alloc);
     for _step in 0..limit {
-        match first_in_clause(alloc, rules, known, &clause, from.as_slice(), tries)? {
-            None => return Ok(Tidied { clause, words }),
-            Some(found) => {
-                let PlacedStep { place, step } = found;
-                let Step { rule, path, part } = step;
-                if !take_step(&mut clause, place, path.as_slice(), part) {
-                    return Ok(Tidied { clause, words });
-                }
-                from = place_below(alloc, place, path.as_slice())?;
-                words.push(Later::Rewrite(Rewrite {
-                    rule,
-                    literal: place as u64,
-                    path,
-                }))?;
-            }
-        }
+        let taken = next_step(alloc, rules, known, &clause, from.as_slice(), tries)?;
+        let Some(taken) = taken else {
+            return Ok(Tidied { clause, words });
+        };
+        let Taken {
+            rule,
+            place,
+            path,
+            part,
+        } = taken;
+        let _old = exchange(&mut clause, place, path.as_slice(), part);
+        from = place_below(alloc, place, path.as_slice())?;
+        words.push(Later::Rewrite(Rewrite {
+            rule,
+            literal: place as u64,
+            path,
+        }))?;
     }
     Ok(Tidied { clause, words })
 }

@@ -1,10 +1,8 @@
 // A clause put in order: sides of equations exchanged, literals left out.
 ghost use Rattle.std.specs.Prelude.{◌≡◌, ◌<◌, ◌≤◌, [], IfOk, OnOk, length, map};
-ghost use Rattle.std.specs.List.{list_any};
 ghost use Rattle.clause_index.specs.Sets.{all_in};
 ghost use Rattle.demodulate.specs.Passes.{FlipsOn, PassGoesOn};
 ghost use Rattle.demodulate.specs.Steps.{lesser, tidied_of};
-ghost use Rattle.derivation.specs.Places.{same_sign};
 ghost use Rattle.derivation.specs.View.{later_of};
 ghost use Rattle.fol_core.specs.ClauseView.{literal_of};
 ghost use Rattle.held_clauses.specs.Holding.{lent};
@@ -13,31 +11,29 @@ ghost use Rattle.prover_steps.specs.HeldOrder.{numbers_of, IsRising};
 ghost use Rattle.prover_steps.specs.Shortening.{is_turned, flips_from, left_out, same_literal, is_merged, is_false_equation, is_left_out, first_denying, is_denied, followed_by, put_in_order};
 
 use crate::fitting::denies;
-use crate::literals::{take_out, turn_at};
 use crate::step::Tidied;
 use clause_index::{HeldSet, HeldSets};
 use derivation::{Later, sides};
 use discrim_tree::Tries;
 use fol_core::{Clause, Literal};
-use held_clauses::{Held, has_same_sides, is_greater};
+use held_clauses::{Held, is_greater};
+use inference::{Followed, drop_reflexive, merge as merge_word, take_out, turn_at};
 use std::alloc::{AllocError, Global};
-use substitutions::same;
 use term_order::Precedence;
 
 // Whether the right side of a literal's equation is greater.
-fn is_turned(alloc: Global, precedence: &Precedence, literal: &Literal) -> Result<bool, AllocError>
+fn is_turned(precedence: &Precedence, literal: &Literal) -> Result<bool, AllocError>
     ensures { IfOk result (λ b. b ≡ is_turned (greater_of precedence.now)
         (literal_of literal.now)) }
 {
     let Some((left, right)) = sides(&literal.atom) else {
         return Ok(false);
     };
-    is_greater(alloc, precedence, right, left)
+    is_greater(precedence, right, left)
 }
 
 // Exchanges the sides of the equation at a place, if the right one is greater.
 fn flip_at(
-    alloc: Global,
     precedence: &Precedence,
     clause: &mut Clause,
     words: &mut Vec<Later>,
@@ -47,7 +43,7 @@ fn flip_at(
     ensures { OnOk result (FlipsOn (greater_of precedence.now) clause.old
         (map later_of words.old.items) place clause.new (map later_of words.new.items)) }
 {
-    if is_turned(alloc, precedence, &clause.literals[place])? {
+    if is_turned(precedence, &clause.literals[place])? {
         turn_at(clause, place);
         words.push(Later::Flip(place as u64))?;
     }
@@ -56,7 +52,7 @@ fn flip_at(
 
 // Exchanges the sides of each equation whose right one is greater.
 #[tactic(auto, using(crate::proofs::Passing::flips_ended))]
-fn flip(alloc: Global, precedence: &Precedence, tidied: Tidied) -> Result<Tidied, AllocError>
+fn flip(precedence: &Precedence, tidied: Tidied) -> Result<Tidied, AllocError>
     ensures { IfOk result (λ t. tidied_of t ≡ followed_by (tidied_of tidied)
         (flips_from (greater_of precedence.now) 0)) }
 {
@@ -65,40 +61,9 @@ fn flip(alloc: Global, precedence: &Precedence, tidied: Tidied) -> Result<Tidied
         mut words,
     } = tidied;
     for place in 0..clause.len() {
-        flip_at(alloc, precedence, &mut clause, &mut words, place)?;
+        flip_at(precedence, &mut clause, &mut words, place)?;
     }
     Ok(Tidied { clause, words })
-}
-
-// Whether two signs are one.
-fn same_sign(first: bool, second: bool) -> bool
-    ensures { result ≡ same_sign first second }
-{
-    first == second
-}
-
-// Whether two literals are one.
-fn is_same(literal: &Literal, other: &Literal) -> bool
-    ensures { result ≡ same_literal (literal_of literal.now) (literal_of other.now) }
-{
-    if !same_sign(literal.positive, other.positive) {
-        return false;
-    }
-    same(&literal.atom, &other.atom)
-}
-
-// Whether a literal stands among others.
-#[tactic(auto, using(held_clauses::proofs::LiteralTests::some_here, held_clauses::proofs::LiteralTests::some_behind, held_clauses::proofs::LiteralTests::some_end))]
-fn is_among(literal: &Literal, others: &[Literal]) -> bool
-    ensures { result ≡ list_any (same_literal (literal_of literal.now))
-        (map literal_of others.now) }
-{
-    for other in others {
-        if is_same(literal, other) {
-            return true;
-        }
-    }
-    false
 }
 
 // Leaves out the literal at a place if it stands before; the place of the next one.
@@ -107,12 +72,16 @@ fn merge_at(clause: &mut Clause, words: &mut Vec<Later>, place: usize) -> Result
     ensures { IfOk result (PassGoesOn is_merged clause.old (map later_of words.old.items) place
         clause.new (map later_of words.new.items)) }
 {
-    if is_among(&clause.literals[place], &clause.literals[..place]) {
-        take_out(clause, place);
-        words.push(Later::Merge(place as u64))?;
-        return Ok(place);
+    let _literals = clause.len();
+    match merge_word(clause, place as u64) {
+        Followed::Done => {
+            words.push(Later::Merge(place as u64))?;
+            Ok(place)
+        }
+        Followed::Misplaced => Ok(place + 1),
+        Followed::Differs => Ok(place + 1),
+        Followed::TooLarge => Ok(place + 1),
     }
-    Ok(place + 1)
 }
 
 // Leaves out literals that stand before.
@@ -132,14 +101,7 @@ fn merge(tidied: Tidied) -> Result<Tidied, AllocError>
     Ok(Tidied { clause, words })
 }
 
-// Whether a literal is an inequation with one term on both sides.
-fn is_false_equation(literal: &Literal) -> bool
-    ensures { result ≡ is_false_equation (literal_of literal.now) }
-{
-    !literal.positive && has_same_sides(&literal.atom)
-}
-
-// Leaves out the literal at a place if it is such a one; the place of the next one.
+// Leaves out the literal at a place if it is an inequation with one term on both sides; the place of the next one.
 fn leave_out_at(
     clause: &mut Clause,
     words: &mut Vec<Later>,
@@ -149,12 +111,16 @@ fn leave_out_at(
     ensures { IfOk result (PassGoesOn is_left_out clause.old (map later_of words.old.items) place
         clause.new (map later_of words.new.items)) }
 {
-    if is_false_equation(&clause.literals[place]) {
-        take_out(clause, place);
-        words.push(Later::Xx(place as u64))?;
-        return Ok(place);
+    let _literals = clause.len();
+    match drop_reflexive(clause, place as u64) {
+        Followed::Done => {
+            words.push(Later::Xx(place as u64))?;
+            Ok(place)
+        }
+        Followed::Misplaced => Ok(place + 1),
+        Followed::Differs => Ok(place + 1),
+        Followed::TooLarge => Ok(place + 1),
     }
-    Ok(place + 1)
 }
 
 // Leaves out such literals.
@@ -293,7 +259,7 @@ pub fn put_in_order(
         (put_in_order (greater_of precedence.now) units (all_in held.now))) }
     ensures on { tries.old ≤ tries.new }
 {
-    let flipped = flip(alloc, precedence, tidied)?;
+    let flipped = flip(precedence, tidied)?;
     let merged = merge(flipped)?;
     let shortened = leave_out_false(merged)?;
     if units {

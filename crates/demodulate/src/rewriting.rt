@@ -4,65 +4,44 @@ ghost use Rattle.std.specs.Prelude.{ℕ, ◌≡◌, ◌≤◌, IfOk};
 ghost use Rattle.std.specs.Option.{option_map};
 ghost use Rattle.clause_index.specs.Normal.{HaveNoStep};
 ghost use Rattle.demodulate.specs.Resumed.{is_passed, place_within, IsNormalBefore, AreNormalBefore};
-ghost use Rattle.demodulate.specs.Steps.{part_step, step_below, step_in_term};
+ghost use Rattle.demodulate.specs.Steps.{FitsThere, IsFit, part_step, step_below, step_in_term};
 ghost use Rattle.fol_core.specs.TermView.{tree_of};
 ghost use Rattle.fol_core.specs.Tree.{app, trees_of};
-ghost use Rattle.prover_steps.specs.Rewriting.{rewritten_by, step_at_top, widened, first_step, step_in, atom_step};
+ghost use Rattle.prover_steps.specs.Rewriting.{step_at_top, widened, first_step, step_in, atom_step};
 
 use crate::step::Step;
 use clause_index::{NormalTerms, Rules};
 use discrim_tree::Tries;
 use fol_core::{Term, Terms};
-use held_clauses::{Held, rule_left, rule_right};
 use std::alloc::{AllocError, Global};
-use term_matches::Matches;
-
-/// What a rule makes of a term that is an instance of its left side.
-#[tactic(auto, using(derivation::proofs::SideSteps::or_tree, derivation::proofs::SideSteps::or_variable))]
-pub fn rewritten_by(alloc: Global, rule: &Held, term: &Term) -> Result<Option<Term>, AllocError>
-    ensures { IfOk result (λ o. option_map tree_of o
-        ≡ rewritten_by rule.now (tree_of term.now)) }
-{
-    let variable = Term::Var(0);
-    let left = rule_left(rule).unwrap_or(&variable);
-    let right = rule_right(rule).unwrap_or(&variable);
-    let mut values = Matches::new(alloc);
-    values.reserve(left)?;
-    if values.match_onto(left, term) {
-        Ok(Some(values.apply(alloc, right)?))
-    } else {
-        Ok(None)
-    }
-}
 
 // The step of the first rule that fits the term as a whole.
-#[tactic(auto, using(crate::proofs::Redexes::top_found, crate::proofs::Redexes::top_missed, crate::proofs::Redexes::top_none))]
-fn step_at_top(
+#[tactic(auto, using(crate::proofs::Redexes::top_found, crate::proofs::Redexes::top_fits, crate::proofs::Redexes::top_none))]
+fn step_at_top<'a>(
     alloc: Global,
-    rules: &Rules,
-    term: &Term,
+    rules: &'a Rules,
+    term: &'a Term,
     tries: &mut Tries,
-) -> Result<Option<Step>, AllocError>
+) -> Result<Option<Step<'a>>, AllocError>
     ensures step { IfOk result (λ o. option_map (step_in_term (tree_of term.now)) o
         ≡ step_at_top rules.now (tree_of term.now)) }
+    ensures fits { IfOk result IsFit }
     ensures on { tries.old ≤ tries.new }
 {
     let Some(rule) = rules.first_for(term, tries)? else {
         return Ok(None);
     };
-    match rewritten_by(alloc, rule, term)? {
-        Some(part) => Ok(Some(Step {
-            rule: rule.number(),
-            path: Vec::new(alloc),
-            part,
-        })),
-        None => Ok(None),
-    }
+    Ok(Some(Step {
+        rule,
+        path: Vec::new(alloc),
+        term,
+    }))
 }
 
 // A step of an argument, by its number, is one of the application.
-fn step_below(number: u64, step: Step) -> Result<Step, AllocError>
-    ensures { IfOk result (λ s. part_step s ≡ step_below number (part_step step)) }
+fn step_below<'a>(number: u64, step: Step<'a>) -> Result<Step<'a>, AllocError>
+    ensures step { IfOk result (λ s. part_step s ≡ step_below number (part_step step.entry)) }
+    ensures fits { IfOk result (λ s. FitsThere step.entry → FitsThere s) }
 {
     let mut step = step;
     step.path.insert(0, number)?;
@@ -92,19 +71,20 @@ pub fn place_within(number: u64, place: &[u64]) -> &[u64]
 /// The first step in arguments, as one of the application.
 #[cycle(first_step)]
 #[tactic(auto, using(crate::proofs::Redexes::normal_more, crate::proofs::Redexes::argument_step, crate::proofs::Redexes::no_argument_step))]
-pub fn step_within(
+pub fn step_within<'a>(
     alloc: Global,
-    rules: &Rules,
+    rules: &'a Rules,
     known: &mut NormalTerms,
-    terms: &Terms,
+    terms: &'a Terms,
     from: &[u64],
     tries: &mut Tries,
-) -> Result<Option<Step>, AllocError>
+) -> Result<Option<Step<'a>>, AllocError>
     requires before { AreNormalBefore rules.now from.now 1 (trees_of terms.now) }
     requires known { HaveNoStep rules.now known.old }
     ensures step { IfOk result (λ o. (f : ℕ)
         → option_map (step_in_term (app f (trees_of terms.now))) o
         ≡ option_map (widened (app f)) (step_in rules.now 1 (trees_of terms.now))) }
+    ensures fits { IfOk result IsFit }
     ensures known { HaveNoStep rules.now known.new }
     ensures on { tries.old ≤ tries.new }
 {
@@ -130,18 +110,19 @@ pub fn step_within(
 /// The first step of a term.
 #[cycle(first_step)]
 #[tactic(auto, using(crate::proofs::Redexes::step_inside, crate::proofs::Redexes::step_outside))]
-pub fn first_step(
+pub fn first_step<'a>(
     alloc: Global,
-    rules: &Rules,
+    rules: &'a Rules,
     known: &mut NormalTerms,
-    term: &Term,
+    term: &'a Term,
     from: &[u64],
     tries: &mut Tries,
-) -> Result<Option<Step>, AllocError>
+) -> Result<Option<Step<'a>>, AllocError>
     requires before { IsNormalBefore rules.now from.now (tree_of term.now) }
     requires known { HaveNoStep rules.now known.old }
     ensures step { IfOk result (λ o. option_map (step_in_term (tree_of term.now)) o
         ≡ first_step rules.now (tree_of term.now)) }
+    ensures fits { IfOk result IsFit }
     ensures known { HaveNoStep rules.now known.new }
     ensures on { tries.old ≤ tries.new }
 {
@@ -167,18 +148,19 @@ pub fn first_step(
 }
 
 /// The first step below an atom.
-pub fn atom_step(
+pub fn atom_step<'a>(
     alloc: Global,
-    rules: &Rules,
+    rules: &'a Rules,
     known: &mut NormalTerms,
-    atom: &Term,
+    atom: &'a Term,
     from: &[u64],
     tries: &mut Tries,
-) -> Result<Option<Step>, AllocError>
+) -> Result<Option<Step<'a>>, AllocError>
     requires before { IsNormalBefore rules.now from.now (tree_of atom.now) }
     requires known { HaveNoStep rules.now known.old }
     ensures step { IfOk result (λ o. option_map (step_in_term (tree_of atom.now)) o
         ≡ atom_step rules.now (tree_of atom.now)) }
+    ensures fits { IfOk result IsFit }
     ensures known { HaveNoStep rules.now known.new }
     ensures on { tries.old ≤ tries.new }
 {

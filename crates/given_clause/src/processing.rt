@@ -256,11 +256,11 @@ fn has_proofs(guide: &Guide<'_>, search: &Search) -> bool
 }
 
 // Whether a clause is to be a rule.
-fn becomes_rule(alloc: Global, guide: &Guide<'_>, clause: &Clause) -> Result<bool, AllocError>
+fn becomes_rule(guide: &Guide<'_>, clause: &Clause) -> Result<bool, AllocError>
     ensures { IfOk result (λ b. b ≡ becomes_rule (setting_of guide.now).greater clause.now) }
 {
     match clause.as_slice() {
-        [literal] if literal.positive => is_oriented(alloc, &guide.precedence, &literal.atom),
+        [literal] if literal.positive => is_oriented(&guide.precedence, &literal.atom),
         _ => Ok(false),
     }
 }
@@ -323,7 +323,7 @@ fn rules_back(
     ensures on { search.old.tries ≤ search.new.tries }
 {
     steps_keep_order();
-    if !becomes_rule(alloc, guide, held.clause())? {
+    if !becomes_rule(guide, held.clause())? {
         return Ok(());
     }
     search.rules.put_in(held.copy()?)?;

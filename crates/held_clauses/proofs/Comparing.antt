@@ -1,26 +1,13 @@
 -- What the comparison of two terms says of the order.
-use Rattle.std.proofs.Common.{◌≡◌, ℕ, Bool, true, false, ◌==◌, ◌&&◌, ◌||◌, if◌then◌else◌, refl, sym, ap, ◌∙◌, arith}
+use Rattle.std.proofs.Common.{◌≡◌, ℕ, Bool, true, false, ◌==◌, ◌&&◌, ◌||◌, if◌then◌else◌, refl, ap, ◌∙◌, arith}
 use Rattle.std.proofs.lemmas.Bool.{le-ltb}
 use Rattle.fol_core.specs.Tree.{Tree, Trees, none, more, var, elem, app}
-use Rattle.held_clauses.specs.Order.{tells_greater}
-use Rattle.term_order.specs.Compared.{compared_by}
 use Rattle.term_order.specs.Kbo.{kbo_greater, kbo_first, none_oftener_all, weigh}
 use Rattle.term_order.specs.Laws.{IsSymbolOrder}
-use Rattle.term_order.specs.declared.compared.Compared.TheVariants.{Greater, Less, Same, NotComparable}
-use Rattle.unifiers.specs.Matching.{same_tree}
-use Rattle.unifiers.proofs.MatchesFound.{tree_same, same_itself}
+use Rattle.unifiers.proofs.MatchesFound.{same_itself}
 
 abbrev pub IsIrreflexive : (Tree → Tree → Bool) → Type 0
 IsIrreflexive greater = (t : Tree) → greater t t ≡ false
-
-pub tells : (greater : Tree → Tree → Bool) → IsIrreflexive greater → (s t : Tree) → tells_greater (compared_by greater s t) ≡ greater s t
-tells greater irreflexive s t = by (same_tree s t) refl (greater s t) refl (greater t s)
-  where
-    by : (a : Bool) → same_tree s t ≡ a → (b : Bool) → greater s t ≡ b → (c : Bool) → tells_greater (if a then Same else (if b then Greater else (if c then Less else NotComparable))) ≡ b
-    by true e b f c = let same : s ≡ t = tree_same s t e in sym (ap (greater s) (sym same) ∙ irreflexive s) ∙ f
-    by false e true f c = refl
-    by false e false f true = refl
-    by false e false f false = refl
 
 first_same : (above : ℕ → ℕ → Bool) (weight : ℕ → ℕ) (ss : Trees) → kbo_first above weight ss ss ≡ false
 first_same above weight none = refl

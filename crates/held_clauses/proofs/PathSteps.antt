@@ -10,11 +10,12 @@ use Rattle.term_order.specs.Lpo.{lpo_greater, some_at_least}
 use Rattle.term_order.specs.Precedences.{stands_above}
 use Rattle.term_order.specs.declared.precedence.SymbolRow.{SymbolRow}
 use Rattle.term_order.proofs.Heads.{rows_order}
+use Rattle.term_order.proofs.LpoOrder.{itself}
 use Rattle.term_order.proofs.LpoCases.{each, above_case, below_case, short_case, long_case, other_case, greater_case}
 use Rattle.unifiers.specs.Matching.{same_tree}
 use Rattle.unifiers.proofs.MatchesFound.{tree_same, same_itself}
 
-different : (s t : Tree) → (s ≡ t → ⊥) → same_tree s t ≡ false
+pub different : (s t : Tree) → (s ≡ t → ⊥) → same_tree s t ≡ false
 different s t h = false_from_ne_true (same_tree s t) (λ e. h (tree_same s t e))
 
 -- the front in common
@@ -96,9 +97,13 @@ module _ (rows : List SymbolRow) where
       let yes : same_tree (tree_of s) t ≡ true = ap (λ u. same_tree (tree_of s) u) (sym same) ∙ same_itself (tree_of s) in
       sym (least_step ss us s t is ∙ ap (λ b. (b || lpo_greater above (tree_of s) t) || some_at_least above (trees_of (tree_list us)) t) yes)
 
-  pub least_greater : (ss us : List Term) (s : Term) (t : Tree) → ss ≡ s ∷ us → (tree_of s ≡ t → ⊥) → lpo_greater above (tree_of s) t ≡ true → true ≡ some_at_least above (trees_of (tree_list ss)) t
-  least_greater ss us s t is other h =
-      sym (least_step ss us s t is ∙ ap₂ (λ a b. (a || b) || some_at_least above (trees_of (tree_list us)) t) (different (tree_of s) t other) h)
+  pub least_greater : (ss us : List Term) (s : Term) (t : Tree) → ss ≡ s ∷ us → lpo_greater above (tree_of s) t ≡ true → true ≡ some_at_least above (trees_of (tree_list ss)) t
+  least_greater ss us s t is h =
+      sym (least_step ss us s t is ∙ ap (λ b. (same_tree (tree_of s) t || b) || some_at_least above (trees_of (tree_list us)) t) h ∙ either (same_tree (tree_of s) t))
+    where
+      either : (a : Bool) → ((a || true) || some_at_least above (trees_of (tree_list us)) t) ≡ true
+      either true = refl
+      either false = refl
 
   pub least_behind : (ss us : List Term) (s : Term) (t : Tree) → ss ≡ s ∷ us → (tree_of s ≡ t → ⊥) → lpo_greater above (tree_of s) t ≡ false
       → some_at_least above (trees_of (tree_list us)) t ≡ some_at_least above (trees_of (tree_list ss)) t
@@ -116,6 +121,9 @@ module _ (rows : List SymbolRow) where
 
   pub each_here : (s : Tree) (ts vs : List Term) (t : Term) → ts ≡ t ∷ vs → lpo_greater above s (tree_of t) ≡ false → false ≡ is_greater_than_each (lpo_greater above) s (tree_list ts)
   each_here s ts vs t is h = sym (each_step s ts vs t is ∙ ap (λ b. b && is_greater_than_each (lpo_greater above) s (tree_list vs)) h)
+
+  pub each_same : (s : Tree) (ts vs : List Term) (t : Term) → ts ≡ t ∷ vs → s ≡ tree_of t → false ≡ is_greater_than_each (lpo_greater above) s (tree_list ts)
+  each_same s ts vs t is same = each_here s ts vs t is (ap (lpo_greater above s) (sym same) ∙ itself above (rows_order rows) s)
 
   pub each_behind : (s : Tree) (ts vs : List Term) (t : Term) → ts ≡ t ∷ vs → lpo_greater above s (tree_of t) ≡ true
       → is_greater_than_each (lpo_greater above) s (tree_list vs) ≡ is_greater_than_each (lpo_greater above) s (tree_list ts)

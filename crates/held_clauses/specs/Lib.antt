@@ -1,4 +1,5 @@
 pub mod Fronts
 pub mod Holding
 pub mod Order
+pub mod Ranks
 pub mod Variables

@@ -2,11 +2,11 @@
 // `held.rt` has `Held`, a clause under the number of its line; contracts see it as the definitions of `prover_steps`
 // do. Its copies share the clause, and so does its line (`made.rt`), with the words by which it was made.
 // `equations.rt` has the sides of rules, and tells equations of one term with itself.
-// `path_order.rt` compares terms by the path order as they stand, where the heads decide, and with one head the first
-// arguments that differ (`specs/Fronts`). `order.rt` compares terms of up to a hundred symbols and variables so,
-// others, and those by weight, in a bank of their own, unless less tells: no term is greater than itself or than one
-// with a variable that it hasn't, no variable is greater than anything, and an application is greater than the
-// variables that it has.
+// `path_order.rt` compares terms by the path order, where the heads decide, and with one head the first arguments that
+// differ (`specs/Fronts`, `specs/Ranks`), and `weight_order.rt` by weight, both as the terms stand and with no memory.
+// `order.rt` takes the order that is chosen, unless less tells: no term is greater than itself or than one with a
+// variable that it hasn't, no variable is greater than anything, and an application is greater than the variables that
+// it has.
 // Its lemmas on the literals of a clause, one after the other, are for the crates above.
 #![tactic(auto)]
 
@@ -15,6 +15,7 @@ mod held;
 mod made;
 mod order;
 mod path_order;
+mod weight_order;
 
 pub use equations::{has_same_sides, is_unit, rule_left, rule_right};
 pub use held::Held;

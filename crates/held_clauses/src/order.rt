@@ -1,59 +1,21 @@
 // Terms compared by the order that is chosen.
-ghost use Rattle.std.specs.Prelude.{◌≡◌, ◌<◌, ◌&&◌, IfOk, length, nat_lt};
+ghost use Rattle.std.specs.Prelude.{◌≡◌, ◌≤◌, IfOk, false};
+ghost use Rattle.clause_limits.specs.declared.limits.TheConstants.{MOST_CLAUSE_SYMBOLS};
 ghost use Rattle.fol_core.specs.Sizes.{size_of};
 ghost use Rattle.fol_core.specs.TermView.{tree_of};
-ghost use Rattle.held_clauses.specs.Order.{greater_of, tells_greater};
+ghost use Rattle.held_clauses.specs.Order.{greater_of};
 ghost use Rattle.held_clauses.specs.Variables.{has_each_of};
-ghost use Rattle.term_bank.specs.Bank.{tree_at};
+ghost use Rattle.term_order.specs.Kbo.{kbo_greater};
+ghost use Rattle.term_order.specs.Precedences.{stands_above, weight_at};
 
 use crate::path_order::is_path_greater;
+use crate::weight_order::outweighs;
 use clause_limits::{MOST_CLAUSE_SYMBOLS, left_behind};
 use fol_core::Term;
 use ladr_options::Order;
-use std::alloc::{AllocError, Global};
+use std::alloc::AllocError;
 use substitutions::{has_variable, same};
-use term_bank::{Bank, TermId};
-use term_order::{Compared, Precedence, lpo_is_order, symbols_are_ordered};
-
-// Whether the first term is greater, by how the two compare.
-fn tells_greater(compared: Compared) -> bool
-    ensures { result ≡ tells_greater compared }
-{
-    match compared {
-        Compared::Greater => true,
-        Compared::Less => false,
-        Compared::Same => false,
-        Compared::NotComparable => false,
-    }
-}
-
-// Whether the first of two terms of a bank is greater.
-fn is_greater_in(
-    precedence: &Precedence,
-    bank: &Bank,
-    s: TermId,
-    t: TermId,
-) -> Result<bool, AllocError>
-    requires s { s.0 < length bank.now }
-    requires t { t.0 < length bank.now }
-    ensures { IfOk result (λ b. b ≡ greater_of precedence.now (tree_at bank.now s.0)
-        (tree_at bank.now t.0)) }
-{
-    symbols_are_ordered();
-    lpo_is_order();
-    match precedence.order {
-        Order::Lpo => Ok(tells_greater(precedence.lpo(bank, s, t))),
-        Order::Kbo => {
-            if bank.size(s) > MOST_CLAUSE_SYMBOLS {
-                return Err(AllocError);
-            }
-            if bank.size(t) > MOST_CLAUSE_SYMBOLS {
-                return Err(AllocError);
-            }
-            Ok(tells_greater(precedence.kbo(bank, s, t)))
-        }
-    }
-}
+use term_order::{Precedence, lpo_is_order, symbols_are_ordered};
 
 // Whether a term has each variable of another one.
 #[tactic(auto, using(crate::proofs::Variables::has_not, crate::proofs::Variables::has_next, crate::proofs::Variables::has_end))]
@@ -74,56 +36,37 @@ fn has_each_of(s: &Term, t: &Term) -> bool
     }
 }
 
-// Whether the first of two terms that are put into a bank is greater.
-fn is_greater_put(
-    alloc: Global,
-    precedence: &Precedence,
-    s: &Term,
-    t: &Term,
-) -> Result<bool, AllocError>
-    ensures { IfOk result (λ b. b ≡ greater_of precedence.now (tree_of s.now) (tree_of t.now)) }
+// Whether a term has more symbols and variables than a clause of a search.
+fn is_large(term: &Term) -> bool
+    ensures { result ≡ false → size_of (tree_of term.now) ≤ MOST_CLAUSE_SYMBOLS }
 {
-    let mut bank = Bank::new(alloc);
-    let first = bank.put(s)?;
-    let second = bank.put(t)?;
-    is_greater_in(precedence, &bank, first, second)
+    left_behind(term, MOST_CLAUSE_SYMBOLS).is_none()
 }
 
-// Whether both terms have no more than a hundred symbols and variables.
-fn are_small(s: &Term, t: &Term) -> bool
-    ensures { result ≡ (nat_lt (size_of (tree_of s.now)) 101 && nat_lt (size_of (tree_of t.now)) 101) }
+// Whether the first term is greater by weight.
+fn is_heavier(precedence: &Precedence, s: &Term, t: &Term) -> Result<bool, AllocError>
+    ensures { IfOk result (λ b. b ≡ kbo_greater (stands_above precedence.now.rows.items)
+        (weight_at precedence.now.rows.items) (tree_of s.now) (tree_of t.now)) }
 {
-    left_behind(s, 100).is_some() && left_behind(t, 100).is_some()
+    if is_large(s) || is_large(t) {
+        return Err(AllocError);
+    }
+    Ok(outweighs(precedence, s, t))
 }
 
-// Whether the first of two terms is greater: small ones are compared by the path order as they stand.
-fn is_greater_told(
-    alloc: Global,
-    precedence: &Precedence,
-    s: &Term,
-    t: &Term,
-) -> Result<bool, AllocError>
+// Whether the first term is greater by the order that is chosen.
+fn is_greater_told(precedence: &Precedence, s: &Term, t: &Term) -> Result<bool, AllocError>
     ensures { IfOk result (λ b. b ≡ greater_of precedence.now (tree_of s.now) (tree_of t.now)) }
 {
     match precedence.order {
-        Order::Lpo => {
-            if are_small(s, t) {
-                return Ok(is_path_greater(precedence, s, t));
-            }
-            is_greater_put(alloc, precedence, s, t)
-        }
-        Order::Kbo => is_greater_put(alloc, precedence, s, t),
+        Order::Lpo => Ok(is_path_greater(precedence, s, t)),
+        Order::Kbo => is_heavier(precedence, s, t),
     }
 }
 
-/// Whether the first term is greater. What the variables of the two tell takes no memory. A term of more than 1,000,000
-/// symbols, which no clause of a search has, has no room where terms are compared by weight.
-pub fn is_greater(
-    alloc: Global,
-    precedence: &Precedence,
-    s: &Term,
-    t: &Term,
-) -> Result<bool, AllocError>
+/// Whether the first term is greater: it takes no memory. A term of more than 1,000,000 symbols, which no clause of a search
+/// has, has no room where terms are compared by weight.
+pub fn is_greater(precedence: &Precedence, s: &Term, t: &Term) -> Result<bool, AllocError>
     ensures { IfOk result (λ b. b ≡ greater_of precedence.now (tree_of s.now) (tree_of t.now)) }
 {
     symbols_are_ordered();
@@ -139,7 +82,7 @@ pub fn is_greater(
             if !has_each_of(s, t) {
                 return Ok(false);
             }
-            is_greater_told(alloc, precedence, s, t)
+            is_greater_told(precedence, s, t)
         }
     }
 }

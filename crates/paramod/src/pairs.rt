@@ -37,7 +37,7 @@ fn add_into(
     ensures { OnOk result (all_conclusions made.new.items ≡ all_conclusions made.old.items
         ++ paramodulants_in (greater_of precedence.now) (site_of site.now)) }
 {
-    let Some(larger) = larger_side(alloc, precedence, atom)? else {
+    let Some(larger) = larger_side(precedence, atom)? else {
         return add_below(alloc, site, atom, made);
     };
     let mut path = Vec::new(alloc);
@@ -92,7 +92,7 @@ fn add_by_side(
     ensures { OnOk result (all_conclusions made.new.items ≡ all_conclusions made.old.items
         ++ side_tried (greater_of precedence.now) from.now into.now equation side) }
 {
-    if !is_taken(alloc, precedence, side, term, atom)? {
+    if !is_taken(precedence, side, term, atom)? {
         return Ok(());
     }
     add_by(alloc, precedence, from, equation, side, term, into, made)?;

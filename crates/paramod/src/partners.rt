@@ -32,8 +32,7 @@ fn add_by_side(
     ensures { OnOk result (AddsAll numbers.old.items
         (by_side (greater_of precedence.now) held.now (tree_of atom.now) side) numbers.new.items) }
 {
-    let alloc = *numbers.allocator();
-    if !is_taken(alloc, precedence, side, term, atom)? {
+    if !is_taken(precedence, side, term, atom)? {
         return Ok(());
     }
     held.add_near_inside(term, numbers)?;
@@ -119,9 +118,8 @@ fn add_by_terms(
     ensures { OnOk result (AddsAll numbers.old.items
         (by_terms (greater_of precedence.now) held.now (literal_of literal.now)) numbers.new.items) }
 {
-    let alloc = *numbers.allocator();
     let atom = &literal.atom;
-    let Some(larger) = larger_side(alloc, precedence, atom)? else {
+    let Some(larger) = larger_side(precedence, atom)? else {
         add_below(held, atom, numbers)?;
         return Ok(());
     };

@@ -10,7 +10,7 @@ use derivation::sides;
 use discrim_tree::may_meet;
 use fol_core::Term;
 use held_clauses::is_greater;
-use std::alloc::{AllocError, Global};
+use std::alloc::AllocError;
 use term_order::Precedence;
 
 /// Whether a term is a variable.
@@ -38,7 +38,6 @@ pub fn may_be_replaced(side: &Term, term: &Term) -> bool
 /// The left side of an atom, if that is an equation whose left side is greater.
 #[tactic(auto, using(crate::proofs::Taken::no_larger, crate::proofs::Taken::other_larger, crate::proofs::Taken::left_larger))]
 pub fn larger_side<'a>(
-    alloc: Global,
     precedence: &Precedence,
     atom: &'a Term,
 ) -> Result<Option<&'a Term>, AllocError>
@@ -49,7 +48,7 @@ pub fn larger_side<'a>(
     let Some((left, right)) = sides(atom) else {
         return Ok(None);
     };
-    if is_greater(alloc, precedence, left, right)? {
+    if is_greater(precedence, left, right)? {
         Ok(Some(left))
     } else {
         Ok(None)
@@ -58,16 +57,15 @@ pub fn larger_side<'a>(
 
 /// Whether an atom is an equation whose left side is greater.
 #[tactic(auto, using(crate::proofs::Taken::larger_tells))]
-pub fn is_oriented(alloc: Global, precedence: &Precedence, atom: &Term) -> Result<bool, AllocError>
+pub fn is_oriented(precedence: &Precedence, atom: &Term) -> Result<bool, AllocError>
     ensures { IfOk result (λ b. b ≡ is_oriented (greater_of precedence.now) (tree_of atom.now)) }
 {
-    Ok(larger_side(alloc, precedence, atom)?.is_some())
+    Ok(larger_side(precedence, atom)?.is_some())
 }
 
 /// Whether a side of an equation is taken: no variable, and of an oriented one the left.
 #[tactic(auto, using(crate::proofs::Taken::side_bare, crate::proofs::Taken::side_first, crate::proofs::Taken::side_second))]
 pub fn is_taken(
-    alloc: Global,
     precedence: &Precedence,
     side: u64,
     term: &Term,
@@ -83,5 +81,5 @@ pub fn is_taken(
     if side != 2 {
         return Ok(true);
     }
-    Ok(!is_oriented(alloc, precedence, atom)?)
+    Ok(!is_oriented(precedence, atom)?)
 }

@@ -1,48 +1,33 @@
-use Rattle.std.proofs.Common.{◌≡◌, ap, subst, sym, ◌∙◌, ◌+◌, ◌-◌, ◌∷◌, suc, map, Some, true, false, arith}
-use Rattle.std.specs.Option.{option_map}
+use Rattle.std.proofs.Common.{◌≡◌, ap, subst, sym, ◌∙◌, ◌+◌, ◌-◌, ◌∷◌, suc, map, Some, arith}
 use Rattle.std.proofs.lemmas.Grind.{common_steps}
 use Rattle.derivation.specs.View.{later_of}
 use Rattle.fol_core.specs.TermView.{tree_of}
+use Rattle.inference.specs.Followed.{with_part}
 use Rattle.demodulate.specs.Resumed.{AreLiteralsNormalBefore}
-use Rattle.demodulate.specs.Steps.{placed_step, TakesClause, with_part_at}
-use Rattle.demodulate.proofs.Redexes.{steps_left, steps_large, steps_on}
+use Rattle.demodulate.specs.Steps.{IsTaken, taken_clause, taken_word}
+use Rattle.demodulate.proofs.Redexes.{steps_left, steps_on}
 use Rattle.demodulate.proofs.Resuming.{clause_before}
-use Rattle.prover_steps.specs.Rewriting.{simplified, clause_step}
+use Rattle.prover_steps.specs.Rewriting.{clause_step}
 use Rattle.prover_steps.specs.Searching.{is_too_large}
 use Rattle.demodulate.proofs.normal.after_steps.Goals as goal
 
-pub returns-then-not-take_step-clause-normal : goal.returns-then-not-take_step-clause-normal
-returns-then-not-take_step-clause-normal c =
-    let refused : TakesClause c.loop-step.clause (with_part_at c.loop-step.clause c.in-Some.found.place c.in-Some.found.step.path.items (tree_of c.in-Some.found.step.part)) c.take_step.new.clause false =
-    subst (λ p. TakesClause c.loop-step.clause (with_part_at c.loop-step.clause c.in-Some.found.place p (tree_of c.in-Some.found.step.part)) c.take_step.new.clause false) c.as_slice-in-Some.ensures.value
-    (subst (TakesClause c.loop-step.clause (with_part_at c.loop-step.clause c.in-Some.found.place c.as_slice-in-Some.result.now (tree_of c.in-Some.found.step.part)) c.take_step.new.clause) c.if-not-take_step.true c.take_step.ensures)
-    in
-    ap (λ d. simplified d (map later_of c.loop-step.words.items)) refused.0
-    ∙ sym (steps_large is_too_large c.args.rules.now (c.args.limit - c.loop-step._step) c.loop-step.clause (map later_of c.loop-step.words.items) (placed_step c.loop-step.clause c.in-Some.found).0 (placed_step c.loop-step.clause c.in-Some.found).1
-    (sym (ap (option_map (placed_step c.loop-step.clause)) c.in-Some.is) ∙ c.in_ok-first_in_clause.ensures.step) refused.1)
-    ∙ c.loop-step.invariant.same
-
 pub loop-step-preserved : goal.loop-step-preserved
 loop-step-preserved c =
-    let taken : TakesClause c.loop-step.clause (with_part_at c.loop-step.clause c.in-Some.found.place c.in-Some.found.step.path.items (tree_of c.in-Some.found.step.part)) c.take_step.new.clause true =
-    subst (λ p. TakesClause c.loop-step.clause (with_part_at c.loop-step.clause c.in-Some.found.place p (tree_of c.in-Some.found.step.part)) c.take_step.new.clause true) c.as_slice-in-Some.ensures.value
-    (subst (TakesClause c.loop-step.clause (with_part_at c.loop-step.clause c.in-Some.found.place c.as_slice-in-Some.result.now (tree_of c.in-Some.found.step.part)) c.take_step.new.clause) c.if-not-take_step.false c.take_step.ensures)
-    in
-    let found : clause_step c.args.rules.now 0 c.loop-step.clause ≡ Some (placed_step c.loop-step.clause c.in-Some.found) =
-    sym (sym (ap (option_map (placed_step c.loop-step.clause)) c.in-Some.is) ∙ c.in_ok-first_in_clause.ensures.step)
-    in
+    let step = c.in-Some.taken in
+    let taken : IsTaken c.loop-step.clause (clause_step c.args.rules.now 0 c.loop-step.clause) (Some step) = subst (IsTaken c.loop-step.clause (clause_step c.args.rules.now 0 c.loop-step.clause)) c.in-Some.is c.in_ok-taken.ensures.step in
+    let changed : c.exchange-old.new.clause ≡ taken_clause c.loop-step.clause step =
+    c.exchange-old.ensures.changed ∙ ap (λ p. with_part c.loop-step.clause step.place p (tree_of step.part)) c.as_slice-in-loop-step.ensures.value in
     let next : c.args.limit - c.loop-step._step ≡ suc (c.args.limit - (c.loop-step._step + 1)) = omega (arith, c.loop-step-test.true) in
     record {
       same =
-          ap (λ d. steps_left is_too_large c.args.rules.now (c.args.limit - (c.loop-step._step + 1)) d (map later_of c.push.new.self.items)) taken.0
-          ∙ sym (steps_on is_too_large c.args.rules.now (c.args.limit - c.loop-step._step) (c.args.limit - (c.loop-step._step + 1)) c.loop-step.clause (map later_of c.loop-step.words.items) (placed_step c.loop-step.clause c.in-Some.found).0 (placed_step c.loop-step.clause c.in-Some.found).1
-          (map later_of c.push.new.self.items) (sym (ap (option_map (placed_step c.loop-step.clause)) c.in-Some.is) ∙ c.in_ok-first_in_clause.ensures.step) (sym (ap is_too_large taken.0) ∙ taken.1) next
-          (grind (arith, common_steps, c.in_ok-push-in-Some.ensures.items)))
+          ap (λ d. steps_left is_too_large c.args.rules.now (c.args.limit - (c.loop-step._step + 1)) d (map later_of c.push.new.self.items)) changed
+          ∙ sym (steps_on is_too_large c.args.rules.now (c.args.limit - c.loop-step._step) (c.args.limit - (c.loop-step._step + 1)) c.loop-step.clause (map later_of c.loop-step.words.items) (taken_word step) (taken_clause c.loop-step.clause step)
+          (map later_of c.push.new.self.items) (sym taken.0) taken.1 next (grind (arith, common_steps, c.in_ok-push.ensures.items)))
           ∙ c.loop-step.invariant.same;
       before =
-          subst (λ p. AreLiteralsNormalBefore c.args.rules.now p 0 c.take_step.new.clause) (sym (c.in_ok-from-in-Some.ensures ∙ ap (λ p. c.in-Some.found.place ∷ p) c.as_slice-in-Some-2.ensures.value))
-          (subst (λ d. AreLiteralsNormalBefore c.args.rules.now (c.in-Some.found.place ∷ c.in-Some.found.step.path.items) 0 d) (sym taken.0)
-          (clause_before c.args.rules.now c.loop-step.clause c.in-Some.found.step.rule c.in-Some.found.place c.in-Some.found.step.path.items (placed_step c.loop-step.clause c.in-Some.found).1 found));
-      known = c.first_in_clause.ensures.known;
-      on = omega (arith, c.loop-step.invariant.on, c.first_in_clause.ensures.on);
+          subst (λ p. AreLiteralsNormalBefore c.args.rules.now p 0 c.exchange-old.new.clause) (sym (c.in_ok-from.ensures ∙ ap (λ p. step.place ∷ p) c.as_slice-in-loop-step-2.ensures.value))
+          (subst (λ d. AreLiteralsNormalBefore c.args.rules.now (step.place ∷ step.path.items) 0 d) (sym changed)
+          (clause_before c.args.rules.now c.loop-step.clause step.rule step.place step.path.items (taken_clause c.loop-step.clause step) taken.0));
+      known = c.next_step.ensures.known;
+      on = omega (arith, c.loop-step.invariant.on, c.next_step.ensures.on);
     }

@@ -4,7 +4,7 @@ use Rattle.fol_core.specs.ClauseView.{literal_of}
 use Rattle.fol_core.specs.TermView.{tree_of}
 use Rattle.demodulate.specs.Resumed.{is_passed, place_within, IsNormalBefore, AreLiteralsNormalBefore}
 use Rattle.demodulate.specs.Steps.{step_in_term, step_at, placed_step}
-use Rattle.demodulate.proofs.Placing.{atom_there}
+use Rattle.inference.proofs.Placing.{atom_there}
 use Rattle.demodulate.proofs.Redexes.{literal_step, normal_literals_more}
 use Rattle.demodulate.proofs.Resuming.{literal_before}
 use Rattle.prover_steps.specs.Rewriting.{atom_step, clause_step}

@@ -6,7 +6,7 @@ use Rattle.derivation.specs.View.{later_of}
 use Rattle.fol_core.specs.ClauseView.{literal_of}
 use Rattle.held_clauses.specs.Order.{greater_of}
 use Rattle.demodulate.proofs.Passing.{literal_at, flips_turn, flips_past}
-use Rattle.demodulate.proofs.Placing.{atom_is_at}
+use Rattle.inference.proofs.Placing.{atom_is_at}
 use Rattle.demodulate.proofs.ordering.flip_at.Goals as goal
 
 pub turn_at-requires-clause-equation : goal.turn_at-requires-clause-equation

@@ -12,7 +12,7 @@ use Rattle.demodulate.proofs.rewriting.+first_step.Goals as goal
 
 pub step_within-returns-in-Some-clause-step : goal.step_within-returns-in-Some-clause-step
 step_within-returns-in-Some-clause-step t c = λ f.
-    ap (λ r. Some (whole_step (app f (trees_of c.args.terms.now)) r)) c.in_ok-step_below.ensures
+    ap (λ r. Some (whole_step (app f (trees_of c.args.terms.now)) r)) c.in_ok-step_below.ensures.step
     ∙ subst (λ ts. Some (whole_step (app f (trees_of ts)) (step_below (c.loop-i.i + 1) (part_step c.in-Some.step))) ≡ option_map (widened (app f)) (step_in c.args.rules.now 1 (trees_of ts))) (ap tree_list c.deref-term-items.ensures.value ∙ c.terms.view_is)
     (argument_step c.args.rules.now f c.deref-term-items.result.now c.loop-i.i (c.loop-i.i + 1) c.term-item.result (part_step c.in-Some.step) c.loop-i-test.true c.term-item.is refl c.loop-i.invariant.normal
     (ap (option_map (step_in_term (tree_of c.term-item.result))) (sym c.in-Some.is) ∙ c.in_ok-step.ensures.step))

@@ -2,13 +2,16 @@
 use Rattle.std.proofs.Common.{◌+◌, ◌*◌}
 use Rattle.fol_core.specs.TermView.{tree_of, tree_list}
 use Rattle.fol_core.specs.Tree.{nodes, nodes_of, trees_of}
-use Rattle.held_clauses.proofs.path_order.+greater.Given as goal
+use Rattle.held_clauses.proofs.path_order.+ranked.Given as goal
 
-abbrev pub decreases-is_path_greater : goal.decreases-is_path_greater
-decreases-is_path_greater l = 2 * (nodes (tree_of l.s.now) + nodes (tree_of l.t.now)) + 1
+abbrev pub decreases-ranked : goal.decreases-ranked
+decreases-ranked l = 2 * (nodes (tree_of l.s.now) + nodes (tree_of l.t.now)) + 1
 
-abbrev pub decreases-is_greater_behind : goal.decreases-is_greater_behind
-decreases-is_greater_behind l = 2 * (nodes (tree_of l.s.now) + nodes (tree_of l.t.now))
+abbrev pub decreases-ranked_behind : goal.decreases-ranked_behind
+decreases-ranked_behind l = 2 * (nodes (tree_of l.s.now) + nodes (tree_of l.t.now))
+
+abbrev pub decreases-past_common : goal.decreases-past_common
+decreases-past_common l = 2 * (nodes_of (trees_of (tree_list l.ss.now)) + nodes_of (trees_of (tree_list l.ts.now))) + 3
 
 abbrev pub decreases-some_at_least : goal.decreases-some_at_least
 decreases-some_at_least l = 2 * (nodes_of (trees_of (tree_list l.ss.now)) + nodes (tree_of l.t.now)) + 3
