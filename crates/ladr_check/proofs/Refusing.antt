@@ -110,6 +110,7 @@ limit_within limits.Input = refl
 limit_within limits.Nesting = refl
 limit_within limits.Symbols = refl
 limit_within limits.Arity = refl
+limit_within limits.Distinct = refl
 
 placed : (front : List ℕ) (byte row column : ℕ) → is_unbroken front ≡ true → is_unbroken (front ++ decimal byte ++ codes ", line " ++ decimal row ++ codes ", column " ++ decimal column) ≡ true
 placed front byte row column h =

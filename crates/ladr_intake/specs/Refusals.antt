@@ -25,6 +25,7 @@ limit_text limits.Input = codes "input"
 limit_text limits.Nesting = codes "nesting"
 limit_text limits.Symbols = codes "symbols"
 limit_text limits.Arity = codes "arity"
+limit_text limits.Distinct = codes "distinct"
 
 -- what couldn't be read: the place of a byte, its line and column, and what stands there
 abbrev pub unreadable_line : ℕ → ℕ → ℕ → List ℕ → List ℕ

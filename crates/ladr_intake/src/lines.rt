@@ -51,6 +51,7 @@ fn limit_text(what: Limit) -> &'static [u8]
         Limit::Nesting => b"nesting",
         Limit::Symbols => b"symbols",
         Limit::Arity => b"arity",
+        Limit::Distinct => b"distinct",
     }
 }
 

@@ -4,6 +4,7 @@ use Rattle.std.specs.Prelude.{nat_lt, is_some, codes}
 use Rattle.std.specs.List.{AllByRecursion, list_all, list_any}
 use Rattle.std.specs.Option.{option_map, option_map_or}
 use Rattle.std.proofs.lemmas.Bool.{and_from, and_parts}
+use Rattle.fol_core.specs.Fol.{Fol}
 use Rattle.fol_core.specs.KboRows.{is_weighed}
 use Rattle.fol_core.specs.NamesOnce.{are_apart}
 use Rattle.fol_core.specs.RawTree.{RawTree}
@@ -15,6 +16,9 @@ use Rattle.ladr_commands.specs.declared.command.Command.TheVariants as command
 use Rattle.ladr_commands.specs.declared.command.Value.TheVariants as value
 use Rattle.ladr_commands.proofs.Reading.{command_spelled}
 use Rattle.ladr_formulas.specs.declared.styles.Mode.{Mode}
+use Rattle.ladr_distinct.specs.Different.{distinct_reading}
+use Rattle.ladr_distinct.specs.Formula.{distinct_formula}
+use Rattle.ladr_formulas.specs.Formulas.{Made}
 use Rattle.ladr_interpretations.specs.Good.{is_good, heads_of}
 use Rattle.ladr_interpretations.specs.NamedText.{named_text}
 use Rattle.ladr_lex.specs.Lexeme.{Lexeme, ordinary, open_paren, close_paren, close_square, comma, full_stop, symbol}
@@ -22,17 +26,17 @@ use Rattle.ladr_lex.specs.Cuts.{Piece}
 use Rattle.ladr_lex.specs.Operators.{is_unfit_operator, is_unfit_symbol}
 use Rattle.ladr_lex.specs.declared.misuse.Misuse.{Misuse}
 use Rattle.ladr_lex.specs.declared.misuse.Misuse.TheVariants.{UnknownParameter, UnknownList, UnfitOperator, UnfitSymbol, TooLate, UnmatchedIf, UnfitRule, UnfitInterpretation}
-use Rattle.ladr_lex.specs.declared.limits.TheConstants.{MOST_LEVELS, MOST_SYMBOLS}
+use Rattle.ladr_lex.specs.declared.limits.TheConstants.{MOST_LEVELS, MOST_NAMES, MOST_SYMBOLS}
 use Rattle.ladr_models.proofs.Again.{IsRead, reads_as}
 use Rattle.ladr_models.specs.ReadsBack.{ReadsAs}
 use Rattle.ladr_options.specs.Options.{flagged, is_among, numbered, symbolized}
 use Rattle.ladr_options.specs.declared.options.OptionError.{OptionError}
 use Rattle.ladr_options.specs.declared.options.Options.{Options}
-use Rattle.ladr_problem.specs.Adding.{FileItem, command as commanded, within, is_tester, IsItemRead, after_item, after_term, after_formula, after_list, after_rule, after_kbo, added_kbo, unshaped, formula_made, style_in, with_settings, with_formula, least_misuse}
+use Rattle.ladr_problem.specs.Adding.{FileItem, command as commanded, within, is_tester, IsItemRead, after_item, after_term, after_made, after_list, after_rule, after_kbo, added_kbo, unshaped, formula_made, style_in, with_names_met, with_settings, with_formula, least_misuse}
 use Rattle.ladr_problem.specs.File as file
 use Rattle.ladr_problem.specs.File.{Outcome, Says, problem, unreadable, misused, too_large, File, ends, open_list, open_block, bad, breaks, goes_on, start_at, refused_at}
 use Rattle.ladr_problem.specs.Items.{items_of, lexemes}
-use Rattle.ladr_problem.specs.ListItem.{closing, term}
+use Rattle.ladr_problem.specs.ListItem.{closing, term, names}
 use Rattle.ladr_problem.specs.Names.{is_name, are_named}
 use Rattle.ladr_problem.specs.Sofar.{Sofar, nothing_read}
 use Rattle.ladr_problem.specs.declared.refusal.Refusal.{Refusal}
@@ -46,8 +50,9 @@ use Rattle.ladr_rules.specs.Attributes.{attributed, has_unfit_weight}
 use Rattle.ladr_rules.specs.Rules.{Sides, rule_made, shaped_sides, kbo_rule}
 use Rattle.ladr_settings.specs.Settings.{settings_after, after_meant, after_other, kept_back, all_declared, is_other, flag_misuse, parameter_misuse, with_options, is_late_style, is_meant, formulas_opened, rules_opened}
 use Rattle.ladr_settings.specs.declared.lists.FormulaList.{FormulaList}
+use Rattle.ladr_settings.specs.declared.lists.FormulaList.TheVariants.{Assumptions}
 use Rattle.ladr_settings.specs.declared.lists.OpenList.{OpenList}
-use Rattle.ladr_settings.specs.declared.lists.OpenList.TheVariants.{Formulas, Weights, KboWeights, OtherFormulas, OtherRules}
+use Rattle.ladr_settings.specs.declared.lists.OpenList.TheVariants.{Formulas, Weights, KboWeights, Distinct, OtherFormulas, OtherRules}
 use Rattle.ladr_settings.specs.declared.settings.Settings.{Settings}
 
 -- the names of an interpretation that tokens spell
@@ -126,12 +131,12 @@ module _ (s : Settings) (all : AreRead s) where
   meant_keeps (command.Flag on name) h = choice AreRead (is_late_style name s) (Err TooLate) _ tt (options_keep flag_misuse (flagged name on s.options))
   meant_keeps (command.Assign name (value.Symbol text)) h = choice AreRead (is_among kept_back name) (Err UnknownParameter) _ tt (options_keep parameter_misuse (symbolized name text s.options))
   meant_keeps (command.Assign name (value.Number negative n)) h = choice AreRead (is_among kept_back name) (Err UnknownParameter) _ tt (options_keep parameter_misuse (numbered name negative n s.options))
-  meant_keeps (command.Op p type names) h =
-      let declared : Settings = record s { operators = all_declared p type names s.operators } in
-      choice AreRead (nat_lt 0 (length names) && is_unfit_operator p type) (Err UnfitOperator) _ tt
-      (choice AreRead (list_any is_unfit_symbol names) (Err UnfitSymbol) _ tt (choice AreRead s.listed (Err TooLate) (Ok declared) tt all))
-  meant_keeps (command.FunctionOrder names) h = choice AreRead (are_apart names) _ (Err UnfitRule) all tt
-  meant_keeps (command.PredicateOrder names) h = all
+  meant_keeps (command.Op p type ns) h =
+      let declared : Settings = record s { operators = all_declared p type ns s.operators } in
+      choice AreRead (nat_lt 0 (length ns) && is_unfit_operator p type) (Err UnfitOperator) _ tt
+      (choice AreRead (list_any is_unfit_symbol ns) (Err UnfitSymbol) _ tt (choice AreRead s.listed (Err TooLate) (Ok declared) tt all))
+  meant_keeps (command.FunctionOrder ns) h = choice AreRead (are_apart ns) _ (Err UnfitRule) all tt
+  meant_keeps (command.PredicateOrder ns) h = all
   meant_keeps (command.Formulas name) h = choice AreRead (is_other (formulas_opened name)) (Err UnknownList) _ tt all
   meant_keeps (command.List name) h = choice AreRead (is_other (rules_opened name)) (Err UnknownList) _ tt all
   meant_keeps (command.If name) h = choice AreRead (is_some s.block) (Err UnmatchedIf) _ tt all
@@ -145,9 +150,9 @@ module _ (s : Settings) (all : AreRead s) where
   other_keeps : (c : Command) → AreRead (after_other c s)
   other_keeps (command.Flag on name) = all
   other_keeps (command.Assign name v) = all
-  other_keeps (command.Op p type names) = all
-  other_keeps (command.FunctionOrder names) = all
-  other_keeps (command.PredicateOrder names) = all
+  other_keeps (command.Op p type ns) = all
+  other_keeps (command.FunctionOrder ns) = all
+  other_keeps (command.PredicateOrder ns) = all
   other_keeps (command.Formulas name) = all
   other_keeps (command.List name) = all
   other_keeps (command.If name) = all
@@ -162,9 +167,8 @@ Keeps s = AreRead s.settings
 
 -- so does any item
 module _ (m : Mode) (byte : ℕ) (s : Sofar) (all : Keeps s) where
-  formula_keeps : (list : Option FormulaList) (t : RawTree) → IfOk (after_formula m list byte s t) Keeps
-  formula_keeps list t =
-      let made = formula_made m s t in
+  formula_keeps : (list : Option FormulaList) (t : RawTree) (made : Made Fol) → IfOk (after_made m list byte s t made) Keeps
+  formula_keeps list t made =
       choice Keeps (nat_lt MOST_SYMBOLS (length made.reading.symbols)) _ _ tt
       (choice Keeps made.reading.large _ _ tt
       (choice Keeps (not (is_meant m s.settings)) _ _ all
@@ -190,8 +194,9 @@ module _ (m : Mode) (byte : ℕ) (s : Sofar) (all : Keeps s) where
   term_keeps Weights t = rule_keeps (shaped_sides (style_in m s) t)
   term_keeps KboWeights t = kbo_keeps t
   term_keeps OtherRules t = all
-  term_keeps OtherFormulas t = formula_keeps None t
-  term_keeps (Formulas list) t = formula_keeps (Some list) t
+  term_keeps Distinct t = all
+  term_keeps OtherFormulas t = formula_keeps None t (formula_made m s t)
+  term_keeps (Formulas list) t = formula_keeps (Some list) t (formula_made m s t)
 
   settings_keep : (r : Result Settings Misuse) → IfOk r AreRead → IfOk (with_settings s r) Keeps
   settings_keep (Ok t) h = h
@@ -202,6 +207,9 @@ module _ (m : Mode) (byte : ℕ) (s : Sofar) (all : Keeps s) where
   item_keeps ts (within closing) written read = all
   item_keeps ts (within (term t)) written read =
       choice Keeps (nat_lt MOST_LEVELS (nesting ts t)) _ _ tt (chosen Keeps (λ l. after_term m l byte s t) s.settings.list (Ok s) (λ l. term_keeps l t) all)
+  item_keeps ts (within (names ns)) written read =
+      let t = distinct_formula ns in
+      choice Keeps (nat_lt MOST_NAMES (length ns)) _ _ tt (formula_keeps (Some Assumptions) t (with_names_met (style_in m s) ns (distinct_reading (style_in m s) s.symbols ns)))
 
 -- and a file
 abbrev IfProblem : Outcome → Type 0

@@ -1,7 +1,7 @@
 -- What a file says has grown.
 use Rattle.std.proofs.Common.{◌≡◌, ℕ, suc, ◌+◌, ◌<◌, ◌≤◌, ◌^◌, Bool, true, false, not, if◌then◌else◌, List, [], ◌∷◌, length, Option, Some, None, Result, Ok, Err, IfOk, refl, sym, ap, subst, ◌∙◌, arith}
 use Rattle.std.specs.Prelude.{nat_lt, is_some}
-use Rattle.std.specs.List.{list_all}
+use Rattle.std.specs.List.{AllByRecursion, list_all, list_any}
 use Rattle.std.specs.Option.{option_map, option_map_or}
 use Rattle.std.proofs.lemmas.Bool.{false≢true, cond_both, and_from, and_parts}
 use Rattle.std.proofs.lemmas.Bool.Decides.{nat_tests}
@@ -9,27 +9,34 @@ use Rattle.std.proofs.lemmas.List.{length-append}
 use Rattle.fol_core.specs.KboRows.{is_weighed}
 use Rattle.fol_core.specs.RawTree.{RawTree, depth}
 use Rattle.ladr_commands.specs.declared.command.Command.{Command}
+use Rattle.fol_core.specs.Fol.{Fol}
+use Rattle.ladr_formulas.specs.Formulas.{Made, formula_reading, is_free_name, is_too_great}
 use Rattle.ladr_formulas.specs.declared.styles.Mode.{Mode}
 use Rattle.ladr_lex.specs.Cuts.{Piece}
 use Rattle.ladr_lex.specs.Lexeme.{Lexeme, lexeme, full_stop}
-use Rattle.ladr_lex.specs.declared.limits.TheConstants.{MOST_BYTES, MOST_LEVELS, MOST_SYMBOLS}
+use Rattle.ladr_lex.specs.declared.limits.TheConstants.{MOST_BYTES, MOST_LEVELS, MOST_NAMES, MOST_SYMBOLS}
 use Rattle.ladr_lex.specs.declared.misuse.Misuse.{Misuse}
-use Rattle.ladr_lex.specs.declared.misuse.Misuse.TheVariants.{UnfitRule}
+use Rattle.ladr_lex.specs.declared.misuse.Misuse.TheVariants.{UnfitRule, UnfitAttribute, UnfitNumeral, VariableAmongNames}
 use Rattle.ladr_options.specs.Ranges.{AreInRange}
 use Rattle.ladr_problem.proofs.Endings.{problem_before}
-use Rattle.ladr_problem.specs.Adding.{FileItem, command, within, IsItemRead, after_item, after_term, after_formula, after_list, after_rule, after_kbo, added_kbo, unshaped, formula_made, style_in, with_settings, with_formula, least_misuse}
+use Rattle.ladr_distinct.proofs.Texts.{distinct_levels, distinct_names, distinct_text, item_names_stand}
+use Rattle.ladr_distinct.specs.Different.{distinct_reading}
+use Rattle.ladr_distinct.specs.Formula.{distinct_formula}
+use Rattle.ladr_problem.proofs.NamesMade.{distinct_whole}
+use Rattle.ladr_problem.specs.Adding.{FileItem, command, within, IsItemRead, after_item, after_term, after_formula, after_names, after_list, after_rule, after_kbo, added_kbo, unshaped, formula_made, style_in, with_settings, with_formula, with_names_met, limit_of_names, least_misuse, met}
 use Rattle.ladr_problem.specs.File.{Outcome, Says, problem, unreadable, misused, too_large, File, ends, open_list, open_block, bad, breaks, goes_on, start_at, refused_at}
 use Rattle.ladr_problem.specs.File as file
 use Rattle.ladr_problem.specs.Growth.{Grown, nothing, changes, states, weighs, weighs_name}
 use Rattle.ladr_problem.specs.Items.{is_stop_kind, in_first_item, items_of, lexemes}
-use Rattle.ladr_problem.specs.ListItem.{closing, term}
+use Rattle.ladr_problem.specs.ListItem.{closing, term, names}
 use Rattle.ladr_problem.specs.Sofar.{Sofar, nothing_read}
 use Rattle.ladr_problem.specs.declared.refusal.Refusal.{Refusal}
 use Rattle.ladr_problem.specs.declared.refusal.Refusal.TheVariants.{Bad, Large, Misused, Memory}
 use Rattle.ladr_reader.proofs.Counts.{cuts_count, reads_count}
 use Rattle.ladr_reader.proofs.HasText.{is_written, written_parts, has_text, cuts_written}
 use Rattle.ladr_reader.specs.Counts.{names_count}
-use Rattle.ladr_reader.specs.HasText.{HasText}
+use Rattle.ladr_reader.specs.Fixed.{KeepsFixed}
+use Rattle.ladr_reader.specs.HasText.{CanName, HasText}
 use Rattle.ladr_reader.specs.Nesting.{nesting}
 use Rattle.ladr_reader.specs.Table.{table_of}
 use Rattle.ladr_reader.specs.Worked.{lexemes_in}
@@ -40,8 +47,9 @@ use Rattle.ladr_settings.proofs.Ranges.{after_in_range}
 use Rattle.ladr_settings.specs.Following.{Follows}
 use Rattle.ladr_settings.specs.Settings.{settings_after, is_meant}
 use Rattle.ladr_settings.specs.declared.lists.FormulaList.{FormulaList}
+use Rattle.ladr_settings.specs.declared.lists.FormulaList.TheVariants.{Assumptions}
 use Rattle.ladr_settings.specs.declared.lists.OpenList.{OpenList}
-use Rattle.ladr_settings.specs.declared.lists.OpenList.TheVariants.{Formulas, Weights, KboWeights, OtherFormulas, OtherRules}
+use Rattle.ladr_settings.specs.declared.lists.OpenList.TheVariants.{Formulas, Weights, KboWeights, Distinct, OtherFormulas, OtherRules}
 use Rattle.ladr_settings.specs.declared.settings.Settings.{Settings}
 
 -- the tokens of each item are written so, and those of them all are few
@@ -112,6 +120,14 @@ grown_opened m _ (states {s} list byte t g listed of none) meant some = listed
 grown_opened m _ (weighs {s} t r g of) meant some = grown_opened m s g meant some
 grown_opened m _ (weighs_name {s} t r g e once) meant some = grown_opened m s g meant some
 
+-- the fixed symbols are the operators that they are at the start
+pub grown_fixed : (m : Mode) (s : Sofar) → Grown m s → KeepsFixed s.settings.operators
+grown_fixed m _ nothing = λ name h. refl
+grown_fixed m _ (changes {s} t g f ranged) = f.fixed (grown_fixed m s g)
+grown_fixed m _ (states {s} list byte t g listed of none) = grown_fixed m s g
+grown_fixed m _ (weighs {s} t r g of) = grown_fixed m s g
+grown_fixed m _ (weighs_name {s} t r g e once) = grown_fixed m s g
+
 -- a choice, and what is there or isn't
 by_test : (Q : Sofar → Type 0) (b : Bool) (x y : Result Sofar Refusal) → (b ≡ true → IfOk x Q) → (b ≡ false → IfOk y Q) → IfOk (if b then x else y) Q
 by_test Q true x y h k = h refl
@@ -169,9 +185,42 @@ module _ (m : Mode) (byte : ℕ) (s : Sofar) (grown : Grown m s) where
   term_grows : (list : OpenList) (t : RawTree) → is_some s.settings.list ≡ true → IsItemTerm s t → IfOk (after_term m list byte s t) G
   term_grows Weights t some of = rule_grows t (shaped_sides (style_in m s) t) refl of
   term_grows KboWeights t some of = kbo_grows t
+  term_grows Distinct t some of = grown
   term_grows OtherRules t some of = grown
   term_grows OtherFormulas t some of = formula_grows None t some of
   term_grows (Formulas list) t some of = formula_grows (Some list) t some of
+
+  names_grow : (ns : List (List ℕ)) → is_some s.settings.list ≡ true → AllByRecursion (λ n. CanName (table_of s.settings.operators) n 0) ns → IfOk (after_names m byte s ns) G
+  names_grow ns some named =
+      let t = distinct_formula ns in
+      let st = style_in m s in
+      let read = distinct_reading st s.symbols ns in
+      let made = with_names_met st ns read in
+      by_test G (nat_lt MOST_NAMES (length ns)) _ _ (λ many. tt) (λ few_names.
+      let small : length ns ≤ 200 = grind (arith, nat_tests, few_names) in
+      by_test G (nat_lt MOST_SYMBOLS (length made.reading.symbols)) _ _ (λ many. tt) (λ few.
+      by_test G made.reading.large _ _ (λ large. tt) (λ fits.
+      by_test G (not (is_meant m s.settings)) _ _ (λ other. grown) (λ meant.
+      by_option G (λ k. Err (Misused k)) (least_misuse Assumptions (has_unfit_weight (attributed t).attributes) made.tree made.reading.least) (Ok (with_formula Assumptions byte t made s)) (λ k d. tt)
+      (λ none.
+      let same : formula_made m s t ≡ read = ap (λ (u : RawTree). formula_reading st s.symbols u) (distinct_whole ns) in
+      subst (λ (x : Made Fol). Grown m (with_formula Assumptions byte t x s)) same
+      (states {s = s} Assumptions byte t grown (grown_opened m s grown (is_false (is_meant m s.settings) meant) some)
+      (record {
+        text = distinct_text s.settings.operators (grown_fixed m s grown) ns named;
+        levels = let l = distinct_levels ns small in omega (arith, l);
+        names = distinct_names ns small;
+        fits = ap (λ (x : Made Fol). x.reading.large) same ∙ fits;
+        few = let l = ap (λ (x : Made Fol). length x.reading.symbols) same in grind (arith, nat_tests, few, l);
+      })
+      (least_named (has_unfit_weight (attributed t).attributes) (list_any (is_free_name st) ns) (list_any (is_too_great st) ns) (formula_made m s t).reading.least
+      (ap (λ (x : Made Fol). met (has_unfit_weight (attributed t).attributes) UnfitAttribute (met (list_any (is_free_name st) ns) VariableAmongNames (met (list_any (is_too_great st) ns) UnfitNumeral x.reading.least))) same ∙ none))))))))
+    where
+      least_named : (a b c : Bool) (o : Option Misuse) → met a UnfitAttribute (met b VariableAmongNames (met c UnfitNumeral o)) ≡ None → met a UnfitAttribute o ≡ None
+      least_named true b c o e = cc
+      least_named false true c o e = cc
+      least_named false false true o e = cc
+      least_named false false false o e = e
 
   settings_grow : (c : Command) (r : Result Settings Misuse) → settings_after m c s.settings ≡ r → IfOk r (Follows m s.settings) → IfOk (with_settings s r) G
   settings_grow c (Ok t) e f = changes {s = s} t grown f (after_in_range m c s.settings t e (grown_ranged m s grown))
@@ -181,7 +230,7 @@ module _ (m : Mode) (byte : ℕ) (s : Sofar) (grown : Grown m s) where
   item_grows ts (command c) written few read = settings_grow c (settings_after m c s.settings) refl (command_follows m s.settings read.0 c)
   item_grows ts (within closing) written few read = changes {s = s} (record s.settings { list = None }) grown (closing_follows m s.settings) (grown_ranged m s grown)
   item_grows ts (within (term t)) written few read =
-      let item = read.2.1 in
+      let item = read.2.2 in
       let own = (written_parts item.tokens (full_stop ∷ []) (subst AreWritten item.stops written)).0 in
       by_test G (nat_lt MOST_LEVELS (nesting ts t)) _ _ (λ deep. tt)
       (λ shallow. by_option G (λ l. after_term m l byte s t) s.settings.list (Ok s)
@@ -191,6 +240,7 @@ module _ (m : Mode) (byte : ℕ) (s : Sofar) (grown : Grown m s) where
         names = omega (arith, few, reads_count _ item.tokens t item.precedence item.reads, ap length item.stops, length-append item.tokens (full_stop ∷ []));
       }))
       (λ e. grown))
+  item_grows ts (within (names ns)) written few read = names_grow ns (ap is_some read.1) (item_names_stand (table_of s.settings.operators) ts ns read.2.1 written)
 
 abbrev IfProblem : Mode → Outcome → Type 0
 IfProblem m (problem s) = Grown m s

@@ -8,6 +8,7 @@ pub mod Growing
 pub mod History
 pub mod Live
 pub mod Named
+pub mod NamesMade
 pub mod Once
 pub mod Readings
 pub mod Starts

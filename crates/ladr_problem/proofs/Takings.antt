@@ -14,12 +14,16 @@ use Rattle.fol_core.specs.Weights.{Rule}
 use Rattle.fol_core.specs.declared.raw.Raw.{Raw}
 use Rattle.ladr_lex.specs.declared.limits.TheConstants.{MOST_LEVELS, MOST_SYMBOLS}
 use Rattle.ladr_lex.specs.declared.misuse.Misuse.{Misuse}
+use Rattle.ladr_commands.specs.Commands.{commands_of}
+use Rattle.ladr_commands.specs.Faults.{IsCommandFault}
 use Rattle.ladr_commands.specs.declared.command.Command.{Command}
-use Rattle.ladr_problem.specs.ListItem.{term, IsListItem, IsItemFault}
+use Rattle.ladr_commands.specs.declared.fault.CommandFault.{CommandFault}
+use Rattle.ladr_commands.specs.declared.fault.CommandFault.TheVariants as command_fault
+use Rattle.ladr_problem.specs.ListItem.{term, names, IsListItem, IsItemFault}
 use Rattle.ladr_lex.specs.Lexeme.{Lexeme}
-use Rattle.ladr_problem.specs.Adding.{command, within, IsItemRead, IsItemRefused, after_item, after_term, after_formula, after_list, after_rule, after_weight, unshaped, formula_made, style_in, with_settings, with_listed, kept_answer, least_misuse}
+use Rattle.ladr_problem.specs.Adding.{command, within, is_tester, IsItemRead, IsItemRefused, after_item, after_term, after_made, after_formula, after_names, after_list, after_rule, after_weight, unshaped, formula_made, style_in, with_settings, with_listed, kept_answer, least_misuse}
 use Rattle.ladr_problem.specs.Reading.{IsNo, IsTaken, after_formula_read, after_rule_read}
-use Rattle.ladr_problem.specs.Refusals.{by_misuse, by_term}
+use Rattle.ladr_problem.specs.Refusals.{by_command, by_misuse, by_term}
 use Rattle.ladr_problem.specs.Sofar.{Sofar, listed_of}
 use Rattle.ladr_problem.specs.declared.refusal.Refusal.{Refusal}
 use Rattle.ladr_problem.specs.declared.refusal.Limit.TheVariants as limit
@@ -54,6 +58,11 @@ take_kept (x ∷ xs) [] h = cc_none (h 0 x refl)
 take_kept (x ∷ xs) (y ∷ ys) h = ap₂ (λ z zs. z ∷ zs) (ap (λ o. unwrap_or o x) (h 0 x refl)) (take_kept xs ys (λ n s e. h (suc n) s e))
 
 module _ (m : Mode) (byte : ℕ) (s : Sofar) where
+  -- an item that is no command
+  pub command_refused : (ts : List Lexeme) → s.settings.list ≡ None → (fault : CommandFault) → IsCommandFault (commands_of (is_tester m)) ts fault → IsItemRefused m byte s ts (by_command fault)
+  command_refused ts opened (command_fault.Bad k) h = rw opened h
+  command_refused ts opened command_fault.Memory h = tt
+
   -- a command that is misused
   pub misused : (ts : List Lexeme) (c : Command) → IsItemRead m s ts (command c) → (why : SettingsError) → ((k : Misuse) → why ≡ misuse.Misused k → settings_after m c s.settings ≡ Err k) → IsItemRefused m byte s ts (by_misuse why)
   misused ts c read (misuse.Misused k) h = (command c, read, ap (with_settings s) (h k refl))
@@ -76,6 +85,15 @@ module _ (m : Mode) (byte : ℕ) (s : Sofar) where
     term_refused ts t read shallow (Large what) refuses = (within (term t), (l, opened, read), shallow_term ts t shallow ∙ refuses)
     term_refused ts t read shallow (Misused k) refuses = (within (term t), (l, opened, read), shallow_term ts t shallow ∙ refuses)
     term_refused ts t read shallow Memory refuses = tt
+
+    pub names_taken : (ts : List Lexeme) (ns : List (List ℕ)) (u : Sofar) → IsListItem l (table_of s.settings.operators) ts (names ns) → after_names m byte s ns ≡ Ok u → IsTaken m byte s ts u
+    names_taken ts ns u read e = (within (names ns), (l, opened, read), e)
+
+    pub names_refused : (ts : List Lexeme) (ns : List (List ℕ)) → IsListItem l (table_of s.settings.operators) ts (names ns) → (why : Refusal) → IsNo (after_names m byte s ns) why → IsItemRefused m byte s ts why
+    names_refused ts ns read (Bad k) refuses = absurd refuses
+    names_refused ts ns read (Large what) refuses = (within (names ns), (l, opened, read), refuses)
+    names_refused ts ns read (Misused k) refuses = (within (names ns), (l, opened, read), refuses)
+    names_refused ts ns read Memory refuses = tt
 
     pub item_refused : (ts : List Lexeme) (fault : TermFault) → IsItemFault l (table_of s.settings.operators) ts fault → IsItemRefused m byte s ts (by_term fault)
     item_refused ts (term_fault.Bad k) h = rw opened h

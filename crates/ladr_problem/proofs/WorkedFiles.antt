@@ -19,11 +19,12 @@ use Rattle.ladr_reader.specs.Worked.{standard}
 use Rattle.ladr_reader.specs.Machine.{Done}
 use Rattle.ladr_formulas.specs.declared.styles.Mode.{Mode}
 use Rattle.ladr_settings.specs.declared.lists.OpenList.{OpenList}
+use Rattle.ladr_settings.specs.declared.lists.OpenList.TheVariants.{Distinct}
 
 -- what the items say is what the bytes say
 pub says : (m : Mode) (bytes : List ℕ) (o : Outcome) → leb (length bytes) MOST_BYTES ≡ true → File m (length bytes) nothing_read (items_of (lexed bytes)) o → Says m bytes (at_file_end m (length bytes) o)
 says m bytes o few file = items (lexed bytes) (leb-true _ _ few) (cuts_text bytes) file
 
 -- a run of the machine of terms reads a term of a list
-pub read : (list : OpenList) {ts : List Lexeme} {t : RawTree} (q : ℕ) → (¬ ts ≡ closing_tokens) → go MOST_LEVELS standard (operand []) ts ≡ standing (Some (Done (Some (disjuncts t)) q)) [] → IsListItem list standard ts (term t)
-read list q other run = (other, run_item standard standard_lawful _ _ q run)
+pub read : (list : OpenList) {ts : List Lexeme} {t : RawTree} → (¬ list ≡ Distinct) → (q : ℕ) → (¬ ts ≡ closing_tokens) → go MOST_LEVELS standard (operand []) ts ≡ standing (Some (Done (Some (disjuncts t)) q)) [] → IsListItem list standard ts (term t)
+read list of_terms q other run = (of_terms, other, run_item standard standard_lawful _ _ q run)

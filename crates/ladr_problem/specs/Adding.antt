@@ -1,5 +1,6 @@
 -- What an item makes of what was read so far.
 use Rattle.std.specs.Prelude.{◌≡◌, ℕ, nat_lt, Bool, true, false, not, ◌&&◌, if◌then◌else◌, List, [], ◌∷◌, ◌++◌, length, Option, Some, None, MatchOption}
+use Rattle.std.specs.List.{list_any}
 use Rattle.std.specs.Option.{option_map_or}
 use Rattle.std.specs.declared.result.Result.{Result}
 use Rattle.std.specs.declared.result.Result.TheVariants.{Ok, Err}
@@ -10,15 +11,18 @@ use Rattle.fol_core.specs.RawTree.{RawTree}
 use Rattle.fol_problem.specs.declared.problem.Role.{Role}
 use Rattle.fol_problem.specs.declared.problem.Role.TheVariants.{Assumption, Usable, Demodulator, Goal}
 use Rattle.ladr_lex.specs.declared.misuse.Misuse.{Misuse}
-use Rattle.ladr_lex.specs.declared.misuse.Misuse.TheVariants.{UnfitAttribute, UnfitHint, UnfitDemodulator, UnfitRule}
+use Rattle.ladr_lex.specs.declared.misuse.Misuse.TheVariants.{UnfitAttribute, UnfitHint, UnfitDemodulator, UnfitRule, UnfitNumeral, VariableAmongNames}
 use Rattle.ladr_commands.specs.Commands.{commands_of}
 use Rattle.ladr_commands.specs.Faults.{IsCommandFault}
 use Rattle.ladr_commands.specs.Form.{SaysCommand}
 use Rattle.ladr_commands.specs.declared.command.Command.{Command}
 use Rattle.ladr_commands.specs.declared.fault.CommandFault.TheVariants as command_fault
-use Rattle.ladr_problem.specs.ListItem.{ListItem, closing, term, IsListItem, IsItemFault}
+use Rattle.ladr_distinct.specs.Different.{distinct_reading}
+use Rattle.ladr_distinct.specs.Formula.{distinct_formula}
+use Rattle.ladr_distinct.specs.Symbols.{symbols_of_names}
+use Rattle.ladr_problem.specs.ListItem.{ListItem, closing, term, names, IsListItem, IsItemFault}
 use Rattle.ladr_lex.specs.Misuses.{earlier}
-use Rattle.ladr_lex.specs.declared.limits.TheConstants.{MOST_LEVELS, MOST_SYMBOLS}
+use Rattle.ladr_lex.specs.declared.limits.TheConstants.{MOST_LEVELS, MOST_NAMES, MOST_SYMBOLS}
 use Rattle.ladr_lex.specs.Lexeme.{Lexeme}
 use Rattle.ladr_rules.specs.Asked.{asked}
 use Rattle.ladr_rules.specs.Attributes.{attributed, has_unfit_weight, label_of, hint_weight_of}
@@ -27,9 +31,12 @@ use Rattle.ladr_rules.specs.Rules.{rule_in, kbo_rule}
 use Rattle.ladr_rules.specs.Shapes.{is_hint, is_demodulator}
 use Rattle.ladr_problem.specs.Sofar.{Sofar, Listed}
 use Rattle.ladr_problem.specs.declared.refusal.Refusal.{Refusal}
+use Rattle.ladr_problem.specs.declared.refusal.Limit.{Limit}
 use Rattle.ladr_problem.specs.declared.refusal.Limit.TheVariants as limit
 use Rattle.ladr_problem.specs.declared.refusal.Refusal.TheVariants.{Bad, Large, Misused, Memory}
-use Rattle.ladr_formulas.specs.Formulas.{Made, formula_reading, style_of, names_of_variables}
+use Rattle.fol_core.specs.SymbolTable.{Symbol}
+use Rattle.ladr_formulas.specs.Counting.{all_entered}
+use Rattle.ladr_formulas.specs.Formulas.{Made, formula_reading, style_of, names_of_variables, is_free_name, is_too_great}
 use Rattle.ladr_reader.specs.Nesting.{nesting}
 use Rattle.ladr_reader.specs.Table.{table_of}
 use Rattle.ladr_reader.specs.declared.fault.TermFault.TheVariants as term_fault
@@ -41,10 +48,10 @@ use Rattle.ladr_settings.specs.declared.lists.FormulaList.{FormulaList}
 use Rattle.ladr_settings.specs.declared.lists.FormulaList.TheVariants.{Assumptions, Demodulators, Goals, Hints}
 use Rattle.ladr_settings.specs.declared.lists.FormulaList.TheVariants as lists
 use Rattle.ladr_settings.specs.declared.lists.OpenList.{OpenList}
-use Rattle.ladr_settings.specs.declared.lists.OpenList.TheVariants.{Formulas, Weights, KboWeights, OtherFormulas, OtherRules}
+use Rattle.ladr_settings.specs.declared.lists.OpenList.TheVariants.{Formulas, Weights, KboWeights, Distinct, OtherFormulas, OtherRules}
 use Rattle.ladr_settings.specs.declared.settings.Settings.{Settings}
 
--- what an item is: a command outside lists, a term or the end of the list inside
+-- what an item is: a command outside lists, inside an item of the list or its end
 pub data FileItem : Type 0 where
   command : Command → FileItem
   within : ListItem → FileItem
@@ -159,13 +166,40 @@ after_list list byte s t made =
 
 -- Too many symbols, then too large an arity; misuses are looked for in items that are meant alone,
 -- and these alone add anything.
-abbrev pub after_formula : Mode → Option FormulaList → ℕ → Sofar → RawTree → Result Sofar Refusal
-after_formula m list byte s t =
-    let made = formula_made m s t in
+abbrev pub after_made : Mode → Option FormulaList → ℕ → Sofar → RawTree → Made Fol →
+    Result Sofar Refusal
+after_made m list byte s t made =
     if nat_lt MOST_SYMBOLS (length made.reading.symbols) then Err (Large limit.Symbols)
     else (if made.reading.large then Err (Large limit.Arity)
     else (if not (is_meant m s.settings) then Ok s
     else option_map_or (λ l. after_list l byte s t made) list (Ok s)))
+
+abbrev pub after_formula : Mode → Option FormulaList → ℕ → Sofar → RawTree → Result Sofar Refusal
+after_formula m list byte s t = after_made m list byte s t (formula_made m s t)
+
+-- Misuses of names that are to differ are met besides those of their formula, which one name isn't
+-- in: variables, and numerals that are too great for elements.
+abbrev pub with_names_met : Style → List (List ℕ) → Made Fol → Made Fol
+with_names_met st ns made =
+    record made {
+      reading = record made.reading {
+        least = met (list_any (is_free_name st) ns) VariableAmongNames
+            (met (list_any (is_too_great st) ns) UnfitNumeral made.reading.least);
+      };
+    }
+
+-- the limit that too many names pass; no formula is made of them
+abbrev pub limit_of_names : Style → List Symbol → List (List ℕ) → Limit
+limit_of_names st table ns =
+    if nat_lt MOST_SYMBOLS (length (all_entered table (symbols_of_names st ns))) then limit.Symbols
+    else limit.Distinct
+
+-- names that are to differ: an assumption, of which the formula is read like any other
+abbrev pub after_names : Mode → ℕ → Sofar → List (List ℕ) → Result Sofar Refusal
+after_names m byte s ns =
+    if nat_lt MOST_NAMES (length ns) then Err (Large (limit_of_names (style_in m s) s.symbols ns))
+    else after_made m (Some Assumptions) byte s (distinct_formula ns)
+    (with_names_met (style_in m s) ns (distinct_reading (style_in m s) s.symbols ns))
 
 abbrev pub with_settings : Sofar → Result Settings Misuse → Result Sofar Refusal
 with_settings s (Ok settings) = Ok (record s { settings = settings })
@@ -199,10 +233,11 @@ after_kbo m s t =
     if is_meant m s.settings then option_map_or (added_kbo s) (kbo_rule t) (Err (Misused UnfitRule))
     else Ok s
 
--- a term in the list that is open
+-- a term in the list that is open, which isn't one of names
 abbrev pub after_term : Mode → OpenList → ℕ → Sofar → RawTree → Result Sofar Refusal
 after_term m Weights byte s t = after_weight m s t
 after_term m KboWeights byte s t = after_kbo m s t
+after_term m Distinct byte s t = Ok s
 after_term m OtherRules byte s t = Ok s
 after_term m OtherFormulas byte s t = after_formula m None byte s t
 after_term m (Formulas list) byte s t = after_formula m (Some list) byte s t
@@ -215,6 +250,7 @@ after_item m byte s ts (within closing) =
 after_item m byte s ts (within (term t)) =
     if nat_lt MOST_LEVELS (nesting ts t) then Err (Large limit.Nesting)
     else option_map_or (λ l. after_term m l byte s t) s.settings.list (Ok s)
+after_item m byte s ts (within (names ns)) = after_names m byte s ns
 
 -- The item is refused so: it can't be read, or is read and passes a limit or is misused. Nothing is
 -- said of memory.

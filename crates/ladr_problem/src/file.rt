@@ -89,14 +89,8 @@ fn take_items<'a>(
     let mut item = Vec::new(alloc);
     let mut at = 0;
     while at < text.bytes.len() {
-        at = match item_from(&mut item, text, at) {
-            Ok(next) => next,
-            Err(_) => return Err(RefusalAt::Memory),
-        };
-        match take_item(alloc, program, end, &mut item, draft) {
-            Ok(()) => {}
-            Err(stop) => return Err(stop),
-        }
+        at = item_from(&mut item, text, at)?;
+        take_item(alloc, program, end, &mut item, draft)?;
     }
     Ok(())
 }
@@ -115,10 +109,7 @@ pub fn take_all<'a>(
     ensures stop { IfErr result (IsStop (File program end (sofar_of draft.old)
         (items_of (tokens_of text.now)))) }
 {
-    match take_items(alloc, program, end, text, draft) {
-        Ok(()) => {}
-        Err(stop) => return Err(stop),
-    }
+    take_items(alloc, program, end, text, draft)?;
     if draft.settings.list.is_some() {
         return Err(RefusalAt::Unreadable(end as u64));
     }

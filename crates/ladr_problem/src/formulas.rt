@@ -90,8 +90,8 @@ fn is_closed(alloc: Global, formula: &Formula) -> Result<bool, AllocError>
     Ok(free.is_empty())
 }
 
-// The misuse of the least row, where one more is met.
-fn meet(test: bool, misuse: Misuse, least: Option<Misuse>) -> Option<Misuse>
+/// The misuse of the least row, where one more is met.
+pub fn meet(test: bool, misuse: Misuse, least: Option<Misuse>) -> Option<Misuse>
     ensures { result ≡ met test misuse least }
 {
     if test {
@@ -165,9 +165,9 @@ impl Draft {
         }
     }
 
-    // Takes a formula that was read behind so many symbols.
+    /// Takes a formula that was read behind so many symbols.
     #[inline(always)]
-    fn settle(
+    pub fn settle(
         &mut self,
         alloc: Global,
         program: Mode,

@@ -84,10 +84,7 @@ fn test(alloc: Global, end: usize, draft: &Draft) -> Result<(), RefusalAt>
     if draft.settings.interpretations.len() == 0 {
         return Err(RefusalAt::Misuse(end as u64, Misuse::Uncovered));
     }
-    let tables = match all_tables(alloc, &draft.settings.interpretations, &draft.symbols) {
-        Ok(tables) => tables,
-        Err(_) => return Err(RefusalAt::Memory),
-    };
+    let tables = all_tables(alloc, &draft.settings.interpretations, &draft.symbols)?;
     match first_lacking(&tables, &draft.inputs) {
         Some(byte) => Err(RefusalAt::Misuse(byte, Misuse::Uncovered)),
         None => Ok(()),
@@ -108,10 +105,7 @@ fn take_file<'a>(
     ensures stop { IfErr result (IsStop (IsFinished program end (sofar_of draft.old)
         (items_of (tokens_of text.now)))) }
 {
-    match take_all(alloc, program, end, text, draft) {
-        Ok(()) => {}
-        Err(stop) => return Err(stop),
-    }
+    take_all(alloc, program, end, text, draft)?;
     match program {
         Mode::Prover | Mode::Mace => Ok(()),
         Mode::Tester => test(alloc, end, draft),
@@ -296,10 +290,7 @@ pub fn read_problem(alloc: Global, program: Mode, bytes: &[u8]) -> Result<FileRe
         });
     }
     let text = Text { bytes, start: 0 };
-    let mut draft = match Draft::new(alloc) {
-        Ok(draft) => draft,
-        Err(_) => return Err(ReadError::Memory),
-    };
+    let mut draft = Draft::new(alloc)?;
     match take_file(alloc, program, bytes.len(), &text, &mut draft) {
         Ok(()) => Ok(finish(draft)),
         Err(stop) => Err(placed(alloc, &text, stop)),

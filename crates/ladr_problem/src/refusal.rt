@@ -1,7 +1,6 @@
 // Why an input states no problem.
 ghost use Rattle.std.specs.Prelude.{◌≡◌};
 ghost use Rattle.ladr_problem.specs.Refusals.{by_command, by_term, by_misuse};
-ghost use Rattle.ladr_problem.specs.declared.refusal.Refusal.TheVariants.{Memory};
 
 use fol_core::Name;
 use ladr_commands::CommandFault;
@@ -17,6 +16,7 @@ pub enum Limit {
     Nesting,
     Symbols,
     Arity,
+    Distinct,
 }
 
 /// A place of the input: its byte, counted from 0, its line and column, counted from 1, and what is shown of its token.
@@ -47,8 +47,30 @@ pub enum Refusal {
     Memory,
 }
 
+impl From<AllocError> for ReadError {
+    ghost use Rattle.ladr_problem.specs.declared.refusal.ReadError.{ReadError};
+
+    ghost from_gives = { λ _ e. e ≡ ReadError.Memory };
+
+    fn from(_e: AllocError) -> ReadError {
+        ReadError::Memory
+    }
+}
+
+impl<T: Drop> From<AllocFailed<T>> for ReadError {
+    ghost use Rattle.ladr_problem.specs.declared.refusal.ReadError.{ReadError};
+
+    ghost from_gives = { λ _ e. e ≡ ReadError.Memory };
+
+    fn from(_e: AllocFailed<T>) -> ReadError {
+        ReadError::Memory
+    }
+}
+
 impl From<AllocError> for Refusal {
-    ghost from_gives = { λ _ e. e ≡ Memory };
+    ghost use Rattle.ladr_problem.specs.declared.refusal.Refusal.{Refusal};
+
+    ghost from_gives = { λ _ e. e ≡ Refusal.Memory };
 
     fn from(_e: AllocError) -> Refusal {
         Refusal::Memory
@@ -56,40 +78,48 @@ impl From<AllocError> for Refusal {
 }
 
 impl<T: Drop> From<AllocFailed<T>> for Refusal {
-    ghost from_gives = { λ _ e. e ≡ Memory };
+    ghost use Rattle.ladr_problem.specs.declared.refusal.Refusal.{Refusal};
+
+    ghost from_gives = { λ _ e. e ≡ Refusal.Memory };
 
     fn from(_e: AllocFailed<T>) -> Refusal {
         Refusal::Memory
     }
 }
 
-/// The refusal of an item that is no command.
-pub fn by_command(fault: CommandFault) -> Refusal
-    ensures { result ≡ by_command fault }
-{
-    match fault {
-        CommandFault::Bad(k) => Refusal::Bad(k),
-        CommandFault::Memory => Refusal::Memory,
+// An item that is no command.
+impl From<CommandFault> for Refusal {
+    ghost from_gives = { λ fault e. e ≡ by_command fault };
+
+    fn from(fault: CommandFault) -> Refusal {
+        match fault {
+            CommandFault::Bad(k) => Refusal::Bad(k),
+            CommandFault::Memory => Refusal::Memory,
+        }
     }
 }
 
-/// The refusal of an item of a list that is no term, or one too deep.
-pub fn by_term(fault: TermFault) -> Refusal
-    ensures { result ≡ by_term fault }
-{
-    match fault {
-        TermFault::Bad(k) => Refusal::Bad(k),
-        TermFault::Deep => Refusal::Large(Limit::Nesting),
-        TermFault::Memory => Refusal::Memory,
+// An item of a list that is no term, or one too deep.
+impl From<TermFault> for Refusal {
+    ghost from_gives = { λ fault e. e ≡ by_term fault };
+
+    fn from(fault: TermFault) -> Refusal {
+        match fault {
+            TermFault::Bad(k) => Refusal::Bad(k),
+            TermFault::Deep => Refusal::Large(Limit::Nesting),
+            TermFault::Memory => Refusal::Memory,
+        }
     }
 }
 
-/// The refusal of a command that is misused.
-pub fn by_misuse(error: SettingsError) -> Refusal
-    ensures { result ≡ by_misuse error }
-{
-    match error {
-        SettingsError::Misused(misuse) => Refusal::Misused(misuse),
-        SettingsError::Memory => Refusal::Memory,
+// A command that is misused.
+impl From<SettingsError> for Refusal {
+    ghost from_gives = { λ error e. e ≡ by_misuse error };
+
+    fn from(error: SettingsError) -> Refusal {
+        match error {
+            SettingsError::Misused(misuse) => Refusal::Misused(misuse),
+            SettingsError::Memory => Refusal::Memory,
+        }
     }
 }

@@ -23,15 +23,14 @@ impl Draft {
     {
         let before = self.symbols.len();
         let prolog = self.settings.options.prolog_style_variables;
-        match weight_rule(alloc, raw, &mut self.symbols, program, prolog) {
-            Ok(Some(read)) => self.settle_rule(program, before, read),
-            Ok(None) => {
+        match weight_rule(alloc, raw, &mut self.symbols, program, prolog)? {
+            Some(read) => self.settle_rule(program, before, read),
+            None => {
                 if self.settings.is_meant(program) {
                     return Err(Refusal::Misused(Misuse::UnfitRule));
                 }
                 Ok(())
             }
-            Err(_) => Err(Refusal::Memory),
         }
     }
 
@@ -76,15 +75,14 @@ impl Draft {
         if !self.settings.is_meant(program) {
             return Ok(());
         }
-        match kbo_rule(alloc, raw) {
-            Ok(Some(rule)) => {
+        match kbo_rule(alloc, raw)? {
+            Some(rule) => {
                 if !self.kbo_weights.push(rule.name.bytes(), rule.weight)? {
                     return Err(Refusal::Misused(Misuse::UnfitRule));
                 }
                 Ok(())
             }
-            Ok(None) => Err(Refusal::Misused(Misuse::UnfitRule)),
-            Err(_) => Err(Refusal::Memory),
+            None => Err(Refusal::Misused(Misuse::UnfitRule)),
         }
     }
 }

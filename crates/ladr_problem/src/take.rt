@@ -9,7 +9,7 @@ ghost use Rattle.ladr_problem.specs.Reading.{IsKept, IsNo, IsTaken};
 use crate::draft::Draft;
 use crate::item::ListItem;
 use crate::list_items::read_list_item;
-use crate::refusal::{Refusal, by_command, by_misuse, by_term};
+use crate::refusal::Refusal;
 use fol_core::Raw;
 use ladr_commands::read_command;
 use ladr_formulas::Mode;
@@ -75,13 +75,9 @@ impl Draft {
         ensures refused { IfErr result (IsItemRefused program byte (sofar_of self.old)
             (lexemes_of tokens.now)) }
     {
-        match read_command(alloc, is_tester(program), tokens) {
-            Ok(command) => match self.settings.take(alloc, program, command) {
-                Ok(()) => Ok(()),
-                Err(error) => Err(by_misuse(error)),
-            },
-            Err(fault) => Err(by_command(fault)),
-        }
+        let command = read_command(alloc, is_tester(program), tokens)?;
+        self.settings.take(alloc, program, command)?;
+        Ok(())
     }
 
     // Takes an item that stands in a list.
@@ -100,16 +96,19 @@ impl Draft {
             (lexemes_of tokens.old.items)) }
         ensures bad { IfErr result (IsKept tokens.old.items tokens.new.items) }
     {
-        match read_list_item(alloc, &self.settings.operators, tokens) {
-            Ok(ListItem::End) => {
+        match read_list_item(alloc, &self.settings.operators, list, tokens)? {
+            ListItem::End => {
                 self.settings.list = None;
                 Ok(())
             }
-            Ok(ListItem::Term(raw)) => {
+            ListItem::Term(raw) => {
                 give_back(alloc, tokens);
                 self.take_term(alloc, program, list, byte, raw)
             }
-            Err(fault) => Err(by_term(fault)),
+            ListItem::Names(names) => {
+                give_back(alloc, tokens);
+                self.take_names(alloc, program, byte, &names)
+            }
         }
     }
 
@@ -132,7 +131,7 @@ impl Draft {
             OpenList::OtherFormulas => self.take_formula(alloc, program, None, byte, raw),
             OpenList::Weights => self.take_weight(alloc, program, &raw),
             OpenList::KboWeights => self.take_kbo_weight(alloc, program, &raw),
-            OpenList::OtherRules => Ok(()),
+            OpenList::Distinct | OpenList::OtherRules => Ok(()),
         }
     }
 }

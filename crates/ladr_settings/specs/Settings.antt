@@ -22,7 +22,7 @@ use Rattle.ladr_options.specs.declared.options.OptionError.TheVariants.{Unknown,
 use Rattle.ladr_settings.specs.declared.lists.FormulaList.{FormulaList}
 use Rattle.ladr_settings.specs.declared.lists.FormulaList.TheVariants.{Assumptions, Usable, Demodulators, Goals, Hints}
 use Rattle.ladr_settings.specs.declared.lists.OpenList.{OpenList}
-use Rattle.ladr_settings.specs.declared.lists.OpenList.TheVariants.{Formulas, Weights, KboWeights, OtherFormulas, OtherRules}
+use Rattle.ladr_settings.specs.declared.lists.OpenList.TheVariants.{Formulas, Weights, KboWeights, Distinct, OtherFormulas, OtherRules}
 use Rattle.ladr_formulas.specs.declared.styles.Mode.{Mode}
 use Rattle.ladr_formulas.specs.declared.styles.Mode.TheVariants.{Prover, Mace, Tester}
 use Rattle.ladr_settings.specs.declared.settings.Settings.{Settings}
@@ -45,13 +45,15 @@ formulas_opened name = option_map_or Formulas (formulas_named name) OtherFormula
 abbrev pub rules_opened : List ℕ → OpenList
 rules_opened name =
     if bytes_eq name (codes "weights") then Weights
-    else (if bytes_eq name (codes "kbo_weights") then KboWeights else OtherRules)
+    else (if bytes_eq name (codes "kbo_weights") then KboWeights
+    else (if bytes_eq name (codes "distinct") then Distinct else OtherRules))
 
 -- whether a list has a name that is unknown
 abbrev pub is_other : OpenList → Bool
 is_other (Formulas list) = false
 is_other Weights = false
 is_other KboWeights = false
+is_other Distinct = false
 is_other OtherFormulas = true
 is_other OtherRules = true
 

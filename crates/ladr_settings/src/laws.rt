@@ -50,6 +50,11 @@ pub fn worked()
         ≡ Ok (record at_start { interpretations = by_name 2 [] ∷ by_name 1 [] ∷ [] }) }
     ensures assumptions { settings_after Prover (command.Formulas (codes "sos")) at_start
         ≡ Ok (record at_start { list = Some (list.Formulas Assumptions); listed = true }) }
+    // Names that are to differ are no formulas.
+    ensures names { settings_after Mace (command.List (codes "distinct")) at_start
+        ≡ Ok (record at_start { list = Some list.Distinct; listed = true }) }
+    ensures names_as_formulas { settings_after Mace (command.Formulas (codes "distinct")) at_start
+        ≡ Err UnknownList }
     ensures predicates { settings_after Prover
         (command.PredicateOrder (codes "p" ∷ codes "p" ∷ [])) at_start ≡ Ok at_start }
     ensures other_if { settings_after Prover (command.If (codes "Prover9"))

@@ -19,6 +19,7 @@ pub enum OpenList {
     Formulas(FormulaList),
     Weights,
     KboWeights,
+    Distinct,
     OtherFormulas,
     OtherRules,
 }
@@ -42,6 +43,8 @@ impl OpenList {
             OpenList::Weights
         } else if name == b"kbo_weights".as_slice() {
             OpenList::KboWeights
+        } else if name == b"distinct".as_slice() {
+            OpenList::Distinct
         } else {
             OpenList::OtherRules
         }
@@ -52,7 +55,8 @@ impl OpenList {
         ensures { result ≡ is_other self }
     {
         match self {
-            OpenList::Formulas(_) | OpenList::Weights | OpenList::KboWeights => false,
+            OpenList::Formulas(_) | OpenList::Weights | OpenList::KboWeights | OpenList::Distinct =>
+                false,
             OpenList::OtherFormulas | OpenList::OtherRules => true,
         }
     }

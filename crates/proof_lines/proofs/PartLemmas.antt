@@ -2,16 +2,20 @@
 use Rattle.std.proofs.Common.{◌≡◌, ◌∙◌, ℕ, suc, ◌+◌, ◌-◌, ◌≤◌, true, List, [], ◌∷◌, ◌++◌, length, take, drop, Some, None, refl, ap, ap₂, sym, subst, arith, inl, inr}
 use Rattle.std.proofs.lemmas.List.{length-take-le, length-drop, take-append-drop, take_all}
 use Rattle.derivation.specs.declared.line.Just.{Just}
+use Rattle.fol_core.specs.SymbolTable.{Symbol}
+use Rattle.ladr_formulas.specs.declared.styles.Style.{Style}
 use Rattle.ladr_lex.specs.Lexeme.{Lexeme, lexeme_of, lexemes_of}
 use Rattle.ladr_lex.specs.Numeral.{whole_number}
 use Rattle.ladr_lex.specs.declared.token.Token.{Token}
 use Rattle.proof_lines.specs.ContentTokens.{LineTables, HasKind, content_in, behind_content_in}
-use Rattle.proof_lines.specs.Faults.{IsBadBehindNumber, IsBadOfLine}
+use Rattle.proof_lines.specs.Faults.{IsBadBehindNumber, IsBadOfLine, IsLineFault, by_part}
 use Rattle.proof_lines.specs.Lines.{LineParts, IsProofLine}
-use Rattle.proof_lines.specs.Parsed.{first_number, IsContentSeen, kind_seen, AreTermsSeen, IsBehindRead, IsPartsRead}
+use Rattle.proof_lines.specs.Parsed.{first_number, IsContentSeen, kind_seen, AreTermsSeen, IsBehindRead, IsPartFault, IsPartsRead}
 use Rattle.proof_lines.specs.declared.content.ContentRead.{ContentRead}
 use Rattle.proof_lines.specs.declared.content.ContentRead.TheVariants as seen
 use Rattle.proof_lines.specs.declared.content.Terms.{Terms}
+use Rattle.proof_lines.specs.declared.fault.PartFault.{PartFault}
+use Rattle.proof_lines.specs.declared.fault.PartFault.TheVariants.{Bad, Memory}
 use Rattle.proof_lines.specs.declared.parts.Behind.{Behind}
 use Rattle.proof_lines.proofs.Contents.{lexemes_long, lexemes_append}
 use Rattle.proof_lines.proofs.FirstWords.{wider}
@@ -116,3 +120,8 @@ pub bad_first : (g : LineTables) (ts : List Token) (n k : ℕ) → first_number 
     → IsBadOfLine g (lexemes_of ts) (k + 1)
 bad_first g [] n k e h = absurd cc
 bad_first g (t ∷ ts) n k e h = (let m : k + 1 ≡ suc k = omega arith in inr ((some_number t n e).0, (k, m, h)))
+
+-- what is bad of the parts is bad of the line
+pub part_fault : (g : LineTables) (st : Style) (problem table : List Symbol) (ts : List Lexeme) (fault : PartFault) → IsPartFault (IsBadOfLine g ts) fault → IsLineFault g st problem table ts (by_part fault)
+part_fault g st problem table ts (Bad k) h = h
+part_fault g st problem table ts Memory h = tt

@@ -12,6 +12,8 @@ use Rattle.proof_lines.specs.Literals.{may_be_clause}
 use Rattle.proof_lines.specs.Stated.{is_too_deep, line_made, line_misuse, IsLineOf}
 use Rattle.proof_lines.specs.declared.fault.LineFault.{LineFault}
 use Rattle.proof_lines.specs.declared.fault.LineFault.TheVariants.{Bad, Deep, Misused, Memory}
+use Rattle.proof_lines.specs.declared.fault.PartFault.{PartFault}
+use Rattle.proof_lines.specs.declared.fault.PartFault.TheVariants as part
 use Rattle.proof_lines.specs.declared.line.LineRead.{LineRead}
 use Rattle.proof_words.specs.Classes.{is_of}
 use Rattle.proof_words.specs.Faults.{IsBadWordToken}
@@ -73,6 +75,11 @@ HoldsNoLine g ts =
 pub record IsBadLineToken (g : LineTables) (ts : List Lexeme) (k : ℕ) : Type 0 where
   pub here : k < length ts → ¬ BeginsLine g (take (k + 1) ts)
   pub none : HoldsNoLine g ts
+
+-- the fault of a line by that of its parts
+abbrev pub by_part : PartFault → LineFault
+by_part (part.Bad k) = Bad k
+by_part part.Memory = Memory
 
 -- The tokens begin with no line, and this one is bad; or with a line that is too deep, or is
 -- misused by this row at least. Nothing is said of memory.

@@ -179,10 +179,8 @@ fn formula_found(alloc: Global, ops: &Ops, tokens: &[Token]) -> Result<(), PartF
     ensures fault { IfErr result (IsPartFault (IsNoItem (table_of ops.now)
         (lexemes_of tokens.now))) }
 {
-    match formula_seen(alloc, ops, tokens) {
-        Ok(_) => Ok(()),
-        Err(fault) => Err(fault),
-    }
+    formula_seen(alloc, ops, tokens)?;
+    Ok(())
 }
 
 /// What the tokens of content are.

@@ -1,5 +1,6 @@
 // Why tokens begin with no line, or with one that is refused.
 ghost use Rattle.std.specs.Prelude.{◌≡◌};
+ghost use Rattle.proof_lines.specs.Faults.{by_part};
 ghost use Rattle.proof_lines.specs.declared.fault.LineFault.TheVariants.{Memory};
 
 use ladr_lex::Misuse;
@@ -28,4 +29,15 @@ impl From<AllocError> for LineFault {
 pub enum PartFault {
     Bad(usize),
     Memory,
+}
+
+impl From<PartFault> for LineFault {
+    ghost from_gives = { λ part e. e ≡ by_part part };
+
+    fn from(part: PartFault) -> LineFault {
+        match part {
+            PartFault::Bad(k) => LineFault::Bad(k),
+            PartFault::Memory => LineFault::Memory,
+        }
+    }
 }

@@ -8,7 +8,7 @@ ghost use Rattle.proof_lines.specs.ContentTokens.{tables_of};
 ghost use Rattle.proof_lines.specs.Faults.{IsLineFault, IsLineRead};
 ghost use Rattle.proof_lines.specs.Strays.{AreNamesOf};
 
-use crate::fault::{LineFault, PartFault};
+use crate::fault::LineFault;
 use crate::operators::LineOperators;
 use crate::parts::{Behind, Parts, read_parts};
 use crate::stating::state;
@@ -46,24 +46,17 @@ pub fn read_line(
     // Whatever the answer, the old symbols keep their numbers.
     ensures kept { KeepsNumbers symbols.old symbols.new }
 {
-    match read_parts(alloc, operators, tokens) {
-        Ok(parts) => {
-            let Parts { number, behind } = parts;
-            let Behind { terms, just, len } = behind;
-            match state(alloc, terms, problem, names, symbols) {
-                Ok(content) => Ok(LineRead {
-                    line: Line {
-                        number,
-                        content,
-                        just,
-                        notes: LineNotes::none(alloc),
-                    },
-                    len: len + 1,
-                }),
-                Err(fault) => Err(fault),
-            }
-        }
-        Err(PartFault::Bad(k)) => Err(LineFault::Bad(k)),
-        Err(PartFault::Memory) => Err(LineFault::Memory),
-    }
+    let parts = read_parts(alloc, operators, tokens)?;
+    let Parts { number, behind } = parts;
+    let Behind { terms, just, len } = behind;
+    let content = state(alloc, terms, problem, names, symbols)?;
+    Ok(LineRead {
+        line: Line {
+            number,
+            content,
+            just,
+            notes: LineNotes::none(alloc),
+        },
+        len: len + 1,
+    })
 }

@@ -86,24 +86,19 @@ fn read_any(alloc: Global, operators: &LineOperators, tokens: &[Token]) -> Resul
         (lexemes_of tokens.now))) }
 {
     let end = content_end(tokens);
-    let content = match read_content(alloc, operators, &tokens[..end]) {
-        Ok(content) => content,
-        Err(fault) => return Err(fault),
-    };
+    let content = read_content(alloc, operators, &tokens[..end])?;
     let (just, len) = match words_behind(alloc, content.kind(), &tokens[end..]) {
         Ok(read) => read,
         Err(PartFault::Bad(k)) => return Err(PartFault::Bad(end + k)),
         Err(PartFault::Memory) => return Err(PartFault::Memory),
     };
     let by_formula = states_formula(&just.first);
-    match terms_seen(alloc, operators, &tokens[..end], content, by_formula) {
-        Ok(terms) => Ok(Behind {
-            terms,
-            just,
-            len: end + len,
-        }),
-        Err(_) => Err(PartFault::Memory),
-    }
+    let terms = terms_seen(alloc, operators, &tokens[..end], content, by_formula)?;
+    Ok(Behind {
+        terms,
+        just,
+        len: end + len,
+    })
 }
 
 /// What stands behind a line's number. Where the words are those of a clause and the content is one, it is read once, and whether

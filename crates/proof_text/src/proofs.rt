@@ -85,10 +85,7 @@ fn read_block(
         bytes: &block.bytes,
         start: block.start,
     };
-    let tokens = match tokens_from(alloc, &text) {
-        Ok(tokens) => tokens,
-        Err(_) => return Err(ReadError::Memory),
-    };
+    let tokens = tokens_from(alloc, &text)?;
     match read_lines(alloc, operators, problem, names, symbols, &tokens) {
         Ok(lines) => Ok(Derivation { lines }),
         Err(LineStop { at, fault }) => {
@@ -118,14 +115,8 @@ fn read_each(
 {
     let mut proofs = Vec::new(alloc);
     for block in blocks {
-        match read_block(alloc, operators, problem, names, symbols, bytes, block) {
-            Ok(proof) => {
-                if proofs.push(proof).is_err() {
-                    return Err(ReadError::Memory);
-                }
-            }
-            Err(error) => return Err(error),
-        }
+        let proof = read_block(alloc, operators, problem, names, symbols, bytes, block)?;
+        proofs.push(proof)?;
     }
     Ok(proofs)
 }
@@ -147,8 +138,6 @@ pub fn read_blocks(
         (HasRefusedBlock (reader_in operators.now problem.now) symbols.old bytes.now bs)) }
     ensures kept { KeepsNumbers symbols.old symbols.new }
 {
-    match ProblemNames::of(alloc, &problem.symbols) {
-        Ok(names) => read_each(alloc, operators, problem, &names, symbols, bytes, blocks),
-        Err(_) => Err(ReadError::Memory),
-    }
+    let names = ProblemNames::of(alloc, &problem.symbols)?;
+    read_each(alloc, operators, problem, &names, symbols, bytes, blocks)
 }

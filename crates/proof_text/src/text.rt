@@ -45,22 +45,11 @@ pub fn read_proof(alloc: Global, bytes: &[u8]) -> Result<ProofRead, ReadError>
         Ok(frame) => frame,
         Err(byte) => return Err(refuse_byte(alloc, bytes, byte)),
     };
-    let blocks = match find_blocks(alloc, bytes, frame.end + 1) {
-        Ok(blocks) => blocks,
-        Err(_) => return Err(ReadError::Memory),
-    };
-    let file = match read_problem(alloc, Mode::Prover, &bytes[frame.start..frame.end]) {
-        Ok(file) => file,
-        Err(error) => return Err(error),
-    };
-    let mut read = match without_proofs(alloc, file) {
-        Ok(read) => read,
-        Err(_) => return Err(ReadError::Memory),
-    };
-    match read_all(alloc, bytes, &blocks, &mut read) {
-        Ok(()) => Ok(read),
-        Err(error) => Err(error),
-    }
+    let blocks = find_blocks(alloc, bytes, frame.end + 1)?;
+    let file = read_problem(alloc, Mode::Prover, &bytes[frame.start..frame.end])?;
+    let mut read = without_proofs(alloc, file)?;
+    read_all(alloc, bytes, &blocks, &mut read)?;
+    Ok(read)
 }
 
 // What a text says whose problem is read, and no proof.
@@ -98,17 +87,14 @@ fn read_all(
         → HasProblem bytes.now f bs → AreBlocksRead bs blocks.now
         → IfErr result (IsProofError bytes.now) }
 {
-    match read_blocks(
+    read.proofs = read_blocks(
         alloc,
         &read.operators,
         &read.problem,
         &mut read.symbols,
         bytes,
         blocks,
-    ) {
-        Ok(proofs) => read.proofs = proofs,
-        Err(error) => return Err(error),
-    }
+    )?;
     if !are_closed(blocks) {
         return Err(refuse_byte(alloc, bytes, bytes.len()));
     }

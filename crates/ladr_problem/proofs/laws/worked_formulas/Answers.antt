@@ -28,10 +28,10 @@ unfolding start_of is_blank is_ordinary is_special named_variable
 returns-clause-listed _ =
     says _ (codes "formulas(sos).\np(a) # label(b).\nend_of_list.\nformulas(goals).\nq(x).\nend_of_list.\n") _ refl
     (goes_on (command (Formulas (codes "sos"))) _ (refl, refl) refl
-    (goes_on (within (term (binary "#" (unary "p" (constant "a")) (unary "label" (constant "b"))))) _ (listed.Formulas Assumptions, refl, read (listed.Formulas Assumptions) 810 (λ e. cc) refl) refl
+    (goes_on (within (term (binary "#" (unary "p" (constant "a")) (unary "label" (constant "b"))))) _ (listed.Formulas Assumptions, refl, read (listed.Formulas Assumptions) (λ e. cc) 810 (λ e. cc) refl) refl
     (goes_on (within closing) _ (listed.Formulas Assumptions, refl, refl) refl
     (goes_on (command (Formulas (codes "goals"))) _ (refl, refl) refl
-    (goes_on (within (term (unary "q" (constant "x")))) _ (listed.Formulas Goals, refl, read (listed.Formulas Goals) 0 (λ e. cc) refl) refl
+    (goes_on (within (term (unary "q" (constant "x")))) _ (listed.Formulas Goals, refl, read (listed.Formulas Goals) (λ e. cc) 0 (λ e. cc) refl) refl
     (goes_on (within closing) _ (listed.Formulas Goals, refl, refl) refl
     (ends refl refl)))))))
 
@@ -40,8 +40,8 @@ unfolding start_of is_blank is_ordinary is_special named_variable
 returns-clause-clash _ =
     says _ (codes "formulas(sos).\nf(a).\nf(a) = b.\nend_of_list.\n") _ refl
     (goes_on (command (Formulas (codes "sos"))) _ (refl, refl) refl
-    (goes_on (within (term (unary "f" (constant "a")))) _ (listed.Formulas Assumptions, refl, read (listed.Formulas Assumptions) 0 (λ e. cc) refl) refl
-    (breaks (within (term (binary "=" (unary "f" (constant "a")) (constant "b")))) (Misused TwoKinds) (listed.Formulas Assumptions, refl, read (listed.Formulas Assumptions) 700 (λ e. cc) refl) refl)))
+    (goes_on (within (term (unary "f" (constant "a")))) _ (listed.Formulas Assumptions, refl, read (listed.Formulas Assumptions) (λ e. cc) 0 (λ e. cc) refl) refl
+    (breaks (within (term (binary "=" (unary "f" (constant "a")) (constant "b")))) (Misused TwoKinds) (listed.Formulas Assumptions, refl, read (listed.Formulas Assumptions) (λ e. cc) 700 (λ e. cc) refl) refl)))
 
 pub returns-clause-for_another : goal.returns-clause-for_another
 unfolding start_of is_blank is_ordinary is_special named_variable
@@ -49,11 +49,11 @@ returns-clause-for_another _ =
     says _ (codes "if(Mace4). formulas(sos). f(a). end_of_list. end_if. formulas(sos). f(a)=b. end_of_list.") _ refl
     (goes_on (command (If (codes "Mace4"))) _ (refl, refl) refl
     (goes_on (command (Formulas (codes "sos"))) _ (refl, refl) refl
-    (goes_on (within (term (unary "f" (constant "a")))) _ (listed.Formulas Assumptions, refl, read (listed.Formulas Assumptions) 0 (λ e. cc) refl) refl
+    (goes_on (within (term (unary "f" (constant "a")))) _ (listed.Formulas Assumptions, refl, read (listed.Formulas Assumptions) (λ e. cc) 0 (λ e. cc) refl) refl
     (goes_on (within closing) _ (listed.Formulas Assumptions, refl, refl) refl
     (goes_on (command EndIf) _ (refl, refl) refl
     (goes_on (command (Formulas (codes "sos"))) _ (refl, refl) refl
-    (goes_on (within (term (binary "=" (unary "f" (constant "a")) (constant "b")))) _ (listed.Formulas Assumptions, refl, read (listed.Formulas Assumptions) 700 (λ e. cc) refl) refl
+    (goes_on (within (term (binary "=" (unary "f" (constant "a")) (constant "b")))) _ (listed.Formulas Assumptions, refl, read (listed.Formulas Assumptions) (λ e. cc) 700 (λ e. cc) refl) refl
     (goes_on (within closing) _ (listed.Formulas Assumptions, refl, refl) refl
     (ends refl refl)))))))))
 
@@ -62,24 +62,24 @@ unfolding start_of is_blank is_ordinary is_special named_variable
 returns-clause-hint _ =
     says _ (codes "formulas(hints).\np | -q.\np & q.\nend_of_list.\n") _ refl
     (goes_on (command (Formulas (codes "hints"))) _ (refl, refl) refl
-    (goes_on (within (term (binary "|" (constant "p") (unary "-" (constant "q"))))) _ (listed.Formulas Hints, refl, read (listed.Formulas Hints) 790 (λ e. cc) refl) refl
-    (breaks (within (term (binary "&" (constant "p") (constant "q")))) (Misused UnfitHint) (listed.Formulas Hints, refl, read (listed.Formulas Hints) 780 (λ e. cc) refl) refl)))
+    (goes_on (within (term (binary "|" (constant "p") (unary "-" (constant "q"))))) _ (listed.Formulas Hints, refl, read (listed.Formulas Hints) (λ e. cc) 790 (λ e. cc) refl) refl
+    (breaks (within (term (binary "&" (constant "p") (constant "q")))) (Misused UnfitHint) (listed.Formulas Hints, refl, read (listed.Formulas Hints) (λ e. cc) 780 (λ e. cc) refl) refl)))
 
 pub returns-clause-demodulator : goal.returns-clause-demodulator
 unfolding start_of is_blank is_ordinary is_special named_variable
 returns-clause-demodulator _ =
     says _ (codes "formulas(demodulators).\nf(x) = x.\nx = f(x).\nend_of_list.\n") _ refl
     (goes_on (command (Formulas (codes "demodulators"))) _ (refl, refl) refl
-    (goes_on (within (term (binary "=" (unary "f" (constant "x")) (constant "x")))) _ (listed.Formulas Demodulators, refl, read (listed.Formulas Demodulators) 700 (λ e. cc) refl) refl
-    (breaks (within (term (binary "=" (constant "x") (unary "f" (constant "x"))))) (Misused UnfitDemodulator) (listed.Formulas Demodulators, refl, read (listed.Formulas Demodulators) 700 (λ e. cc) refl) refl)))
+    (goes_on (within (term (binary "=" (unary "f" (constant "x")) (constant "x")))) _ (listed.Formulas Demodulators, refl, read (listed.Formulas Demodulators) (λ e. cc) 700 (λ e. cc) refl) refl
+    (breaks (within (term (binary "=" (constant "x") (unary "f" (constant "x"))))) (Misused UnfitDemodulator) (listed.Formulas Demodulators, refl, read (listed.Formulas Demodulators) (λ e. cc) 700 (λ e. cc) refl) refl)))
 
 pub returns-clause-weights : goal.returns-clause-weights
 unfolding start_of is_blank is_ordinary is_special named_variable
 returns-clause-weights _ =
     says _ (codes "list(kbo_weights).\nf = 2.\ng = 3.\nend_of_list.\n") _ refl
     (goes_on (command (of_commands.List (codes "kbo_weights"))) _ (refl, refl) refl
-    (goes_on (within (term (binary "=" (constant "f") (constant "2")))) _ (listed.KboWeights, refl, read listed.KboWeights 700 (λ e. cc) refl) refl
-    (goes_on (within (term (binary "=" (constant "g") (constant "3")))) _ (listed.KboWeights, refl, read listed.KboWeights 700 (λ e. cc) refl) refl
+    (goes_on (within (term (binary "=" (constant "f") (constant "2")))) _ (listed.KboWeights, refl, read listed.KboWeights (λ e. cc) 700 (λ e. cc) refl) refl
+    (goes_on (within (term (binary "=" (constant "g") (constant "3")))) _ (listed.KboWeights, refl, read listed.KboWeights (λ e. cc) 700 (λ e. cc) refl) refl
     (goes_on (within closing) _ (listed.KboWeights, refl, refl) refl
     (ends refl refl)))))
 
@@ -88,8 +88,8 @@ unfolding start_of is_blank is_ordinary is_special named_variable
 returns-clause-weighed_twice _ =
     says _ (codes "list(kbo_weights).\nf = 2.\nf = 3.\nend_of_list.\n") _ refl
     (goes_on (command (of_commands.List (codes "kbo_weights"))) _ (refl, refl) refl
-    (goes_on (within (term (binary "=" (constant "f") (constant "2")))) _ (listed.KboWeights, refl, read listed.KboWeights 700 (λ e. cc) refl) refl
-    (breaks (within (term (binary "=" (constant "f") (constant "3")))) (Misused UnfitRule) (listed.KboWeights, refl, read listed.KboWeights 700 (λ e. cc) refl) refl)))
+    (goes_on (within (term (binary "=" (constant "f") (constant "2")))) _ (listed.KboWeights, refl, read listed.KboWeights (λ e. cc) 700 (λ e. cc) refl) refl
+    (breaks (within (term (binary "=" (constant "f") (constant "3")))) (Misused UnfitRule) (listed.KboWeights, refl, read listed.KboWeights (λ e. cc) 700 (λ e. cc) refl) refl)))
 
 pub returns-clause-lacking : goal.returns-clause-lacking
 unfolding start_of is_blank is_ordinary is_special named_variable
@@ -97,7 +97,7 @@ returns-clause-lacking _ =
     says _ (codes "interpretation(2,[],[]).\nformulas(sos).\np.\nend_of_list.\n") _ refl
     (goes_on (command (Interpretation (by_name 2 []))) _ (refl, refl) refl
     (goes_on (command (Formulas (codes "sos"))) _ (refl, refl) refl
-    (goes_on (within (term (constant "p"))) _ (listed.Formulas Assumptions, refl, read (listed.Formulas Assumptions) 0 (λ e. cc) refl) refl
+    (goes_on (within (term (constant "p"))) _ (listed.Formulas Assumptions, refl, read (listed.Formulas Assumptions) (λ e. cc) 0 (λ e. cc) refl) refl
     (goes_on (within closing) _ (listed.Formulas Assumptions, refl, refl) refl
     (ends refl refl)))))
 
@@ -106,4 +106,4 @@ unfolding start_of is_blank is_ordinary is_special named_variable
 returns-clause-not_read _ =
     says _ (codes "formulas(sos).\np(a) q.\nend_of_list.\n") _ refl
     (goes_on (command (Formulas (codes "sos"))) _ (refl, refl) refl
-    (bad 4 (fault_of_term (listed.Formulas Assumptions) standard_rows refl (lexemes_of_text "p(a) q.") (λ e. cc) (Bad 4) (bad_at MOST_LEVELS standard standard_lawful (table_names standard_rows) (lexemes_of_text "p(a) q.") 4 _ _ (lit≤ tt) refl refl))))
+    (bad 4 (fault_of_term (listed.Formulas Assumptions) (λ e. cc) standard_rows refl (lexemes_of_text "p(a) q.") (λ e. cc) (Bad 4) (bad_at MOST_LEVELS standard standard_lawful (table_names standard_rows) (lexemes_of_text "p(a) q.") 4 _ _ (lit≤ tt) refl refl))))

@@ -1,5 +1,6 @@
 use Rattle.std.proofs.Common.{◌≡◌, inl, inr, ℕ, ◌+◌, ◌-◌, ◌<◌, List, length, drop, sym, subst, arith}
 use Rattle.std.proofs.lemmas.List.{length-drop}
+use Rattle.std.proofs.lemmas.Result.{err_from_is_err_and}
 use Rattle.std.specs.Prelude.{slice_range}
 use Rattle.ladr_formulas.specs.declared.styles.Mode.TheVariants.{Prover}
 use Rattle.ladr_problem.specs.File.{Says}
@@ -39,34 +40,37 @@ with_blocks bytes start end f bs h framed says blocks =
 pub returns-in-Err-clause-refused : goal.returns-in-Err-clause-refused
 returns-in-Err-clause-refused c = not_framed c.args.bytes.now c.in-Err.byte c.refuse_byte.result c.in-Err.ensures.unframed c.refuse_byte.ensures
 
-pub returns-in-Err-find_blocks-clause-refused : goal.returns-in-Err-find_blocks-clause-refused
-returns-in-Err-find_blocks-clause-refused c = memory
+pub returns-in_err-blocks-clause-refused : goal.returns-in_err-blocks-clause-refused
+returns-in_err-blocks-clause-refused c = let p = err_from_is_err_and c.from_residual.result c.from_residual.ensures.1 in rw (p.1, p.2) memory
 
-pub returns-in-Err-read_problem-clause-refused : goal.returns-in-Err-read_problem-clause-refused
-returns-in-Err-read_problem-clause-refused c = problem c.in-Ok.ensures.framed c.in-Err-read_problem.ensures.refused
+pub returns-in_err-file-clause-refused : goal.returns-in_err-file-clause-refused
+returns-in_err-file-clause-refused c =
+    let p = err_from_is_err_and c.from_residual-in_err-file.result c.from_residual-in_err-file.ensures.1 in
+    rw (p.1, p.2) (problem c.in-Ok.ensures.framed c.in_err-file.ensures.refused)
 
-pub returns-in-Err-without_proofs-clause-refused : goal.returns-in-Err-without_proofs-clause-refused
-returns-in-Err-without_proofs-clause-refused c = memory
+pub returns-in_err-read-clause-refused : goal.returns-in_err-read-clause-refused
+returns-in_err-read-clause-refused c = let p = err_from_is_err_and c.from_residual-in_err-read.result c.from_residual-in_err-read.ensures.1 in rw (p.1, p.2) memory
 
 pub read_all-requires : goal.read_all-requires
 read_all-requires c =
-    let found = c.in-Ok-find_blocks.ensures in
+    let found = c.in_ok-blocks.ensures in
     (found.0, subst (λ (rs : List BlockRead). AreBlocksRead found.0 rs) (sym c.deref.ensures.value) found.2)
 
-pub returns-in-Ok-read_all-clause-read : goal.returns-in-Ok-read_all-clause-read
-returns-in-Ok-read_all-clause-read c =
+pub returns-in_err-read_all-clause-refused : goal.returns-in_err-read_all-clause-refused
+returns-in_err-read_all-clause-refused c =
     let at = c.in-Ok.frame in
-    let found = c.in-Ok-find_blocks.ensures in
-    let f = c.in-Ok-read_problem.file in
-    c.in-Ok-read_all.ensures.read f found.0 c.in-Ok-without_proofs.ensures
-    (with_blocks c.args.bytes.now at.start at.end f found.0 c.in-Ok.ensures.within.1 c.in-Ok.ensures.framed c.in-Ok-read_problem.ensures.read found.1)
-    (subst (λ (rs : List BlockRead). AreBlocksRead found.0 rs) (sym c.deref.ensures.value) found.2)
+    let found = c.in_ok-blocks.ensures in
+    let f = c.in_ok-file.file in
+    let p = err_from_is_err_and c.from_residual-in_err-read_all.result c.from_residual-in_err-read_all.ensures.1 in
+    rw (p.1, p.2) (c.in_err-read_all.ensures.refused f found.0 c.in_ok-read.ensures
+    (with_blocks c.args.bytes.now at.start at.end f found.0 c.in-Ok.ensures.within.1 c.in-Ok.ensures.framed c.in_ok-file.ensures.read found.1)
+    (subst (λ (rs : List BlockRead). AreBlocksRead found.0 rs) (sym c.deref.ensures.value) found.2))
 
-pub returns-clause-refused : goal.returns-clause-refused
-returns-clause-refused c =
+pub returns-clause-read : goal.returns-clause-read
+returns-clause-read c =
     let at = c.in-Ok.frame in
-    let found = c.in-Ok-find_blocks.ensures in
-    let f = c.in-Ok-read_problem.file in
-    c.in-Err-read_all.ensures.refused f found.0 c.in-Ok-without_proofs.ensures
-    (with_blocks c.args.bytes.now at.start at.end f found.0 c.in-Ok.ensures.within.1 c.in-Ok.ensures.framed c.in-Ok-read_problem.ensures.read found.1)
+    let found = c.in_ok-blocks.ensures in
+    let f = c.in_ok-file.file in
+    c.in_ok-read_all.ensures.read f found.0 c.in_ok-read.ensures
+    (with_blocks c.args.bytes.now at.start at.end f found.0 c.in-Ok.ensures.within.1 c.in-Ok.ensures.framed c.in_ok-file.ensures.read found.1)
     (subst (λ (rs : List BlockRead). AreBlocksRead found.0 rs) (sym c.deref.ensures.value) found.2)
