@@ -11,7 +11,7 @@ use Rattle.mace_ground.specs.declared.blocks.Block as code
 use Rattle.mace_cells.specs.Numbers.{above_each}
 use Rattle.cell_choice.specs.Shapes.{shape_of, block_shapes, cell_shapes}
 use Rattle.fol_core.specs.declared.symbols.Kind.TheVariants.{Function}
-use Rattle.cell_choice.specs.declared.shape.Shape.{Shape}
+use Rattle.cell_choice.specs.declared.shape.CellShape.{CellShape}
 
 pub many_in_block : (n : ℕ) (b : Block) → length (block_shapes n b) ≡ n ^ b.arity
 many_in_block n b = length-map-range_with_len (λ k. record { kind = b.kind; above = above_each (digits n b.arity k) }) 0 (n ^ b.arity)
@@ -21,7 +21,7 @@ shapes_many n [] = refl
 shapes_many n (b ∷ bs) = length-append (block_shapes n b) (cell_shapes n bs) ∙ ap (λ (k : ℕ). k + length (cell_shapes n bs)) (many_in_block n b) ∙ ap (λ (k : ℕ). n ^ b.arity + k) (shapes_many n bs)
 
 -- each cell's shape stands at its number
-pub shape_at : (n : ℕ) (bs : List Block) (k : ℕ) (d : Shape) → k < cells_in n bs → get_or (cell_shapes n bs) k d ≡ shape_of (cell_at n bs k)
+pub shape_at : (n : ℕ) (bs : List Block) (k : ℕ) (d : CellShape) → k < cells_in n bs → get_or (cell_shapes n bs) k d ≡ shape_of (cell_at n bs k)
 shape_at n [] k d h = absurd (omega (arith, h))
 shape_at n (b ∷ bs) k d h = elim (cases_lt k (n ^ b.arity)) [
   | inl here ↦
@@ -34,14 +34,14 @@ shape_at n (b ∷ bs) k d h = elim (cases_lt k (n ^ b.arity)) [
 ]
 
 -- the index that some shapes give a cell by its number, 0 where there is none
-abbrev pub above_at : List Shape → ℕ → ℕ
+abbrev pub above_at : List CellShape → ℕ → ℕ
 above_at shapes k = (get_or shapes k (record { kind = Function; above = 0 })).above
 
 pub index_is : (n : ℕ) (bs : List Block) (k : ℕ) → k < cells_in n bs → above_at (cell_shapes n bs) k ≡ above_each (cell_at n bs k).arguments
-index_is n bs k h = ap (λ (s : Shape). s.above) (shape_at n bs k _ h)
+index_is n bs k h = ap (λ (s : CellShape). s.above) (shape_at n bs k _ h)
 
 -- one block's cells after the other
-pub shapes_next : (n : ℕ) (items : List code.Block) (i : ℕ) (b : code.Block) (done : List Shape) → i < length items → b ≡ get_or items i b
+pub shapes_next : (n : ℕ) (items : List code.Block) (i : ℕ) (b : code.Block) (done : List CellShape) → i < length items → b ≡ get_or items i b
     → (cells_in n (map block_of (drop i items)) ≡ n ^ b.arity + cells_in n (map block_of (drop (i + 1) items)))
     × ((done ++ block_shapes n (block_of b)) ++ cell_shapes n (map block_of (drop (i + 1) items)) ≡ done ++ cell_shapes n (map block_of (drop i items)))
 shapes_next n items i b done h is =
@@ -51,15 +51,15 @@ shapes_next n items i b done h is =
       append_assoc done (block_shapes n (block_of b)) (cell_shapes n (map block_of (drop (i + 1) items))) ∙ sym (ap (λ (cs : List code.Block). done ++ cell_shapes n (map block_of cs)) step),
     )
 
-pub shapes_step : (n m cells : ℕ) (items : List code.Block) (i : ℕ) (d : code.Block) (done new all : List Shape) → i < length items → m ≡ n → new ≡ done ++ block_shapes m (block_of (get_or items i d))
+pub shapes_step : (n m cells : ℕ) (items : List code.Block) (i : ℕ) (d : code.Block) (done new all : List CellShape) → i < length items → m ≡ n → new ≡ done ++ block_shapes m (block_of (get_or items i d))
     → done ++ cell_shapes n (map block_of (drop i items)) ≡ all → length done + cells_in n (map block_of (drop i items)) ≡ cells
     → (new ++ cell_shapes n (map block_of (drop (i + 1) items)) ≡ all) × (length new + cells_in n (map block_of (drop (i + 1) items)) ≡ cells)
 shapes_step n m cells items i d done new all h same was whole room =
     let is : new ≡ done ++ block_shapes n (block_of (get_or items i d)) = was ∙ ap (λ (k : ℕ). done ++ block_shapes k (block_of (get_or items i d))) same in
     let b = get_or items i d in
     let next = shapes_next n items i b done h (get_or_default items i d b h) in
-    let many : length new ≡ length done + n ^ b.arity = ap (λ (xs : List Shape). length xs) is ∙ length-append done (block_shapes n (block_of b)) ∙ ap (λ (k : ℕ). length done + k) (many_in_block n (block_of b)) in
-    (ap (λ (xs : List Shape). xs ++ cell_shapes n (map block_of (drop (i + 1) items))) is ∙ next.1 ∙ whole, omega (arith, many, next.0, room))
+    let many : length new ≡ length done + n ^ b.arity = ap (λ (xs : List CellShape). length xs) is ∙ length-append done (block_shapes n (block_of b)) ∙ ap (λ (k : ℕ). length done + k) (many_in_block n (block_of b)) in
+    (ap (λ (xs : List CellShape). xs ++ cell_shapes n (map block_of (drop (i + 1) items))) is ∙ next.1 ∙ whole, omega (arith, many, next.0, room))
 
 -- one argument after the other
 pub digits_next : (n left k above : ℕ) → 0 < n → k < n ^ suc left

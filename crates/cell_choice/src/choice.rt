@@ -4,7 +4,7 @@ ghost use Rattle.std.specs.List.{slice_index_or};
 ghost use Rattle.cell_choice.specs.Choosing.{IsHighest, IsLimit, IsPicked, index_by, index_up_to, is_higher, is_up_to};
 ghost use Rattle.mace_cells.specs.Trails.{IsBlank, score};
 
-use crate::shape::Shape;
+use crate::shape::CellShape;
 use mace_cells::{Candidates, Trail};
 
 /// The cell to be chosen by how many values are crossed off each, where the trail counts that; nothing where each has a value.
@@ -17,7 +17,7 @@ pub fn pick(trail: &Trail, candidates: Candidates, used: u32) -> Option<u32>
 }
 
 /// Up to which index candidates are; nothing where each cell has a value.
-pub fn limit(trail: &Trail, shapes: &[Shape], candidates: Candidates, used: u32) -> Option<u8>
+pub fn limit(trail: &Trail, shapes: &[CellShape], candidates: Candidates, used: u32) -> Option<u8>
     requires many { length shapes.now ≡ trail.now.many }
     requires indices { map (λ s. s.above) shapes.now ≡ trail.now.ranking.indices }
     ensures { MatchOption result ((k : ℕ) → IsBlank trail.now k → ⊥)
@@ -29,7 +29,7 @@ pub fn limit(trail: &Trail, shapes: &[Shape], candidates: Candidates, used: u32)
 }
 
 /// Whether a cell has no value, and an index up to the limit.
-pub fn is_up_to(trail: &Trail, shapes: &[Shape], limit: u8, cell: u32) -> bool
+pub fn is_up_to(trail: &Trail, shapes: &[CellShape], limit: u8, cell: u32) -> bool
     requires cell { cell < trail.now.many }
     requires many { length shapes.now ≡ trail.now.many }
     requires indices { map (λ s. s.above) shapes.now ≡ trail.now.ranking.indices }
@@ -51,7 +51,7 @@ fn is_higher(scores: &[u64], cell: u32, other: Option<u32>) -> bool
 }
 
 /// The first cell of the greatest score among those without a value that have an index up to the limit.
-pub fn highest(trail: &Trail, shapes: &[Shape], limit: u8, scores: &[u64]) -> Option<u32>
+pub fn highest(trail: &Trail, shapes: &[CellShape], limit: u8, scores: &[u64]) -> Option<u32>
     requires many { length shapes.now ≡ trail.now.many }
     requires indices { map (λ s. s.above) shapes.now ≡ trail.now.ranking.indices }
     requires scores { length scores.now ≡ trail.now.many }

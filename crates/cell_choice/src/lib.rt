@@ -16,5 +16,5 @@ mod tried;
 
 pub use choice::{highest, is_up_to, limit, pick};
 pub use laws::least_numbers;
-pub use shape::{Shape, indices, shapes};
+pub use shape::{CellShape, indices, shapes};
 pub use tried::{above_decision, greatest_tried};

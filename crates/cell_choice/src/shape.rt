@@ -11,13 +11,13 @@ use std::alloc::{AllocError, Global};
 
 /// The kind of a cell's symbol, and the least number above the cell's arguments.
 #[derive(Clone, Copy)]
-pub struct Shape {
+pub struct CellShape {
     pub kind: Kind,
     pub above: u8,
 }
 
 /// The shapes of all cells.
-pub fn shapes(alloc: Global, ground: &Ground) -> Result<Vec<Shape>, AllocError>
+pub fn shapes(alloc: Global, ground: &Ground) -> Result<Vec<CellShape>, AllocError>
     requires some { 0 < ground.now.size }
     requires small { ground.now.size ≤ 255 }
     ensures { IfOk result (λ v. v.items ≡ cell_shapes ground.now.size ground.now.blocks) }
@@ -32,7 +32,7 @@ pub fn shapes(alloc: Global, ground: &Ground) -> Result<Vec<Shape>, AllocError>
 }
 
 /// Their indices.
-pub fn indices(alloc: Global, shapes: &[Shape]) -> Result<Vec<u8>, AllocError>
+pub fn indices(alloc: Global, shapes: &[CellShape]) -> Result<Vec<u8>, AllocError>
     ensures { IfOk result (λ v. v.items ≡ map (λ s. s.above) shapes.now) }
 {
     let mut indices = Vec::new(alloc);
@@ -44,7 +44,7 @@ pub fn indices(alloc: Global, shapes: &[Shape]) -> Result<Vec<u8>, AllocError>
 
 // Adds those of the cells of a block, which make no more than so many.
 fn add_shapes(
-    shapes: &mut Vec<Shape>,
+    shapes: &mut Vec<CellShape>,
     size: u32,
     block: Block,
     cells: u32,
@@ -60,7 +60,7 @@ fn add_shapes(
     let kind = block.kind;
     for place in 0..many {
         let above = above_digits(size, block.arity, many, place);
-        shapes.push(Shape { kind, above })?;
+        shapes.push(CellShape { kind, above })?;
     }
     Ok(())
 }

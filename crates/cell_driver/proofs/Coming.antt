@@ -11,8 +11,8 @@ use Rattle.mace_cells.specs.Readings.{ReadsOn}
 use Rattle.mace_cells.specs.Stacked.{rest_of}
 use Rattle.mace_cells.specs.World.{World, cell_of, many_cells}
 use Rattle.mace_cells.specs.declared.frame.Frame.{Frame}
-use Rattle.mace_search.specs.declared.answer.Answer.{Answer}
-use Rattle.mace_search.specs.declared.answer.Answer.TheVariants.{Model, Exhausted, MaxSeconds}
+use Rattle.mace_search.specs.declared.answer.SearchAnswer.{SearchAnswer}
+use Rattle.mace_search.specs.declared.answer.SearchAnswer.TheVariants.{Model, Exhausted, MaxSeconds}
 use Rattle.plain_search.proofs.Coming.{search_goes_on}
 use Rattle.plain_search.specs.Coming.{Event, choice, ahead, closed_behind, done_behind, done_below, events_within, to_come, tries, IsFirst, Stands}
 use Rattle.mace_ground.specs.Cells.{Cell}
@@ -149,7 +149,7 @@ module _ (w : World) (stop : Option ℕ) (live : Bool) (cs : List Choice) (t : T
       )
 
 -- what comes behind a way back
-pub come_behind : (w : World) (stop : Option ℕ) (live live' : Bool) (cs cs' cs'' : List Choice) (answer : Answer) (t u : Times) → to_come w live cs ≡ to_come w live' cs' → ComesInTime w stop live' cs' answer cs'' t u → ComesInTime w stop live cs answer cs'' t u
+pub come_behind : (w : World) (stop : Option ℕ) (live live' : Bool) (cs cs' cs'' : List Choice) (answer : SearchAnswer) (t u : Times) → to_come w live cs ≡ to_come w live' cs' → ComesInTime w stop live' cs' answer cs'' t u → ComesInTime w stop live cs answer cs'' t u
 come_behind w stop live live' cs cs' cs'' Model t u same h = (h.0, ((h.1.0.0, (h.1.0.1.0, same ∙ h.1.0.1.1)), h.1.1))
 come_behind w stop live live' cs cs' cs'' Exhausted t u same h = (h.0, (same ∙ h.1.0, h.1.1))
 come_behind w stop live live' cs cs' cs'' (MaxSeconds last) t u same h = (h.0, ((h.1.0.0, (h.1.0.1.0, same ∙ h.1.0.1.1)), h.1.1))
@@ -176,7 +176,7 @@ module _ (w w' : World) (same : w' ≡ w) (stop : Option ℕ) (live : Bool) (fs 
   goes_too_late ds k last v decided stands before reads =
       come_too_late w stop live (choices_of w fs) t ds (choices_of w gs) k last u v (decided ∙ ap (λ (x : World). decisions_of x gs) same) (subst (λ (x : World). StandsAs x ds (Choose k)) same stands) before reads
 
-pub goes_behind : (w w' : World) (stop : Option ℕ) (live live' : Bool) (fs gs hs : List Frame) (answer : Answer) (t u : Times) → w' ≡ w → to_come w live (choices_of w fs) ≡ to_come w live' (choices_of w gs) → ComesInTime w' stop live' (choices_of w' gs) answer (choices_of w' hs) t u
+pub goes_behind : (w w' : World) (stop : Option ℕ) (live live' : Bool) (fs gs hs : List Frame) (answer : SearchAnswer) (t u : Times) → w' ≡ w → to_come w live (choices_of w fs) ≡ to_come w live' (choices_of w gs) → ComesInTime w' stop live' (choices_of w' gs) answer (choices_of w' hs) t u
     → ComesInTime w stop live (choices_of w fs) answer (choices_of w hs) t u
 goes_behind w w' stop live live' fs gs hs answer t u same first second =
     come_behind w stop live live' (choices_of w fs) (choices_of w gs) (choices_of w hs) answer t u first (subst (λ (x : World). ComesInTime x stop live' (choices_of x gs) answer (choices_of x hs) t u) same second)

@@ -4,15 +4,15 @@ use Rattle.ladr_io.specs.Times.{Times}
 use Rattle.mace_cells.specs.Choices.{Choice, decisions}
 use Rattle.mace_cells.specs.Readings.{ReadsOn}
 use Rattle.mace_cells.specs.World.{World}
-use Rattle.mace_search.specs.declared.answer.Answer.{Answer}
-use Rattle.mace_search.specs.declared.answer.Answer.TheVariants.{Model, Exhausted, MaxSeconds}
+use Rattle.mace_search.specs.declared.answer.SearchAnswer.{SearchAnswer}
+use Rattle.mace_search.specs.declared.answer.SearchAnswer.TheVariants.{Model, Exhausted, MaxSeconds}
 use Rattle.plain_search.specs.Coming.{Event, choice, leaf, closed_behind, leaves_among, to_come}
 use Rattle.plain_search.specs.Lefts.{ValuesLeft}
 use Rattle.plain_search.specs.Trying.{leaves}
 
 -- Of what is to come so many choices are passed over: up to a leaf, which is the table behind the
 -- choices that stand then, and the rest remains; up to the end; or to one more choice.
-abbrev pub ComesTo : World → Bool → List Choice → Answer → List Choice → ℕ → Type 0
+abbrev pub ComesTo : World → Bool → List Choice → SearchAnswer → List Choice → ℕ → Type 0
 ComesTo w live cs Model cs' n =
     (p : ValuesLeft)
     × ((closed_behind w (decisions cs') ≡ Some p)
@@ -23,12 +23,12 @@ ComesTo w live cs (MaxSeconds last) cs' n =
     × ((to_come w true cs' ≡ choice ∷ es) × (to_come w live cs ≡ replicate n choice ++ choice ∷ es))
 
 -- the clock is read once for each choice, and once more where the time is over
-abbrev pub readings : Answer → ℕ → ℕ
+abbrev pub readings : SearchAnswer → ℕ → ℕ
 readings Model n = n
 readings Exhausted n = n
 readings (MaxSeconds last) n = suc n
 
-abbrev pub ComesInTime : World → Option ℕ → Bool → List Choice → Answer → List Choice → Times →
+abbrev pub ComesInTime : World → Option ℕ → Bool → List Choice → SearchAnswer → List Choice → Times →
     Times → Type 0
 ComesInTime w stop live cs answer cs' t t' =
     (n : ℕ) × (ComesTo w live cs answer cs' n × ReadsOn stop (readings answer n) t t')

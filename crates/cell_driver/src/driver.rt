@@ -9,14 +9,14 @@ ghost use Rattle.mace_cells.specs.Searches.{HasFound, IsTimed};
 ghost use Rattle.mace_cells.specs.Stacked.{rest_of};
 ghost use Rattle.mace_cells.specs.Standing.{IsStanding, place, beyond};
 ghost use Rattle.mace_cells.specs.World.{cell_of, many_cells, IsRefuted};
-ghost use Rattle.mace_search.specs.declared.answer.Answer.TheVariants.{Model};
+ghost use Rattle.mace_search.specs.declared.answer.SearchAnswer.TheVariants.{Model};
 ghost use Rattle.ladr_io.specs.Watch.{IsEarly};
 
 use crate::board::{Board, Status};
 use crate::watch::late;
 use ladr_io::Clock;
 use mace_cells::{Frame, Stack};
-use mace_search::Answer;
+use mace_search::SearchAnswer;
 
 // Gives the latest choice its next value, or takes it back where it has none.
 fn revise<B: Board>(board: &mut B, frames: &mut Stack<Frame>, frame: Frame) -> bool
@@ -154,7 +154,7 @@ fn descend<B: Board, C: Clock>(
     frames: &mut Stack<Frame>,
     stop: Option<u128>,
     clock: &mut C,
-) -> Answer
+) -> SearchAnswer
     requires standing { IsStanding (B.world board.old) (B.decided board.old) frames.old }
     requires early { IsEarly stop (C.times clock.old) }
     ensures world { B.world board.new ≡ B.world board.old }
@@ -170,18 +170,18 @@ fn descend<B: Board, C: Clock>(
 {
     loop {
         match board.status() {
-            Status::Settled => return Answer::Model,
+            Status::Settled => return SearchAnswer::Model,
             Status::Refuted => {
                 if !back(board, frames) {
-                    return Answer::Exhausted;
+                    return SearchAnswer::Exhausted;
                 }
             }
             Status::Choose(cell) => {
                 if let Some(last) = late(stop, clock) {
-                    return Answer::MaxSeconds(last);
+                    return SearchAnswer::MaxSeconds(last);
                 }
                 if !step(board, frames, cell) {
-                    return Answer::Exhausted;
+                    return SearchAnswer::Exhausted;
                 }
             }
         }
@@ -211,7 +211,7 @@ pub fn next_model<B: Board, C: Clock>(
     live: bool,
     stop: Option<u128>,
     clock: &mut C,
-) -> Answer
+) -> SearchAnswer
     requires standing { IsStanding (B.world board.old) (B.decided board.old) frames.old }
     requires early { IsEarly stop (C.times clock.old) }
     ensures world { B.world board.new ≡ B.world board.old }
@@ -228,6 +228,6 @@ pub fn next_model<B: Board, C: Clock>(
     if begin(board, frames, live) {
         descend(board, frames, stop, clock)
     } else {
-        Answer::Exhausted
+        SearchAnswer::Exhausted
     }
 }

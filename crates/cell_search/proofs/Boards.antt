@@ -5,7 +5,7 @@ use Rattle.mace_cells.proofs.Steps.{carried_itself}
 use Rattle.std.proofs.lemmas.List.{length-map}
 use Rattle.cell_choice.proofs.Shaping.{shapes_many}
 use Rattle.cell_choice.specs.Shapes.{cell_shapes, ranking_of}
-use Rattle.cell_choice.specs.declared.shape.Shape.{Shape}
+use Rattle.cell_choice.specs.declared.shape.CellShape.{CellShape}
 use Rattle.mace_cells.specs.Choices.{Decision}
 use Rattle.mace_cells.specs.Trails.{Partial, partial, counts_crossed}
 use Rattle.mace_cells.specs.World.{World, IsBound, cell_of, many_cells}
@@ -30,11 +30,11 @@ board_at_first w some = record {
   once = tt;
 }
 
-pub first_table : (w : World) (shapes : List Shape) (is : List ℕ) (t : Partial) (stride : ℕ) (counts : Bool) → shapes ≡ cell_shapes w.size w.blocks → is ≡ map (λ s. s.above) shapes → stride ≡ max w.size 2 → counts ≡ counts_crossed w.way.measure
+pub first_table : (w : World) (shapes : List CellShape) (is : List ℕ) (t : Partial) (stride : ℕ) (counts : Bool) → shapes ≡ cell_shapes w.size w.blocks → is ≡ map (λ s. s.above) shapes → stride ≡ max w.size 2 → counts ≡ counts_crossed w.way.measure
     → t ≡ partial (length is) stride (record { indices = is; counts = counts }) [] [] → t ≡ partial (many_cells w) (max w.size 2) (ranking_of w) [] []
 first_table w shapes is t stride counts same above greatest counted made =
     let ranks : List ℕ = map (λ s. s.above) (cell_shapes w.size w.blocks) in
-    let indices : is ≡ ranks = above ∙ ap (λ (ss : List Shape). map (λ s. s.above) ss) same in
+    let indices : is ≡ ranks = above ∙ ap (λ (ss : List CellShape). map (λ s. s.above) ss) same in
     let many : length ranks ≡ many_cells w = length-map (cell_shapes w.size w.blocks) (λ s. s.above) ∙ shapes_many w.size w.blocks in
     made ∙ ap (λ (xs : List ℕ). partial (length xs) stride (record { indices = xs; counts = counts }) [] []) indices ∙ ap (λ (n : ℕ). partial n stride (record { indices = ranks; counts = counts }) [] []) many
     ∙ ap (λ (n : ℕ). partial (many_cells w) n (record { indices = ranks; counts = counts }) [] []) greatest ∙ ap (λ (b : Bool). partial (many_cells w) (max w.size 2) (record { indices = ranks; counts = b }) [] []) counted

@@ -8,8 +8,8 @@ use Rattle.mace_cells.specs.Searches.{HasFound, IsTimed}
 use Rattle.mace_cells.specs.Trails.{Partial}
 use Rattle.mace_cells.specs.World.{World}
 use Rattle.mace_cells.specs.declared.frame.Frame.{Frame}
-use Rattle.mace_search.specs.declared.answer.Answer.{Answer}
-use Rattle.mace_search.specs.declared.answer.Answer.TheVariants.{Model, Exhausted, MaxSeconds}
+use Rattle.mace_search.specs.declared.answer.SearchAnswer.{SearchAnswer}
+use Rattle.mace_search.specs.declared.answer.SearchAnswer.TheVariants.{Model, Exhausted, MaxSeconds}
 use Rattle.cell_driver.specs.Comings.{ComesInTime}
 use Rattle.cell_search.specs.Courses.{Course, AnswersByCells, live_in, late_in, follows_after}
 use Rattle.cell_search.specs.Finites.{finite_of, meaning_by_cells, AreTablesFor}
@@ -19,14 +19,14 @@ abbrev course : World → Bool → List Frame → Partial → Option ℕ → Opt
 course w live fs t stop late = record { world = w; live = live; choices = choices_of w fs; table = t; tables = finite_of w t.entries; stop = stop; late = late }
 
 module _ (w : World) (p p' : Partial) (fs fs' : List Frame) (live : Bool) (stop late : Option ℕ) (t : Times) where
-  at_once : (answer : Answer) (n : ℕ) → HasFound w live (choices_of w fs) (meaning_by_cells w p'.entries) answer (choices_of w fs') → (answer ≡ Model → AreTablesFor w (finite_of w p'.entries)) → IsTimed stop answer t
+  at_once : (answer : SearchAnswer) (n : ℕ) → HasFound w live (choices_of w fs) (meaning_by_cells w p'.entries) answer (choices_of w fs') → (answer ≡ Model → AreTablesFor w (finite_of w p'.entries)) → IsTimed stop answer t
       → AnswersByCells (course w live fs p stop late) (course w (live_in (follows_after answer n)) fs' p' stop (late_in (follows_after answer n))) answer t
   at_once Model zero h whole timed = (found w live (choices_of w fs) (choices_of w fs') (meaning_by_cells w p'.entries) h.0 h.1, whole refl, refl, refl, timed)
   at_once Model (suc n) h whole timed = (found w live (choices_of w fs) (choices_of w fs') (meaning_by_cells w p'.entries) h.0 h.1, whole refl, refl, refl, timed)
   at_once Exhausted n h whole timed = (ended w live (choices_of w fs) h.0, refl, h.1, refl, timed)
   at_once (MaxSeconds last) n h whole timed = (h, refl, refl, timed)
 
-pub gives_by : (w w' : World) (p p' : Partial) (fs fs' : List Frame) (live old : Bool) (stop late : Option ℕ) (t : Times) (answer : Answer) (n : ℕ) (state : State) → w' ≡ w → old ≡ live → state ≡ follows_after answer n
+pub gives_by : (w w' : World) (p p' : Partial) (fs fs' : List Frame) (live old : Bool) (stop late : Option ℕ) (t : Times) (answer : SearchAnswer) (n : ℕ) (state : State) → w' ≡ w → old ≡ live → state ≡ follows_after answer n
     → HasFound w live (choices_of w fs) (meaning_by_cells w' p'.entries) answer (choices_of w fs') → (answer ≡ Model → AreTablesFor w' (finite_of w' p'.entries)) → IsTimed stop answer t
     → AnswersByCells (course w old fs p stop late) (course w' (live_in state) fs' p' stop (late_in state)) answer t
 gives_by w w' p p' fs fs' live old stop late t answer n state worlds lives after h whole timed =
@@ -37,7 +37,7 @@ gives_by w w' p p' fs fs' live old stop late t answer n state worlds lives after
     (subst (λ (v : World). answer ≡ Model → AreTablesFor v (finite_of v p'.entries)) worlds whole) timed)))
 
 -- what came is what the code says
-pub comes_by : (w w' : World) (fs fs' : List Frame) (live old : Bool) (stop : Option ℕ) (t t' : Times) (answer : Answer) → w' ≡ w → old ≡ live
+pub comes_by : (w w' : World) (fs fs' : List Frame) (live old : Bool) (stop : Option ℕ) (t t' : Times) (answer : SearchAnswer) → w' ≡ w → old ≡ live
     → ComesInTime w stop live (choices_of w fs) answer (choices_of w fs') t t' → ComesInTime w stop old (choices_of w fs) answer (choices_of w' fs') t t'
 comes_by w w' fs fs' live old stop t t' answer worlds lives h =
     subst (λ (b : Bool). ComesInTime w stop b (choices_of w fs) answer (choices_of w' fs') t t') (sym lives)

@@ -7,7 +7,7 @@ use Rattle.cell_choice.proofs.Shaping.{index_is, shapes_many}
 use Rattle.cell_choice.specs.Choosing.{IsCandidate, IsHighest, IsLimit, IsPicked, index_by, is_up_to}
 use Rattle.cell_choice.specs.Shapes.{cell_shapes, index_in}
 use Rattle.fol_core.specs.declared.symbols.Kind.TheVariants.{Function}
-use Rattle.cell_choice.specs.declared.shape.Shape.{Shape}
+use Rattle.cell_choice.specs.declared.shape.CellShape.{CellShape}
 use Rattle.mace_cells.specs.Choices.{Decision}
 use Rattle.mace_cells.specs.Numbers.{above_used}
 use Rattle.mace_cells.specs.Trails.{Partial, Ranking, IsBlank, score, value_in}
@@ -18,8 +18,8 @@ use Rattle.cell_search.specs.Losses.{IsBoard}
 use Rattle.cell_search.specs.Scores.{AreScores, is_ranked}
 use Rattle.cell_search.specs.Searchable.{HasAllCells}
 
-pub many_shapes : (w : World) (shapes : List Shape) → shapes ≡ cell_shapes w.size w.blocks → length shapes ≡ many_cells w
-many_shapes w shapes is = ap (λ (ss : List Shape). length ss) is ∙ shapes_many w.size w.blocks
+pub many_shapes : (w : World) (shapes : List CellShape) → shapes ≡ cell_shapes w.size w.blocks → length shapes ≡ many_cells w
+many_shapes w shapes is = ap (λ (ss : List CellShape). length ss) is ∙ shapes_many w.size w.blocks
 
 module _ (w : World) (t : Partial) (board : IsBoard w t) where
   same_index : (k : ℕ) → k < t.many → index_by t k ≡ index_in w k

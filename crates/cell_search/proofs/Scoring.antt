@@ -6,8 +6,8 @@ use Rattle.std.proofs.lemmas.List.FromFn.{length-range_with_len}
 use Rattle.std.proofs.lemmas.Nat.{div-add-mod', div-mul-add}
 use Rattle.mace_cells.specs.Trails.{Partial, value_in, is_struck_off, crossings_of, counts_crossed, score}
 use Rattle.mace_cells.specs.World.{World, cell_of, many_cells}
-use Rattle.mace_cells.specs.declared.way.Measure.{Measure}
-use Rattle.mace_cells.specs.declared.way.Measure.TheVariants.{First, MostOccurrences, MostAssigned, MostContradicted, MostCrossed}
+use Rattle.mace_cells.specs.declared.way.CellMeasure.{CellMeasure}
+use Rattle.mace_cells.specs.declared.way.CellMeasure.TheVariants.{First, MostOccurrences, MostAssigned, MostContradicted, MostCrossed}
 use Rattle.model_tables.specs.Size.{bound_of}
 use Rattle.plain_search.proofs.Rising.{bounded_below, rising_filter}
 use Rattle.plain_search.specs.Closing.{kept}
@@ -97,7 +97,7 @@ module _ (s k end : ℕ) (some : 0 < s) (fits : end ≤ s) where
           omega (arith, before, same)
 
 -- what a trail counts is the score, where that is counted
-pub is_scored : (w : World) (t : Partial) (k : ℕ) → HasAllCells w → t.stride ≡ max w.size 2 → AreCrossedOnce w t.stride t.crossings → k < many_cells w → value_in t.entries k ≡ None → (m : Measure) → is_ranked m ≡ true
+pub is_scored : (w : World) (t : Partial) (k : ℕ) → HasAllCells w → t.stride ≡ max w.size 2 → AreCrossedOnce w t.stride t.crossings → k < many_cells w → value_in t.entries k ≡ None → (m : CellMeasure) → is_ranked m ≡ true
     → score t (counts_crossed m) k ≡ plain.score m w (left_in w t) (cell_of w k)
 is_scored w t k cells stride once few blank First h = refl
 is_scored w t k cells stride once few blank MostOccurrences h = absurd (cc)

@@ -5,7 +5,7 @@ use Rattle.cell_choice.proofs.Exchanging.{least_numbers_suffice}
 use Rattle.cell_choice.proofs.Shaping.{shape_at}
 use Rattle.cell_choice.specs.Numbers.{uses_by}
 use Rattle.cell_choice.specs.Shapes.{shape_of, cell_shapes}
-use Rattle.cell_choice.specs.declared.shape.Shape.{Shape}
+use Rattle.cell_choice.specs.declared.shape.CellShape.{CellShape}
 use Rattle.fol_core.specs.declared.symbols.Kind.{Kind}
 use Rattle.fol_core.specs.declared.symbols.Kind.TheVariants.{Function, Relation}
 use Rattle.mace_cells.specs.Choices.{Decision}
@@ -64,9 +64,9 @@ uses_more w t t' k v mark above used new us us' old is arguments so_far here tab
     is ∙ ap₂ (λ (x : ℕ) (xs : List ℕ). x ∷ xs) (here ∙ ap₂ (λ (p q : ℕ). max (max (suc v) p) q) arguments so_far) old ∙ ap (λ (s : Partial). uses_by w.fixed (decided_in w s.entries)) (sym table)
 
 -- the shape of a cell, by which its greatest value is told
-pub shape_read : (w : World) (shapes : List Shape) (k : ℕ) (s : Shape) → shapes ≡ cell_shapes w.size w.blocks → k < many_cells w → s ≡ get_or shapes k s → s ≡ shape_of (cell_of w k)
-shape_read w shapes k s is within here = here ∙ ap (λ (ss : List Shape). get_or ss k s) is ∙ shape_at w.size w.blocks k s within
+pub shape_read : (w : World) (shapes : List CellShape) (k : ℕ) (s : CellShape) → shapes ≡ cell_shapes w.size w.blocks → k < many_cells w → s ≡ get_or shapes k s → s ≡ shape_of (cell_of w k)
+shape_read w shapes k s is within here = here ∙ ap (λ (ss : List CellShape). get_or ss k s) is ∙ shape_at w.size w.blocks k s within
 
-pub tried_is : (w : World) (ds : List Decision) (c : Cell) (s : Shape) (least : Bool) (size used r : ℕ) → s ≡ shape_of c → least ≡ w.way.least_numbers → size ≡ w.size → used ≡ above_used w.fixed ds
+pub tried_is : (w : World) (ds : List Decision) (c : Cell) (s : CellShape) (least : Bool) (size used r : ℕ) → s ≡ shape_of c → least ≡ w.way.least_numbers → size ≡ w.size → used ≡ above_used w.fixed ds
     → r ≡ tried_to least size s.kind (max used s.above) → r ≡ greatest_tried w ds c
 tried_is w ds c s least size used r shape flag many so_far is = is ∙ (λ i. tried_to (flag i) (many i) (shape i).kind (max (so_far i) (shape i).above))

@@ -12,9 +12,9 @@ use Rattle.mace_cells.specs.declared.way.Way.{Way}
 use Rattle.mace_cells.specs.declared.frame.Frame.{Frame}
 use Rattle.mace_ground.specs.Count.{blocks_in, clause_trees}
 use Rattle.ladr_io.specs.Watch.{IsEarly, IsLate}
-use Rattle.mace_search.specs.declared.answer.Answer.{Answer}
-use Rattle.mace_search.specs.declared.answer.Answer.TheVariants as answers
-use Rattle.mace_search.specs.declared.answer.Answer.TheVariants.{Model, MaxSeconds}
+use Rattle.mace_search.specs.declared.answer.SearchAnswer.{SearchAnswer}
+use Rattle.mace_search.specs.declared.answer.SearchAnswer.TheVariants as answers
+use Rattle.mace_search.specs.declared.answer.SearchAnswer.TheVariants.{Model, MaxSeconds}
 use Rattle.model_tables.specs.Tables.{Finite, meaning_of}
 use Rattle.cell_search.specs.Finites.{finite_of, AreTablesFor}
 use Rattle.cell_search.specs.declared.search.State.{State}
@@ -67,7 +67,7 @@ IsSameCourse s s' = (s'.world ≡ s.world) × (s'.stop ≡ s.stop)
 
 -- What an answer says: the tables have a value for each cell, and are a model that was ahead, and
 -- is ahead no more; none was ahead; or the time is over, and nothing was passed over.
-abbrev pub AnswersByCells : Course → Course → Answer → Times → Type 0
+abbrev pub AnswersByCells : Course → Course → SearchAnswer → Times → Type 0
 AnswersByCells s s' Model t =
     FindsModel s.world s.live s.choices (meaning_of s'.tables) s'.choices
     × AreTablesFor s.world s'.tables × (s'.live ≡ false) × (s'.late ≡ None) × IsEarly s.stop t
@@ -92,7 +92,7 @@ late_in Exhausted = None
 late_in (Late last) = Some last
 
 -- the state after an answer, so many choices standing
-abbrev pub follows_after : Answer → ℕ → State
+abbrev pub follows_after : SearchAnswer → ℕ → State
 follows_after Model zero = Exhausted
 follows_after Model (suc n) = Found
 follows_after answers.Exhausted n = Exhausted

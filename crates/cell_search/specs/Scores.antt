@@ -4,15 +4,15 @@ use Rattle.std.specs.List.{slice_index_or}
 use Rattle.cell_choice.specs.Choosing.{is_up_to}
 use Rattle.mace_cells.specs.Trails.{Partial}
 use Rattle.mace_cells.specs.World.{World, many_cells}
-use Rattle.mace_cells.specs.declared.way.Measure.{Measure}
-use Rattle.mace_cells.specs.declared.way.Measure.TheVariants.{First, MostOccurrences, MostAssigned, MostContradicted, MostCrossed}
+use Rattle.mace_cells.specs.declared.way.CellMeasure.{CellMeasure}
+use Rattle.mace_cells.specs.declared.way.CellMeasure.TheVariants.{First, MostOccurrences, MostAssigned, MostContradicted, MostCrossed}
 use Rattle.mace_ground.specs.Cells.{Cell}
 use Rattle.plain_search.specs.Lefts.{ValuesLeft}
 use Rattle.plain_search.specs.Trying.{assignments, contradictions}
 use Rattle.cell_search.specs.Choosing.{score_of}
 
 -- whether the cells without a value are ranked by them, so that none has to be worked out
-abbrev pub is_ranked : Measure → Bool
+abbrev pub is_ranked : CellMeasure → Bool
 is_ranked First = true
 is_ranked MostOccurrences = false
 is_ranked MostAssigned = false
@@ -21,7 +21,7 @@ is_ranked MostCrossed = true
 
 -- what counts of the trials of a cell's values: how many other cells they assign together, or how
 -- many of them meet a contradiction
-abbrev pub by_trials : Measure → ℕ → ℕ → ℕ
+abbrev pub by_trials : CellMeasure → ℕ → ℕ → ℕ
 by_trials First assigned contradicted = 0
 by_trials MostOccurrences assigned contradicted = 0
 by_trials MostAssigned assigned contradicted = assigned

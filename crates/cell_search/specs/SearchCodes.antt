@@ -3,8 +3,8 @@ use Rattle.std.specs.Prelude.{ℕ, ◌≡◌, ◌==◌, if◌then◌else◌, Boo
 use Rattle.std.specs.Coded.{Coded, code_by, coded×, coded_ℕ, coded_bool, coded_list, coded_option}
 use Rattle.mace_cells.specs.declared.way.Candidates.{Candidates}
 use Rattle.mace_cells.specs.declared.way.Candidates.TheVariants.{All, LeastIndex, InUse}
-use Rattle.mace_cells.specs.declared.way.Measure.{Measure}
-use Rattle.mace_cells.specs.declared.way.Measure.TheVariants.{First, MostOccurrences, MostAssigned, MostContradicted, MostCrossed}
+use Rattle.mace_cells.specs.declared.way.CellMeasure.{CellMeasure}
+use Rattle.mace_cells.specs.declared.way.CellMeasure.TheVariants.{First, MostOccurrences, MostAssigned, MostContradicted, MostCrossed}
 use Rattle.mace_cells.specs.declared.way.Way.{Way}
 use Rattle.fol_core.specs.LitCodes.{coded_clause}
 use Rattle.fol_core.specs.Literals.{ClauseTree}
@@ -34,27 +34,27 @@ candidates_back All = refl
 candidates_back LeastIndex = refl
 candidates_back InUse = refl
 
-abbrev measure_tag : Measure → ℕ
+abbrev measure_tag : CellMeasure → ℕ
 measure_tag First = 0
 measure_tag MostOccurrences = 1
 measure_tag MostAssigned = 2
 measure_tag MostContradicted = 3
 measure_tag MostCrossed = 4
 
-abbrev measure_from : ℕ → Measure
+abbrev measure_from : ℕ → CellMeasure
 measure_from n =
     if n == 0 then First
     else (if n == 1 then MostOccurrences
     else (if n == 2 then MostAssigned else (if n == 3 then MostContradicted else MostCrossed)))
 
-pub measure_back : (m : Measure) → measure_from (measure_tag m) ≡ m
+pub measure_back : (m : CellMeasure) → measure_from (measure_tag m) ≡ m
 measure_back First = refl
 measure_back MostOccurrences = refl
 measure_back MostAssigned = refl
 measure_back MostContradicted = refl
 measure_back MostCrossed = refl
 
-abbrev way_from : Candidates → Measure → Bool → Way
+abbrev way_from : Candidates → CellMeasure → Bool → Way
 way_from c m least = record { candidates = c; measure = m; least_numbers = least }
 
 abbrev pub coded_way : Coded Way

@@ -23,10 +23,10 @@ use crate::setup::Setup;
 use crate::tables::finite;
 use crate::walk::{Group, Walk};
 use crate::walks::room;
-use cell_choice::{Shape, above_decision, greatest_tried, highest, indices, limit, pick};
+use cell_choice::{CellShape, above_decision, greatest_tried, highest, indices, limit, pick};
 use cell_driver::{Board, Status};
 use fol_core::Symbols;
-use mace_cells::{Measure, Stack, Trail};
+use mace_cells::{CellMeasure, Stack, Trail};
 use model_tables::Tables;
 use std::alloc::{AllocError, Global};
 use std::marker::Model;
@@ -51,7 +51,7 @@ fn phase_after(closed: bool) -> Phase
 pub struct Cells<'a> {
     setup: Setup<'a>,
     // What the choice looks at, by cell.
-    shapes: Vec<Shape>,
+    shapes: Vec<CellShape>,
     trail: Trail,
     // For each decision the least number above those in use with it.
     uses: Stack<u32>,
@@ -110,7 +110,7 @@ impl<'a> Cells<'a> {
     pub fn new(
         alloc: Global,
         setup: Setup<'a>,
-        shapes: Vec<Shape>,
+        shapes: Vec<CellShape>,
         walks: Vec<Walk<'a>>,
         groups: Vec<Group<'a>>,
     ) -> Result<Cells<'a>, AllocError>
@@ -129,7 +129,7 @@ impl<'a> Cells<'a> {
         let indices = indices(alloc, &shapes)?;
         let counts = setup.way().measure.counts_crossed();
         let trail = Trail::new(alloc, setup.size().max(2), indices, counts)?;
-        let uses = Stack::new(alloc, cells, 0)?;
+        let uses = Stack::new(alloc, cells)?;
         let room = room(&setup)?;
         let env = zeros(alloc, room)?;
         let scores = scores(alloc, setup.way().measure, cells)?;
@@ -272,7 +272,7 @@ impl<'a> Cells<'a> {
 }
 
 // Room for the scores of so many cells, where they are worked out.
-fn scores(alloc: Global, measure: Measure, many: usize) -> Result<Vec<u64>, AllocError>
+fn scores(alloc: Global, measure: CellMeasure, many: usize) -> Result<Vec<u64>, AllocError>
     ensures { IfOk result (λ v. is_ranked measure ≡ false → length v.items ≡ many) }
 {
     let mut scores = Vec::new(alloc);

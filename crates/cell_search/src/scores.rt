@@ -16,27 +16,28 @@ use crate::occurrences::count;
 use crate::setup::Setup;
 use crate::trying::trials;
 use crate::walk::Group;
-use cell_choice::{Shape, is_up_to};
-use mace_cells::{Measure, Trail};
+use cell_choice::{CellShape, is_up_to};
+use mace_cells::{CellMeasure, Trail};
 
 /// Whether the cells without a value are ranked by a measure, so that no scores have to be worked out.
-pub fn is_ranked(measure: Measure) -> bool
+pub fn is_ranked(measure: CellMeasure) -> bool
     ensures { result ≡ is_ranked measure }
 {
     match measure {
-        Measure::First | Measure::MostCrossed => true,
-        Measure::MostOccurrences | Measure::MostAssigned | Measure::MostContradicted => false,
+        CellMeasure::First | CellMeasure::MostCrossed => true,
+        CellMeasure::MostOccurrences | CellMeasure::MostAssigned | CellMeasure::MostContradicted =>
+            false,
     }
 }
 
 // What counts of the trials of a cell's values.
-fn by_trials(measure: Measure, assigned: u64, contradicted: u64) -> u64
+fn by_trials(measure: CellMeasure, assigned: u64, contradicted: u64) -> u64
     ensures { result ≡ by_trials measure assigned contradicted }
 {
     match measure {
-        Measure::MostAssigned => assigned,
-        Measure::MostContradicted => contradicted,
-        Measure::First | Measure::MostOccurrences | Measure::MostCrossed => 0,
+        CellMeasure::MostAssigned => assigned,
+        CellMeasure::MostContradicted => contradicted,
+        CellMeasure::First | CellMeasure::MostOccurrences | CellMeasure::MostCrossed => 0,
     }
 }
 
@@ -44,7 +45,7 @@ fn by_trials(measure: Measure, assigned: u64, contradicted: u64) -> u64
 fn try_cells(
     setup: &Setup,
     trail: &mut Trail,
-    shapes: &[Shape],
+    shapes: &[CellShape],
     groups: &[Group],
     env: &mut [u32],
     limit: u8,
@@ -78,7 +79,7 @@ fn try_cells(
 pub fn score(
     setup: &Setup,
     trail: &mut Trail,
-    shapes: &[Shape],
+    shapes: &[CellShape],
     groups: &[Group],
     env: &mut [u32],
     limit: u8,
@@ -99,9 +100,9 @@ pub fn score(
     ensures scores { AreScores setup.now trail.old limit scores.new }
 {
     match setup.way().measure {
-        Measure::First | Measure::MostCrossed => {}
-        Measure::MostOccurrences => count(setup, trail, env, scores),
-        Measure::MostAssigned | Measure::MostContradicted => {
+        CellMeasure::First | CellMeasure::MostCrossed => {}
+        CellMeasure::MostOccurrences => count(setup, trail, env, scores),
+        CellMeasure::MostAssigned | CellMeasure::MostContradicted => {
             try_cells(setup, trail, shapes, groups, env, limit, scores);
         }
     }

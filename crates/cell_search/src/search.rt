@@ -7,7 +7,7 @@ ghost use Rattle.cell_search.specs.Searchable.{HasAllCells};
 ghost use Rattle.mace_cells.specs.Choices.{decisions};
 ghost use Rattle.mace_ground.specs.Count.{ground_count};
 ghost use Rattle.ladr_io.specs.Watch.{IsEarly};
-ghost use Rattle.mace_search.specs.declared.answer.Answer.TheVariants.{Exhausted, MaxSeconds, Model};
+ghost use Rattle.mace_search.specs.declared.answer.SearchAnswer.TheVariants.{Exhausted, MaxSeconds, Model};
 ghost use Rattle.model_tables.specs.declared.limits.TheConstants.{MOST_CELLS};
 
 use crate::cells::Cells;
@@ -19,7 +19,7 @@ use fol_core::{Clauses, Symbols};
 use ladr_io::Clock;
 use mace_cells::{Frame, Stack, Way};
 use mace_ground::Ground;
-use mace_search::Answer;
+use mace_search::SearchAnswer;
 use model_tables::Tables;
 use std::alloc::{AllocError, Global};
 use std::marker::Model;
@@ -34,14 +34,14 @@ enum State {
 }
 
 // The state after an answer, so many choices standing.
-fn follows_after(answer: Answer, choices: usize) -> State
+fn follows_after(answer: SearchAnswer, choices: usize) -> State
     ensures { result ≡ follows_after answer choices }
 {
     match answer {
-        Answer::Model if choices == 0 => State::Exhausted,
-        Answer::Model => State::Found,
-        Answer::Exhausted => State::Exhausted,
-        Answer::MaxSeconds(last) => State::Late(last),
+        SearchAnswer::Model if choices == 0 => State::Exhausted,
+        SearchAnswer::Model => State::Found,
+        SearchAnswer::Exhausted => State::Exhausted,
+        SearchAnswer::MaxSeconds(last) => State::Late(last),
     }
 }
 
@@ -112,12 +112,7 @@ impl<'a> CellSearch<'a> {
         let ground = Ground::build(alloc, clauses, symbols, size)?;
         let shapes = shapes(alloc, &ground)?;
         let setup = Setup::new(alloc, ground, above_numeral(clauses.numeral), way)?;
-        let blank = Frame {
-            cell: 0,
-            value: 0,
-            most: 0,
-        };
-        let frames = Stack::new(alloc, setup.cells() as usize, blank)?;
+        let frames = Stack::new(alloc, setup.cells() as usize)?;
         let groups = groups(alloc, &setup, &clauses.clauses)?;
         let walks = walks(alloc, &clauses.clauses)?;
         let cells = Cells::new(alloc, setup, shapes, walks, groups)?;
@@ -137,7 +132,7 @@ impl<'a> CellSearch<'a> {
     }
 
     /// Goes on to the next model. It takes no memory.
-    pub fn next_model<C: Clock>(&mut self, clock: &mut C) -> Answer
+    pub fn next_model<C: Clock>(&mut self, clock: &mut C) -> SearchAnswer
         requires { self.old.late ≡ None → IsEarly self.old.stop (C.times clock.old) }
         ensures same { IsSameCourse self.old self.new }
         // Of what the plain search still has to do so many choices are passed over: up to a leaf, which is the model; up to its end;
@@ -159,13 +154,13 @@ impl<'a> CellSearch<'a> {
         match self.state {
             State::Following => self.go(true, clock),
             State::Found => self.go(false, clock),
-            State::Exhausted => Answer::Exhausted,
-            State::Late(last) => Answer::MaxSeconds(last),
+            State::Exhausted => SearchAnswer::Exhausted,
+            State::Late(last) => SearchAnswer::MaxSeconds(last),
         }
     }
 
     // Goes on where more may be ahead.
-    fn go<C: Clock>(&mut self, live: bool, clock: &mut C) -> Answer
+    fn go<C: Clock>(&mut self, live: bool, clock: &mut C) -> SearchAnswer
         requires live { self.old.live ≡ live }
         requires late { self.old.late ≡ None }
         requires early { IsEarly self.old.stop (C.times clock.old) }

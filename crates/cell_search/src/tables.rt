@@ -8,7 +8,7 @@ use crate::setup::Setup;
 use fol_core::{Sym, Symbols};
 use mace_cells::Trail;
 use mace_ground::power;
-use model_tables::{Row, Tables};
+use model_tables::{TableRow, Tables};
 use std::alloc::{AllocError, Global};
 
 // The value of a cell, 0 where it has none.
@@ -73,7 +73,7 @@ pub fn finite(
     for number in 0..symbols.len() as u64 {
         let symbol = Sym(number);
         let values = values(alloc, setup, trail, symbol)?;
-        rows.push(Row::new(symbols.kind(symbol), values))?;
+        rows.push(TableRow::new(symbols.kind(symbol), values))?;
     }
     Ok(Tables::new(setup.size(), rows))
 }

@@ -7,7 +7,7 @@ ghost use Rattle.ladr_interpretations.specs.declared.named.NamedError.TheVariant
 
 use fol_core::{Kind, Sym, Symbols};
 use ladr_commands::{ByName, TableEntry};
-use model_tables::{Row, Tables, bound};
+use model_tables::{TableRow, Tables, bound};
 use std::alloc::{AllocError, AllocFailed, Global};
 use std::marker::Model;
 
@@ -222,7 +222,7 @@ pub fn bind(alloc: Global, named: &Named, symbols: &Symbols) -> Result<Tables, A
         let symbol = Sym(number as u64);
         let kind = symbols.kind(symbol);
         let values = named.values_for(symbols.name(symbol), symbols.arity(symbol), kind);
-        rows.push(Row::new(kind, Vec::from_slice(alloc, values)?))?;
+        rows.push(TableRow::new(kind, Vec::from_slice(alloc, values)?))?;
     }
     Ok(Tables::new(named.size(), rows))
 }

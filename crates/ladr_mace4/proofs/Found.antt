@@ -32,8 +32,8 @@ use Rattle.mace_cells.proofs.Reading.{reads_none, reads_both}
 use Rattle.mace_cells.specs.Choices.{Choice, decisions}
 use Rattle.mace_cells.specs.Readings.{ReadsOn}
 use Rattle.mace_cells.specs.World.{World}
-use Rattle.mace_search.specs.declared.answer.Answer.{Answer}
-use Rattle.mace_search.specs.declared.answer.Answer.TheVariants as answers
+use Rattle.mace_search.specs.declared.answer.SearchAnswer.{SearchAnswer}
+use Rattle.mace_search.specs.declared.answer.SearchAnswer.TheVariants as answers
 use Rattle.model_tables.specs.ModelText.{model_text}
 use Rattle.model_tables.specs.Tables.{Finite}
 use Rattle.plain_search.proofs.Coming.{all_is_to_come}
@@ -84,7 +84,7 @@ none_gone p s n search t live none =
     }
 
 -- what the search answers, as the tables and the choices that it had before say it
-abbrev pub ComesBy : Stated → Plan → ℕ → Course → Answer → List Choice → Times → Times → Type 0
+abbrev pub ComesBy : Stated → Plan → ℕ → Course → SearchAnswer → List Choice → Times → Times → Type 0
 ComesBy p s n search answer choices t t' = ComesInTime search.world search.stop search.live search.choices answer choices t t'
 
 -- it came to a leaf, which is to come yet

@@ -6,8 +6,8 @@ use Rattle.ladr_options.specs.declared.options.Options.{Options}
 use Rattle.ladr_words.specs.declared.task.ModelOptions.{ModelOptions}
 use Rattle.mace_cells.specs.declared.way.Candidates.{Candidates}
 use Rattle.mace_cells.specs.declared.way.Candidates.TheVariants.{All, LeastIndex, InUse}
-use Rattle.mace_cells.specs.declared.way.Measure.{Measure}
-use Rattle.mace_cells.specs.declared.way.Measure.TheVariants.{First, MostOccurrences, MostAssigned, MostContradicted, MostCrossed}
+use Rattle.mace_cells.specs.declared.way.CellMeasure.{CellMeasure}
+use Rattle.mace_cells.specs.declared.way.CellMeasure.TheVariants.{First, MostOccurrences, MostAssigned, MostContradicted, MostCrossed}
 use Rattle.mace_cells.specs.declared.way.Way.{Way}
 use Rattle.search_clock.specs.Watching.{seconds_of}
 
@@ -22,7 +22,7 @@ only_size words o =
 abbrev pub candidates_of : ℕ → Candidates
 candidates_of order = if order == 0 then All else (if order == 1 then LeastIndex else InUse)
 
-abbrev pub measure_of : ℕ → Measure
+abbrev pub measure_of : ℕ → CellMeasure
 measure_of number =
     if number == 0 then First
     else (if number == 1 then MostOccurrences

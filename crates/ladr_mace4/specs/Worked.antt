@@ -9,7 +9,7 @@ use Rattle.fol_core.specs.declared.symbols.Kind.TheVariants.{Function}
 use Rattle.ladr_mace4.specs.Story.{Size, searched}
 use Rattle.ladr_words.specs.declared.task.ModelOptions.{ModelOptions}
 use Rattle.mace_cells.specs.declared.way.Candidates.TheVariants.{InUse}
-use Rattle.mace_cells.specs.declared.way.Measure.TheVariants.{MostCrossed}
+use Rattle.mace_cells.specs.declared.way.CellMeasure.TheVariants.{MostCrossed}
 use Rattle.mace_cells.specs.declared.way.Way.{Way}
 use Rattle.model_tables.specs.Tables.{Finite, listing}
 

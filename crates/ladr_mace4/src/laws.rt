@@ -14,7 +14,7 @@ ghost use Rattle.ladr_mace4.specs.Story.{sizes_text, readings_in_all};
 ghost use Rattle.ladr_mace4.specs.Worked.{alone, bare, constants, lonely, lonely_sizes, lonely_text, thorough, unlike, usual};
 ghost use Rattle.ladr_options.specs.Options.{start};
 ghost use Rattle.mace_cells.specs.declared.way.Candidates.TheVariants.{All, LeastIndex};
-ghost use Rattle.mace_cells.specs.declared.way.Measure.TheVariants.{First, MostOccurrences, MostAssigned, MostContradicted, MostCrossed};
+ghost use Rattle.mace_cells.specs.declared.way.CellMeasure.TheVariants.{First, MostOccurrences, MostAssigned, MostContradicted, MostCrossed};
 ghost use Rattle.model_tables.specs.Expansion.{SomeExpansion, ExpansionPicks, ExpansionSays};
 ghost use Rattle.plain_search.specs.Coming.{events};
 

@@ -19,7 +19,7 @@ use crate::printing::{SearchItem, print_item};
 use cell_search::CellSearch;
 use ladr_io::{Clock, Sink};
 use ladr_output::Cut;
-use mace_search::Answer;
+use mace_search::SearchAnswer;
 use search_clock::Watch;
 use std::alloc::Global;
 
@@ -56,12 +56,12 @@ pub fn models<K: Sink, C: Clock>(
     let mut printed = k;
     while printed < plan.wanted {
         match search.next_model(clock) {
-            Answer::Exhausted => return exhausted(alloc, asked, n, printed, sink),
-            Answer::MaxSeconds(last) => {
+            SearchAnswer::Exhausted => return exhausted(alloc, asked, n, printed, sink),
+            SearchAnswer::MaxSeconds(last) => {
                 let first = watch.first.unwrap_or(0);
                 return Ok(Step::Ends(SearchEnd::MaxSeconds { first, last }, printed));
             }
-            Answer::Model => {}
+            SearchAnswer::Model => {}
         }
         printed += 1;
         show(alloc, asked, &search, printed, sink)?;

@@ -6,7 +6,7 @@ ghost use Rattle.ladr_words.specs.Tasks.{HasRanges, IsFrom};
 
 use ladr_options::Options;
 use ladr_words::{ModelOptions, Task};
-use mace_cells::{Candidates, Measure, Way};
+use mace_cells::{Candidates, CellMeasure, Way};
 use search_clock::seconds_of;
 
 /// What is asked of a search.
@@ -60,11 +60,11 @@ fn way_of(options: &Options) -> Way
         _ => Candidates::InUse,
     };
     let measure = match options.selection_measure {
-        0 => Measure::First,
-        1 => Measure::MostOccurrences,
-        2 => Measure::MostAssigned,
-        3 => Measure::MostContradicted,
-        _ => Measure::MostCrossed,
+        0 => CellMeasure::First,
+        1 => CellMeasure::MostOccurrences,
+        2 => CellMeasure::MostAssigned,
+        3 => CellMeasure::MostContradicted,
+        _ => CellMeasure::MostCrossed,
     };
     Way {
         candidates,

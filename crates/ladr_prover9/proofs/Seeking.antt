@@ -27,8 +27,8 @@ use Rattle.prover.proofs.Going.{reaches_next, reaches_then, reached_lines}
 use Rattle.prover.proofs.Readings.{reads_behind, reads_from_none}
 use Rattle.prover.specs.Answers.{IsAtGiving, EndsWithout, FindsNone, FindsNext, ReadsOn, LacksMemory, RunsTo, readings_first}
 use Rattle.prover.specs.Provers.{watch_of, IsNew}
-use Rattle.prover.specs.declared.answer.Answer.{Answer}
-use Rattle.prover.specs.declared.answer.Answer.TheVariants.{Proof, Proofs, SosEmpty, MaxGiven, MaxKept, MaxMegs, MaxSeconds}
+use Rattle.prover.specs.declared.answer.ProverAnswer.{ProverAnswer}
+use Rattle.prover.specs.declared.answer.ProverAnswer.TheVariants.{Proof, Proofs, SosEmpty, MaxGiven, MaxKept, MaxMegs, MaxSeconds}
 use Rattle.prover.specs.declared.standing.Prover.{Prover}
 use Rattle.prover_setup.specs.SearchInputs.{SearchInput, setting_in, rows_in, start_in, IsReachedIn}
 use Rattle.prover_steps.specs.Ending.{IsReason, IsWithinLimits, StartIsWithinLimits, ReachedAreWithinLimits}
@@ -66,7 +66,7 @@ pub new_watched : (w : Watch) (times : Times) → w.first ≡ None → times.cou
 new_watched w times e h = new_by w.seconds w.first times e h
 
 -- the search goes on behind a proof alone
-pub only_proof : (answer : Answer) → end_for answer ≡ None → (n : ℕ) × (answer ≡ Proof n)
+pub only_proof : (answer : ProverAnswer) → end_for answer ≡ None → (n : ℕ) × (answer ≡ Proof n)
 only_proof (Proof n) e = (n, refl)
 only_proof Proofs e = absurd cc
 only_proof SosEmpty e = absurd cc
@@ -158,7 +158,7 @@ module _ (stay : AncestorsStay) (starts : StartsWell) (sound : ReachedAreSound) 
       let lines = reached_lines (setting_in q.search) s t k.reached in
       subst (λ (ps : List FoundProof). IsFirstProof (quest_lines q t) ps many level) (sym k.same) (first_stays stay starts sound q is s t lines.0 many level lines.1 h.reached (reached_by t k) first)
 
-  pub first_comes : (now : Times) (t : SearchState) (answer : Answer) (end : ProverEnd) (many level : ℕ) → RunsTo (setting_in q.search) seconds (readings_first w) s t times now (Ok answer) → end_for answer ≡ Some end
+  pub first_comes : (now : Times) (t : SearchState) (answer : ProverAnswer) (end : ProverEnd) (many level : ℕ) → RunsTo (setting_in q.search) seconds (readings_first w) s t times now (Ok answer) → end_for answer ≡ Some end
       → IsFirstProof (quest_lines q s) s.proofs many level → IsFirstProof (quest_lines q t) t.proofs many level
   first_comes now t (Proof n) end many level k e first = absurd cc
   first_comes now t Proofs end many level k e first = first_by t many level k.0.goes first
@@ -175,7 +175,7 @@ module _ (stay : AncestorsStay) (starts : StartsWell) (sound : ReachedAreSound) 
     abbrev Ended : Times → SearchState → ProverEnd → Type 0
     Ended now t end = (text : List ℕ) → IsStateText q (start_in q.search) text → Tells {E = ProverEnd} (Goes now text) (Comes now t text) a b (Ok end)
 
-    pub comes : (now : Times) (t : SearchState) (answer : Answer) (end : ProverEnd) → length t.proofs < 2 ^ 63 → RunsTo (setting_in q.search) seconds (readings_first w) s t times now (Ok answer) → end_for answer ≡ Some end → (text : List ℕ) → IsStateText q (start_in q.search) text
+    pub comes : (now : Times) (t : SearchState) (answer : ProverAnswer) (end : ProverEnd) → length t.proofs < 2 ^ 63 → RunsTo (setting_in q.search) seconds (readings_first w) s t times now (Ok answer) → end_for answer ≡ Some end → (text : List ℕ) → IsStateText q (start_in q.search) text
         → Tells {E = ProverEnd} (Goes now text) (Comes now t text) a b (Ok end)
     comes now t (Proof n) end few k e = absurd cc
     comes now t Proofs end few k e = let f : over.MaxProofs ≡ end = cc in subst (λ (x : ProverEnd). Ended now t x) f (comes_by now t over.MaxProofs few k.0.goes (record { ended = k.0.ended; holds = for_reason _ t k.0; in_time = k.1.0; reads = read_here t now k.1.1 }))

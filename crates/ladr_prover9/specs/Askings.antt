@@ -6,8 +6,8 @@ use Rattle.ladr_prover9.specs.declared.asking.Asking.{Asking}
 use Rattle.ladr_prover9.specs.declared.ends.ProverEnd.{ProverEnd}
 use Rattle.ladr_prover9.specs.declared.ends.ProverEnd.TheVariants as over
 use Rattle.proof_lines.specs.ContentTokens.{tables_of}
-use Rattle.prover.specs.declared.answer.Answer.{Answer}
-use Rattle.prover.specs.declared.answer.Answer.TheVariants.{Proof, Proofs, SosEmpty, MaxGiven, MaxKept, MaxMegs, MaxSeconds}
+use Rattle.prover.specs.declared.answer.ProverAnswer.{ProverAnswer}
+use Rattle.prover.specs.declared.answer.ProverAnswer.TheVariants.{Proof, Proofs, SosEmpty, MaxGiven, MaxKept, MaxMegs, MaxSeconds}
 use Rattle.prover_proofs.specs.ProofLaws.{SayWhatIsSaid}
 use Rattle.prover_setup.specs.SearchInputs.{input_in, symbols_in, rows_in, greater_in}
 use Rattle.prover_steps.specs.SearchLaws.{KeepsVariables}
@@ -39,7 +39,7 @@ abbrev pub HasProof : SearchState → Type 0
 HasProof t = (ps : List FoundProof) × ((p : FoundProof) × (t.proofs ≡ ps ++ p ∷ []))
 
 -- the answers that end a search
-abbrev pub end_for : Answer → Option ProverEnd
+abbrev pub end_for : ProverAnswer → Option ProverEnd
 end_for (Proof n) = None
 end_for Proofs = Some over.MaxProofs
 end_for SosEmpty = Some over.SosEmpty

@@ -17,22 +17,22 @@ use crate::printing::{Extent, printed_proof};
 use clause_store::ancestors_are_one;
 use ladr_io::{Clock, Sink};
 use ladr_output::{Cut, piece};
-use prover::{Answer, Prover};
+use prover::{Prover, ProverAnswer};
 use prover_steps::{ends_have_reasons, lines_are_counted, searches_are_sound, searches_start_well};
 use std::alloc::{AllocError, Global};
 
 // How a search ends by this answer; behind a proof it goes on.
-fn end_for(answer: Answer) -> Option<ProverEnd>
+fn end_for(answer: ProverAnswer) -> Option<ProverEnd>
     ensures { result ≡ end_for answer }
 {
     match answer {
-        Answer::Proof(_) => None,
-        Answer::Proofs => Some(ProverEnd::MaxProofs),
-        Answer::SosEmpty => Some(ProverEnd::SosEmpty),
-        Answer::MaxGiven => Some(ProverEnd::MaxGiven),
-        Answer::MaxKept => Some(ProverEnd::MaxKept),
-        Answer::MaxMegs => Some(ProverEnd::MaxMegs),
-        Answer::MaxSeconds { first, last } => Some(ProverEnd::MaxSeconds { first, last }),
+        ProverAnswer::Proof(_) => None,
+        ProverAnswer::Proofs => Some(ProverEnd::MaxProofs),
+        ProverAnswer::SosEmpty => Some(ProverEnd::SosEmpty),
+        ProverAnswer::MaxGiven => Some(ProverEnd::MaxGiven),
+        ProverAnswer::MaxKept => Some(ProverEnd::MaxKept),
+        ProverAnswer::MaxMegs => Some(ProverEnd::MaxMegs),
+        ProverAnswer::MaxSeconds { first, last } => Some(ProverEnd::MaxSeconds { first, last }),
     }
 }
 

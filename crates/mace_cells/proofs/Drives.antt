@@ -9,8 +9,8 @@ use Rattle.mace_cells.specs.Stacked.{Stacked, rest_of}
 use Rattle.mace_cells.specs.Standing.{AreFrames, IsStanding, place, beyond}
 use Rattle.mace_cells.specs.World.{World, cell_of, many_cells, IsRefuted, AreRefuted, IsBound, IsNextValue}
 use Rattle.mace_cells.specs.declared.frame.Frame.{Frame}
-use Rattle.mace_search.specs.declared.answer.Answer.{Answer}
-use Rattle.mace_search.specs.declared.answer.Answer.TheVariants.{Model, Exhausted, MaxSeconds}
+use Rattle.mace_search.specs.declared.answer.SearchAnswer.{SearchAnswer}
+use Rattle.mace_search.specs.declared.answer.SearchAnswer.TheVariants.{Model, Exhausted, MaxSeconds}
 use Rattle.mace_cells.proofs.Steps.{refuted, chosen, none_left, next, over, then}
 
 pub many_decided : (w : World) (fs : List Frame) → length (decisions_of w fs) ≡ length fs
@@ -123,11 +123,11 @@ gone_back_at w w' b old mid new worlds same h =
 pub few_choices : (w : World) (ds : List Decision) (fs : List Frame) → ds ≡ decisions_of w fs → length ds < many_cells w → length fs < many_cells w
 few_choices w ds fs same few = let e : length ds ≡ length fs = ap (λ (xs : List Decision). length xs) same ∙ many_decided w fs in omega (arith, e, few)
 
-pub found_after : (w w' : World) (live : Bool) (m : Meaning) (answer : Answer) (f1 f2 f3 : List Frame) → w' ≡ w → LeavesOpen w live (choices_of w f1) true (choices_of w f2)
+pub found_after : (w w' : World) (live : Bool) (m : Meaning) (answer : SearchAnswer) (f1 f2 f3 : List Frame) → w' ≡ w → LeavesOpen w live (choices_of w f1) true (choices_of w f2)
     → HasFound w' true (choices_of w' f2) m answer (choices_of w' f3) → HasFound w live (choices_of w f1) m answer (choices_of w f3)
 found_after w w' live m answer f1 f2 f3 worlds a h = by answer (subst (λ (v : World). HasFound v true (choices_of v f2) m answer (choices_of v f3)) worlds h)
   where
-    by : (x : Answer) → HasFound w true (choices_of w f2) m x (choices_of w f3) → HasFound w live (choices_of w f1) m x (choices_of w f3)
+    by : (x : SearchAnswer) → HasFound w true (choices_of w f2) m x (choices_of w f3) → HasFound w live (choices_of w f1) m x (choices_of w f3)
     by Model k = (then w live true true _ _ _ a k.0, k.1)
     by Exhausted k = (then w live true false _ _ _ a k.0, k.1)
     by (MaxSeconds last) k = then w live true true _ _ _ a k

@@ -1,21 +1,21 @@
--- The latest item of a stack.
-use Rattle.std.proofs.Common.{◌≡◌, ℕ, zero, suc, ◌<◌, ◌≤◌, List, [], ◌∷◌, ◌++◌, length, reverse, take, drop, get_or, sym, ap, ◌∙◌, append_assoc, arith}
+-- Items of a stack.
+use Rattle.std.proofs.Common.{◌≡◌, ℕ, suc, ◌-◌, ◌<◌, Some, slice_get, List, [], ◌∷◌, ◌++◌, length, reverse, take, drop, get_or, sym, ap, ◌∙◌, append_assoc, arith}
 use Rattle.std.proofs.Math.Seq.{take-suc, drop-cons}
-use Rattle.std.proofs.lemmas.List.{length-reverse, length-take, reverse-append, take-append-drop}
-use Rattle.mace_cells.specs.Stacked.{rest_of}
+use Rattle.std.proofs.lemmas.List.{reverse-append, take-append-drop, take_all}
+use Rattle.std.proofs.lemmas.Option.{get_or_from_slice_get, slice_get_within}
 
-pub latest : {X : Type 0} → (xs : List X) (k top : ℕ) (d : X) → top ≡ suc k → top ≤ length xs → reverse (take top xs) ≡ get_or xs k d ∷ reverse (take k xs)
-latest {X = X} xs k top d e h =
-    let fits : k < length xs = omega (arith, e, h) in
-    ap (λ (n : ℕ). reverse (take n xs)) e ∙ ap (λ (ys : List X). reverse ys) (take-suc xs k d fits) ∙ reverse-append (take k xs) (get_or xs k d ∷ [])
+pub latest : {X : Type 0} → (xs : List X) (k : ℕ) (d : X) → length xs ≡ suc k → reverse xs ≡ get_or xs k d ∷ reverse (take k xs)
+latest {X = X} xs k d e =
+    let fits : k < length xs = omega (arith, e) in
+    let whole : take (suc k) xs ≡ xs = take_all (suc k) xs (omega (arith, e)) in
+    ap (λ (ys : List X). reverse ys) (sym whole ∙ take-suc xs k d fits) ∙ reverse-append (take k xs) (get_or xs k d ∷ [])
 
-pub behind : {X : Type 0} → (xs : List X) (k top : ℕ) → top ≡ suc k → top ≤ length xs → rest_of (reverse (take top xs)) ≡ reverse (take k xs)
-behind [] k top e h = absurd (omega (arith, e, h))
-behind {X = X} (x ∷ xs) k top e h = ap (λ (ys : List X). rest_of ys) (latest (x ∷ xs) k top x e h)
-
-pub some_there : {X : Type 0} → (xs : List X) (top : ℕ) → 0 < length (reverse (take top xs)) → 0 < top
-some_there xs zero h = absurd (omega (arith, h))
-some_there xs (suc top) h = omega arith
+-- the latest item, where one was found there
+pub got : {X : Type 0} → (xs : List X) (x : X) → slice_get xs (length xs - 1) ≡ Some x → reverse xs ≡ x ∷ reverse (take (length xs - 1) xs)
+got {X = X} xs x e =
+    let k = length xs - 1 in
+    let within : k < length xs = slice_get_within xs k x e in
+    latest xs k x (omega (arith, within)) ∙ ap (λ (y : X). y ∷ reverse (take k xs)) (get_or_from_slice_get xs k x x e)
 
 -- an item with those after it and those before it
 pub one_of : {X : Type 0} → (xs : List X) (i : ℕ) (d : X) → i < length xs → reverse xs ≡ reverse (drop (suc i) xs) ++ get_or xs i d ∷ reverse (take i xs)
@@ -24,9 +24,3 @@ one_of {X = X} xs i d h =
     let split : take i xs ++ x ∷ drop (suc i) xs ≡ xs = ap (λ (ys : List X). take i xs ++ ys) (sym (drop-cons xs i d h)) ∙ take-append-drop i xs in
     ap (λ (ys : List X). reverse ys) (sym split) ∙ reverse-append (take i xs) (x ∷ drop (suc i) xs)
     ∙ ap (λ (ys : List X). ys ++ reverse (take i xs)) (reverse-append (x ∷ []) (drop (suc i) xs)) ∙ append_assoc (reverse (drop (suc i) xs)) (x ∷ []) (reverse (take i xs))
-
-pub within_top : {X : Type 0} → (xs : List X) (top i : ℕ) → i < length (reverse (take top xs)) → (i < length (take top xs)) × (i < top)
-within_top {X = X} xs top i h =
-    let there : i < length (take top xs) = let e = length-reverse (take top xs) in omega (arith, e, h) in
-    let few : length (take top xs) ≤ top = let e = length-take top xs in omega (arith, e) in
-    (there, omega (arith, there, few))

@@ -3,8 +3,8 @@ use Rattle.std.specs.Prelude.{ℕ, suc, ◌≡◌, ◌<◌, ◌+◌, ◌*◌, �
 use Rattle.std.specs.List.{list_any, slice_index_or, slice_set}
 use Rattle.cell_ranks.specs.Ranks.{Ranked, ranked, IsFree}
 use Rattle.mace_cells.specs.declared.trail.TrailEntry.{TrailEntry}
-use Rattle.mace_cells.specs.declared.way.Measure.{Measure}
-use Rattle.mace_cells.specs.declared.way.Measure.TheVariants.{First, MostOccurrences, MostAssigned, MostContradicted, MostCrossed}
+use Rattle.mace_cells.specs.declared.way.CellMeasure.{CellMeasure}
+use Rattle.mace_cells.specs.declared.way.CellMeasure.TheVariants.{First, MostOccurrences, MostAssigned, MostContradicted, MostCrossed}
 
 -- how cells are ranked for the choice: by the index of each, and whether by how many values are
 -- crossed off each
@@ -153,7 +153,7 @@ CanLower false r k = Unit {0}
 CanLower true r k = (k < length r.scores) × (0 < slice_index_or r.scores k 0)
 
 -- whether a measure counts how many values are crossed off a cell
-abbrev pub counts_crossed : Measure → Bool
+abbrev pub counts_crossed : CellMeasure → Bool
 counts_crossed First = false
 counts_crossed MostOccurrences = false
 counts_crossed MostAssigned = false

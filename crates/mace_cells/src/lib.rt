@@ -16,4 +16,4 @@ mod way;
 pub use frame::Frame;
 pub use stack::Stack;
 pub use trail::{Trail, TrailEntry};
-pub use way::{Candidates, Measure, Way};
+pub use way::{Candidates, CellMeasure, Way};

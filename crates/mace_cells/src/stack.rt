@@ -8,12 +8,12 @@ use std::marker::Model;
 /// A stack with room for so many items; contracts see the room and the items, the latest first.
 #[derive(Drop)]
 pub struct Stack<T> {
+    // The earliest first.
     items: Vec<T>,
-    top: usize,
 }
 
 impl<T> Model for Stack<T> {
-    ghost use Rattle.std.specs.Prelude.{◌≤◌, length, reverse, take};
+    ghost use Rattle.std.specs.Prelude.{reverse, vec_capacity};
     ghost use Rattle.mace_cells.specs.Stacked.{Stacked, coded_stacked};
 
     ghost Value = { Stacked T };
@@ -21,27 +21,26 @@ impl<T> Model for Stack<T> {
     ghost coded = { coded_stacked T.code };
 
     ghost view = { λ a. record {
-      room = length a.items.items;
-      list = reverse (take a.top a.items.items);
+      room = vec_capacity a.items;
+      list = reverse a.items.items;
     } };
-
-    ghost invariant = { λ a. a.top ≤ length a.items.items };
 }
 
 impl<T: Copy + Drop> Stack<T> {
-    /// An empty stack with room for so many items; `filler` fills the room.
-    pub fn new(alloc: Global, room: usize, filler: T) -> Result<Stack<T>, AllocError>
+    /// An empty stack with room for so many items.
+    pub fn new(alloc: Global, room: usize) -> Result<Stack<T>, AllocError>
         ensures { IfOk result (λ s. s ≡ stacked room []) }
     {
-        let items = vec![in alloc; filler; room]?;
-        Ok(Stack { items, top: 0 })
+        Ok(Stack {
+            items: Vec::with_capacity(alloc, room)?,
+        })
     }
 
     /// How many items there are.
     pub fn len(&self) -> usize
         ensures { result ≡ length self.now.list }
     {
-        self.top
+        self.items.len()
     }
 
     /// The latest item.
@@ -49,10 +48,9 @@ impl<T: Copy + Drop> Stack<T> {
         ensures { MatchOption result (self.now.list ≡ []) (λ x. (rest : List T)
             × (self.now.list ≡ x ∷ rest)) }
     {
-        if self.top == 0 {
-            None
-        } else {
-            Some(self.items[self.top - 1])
+        match self.items.last() {
+            None => None,
+            Some(item) => Some(*item),
         }
     }
 
@@ -69,8 +67,7 @@ impl<T: Copy + Drop> Stack<T> {
         requires { length self.old.list < self.old.room }
         ensures { self.new ≡ stacked self.old.room (item ∷ self.old.list) }
     {
-        self.items[self.top] = item;
-        self.top += 1;
+        self.items.push_reserved(item);
     }
 
     /// Takes the latest item off.
@@ -78,6 +75,6 @@ impl<T: Copy + Drop> Stack<T> {
         requires { 0 < length self.old.list }
         ensures { self.new ≡ stacked self.old.room (rest_of self.old.list) }
     {
-        self.top -= 1;
+        let _latest = self.items.pop();
     }
 }

@@ -74,17 +74,11 @@ impl Trail {
     {
         let many = indices.len();
         let stride = stride as usize;
-        let blank = TrailEntry {
-            cell: 0,
-            value: 0,
-            decided: false,
-            mark: 0,
-        };
         let values = no_values(alloc, many)?;
         let crossed = no_flags(alloc, many * stride)?;
         let ranks = Ranks::new(alloc, indices, counts)?;
-        let entries = Stack::new(alloc, many, blank)?;
-        let crossings = Stack::new(alloc, many * stride, 0)?;
+        let entries = Stack::new(alloc, many)?;
+        let crossings = Stack::new(alloc, many * stride)?;
         Ok(Trail {
             stride,
             counts,

@@ -14,7 +14,7 @@ pub enum Candidates {
 /// values that are left give the most other cells a value, or the most of them contradict the clauses; or the first with the most
 /// values crossed off.
 #[derive(Clone, Copy)]
-pub enum Measure {
+pub enum CellMeasure {
     First,
     MostOccurrences,
     MostAssigned,
@@ -22,17 +22,17 @@ pub enum Measure {
     MostCrossed,
 }
 
-impl Measure {
+impl CellMeasure {
     /// Whether it counts how many values are crossed off a cell.
     pub fn counts_crossed(self) -> bool
         ensures { result ≡ counts_crossed self }
     {
         match self {
-            Measure::MostCrossed => true,
-            Measure::First
-            | Measure::MostOccurrences
-            | Measure::MostAssigned
-            | Measure::MostContradicted => false,
+            CellMeasure::MostCrossed => true,
+            CellMeasure::First
+            | CellMeasure::MostOccurrences
+            | CellMeasure::MostAssigned
+            | CellMeasure::MostContradicted => false,
         }
     }
 }
@@ -41,6 +41,6 @@ impl Measure {
 #[derive(Clone, Copy)]
 pub struct Way {
     pub candidates: Candidates,
-    pub measure: Measure,
+    pub measure: CellMeasure,
     pub least_numbers: bool,
 }

@@ -2,7 +2,7 @@
 
 /// There is a further model, there is none, or the time is over by this reading of the clock.
 #[derive(Clone, Copy)]
-pub enum Answer {
+pub enum SearchAnswer {
     Model,
     Exhausted,
     MaxSeconds(u64),

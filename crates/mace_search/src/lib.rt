@@ -7,5 +7,5 @@
 mod answer;
 mod laws;
 
-pub use answer::Answer;
+pub use answer::SearchAnswer;
 pub use laws::{worked, worked_readings};

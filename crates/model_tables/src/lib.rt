@@ -29,7 +29,7 @@ pub use laws::{expansions, is_isomorphic_to_itself, worked, worked_expansions};
 pub use limits::MOST_CELLS;
 pub use room::reserve_closure;
 pub use sizes::{bound, size_needed};
-pub use tables::{Row, Tables};
+pub use tables::{TableRow, Tables};
 pub use text::interpretation_text;
 
 mod text;

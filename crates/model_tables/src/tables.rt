@@ -7,12 +7,12 @@ use std::marker::Model;
 
 /// What a symbol is, and its values, the last argument running fastest.
 #[derive(Drop)]
-pub struct Row {
+pub struct TableRow {
     pub(crate) kind: Kind,
     pub(crate) values: Vec<u32>,
 }
 
-impl Model for Row {
+impl Model for TableRow {
     ghost use Rattle.model_tables.specs.Tables.{Listing};
 
     ghost Value = { Listing };
@@ -20,11 +20,11 @@ impl Model for Row {
     ghost view = { λ a. record { kind = a.kind; values = a.values.items } };
 }
 
-impl Row {
-    pub fn new(kind: Kind, values: Vec<u32>) -> Row
+impl TableRow {
+    pub fn new(kind: Kind, values: Vec<u32>) -> TableRow
         ensures { result ≡ listing kind values.items }
     {
-        Row { kind, values }
+        TableRow { kind, values }
     }
 
     pub fn values(&self) -> &[u32]
@@ -44,7 +44,7 @@ impl Row {
 #[derive(Drop)]
 pub struct Tables {
     size: u32,
-    pub(crate) rows: Vec<Row>,
+    pub(crate) rows: Vec<TableRow>,
 }
 
 impl Model for Tables {
@@ -66,7 +66,7 @@ impl Interpretation for Tables {
 
 impl Tables {
     /// So many elements, and one where none are wanted.
-    pub fn new(size: u32, rows: Vec<Row>) -> Tables
+    pub fn new(size: u32, rows: Vec<TableRow>) -> Tables
         ensures { result ≡ record { top = size - 1; rows = rows.items } }
     {
         Tables { size, rows }
@@ -80,7 +80,7 @@ impl Tables {
     }
 
     // The rows by symbol number.
-    pub(crate) fn rows(&self) -> &[Row]
+    pub(crate) fn rows(&self) -> &[TableRow]
         ensures { result.now ≡ self.now.rows }
     {
         self.rows.as_slice()

@@ -4,7 +4,7 @@ ghost use Rattle.fol_core.specs.SymbolTable.{name_at, arity_at};
 ghost use Rattle.model_tables.specs.ModelText.{entry_line, lines_end, entries_of, entry_lines, model_text};
 
 use crate::entries::{put_end, put_entry, text_beginning};
-use crate::tables::{Row, Tables};
+use crate::tables::{TableRow, Tables};
 use fol_core::{Sym, Symbols};
 use std::alloc::{AllocError, Global};
 
@@ -24,7 +24,7 @@ pub fn interpretation_text(
 }
 
 // The lines of the entries of the symbols that have values, without the end of the last, and whether there are any.
-fn entries(out: &mut Vec<u8>, symbols: &Symbols, rows: &[Row]) -> Result<bool, AllocError>
+fn entries(out: &mut Vec<u8>, symbols: &Symbols, rows: &[TableRow]) -> Result<bool, AllocError>
     ensures { IfOk result (λ before. out.new.items ++ lines_end before
         ≡ out.old.items ++ entry_lines (entries_of symbols.now rows.now)) }
 {
@@ -40,7 +40,7 @@ fn line(
     out: &mut Vec<u8>,
     symbols: &Symbols,
     symbol: Sym,
-    row: &Row,
+    row: &TableRow,
     before: bool,
 ) -> Result<bool, AllocError>
     requires { symbol.0 < length symbols.now }

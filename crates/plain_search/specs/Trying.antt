@@ -8,8 +8,8 @@ use Rattle.mace_cells.specs.Numbers.{above_each, above_used, greatest_tried}
 use Rattle.mace_cells.specs.World.{World, cell_of, many_cells}
 use Rattle.mace_cells.specs.declared.way.Candidates.{Candidates}
 use Rattle.mace_cells.specs.declared.way.Candidates.TheVariants.{All, LeastIndex, InUse}
-use Rattle.mace_cells.specs.declared.way.Measure.{Measure}
-use Rattle.mace_cells.specs.declared.way.Measure.TheVariants.{First, MostOccurrences, MostAssigned, MostContradicted, MostCrossed}
+use Rattle.mace_cells.specs.declared.way.CellMeasure.{CellMeasure}
+use Rattle.mace_cells.specs.declared.way.CellMeasure.TheVariants.{First, MostOccurrences, MostAssigned, MostContradicted, MostCrossed}
 use Rattle.mace_ground.specs.Cells.{Cell}
 use Rattle.mace_ground.specs.Instances.{assigned_by}
 use Rattle.model_tables.specs.Size.{bound_of}
@@ -88,7 +88,7 @@ abbrev pub contradictions : World → ValuesLeft → Cell → ℕ
 contradictions w p c = count_by (λ v. is_none (tried_table w p c v)) (p c)
 
 -- what counts in a cell: nothing; one of these; or how many values are crossed off it
-abbrev pub score : Measure → World → ValuesLeft → Cell → ℕ
+abbrev pub score : CellMeasure → World → ValuesLeft → Cell → ℕ
 score First w p c = 0
 score MostOccurrences w p c = occurrences w p c
 score MostAssigned w p c = assignments w p c

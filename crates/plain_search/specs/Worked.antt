@@ -7,8 +7,8 @@ use Rattle.mace_cells.specs.Choices.{Decision, Choice}
 use Rattle.mace_cells.specs.World.{World}
 use Rattle.mace_cells.specs.declared.way.Candidates.{Candidates}
 use Rattle.mace_cells.specs.declared.way.Candidates.TheVariants.{All, InUse}
-use Rattle.mace_cells.specs.declared.way.Measure.{Measure}
-use Rattle.mace_cells.specs.declared.way.Measure.TheVariants.{First, MostCrossed}
+use Rattle.mace_cells.specs.declared.way.CellMeasure.{CellMeasure}
+use Rattle.mace_cells.specs.declared.way.CellMeasure.TheVariants.{First, MostCrossed}
 use Rattle.mace_cells.specs.declared.way.Way.{Way}
 use Rattle.mace_ground.specs.Cells.{Cell, cell}
 use Rattle.plain_search.specs.Closing.{Ground, ground, closure}
@@ -76,7 +76,7 @@ abbrev pub reflecting : List ClauseTree
 reflecting =
     (literal false (equal (f (elem 0)) (f (elem 0))) ∷ literal true (p (elem 0)) ∷ []) ∷ []
 
-abbrev pub way : Candidates → Measure → Bool → Way
+abbrev pub way : Candidates → CellMeasure → Bool → Way
 way candidates measure least =
     record { candidates = candidates; measure = measure; least_numbers = least }
 
@@ -142,7 +142,7 @@ abbrev pub decided : ℕ → List Decision
 decided v = decide (cell Relation 0 []) v ∷ []
 
 -- the cell of `f` that is chosen then in a way
-abbrev pub chosen_by : Candidates → Measure → List Decision → Option Cell
+abbrev pub chosen_by : Candidates → CellMeasure → List Decision → Option Cell
 chosen_by candidates measure ds =
     let w : World = mapping 4 (way candidates measure false) [] in chosen w ds (crossed w)
 

@@ -2,7 +2,7 @@
 ghost use Rattle.std.specs.Prelude.{◌≡◌, [], ◌∷◌, ◌++◌, true, false, None, Some, IfSome};
 ghost use Rattle.std.specs.List.{AllByRecursion};
 ghost use Rattle.mace_cells.specs.declared.way.Candidates.TheVariants.{All, LeastIndex, InUse};
-ghost use Rattle.mace_cells.specs.declared.way.Measure.TheVariants.{First, MostCrossed};
+ghost use Rattle.mace_cells.specs.declared.way.CellMeasure.TheVariants.{First, MostCrossed};
 ghost use Rattle.plain_search.specs.Closing.{closure};
 ghost use Rattle.plain_search.specs.Fitting.{IsClauseOfCells};
 ghost use Rattle.plain_search.specs.Lefts.{all_left};

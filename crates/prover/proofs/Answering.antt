@@ -6,8 +6,8 @@ use Rattle.prover.proofs.Giving.{IsSoughtTo}
 use Rattle.prover.proofs.Going.{reaches_next, finds_none_then, finds_next_then}
 use Rattle.prover.proofs.Readings.{reads_same, reads_once, reads_begun}
 use Rattle.prover.specs.Answers.{IsAtGiving, EndsWithout, ComesTo, ReadsOn, ReadsFor, RunsTo, DrainsTo, Rings, IsOver, answer_for, end_of}
-use Rattle.prover.specs.declared.answer.Answer.{Answer}
-use Rattle.prover.specs.declared.answer.Answer.TheVariants.{Proof, Proofs, SosEmpty, MaxGiven, MaxKept, MaxMegs, MaxSeconds}
+use Rattle.prover.specs.declared.answer.ProverAnswer.{ProverAnswer}
+use Rattle.prover.specs.declared.answer.ProverAnswer.TheVariants.{Proof, Proofs, SosEmpty, MaxGiven, MaxKept, MaxMegs, MaxSeconds}
 use Rattle.prover_steps.specs.Searching.{Setting, Reason, proved, spent, gave_all, kept_all, filled, SearchState, SearchReaches}
 use Rattle.search_clock.specs.Watching.{IsInTime, HasRead}
 
@@ -20,8 +20,8 @@ ends_for kept_all st seconds s t a b h early reads = (h, (early, reads))
 ends_for filled st seconds s t a b h early reads = (h, (early, reads))
 
 module _ (st : Setting) (seconds : Option ℕ) (s t : SearchState) (a b : Times) (h : IsSoughtTo st seconds s t a b) where
-  pub ended : (r : Reason) (answer : Answer) → answer ≡ answer_for r → t.ended ≡ Some r → IsInTime seconds b → RunsTo st seconds 0 s t a b (Ok answer)
-  ended r answer e is early = subst (λ (x : Answer). RunsTo st seconds 0 s t a b (Ok x)) (sym e) (ends_for r st seconds s t a b (record { goes = h.goes; ended = is }) early h.reads)
+  pub ended : (r : Reason) (answer : ProverAnswer) → answer ≡ answer_for r → t.ended ≡ Some r → IsInTime seconds b → RunsTo st seconds 0 s t a b (Ok answer)
+  ended r answer e is early = subst (λ (x : ProverAnswer). RunsTo st seconds 0 s t a b (Ok x)) (sym e) (ends_for r st seconds s t a b (record { goes = h.goes; ended = is }) early h.reads)
 
   -- one more proof
   pub found : (u : SearchState) (n : ℕ) → DrainsTo st t u (Ok (Some n)) → IsInTime seconds b → RunsTo st seconds 0 s u a b (Ok (Proof n))
@@ -37,7 +37,7 @@ module _ (st : Setting) (seconds : Option ℕ) (s t : SearchState) (a b : Times)
   }
 
   -- the time is over
-  pub late : (c : Times) (answer : Answer) → Rings st seconds t b c → IsOver st seconds t c answer → RunsTo st seconds 0 s t a c (Ok answer)
+  pub late : (c : Times) (answer : ProverAnswer) → Rings st seconds t b c → IsOver st seconds t c answer → RunsTo st seconds 0 s t a c (Ok answer)
   late c (Proof n) rings over = absurd over
   late c Proofs rings over = absurd over
   late c SosEmpty rings over = absurd over
@@ -68,7 +68,7 @@ module _ (st : Setting) (seconds : Option ℕ) (first : ℕ) (s t : SearchState)
   once : (u : SearchState) → ReadsOn seconds 1 s u b c → ReadsOn seconds (suc first) s u a c
   once u h = reads_begun seconds first 1 (suc first) s u a b c (omega arith) begun h
 
-  answers_on : (answer : Answer) → ReadsFor seconds 0 s t b c answer → ReadsFor seconds first s t a c answer
+  answers_on : (answer : ProverAnswer) → ReadsFor seconds 0 s t b c answer → ReadsFor seconds first s t a c answer
   answers_on (Proof n) h = (h.0, on t h.1)
   answers_on Proofs h = (h.0, on t h.1)
   answers_on SosEmpty h = (h.0, on t h.1)
@@ -77,7 +77,7 @@ module _ (st : Setting) (seconds : Option ℕ) (first : ℕ) (s t : SearchState)
   answers_on MaxMegs h = (h.0, on t h.1)
   answers_on (MaxSeconds from to) h = (h.0, h.1, once t h.2)
 
-  pub runs_on : (r : Result Answer AllocError) → RunsTo st seconds 0 s t b c r → RunsTo st seconds first s t a c r
+  pub runs_on : (r : Result ProverAnswer AllocError) → RunsTo st seconds 0 s t b c r → RunsTo st seconds first s t a c r
   runs_on (Ok answer) h = (h.0, answers_on answer h.1)
   runs_on (Err error) h = record { state = h.state; goes = h.goes; in_time = h.in_time; reads = by h.reads }
     where
@@ -86,7 +86,7 @@ module _ (st : Setting) (seconds : Option ℕ) (first : ℕ) (s t : SearchState)
       by (inr x) = inr (x.0, once h.state x.1)
 
 -- each answer comes in a state that is reached
-pub comes_reached : (st : Setting) (s t : SearchState) (answer : Answer) → ComesTo st s t answer → SearchReaches st s t
+pub comes_reached : (st : Setting) (s t : SearchState) (answer : ProverAnswer) → ComesTo st s t answer → SearchReaches st s t
 comes_reached st s t (Proof n) h = reaches_next st s h.before t h.goes.reached h.next
 comes_reached st s t Proofs h = h.goes.reached
 comes_reached st s t SosEmpty h = h.goes.reached
@@ -96,7 +96,7 @@ comes_reached st s t MaxMegs h = h.goes.reached
 comes_reached st s t (MaxSeconds first last) h = h.0.reached
 
 -- the search goes on behind a proof alone
-pub only_proof : (answer : Answer) → end_of answer ≡ None → (n : ℕ) × (answer ≡ Proof n)
+pub only_proof : (answer : ProverAnswer) → end_of answer ≡ None → (n : ℕ) × (answer ≡ Proof n)
 only_proof (Proof n) e = (n, refl)
 only_proof Proofs e = absurd cc
 only_proof SosEmpty e = absurd cc

@@ -5,8 +5,8 @@ use Rattle.std.specs.declared.result.Result.{Result}
 use Rattle.std.specs.declared.result.Result.TheVariants.{Ok, Err}
 use Rattle.ladr_io.specs.Times.{Times}
 use Rattle.ladr_io.specs.Watch.{IsLate}
-use Rattle.prover.specs.declared.answer.Answer.{Answer}
-use Rattle.prover.specs.declared.answer.Answer.TheVariants.{Proof, Proofs, SosEmpty, MaxGiven, MaxKept, MaxMegs, MaxSeconds}
+use Rattle.prover.specs.declared.answer.ProverAnswer.{ProverAnswer}
+use Rattle.prover.specs.declared.answer.ProverAnswer.TheVariants.{Proof, Proofs, SosEmpty, MaxGiven, MaxKept, MaxMegs, MaxSeconds}
 use Rattle.prover.specs.declared.answer.Counters.{Counters}
 use Rattle.prover_steps.specs.Searching.{Setting, Queued, Reason, proved, spent, gave_all, kept_all, filled, FoundProof, SearchState, given_next, next_state, after, SearchReaches}
 use Rattle.search_clock.specs.Watching.{time_to_stop, IsInTime, HasRead, IsLookedAt}
@@ -73,20 +73,20 @@ pub record EndsWithout (st : Setting) (s t : SearchState) (reason : Reason) : Ty
   pub ended : t.ended ≡ Some reason
 
 -- a reason as an answer, and an answer as an end: behind a proof the search goes on
-abbrev pub answer_for : Reason → Answer
+abbrev pub answer_for : Reason → ProverAnswer
 answer_for proved = Proofs
 answer_for spent = SosEmpty
 answer_for gave_all = MaxGiven
 answer_for kept_all = MaxKept
 answer_for filled = MaxMegs
 
-abbrev pub end_of : Answer → Option Answer
+abbrev pub end_of : ProverAnswer → Option ProverAnswer
 end_of (Proof n) = None
 end_of end = Some end
 
 -- The first thing that happens from a state on, and the state in which it does: one more proof, an
 -- end, or that the time is over before a clause is given.
-abbrev pub ComesTo : Setting → SearchState → SearchState → Answer → Type 0
+abbrev pub ComesTo : Setting → SearchState → SearchState → ProverAnswer → Type 0
 ComesTo st s t (Proof n) = FindsNext st s t n
 ComesTo st s t Proofs = EndsWithout st s t proved
 ComesTo st s t SosEmpty = EndsWithout st s t spent
@@ -108,7 +108,7 @@ ReadsOn seconds more s t times times' =
 
 -- By an answer the clock is in time; or the time is over, by a reading before a clause that is not
 -- given any more.
-abbrev pub ReadsFor : Option ℕ → ℕ → SearchState → SearchState → Times → Times → Answer → Type 0
+abbrev pub ReadsFor : Option ℕ → ℕ → SearchState → SearchState → Times → Times → ProverAnswer → Type 0
 ReadsFor seconds more s t times times' (MaxSeconds first last) =
     IsLate (time_to_stop seconds times') times' last × (first ≡ times'.first)
     × ReadsOn seconds (suc more) s t times times'
@@ -128,7 +128,7 @@ pub record LacksMemory (st : Setting) (seconds : Option ℕ) (more : ℕ) (s : S
 
 -- From a state to another, with an answer, or where memory is lacking.
 abbrev pub RunsTo : Setting → Option ℕ → ℕ → SearchState → SearchState → Times → Times →
-    Result Answer AllocError → Type 0
+    Result ProverAnswer AllocError → Type 0
 RunsTo st seconds more s t times times' (Ok answer) =
     ComesTo st s t answer × ReadsFor seconds more s t times times' answer
 RunsTo st seconds more s t times times' (Err _) = LacksMemory st seconds more s times times'
@@ -146,7 +146,7 @@ Rings st seconds t times times' =
     ⊎ ((IsAtGiving st t → ⊥) × (times' ≡ times))
 
 -- the time is over before a clause is given
-abbrev pub IsOver : Setting → Option ℕ → SearchState → Times → Answer → Type 0
+abbrev pub IsOver : Setting → Option ℕ → SearchState → Times → ProverAnswer → Type 0
 IsOver st seconds t times (MaxSeconds first last) =
     IsAtGiving st t × IsLate (time_to_stop seconds times) times last × (first ≡ times.first)
 IsOver st seconds t times answer = ⊥

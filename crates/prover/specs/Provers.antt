@@ -6,7 +6,7 @@ use Rattle.given_clause.specs.States.{state_of}
 use Rattle.given_clause.specs.declared.state.FoundProof.{FoundProof}
 use Rattle.held_clauses.specs.declared.made.MadeLine.{MadeLine}
 use Rattle.ladr_io.specs.Times.{Times}
-use Rattle.prover.specs.declared.answer.Answer.{Answer}
+use Rattle.prover.specs.declared.answer.ProverAnswer.{ProverAnswer}
 use Rattle.prover.specs.declared.standing.Prover.{Prover}
 use Rattle.prover_setup.specs.SearchInputs.{SearchInput, setting_in, start_in}
 use Rattle.prover_steps.specs.HeldOrder.{IsInOrder}
@@ -36,7 +36,7 @@ tries_of p = p.search.tries
 abbrev pub watch_of : Prover → Watch
 watch_of p = p.watch
 
-abbrev pub end_answered : Prover → Option Answer
+abbrev pub end_answered : Prover → Option ProverAnswer
 end_answered p = p.end
 
 abbrev pub is_short : Prover → Bool

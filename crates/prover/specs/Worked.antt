@@ -6,7 +6,7 @@ use Rattle.ladr_io.specs.Times.{Times}
 use Rattle.ladr_options.specs.Options.{start}
 use Rattle.proof_words.specs.Written.{by_copy}
 use Rattle.prover.specs.Answers.{ComesTo, IsGivenStep, ReadsOn}
-use Rattle.prover.specs.declared.answer.Answer.TheVariants.{Proof, Proofs}
+use Rattle.prover.specs.declared.answer.ProverAnswer.TheVariants.{Proof, Proofs}
 use Rattle.prover_steps.specs.Conclusions.{rules_in_force}
 use Rattle.prover_steps.specs.Searching.{Setting, Queued, SearchState, clause_size, after}
 

@@ -7,7 +7,7 @@ use given_clause::Reason;
 
 /// What a search for proofs comes to next.
 #[derive(Clone, Copy)]
-pub enum Answer {
+pub enum ProverAnswer {
     /// One more proof is found, whose last line has this number.
     Proof(u64),
     /// As many proofs as were wanted are found. Each that `run` found was answered before; a given step tells them by its counters.
@@ -35,24 +35,24 @@ pub struct Counters {
 }
 
 /// The answer of a search that has ended for this reason.
-pub fn answer_for(reason: Reason) -> Answer
+pub fn answer_for(reason: Reason) -> ProverAnswer
     ensures { result ≡ answer_for (reason_of reason) }
 {
     match reason {
-        Reason::Proved => Answer::Proofs,
-        Reason::Spent => Answer::SosEmpty,
-        Reason::GaveAll => Answer::MaxGiven,
-        Reason::KeptAll => Answer::MaxKept,
-        Reason::Filled => Answer::MaxMegs,
+        Reason::Proved => ProverAnswer::Proofs,
+        Reason::Spent => ProverAnswer::SosEmpty,
+        Reason::GaveAll => ProverAnswer::MaxGiven,
+        Reason::KeptAll => ProverAnswer::MaxKept,
+        Reason::Filled => ProverAnswer::MaxMegs,
     }
 }
 
 /// The answer as an end: behind a proof the search goes on.
-pub fn end_of(answer: Answer) -> Option<Answer>
+pub fn end_of(answer: ProverAnswer) -> Option<ProverAnswer>
     ensures { result ≡ end_of answer }
 {
     match answer {
-        Answer::Proof(_) => None,
+        ProverAnswer::Proof(_) => None,
         _ => Some(answer),
     }
 }

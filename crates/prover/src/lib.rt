@@ -18,6 +18,6 @@ mod processing;
 mod seeking;
 mod standing;
 
-pub use answer::{Answer, Counters};
+pub use answer::{Counters, ProverAnswer};
 pub use laws::worked;
 pub use standing::Prover;

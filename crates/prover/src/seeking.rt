@@ -7,7 +7,7 @@ ghost use Rattle.prover.specs.Answers.{IsAtGiving, IsOver, Rings, RunsTo, readin
 ghost use Rattle.prover_steps.specs.HeldOrder.{IsInOrder};
 ghost use Rattle.search_clock.specs.Watching.{HasBegun, HasRead, IsWatched};
 
-use crate::answer::{Answer, answer_for};
+use crate::answer::{ProverAnswer, answer_for};
 use crate::processing::drain;
 use given_clause::{Guide, Search, step};
 use ladr_io::Clock;
@@ -45,7 +45,7 @@ fn ring<C: Clock>(
     search: &Search,
     watch: &mut Watch,
     clock: &mut C,
-) -> Option<Answer>
+) -> Option<ProverAnswer>
     requires watched { IsWatched watch.old (C.times clock.old) }
     requires begun { HasBegun watch.old (C.times clock.old) }
     ensures seconds { watch.new.seconds ≡ watch.old.seconds }
@@ -61,7 +61,7 @@ fn ring<C: Clock>(
     }
     let last = watch.look(clock)?;
     let first = watch.first.unwrap_or(0);
-    Some(Answer::MaxSeconds { first, last })
+    Some(ProverAnswer::MaxSeconds { first, last })
 }
 
 /// Goes on to the next proof or to the end.
@@ -71,7 +71,7 @@ pub fn seek<C: Clock>(
     search: &mut Search,
     watch: &mut Watch,
     clock: &mut C,
-) -> Result<Answer, AllocError>
+) -> Result<ProverAnswer, AllocError>
     requires ordered { IsInOrder (state_of search.old) }
     requires noted { AreNoted (setting_of guide.now) search.old.waiting }
     requires watched { IsWatched watch.old (C.times clock.old) }
@@ -79,7 +79,7 @@ pub fn seek<C: Clock>(
     ensures seconds { watch.new.seconds ≡ watch.old.seconds }
     ensures noted { OnOk result (AreNoted (setting_of guide.now) search.new.waiting) }
     ensures begun { HasBegun watch.new (C.times clock.new) }
-    ensures watched { (n : ℕ) → result ≡ Ok (Answer.Proof n)
+    ensures watched { (n : ℕ) → result ≡ Ok (ProverAnswer.Proof n)
         → IsWatched watch.new (C.times clock.new) }
     ensures runs { RunsTo (setting_of guide.now) watch.old.seconds 0 (state_of search.old)
         (state_of search.new) (C.times clock.old) (C.times clock.new) result }
@@ -91,7 +91,7 @@ pub fn seek<C: Clock>(
     loop {
         match drain(alloc, guide, search) {
             Ok(None) => {}
-            Ok(Some(line)) => return Ok(Answer::Proof(line)),
+            Ok(Some(line)) => return Ok(ProverAnswer::Proof(line)),
             Err(error) => return Err(error),
         }
         if let Some(reason) = search.ended {

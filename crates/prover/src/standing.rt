@@ -5,7 +5,7 @@ ghost use Rattle.prover.specs.Provers.{setting_at, state_at, lines_had, proofs_h
 ghost use Rattle.prover_setup.specs.SearchInputs.{input_in, symbols_in, rows_in};
 ghost use Rattle.search_clock.specs.Watching.{HasBegun};
 
-use crate::answer::{Answer, Counters, end_of};
+use crate::answer::{Counters, ProverAnswer, end_of};
 use crate::processing::settle;
 use crate::seeking::{begin, is_at_giving, seek};
 use fol_core::{Clause, Symbols};
@@ -24,7 +24,7 @@ pub struct Prover<'a> {
     guide: Guide<'a>,
     search: Search,
     watch: Watch,
-    end: Option<Answer>,
+    end: Option<ProverAnswer>,
     short: bool,
 }
 
@@ -132,7 +132,11 @@ impl<'a> Prover<'a> {
 
     /// Goes on to the next proof, or to the end; an end is answered again from then on, with no look at the clock, and so is want of
     /// memory. Before the first clause is processed, and before each that is given, the clock is read where a time is set.
-    pub fn run<C: Clock>(&mut self, alloc: Global, clock: &mut C) -> Result<Answer, AllocError>
+    pub fn run<C: Clock>(
+        &mut self,
+        alloc: Global,
+        clock: &mut C,
+    ) -> Result<ProverAnswer, AllocError>
         requires { IsGoing self.old → MayGoOn self.old (C.times clock.old) }
         ensures setting { setting_at self.new ≡ setting_at self.old }
         ensures time { (watch_of self.new).seconds ≡ (watch_of self.old).seconds }
@@ -143,7 +147,7 @@ impl<'a> Prover<'a> {
         ensures ends { IsGoing self.old
             → IfOk result (λ a. end_answered self.new ≡ end_of a) }
         ensures goes { IsGoing self.new → MayGoOn self.new (C.times clock.new) }
-        ensures again { (a : Answer) → is_short self.old ≡ false → end_answered self.old ≡ Some a
+        ensures again { (a : ProverAnswer) → is_short self.old ≡ false → end_answered self.old ≡ Some a
             → (result ≡ Ok a) × (self.new ≡ self.old) × (C.times clock.new ≡ C.times clock.old) }
         ensures short { is_short self.old ≡ true
             → (self.new ≡ self.old) × (C.times clock.new ≡ C.times clock.old) }

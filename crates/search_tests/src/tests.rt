@@ -8,7 +8,7 @@ use ladr_formulas::Mode;
 use ladr_io::{Clock, MemClock};
 use ladr_output::{decimal, text};
 use ladr_problem::read_problem;
-use prover::{Answer, Prover};
+use prover::{Prover, ProverAnswer};
 use std::alloc::{AllocError, Global};
 use std::test::Fail;
 
@@ -42,7 +42,7 @@ fn counts_of<C: Clock>(
     requires { IsGoing prover.old → MayGoOn prover.old (C.times clock.old) }
 {
     match prover.run(alloc, clock)? {
-        Answer::Proof(_) => Ok(Some((prover.tries(), prover.counters().kept))),
+        ProverAnswer::Proof(_) => Ok(Some((prover.tries(), prover.counters().kept))),
         _ => Ok(None),
     }
 }

@@ -8,7 +8,7 @@ use Rattle.ladr_prover9.specs.Counting.{IsFirstProof}
 use Rattle.ladr_prover9.specs.Quests.{quest_lines}
 use Rattle.prover.specs.Answers.{LacksMemory, RunsTo, readings_first, end_of}
 use Rattle.prover.specs.Provers.{state_at, watch_of, IsGoing}
-use Rattle.prover.specs.declared.answer.Answer.{Answer}
+use Rattle.prover.specs.declared.answer.ProverAnswer.{ProverAnswer}
 use Rattle.prover_setup.specs.SearchInputs.{setting_in}
 use Rattle.prover_steps.specs.Searching.{Setting, SearchState}
 
@@ -86,7 +86,7 @@ last_proof-requires-clause-counted g c =
     let h = c.loop-answer.invariant.searched in
     let runs = subst (λ (x : Option ℕ). RunsTo (setting_in q.search) x (readings_first w) s t times now (Ok c.in_ok-answer.answer)) h.time (subst (λ (st : Setting). RunsTo st w.seconds (readings_first w) s t times now (Ok c.in_ok-answer.answer)) c.loop-answer.invariant.setting (c.in_ok-answer.ensures.runs c.loop-answer.invariant.going)) in
     let proof = only_proof c.in_ok-answer.answer (sym c.end_for.ensures ∙ search rules) in
-    let k = subst (λ (x : Answer). RunsTo (setting_in q.search) seconds (readings_first w) s t times now (Ok x)) proof.1 runs in
+    let k = subst (λ (x : ProverAnswer). RunsTo (setting_in q.search) seconds (readings_first w) s t times now (Ok x)) proof.1 runs in
     counted_at c.lines_are_counted.ensures.reached c.args.asking.now t c.requires.asked (reached_next c.ancestors_are_one.ensures.stay c.searches_start_well.ensures c.searches_are_sound.ensures q c.requires.sound seconds w times s a b h now t proof.0 k.0 k.1.0 k.1.1)
 
 pub last_proof-requires-clause-found : goal.last_proof-requires-clause-found
@@ -103,7 +103,7 @@ last_proof-requires-clause-found g c =
     let h = c.loop-answer.invariant.searched in
     let runs = subst (λ (x : Option ℕ). RunsTo (setting_in q.search) x (readings_first w) s t times now (Ok c.in_ok-answer.answer)) h.time (subst (λ (st : Setting). RunsTo st w.seconds (readings_first w) s t times now (Ok c.in_ok-answer.answer)) c.loop-answer.invariant.setting (c.in_ok-answer.ensures.runs c.loop-answer.invariant.going)) in
     let proof = only_proof c.in_ok-answer.answer (sym c.end_for.ensures ∙ search rules) in
-    let k = subst (λ (x : Answer). RunsTo (setting_in q.search) seconds (readings_first w) s t times now (Ok x)) proof.1 runs in
+    let k = subst (λ (x : ProverAnswer). RunsTo (setting_in q.search) seconds (readings_first w) s t times now (Ok x)) proof.1 runs in
     has_proof c.ancestors_are_one.ensures.stay c.searches_start_well.ensures c.searches_are_sound.ensures q c.requires.sound seconds w times s a b h now t proof.0 k.0 k.1.0 k.1.1
 
 pub loop-answer-smaller : goal.loop-answer-smaller
@@ -120,7 +120,7 @@ loop-answer-smaller g c =
     let h = c.loop-answer.invariant.searched in
     let runs = subst (λ (x : Option ℕ). RunsTo (setting_in q.search) x (readings_first w) s t times now (Ok c.in_ok-answer.answer)) h.time (subst (λ (st : Setting). RunsTo st w.seconds (readings_first w) s t times now (Ok c.in_ok-answer.answer)) c.loop-answer.invariant.setting (c.in_ok-answer.ensures.runs c.loop-answer.invariant.going)) in
     let proof = only_proof c.in_ok-answer.answer (sym c.end_for.ensures ∙ search rules) in
-    let k = subst (λ (x : Answer). RunsTo (setting_in q.search) seconds (readings_first w) s t times now (Ok x)) proof.1 runs in
+    let k = subst (λ (x : ProverAnswer). RunsTo (setting_in q.search) seconds (readings_first w) s t times now (Ok x)) proof.1 runs in
     omega (arith, many c.ancestors_are_one.ensures.stay c.searches_start_well.ensures c.searches_are_sound.ensures q c.requires.sound seconds w times s a b h now t proof.0 k.0 k.1.0 k.1.1, (within c.ends_have_reasons.ensures.start c.ends_have_reasons.ensures.reached q t (reached_next c.ancestors_are_one.ensures.stay c.searches_start_well.ensures c.searches_are_sound.ensures q c.requires.sound seconds w times s a b h now t proof.0 k.0 k.1.0 k.1.1)).proofs)
 
 pub loop-answer-preserved : goal.loop-answer-preserved
@@ -137,7 +137,7 @@ loop-answer-preserved g c =
     let h = c.loop-answer.invariant.searched in
     let runs = subst (λ (x : Option ℕ). RunsTo (setting_in q.search) x (readings_first w) s t times now (Ok c.in_ok-answer.answer)) h.time (subst (λ (st : Setting). RunsTo st w.seconds (readings_first w) s t times now (Ok c.in_ok-answer.answer)) c.loop-answer.invariant.setting (c.in_ok-answer.ensures.runs c.loop-answer.invariant.going)) in
     let proof = only_proof c.in_ok-answer.answer (sym c.end_for.ensures ∙ search rules) in
-    let k = subst (λ (x : Answer). RunsTo (setting_in q.search) seconds (readings_first w) s t times now (Ok x)) proof.1 runs in
+    let k = subst (λ (x : ProverAnswer). RunsTo (setting_in q.search) seconds (readings_first w) s t times now (Ok x)) proof.1 runs in
     let going : IsGoing c.run.new.self = record { unended = c.in_ok-answer.ensures.ends c.loop-answer.invariant.going ∙ ap end_of proof.1; sufficed = c.in_ok-answer.ensures.sufficed.1 } in
     record {
       searched = shown c.ancestors_are_one.ensures.stay c.searches_start_well.ensures c.searches_are_sound.ensures q c.requires.sound seconds w times s a b h now t proof.0 k.0 k.1.0 k.1.1 (watch_of c.run.new.self) c.last_proof.result (g.K.Sink.outflow c.piece.new.sink) (c.run.ensures.time ∙ h.time) (c.run.ensures.begun c.loop-answer.invariant.going) (c.last_proof.ensures.text s.proofs k.0.found.0 (found c.ancestors_are_one.ensures.stay c.searches_start_well.ensures c.searches_are_sound.ensures q c.requires.sound seconds w times s a b h now t proof.0 k.0 k.1.0 k.1.1)) c.in_ok-piece.ensures.lacking c.in_ok-piece.ensures.printed;
@@ -163,6 +163,6 @@ returns-in_err-piece-clause-tells g c =
     let h = c.loop-answer.invariant.searched in
     let runs = subst (λ (x : Option ℕ). RunsTo (setting_in q.search) x (readings_first w) s t times now (Ok c.in_ok-answer.answer)) h.time (subst (λ (st : Setting). RunsTo st w.seconds (readings_first w) s t times now (Ok c.in_ok-answer.answer)) c.loop-answer.invariant.setting (c.in_ok-answer.ensures.runs c.loop-answer.invariant.going)) in
     let proof = only_proof c.in_ok-answer.answer (sym c.end_for.ensures ∙ search rules) in
-    let k = subst (λ (x : Answer). RunsTo (setting_in q.search) seconds (readings_first w) s t times now (Ok x)) proof.1 runs in
+    let k = subst (λ (x : ProverAnswer). RunsTo (setting_in q.search) seconds (readings_first w) s t times now (Ok x)) proof.1 runs in
     let p = err_from_is_err_and c.from_residual-in_err-piece.result c.from_residual-in_err-piece.ensures.1 in
     rw (p.1, p.2) (stopped c.ancestors_are_one.ensures.stay c.searches_start_well.ensures c.searches_are_sound.ensures q c.requires.sound seconds w times s a b h now t proof.0 k.0 k.1.0 k.1.1 t c.last_proof.result (g.K.Sink.outflow c.piece.new.sink) c.in_err-piece.field-0.0 (c.last_proof.ensures.text s.proofs k.0.found.0 (found c.ancestors_are_one.ensures.stay c.searches_start_well.ensures c.searches_are_sound.ensures q c.requires.sound seconds w times s a b h now t proof.0 k.0 k.1.0 k.1.1)) c.in_err-piece.ensures.lacking c.in_err-piece.ensures.printed)

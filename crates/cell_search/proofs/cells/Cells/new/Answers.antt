@@ -2,7 +2,7 @@ use Rattle.std.proofs.Common.{◌≡◌, ℕ, List, length, false, max, refl, sy
 use Rattle.std.proofs.lemmas.List.{length-replicate, length-map}
 use Rattle.cell_choice.proofs.Shaping.{shapes_many}
 use Rattle.cell_choice.specs.Numbers.{uses_by}
-use Rattle.cell_choice.specs.declared.shape.Shape.{Shape}
+use Rattle.cell_choice.specs.declared.shape.CellShape.{CellShape}
 use Rattle.mace_cells.specs.Stacked.{Stacked}
 use Rattle.mace_cells.specs.Trails.{Partial, counts_crossed}
 use Rattle.mace_cells.specs.World.{many_cells}
@@ -19,7 +19,7 @@ pub new-requires : goal.new-requires
 new-requires c =
     let w = c.args.setup in
     let is : length c.in_ok-indices.indices.items ≡ length c.deref.result.now = ap (λ (xs : List ℕ). length xs) c.in_ok-indices.ensures ∙ length-map c.deref.result.now (λ s. s.above) in
-    let shapes : length c.deref.result.now ≡ many_cells w = ap (λ (ss : List Shape). length ss) (c.deref.ensures.value ∙ c.requires.shapes) ∙ shapes_many w.size w.blocks in
+    let shapes : length c.deref.result.now ≡ many_cells w = ap (λ (ss : List CellShape). length ss) (c.deref.ensures.value ∙ c.requires.shapes) ∙ shapes_many w.size w.blocks in
     omega (arith, is, shapes, c.cells-cells.ensures, c.cells-cells.type_inv)
 
 pub invariant_of-result : goal.invariant_of-result

@@ -2,7 +2,7 @@ use Rattle.std.proofs.Common.{◌≡◌, ℕ, ◌++◌, true, Option, MatchOptio
 use Rattle.std.specs.List.{slice_index_or}
 use Rattle.std.proofs.lemmas.List.{take_at}
 use Rattle.cell_choice.specs.Choosing.{IsHighest, IsLimit, IsPicked, index_by, is_up_to}
-use Rattle.cell_choice.specs.declared.shape.Shape.{Shape}
+use Rattle.cell_choice.specs.declared.shape.CellShape.{CellShape}
 use Rattle.mace_cells.specs.Numbers.{above_used}
 use Rattle.mace_cells.specs.Trails.{Partial, IsBlank, score}
 use Rattle.mace_cells.specs.declared.way.Way.{Way}
@@ -25,12 +25,12 @@ returns-then-is_ranked-clause-picked c =
 pub limit-requires-clause-many : goal.limit-requires-clause-many
 limit-requires-clause-many c =
     let a = c.self.inside in
-    ap (λ (ss : List Shape). length ss) c.deref.ensures.value ∙ many_shapes a.setup a.shapes.items c.self.invariant.shapes ∙ sym c.self.invariant.board.many
+    ap (λ (ss : List CellShape). length ss) c.deref.ensures.value ∙ many_shapes a.setup a.shapes.items c.self.invariant.shapes ∙ sym c.self.invariant.board.many
 
 pub highest-requires-clause-many : goal.highest-requires-clause-many
 highest-requires-clause-many c =
     let a = c.self.inside in
-    ap (λ (ss : List Shape). length ss) c.deref-4.ensures.value ∙ many_shapes a.setup a.shapes.items c.self.invariant.shapes ∙ sym c.self.invariant.board.many ∙ sym (ap (λ (t : Partial). t.many) c.score.ensures.same)
+    ap (λ (ss : List CellShape). length ss) c.deref-4.ensures.value ∙ many_shapes a.setup a.shapes.items c.self.invariant.shapes ∙ sym c.self.invariant.board.many ∙ sym (ap (λ (t : Partial). t.many) c.score.ensures.same)
 
 pub returns-clause-picked : goal.returns-clause-picked
 returns-clause-picked c =

@@ -1,6 +1,6 @@
 use Rattle.std.proofs.Common.{◌≡◌, ◌<◌, true, None, List, length, refl, sym, ap, ◌∙◌, subst, ℕ, arith}
 use Rattle.cell_choice.specs.Numbers.{uses_by}
-use Rattle.cell_choice.specs.declared.shape.Shape.{Shape}
+use Rattle.cell_choice.specs.declared.shape.CellShape.{CellShape}
 use Rattle.mace_cells.specs.Numbers.{above_used}
 use Rattle.mace_cells.specs.Stacked.{Stacked}
 use Rattle.mace_cells.specs.Trails.{Partial, value_in}
@@ -37,7 +37,7 @@ invariant_of-self c =
       shapes = c.self.invariant.shapes;
       uses =
           uses_more w t c.assign.new.self c.args.cell c.args.value (length t.crossings) c.index-shape.result.now.above c.in_use.result c.above_decision-used.result a.uses.list c.push.new.self.list c.self.invariant.uses
-          (ap (λ (s : Stacked ℕ). s.list) c.push.ensures) (ap (λ (s : Shape). s.above) (shape_read w a.shapes.items c.args.cell c.index-shape.result.now c.self.invariant.shapes within c.index-shape.ensures))
+          (ap (λ (s : Stacked ℕ). s.list) c.push.ensures) (ap (λ (s : CellShape). s.above) (shape_read w a.shapes.items c.args.cell c.index-shape.result.now c.self.invariant.shapes within c.index-shape.ensures))
           (c.in_use.ensures ∙ ap (λ (p : BoardPosition). above_used p.world.fixed (decided_in p.world p.table.entries)) (sym c.self.view_is)) c.above_decision-used.ensures c.assign.ensures;
       stack = ap (λ (s : Stacked ℕ). s.room) c.push.ensures ∙ c.self.invariant.stack;
       small = c.self.invariant.small;

@@ -1,23 +1,23 @@
 use Rattle.std.proofs.Common.{suc, ◌≡◌, ◌<◌, ◌∷◌, ◌++◌, length, reverse, take, drop, sym, ap, ◌∙◌, subst, arith}
-use Rattle.std.proofs.lemmas.List.{get_or-take, length-reverse, length-take}
+use Rattle.std.proofs.lemmas.List.{length-reverse, length-take}
 use Rattle.mace_cells.specs.Stacked.{Stacked}
-use Rattle.mace_cells.proofs.Stacks.{one_of, within_top}
+use Rattle.mace_cells.proofs.Stacks.{one_of}
 use Rattle.mace_cells.proofs.stack.Stack.get.Goals as goal
 
 pub returns : goal.returns
 returns g c =
     let xs = c.self.inside.items.items in
-    let top = c.self.inside.top in
     let at = c.args.at in
-    let there : at < length (reverse (take top xs)) = subst (λ (s : Stacked g.row.T.Denot). at < length s.list) (sym c.self.view_is) c.requires in
-    let here = within_top xs top at there in
-    let back : length (reverse (take at (take top xs))) ≡ length (take at (take top xs)) = length-reverse (take at (take top xs)) in
-    let many = length-take at (take top xs) in (
-      reverse (drop (suc at) (take top xs)),
+    let asked : at < length (reverse xs) = subst (λ (s : Stacked g.row.T.Denot). at < length s.list) (sym c.self.view_is) c.requires in
+    let all = length-reverse xs in
+    let there : at < length xs = omega (arith, all, asked) in
+    let back : length (reverse (take at xs)) ≡ length (take at xs) = length-reverse (take at xs) in
+    let many = length-take at xs in (
+      reverse (drop (suc at) xs),
       (
-        reverse (take at (take top xs)),
-        sym (ap (λ (s : Stacked g.row.T.Denot). s.list) c.self.view_is) ∙ one_of (take top xs) at c.index.result.now here.0
-            ∙ ap (λ (x : g.row.T.Denot). reverse (drop (suc at) (take top xs)) ++ x ∷ reverse (take at (take top xs))) (get_or-take top xs at c.index.result.now here.1 ∙ sym c.index.ensures),
-        omega (arith, back, many, here.0),
+        reverse (take at xs),
+        sym (ap (λ (s : Stacked g.row.T.Denot). s.list) c.self.view_is) ∙ one_of xs at c.index.result.now there
+            ∙ ap (λ (x : g.row.T.Denot). reverse (drop (suc at) xs) ++ x ∷ reverse (take at xs)) (sym c.index.ensures),
+        omega (arith, back, many, there),
       ),
     )

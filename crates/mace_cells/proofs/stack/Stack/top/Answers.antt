@@ -1,14 +1,10 @@
-use Rattle.std.proofs.Common.{◌≡◌, suc, ◌-◌, ◌∷◌, reverse, take, sym, ap, ◌∙◌, arith}
+use Rattle.std.proofs.Common.{◌≡◌, ◌-◌, List, length, reverse, take, sym, ap, ◌∙◌, Some, slice_get}
 use Rattle.mace_cells.specs.Stacked.{Stacked}
-use Rattle.mace_cells.proofs.Stacks.{latest}
+use Rattle.mace_cells.proofs.Stacks.{got}
 use Rattle.mace_cells.proofs.stack.Stack.top.Goals as goal
 
-pub returns-else-self-eq0 : goal.returns-else-self-eq0
-returns-else-self-eq0 g c =
+pub returns-in-Some : goal.returns-in-Some
+returns-in-Some g c =
     let xs = c.self.inside.items.items in
-    let next : c.self.inside.top ≡ suc (c.self.inside.top - 1) = omega (arith, c.if-self-eq0.false) in
-    let rest = reverse (take (c.self.inside.top - 1) xs) in (
-      rest,
-      sym (ap (λ (s : Stacked g.row.T.Denot). s.list) c.self.view_is) ∙ latest xs (c.self.inside.top - 1) c.self.inside.top c.index.result.now next c.self.invariant
-          ∙ ap (λ (x : g.row.T.Denot). x ∷ rest) (sym c.index.ensures),
-    )
+    let found : slice_get xs (length xs - 1) ≡ Some c.in-Some.item.now = sym (c.in-Some.ensures.value ∙ ap (λ (ys : List g.row.T.Denot). slice_get ys (length ys - 1)) c.deref.ensures.value) in
+    (reverse (take (length xs - 1) xs), sym (ap (λ (s : Stacked g.row.T.Denot). s.list) c.self.view_is) ∙ got xs c.in-Some.item.now found)
