@@ -23,7 +23,7 @@ syntax cluster ladrTerm contains=ladrComment,ladrQuoted,ladrQuantifier,ladrTruth
 
 " Lists
 syntax keyword ladrListName assumptions sos usable demodulators goals hints contained
-syntax keyword ladrRulesName weights kbo_weights contained
+syntax keyword ladrRulesName weights kbo_weights distinct contained
 syntax region ladrList matchgroup=ladrCommand start=/\<formulas\>/ end=/\<end_of_list\>/ contains=@ladrTerm,ladrOpened
 syntax region ladrRules matchgroup=ladrCommand start=/\<list\>/ end=/\<end_of_list\>/ contains=@ladrTerm,ladrOpenedRules
 syntax region ladrOpened matchgroup=ladrPlain start=/\%(\<formulas\s*\)\@<=(/ end=/)/ contained contains=ladrListName,ladrUnknown
