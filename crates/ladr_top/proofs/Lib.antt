@@ -1,3 +1,4 @@
+pub mod Assumed
 pub mod Checked
 pub mod Ended
 pub mod Lacking

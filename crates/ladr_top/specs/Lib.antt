@@ -1,3 +1,4 @@
+pub mod Assumed
 pub mod Causes
 pub mod Ended
 pub mod Limits

@@ -2,7 +2,7 @@
 // `running.rt` has `run`, which is a page: words, the command, its end, the exit status. `cause.rt` has the causes for
 // which a run ends: a command's own ends are nested in one variant, so that a new command adds a variant, a line of
 // `status_of` and a clause of `run`. `lines.rt` has the line for words that are no command, `limits.rt` the limits by
-// their numbers.
+// their numbers, `names.rt` what items of names add.
 // The laws on what stands in outputs are called where `run` begins: `checks_show` of `ladr_check`, `searches_show` of
 // `ladr_mace4`, `proofs_show` of `ladr_prover9`, `outputs_are_accepted` of `accepted_output` and `filters_read_back` of
 // `ladr_clausetester`. `specs/Runs` says what a run of each command amounts to, by the definitions of the commands'
@@ -14,6 +14,7 @@
 mod cause;
 mod limits;
 mod lines;
+mod names;
 mod running;
 
 pub use cause::{Cause, CheckEnd, Exit, Limit, Place, ProverEnd, Refused, SearchEnd, Tested};

@@ -2,7 +2,7 @@
 ghost use Rattle.std.specs.Prelude.{◌≡◌, ◌≢◌, ℕ, Option, true, false, None, Some, map};
 ghost use Rattle.std.specs.String.{string_bytes};
 ghost use Rattle.ladr_check.specs.Shown.{ShowsProofs};
-ghost use Rattle.ladr_distinct.specs.Different.{DistinctMeansDifferent};
+ghost use Rattle.ladr_top.specs.Assumed.{NamesAreAssumed};
 ghost use Rattle.ladr_top.specs.Causes.{status_of};
 ghost use Rattle.ladr_top.specs.Ended.{RunsTask, TestsOrFilters, cause_in};
 ghost use Rattle.ladr_top.specs.Limits.{AreLimits};
@@ -14,11 +14,11 @@ ghost use Rattle.ladr_words.specs.declared.task.Task.TheVariants.{Check, Clauset
 use crate::cause::{Cause, Exit, status};
 use crate::limits::limits_are_told;
 use crate::lines::no_command;
+use crate::names::names_are_assumed;
 use accepted_output::outputs_are_accepted;
 use fol_core::Interpretation;
 use ladr_check::{check_text, checks_show};
 use ladr_clausetester::{Tested, clausetester, filter_interpretations, filters_read_back};
-use ladr_distinct::distinct_means_different;
 use ladr_intake::Stop;
 use ladr_io::{Clock, Sink, Source};
 use ladr_mace4::{mace4, searches_show};
@@ -46,8 +46,8 @@ pub fn run<I: Interpretation, S: Source, K: Sink, C: Clock>(
     // The limits that the other clauses name, by their numbers.
     ensures limits { AreLimits }
 
-    // The formula that an item of names adds holds exactly where the values of the names differ pairwise.
-    ensures distinct { DistinctMeansDifferent }
+    // An item of names that is taken adds an assumption that holds exactly where the values of the names differ pairwise.
+    ensures distinct { NamesAreAssumed }
 
     // Words that are no command are refused, and nothing is read; nor is it for a generated problem.
     ensures words { task_of (map string_bytes words.now) ≡ None
@@ -130,7 +130,7 @@ pub fn run<I: Interpretation, S: Source, K: Sink, C: Clock>(
     outputs_are_accepted();
     filters_read_back();
     limits_are_told();
-    distinct_means_different();
+    names_are_assumed();
     match task_of(alloc, words) {
         Ok(task) => exit(ended(alloc, task, source, sink, clock)),
         Err(WordsError::NoCommand) => exit(refuse(alloc, sink)),
