@@ -1,6 +1,6 @@
 // Clauses and rules that are held, found through indexes of terms.
 // `lists.rt` finds places in a list of clauses whose numbers rise, by halves, and of several numbers by longer and
-// longer steps. `rules.rt` has `Rules`: such a list, which contracts see, and an index of the left sides, whose least
+// longer steps. `rules.rt` has `RewriteRules`: such a list, which contracts see, and an index of the left sides, whose least
 // number that generalizes a term is the first rule that fits. With them stand up to 512 small terms that no rule fits
 // in (`normal_terms.rt`), each in a slot by a number made of it; that none has a step is an invariant (`specs/Normal`):
 // a rule that comes makes them forgotten, one that goes doesn't (`proofs/Fewer`).
@@ -34,5 +34,5 @@ mod short;
 pub use held_set::{HeldSet, HeldSets};
 pub use normal_terms::NormalTerms;
 pub use numbered::{add_numbers, all_numbered};
-pub use rules::Rules;
+pub use rules::RewriteRules;
 pub use short::is_short;

@@ -22,13 +22,13 @@ use std::mem;
 
 /// Rules by rising number, with an index of their left sides, and terms that no rule fits in; contracts see the list of rules.
 #[derive(Drop)]
-pub struct Rules {
+pub struct RewriteRules {
     rules: Vec<Held>,
     lefts: Index,
     known: NormalTerms,
 }
 
-impl Model for Rules {
+impl Model for RewriteRules {
     ghost use Rattle.std.specs.Prelude.{List};
     ghost use Rattle.std.specs.Coded.{coded_list};
     ghost use Rattle.held_clauses.specs.Holding.{HeldClause, coded_held};
@@ -44,12 +44,12 @@ impl Model for Rules {
     ghost invariant = { λ a. AreRules a.rules.items a.lefts a.known };
 }
 
-impl Rules {
+impl RewriteRules {
     /// No rules.
-    pub fn new(alloc: Global) -> Rules
+    pub fn new(alloc: Global) -> RewriteRules
         ensures { result ≡ [] }
     {
-        Rules {
+        RewriteRules {
             rules: Vec::new(alloc),
             lefts: Index::new(alloc),
             known: NormalTerms::new(alloc),

@@ -11,7 +11,7 @@ ghost use Rattle.prover_steps.specs.Searching.{is_too_large};
 
 use crate::rewriting::{atom_step, is_passed, place_within};
 use crate::step::{PlacedStep, Step, Taken, Tidied};
-use clause_index::{NormalTerms, Rules};
+use clause_index::{NormalTerms, RewriteRules};
 use derivation::{Later, Rewrite};
 use discrim_tree::Tries;
 use fol_core::{Clause, Term};
@@ -23,7 +23,7 @@ use std::alloc::{AllocError, Global};
 #[tactic(auto, using(crate::proofs::Redexes::normal_literals_more, crate::proofs::Redexes::literal_step, crate::proofs::Redexes::no_literal_step))]
 fn first_in_clause<'a>(
     alloc: Global,
-    rules: &'a Rules,
+    rules: &'a RewriteRules,
     known: &mut NormalTerms,
     clause: &'a Clause,
     from: &[u64],
@@ -93,7 +93,7 @@ fn part_of(
 // The next step, built, unless it makes the clause too large.
 fn next_step(
     alloc: Global,
-    rules: &Rules,
+    rules: &RewriteRules,
     known: &mut NormalTerms,
     clause: &Clause,
     from: &[u64],
@@ -125,7 +125,7 @@ fn next_step(
 #[tactic(auto, using(crate::proofs::Redexes::steps_end, crate::proofs::Redexes::steps_stop, crate::proofs::Resuming::nothing_before_literals))]
 fn after_steps(
     alloc: Global,
-    rules: &Rules,
+    rules: &RewriteRules,
     known: &mut NormalTerms,
     limit: u32,
     clause: Clause,
@@ -166,7 +166,7 @@ fn after_steps(
 #[tactic(auto, using(crate::proofs::Ruleless::no_rules))]
 pub fn normal_form(
     alloc: Global,
-    rules: &mut Rules,
+    rules: &mut RewriteRules,
     limit: u32,
     clause: Clause,
     tries: &mut Tries,

@@ -142,15 +142,19 @@ fn leave_out_false(tidied: Tidied) -> Result<Tidied, AllocError>
 
 // The number of the first of some units that denies a literal.
 #[tactic(auto, using(crate::proofs::Fits::denying_here, crate::proofs::Fits::denying_behind, crate::proofs::Fits::denying_end))]
-fn first_denying(alloc: Global, held: &[&Held], literal: &Literal) -> Option<u64>
-    ensures { result ≡ first_denying (lent held.now) (literal_of literal.now) }
+fn first_denying(
+    alloc: Global,
+    held: &[&Held],
+    literal: &Literal,
+) -> Result<Option<u64>, AllocError>
+    ensures { IfOk result (λ o. o ≡ first_denying (lent held.now) (literal_of literal.now)) }
 {
     for unit in held {
-        if denies(alloc, unit, literal) {
-            return Some(unit.number());
+        if denies(alloc, unit, literal)? {
+            return Ok(Some(unit.number()));
         }
     }
-    None
+    Ok(None)
 }
 
 // The number of the first unit of a set that denies a literal; the numbers of the set rise.
@@ -166,7 +170,7 @@ fn first_denying_in(
     ensures on { tries.old ≤ tries.new }
 {
     let units = set.short_above(!literal.positive, &literal.atom, tries)?;
-    Ok(first_denying(alloc, units.as_slice(), literal))
+    first_denying(alloc, units.as_slice(), literal)
 }
 
 // The lesser of two numbers, if there are any.

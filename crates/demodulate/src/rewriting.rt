@@ -10,7 +10,7 @@ ghost use Rattle.fol_core.specs.Tree.{app, trees_of};
 ghost use Rattle.prover_steps.specs.Rewriting.{step_at_top, widened, first_step, step_in, atom_step};
 
 use crate::step::Step;
-use clause_index::{NormalTerms, Rules};
+use clause_index::{NormalTerms, RewriteRules};
 use discrim_tree::Tries;
 use fol_core::{Term, Terms};
 use std::alloc::{AllocError, Global};
@@ -19,7 +19,7 @@ use std::alloc::{AllocError, Global};
 #[tactic(auto, using(crate::proofs::Redexes::top_found, crate::proofs::Redexes::top_fits, crate::proofs::Redexes::top_none))]
 fn step_at_top<'a>(
     alloc: Global,
-    rules: &'a Rules,
+    rules: &'a RewriteRules,
     term: &'a Term,
     tries: &mut Tries,
 ) -> Result<Option<Step<'a>>, AllocError>
@@ -73,7 +73,7 @@ pub fn place_within(number: u64, place: &[u64]) -> &[u64]
 #[tactic(auto, using(crate::proofs::Redexes::normal_more, crate::proofs::Redexes::argument_step, crate::proofs::Redexes::no_argument_step))]
 pub fn step_within<'a>(
     alloc: Global,
-    rules: &'a Rules,
+    rules: &'a RewriteRules,
     known: &mut NormalTerms,
     terms: &'a Terms,
     from: &[u64],
@@ -112,7 +112,7 @@ pub fn step_within<'a>(
 #[tactic(auto, using(crate::proofs::Redexes::step_inside, crate::proofs::Redexes::step_outside))]
 pub fn first_step<'a>(
     alloc: Global,
-    rules: &'a Rules,
+    rules: &'a RewriteRules,
     known: &mut NormalTerms,
     term: &'a Term,
     from: &[u64],
@@ -150,7 +150,7 @@ pub fn first_step<'a>(
 /// The first step below an atom.
 pub fn atom_step<'a>(
     alloc: Global,
-    rules: &'a Rules,
+    rules: &'a RewriteRules,
     known: &mut NormalTerms,
     atom: &'a Term,
     from: &[u64],

@@ -8,7 +8,7 @@ ghost use Rattle.prover_steps.specs.Searching.{is_too_large};
 use crate::normal::normal_form;
 use crate::ordering::put_in_order;
 use crate::step::Tidied;
-use clause_index::{HeldSets, Rules};
+use clause_index::{HeldSets, RewriteRules};
 use clause_limits::numbered_anew;
 use discrim_tree::Tries;
 use fol_core::Clause;
@@ -22,7 +22,7 @@ pub fn tidy(
     alloc: Global,
     precedence: &Precedence,
     options: &Options,
-    rules: &mut Rules,
+    rules: &mut RewriteRules,
     held: &HeldSets<'_>,
     clause: Clause,
     tries: &mut Tries,

@@ -10,9 +10,8 @@
 // variables, none very deep or behind fifteen arguments, an entry keeps each place of a variable with the next of the
 // same one (`once.rt`; a place is a number, four bits a level, `specs/Places`): it is more general just where the other
 // term has the same part at both (`proofs/Repeated`). Else the packed term is unpacked, or the term was kept.
-// `meeting.rt` first compares heads, then tries instances (above eight variables maybe the square of their size), then
-// `term_unifiers` decides. `Tries` (`tries.rt`) counts tests and lends room; the least number is sought by tests up to
-// the first that passes.
+// `meeting.rt` first compares heads, then tries instances, then `term_unifiers` decides. `Tries` (`tries.rt`) counts
+// tests and lends room; the least number is sought by tests up to the first that passes.
 // Nodes stand in a `slab`, linked to the one above, with one number or branch in the node itself (`contents.rt`; no
 // branch of a symbol with 2^16 arguments, or to a key above 32 bits), or lists, of which four branches are gone
 // through, more by halves. Taking out follows the packed path down (`packed.rt`) and the links up, without memory; a

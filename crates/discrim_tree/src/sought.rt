@@ -46,16 +46,18 @@ impl Sought {
         ensures { IfOk result (λ b. b ≡ passes self.now (tree_of t.now) (tree_of s.now)) }
     {
         match self {
-            Sought::Generalizations => Ok(is_instance(alloc, s, t)),
-            Sought::Instances => Ok(is_instance(alloc, t, s)),
+            Sought::Generalizations => is_instance(alloc, s, t),
+            Sought::Instances => is_instance(alloc, t, s),
             Sought::Unifiable => {
                 if !may_meet(s, t) {
                     return Ok(false);
                 }
-                if is_instance(alloc, s, t) {
+                let below = is_instance(alloc, s, t)?;
+                if below {
                     return Ok(true);
                 }
-                if is_instance(alloc, t, s) {
+                let above = is_instance(alloc, t, s)?;
+                if above {
                     return Ok(true);
                 }
                 can_unify(alloc, s, t)

@@ -51,28 +51,28 @@ pub fn is_unit(clause: &Clause) -> bool
 }
 
 /// Whether a clause subsumes another one, in room that is made for it.
-pub fn is_subsumed_by(
-    places: &mut Places,
+pub fn is_subsumed_by<'a>(
+    places: &mut Places<'a>,
     clause: &Clause,
-    other: &Clause,
+    other: &'a Clause,
 ) -> Result<bool, AllocError>
     ensures { IfOk result (λ b. b ≡ subsumes clause.now other.now) }
 {
-    places.reserve(clause.len())?;
+    places.reserve_for(clause)?;
     Ok(subsumes(places, clause, other))
 }
 
 // Whether a unit denies a literal of a clause.
 #[tactic(auto, using(crate::proofs::Tests::literal_here, crate::proofs::Tests::literal_behind, crate::proofs::Tests::literal_end))]
-fn denies_some(alloc: Global, unit: &Held, clause: &Clause) -> bool
-    ensures { result ≡ list_any (denies unit.now) clause.now }
+fn denies_some(alloc: Global, unit: &Held, clause: &Clause) -> Result<bool, AllocError>
+    ensures { IfOk result (λ b. b ≡ list_any (denies unit.now) clause.now) }
 {
     for literal in clause.as_slice() {
-        if denies(alloc, unit, literal) {
-            return true;
+        if denies(alloc, unit, literal)? {
+            return Ok(true);
         }
     }
-    false
+    Ok(false)
 }
 
 // Whether a clause does so to another one.
@@ -81,8 +81,8 @@ fn acts_on(alloc: Global, act: Act, held: &Held, clause: &Clause) -> Result<bool
 {
     match act {
         Act::Subsumes => is_subsumed_by(&mut Places::new(alloc), held.clause(), clause),
-        Act::PutsBack(Back::Deletes) => Ok(denies_some(alloc, held, clause)),
-        Act::PutsBack(Back::Rewrites) => Ok(rewrites_clause(alloc, held, clause)),
+        Act::PutsBack(Back::Deletes) => denies_some(alloc, held, clause),
+        Act::PutsBack(Back::Rewrites) => rewrites_clause(alloc, held, clause),
     }
 }
 

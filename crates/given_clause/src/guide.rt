@@ -24,7 +24,7 @@ pub struct Guide<'a> {
 }
 
 /// Room for a clause to be weighed and compared with hints.
-pub fn room_for(alloc: Global, clause: &Clause) -> Result<Room, AllocError>
+pub fn room_for<'a>(alloc: Global, clause: &Clause) -> Result<Room<'a>, AllocError>
     requires { is_too_large clause.now ≡ false }
     ensures { IfOk result (λ room. clause_size clause.now ≤ room) }
 {
@@ -35,7 +35,7 @@ pub fn room_for(alloc: Global, clause: &Clause) -> Result<Room, AllocError>
 
 impl Guide<'_> {
     /// What a clause weighs.
-    pub fn weight_of(&self, room: &mut Room, clause: &Clause) -> u64
+    pub fn weight_of<'b>(&'b self, room: &mut Room<'b>, clause: &'b Clause) -> u64
         requires { clause_size clause.now ≤ room.old }
         ensures weight { result ≡ (setting_of self.now).weight clause.now }
         ensures room { room.new ≡ room.old }
@@ -44,7 +44,7 @@ impl Guide<'_> {
     }
 
     /// Whether a clause matches a hint.
-    pub fn is_hinted(&self, room: &mut Room, clause: &Clause) -> bool
+    pub fn is_hinted<'b>(&'b self, room: &mut Room<'b>, clause: &Clause) -> bool
         requires { clause_size clause.now ≤ room.old }
         ensures hinted { result ≡ (setting_of self.now).is_hinted clause.now }
         ensures room { room.new ≡ room.old }

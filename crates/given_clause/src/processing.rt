@@ -113,7 +113,11 @@ fn is_subsumed_by_short(
 }
 
 // Whether a clause has two literals or more and subsumes another one.
-fn is_long_above(places: &mut Places, held: &Held, clause: &Clause) -> Result<bool, AllocError>
+fn is_long_above<'a>(
+    places: &mut Places<'a>,
+    held: &Held,
+    clause: &'a Clause,
+) -> Result<bool, AllocError>
     ensures { IfOk result (λ b. b ≡ is_long_above clause.now held.now) }
 {
     if is_short(held.clause()) {
@@ -187,7 +191,11 @@ fn is_subsumed_by_held(
 }
 
 // Whether a clause weighs too much and matches no hint.
-fn is_too_heavy(alloc: Global, guide: &Guide<'_>, clause: &Clause) -> Result<bool, AllocError>
+fn is_too_heavy<'a>(
+    alloc: Global,
+    guide: &'a Guide<'_>,
+    clause: &'a Clause,
+) -> Result<bool, AllocError>
     requires { is_too_large clause.now ≡ false }
     ensures { IfOk result (λ b. b ≡ is_too_heavy (setting_of guide.now) clause.now) }
 {

@@ -1,6 +1,6 @@
 // Where a search stands.
 use crate::waiting::Waiting;
-use clause_index::{HeldSet, Rules};
+use clause_index::{HeldSet, RewriteRules};
 use derivation::{First, Later};
 use discrim_tree::Tries;
 use fol_core::Clause;
@@ -50,7 +50,7 @@ pub struct FoundProof {
 pub struct Search {
     pub waiting: Waiting,
     pub usable: HeldSet,
-    pub rules: Rules,
+    pub rules: RewriteRules,
     pub queue: VecDeque<QueueEntry>,
     pub lines: Vec<MadeLine>,
     pub next: u64,

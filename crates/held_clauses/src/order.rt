@@ -1,16 +1,16 @@
 // Terms compared by the order that is chosen.
 ghost use Rattle.std.specs.Prelude.{◌≡◌, ◌≤◌, IfOk, false};
-ghost use Rattle.clause_limits.specs.declared.limits.TheConstants.{MOST_CLAUSE_SYMBOLS};
 ghost use Rattle.fol_core.specs.Sizes.{size_of};
 ghost use Rattle.fol_core.specs.TermView.{tree_of};
 ghost use Rattle.held_clauses.specs.Order.{greater_of};
 ghost use Rattle.held_clauses.specs.Variables.{has_each_of};
+ghost use Rattle.held_clauses.specs.declared.weight_order.TheConstants.{MOST_WEIGHED_SYMBOLS};
 ghost use Rattle.term_order.specs.Kbo.{kbo_greater};
 ghost use Rattle.term_order.specs.Precedences.{stands_above, weight_at};
 
 use crate::path_order::is_path_greater;
-use crate::weight_order::outweighs;
-use clause_limits::{MOST_CLAUSE_SYMBOLS, left_behind};
+use crate::weight_order::{MOST_WEIGHED_SYMBOLS, outweighs};
+use clause_limits::left_behind;
 use fol_core::Term;
 use ladr_options::Order;
 use std::alloc::AllocError;
@@ -36,11 +36,11 @@ fn has_each_of(s: &Term, t: &Term) -> bool
     }
 }
 
-// Whether a term has more symbols and variables than a clause of a search.
+// Whether a term has so many symbols and variables that 64 bits may not hold its weight.
 fn is_large(term: &Term) -> bool
-    ensures { result ≡ false → size_of (tree_of term.now) ≤ MOST_CLAUSE_SYMBOLS }
+    ensures { result ≡ false → size_of (tree_of term.now) ≤ MOST_WEIGHED_SYMBOLS }
 {
-    left_behind(term, MOST_CLAUSE_SYMBOLS).is_none()
+    left_behind(term, MOST_WEIGHED_SYMBOLS).is_none()
 }
 
 // Whether the first term is greater by weight.
@@ -64,8 +64,8 @@ fn is_greater_told(precedence: &Precedence, s: &Term, t: &Term) -> Result<bool, 
     }
 }
 
-/// Whether the first term is greater: it takes no memory. A term of more than 1,000,000 symbols, which no clause of a search
-/// has, has no room where terms are compared by weight.
+/// Whether the first term is greater: it takes no memory. Where terms are compared by weight, one of 2^32 symbols counts as one
+/// that memory doesn't hold, since 64 bits may not hold what it weighs.
 pub fn is_greater(precedence: &Precedence, s: &Term, t: &Term) -> Result<bool, AllocError>
     ensures { IfOk result (λ b. b ≡ greater_of precedence.now (tree_of s.now) (tree_of t.now)) }
 {

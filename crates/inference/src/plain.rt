@@ -94,7 +94,7 @@ impl Underway for Clause {
         ensures { IfOk result (λ b. b
             ≡ is_some (matched (tree_of general.now) (atom_at self.now place) [])) }
     {
-        Ok(is_instance(alloc, general, atom(self, place)))
+        is_instance(alloc, general, atom(self, place))
     }
 
     fn turn_at(&mut self, place: u64) -> Result<(), AllocError>

@@ -10,7 +10,7 @@ ghost use Rattle.prover_steps.specs.HeldOrder.{numbers_of};
 ghost use Rattle.prover_steps.specs.Searching.{Setting};
 ghost use Rattle.prover_steps.specs.Starting.{held_rule, queued_as, queued_input, queued_inputs, rules_of, start_state};
 
-use clause_index::{HeldSet, Rules};
+use clause_index::{HeldSet, RewriteRules};
 use conclusions::has_equation;
 use derivation::First;
 use discrim_tree::Tries;
@@ -75,7 +75,7 @@ fn add_rule(
     role: Role,
     number: u64,
     clause: &Clause,
-    rules: &mut Rules,
+    rules: &mut RewriteRules,
 ) -> Result<(), AllocError>
     requires { AllByRecursion (λ n. n < number) (numbers_of rules.old) }
     ensures { OnOk result (rules.new ≡ rules.old ++ held_rule role number (0, clause.now)) }
@@ -111,10 +111,10 @@ fn rules_of(
     inputs: &[Input],
     first: u64,
     clauses: &[(u64, Clause)],
-) -> Result<Rules, AllocError>
+) -> Result<RewriteRules, AllocError>
     ensures { IfOk result (λ rules. rules ≡ rules_of (all_said inputs.now) first clauses.now) }
 {
-    let mut rules = Rules::new(alloc);
+    let mut rules = RewriteRules::new(alloc);
     for (i, row) in clauses.iter().enumerate() {
         let number = behind(first, i as u64)?;
         let role = role_at(inputs, row.0);

@@ -1,5 +1,5 @@
-pub mod Alike
+pub mod Literals
 pub mod Marks
-pub mod Pairs
 pub mod Pretests
+pub mod Standing
 pub mod Ways

@@ -11,12 +11,9 @@ use Rattle.prover_steps.specs.Clashing.{places_from}
 use Rattle.prover_steps.specs.Subsuming.{matched_literal, subsumes_with, subsumes}
 use Rattle.fol_core.specs.ClauseView.{literal_of}
 use Rattle.fol_core.specs.declared.clause.Literal.{Literal}
-use Rattle.subsume.specs.Places.{literals_of, paired_literal, paired_at, literal_fits, is_taken, marked, completes, goes_on, serves}
+use Rattle.subsume.specs.Places.{literals_of, matched_at, is_taken, marked, completes, goes_on, serves}
 use Rattle.subsume.specs.Unused.{unused, way}
-use Rattle.term_matches.specs.Sides.{paired}
-use Rattle.subsume.proofs.Alike.{way_fits}
 use Rattle.subsume.proofs.Marks.{unused_here, unused_next, unused_marked, unused_all, marked_at, marks_more, marks_length}
-use Rattle.subsume.proofs.Pairs.{get_none}
 
 module _ (bs : List Binding) (l : Lit) (c : ClauseTree) where
   -- the ways by the literals from one on
@@ -70,13 +67,6 @@ module _ (bs : List Binding) (l : Lit) (c : ClauseTree) where
       ∙ ap₂ (λ a b. a || b) (ap (way bs l c (get_or d i k)) (sym (unused_marked us d i h e)))
       (ap (λ f. ways f (unused (drop (suc i) us) (drop (suc i) d))) (sym (unused_next us d i k h e ∙ ap (λ b. unused (take i us) (take i d) ++ (if b then [] else get_or d i k ∷ [])) is)))
 
--- one place more
-paired_more : (c d : ClauseTree) (ps : List ℕ) (a : ℕ) (l : Lit) → slice_get c (length ps) ≡ Some l → paired_at c d (ps ++ a ∷ []) ≡ paired_at c d ps ++ paired_literal l (slice_get d a)
-paired_more [] d ps a l h = cc
-paired_more (k ∷ c) d [] a l h = let same : k ≡ l = cc in append-nil (paired_literal k (slice_get d a)) ∙ ap (λ j. paired_literal j (slice_get d a)) same
-paired_more (k ∷ c) d (p ∷ ps) a l h =
-    ap (λ bs. paired_literal k (slice_get d p) ++ bs) (paired_more c d ps a l h) ∙ sym (append_assoc (paired_literal k (slice_get d p)) (paired_at c d ps) (paired_literal l (slice_get d a)))
-
 first_left : (c : ClauseTree) (n : ℕ) (l : Lit) → slice_get c n ≡ Some l → drop n c ≡ l ∷ drop (suc n) c
 first_left [] n l h = cc
 first_left (k ∷ c) zero l h = cc
@@ -88,36 +78,32 @@ get_there (k ∷ d) zero h = (k, refl, refl)
 get_there (k ∷ d) (suc a) h = get_there d a (omega (arith, h))
 
 -- the ways by places, from one on
-abbrev pub serves_from : ClauseTree → ClauseTree → List ℕ → ℕ → Bool
-serves_from c d ps i = list_any (serves c d ps) (places_from i (drop i d))
+abbrev pub serves_from : ClauseTree → ClauseTree → List Binding → List ℕ → ℕ → Bool
+serves_from c d bs ps i = list_any (serves c d bs ps) (places_from i (drop i d))
 
-serves_step : (c d : ClauseTree) (ps : List ℕ) (i : ℕ) → i < length d → serves_from c d ps i ≡ (serves c d ps i || serves_from c d ps (suc i))
-serves_step c d ps i h = let (k, there, is) = get_there d i h in ap (λ e. list_any (serves c d ps) (places_from i e)) (first_left d i k there)
+module _ (c d : ClauseTree) (bs : List Binding) (ps : List ℕ) where
+  serves_step : (i : ℕ) → i < length d → serves_from c d bs ps i ≡ (serves c d bs ps i || serves_from c d bs ps (suc i))
+  serves_step i h = let (k, there, is) = get_there d i h in ap (λ e. list_any (serves c d bs ps) (places_from i e)) (first_left d i k there)
 
-serves_end : (c d : ClauseTree) (ps : List ℕ) (i : ℕ) → length d ≤ i → serves_from c d ps i ≡ false
-serves_end c d ps i h = ap (λ e. list_any (serves c d ps) (places_from i e)) (drop_all i d h)
+  serves_end : (i : ℕ) → length d ≤ i → serves_from c d bs ps i ≡ false
+  serves_end i h = ap (λ e. list_any (serves c d bs ps) (places_from i e)) (drop_all i d h)
 
-module _ (c d : ClauseTree) (ps : List ℕ) (l : Lit) (next : slice_get c (length ps) ≡ Some l) where
+module _ (c d : ClauseTree) (bs : List Binding) (ps : List ℕ) (l : Lit) (next : slice_get c (length ps) ≡ Some l) where
   even : length (marked d ps) ≡ length d
   even = marks_length (replicate (length d) false) ps ∙ length-replicate (length d) false
 
-  -- a way by a place is one where the literal fits, and the others follow
-  way_goes_on : (a : ℕ) (k : Lit) → slice_get d a ≡ Some k → way (paired_at c d ps) l (drop (suc (length ps)) c) k (unused (set (marked d ps) a true) d) ≡ goes_on c d ps a
+  -- a way by a place is one where the literal is matched, and the others follow
+  way_goes_on : (a : ℕ) (k : Lit) → slice_get d a ≡ Some k → way bs l (drop (suc (length ps)) c) k (unused (set (marked d ps) a true) d) ≡ goes_on c d bs ps a
   way_goes_on a k there =
-      way_fits (paired_at c d ps) l (drop (suc (length ps)) c) k (unused (set (marked d ps) a true) d)
-      ∙ ap₂ (λ b e. b && e)
-      (ap₂ (λ o p. literal_fits (paired_at c d ps ++ paired l.atom k.atom) o p) (sym next) (sym there) ∙ ap (λ bs. literal_fits bs (slice_get c (length ps)) (slice_get d a)) given)
-      (ap₂ (λ bs us. subsumes_with bs (drop (suc (length ps)) c) (unused us d)) given (sym (marks_more (replicate (length d) false) ps a))
-      ∙ ap (λ n. subsumes_with (paired_at c d (ps ++ a ∷ [])) (drop n c) (unused (marked d (ps ++ a ∷ [])) d)) (sym longer))
+      ap₂ (λ us n. option_map_or (λ more. subsumes_with more (drop n c) (unused us d)) (matched_literal l k bs) false)
+      (sym (marks_more (replicate (length d) false) ps a)) (sym longer)
+      ∙ ap₂ (λ o p. option_map_or (λ more. completes c d more (ps ++ a ∷ [])) (matched_at bs o p) false) (sym next) (sym there)
     where
-      given : paired_at c d ps ++ paired l.atom k.atom ≡ paired_at c d (ps ++ a ∷ [])
-      given = sym (paired_more c d ps a l next ∙ ap (λ o. paired_at c d ps ++ paired_literal l o) there)
-
       longer : length (ps ++ a ∷ []) ≡ suc (length ps)
       longer = length-append ps (a ∷ []) ∙ omega arith
 
-  one_more : (i : ℕ) → i < length d → ways_from (paired_at c d ps) l (drop (suc (length ps)) c) (marked d ps) d i
-      ≡ (serves c d ps i || ways_from (paired_at c d ps) l (drop (suc (length ps)) c) (marked d ps) d (suc i))
+  one_more : (i : ℕ) → i < length d → ways_from bs l (drop (suc (length ps)) c) (marked d ps) d i
+      ≡ (serves c d bs ps i || ways_from bs l (drop (suc (length ps)) c) (marked d ps) d (suc i))
   one_more i h = let (k, there, is) = get_there d i h in by k there is (is_taken ps i) refl
     where
       taken : get_or (marked d ps) i false ≡ is_taken ps i
@@ -125,54 +111,55 @@ module _ (c d : ClauseTree) (ps : List ℕ) (l : Lit) (next : slice_get c (lengt
           let long : length (replicate (length d) false) ≡ length d = length-replicate (length d) false in
           marked_at (replicate (length d) false) ps i (omega (arith, long, h)) ∙ ap (λ b. b || is_taken ps i) (get_or-replicate (length d) i false false h)
 
-      by : (k : Lit) → slice_get d i ≡ Some k → get_or d i k ≡ k → (b : Bool) → is_taken ps i ≡ b → ways_from (paired_at c d ps) l (drop (suc (length ps)) c) (marked d ps) d i
-          ≡ ((not b && goes_on c d ps i) || ways_from (paired_at c d ps) l (drop (suc (length ps)) c) (marked d ps) d (suc i))
-      by k there is true e = used_step (paired_at c d ps) l (drop (suc (length ps)) c) (marked d ps) d i k h even true (taken ∙ e)
+      by : (k : Lit) → slice_get d i ≡ Some k → get_or d i k ≡ k → (b : Bool) → is_taken ps i ≡ b → ways_from bs l (drop (suc (length ps)) c) (marked d ps) d i
+          ≡ ((not b && goes_on c d bs ps i) || ways_from bs l (drop (suc (length ps)) c) (marked d ps) d (suc i))
+      by k there is true e = used_step bs l (drop (suc (length ps)) c) (marked d ps) d i k h even true (taken ∙ e)
       by k there is false e =
-          used_step (paired_at c d ps) l (drop (suc (length ps)) c) (marked d ps) d i k h even false (taken ∙ e)
-          ∙ ap (λ b. b || ways_from (paired_at c d ps) l (drop (suc (length ps)) c) (marked d ps) d (suc i))
-          (ap (λ j. way (paired_at c d ps) l (drop (suc (length ps)) c) j (unused (set (marked d ps) i true) d)) is ∙ way_goes_on i k there)
+          used_step bs l (drop (suc (length ps)) c) (marked d ps) d i k h even false (taken ∙ e)
+          ∙ ap (λ b. b || ways_from bs l (drop (suc (length ps)) c) (marked d ps) d (suc i))
+          (ap (λ j. way bs l (drop (suc (length ps)) c) j (unused (set (marked d ps) i true) d)) is ∙ way_goes_on i k there)
 
-  ways_serve : (m i : ℕ) → i + m ≡ length d → ways_from (paired_at c d ps) l (drop (suc (length ps)) c) (marked d ps) d i ≡ serves_from c d ps i
-  ways_serve zero i e = ways_end (paired_at c d ps) l (drop (suc (length ps)) c) (marked d ps) d i even (omega (arith, e)) ∙ sym (serves_end c d ps i (omega (arith, e)))
+  ways_serve : (m i : ℕ) → i + m ≡ length d → ways_from bs l (drop (suc (length ps)) c) (marked d ps) d i ≡ serves_from c d bs ps i
+  ways_serve zero i e = ways_end bs l (drop (suc (length ps)) c) (marked d ps) d i even (omega (arith, e)) ∙ sym (serves_end c d bs ps i (omega (arith, e)))
   ways_serve (suc m) i e =
-      one_more i (omega (arith, e)) ∙ ap (λ b. serves c d ps i || b) (ways_serve m (suc i) (omega (arith, e))) ∙ sym (serves_step c d ps i (omega (arith, e)))
+      one_more i (omega (arith, e)) ∙ ap (λ b. serves c d bs ps i || b) (ways_serve m (suc i) (omega (arith, e))) ∙ sym (serves_step c d bs ps i (omega (arith, e)))
 
-  pub completes_serves : completes c d ps ≡ serves_from c d ps 0
+  pub completes_serves : completes c d bs ps ≡ serves_from c d bs ps 0
   completes_serves =
-      ap (λ e. subsumes_with (paired_at c d ps) e (unused (marked d ps) d)) (first_left c (length ps) l next)
-      ∙ ways_begin (paired_at c d ps) l (drop (suc (length ps)) c) (marked d ps) d ∙ ways_serve (length d) 0 (omega arith)
+      ap (λ e. subsumes_with bs e (unused (marked d ps) d)) (first_left c (length ps) l next)
+      ∙ ways_begin bs l (drop (suc (length ps)) c) (marked d ps) d ∙ ways_serve (length d) 0 (omega arith)
 
 -- by the literals of the code
-pub all_placed : (ls ks : List Literal) (ps : List ℕ) → length ls ≤ length ps → completes (literals_of ls) (literals_of ks) ps ≡ true
-all_placed ls ks ps h =
-    let same : length (literals_of ls) ≡ length ls = length-map ls literal_of in
-    ap (λ e. subsumes_with (paired_at (literals_of ls) (literals_of ks) ps) e (unused (marked (literals_of ks) ps) (literals_of ks))) (drop_all (length ps) (literals_of ls) (omega (arith, same, h)))
+module _ (ls ks : List Literal) (bs : List Binding) (ps : List ℕ) where
+  pub all_placed : length ls ≤ length ps → completes (literals_of ls) (literals_of ks) bs ps ≡ true
+  all_placed h =
+      let same : length (literals_of ls) ≡ length ls = length-map ls literal_of in
+      ap (λ e. subsumes_with bs e (unused (marked (literals_of ks) ps) (literals_of ks))) (drop_all (length ps) (literals_of ls) (omega (arith, same, h)))
 
-pub ways_begin_at : (ls ks : List Literal) (ps : List ℕ) → length ps < length ls → completes (literals_of ls) (literals_of ks) ps ≡ serves_from (literals_of ls) (literals_of ks) ps 0
-ways_begin_at ls ks ps h =
-    let same : length (literals_of ls) ≡ length ls = length-map ls literal_of in
-    let (l, there, is) = get_there (literals_of ls) (length ps) (omega (arith, same, h)) in completes_serves (literals_of ls) (literals_of ks) ps l there
+  pub ways_begin_at : length ps < length ls → completes (literals_of ls) (literals_of ks) bs ps ≡ serves_from (literals_of ls) (literals_of ks) bs ps 0
+  ways_begin_at h =
+      let same : length (literals_of ls) ≡ length ls = length-map ls literal_of in
+      let (l, there, is) = get_there (literals_of ls) (length ps) (omega (arith, same, h)) in completes_serves (literals_of ls) (literals_of ks) bs ps l there
 
-serves_next : (ls ks : List Literal) (ps : List ℕ) (i : ℕ) → i < length ks
-    → serves_from (literals_of ls) (literals_of ks) ps i ≡ (serves (literals_of ls) (literals_of ks) ps i || serves_from (literals_of ls) (literals_of ks) ps (i + 1))
-serves_next ls ks ps i h =
-    let same : length (literals_of ks) ≡ length ks = length-map ks literal_of in
-    let next : suc i ≡ i + 1 = omega arith in
-    serves_step (literals_of ls) (literals_of ks) ps i (omega (arith, same, h)) ∙ ap (λ n. serves (literals_of ls) (literals_of ks) ps i || serves_from (literals_of ls) (literals_of ks) ps n) next
+  serves_next : (i : ℕ) → i < length ks
+      → serves_from (literals_of ls) (literals_of ks) bs ps i ≡ (serves (literals_of ls) (literals_of ks) bs ps i || serves_from (literals_of ls) (literals_of ks) bs ps (i + 1))
+  serves_next i h =
+      let same : length (literals_of ks) ≡ length ks = length-map ks literal_of in
+      let next : suc i ≡ i + 1 = omega arith in
+      serves_step (literals_of ls) (literals_of ks) bs ps i (omega (arith, same, h)) ∙ ap (λ n. serves (literals_of ls) (literals_of ks) bs ps i || serves_from (literals_of ls) (literals_of ks) bs ps n) next
 
-pub ways_found : (ls ks : List Literal) (ps : List ℕ) (i : ℕ) → i < length ks → serves (literals_of ls) (literals_of ks) ps i ≡ true → serves_from (literals_of ls) (literals_of ks) ps i ≡ true
-ways_found ls ks ps i h e = serves_next ls ks ps i h ∙ ap (λ b. b || serves_from (literals_of ls) (literals_of ks) ps (i + 1)) e
+  pub ways_found : (i : ℕ) → i < length ks → serves (literals_of ls) (literals_of ks) bs ps i ≡ true → serves_from (literals_of ls) (literals_of ks) bs ps i ≡ true
+  ways_found i h e = serves_next i h ∙ ap (λ b. b || serves_from (literals_of ls) (literals_of ks) bs ps (i + 1)) e
 
-pub ways_behind : (ls ks : List Literal) (ps : List ℕ) (i : ℕ) → i < length ks → serves (literals_of ls) (literals_of ks) ps i ≡ false
-    → serves_from (literals_of ls) (literals_of ks) ps i ≡ serves_from (literals_of ls) (literals_of ks) ps (i + 1)
-ways_behind ls ks ps i h e = serves_next ls ks ps i h ∙ ap (λ b. b || serves_from (literals_of ls) (literals_of ks) ps (i + 1)) e
+  pub ways_behind : (i : ℕ) → i < length ks → serves (literals_of ls) (literals_of ks) bs ps i ≡ false
+      → serves_from (literals_of ls) (literals_of ks) bs ps i ≡ serves_from (literals_of ls) (literals_of ks) bs ps (i + 1)
+  ways_behind i h e = serves_next i h ∙ ap (λ b. b || serves_from (literals_of ls) (literals_of ks) bs ps (i + 1)) e
 
-pub ways_over : (ls ks : List Literal) (ps : List ℕ) (i : ℕ) → length ks ≤ i → serves_from (literals_of ls) (literals_of ks) ps i ≡ false
-ways_over ls ks ps i h =
-    let same : length (literals_of ks) ≡ length ks = length-map ks literal_of in serves_end (literals_of ls) (literals_of ks) ps i (omega (arith, same, h))
+  pub ways_over : (i : ℕ) → length ks ≤ i → serves_from (literals_of ls) (literals_of ks) bs ps i ≡ false
+  ways_over i h =
+      let same : length (literals_of ks) ≡ length ks = length-map ks literal_of in serves_end (literals_of ls) (literals_of ks) bs ps i (omega (arith, same, h))
 
 -- where no literal has a place yet
-pub from_nothing : (ls ks : List Literal) (ps : List ℕ) (c d : ClauseTree) → literals_of ls ≡ c → literals_of ks ≡ d → ps ≡ [] → completes (literals_of ls) (literals_of ks) ps ≡ subsumes c d
-from_nothing ls ks ps c d first second none =
-    ap (completes (literals_of ls) (literals_of ks)) none ∙ ap₂ (λ e f. subsumes_with [] e (unused (replicate (length f) false) f)) first second ∙ ap (subsumes_with [] c) (unused_all d (length d) refl)
+pub from_nothing : (ls ks : List Literal) (bs : List Binding) (ps : List ℕ) (c d : ClauseTree) → literals_of ls ≡ c → literals_of ks ≡ d → bs ≡ [] → ps ≡ [] → completes (literals_of ls) (literals_of ks) bs ps ≡ subsumes c d
+from_nothing ls ks bs ps c d first second nothing none =
+    ap₂ (λ es qs. completes (literals_of ls) (literals_of ks) es qs) nothing none ∙ ap₂ (λ e f. subsumes_with [] e (unused (replicate (length f) false) f)) first second ∙ ap (subsumes_with [] c) (unused_all d (length d) refl)

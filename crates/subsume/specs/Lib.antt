@@ -1,2 +1,4 @@
 pub mod Places
+pub mod Rooms
 pub mod Unused
+pub mod Variables

@@ -1,5 +1,4 @@
+pub mod Arguments
 pub mod Counting
-pub mod Fitting
 pub mod Fronts
 pub mod MatchSteps
-pub mod Standing

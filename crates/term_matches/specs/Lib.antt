@@ -1,5 +1,4 @@
 pub mod Matched
 pub mod Occurrences
 pub mod Room
-pub mod Sides
 pub mod Trying

@@ -1,18 +1,19 @@
 // Bindings that make of terms others, found from the left.
-ghost use Rattle.std.specs.Prelude.{◌≡◌, ◌+◌, ◌<◌, ◌≤◌, [], IfOk, List, OnOk, Option, is_some, length};
+ghost use Rattle.std.specs.Prelude.{◌≡◌, ◌+◌, ◌<◌, ◌≤◌, [], IfOk, List, OnOk, Option, is_some, length, take};
 ghost use Rattle.std.specs.Option.{option_map};
 ghost use Rattle.clause_limits.specs.Sizes.{measured};
 ghost use Rattle.fol_core.specs.Substitutions.{substitute};
+ghost use Rattle.fol_core.specs.Sizes.{sizes_of};
 ghost use Rattle.fol_core.specs.TermView.{tree_of};
+ghost use Rattle.fol_core.specs.Tree.{trees_of};
 ghost use Rattle.substitutions.specs.Bindings.{Binding, by_bindings};
 ghost use Rattle.term_matches.specs.Matched.{MatchesOnto};
-ghost use Rattle.term_matches.specs.Occurrences.{occurrences};
+ghost use Rattle.term_matches.specs.Occurrences.{met, met_all, occurrences};
 ghost use Rattle.term_matches.specs.Trying.{IsTried};
 ghost use Rattle.term_matches.specs.declared.matches.Tried.TheVariants.{Full};
-ghost use Rattle.unifiers.specs.Matching.{bound_term, bound_to, matched};
+ghost use Rattle.unifiers.specs.Matching.{bound_term, bound_to, matched, matched_all};
 
-use crate::occurrences::occurrences;
-use crate::sides::has_instance;
+use crate::variables::occurrences;
 use clause_limits::Measure;
 use fol_core::{Term, Terms};
 use smallvec::SmallVec;
@@ -72,6 +73,30 @@ impl<'a> Matches<'a> {
         }
     }
 
+    /// How many bindings there are.
+    pub fn mark(&self) -> usize
+        ensures { result ≡ length self.now.bindings }
+    {
+        self.terms.len()
+    }
+
+    /// The first bindings alone, as there were at a mark.
+    pub fn undo(&mut self, mark: usize)
+        ensures bindings { self.new.bindings ≡ take mark self.old.bindings }
+        ensures room { self.new.room ≡ self.old.room }
+    {
+        self.terms.truncate(mark);
+    }
+
+    /// Makes room for so many bindings more.
+    pub fn reserve_more(&mut self, most: usize) -> Result<(), AllocError>
+        ensures bindings { self.new.bindings ≡ self.old.bindings }
+        ensures room { OnOk result (length self.new.bindings + most ≤ self.new.room) }
+        ensures kept { self.old.room ≤ self.new.room }
+    {
+        self.terms.reserve(most)
+    }
+
     /// Makes room for the variables of a term.
     pub fn reserve(&mut self, general: &Term) -> Result<(), AllocError>
         ensures bindings { self.new.bindings ≡ self.old.bindings }
@@ -129,15 +154,14 @@ impl<'a> Matches<'a> {
     // Whether the bindings, with more of them, make of the first term the second one, as far as there is room. Some may have
     // been added where nothing does.
     #[cycle(onto)]
-    #[tactic(auto, using(crate::proofs::MatchSteps::match_step, crate::proofs::MatchSteps::match_fails, crate::proofs::MatchSteps::match_long, crate::proofs::MatchSteps::match_short, crate::proofs::MatchSteps::match_end, crate::proofs::Fronts::front_more))]
     fn try_onto(&mut self, general: &Term, special: &'a Term) -> Tried
         ensures tried { IsTried result
             (matched (tree_of general.now) (tree_of special.now) self.old.bindings)
             self.old.bindings self.new.bindings }
         ensures few { length self.new.bindings
-            ≤ length self.old.bindings + occurrences (tree_of general.now) }
-        ensures full { result ≡ Full
-            → self.old.room < length self.old.bindings + occurrences (tree_of general.now) }
+            ≤ length self.old.bindings + met (tree_of general.now) (tree_of special.now) }
+        ensures full { result ≡ Full → self.old.room
+            < length self.old.bindings + met (tree_of general.now) (tree_of special.now) }
         ensures room { self.new.room ≡ self.old.room }
     {
         match (general, special) {
@@ -147,26 +171,42 @@ impl<'a> Matches<'a> {
             (Term::Elem(_), Term::App(_, _)) => Tried::Missed,
             (Term::App(_, _), Term::Var(_)) => Tried::Missed,
             (Term::App(_, _), Term::Elem(_)) => Tried::Missed,
-            (Term::App(f, ls), Term::App(g, rs)) => {
+            (Term::App(f, generals), Term::App(g, specials)) => {
                 if f.0 != g.0 {
                     return Tried::Missed;
                 }
-                for (i, l) in ls.items.iter().enumerate() {
-                    if i >= rs.items.len() {
-                        return Tried::Missed;
-                    }
-                    match self.try_part(l, &rs.items[i]) {
-                        Tried::Found => {}
-                        Tried::Missed => return Tried::Missed,
-                        Tried::Full => return Tried::Full,
-                    }
-                }
-                if ls.items.len() < rs.items.len() {
-                    return Tried::Missed;
-                }
-                Tried::Found
+                self.try_all(generals, specials)
             }
         }
+    }
+
+    // The same of arguments, one by one.
+    #[cycle(onto)]
+    #[tactic(auto, using(crate::proofs::MatchSteps::match_step, crate::proofs::MatchSteps::match_fails, crate::proofs::MatchSteps::match_long, crate::proofs::MatchSteps::match_short, crate::proofs::MatchSteps::match_end, crate::proofs::Fronts::front_more))]
+    fn try_all(&mut self, generals: &Terms, specials: &'a Terms) -> Tried
+        ensures tried { IsTried result
+            (matched_all (trees_of generals.now) (trees_of specials.now) self.old.bindings)
+            self.old.bindings self.new.bindings }
+        ensures few { length self.new.bindings
+            ≤ length self.old.bindings + met_all (trees_of generals.now) (trees_of specials.now) }
+        ensures full { result ≡ Full → self.old.room
+            < length self.old.bindings + met_all (trees_of generals.now) (trees_of specials.now) }
+        ensures room { self.new.room ≡ self.old.room }
+    {
+        for (i, general) in generals.items.iter().enumerate() {
+            if i >= specials.items.len() {
+                return Tried::Missed;
+            }
+            match self.try_part(general, &specials.items[i]) {
+                Tried::Found => {}
+                Tried::Missed => return Tried::Missed,
+                Tried::Full => return Tried::Full,
+            }
+        }
+        if generals.items.len() < specials.items.len() {
+            return Tried::Missed;
+        }
+        Tried::Found
     }
 
     // The same of an argument: a variable takes no further call.
@@ -177,9 +217,9 @@ impl<'a> Matches<'a> {
             (matched (tree_of general.now) (tree_of special.now) self.old.bindings)
             self.old.bindings self.new.bindings }
         ensures few { length self.new.bindings
-            ≤ length self.old.bindings + occurrences (tree_of general.now) }
-        ensures full { result ≡ Full
-            → self.old.room < length self.old.bindings + occurrences (tree_of general.now) }
+            ≤ length self.old.bindings + met (tree_of general.now) (tree_of special.now) }
+        ensures full { result ≡ Full → self.old.room
+            < length self.old.bindings + met (tree_of general.now) (tree_of special.now) }
         ensures room { self.new.room ≡ self.old.room }
     {
         if let Term::Var(x) = general {
@@ -190,14 +230,35 @@ impl<'a> Matches<'a> {
 
     /// Whether the bindings, with more of them, make of the first term the second one. Some may have been added where nothing
     /// does.
+    #[tactic(auto, using(crate::proofs::Counting::met_few))]
     pub fn match_onto(&mut self, general: &Term, special: &'a Term) -> bool
         requires { length self.old.bindings + occurrences (tree_of general.now) ≤ self.old.room }
         ensures matches { MatchesOnto result
             (matched (tree_of general.now) (tree_of special.now) self.old.bindings)
             self.old.bindings self.new.bindings }
+        ensures few { length self.new.bindings
+            ≤ length self.old.bindings + occurrences (tree_of general.now) }
         ensures room { self.new.room ≡ self.old.room }
     {
         match self.try_onto(general, special) {
+            Tried::Found => true,
+            Tried::Missed => false,
+            Tried::Full => false,
+        }
+    }
+
+    /// Whether they make of terms others, one by one: no more bindings are added than the others have symbols and variables.
+    #[tactic(auto, using(crate::proofs::Counting::all_met_small))]
+    pub fn match_all_onto(&mut self, generals: &Terms, specials: &'a Terms) -> bool
+        requires { length self.old.bindings + sizes_of (trees_of specials.now) ≤ self.old.room }
+        ensures matches { MatchesOnto result
+            (matched_all (trees_of generals.now) (trees_of specials.now) self.old.bindings)
+            self.old.bindings self.new.bindings }
+        ensures few { length self.new.bindings
+            ≤ length self.old.bindings + sizes_of (trees_of specials.now) }
+        ensures room { self.new.room ≡ self.old.room }
+    {
+        match self.try_all(generals, specials) {
             Tried::Found => true,
             Tried::Missed => false,
             Tried::Full => false,
@@ -251,15 +312,26 @@ impl<'a> Matches<'a> {
     }
 }
 
-/// Whether the second term is an instance of the first: with bindings, as long as there is room for them in place, and else
-/// without.
-pub fn is_instance(alloc: Global, general: &Term, special: &Term) -> bool
-    ensures { result ≡ is_some (matched (tree_of general.now) (tree_of special.now) []) }
+// The same with room for all its variables.
+fn is_instance_by(alloc: Global, general: &Term, special: &Term) -> Result<bool, AllocError>
+    ensures { IfOk result (λ b. b
+        ≡ is_some (matched (tree_of general.now) (tree_of special.now) [])) }
+{
+    let mut found = Matches::new(alloc);
+    found.reserve(general)?;
+    Ok(found.match_onto(general, special))
+}
+
+/// Whether the second term is an instance of the first: with the bindings for which there is room in place, and else with room
+/// that is made for all.
+pub fn is_instance(alloc: Global, general: &Term, special: &Term) -> Result<bool, AllocError>
+    ensures { IfOk result (λ b. b
+        ≡ is_some (matched (tree_of general.now) (tree_of special.now) [])) }
 {
     let mut found = Matches::new(alloc);
     match found.try_onto(general, special) {
-        Tried::Found => true,
-        Tried::Missed => false,
-        Tried::Full => has_instance(general, special),
+        Tried::Found => Ok(true),
+        Tried::Missed => Ok(false),
+        Tried::Full => is_instance_by(alloc, general, special),
     }
 }

@@ -81,10 +81,10 @@ pub fn scanned(alloc: Global, terms: &[Term], left: Left, t: &Term) -> Result<Sc
         if !left.has(number) {
             continue;
         }
-        if is_instance(alloc, s, t) {
+        if is_instance(alloc, s, t)? {
             found.generalizations.push(number)?;
         }
-        if is_instance(alloc, t, s) {
+        if is_instance(alloc, t, s)? {
             found.instances.push(number)?;
         }
         if do_unify(alloc, s, t)? {

@@ -4,10 +4,12 @@ use Rattle.std.specs.Option.{option_and_then, option_map}
 use Rattle.std.proofs.lemmas.List.{drop_all}
 use Rattle.std.proofs.lemmas.Option.{slice_get-map, slice_get-get_or}
 use Rattle.fol_core.specs.Literals.{ClauseTree}
-use Rattle.fol_core.specs.Sizes.{size_of}
-use Rattle.fol_core.specs.Tree.{Tree, var, elem, app}
+use Rattle.fol_core.specs.Sizes.{size_of, sizes_of}
+use Rattle.fol_core.specs.Tree.{Tree, var, elem, app, Trees, none, more}
 use Rattle.prover_steps.specs.Searching.{clause_size}
 use Rattle.prover_steps.specs.Subsuming.{subsumes}
+use Rattle.subsume.specs.Variables.{standing}
+use Rattle.term_matches.specs.Occurrences.{occurrences, occurrences_of}
 use Rattle.weights.specs.Hints.{HintRow, first_hint, hint_place, weight_at, weight_by_hint, is_hinted, clause_weight}
 use Rattle.weights.specs.HintRows.{hint_row}
 use Rattle.weights.specs.Weighing.{WeightRow, atoms_weight}
@@ -92,6 +94,21 @@ one_at_least (app f ts) = omega arith
 pub is_room : (c : ClauseTree) → length c ≤ clause_size c
 is_room [] = omega arith
 is_room (l ∷ c) = let rest = is_room c in let one = one_at_least l.atom in omega (arith, rest, one)
+
+-- variables stand in a term at most as often as there are symbols and variables in it
+mutual
+  few_variables : (t : Tree) → occurrences t ≤ size_of t
+  few_variables (var x) = omega arith
+  few_variables (elem k) = omega arith
+  few_variables (app f ts) = let rest = all_few_variables ts in omega (arith, rest)
+
+  all_few_variables : (ts : Trees) → occurrences_of ts ≤ sizes_of ts
+  all_few_variables none = omega arith
+  all_few_variables (more t ts) = let one = few_variables t in let rest = all_few_variables ts in omega (arith, one, rest)
+
+pub is_room_for_variables : (c : ClauseTree) → standing c ≤ clause_size c
+is_room_for_variables [] = omega arith
+is_room_for_variables (l ∷ c) = let rest = is_room_for_variables c in let one = few_variables l.atom in omega (arith, rest, one)
 
 pub weight_here : (hs : List HintWeight) (i : ℕ) (h : HintWeight) → i < length hs → h ≡ get_or hs i h → weight_at (map hint_row hs) (Some i) ≡ h.weight
 weight_here hs i h lt is =

@@ -1,5 +1,6 @@
 -- The terms in terms, one after the other.
-use Rattle.std.proofs.Common.{◌≡◌, ℕ, suc, ◌+◌, ◌<◌, ◌≤◌, ◌==◌, ◌||◌, ◌↔◌, IsTrue, Bool, true, false, if◌then◌else◌, List, [], ◌∷◌, ◌++◌, length, get_or, drop, map, Some, None, refl, sym, ap, ap₂, subst, ◌∙◌, arith}
+use Rattle.std.proofs.Common.{◌≡◌, ℕ, zero, suc, ◌+◌, ◌<◌, ◌≤◌, ◌⊎◌, inl, inr, ◌==◌, ◌||◌, ◌↔◌, IsTrue, Bool, true, false, if◌then◌else◌, List, [], ◌∷◌, ◌++◌, length, get_or, drop, map, Option, Some, None, refl, sym, ap, ap₂, subst, ◌∙◌, arith}
+use Rattle.std.specs.Option.{option_and_then}
 use Rattle.std.proofs.lemmas.Bool.{false_from_ne_true}
 use Rattle.std.proofs.lemmas.List.{drop_all, length-append, length-map}
 use Rattle.std.proofs.lemmas.Option.{none-some, same_Some}
@@ -8,8 +9,7 @@ use Rattle.fol_core.specs.TermView.{tree_of, tree_list}
 use Rattle.fol_core.specs.Tree.{Tree, var, elem, app, Trees, none, more, trees_of}
 use Rattle.fol_core.specs.declared.term.Term.{Term}
 use Rattle.substitutions.specs.Bindings.{Binding}
-use Rattle.term_matches.specs.Sides.{paired, paired_all}
-use Rattle.unifiers.specs.Matching.{same_tree, bound_term}
+use Rattle.unifiers.specs.Matching.{same_tree, bound_term, bound_to, matched, matched_all}
 use Rattle.unifiers.proofs.MatchesFound.{tree_same, same_itself}
 use Rattle.weights.specs.Parts.{parts, parts_of, stands_among, place_among}
 use Rattle.weights.proofs.Items.{next}
@@ -105,6 +105,12 @@ sizes_step ts i t h is = ap (λ us. sizes_of (trees_of (tree_list us))) (next ts
 pub sizes_end : (ts : List Term) (i : ℕ) → length ts ≤ i → sizes_of (trees_of (tree_list (drop i ts))) ≡ 0
 sizes_end ts i h = ap (λ us. sizes_of (trees_of (tree_list us))) (drop_all i ts h)
 
+-- one term is no larger than all together
+pub size_within : (ts : List Term) (i : ℕ) (t : Term) → i < length ts → t ≡ get_or ts i t → size_of (tree_of t) ≤ sizes_of (trees_of (tree_list ts))
+size_within [] i t h is = absurd (omega (arith, h))
+size_within (s ∷ ts) zero t h is = let same : size_of (tree_of t) ≡ size_of (tree_of s) = ap (λ u. size_of (tree_of u)) is in omega (arith, same)
+size_within (s ∷ ts) (suc i) t h is = let rest = size_within ts i t (omega (arith, h)) is in omega (arith, rest)
+
 module _ (ts : List Term) (i : ℕ) (t : Term) (u : Tree) (h : i < length ts) (is : t ≡ get_or ts i t) where
   pub some_here : stands_among (parts (tree_of t)) u ≡ true → stands_among (parts_from ts i) u ≡ true
   some_here e = ap (λ ps. stands_among ps u) (parts_step ts i t h is) ∙ among_first (parts (tree_of t)) (parts_from ts (i + 1)) u e
@@ -164,23 +170,69 @@ either (b ∷ bs) cs x u P h first second = by (x == b.0) h first (λ e f. eithe
     by false h first rest = rest h first
 
 mutual
-  bound_in : (s t u : Tree) (x : ℕ) → bound_term (paired s t) x ≡ Some u → stands_among (parts t) u ≡ true
-  bound_in (var y) t u x h = by (x == y) h
+  bound_in : (s t : Tree) (bs cs : List Binding) (x : ℕ) (u : Tree) → matched s t bs ≡ Some cs → bound_term cs x ≡ Some u → (bound_term bs x ≡ Some u) ⊎ (stands_among (parts t) u ≡ true)
+  bound_in (var y) t bs cs x u e h = by (bound_term bs y) e
     where
-      by : (b : Bool) → (if b then Some t else None) ≡ Some u → stands_among (parts t) u ≡ true
-      by true e = subst (λ v. stands_among (parts t) v ≡ true) (same_Some t u e) (itself t)
-      by false e = absurd (none-some u e)
-  bound_in (elem k) t u x h = absurd (none-some u h)
-  bound_in (app f ss) (var y) u x h = absurd (none-some u h)
-  bound_in (app f ss) (elem n) u x h = absurd (none-some u h)
-  bound_in (app f ss) (app g ts) u x h = among_first (parts_of ts) (app g ts ∷ []) u (bound_among ss ts u x h)
+      by : (o : Option Tree) → bound_to o y t bs ≡ Some cs → (bound_term bs x ≡ Some u) ⊎ (stands_among (parts t) u ≡ true)
+      by None d =
+          either bs ((y, t) ∷ []) x u ((bound_term bs x ≡ Some u) ⊎ (stands_among (parts t) u ≡ true))
+          (ap (λ ds. bound_term ds x) (same_Some _ _ d) ∙ h) (λ f. inl f) (λ f. new (x == y) f)
+        where
+          new : (b : Bool) → (if b then Some t else None) ≡ Some u → (bound_term bs x ≡ Some u) ⊎ (stands_among (parts t) u ≡ true)
+          new true f = inr (subst (λ v. stands_among (parts t) v ≡ true) (same_Some t u f) (itself t))
+          new false f = absurd (none-some u f)
+      by (Some v) d = old (same_tree v t) d
+        where
+          old : (b : Bool) → (if b then Some bs else None) ≡ Some cs → (bound_term bs x ≡ Some u) ⊎ (stands_among (parts t) u ≡ true)
+          old true f = inl (ap (λ ds. bound_term ds x) (same_Some bs cs f) ∙ h)
+          old false f = absurd (none-some cs f)
+  bound_in (elem k) (var y) bs cs x u e h = absurd (none-some cs e)
+  bound_in (elem k) (elem n) bs cs x u e h = by (k == n) e
+    where
+      by : (b : Bool) → (if b then Some bs else None) ≡ Some cs → (bound_term bs x ≡ Some u) ⊎ (stands_among (parts (elem n)) u ≡ true)
+      by true f = inl (ap (λ ds. bound_term ds x) (same_Some bs cs f) ∙ h)
+      by false f = absurd (none-some cs f)
+  bound_in (elem k) (app g ts) bs cs x u e h = absurd (none-some cs e)
+  bound_in (app f ss) (var y) bs cs x u e h = absurd (none-some cs e)
+  bound_in (app f ss) (elem n) bs cs x u e h = absurd (none-some cs e)
+  bound_in (app f ss) (app g ts) bs cs x u e h = by (f == g) e (λ d. bound_among ss ts bs cs x u d h)
+    where
+      within : (bound_term bs x ≡ Some u) ⊎ (stands_among (parts_of ts) u ≡ true) → (bound_term bs x ≡ Some u) ⊎ (stands_among (parts (app g ts)) u ≡ true)
+      within (inl d) = inl d
+      within (inr d) = inr (among_first (parts_of ts) (app g ts ∷ []) u d)
 
-  pub bound_among : (ss ts : Trees) (u : Tree) (x : ℕ) → bound_term (paired_all ss ts) x ≡ Some u → stands_among (parts_of ts) u ≡ true
-  bound_among none ts u x h = absurd (none-some u h)
-  bound_among (more s ss) none u x h = absurd (none-some u h)
-  bound_among (more s ss) (more t ts) u x h =
-      either (paired s t) (paired_all ss ts) x u (stands_among (parts t ++ parts_of ts) u ≡ true) h
-      (λ e. among_first (parts t) (parts_of ts) u (bound_in s t u x e)) (λ e. among_last (parts t) (parts_of ts) u (bound_among ss ts u x e))
+      by : (b : Bool) → (if b then matched_all ss ts bs else None) ≡ Some cs → (matched_all ss ts bs ≡ Some cs → (bound_term bs x ≡ Some u) ⊎ (stands_among (parts_of ts) u ≡ true))
+          → (bound_term bs x ≡ Some u) ⊎ (stands_among (parts (app g ts)) u ≡ true)
+      by true d rest = within (rest d)
+      by false d rest = absurd (none-some cs d)
+
+  bound_among : (ss ts : Trees) (bs cs : List Binding) (x : ℕ) (u : Tree) → matched_all ss ts bs ≡ Some cs → bound_term cs x ≡ Some u → (bound_term bs x ≡ Some u) ⊎ (stands_among (parts_of ts) u ≡ true)
+  bound_among none none bs cs x u e h = inl (ap (λ ds. bound_term ds x) (same_Some bs cs e) ∙ h)
+  bound_among none (more t ts) bs cs x u e h = absurd (none-some cs e)
+  bound_among (more s ss) none bs cs x u e h = absurd (none-some cs e)
+  bound_among (more s ss) (more t ts) bs cs x u e h = by (matched s t bs) e (λ ds d. bound_among ss ts ds cs x u d h) (λ ds d f. bound_in s t bs ds x u d f)
+    where
+      by : (o : Option (List Binding)) → option_and_then (λ ds. matched_all ss ts ds) o ≡ Some cs
+          → ((ds : List Binding) → matched_all ss ts ds ≡ Some cs → (bound_term ds x ≡ Some u) ⊎ (stands_among (parts_of ts) u ≡ true))
+          → ((ds : List Binding) → o ≡ Some ds → bound_term ds x ≡ Some u → (bound_term bs x ≡ Some u) ⊎ (stands_among (parts t) u ≡ true))
+          → (bound_term bs x ≡ Some u) ⊎ (stands_among (parts t ++ parts_of ts) u ≡ true)
+      by None d rest first = absurd (none-some cs d)
+      by (Some ds) d rest first = either_way (rest ds d)
+        where
+          in_first : (bound_term bs x ≡ Some u) ⊎ (stands_among (parts t) u ≡ true) → (bound_term bs x ≡ Some u) ⊎ (stands_among (parts t ++ parts_of ts) u ≡ true)
+          in_first (inl f) = inl f
+          in_first (inr f) = inr (among_first (parts t) (parts_of ts) u f)
+
+          either_way : (bound_term ds x ≡ Some u) ⊎ (stands_among (parts_of ts) u ≡ true) → (bound_term bs x ≡ Some u) ⊎ (stands_among (parts t ++ parts_of ts) u ≡ true)
+          either_way (inl f) = in_first (first ds refl f)
+          either_way (inr f) = inr (among_last (parts t) (parts_of ts) u f)
+
+pub bound_stands : (ss ts : Trees) (cs : List Binding) (x : ℕ) (u : Tree) → matched_all ss ts [] ≡ Some cs → bound_term cs x ≡ Some u → stands_among (parts_of ts) u ≡ true
+bound_stands ss ts cs x u e h = by (bound_among ss ts [] cs x u e h)
+  where
+    by : (bound_term [] x ≡ Some u) ⊎ (stands_among (parts_of ts) u ≡ true) → stands_among (parts_of ts) u ≡ true
+    by (inl d) = absurd (none-some u d)
+    by (inr d) = d
 
 pub listed_length : (f : Tree → ℕ) (ts : Trees) → length (map f (parts_of ts)) ≡ sizes_of ts
 listed_length f ts = length-map (parts_of ts) f ∙ parts_of_length ts

@@ -3,8 +3,8 @@ use Rattle.std.specs.Prelude.{ℕ, ◌≡◌, ◌+◌, Bool, if◌then◌else◌
 use Rattle.std.specs.List.{list_any, slice_index_or}
 use Rattle.std.specs.Option.{option_map_or}
 use Rattle.fol_core.specs.Tree.{Tree, var, elem, app, Trees, none, more}
+use Rattle.substitutions.specs.Bindings.{Binding}
 use Rattle.unifiers.specs.Matching.{same_tree, bound_term}
-use Rattle.term_matches.specs.Sides.{paired_all}
 use Rattle.weights.specs.Weighing.{WeightRow, weight_within, term_weight}
 use Rattle.weights.specs.WeighingLaws.{sum_of_weights}
 
@@ -41,13 +41,13 @@ abbrev pub place_among : List Tree → Tree → ℕ
 place_among [] u = 0
 place_among (p ∷ ps) u = if same_tree p u then 0 else 1 + place_among ps u
 
--- what a term in arguments weighs, and what a variable does, the weights of all terms in them being
--- listed
+-- what a term in arguments weighs, and what a variable does that is bound to one, the weights of all
+-- terms in them being listed
 abbrev pub listed_weight : List ℕ → Trees → Tree → ℕ
 listed_weight ks ts u = slice_index_or ks (place_among (parts_of ts) u) 1
 
-abbrev pub standing_weight : List ℕ → Trees → Trees → ℕ → ℕ
-standing_weight ks ss ts x = option_map_or (listed_weight ks ts) (bound_term (paired_all ss ts) x) 1
+abbrev pub standing_weight : List ℕ → List Binding → Trees → ℕ → ℕ
+standing_weight ks bs ts x = option_map_or (listed_weight ks ts) (bound_term bs x) 1
 
 -- a term weighs so much, and the weights of the terms in it are listed now, behind those before
 pub record IsWeighedAs (rs : List WeightRow) (t : Tree) (n : ℕ) (old new : List ℕ) : Type 0 where

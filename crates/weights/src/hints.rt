@@ -1,6 +1,7 @@
 // The hints of a problem.
 ghost use Rattle.std.specs.Prelude.{◌≡◌, ◌≤◌, ◌<◌, ◌++◌, IfOk, OnOk, map, length};
 ghost use Rattle.fol_core.specs.FormulaView.{fol_of};
+ghost use Rattle.subsume.specs.Variables.{standing};
 ghost use Rattle.weights.specs.Hints.{hint_place, weight_at, atom_literals, hint_clause};
 ghost use Rattle.weights.specs.HintIndex.{AreIndexed, first_among};
 ghost use Rattle.weights.specs.HintRows.{hint_row, row_of_hint};
@@ -111,8 +112,9 @@ fn index_of(alloc: Global, hints: &[HintWeight]) -> Result<Vec<Vec<usize>>, Allo
 
 // The first of all hints that a clause matches.
 #[tactic(auto, using(crate::proofs::Hinted::hint_here, crate::proofs::Hinted::hint_behind, crate::proofs::Hinted::no_hint, crate::proofs::Hinted::from_start))]
-fn first_of(hints: &[HintWeight], places: &mut Places, clause: &Clause) -> Option<usize>
-    requires { length clause.now ≤ places.old }
+fn first_of<'a>(hints: &'a [HintWeight], places: &mut Places<'a>, clause: &Clause) -> Option<usize>
+    requires literals { length clause.now ≤ places.old }
+    requires variables { standing clause.now ≤ places.old }
     ensures place { result ≡ hint_place (map hint_row hints.now) clause.now }
     ensures room { places.new ≡ places.old }
 {
@@ -126,13 +128,14 @@ fn first_of(hints: &[HintWeight], places: &mut Places, clause: &Clause) -> Optio
 
 // The first of the hints at some places that a clause matches.
 #[tactic(auto, using(crate::proofs::Indexed::among_here, crate::proofs::Indexed::among_behind, crate::proofs::Indexed::among_past, crate::proofs::Indexed::among_none))]
-fn first_among(
-    hints: &[HintWeight],
+fn first_among<'a>(
+    hints: &'a [HintWeight],
     row: &[usize],
-    places: &mut Places,
+    places: &mut Places<'a>,
     clause: &Clause,
 ) -> Option<usize>
-    requires { length clause.now ≤ places.old }
+    requires literals { length clause.now ≤ places.old }
+    requires variables { standing clause.now ≤ places.old }
     ensures place { result ≡ first_among (map hint_row hints.now) clause.now row.now }
     ensures room { places.new ≡ places.old }
 {
@@ -158,8 +161,9 @@ impl Hints {
 
     /// The place, from 0, of the first hint that a clause matches.
     #[tactic(auto, using(crate::proofs::Indexed::first_in_row))]
-    pub fn first(&self, places: &mut Places, clause: &Clause) -> Option<usize>
-        requires { length clause.now ≤ places.old }
+    pub fn first<'a>(&'a self, places: &mut Places<'a>, clause: &Clause) -> Option<usize>
+        requires literals { length clause.now ≤ places.old }
+        requires variables { standing clause.now ≤ places.old }
         ensures place { result ≡ hint_place self.now clause.now }
         ensures room { places.new ≡ places.old }
     {

@@ -4,17 +4,19 @@ ghost use Rattle.std.specs.Prelude.{◌≡◌, ◌≤◌, OnOk};
 use std::alloc::{AllocError, Global};
 use std::marker::Model;
 use subsume::Places;
+use term_matches::Matches;
 
-/// Room for weighing clauses and comparing them with hints, which then takes no memory; contracts see how many symbols and
-/// variables a clause may have.
+/// Room for weighing clauses and comparing them with hints, which then takes no memory: for weights, for bindings to terms of a
+/// clause, and for places in hints. Contracts see how many symbols and variables a clause may have.
 #[derive(Drop)]
-pub struct Room {
+pub struct Room<'a> {
     pub(crate) weights: Vec<u64>,
-    pub(crate) places: Places,
+    pub(crate) found: Matches<'a>,
+    pub(crate) places: Places<'a>,
     size: usize,
 }
 
-impl Model for Room {
+impl<'a> Model for Room<'a> {
     ghost use Rattle.std.specs.Prelude.{ℕ};
 
     ghost Value = { ℕ };
@@ -26,11 +28,12 @@ impl Model for Room {
     ghost invariant = { HasCapacity };
 }
 
-impl Room {
+impl<'a> Room<'a> {
     /// No room.
-    pub fn new(alloc: Global) -> Room {
+    pub fn new(alloc: Global) -> Room<'a> {
         Room {
             weights: Vec::new(alloc),
+            found: Matches::new(alloc),
             places: Places::new(alloc),
             size: 0,
         }
@@ -47,6 +50,8 @@ impl Room {
         }
         self.weights.clear();
         self.weights.reserve(size)?;
+        self.found.undo(0);
+        self.found.reserve_more(size)?;
         self.places.reserve(size)?;
         self.size = size;
         Ok(())

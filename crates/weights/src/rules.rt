@@ -73,8 +73,8 @@ impl<'a> Rules<'a> {
     }
 
     /// The place, from 0, of the first hint that a clause matches.
-    #[tactic(auto, using(crate::proofs::Hinted::is_room))]
-    pub fn hint_of(&self, room: &mut Room, clause: &Clause) -> Option<usize>
+    #[tactic(auto, using(crate::proofs::Hinted::is_room, crate::proofs::Hinted::is_room_for_variables))]
+    pub fn hint_of<'b>(&'b self, room: &mut Room<'b>, clause: &Clause) -> Option<usize>
         requires { clause_size clause.now ≤ room.old }
         ensures place { result ≡ hint_place self.now.hints clause.now }
         ensures room { room.new ≡ room.old }
@@ -84,7 +84,7 @@ impl<'a> Rules<'a> {
 
     /// Whether a clause matches a hint.
     #[tactic(auto, using(crate::proofs::Hinted::hinted_is))]
-    pub fn is_hinted(&self, room: &mut Room, clause: &Clause) -> bool
+    pub fn is_hinted<'b>(&'b self, room: &mut Room<'b>, clause: &Clause) -> bool
         requires { clause_size clause.now ≤ room.old }
         ensures hinted { result ≡ is_hinted self.now.hints clause.now }
         ensures room { room.new ≡ room.old }
@@ -93,7 +93,12 @@ impl<'a> Rules<'a> {
     }
 
     /// What a clause weighs whose first hint is known, as `hint_of` says.
-    pub fn weight_with(&self, room: &mut Room, hint: Option<usize>, clause: &Clause) -> u64
+    pub fn weight_with<'b>(
+        &self,
+        room: &mut Room<'b>,
+        hint: Option<usize>,
+        clause: &'b Clause,
+    ) -> u64
         requires hint { hint ≡ hint_place self.now.hints clause.now }
         requires room { clause_size clause.now ≤ room.old }
         ensures weight { result ≡ clause_weight (map weight_row self.now.patterns.items)
@@ -102,12 +107,15 @@ impl<'a> Rules<'a> {
     {
         match self.hints.weight_at(hint) {
             Some(weight) => u64::from(weight),
-            None => atoms_weight(self.patterns.as_slice(), clause, &mut room.weights),
+            None => {
+                let patterns = self.patterns.as_slice();
+                atoms_weight(patterns, &mut room.found, clause, &mut room.weights)
+            }
         }
     }
 
     /// What a clause weighs.
-    pub fn weight_of(&self, room: &mut Room, clause: &Clause) -> u64
+    pub fn weight_of<'b>(&'b self, room: &mut Room<'b>, clause: &'b Clause) -> u64
         requires { clause_size clause.now ≤ room.old }
         ensures weight { result ≡ clause_weight (map weight_row self.now.patterns.items)
             self.now.hints clause.now }

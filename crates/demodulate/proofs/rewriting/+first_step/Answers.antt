@@ -5,7 +5,7 @@ use Rattle.fol_core.specs.Tree.{app, nodes_of, trees_of}
 use Rattle.demodulate.specs.Resumed.{is_passed, place_within, IsNormalBefore, AreNormalBefore}
 use Rattle.demodulate.specs.Steps.{part_step, step_below, whole_step, step_in_term}
 use Rattle.demodulate.proofs.Redexes.{normal_more, argument_step, no_argument_step}
-use Rattle.term_matches.proofs.Standing.{argument_nodes}
+use Rattle.term_matches.proofs.Arguments.{argument_nodes}
 use Rattle.demodulate.proofs.Resuming.{argument_before}
 use Rattle.prover_steps.specs.Rewriting.{widened, first_step, step_in}
 use Rattle.demodulate.proofs.rewriting.+first_step.Goals as goal

@@ -6,6 +6,8 @@ use Rattle.held_clauses.proofs.LiteralTests.{some_from}
 use Rattle.subsume.proofs.subsuming.matches_some.Given as goal
 
 abbrev pub invariant-loop-other : goal.invariant-loop-other
-invariant-loop-other l =
-    some_from (λ k. is_some (matched_literal (literal_of l.literal) k [])) l.other-items 0
-    ≡ some_from (λ k. is_some (matched_literal (literal_of l.literal) k [])) l.other-items l.other-index
+invariant-loop-other l = record {
+  decides : some_from (λ k. is_some (matched_literal (literal_of l.literal) k [])) l.other-items 0
+      ≡ some_from (λ k. is_some (matched_literal (literal_of l.literal) k [])) l.other-items l.other-index;
+  room : l.found.room ≡ l.fn.found.room;
+}

@@ -3,7 +3,7 @@ use Rattle.std.proofs.Common.{◌≡◌, ◌≤◌, ◌+◌, ◌∙◌, ap, arit
 use Rattle.fol_core.specs.Sizes.{size_of, sizes_of}
 use Rattle.fol_core.specs.TermView.{tree_of, tree_list}
 use Rattle.fol_core.specs.Tree.{nodes_of, trees_of}
-use Rattle.term_matches.proofs.Standing.{argument_nodes}
+use Rattle.term_matches.proofs.Arguments.{argument_nodes}
 use Rattle.weights.specs.Parts.{parts_of, place_among}
 use Rattle.weights.proofs.Listed.{places_within, sizes_step}
 use Rattle.weights.proofs.parts.+parts.Goals as goal

@@ -26,4 +26,5 @@ invariant-weigh_all-loop-term l = record {
   listed : listed_from (map weight_row l.rules) l.fn.weights.items l.term-items 0 ≡ listed_from (map weight_row l.rules) l.weights.items l.term-items l.term-index;
   len : vec_len l.weights + sizes_of (trees_of (tree_list (drop l.term-index l.term-items))) ≡ vec_len l.fn.weights + sizes_of (trees_of (tree_list l.term-items));
   room : vec_capacity l.weights ≡ vec_capacity l.fn.weights;
+  bindings : l.found.room ≡ l.fn.found.room;
 }

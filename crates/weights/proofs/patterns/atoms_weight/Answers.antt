@@ -10,4 +10,5 @@ loop-literal-preserved c = record {
       next_atom (map weight_row c.args.rules.now) c.deref-literal-items.result.now c.loop-literal.literal-index c.literal-item.result c.loop-literal.sum c.weigh-weight.result c.min-sum.result
       c.loop-literal-test.true c.literal-item.is c.loop-literal.invariant.sum c.weigh-weight.ensures.weighed.weight (c.min-sum.ensures ∙ ap (λ n. min n 2147483647) c.saturating_add.ensures);
   room = c.weigh-weight.ensures.room ∙ c.clear.ensures.capacity ∙ c.loop-literal.invariant.room;
+  bindings = c.weigh-weight.ensures.bindings ∙ c.loop-literal.invariant.bindings;
 }

@@ -9,4 +9,5 @@ abbrev pub invariant-loop-literal : goal.invariant-loop-literal
 invariant-loop-literal l = record {
   sum : l.sum ≡ atoms_weight (map weight_row l.rules) (map literal_of (take l.literal-index l.literal-items));
   room : vec_capacity l.weights ≡ vec_capacity l.fn.weights;
+  bindings : l.found.room ≡ l.fn.found.room;
 }

@@ -6,16 +6,16 @@ use Rattle.discrim_tree.specs.declared.sought.Sought.{Sought}
 use Rattle.discrim_tree.proofs.Meetings.{general_unifies, instance_unifies}
 use Rattle.discrim_tree.proofs.sought.Sought.passes.Goals as goal
 
-pub returns-then-is_instance : goal.returns-then-is_instance
-returns-then-is_instance c =
+pub returns-then-below : goal.returns-then-below
+returns-then-below c =
     let s = tree_of c.args.s.now in
     let t = tree_of c.args.t.now in
-    instance_unifies s t c.is_instance-in-Unifiable.result c.is_instance-in-Unifiable.ensures c.if-is_instance.true
+    instance_unifies s t c.in_ok-below-in-Unifiable.below c.in_ok-below-in-Unifiable.ensures c.if-below.true
     ∙ ap (λ (k : Sought). passes k t s) (sym c.in-Unifiable.is)
 
-pub returns-then-is_instance-2 : goal.returns-then-is_instance-2
-returns-then-is_instance-2 c =
+pub returns-then-above : goal.returns-then-above
+returns-then-above c =
     let s = tree_of c.args.s.now in
     let t = tree_of c.args.t.now in
-    general_unifies s t c.is_instance-in-Unifiable-2.result c.is_instance-in-Unifiable-2.ensures c.if-is_instance-2.true
+    general_unifies s t c.in_ok-above-in-Unifiable.above c.in_ok-above-in-Unifiable.ensures c.if-above.true
     ∙ ap (λ (k : Sought). passes k t s) (sym c.in-Unifiable.is)

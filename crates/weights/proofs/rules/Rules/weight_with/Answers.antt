@@ -15,6 +15,6 @@ returns-in-Some-clause-weight c =
 pub returns-in-None-clause-weight : goal.returns-in-None-clause-weight
 returns-in-None-clause-weight c =
     let rs = map weight_row c.args.self.now.patterns.items in
-    c.atoms_weight.ensures.weight ∙ ap (λ ps. atoms_weight (map weight_row ps) c.args.clause.now) c.as_slice.ensures.value
+    c.atoms_weight.ensures.weight ∙ ap (λ ps. atoms_weight (map weight_row ps) c.args.clause.now) c.as_slice-patterns.ensures.value
     ∙ sym (weight_hinted rs c.args.self.now.hints c.args.clause.now c.args.hint c.requires.hint
     ∙ ap (λ w. unwrap_or w (atoms_weight rs c.args.clause.now)) (sym c.weight_at.ensures ∙ c.in-None.is))
