@@ -1,3 +1,4 @@
+mod Asks
 mod Behind
 mod Bodies
 pub mod Claims

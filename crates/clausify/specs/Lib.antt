@@ -1,4 +1,5 @@
 pub mod Asked
+pub mod AskedForms
 pub mod Behind
 pub mod Capped
 pub mod Clausal

@@ -3,21 +3,24 @@ ghost use Rattle.std.specs.Prelude.{◌≡◌, IfOk, map, true, false};
 ghost use Rattle.fol_core.specs.Fol.{disjunction};
 ghost use Rattle.fol_core.specs.FormulaView.{fol_of};
 ghost use Rattle.fol_problem.specs.Stated.{said_of, all_said};
+ghost use Rattle.clausify.specs.AskedForms.{asked_by, asked_in};
 ghost use Rattle.clausify.specs.Forms.{nnf_of};
 ghost use Rattle.clausify.specs.Fronts.{normal_of};
 ghost use Rattle.clausify.specs.Input.{form, forms, is_taken};
 
+use crate::asking::asked_variables;
 use fol_core::{Shape, Sub, free_vars};
 use fol_problem::{Input, Role};
 use std::alloc::{AllocError, Global};
 
 /// The negation normal form of a formula's closure, or of the closure's denial: whether it is the former, the free
-/// variables, which are bound in front, and what stands behind them.
+/// variables, which are bound in front, and what stands behind them; and the variables that the formula asks for.
 #[derive(Drop)]
 pub struct Normal {
     pub plain: bool,
     pub variables: Vec<u64>,
     pub shape: Shape,
+    pub asked: Vec<u64>,
 }
 
 /// The negation normal form of a formula where the sign is true, and of its denial where it is false.
@@ -103,22 +106,26 @@ fn is_taken(role: Role) -> bool
 // That of a formula of a problem.
 #[tactic(auto, using(crate::proofs::Closures::form_behind))]
 fn normal_of(alloc: Global, input: &Input) -> Result<Normal, AllocError>
-    ensures { IfOk result (λ n. normal_of n ≡ form (said_of input.now)) }
+    ensures form { IfOk result (λ n. normal_of n ≡ form (said_of input.now)) }
+    ensures asked { IfOk result (λ n. asked_by n ≡ asked_in input.now) }
 {
     let plain = is_taken(input.role);
     let variables = free_vars(alloc, &input.formula)?;
     let shape = normal_form(alloc, &input.formula.shape, plain)?;
+    let asked = asked_variables(alloc, &input.formula.shape, &input.answer)?;
     Ok(Normal {
         plain,
         variables,
         shape,
+        asked,
     })
 }
 
 /// Those of the formulas of a problem.
-#[tactic(auto, using(crate::proofs::Closures::normals_next, crate::proofs::Closures::normals_end))]
+#[tactic(auto, using(crate::proofs::Closures::normals_next, crate::proofs::Closures::normals_end, crate::proofs::Asks::asked_next, crate::proofs::Asks::asked_end))]
 pub fn all_normal(alloc: Global, inputs: &[Input]) -> Result<Vec<Normal>, AllocError>
-    ensures { IfOk result (λ ns. map normal_of ns.items ≡ forms (all_said inputs.now)) }
+    ensures forms { IfOk result (λ ns. map normal_of ns.items ≡ forms (all_said inputs.now)) }
+    ensures asked { IfOk result (λ ns. map asked_by ns.items ≡ map asked_in inputs.now) }
 {
     let mut all = Vec::new(alloc);
     for input in inputs {

@@ -1,18 +1,21 @@
 // The clauses of a problem.
-ghost use Rattle.std.specs.Prelude.{◌≡◌, ◌≤◌, ℕ, [], Some, None, Err, IfOk, OnOk, length, map};
+ghost use Rattle.std.specs.Prelude.{◌≡◌, ◌≤◌, ℕ, Some, None, Err, IfOk, OnOk, length, map};
 ghost use Rattle.fol_core.specs.EntryView.{skolem_axiom_of};
 ghost use Rattle.fol_core.specs.Literals.{equality};
 ghost use Rattle.fol_core.specs.Meaning.{Meaning, IsLawful};
+ghost use Rattle.fol_core.specs.Tree.{trees_of};
+ghost use Rattle.fol_problem.specs.Asks.{asks_of};
 ghost use Rattle.fol_problem.specs.Stated.{stated_of, IsWellFormed, IsCountermodel, AreNewTo};
 ghost use Rattle.fol_core.specs.SymbolTable.{KeepsNumbers};
 ghost use Rattle.fol_core.specs.SkolemAxioms.{PicksWitnesses, AreInOrder};
+ghost use Rattle.clausify.specs.Asked.{answer_terms_in_table};
 ghost use Rattle.clausify.specs.Input.{clauses_in_table, axioms_in_table, with_skolems, first_over, used_symbols, numeral_of};
 ghost use Rattle.clausify.specs.Laws.{AreTrueRows};
 ghost use Rattle.clausify.specs.Names.{HasNoSkolemRelation};
 
 use crate::arity::all_arities;
 use crate::error::ClauseError;
-use crate::inputs::all_clauses;
+use crate::inputs::{Rows, all_clauses};
 use crate::laws::{clauses_follow, clauses_suffice};
 use crate::limit::first_over;
 use crate::normal::all_normal;
@@ -30,6 +33,7 @@ fn fits(symbols: &Symbols)
 }
 
 // The clauses of a problem whose formulas are within the limit.
+#[tactic(auto, using(crate::proofs::Asks::terms_of_inputs))]
 fn made(alloc: Global, problem: &Problem, symbols: &mut Symbols) -> Result<Clauses, AllocError>
     requires well_formed { IsWellFormed (stated_of problem.now) }
     requires small { length problem.now.symbols ≤ equality }
@@ -37,7 +41,8 @@ fn made(alloc: Global, problem: &Problem, symbols: &mut Symbols) -> Result<Claus
     requires no_relation { HasNoSkolemRelation problem.now.symbols symbols.old }
     ensures clauses { IfOk result (λ c. c.clauses.items
         ≡ clauses_in_table symbols.old (stated_of problem.now)) }
-    ensures answers { IfOk result (λ c. c.answers.items ≡ []) }
+    ensures answers { IfOk result (λ c. map trees_of c.answers.items
+        ≡ answer_terms_in_table symbols.old (stated_of problem.now) (asks_of problem.now)) }
     ensures skolem { IfOk result (λ c. map skolem_axiom_of c.skolem.items
         ≡ axioms_in_table symbols.old (stated_of problem.now)) }
     ensures symbols { IfOk result (λ c. map (λ s. s.0) c.symbols.items
@@ -52,11 +57,16 @@ fn made(alloc: Global, problem: &Problem, symbols: &mut Symbols) -> Result<Claus
     let normals = all_normal(alloc, &problem.inputs)?;
     let arities = all_arities(alloc, &normals)?;
     let numbers = enter_all(alloc, &problem.symbols, &arities, symbols)?;
-    let (clauses, skolem) = all_clauses(alloc, &numbers, &normals)?;
+    let rows = all_clauses(alloc, &numbers, &normals)?;
+    let Rows {
+        clauses,
+        answers,
+        skolem,
+    } = rows;
     let (symbols, numeral) = symbols_and_numeral(alloc, problem)?;
     Ok(Clauses {
         clauses,
-        answers: Vec::new(alloc),
+        answers,
         skolem,
         symbols,
         numeral,
@@ -75,8 +85,8 @@ pub fn clauses_of(
 
     ensures clauses { IfOk result (λ c. c.clauses.items
         ≡ clauses_in_table symbols.old (stated_of problem.now)) }
-    // Answers aren't made yet.
-    ensures answers { IfOk result (λ c. c.answers.items ≡ []) }
+    ensures answers { IfOk result (λ c. map trees_of c.answers.items
+        ≡ answer_terms_in_table symbols.old (stated_of problem.now) (asks_of problem.now)) }
     ensures skolem { IfOk result (λ c. map skolem_axiom_of c.skolem.items
         ≡ axioms_in_table symbols.old (stated_of problem.now)) }
     ensures symbols { IfOk result (λ c. map (λ s. s.0) c.symbols.items

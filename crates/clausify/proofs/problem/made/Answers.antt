@@ -19,14 +19,14 @@ noted table p es few told small well_formed keeps =
 
 pub returns-clause-order : goal.returns-clause-order
 returns-clause-order c =
-    let entries = c.in_ok-clauses.skolem in
+    let entries = c.in_ok-rows.rows.skolem in
     (noted c.args.symbols.now (stated_of c.args.problem.now) entries.items (omega (arith, entries.ok.0, entries.ok.1, entries.small))
-    (rw (c.in_ok-clauses.ensures.witnesses, c.deref-4.ensures.value, c.in_ok-numbers.ensures.numbers, c.deref-3.ensures.value, c.in_ok-arities.ensures, c.deref-2.ensures.value, c.deref-5.ensures.value, c.in_ok-normals.ensures, c.deref.ensures.value) refl)
+    (rw (c.in_ok-rows.ensures.witnesses, c.deref-4.ensures.value, c.in_ok-numbers.ensures.numbers, c.deref-3.ensures.value, c.in_ok-arities.ensures, c.deref-2.ensures.value, c.deref-5.ensures.value, c.in_ok-normals.ensures.forms, c.deref.ensures.value) refl)
     c.requires.small c.requires.well_formed c.requires.table).0
 
 pub returns-clause-new : goal.returns-clause-new
 returns-clause-new c =
-    let entries = c.in_ok-clauses.skolem in
+    let entries = c.in_ok-rows.rows.skolem in
     (noted c.args.symbols.now (stated_of c.args.problem.now) entries.items (omega (arith, entries.ok.0, entries.ok.1, entries.small))
-    (rw (c.in_ok-clauses.ensures.witnesses, c.deref-4.ensures.value, c.in_ok-numbers.ensures.numbers, c.deref-3.ensures.value, c.in_ok-arities.ensures, c.deref-2.ensures.value, c.deref-5.ensures.value, c.in_ok-normals.ensures, c.deref.ensures.value) refl)
+    (rw (c.in_ok-rows.ensures.witnesses, c.deref-4.ensures.value, c.in_ok-numbers.ensures.numbers, c.deref-3.ensures.value, c.in_ok-arities.ensures, c.deref-2.ensures.value, c.deref-5.ensures.value, c.in_ok-normals.ensures.forms, c.deref.ensures.value) refl)
     c.requires.small c.requires.well_formed c.requires.table).1

@@ -1,0 +1,4 @@
+mod AnswerSteps
+mod RowSteps
+mod SameSteps
+mod SaySteps
