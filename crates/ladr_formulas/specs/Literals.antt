@@ -2,10 +2,11 @@
 use Rattle.std.specs.Prelude.{◌≡◌, Bool, true, false, List, [], ◌∷◌, ◌++◌, Option, Some, None, if◌then◌else◌}
 use Rattle.fol_core.specs.Fol.{Fol, falsum}
 use Rattle.fol_core.specs.Literals.{Lit, ClauseTree}
-use Rattle.fol_core.specs.RawTree.{RawTree}
+use Rattle.fol_core.specs.RawTree.{RawTree, RawTrees}
 use Rattle.fol_core.specs.SymbolTable.{Symbol}
+use Rattle.fol_core.specs.Tree.{Trees}
 use Rattle.ladr_formulas.specs.ClauseIn.{literal_in, prepended, clause_in}
-use Rattle.ladr_formulas.specs.Formulas.{Reading, Made, Bound, Style, formula_in, names_of_variables}
+use Rattle.ladr_formulas.specs.Formulas.{Reading, Made, Bound, Style, formula_in, terms_of, names_of_variables}
 use Rattle.ladr_formulas.specs.declared.clauses.ClauseRead.{ClauseRead}
 
 -- the formulas of terms that are read one behind the other
@@ -48,3 +49,16 @@ pub record IsClauseRead (m : Made Fol) (r : ClauseRead) (table : List Symbol) : 
   pub least : r.least ≡ m.reading.least
   pub large : r.large ≡ m.reading.large
   pub symbols : table ≡ m.reading.symbols
+
+-- The code has the clause of a reading, and terms that are read behind it: their variables are
+-- numbered together, and the rows that are met are those of both.
+pub record IsReadWithTerms
+    (st : Style) (m : Made Fol) (behind : RawTrees) (r : ClauseRead) (ts : Trees)
+    (table : List Symbol) : Type 0 where
+  pub clause : r.clause ≡ clause_in m.tree
+  pub terms : ts ≡ (terms_of st [] m.reading behind).tree
+  pub named :
+      r.names ≡ names_of_variables (terms_of st [] m.reading behind).reading.variables
+  pub least : r.least ≡ (terms_of st [] m.reading behind).reading.least
+  pub large : r.large ≡ (terms_of st [] m.reading behind).reading.large
+  pub symbols : table ≡ (terms_of st [] m.reading behind).reading.symbols

@@ -4,19 +4,20 @@ ghost use Rattle.std.specs.Option.{option_map};
 ghost use Rattle.fol_core.specs.ClauseView.{literal_of};
 ghost use Rattle.fol_core.specs.Fol.{Fol};
 ghost use Rattle.fol_core.specs.FormulaView.{fol_of};
-ghost use Rattle.fol_core.specs.RawTree.{RawTree};
+ghost use Rattle.fol_core.specs.RawTree.{RawTree, raws_of};
 ghost use Rattle.fol_core.specs.RawView.{raw_list};
 ghost use Rattle.fol_core.specs.SymbolTable.{KeepsNumbers};
+ghost use Rattle.fol_core.specs.Tree.{trees_of};
 ghost use Rattle.ladr_reader.specs.Capped.{disjuncts};
 ghost use Rattle.ladr_formulas.specs.Broken.{broken, least_of};
 ghost use Rattle.ladr_formulas.specs.ClauseIn.{atom_in, literal_in, clause_in};
 ghost use Rattle.ladr_formulas.specs.Formulas.{formula_in, formula_reading, names_of_variables, style_of};
-ghost use Rattle.ladr_formulas.specs.Literals.{formulas_in, all_literals, clause_from, with_literal, IsClauseRead};
+ghost use Rattle.ladr_formulas.specs.Literals.{formulas_in, all_literals, clause_from, with_literal, IsClauseRead, IsReadWithTerms};
 ghost use Rattle.ladr_formulas.specs.Means.{IsMeaning};
 ghost use Rattle.ladr_formulas.specs.Occurring.{occurring, new_symbols, has_many_arguments};
 ghost use Rattle.ladr_formulas.specs.VariablesMet.{variables_in};
 
-use crate::formulas::formula;
+use crate::formulas::{formula, terms};
 use crate::reader::Reader;
 use crate::styles::{Mode, Style, style_of};
 use crate::waiting::{Waiting, one};
@@ -75,6 +76,58 @@ pub fn clause_of(
     answer
 }
 
+/// The clause that the disjuncts of a term are, and terms that are read behind it, with one numbering of variables; their
+/// symbols are entered, those of the clause first.
+pub fn clause_with_terms(
+    alloc: Global,
+    literals: Vec<Raw>,
+    behind: &Raws,
+    symbols: &mut Symbols,
+    mode: Mode,
+    prolog: bool,
+) -> Result<(ClauseRead, Terms), AllocError>
+    ensures read { IfOk result (λ r. (t : RawTree) → raw_list literals.items ≡ disjuncts t →
+        IsReadWithTerms (style_of mode prolog)
+        (formula_reading (style_of mode prolog) symbols.old t) (raws_of behind.now) r.0
+        (trees_of r.1) symbols.new) }
+    // Whatever the answer, the old symbols keep their numbers.
+    ensures kept { KeepsNumbers symbols.old symbols.new }
+{
+    let table = mem::replace(symbols, Symbols::new(alloc));
+    let mut reader = Reader::new(alloc, table);
+    let answer = whole_with_terms(alloc, literals, behind, style_of(mode, prolog), &mut reader);
+    *symbols = reader.into_symbols();
+    answer
+}
+
+// The clause of literals and the terms behind it, with what both break.
+fn whole_with_terms(
+    alloc: Global,
+    literals: Vec<Raw>,
+    behind: &Raws,
+    style: Style,
+    reader: &mut Reader,
+) -> Result<(ClauseRead, Terms), AllocError>
+    ensures read { IfOk result (λ r. (t : RawTree) → raw_list literals.items ≡ disjuncts t
+        → reader.old.scope ≡ [] →
+        IsReadWithTerms style (formula_in style [] reader.old.reading t) (raws_of behind.now) r.0
+        (trees_of r.1) reader.new.reading.symbols) }
+    ensures kept { KeepsNumbers reader.old.reading.symbols reader.new.reading.symbols }
+{
+    let clause = clause(alloc, literals, style, reader)?;
+    let read = terms(alloc, behind, style, reader)?;
+    let least = reader.least();
+    let large = reader.is_large();
+    let names = reader.take_names(alloc)?;
+    let clause = ClauseRead {
+        clause,
+        names,
+        least,
+        large,
+    };
+    Ok((clause, read))
+}
+
 // The clause of literals with what it breaks.
 fn whole_clause(
     alloc: Global,
@@ -110,6 +163,7 @@ fn clause(
         (formulas_in style reader.old.scope reader.old.reading (raw_list literals.items)).tree) }
     ensures reading { OnOk result (reader.new.reading
         ≡ (formulas_in style reader.old.scope reader.old.reading (raw_list literals.items)).reading) }
+    ensures scope { OnOk result (reader.new.scope ≡ reader.old.scope) }
     ensures kept { KeepsNumbers reader.old.reading.symbols reader.new.reading.symbols }
 {
     if literals.len() != 1 {
@@ -135,6 +189,7 @@ fn all_literals(
         (formulas_in style reader.old.scope reader.old.reading (raw_list literals.items)).tree) }
     ensures reading { OnOk result (reader.new.reading
         ≡ (formulas_in style reader.old.scope reader.old.reading (raw_list literals.items)).reading) }
+    ensures scope { OnOk result (reader.new.scope ≡ reader.old.scope) }
     ensures kept { KeepsNumbers reader.old.reading.symbols reader.new.reading.symbols }
 {
     let mut clause = Some(Clause::new(alloc));

@@ -29,7 +29,7 @@ mod styles;
 mod waiting;
 
 pub use arguments::{TermsRead, terms_of};
-pub use clauses::{ClauseRead, clause_of};
+pub use clauses::{ClauseRead, clause_of, clause_with_terms};
 pub use counting::{brings_too_many, has_large_arity};
 pub use examples::{
     worked_counts, worked_formulas, worked_meanings, worked_refusals, worked_symbols,

@@ -5,10 +5,10 @@ use Rattle.fol_core.specs.Free as numbers
 use Rattle.fol_core.specs.NamesOnce.{place_in}
 use Rattle.fol_core.specs.RawView.{raw_of}
 use Rattle.fol_core.specs.declared.raw.Raw.{Raw}
-use Rattle.std.specs.Option.{option_and_then}
+use Rattle.std.specs.Option.{option_and_then, option_map}
 use Rattle.fol_core.specs.RawTree.{RawTree, named, quantified, no_raws, more_raws, raws_of}
 use Rattle.fol_core.proofs.Places.{first_place_is_position, first_place-any}
-use Rattle.ladr_rules.specs.Asked.{asked, asked_among, asked_by, front_of, new_place, place_of, places_behind}
+use Rattle.ladr_rules.specs.Asked.{asked, asked_among, asked_by, asked_with, first_asking, front_of, is_asking, line_asks, new_place, place_of, places_behind}
 use Rattle.ladr_rules.specs.Attributes.{attributes_in}
 use Rattle.ladr_rules.specs.Seen.{is_joined}
 use Rattle.ladr_rules.proofs.Arities.{no_none}
@@ -67,3 +67,18 @@ places_none front ps raws i raw h is e =
 
 pub places_end : (front : List (List ℕ)) (ps : List ℕ) (raws : List Raw) (i : ℕ) → length raws ≤ i → places_behind front ps (raws_from raws i) ≡ Some ps
 places_end front ps raws i past = ap (places_behind front ps) (raws_end raws i past)
+
+-- the first attribute that asks
+pub asking_by_length : (s : List ℕ) (ts : List RawTree) → is_asking (named s (raws_of ts)) ≡ (if length ts == 0 then false else bytes_eq s (codes "answer"))
+asking_by_length s [] = refl
+asking_by_length s (t ∷ ts) = ap (λ b. if b then false else bytes_eq s (codes "answer")) (sym (no_none (length ts)))
+
+pub line_joined : (t u : RawTree) → line_asks (named (codes "#") (more_raws t (more_raws u no_raws))) ≡ option_map (asked_with (front_of [] t)) (first_asking (attributes_in u))
+line_joined t u = refl
+
+pub line_alone : (t : RawTree) → is_joined t ≡ false → line_asks t ≡ None
+line_alone (quantified q x t) h = refl
+line_alone (named s no_raws) h = refl
+line_alone (named s (more_raws t no_raws)) h = refl
+line_alone (named s (more_raws t (more_raws u no_raws))) h = rw h refl
+line_alone (named s (more_raws t (more_raws u (more_raws v ts)))) h = refl

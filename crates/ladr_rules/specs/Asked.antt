@@ -1,6 +1,6 @@
 -- What a goal asks for: `answer(w1,..,wj)` among its attributes.
-use Rattle.std.specs.Prelude.{ℕ, if◌then◌else◌, List, [], ◌∷◌, ◌++◌, Option, Some, None, codes}
-use Rattle.std.specs.Option.{option_and_then, option_map_or}
+use Rattle.std.specs.Prelude.{ℕ, Bool, false, if◌then◌else◌, List, [], ◌∷◌, ◌++◌, Option, Some, None, unwrap_or, codes}
+use Rattle.std.specs.Option.{option_and_then, option_map, option_map_or}
 use Rattle.std.specs.Str.{bytes_eq}
 use Rattle.fol_core.specs.Free as numbers
 use Rattle.fol_core.specs.NamesOnce.{is_in, place_in}
@@ -55,3 +55,26 @@ asked_among ts (Some front) = asked_of front ts
 
 abbrev pub asked : RawTree → List ℕ
 asked t = asked_among (attributed t).attributes (front_of [] (attributed t).formula)
+
+-- `answer(t,..)`, whatever its terms are, one at least
+abbrev pub is_asking : RawTree → Bool
+is_asking (named s no_raws) = false
+is_asking (named s (more_raws t ts)) = bytes_eq s (codes "answer")
+is_asking (quantified q x t) = false
+
+-- the first attribute that is one
+abbrev pub first_asking : List RawTree → Option RawTree
+first_asking [] = None
+first_asking (t ∷ ts) = if is_asking t then Some t else first_asking ts
+
+-- the places that it asks for, and none where it asks for no such names
+abbrev pub asked_with : Option (List (List ℕ)) → RawTree → List ℕ
+asked_with None t = []
+asked_with (Some front) t = unwrap_or (asked_by front t) []
+
+-- What a line of a proof asks for: by the first attribute `answer(t,..)`, whether it can ask so or
+-- not; nothing where there is no such attribute.
+abbrev pub line_asks : RawTree → Option (List ℕ)
+line_asks t =
+    option_map (asked_with (front_of [] (attributed t).formula))
+    (first_asking (attributed t).attributes)

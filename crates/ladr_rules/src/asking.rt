@@ -4,7 +4,7 @@ ghost use Rattle.std.specs.Option.{option_map};
 ghost use Rattle.fol_core.specs.Free.{is_in};
 ghost use Rattle.fol_core.specs.RawTree.{named, no_raws, more_raws, raws_of};
 ghost use Rattle.fol_core.specs.RawView.{raw_of, raw_list};
-ghost use Rattle.ladr_rules.specs.Asked.{asked, asked_among, asked_by, asked_of, front_of, new_place, place_of, places_behind};
+ghost use Rattle.ladr_rules.specs.Asked.{asked, asked_among, asked_by, asked_of, asked_with, first_asking, front_of, is_asking, line_asks, new_place, place_of, places_behind};
 ghost use Rattle.ladr_rules.specs.Attributes.{attributes_in};
 ghost use Rattle.ladr_rules.specs.Seen.{is_joined};
 
@@ -19,6 +19,79 @@ pub fn asked(alloc: Global, raw: &Raw) -> Result<Vec<u64>, AllocError>
 {
     match joined_parts(raw) {
         Some((formula, rest)) => asked_behind(alloc, formula, rest),
+        None => Ok(Vec::new(alloc)),
+    }
+}
+
+/// What the first attribute `answer(t,..)` behind a formula asks for: places as above, none where it doesn't ask so. Nothing
+/// where there is no such attribute.
+#[tactic(auto, using(crate::proofs::AskedParts::line_joined, crate::proofs::AskedParts::line_alone))]
+pub fn line_asks(alloc: Global, raw: &Raw) -> Result<Option<Vec<u64>>, AllocError>
+    ensures { IfOk result (λ o. option_map (λ v. v.items) o ≡ line_asks (raw_of raw.now)) }
+{
+    match joined_parts(raw) {
+        Some((formula, rest)) => asked_first(alloc, formula, rest),
+        None => Ok(None),
+    }
+}
+
+// What the first of attributes behind a formula asks for that is `answer(t,..)`.
+fn asked_first(alloc: Global, formula: &Raw, rest: &Raw) -> Result<Option<Vec<u64>>, AllocError>
+    ensures { IfOk result (λ o. option_map (λ v. v.items) o
+        ≡ option_map (asked_with (front_of [] (raw_of formula.now)))
+        (first_asking (attributes_in (raw_of rest.now)))) }
+{
+    match first_asking(rest) {
+        Some(attribute) => Ok(Some(asked_with(alloc, formula, attribute)?)),
+        None => Ok(None),
+    }
+}
+
+// The first of attributes that is `answer(t,..)`.
+#[tactic(auto, using(crate::proofs::AskedParts::attributes_joined, crate::proofs::AskedParts::attributes_alone))]
+fn first_asking(rest: &Raw) -> Option<&Raw>
+    ensures { option_map (λ t. raw_of t.now) result
+        ≡ first_asking (attributes_in (raw_of rest.now)) }
+{
+    match joined_parts(rest) {
+        Some((first, more)) => {
+            if is_asking(first) {
+                Some(first)
+            } else {
+                first_asking(more)
+            }
+        }
+        None => { if is_asking(rest) { Some(rest) } else { None } }
+    }
+}
+
+// Whether an attribute is `answer(t,..)`.
+#[tactic(auto, using(crate::proofs::AskedParts::asking_by_length))]
+fn is_asking(attribute: &Raw) -> bool
+    ensures { result ≡ is_asking (raw_of attribute.now) }
+{
+    match attribute {
+        Raw::App(name, args) => {
+            if args.len() == 0 {
+                return false;
+            }
+            name.bytes() == b"answer".as_slice()
+        }
+        Raw::Quant(_, _, _) => false,
+    }
+}
+
+// What such an attribute asks for.
+fn asked_with(alloc: Global, formula: &Raw, attribute: &Raw) -> Result<Vec<u64>, AllocError>
+    ensures { IfOk result (λ places. places.items
+        ≡ asked_with (front_of [] (raw_of formula.now)) (raw_of attribute.now)) }
+{
+    let mut front = NameOrder::new(alloc);
+    if !add_front(formula, &mut front)? {
+        return Ok(Vec::new(alloc));
+    }
+    match asked_by(alloc, &front, attribute)? {
+        Some(places) => Ok(places),
         None => Ok(Vec::new(alloc)),
     }
 }

@@ -107,16 +107,17 @@ impl Notes {
     }
 }
 
-// A term: two parts that `#` joins, or another one.
+/// A term: two parts that `#` joins, or another one.
 #[derive(Drop)]
-enum Split {
+pub enum Split {
     Joined(Raw, Raw),
     Alone(Raw),
 }
 
 impl Split {
+    /// The term taken apart.
     #[inline(always)]
-    fn of(raw: Raw) -> Split
+    pub fn of(raw: Raw) -> Split
         ensures { IsSplit (raw_of raw) result }
     {
         match raw {

@@ -8,7 +8,7 @@ ghost use Rattle.ladr_lex.specs.declared.misuse.Misuse.TheVariants.{UnfitNumeral
 ghost use Rattle.ladr_reader.specs.Reads.{Item};
 ghost use Rattle.ladr_reader.specs.Worked.{lexemes_of_text, constant, unary, binary, standard};
 ghost use Rattle.ladr_formulas.specs.WorkedFormulas.{for_tester, for_prover, in_prolog};
-ghost use Rattle.ladr_rules.specs.Asked.{asked};
+ghost use Rattle.ladr_rules.specs.Asked.{asked, line_asks};
 ghost use Rattle.ladr_rules.specs.Attributes.{attributed, label_of, has_unfit_weight, hint_weight_of};
 ghost use Rattle.ladr_rules.specs.Rules.{kbo_rule};
 ghost use Rattle.ladr_rules.specs.Shapes.{is_hint, is_demodulator};
@@ -57,6 +57,21 @@ pub fn worked_asked()
     // exists x exists x p # answer(x)
     ensures same { asked (binary "#" one_twice (unary "answer" x)) ≡ [] }
     ensures without { asked two_in_front ≡ [] }
+{}
+
+/// What lines ask for by their attributes, over the same formulas.
+pub fn worked_line_asks()
+    // exists x exists y p # label(a) # answer(y)
+    ensures one { line_asks (binary "#" two_in_front (binary "#" (unary "label" a)
+        (unary "answer" y))) ≡ Some (1 ∷ []) }
+    // The first counts, though it asks for nothing that stands in front.
+    ensures first { line_asks (binary "#" two_in_front (binary "#" (unary "answer" a)
+        (unary "answer" y))) ≡ Some [] }
+    // answer alone is no such attribute.
+    ensures alone { line_asks (binary "#" two_in_front (constant "answer")) ≡ None }
+    ensures without { line_asks two_in_front ≡ None }
+    // exists x exists x p # answer(x)
+    ensures same { line_asks (binary "#" one_twice (unary "answer" x)) ≡ Some [] }
 {}
 
 /// Rules of weights.

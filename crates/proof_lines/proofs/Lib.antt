@@ -1,3 +1,5 @@
+pub mod AnswerParts
+pub mod AnswersBad
 pub mod BadTokens
 pub mod ClauseReadings
 pub mod Clauses
@@ -5,6 +7,7 @@ pub mod Contents
 pub mod FirstWords
 pub mod KeptNames
 pub mod Levels
+pub mod Noting
 pub mod OneFault
 pub mod OneLine
 pub mod PartLemmas

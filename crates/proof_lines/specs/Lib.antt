@@ -1,7 +1,11 @@
+pub mod AnswerMarks
+pub mod Answered
+pub mod AnswersSeen
 pub mod ContentTokens
 pub mod Faults
 pub mod Lines
 pub mod Literals
+pub mod Noted
 pub mod Parsed
 pub mod Stated
 pub mod Strays

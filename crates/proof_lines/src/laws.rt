@@ -1,13 +1,17 @@
 // Laws of the definitions.
-ghost use Rattle.std.specs.Prelude.{◌≡◌, ℕ, List, []};
+ghost use Rattle.std.specs.Prelude.{◌≡◌, ℕ, true, false, List, [], ◌∷◌, take, Some, None};
+ghost use Rattle.fol_core.specs.RawTree.{no_raws, more_raws};
 ghost use Rattle.fol_core.specs.SymbolTable.{Symbol};
 ghost use Rattle.ladr_formulas.specs.declared.styles.Style.{Style};
 ghost use Rattle.ladr_lex.specs.Lexeme.{Lexeme};
 ghost use Rattle.ladr_reader.specs.Worked.{constant, unary, binary};
-ghost use Rattle.proof_lines.specs.ContentTokens.{LineTables};
+ghost use Rattle.ladr_lex.specs.Operators.{standard_rows};
+ghost use Rattle.proof_lines.specs.AnswerMarks.{answer_marks, noted};
+ghost use Rattle.proof_lines.specs.Answered.{answers_read, clause_part};
+ghost use Rattle.proof_lines.specs.ContentTokens.{LineTables, content_in};
 ghost use Rattle.proof_lines.specs.Faults.{IsBadOfLine, IsBadLineToken, IsLineFault};
 ghost use Rattle.proof_lines.specs.Lines.{LineParts, IsProofLine, IsFirstLine};
-ghost use Rattle.proof_lines.specs.WorkedLines.{worked_tables, parts};
+ghost use Rattle.proof_lines.specs.WorkedLines.{IsNotedItem, answer_two, parts, words_before, worked_tables};
 ghost use Rattle.proof_lines.specs.declared.fault.LineFault.{LineFault};
 ghost use Rattle.proof_lines.specs.declared.fault.LineFault.TheVariants.{Memory};
 ghost use Rattle.proof_words.specs.Worked.{tokens_of};
@@ -46,4 +50,38 @@ pub fn worked()
     ensures zeros { IsBadOfLine worked_tables (tokens_of "07 p.  [goal].") 0 }
     ensures content { IsBadOfLine worked_tables (tokens_of "7 p q.  [goal].") 2 }
     ensures no_clause { IsBadOfLine worked_tables (tokens_of "7 p & q.  [copy(5)].") 6 }
+{}
+
+/// A front of tokens has the front of their marks, and their content is marked as it is in them.
+pub fn marks_look_back()
+    ensures fronts { (k : ℕ) (ts : List Lexeme) → take k (noted ts) ≡ noted (take k ts) }
+    ensures content { (ts : List Lexeme) → content_in (noted ts) ≡ noted (content_in ts) }
+{}
+
+/// Clauses with answers, as terms.
+pub fn worked_answers()
+    // `p(x) # answer(2,x,a)` and `p # (answer(2,x))`, also where the word or the number is an operator
+    ensures marks { answer_marks (tokens_of "p # (answer(2,x)).")
+        ≡ false ∷ false ∷ false ∷ true ∷ false ∷ true ∷ false ∷ false ∷ false ∷ false ∷ false ∷ [] }
+    ensures one { IsNotedItem standard_rows "p # answer(2,x)."
+        (binary "#" (constant "p") (answer_two (constant "x"))) }
+    ensures operators { IsNotedItem words_before "p # answer(2,x)."
+        (binary "#" (constant "p") (answer_two (constant "x"))) }
+    ensures several { answers_read (binary "#" (constant "p") (binary "#"
+        (answer_two (constant "x")) (answer_two (constant "a")))) ≡ Some (record {
+          goal = 2;
+          terms = more_raws (constant "x") no_raws;
+        } ∷ record {
+          goal = 2;
+          terms = more_raws (constant "a") no_raws;
+        } ∷ []) }
+    ensures clause { clause_part (binary "#" (constant "p") (answer_two (constant "x")))
+        ≡ constant "p" }
+    // Another attribute, an answer without terms, and one without a number
+    ensures label { answers_read (binary "#" (constant "p") (unary "label" (constant "a")))
+        ≡ None }
+    ensures no_terms { answers_read (binary "#" (constant "p") (unary "\"answer\""
+        (constant "\"2\""))) ≡ None }
+    ensures no_number { answers_read (binary "#" (constant "p") (binary "\"answer\""
+        (constant "a") (constant "x"))) ≡ None }
 {}

@@ -8,23 +8,29 @@
 // Once all is read the content is looked at: how deep it is and whether it is a clause (`literals.rt`), what it states
 // and breaks (`stating.rt`), and whether it brings a relation that is named like a Skolem symbol (`strays.rt`), where
 // the names of the problem's symbols are looked up in a set that is made once for a text.
+// `marks.rt` tells which tokens of a clause are names because an answer begins there (`specs/AnswerMarks`), whatever
+// operators the problem has, and `answered.rt` takes a clause that is read so apart from its answers (`specs/Answered`).
 // `specs/Lines` says what tokens are a line, `specs/Faults` which token is bad, by the parts. `laws.rt` states that
 // tokens begin with one line at most, that they have one fault at most, and that no line goes on with a bad token.
 #![tactic(auto)]
 
+mod answered;
 mod content;
 mod fault;
 mod laws;
 mod line;
 mod literals;
+mod marks;
 mod operators;
 mod parts;
 mod stating;
 mod strays;
 
+pub use answered::{AnsweredRaw, MOST_ANSWERED_LEVELS, RawAnswer, read_answered, with_answers};
 pub use fault::LineFault;
-pub use laws::{bad_tokens_are_bad, one_fault, one_line, worked};
+pub use laws::{bad_tokens_are_bad, marks_look_back, one_fault, one_line, worked, worked_answers};
 pub use line::{LineRead, read_line};
 pub use literals::{MOST_ATOM_LEVELS, MOST_LITERAL_LEVELS};
+pub use marks::{Spot, answer_marks};
 pub use operators::LineOperators;
 pub use strays::ProblemNames;

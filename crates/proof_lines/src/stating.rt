@@ -1,10 +1,12 @@
 // What the content of a line states.
-ghost use Rattle.std.specs.Prelude.{◌≡◌, Bool, true, false, IfOk, IfErr};
+ghost use Rattle.std.specs.Prelude.{◌≡◌, Bool, true, false, option_map, IfOk, IfErr};
 ghost use Rattle.fol_core.specs.RawTree.{RawTree};
 ghost use Rattle.fol_core.specs.RawView.{raw_of};
 ghost use Rattle.fol_core.specs.SymbolTable.{KeepsNumbers};
 ghost use Rattle.ladr_formulas.specs.Formulas.{Reading, meets, style_of};
 ghost use Rattle.ladr_formulas.specs.declared.styles.Mode.TheVariants.{Prover};
+ghost use Rattle.fol_core.specs.FormulaView.{fol_of};
+ghost use Rattle.proof_lines.specs.Noted.{asks_if, asks_in, kept_of, places_kept};
 ghost use Rattle.proof_lines.specs.Parsed.{AreTermsRead, IsClauseTerm, IsTermStated, IsStatedFault, IsTermFaultOf};
 ghost use Rattle.proof_lines.specs.Stated.{is_too_deep};
 ghost use Rattle.proof_lines.specs.Strays.{AreNamesOf};
@@ -12,13 +14,13 @@ ghost use Rattle.proof_lines.specs.Strays.{AreNamesOf};
 use crate::content::Terms;
 use crate::fault::LineFault;
 use crate::strays::{ProblemNames, brings_stray};
-use derivation::Content;
-use fol_core::{Raw, RawSub, Symbols};
+use derivation::{Content, LineNotes};
+use fol_core::{Formula, Raw, RawSub, Symbols, free_vars};
 use fol_problem::Problem;
 use ladr_formulas::{Mode, clause_of, read_formula};
 use ladr_lex::Misuse;
-use ladr_rules::LabelledFormula;
-use std::alloc::Global;
+use ladr_rules::{LabelledFormula, line_asks};
+use std::alloc::{AllocError, Global};
 
 // The misuse of the least row, where one more is met.
 fn meet(test: bool, misuse: Misuse, least: Option<Misuse>) -> Option<Misuse>
@@ -94,28 +96,107 @@ fn clause(
     }
 }
 
-/// What the content of a line states, unless it is too deep or misused.
-pub fn state(
+// The places that a formula can be asked for: none where it has free variables.
+fn places_kept(alloc: Global, formula: &Formula, places: Vec<u64>) -> Result<Vec<u64>, AllocError>
+    ensures { IfOk result (λ kept. kept.items
+        ≡ places_kept (fol_of formula.now.shape) places.items) }
+{
+    let free = free_vars(alloc, formula)?;
+    if free.is_empty() {
+        Ok(places)
+    } else {
+        Ok(Vec::new(alloc))
+    }
+}
+
+// What a content asks for, by what its attributes say.
+fn notes_of(
     alloc: Global,
-    terms: Terms,
+    content: &Content,
+    asks: Option<Vec<u64>>,
+) -> Result<LineNotes, AllocError>
+    ensures { IfOk result (λ notes. asks_in notes
+        ≡ kept_of content.now (option_map (λ places. places.items) asks)) }
+{
+    let mut notes = LineNotes::none(alloc);
+    if let Content::Formula(formula, _) = content {
+        if let Some(places) = asks {
+            notes.asks = Some(places_kept(alloc, formula, places)?);
+        }
+    }
+    Ok(notes)
+}
+
+/// A line's content, and what it asks for.
+#[derive(Drop)]
+pub struct Stated {
+    pub content: Content,
+    pub notes: LineNotes,
+}
+
+// The formula of a line, and what it asks for if it is a goal.
+fn noted_formula(
+    alloc: Global,
+    raw: Raw,
+    is_goal: bool,
     problem: &Problem,
     names: &ProblemNames,
     symbols: &mut Symbols,
-) -> Result<Content, LineFault>
+) -> Result<Stated, LineFault>
+    requires names { AreNamesOf problem.now.symbols names.now }
+    ensures stated { IfOk result (λ s. IsTermStated (style_of Prover
+        problem.now.options.prolog_style_variables) problem.now.symbols symbols.old true
+        (raw_of raw) s.content symbols.new) }
+    ensures asks { IfOk result (λ s. asks_in s.notes ≡ asks_if is_goal (style_of Prover
+        problem.now.options.prolog_style_variables) symbols.old (raw_of raw)) }
+    ensures fault { IfErr result (IsStatedFault (style_of Prover
+        problem.now.options.prolog_style_variables) problem.now.symbols symbols.old true
+        (raw_of raw)) }
+    ensures kept { KeepsNumbers symbols.old symbols.new }
+{
+    let asks = if is_goal {
+        line_asks(alloc, &raw)?
+    } else {
+        None
+    };
+    let content = formula(alloc, raw, problem, names, symbols)?;
+    let notes = notes_of(alloc, &content, asks)?;
+    Ok(Stated { content, notes })
+}
+
+/// What the content of a line states, unless it is too deep or misused, and what it asks for if it is a goal.
+pub fn state(
+    alloc: Global,
+    terms: Terms,
+    is_goal: bool,
+    problem: &Problem,
+    names: &ProblemNames,
+    symbols: &mut Symbols,
+) -> Result<Stated, LineFault>
     requires names { AreNamesOf problem.now.symbols names.now }
     requires terms { (by_formula : Bool) × (t : RawTree) × AreTermsRead by_formula t terms }
     ensures stated { (by_formula : Bool) (t : RawTree) → AreTermsRead by_formula t terms
-        → IfOk result (λ content. (is_too_deep by_formula t ≡ false)
+        → IfOk result (λ s. (is_too_deep by_formula t ≡ false)
         × IsTermStated (style_of Prover problem.now.options.prolog_style_variables)
-        problem.now.symbols symbols.old by_formula t content symbols.new) }
+        problem.now.symbols symbols.old by_formula t s.content symbols.new) }
+    ensures asks { (by_formula : Bool) (t : RawTree) → AreTermsRead by_formula t terms
+        → (is_goal ≡ true → by_formula ≡ true) → IfOk result (λ s. asks_in s.notes
+        ≡ asks_if is_goal (style_of Prover problem.now.options.prolog_style_variables)
+        symbols.old t) }
     ensures fault { (by_formula : Bool) (t : RawTree) → AreTermsRead by_formula t terms
         → IfErr result (IsTermFaultOf (style_of Prover
         problem.now.options.prolog_style_variables) problem.now.symbols symbols.old by_formula t) }
     ensures kept { KeepsNumbers symbols.old symbols.new }
 {
     match terms {
-        Terms::Formula(Some(raw)) => formula(alloc, raw, problem, names, symbols),
-        Terms::Clause(Some(literals)) => clause(alloc, literals, problem, names, symbols),
+        Terms::Formula(Some(raw)) => { noted_formula(alloc, raw, is_goal, problem, names, symbols) }
+        Terms::Clause(Some(literals)) => {
+            let content = clause(alloc, literals, problem, names, symbols)?;
+            Ok(Stated {
+                content,
+                notes: LineNotes::none(alloc),
+            })
+        }
         Terms::Formula(None) | Terms::Clause(None) => Err(LineFault::Deep),
     }
 }
