@@ -3,13 +3,12 @@ ghost use Rattle.std.specs.Prelude.{◌≡◌, ◌+◌, ◌*◌, ◌≤◌, ◌�
 ghost use Rattle.std.specs.Option.{option_map};
 ghost use Rattle.fol_core.specs.TermView.{tree_of};
 ghost use Rattle.fol_core.specs.Tree.{trees_of};
-ghost use Rattle.substitutions.specs.Paths.{argument, part_at};
 ghost use Rattle.discrim_tree.specs.Linear.{IsTold};
 ghost use Rattle.discrim_tree.specs.Places.{at_place, occurrences, next_place, repeats, AreAlike, IsAlike, IsNarrow};
 
 use fol_core::{Term, Terms};
 use std::alloc::{AllocError, Global};
-use substitutions::same;
+use substitutions::{part, same};
 
 // So many occurrences of variables are compared with each other at most.
 const MOST: usize = 64;
@@ -37,32 +36,6 @@ pub struct Repeat {
 pub enum Told {
     Whole(Box<Term>),
     Repeats(Vec<Repeat>),
-}
-
-// An argument by its number, counted from 1.
-#[tactic(auto, using(substitutions::proofs::PathLemmas::argument_item, substitutions::proofs::PathLemmas::argument_past, substitutions::proofs::PathLemmas::argument_zero))]
-fn argument(terms: &Terms, number: u64) -> Option<&Term>
-    ensures { option_map (λ t. tree_of t.now) result ≡ argument (trees_of terms.now) number }
-{
-    let all = terms.as_slice();
-    if number == 0 {
-        return None;
-    }
-    if number > all.len() as u64 {
-        return None;
-    }
-    Some(&all[(number - 1) as usize])
-}
-
-// An argument of an application.
-fn part(t: &Term, number: u64) -> Option<&Term>
-    ensures { option_map (λ t. tree_of t.now) result ≡ part_at (tree_of t.now) number }
-{
-    match t {
-        Term::Var(_) => None,
-        Term::Elem(_) => None,
-        Term::App(_, terms) => argument(terms, number),
-    }
 }
 
 // The part of a term at a place, if it's there.

@@ -20,6 +20,6 @@ pub use laws::{
     replacing_keeps_values, worked,
 };
 pub use occurring::has_variable;
-pub use paths::{replace_at, subterm_at};
+pub use paths::{part, replace_at, subterm_at};
 pub use sameness::{same, same_clause, same_literal};
 pub use subst::{Subst, apply, apply_clause, apply_literal};

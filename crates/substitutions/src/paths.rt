@@ -23,8 +23,8 @@ fn argument(terms: &Terms, number: u64) -> Option<&Term>
     Some(&all[(number - 1) as usize])
 }
 
-// An argument of an application.
-fn part(term: &Term, number: u64) -> Option<&Term>
+/// An argument of an application, by its number, counted from 1; none exactly where it isn't there.
+pub fn part(term: &Term, number: u64) -> Option<&Term>
     ensures { option_map (λ t. tree_of t.now) result ≡ part_at (tree_of term.now) number }
 {
     match term {
