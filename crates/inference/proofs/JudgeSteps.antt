@@ -2,8 +2,13 @@
 use Rattle.std.proofs.Common.{◌≡◌, ℕ, false, List, [], ◌∷◌, length, get_or, refl, ap, ap₂, sym, arith}
 use Rattle.std.specs.Borrow.{Bor}
 use Rattle.fol_core.specs.Literals.{ClauseTree}
+use Rattle.derivation.specs.Lines.{FirstWord, assumed, wanted, clausified, denied, copied, resolved, factored, paramodulated, xx_resolved, instantiated}
 use Rattle.derivation.specs.Words.{copy_rule, factor_rule, para_rule, xx_rule}
+use Rattle.inference.specs.Judged.{rule_by}
 use Rattle.inference.specs.Lent.{lent_clauses}
+use Rattle.derivation.proofs.Conclusions.{IsNatural, copy_natural}
+use Rattle.derivation.proofs.Lawful.{IsLawfulRule, copy_lawful}
+use Rattle.derivation.proofs.Rows.{word_lawful}
 
 pub one_parent : (ps : List (Bor ClauseTree)) (p : Bor ClauseTree) → length ps ≡ 1 → p ≡ get_or ps 0 p → lent_clauses ps ≡ p.now ∷ []
 one_parent [] p h at = absurd (omega (arith, h))
@@ -37,3 +42,16 @@ para_both a n b path [] h = refl
 para_both a n b path (p ∷ []) h = refl
 para_both a n b path (p ∷ q ∷ []) h = absurd (h refl)
 para_both a n b path (p ∷ q ∷ r ∷ ps) h = refl
+
+-- each word's rule is lawful
+pub lawful_by : (w : FirstWord) → IsLawfulRule (rule_by w) × IsNatural (rule_by w)
+lawful_by assumed = (copy_lawful, copy_natural)
+lawful_by wanted = (copy_lawful, copy_natural)
+lawful_by (clausified n) = (copy_lawful, copy_natural)
+lawful_by (denied n) = (copy_lawful, copy_natural)
+lawful_by (copied n) = (copy_lawful, copy_natural)
+lawful_by (resolved n k) = word_lawful (resolved n k) _ refl
+lawful_by (factored n a b) = word_lawful (factored n a b) _ refl
+lawful_by (paramodulated n a side m b path) = word_lawful (paramodulated n a side m b path) _ refl
+lawful_by (xx_resolved n a) = word_lawful (xx_resolved n a) _ refl
+lawful_by (instantiated n es) = (copy_lawful, copy_natural)

@@ -5,6 +5,7 @@ use Rattle.fol_core.specs.Renumbered.{renumbered}
 use Rattle.fol_core.specs.Substitutions.{Substitution, substitute, substitute_all}
 use Rattle.fol_core.specs.Tree.{Tree}
 use Rattle.substitutions.specs.Apart.{Own, interleaved, instances, apart_of}
+use Rattle.substitutions.specs.Bindings.{Binding, by_bindings}
 use Rattle.substitutions.specs.Instances.{substitute_clause, substitute_literal, followed}
 use Rattle.substitutions.proofs.Composing.{substitute_twice_clause, first_same, others_same}
 use Rattle.substitutions.proofs.Interleaving.{interleaving_is_apart}
@@ -13,8 +14,12 @@ use Rattle.derivation.specs.Rule.{AreSame, InferenceRule, Concludes}
 use Rattle.derivation.proofs.Conclusions.{IsNatural, pair_put}
 use Rattle.derivation.proofs.Lawful.{IsLawfulRule}
 use Rattle.derivation.proofs.Spread.{concludes_apart, none_apart}
+use Rattle.inference.specs.Applied.{ArePremises, AppliedAs, AreWith, IsMeasuredAs}
+use Rattle.inference.specs.declared.applied.Applied.{Applied}
+use Rattle.inference.specs.declared.applied.Applied.TheVariants as applied
+use Rattle.inference.specs.declared.applied.Premises.{Premises}
 use Rattle.inference.specs.Judged.{CanUnify, Equates, IsConclusion, JudgedAs}
-use Rattle.inference.specs.Left.{LeftTree, Leaves, left_clause, left_literal, all_whole}
+use Rattle.inference.specs.Left.{LeftTree, Leaves, all_left, left_clause, left_literal, all_whole}
 use Rattle.inference.specs.declared.rules.Judged.{Judged}
 use Rattle.inference.specs.declared.rules.Judged.TheVariants.{Unfit, Apart, Small, Large}
 use Rattle.term_unifiers.specs.Renamed.{Equated, own_among, left_sides, right_sides}
@@ -25,7 +30,7 @@ under_apart s apart [] = refl
 under_apart s apart (c ∷ cs) = ap₂ (λ d (ds : List ClauseTree). d ∷ ds) (sym (substitute_twice_clause (apart 0) s c)) (under_apart s (λ k. apart (suc k)) cs)
 
 -- nothing unifies
-pub judged_apart : (r : InferenceRule) → IsLawfulRule r → IsNatural r → (cs : List ClauseTree) (e : Equated) → IsTrue (r.fits cs) → Equates r cs e → HasNoUnifier (left_sides e.pairs) (right_sides e.pairs) → JudgedAs r cs Apart
+pub judged_apart : (r : InferenceRule) → IsLawfulRule r → IsNatural r → (cs : List ClauseTree) (e : Equated) → IsTrue (r.fits cs) → Equates r cs e → HasNoUnifier (left_sides e.pairs) (right_sides e.pairs) → AppliedAs r cs applied.Apart
 judged_apart r law natural cs e fits is never = (
   fits,
   none_apart r law natural cs (interleaved (length cs)) (interleaving_is_apart cs) fits
@@ -50,6 +55,23 @@ judged r law natural cs e n s ls count fits is most leaves = by
     by Apart h = absurd h
     by (Small d) h = (fits, subst (Concludes r cs) (sym (h ∙ ap renumbered rest)) concludes)
     by (Large d) h = (fits, subst (Concludes r cs) (sym (ap renumbered (h ∙ rest))) concludes)
+
+-- what a rule takes, by what unifies and what is left
+pub are_premises : (r : InferenceRule) (cs : List ClauseTree) (e : Equated) (n : ℕ) (bs : List Binding) (ls : List LeftTree) (p : Premises) → n ≡ length cs → IsTrue (r.fits cs) → Equates r cs e
+    → IsMostGeneral (by_bindings bs) (left_sides e.pairs) (right_sides e.pairs) → Leaves r cs ls → AreWith bs n ls p → ArePremises r cs p
+are_premises r cs e n bs ls p count fits is most leaves with = record {
+  fits = fits;
+  many = with.many ∙ count;
+  general = subst (λ b. IsMostGeneral (by_bindings b) (left_sides (r.pairs (apart_of cs))) (right_sides (r.pairs (apart_of cs)))) (sym with.unifier) (subst (λ ps. IsMostGeneral (by_bindings bs) (left_sides ps) (right_sides ps)) is most);
+  leaves = subst (Leaves r cs) (sym with.left) leaves;
+}
+
+-- and what comes of that
+pub judged_as : (r : InferenceRule) → IsLawfulRule r → IsNatural r → (cs : List ClauseTree) (a : Applied) (j : Judged) → AppliedAs r cs a → IsMeasuredAs a j → JudgedAs r cs j
+judged_as r law natural cs applied.Unfit j takes is = subst (JudgedAs r cs) (sym is) takes
+judged_as r law natural cs applied.Apart j takes is = subst (JudgedAs r cs) (sym is) takes
+judged_as r law natural cs (applied.To p) j takes is =
+    judged r law natural cs (record { many = length cs; pairs = r.pairs (apart_of cs) }) p.many (by_bindings p.unifier) (all_left p.left.items) takes.many takes.fits refl takes.general takes.leaves j is
 
 -- what unifies the sides of pairs makes each pair the same
 same_pairs : (s : Substitution) (ps : List (Tree × Tree)) → Unifies s (left_sides ps) (right_sides ps) → AreSame (map (pair_put s) ps)

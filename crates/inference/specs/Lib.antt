@@ -1,3 +1,4 @@
+pub mod Applied
 pub mod Followed
 pub mod Instance
 pub mod Judged

@@ -1,7 +1,8 @@
 // The kernel: what the words of a line come to, on parents that are lent.
 // A first word: `rules.rt` has one function for each rule, with the rule above it. Each looks whether its places are
 // there (`fitting.rt`), hands the terms that have to be equal to `term_unifiers`, and lists the literals that it leaves
-// (`leaving.rt`, `left.rt`), which are lent too. `concluding.rt` then measures what they are under the unifier, exactly
+// (`leaving.rt`, `left.rt`), which are lent too: `applying.rt` does that, and hands out the unifier and what is left
+// (`applied.rt`). `concluding.rt` then measures what they are under the unifier, exactly
 // and before any of it is built (`measuring.rt`), and builds the conclusion with its variables numbered as they come
 // (`building.rt`), or hands it on unbuilt where it is too large for a search (`large.rt`). `judging.rt` leads from a word
 // to its rule; `clashing.rt` tells alone whether a clash has a unifier.
@@ -14,6 +15,8 @@
 // comes to; the rules themselves are those of `derivation`.
 #![tactic(auto)]
 
+mod applied;
+mod applying;
 mod building;
 mod changing;
 mod clashing;
@@ -34,11 +37,12 @@ mod sizing;
 mod underway;
 mod words;
 
+pub use applied::{Applied, Premises};
 pub use changing::{exchange, take_out, turn_at};
 pub use clashing::can_clash;
 pub use followed::Followed;
 pub use instance::{Instantiated, LargeInstance, instantiate};
-pub use judging::judge;
+pub use judging::{apply_rule, judge};
 pub use large::{LargeClause, LargeConclusion};
 pub use left::{Change, Left};
 pub use putting::match_of;

@@ -1,30 +1,13 @@
--- Each copy, and each word without a rule.
-use Rattle.std.proofs.Common.{IfOk, sym, subst}
+-- What comes of what the rule takes.
+use Rattle.std.proofs.lemmas.Result.{IfOk-weaker}
 use Rattle.derivation.specs.View.{first_word_of}
-use Rattle.inference.specs.Judged.{rule_by, JudgedAs}
+use Rattle.inference.specs.Judged.{rule_by}
 use Rattle.inference.specs.Lent.{lent_clauses}
+use Rattle.inference.proofs.JudgeSteps.{lawful_by}
+use Rattle.inference.proofs.RuleSteps.{judged_as}
 use Rattle.inference.proofs.judging.judge.Goals as goal
 
-pub returns-in-Copy : goal.returns-in-Copy
-returns-in-Copy c = subst (λ w. IfOk c.copy_of.result (JudgedAs (rule_by (first_word_of w)) (lent_clauses c.args.parents.now))) (sym c.in-Copy.is) c.copy_of.ensures
-
-pub returns-in-BackRewrite : goal.returns-in-BackRewrite
-returns-in-BackRewrite c = subst (λ w. IfOk c.copy_of-in-BackRewrite.result (JudgedAs (rule_by (first_word_of w)) (lent_clauses c.args.parents.now))) (sym c.in-BackRewrite.is) c.copy_of-in-BackRewrite.ensures
-
-pub returns-in-BackUnitDel : goal.returns-in-BackUnitDel
-returns-in-BackUnitDel c = subst (λ w. IfOk c.copy_of-in-BackUnitDel.result (JudgedAs (rule_by (first_word_of w)) (lent_clauses c.args.parents.now))) (sym c.in-BackUnitDel.is) c.copy_of-in-BackUnitDel.ensures
-
-pub returns-in-Assumption : goal.returns-in-Assumption
-returns-in-Assumption c = subst (λ w. IfOk c.copy_of-in-Assumption.result (JudgedAs (rule_by (first_word_of w)) (lent_clauses c.args.parents.now))) (sym c.in-Assumption.is) c.copy_of-in-Assumption.ensures
-
-pub returns-in-Goal : goal.returns-in-Goal
-returns-in-Goal c = subst (λ w. IfOk c.copy_of-in-Goal.result (JudgedAs (rule_by (first_word_of w)) (lent_clauses c.args.parents.now))) (sym c.in-Goal.is) c.copy_of-in-Goal.ensures
-
-pub returns-in-Clausify : goal.returns-in-Clausify
-returns-in-Clausify c = subst (λ w. IfOk c.copy_of-in-Clausify.result (JudgedAs (rule_by (first_word_of w)) (lent_clauses c.args.parents.now))) (sym c.in-Clausify.is) c.copy_of-in-Clausify.ensures
-
-pub returns-in-Deny : goal.returns-in-Deny
-returns-in-Deny c = subst (λ w. IfOk c.copy_of-in-Deny.result (JudgedAs (rule_by (first_word_of w)) (lent_clauses c.args.parents.now))) (sym c.in-Deny.is) c.copy_of-in-Deny.ensures
-
-pub returns-in-Instantiate : goal.returns-in-Instantiate
-returns-in-Instantiate c = subst (λ w. IfOk c.copy_of-in-Instantiate.result (JudgedAs (rule_by (first_word_of w)) (lent_clauses c.args.parents.now))) (sym c.in-Instantiate.is) c.copy_of-in-Instantiate.ensures
+pub returns : goal.returns
+returns c =
+    let w = first_word_of c.args.first.now in
+    IfOk-weaker c.conclude_applied.result _ _ (λ j h. judged_as (rule_by w) (lawful_by w).0 (lawful_by w).1 (lent_clauses c.args.parents.now) c.in_ok-applied.applied j c.in_ok-applied.ensures h) c.conclude_applied.ensures

@@ -6,7 +6,7 @@ use Rattle.inference.proofs.ClashSteps.{place_within}
 use Rattle.inference.proofs.OneSteps.{sign_place}
 use Rattle.inference.proofs.ParaSteps.{para_leaves}
 use Rattle.derivation.proofs.Lawful.{para_parts}
-use Rattle.inference.proofs.rules.para_left.Goals as goal
+use Rattle.inference.proofs.applying.para_left.Goals as goal
 
 pub leave_changed-requires : goal.leave_changed-requires
 leave_changed-requires c =

@@ -3,7 +3,7 @@ use Rattle.std.proofs.Common.{ap, arith}
 use Rattle.inference.specs.Left.{all_left}
 use Rattle.inference.proofs.ClashSteps.{all_left_behind, are_there, one_left, one_more, place_within}
 use Rattle.inference.proofs.FitSteps.{satellite_at, satellite_is}
-use Rattle.inference.proofs.rules.clash_left.Goals as goal
+use Rattle.inference.proofs.applying.clash_left.Goals as goal
 
 pub bounds-parents-i : goal.bounds-parents-i
 bounds-parents-i c = let many = one_more c.args.satellites.now c.args.parents.now c.requires in omega (arith, many, c.loop-i-test.true)
