@@ -42,7 +42,7 @@ in_riders : (x : ℕ) (us : List Answer) → occurs_in_clause x (riders us) ≡ 
 in_riders x [] = refl
 in_riders x (a ∷ us) = list_any-append (λ l. has_variable x l.atom) (literals_of a.terms) (riders us) ∙ ap₂ (λ b c. b || c) (in_literals x a.terms) (in_riders x us)
 
-in_whole : (x : ℕ) (c : ClauseTree) (us : List Answer) → occurs_in_clause x (whole c us) ≡ (occurs_in_clause x c || stands_in x us)
+pub in_whole : (x : ℕ) (c : ClauseTree) (us : List Answer) → occurs_in_clause x (whole c us) ≡ (occurs_in_clause x c || stands_in x us)
 in_whole x c us = list_any-append (λ l. has_variable x l.atom) c (riders us) ∙ ap (λ b. occurs_in_clause x c || b) (in_riders x us)
 
 -- from the numbers back to the variables

@@ -60,7 +60,7 @@ joins_one general special c us bs made other (s, match, is) (u, matched, was) =
     is ∙ ap (λ vs. each_once (us ++ vs)) (answers_alike (used_by general s (fresh_for c us)) (used_by general u (fresh_for c us)) bs (λ x i. used_alike general s u (fresh_for c us) (match ∙ sym matched) x)) ∙ sym was
 
 -- what a word makes of answers is one
-brings_one : (w : LaterWord) (c : ClauseTree) (us : List Answer) (ps : List ClauseTree) (answers : List (List Answer)) (made other : List Answer) → Brings w c us ps answers made → Brings w c us ps answers other → made ≡ other
+pub brings_one : (w : LaterWord) (c : ClauseTree) (us : List Answer) (ps : List ClauseTree) (answers : List (List Answer)) (made other : List Answer) → Brings w c us ps answers made → Brings w c us ps answers other → made ≡ other
 brings_one (flipped a) c us ps answers made other is was = is ∙ sym was
 brings_one (merged a) c us ps answers made other is was = is ∙ sym was
 brings_one (reflexive a) c us ps answers made other is was = is ∙ sym was

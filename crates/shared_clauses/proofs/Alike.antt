@@ -101,13 +101,13 @@ module _ (s u : Substitution) where
   same_clause (formula f) c d there back is = absurd is
   same_clause (clause e) c d there back is = is ∙ instances_same c d s u there back
 
-  fits_alike : (w : LaterWord) (c d : ClauseTree) (ps : List ClauseTree) → d ≡ substitute_clause s c → IsTrue (later_fits w c ps) → IsTrue (later_fits w d ps)
+  pub fits_alike : (w : LaterWord) (c d : ClauseTree) (ps : List ClauseTree) → d ≡ substitute_clause s c → IsTrue (later_fits w c ps) → IsTrue (later_fits w d ps)
   fits_alike w c d ps there fits = subst (λ (e : ClauseTree). IsTrue (later_fits w e ps)) (sym there) (fits_put s w c ps fits)
 
-  leads_alike : (w : LaterWord) (c d : ClauseTree) (ps : List ClauseTree) (b : ClauseTree) → d ≡ substitute_clause s c → IsTrue (later_fits w c ps) → Leads w c ps b → Leads w d ps (substitute_clause s b)
+  pub leads_alike : (w : LaterWord) (c d : ClauseTree) (ps : List ClauseTree) (b : ClauseTree) → d ≡ substitute_clause s c → IsTrue (later_fits w c ps) → Leads w c ps b → Leads w d ps (substitute_clause s b)
   leads_alike w c d ps b there fits leads = subst (λ (e : ClauseTree). Leads w e ps (substitute_clause s b)) (sym there) (leads_put s w c ps b fits leads)
 
-made_back : (s u : Substitution) (w : LaterWord) (c d : ClauseTree) (ps : List ClauseTree) (b : ClauseTree) → d ≡ substitute_clause s c → c ≡ substitute_clause u d → IsTrue (later_fits w c ps) → Leads w c ps b → b ≡ substitute_clause u (substitute_clause s b)
+pub made_back : (s u : Substitution) (w : LaterWord) (c d : ClauseTree) (ps : List ClauseTree) (b : ClauseTree) → d ≡ substitute_clause s c → c ≡ substitute_clause u d → IsTrue (later_fits w c ps) → Leads w c ps b → b ≡ substitute_clause u (substitute_clause s b)
 made_back s u w c d ps b there back fits leads =
     one_lead w c ps b (substitute_clause u (substitute_clause s b)) fits leads
     (leads_alike u s w d c ps (substitute_clause s b) back (fits_alike s u w c d ps there fits) (leads_alike s u w c d ps b there fits leads))

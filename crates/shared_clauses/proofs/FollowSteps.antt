@@ -89,7 +89,7 @@ clause_on a b [] grows are = refl
 clause_on a b (l ∷ ls) grows are = ap₂ (λ (t : Tree) (c : ClauseTree). literal l.positive t ∷ c) (grows_at a b grows l.atom.0 are.0) (clause_on a b ls grows are.1)
 
 -- literals that are the same
-got_literal : (bank : List Tree) (ls : List SharedLiteral) (a : ℕ) (d : SharedLiteral) → a < length ls → slice_get (clause_in bank ls) a ≡ Some (literal_in bank (slice_index_or ls a d))
+pub got_literal : (bank : List Tree) (ls : List SharedLiteral) (a : ℕ) (d : SharedLiteral) → a < length ls → slice_get (clause_in bank ls) a ≡ Some (literal_in bank (slice_index_or ls a d))
 got_literal bank [] a d h = absurd (omega (arith, h))
 got_literal bank (l ∷ ls) zero d h = refl
 got_literal bank (l ∷ ls) (suc a) d h = got_literal bank ls a d (omega (arith, h))

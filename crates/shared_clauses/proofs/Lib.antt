@@ -4,4 +4,5 @@ mod FollowSteps
 mod MakeSteps
 mod NodeSteps
 mod PutSteps
+mod UsedSteps
 mod WaySteps

@@ -47,18 +47,23 @@ pub record AreArguments (s : Substitution) (a b : List Tree) (ts : List Term) (k
 pub no_arguments : (s : Substitution) (a : List Tree) → AreArguments s a a [] []
 no_arguments s a = record { grows = grows_refl a; below = tt; trees = refl }
 
-pub argument_next : (bs : List (ℕ × TermId)) (a b c : List Tree) (ts : List Term) (i : ℕ) (t : Term) (ks made : List TermId) (k : TermId) → i < length ts → t ≡ slice_index_or ts i t → AreBoundBelow (length a) bs
-    → AreArguments (by_bindings (bound_in a bs)) a b (take i ts) ks → Grows b c → IsAt c k.0 (substitute (by_bindings (bound_in b bs)) (tree_of t)) → made ≡ ks ++ k ∷ []
-    → AreArguments (by_bindings (bound_in a bs)) a c (take (i + 1) ts) made
-argument_next bs a b c ts i t ks made k h at bound are grows is pushed =
-    let s : Substitution = by_bindings (bound_in a bs) in
-    let same : substitute (by_bindings (bound_in b bs)) (tree_of t) ≡ substitute s (tree_of t) = ap (λ es. substitute (by_bindings es) (tree_of t)) (bound_on a b bs are.grows bound) in
+pub arguments_next : (f : List Binding → Substitution) (bs : List (ℕ × TermId)) (a b c : List Tree) (ts : List Term) (i : ℕ) (t : Term) (ks made : List TermId) (k : TermId) → i < length ts → t ≡ slice_index_or ts i t → AreBoundBelow (length a) bs
+    → AreArguments (f (bound_in a bs)) a b (take i ts) ks → Grows b c → IsAt c k.0 (substitute (f (bound_in b bs)) (tree_of t)) → made ≡ ks ++ k ∷ []
+    → AreArguments (f (bound_in a bs)) a c (take (i + 1) ts) made
+arguments_next f bs a b c ts i t ks made k h at bound are grows is pushed =
+    let s : Substitution = f (bound_in a bs) in
+    let same : substitute (f (bound_in b bs)) (tree_of t) ≡ substitute s (tree_of t) = ap (λ es. substitute (f es) (tree_of t)) (bound_on a b bs are.grows bound) in
     let more = more_arguments b c ks made (map (λ t. substitute s (tree_of t)) (take i ts)) k (substitute s (tree_of t)) grows are.below are.trees (subst (IsAt c k.0) same is) pushed in
     record {
       grows = grows_on a b c are.grows grows;
       below = more.0;
       trees = more.1 ∙ sym (ap (map (λ (u : Term). substitute s (tree_of u))) (take_more ts i t h ∙ ap (λ u. take i ts ++ u ∷ []) (sym at)) ∙ map-append (λ (u : Term). substitute s (tree_of u)) (take i ts) (t ∷ []));
     }
+
+pub argument_next : (bs : List (ℕ × TermId)) (a b c : List Tree) (ts : List Term) (i : ℕ) (t : Term) (ks made : List TermId) (k : TermId) → i < length ts → t ≡ slice_index_or ts i t → AreBoundBelow (length a) bs
+    → AreArguments (by_bindings (bound_in a bs)) a b (take i ts) ks → Grows b c → IsAt c k.0 (substitute (by_bindings (bound_in b bs)) (tree_of t)) → made ≡ ks ++ k ∷ []
+    → AreArguments (by_bindings (bound_in a bs)) a c (take (i + 1) ts) made
+argument_next = arguments_next by_bindings
 
 -- all under their symbol
 pub all_put : {E : Type 0} (r : Result TermId E) (s : Substitution) (f : ℕ) (a b c : List Tree) (xs ts : List Term) (us : List Tree) (ids made : List TermId) (i : ℕ) → ids ≡ made → AreArguments s a b (take i xs) made

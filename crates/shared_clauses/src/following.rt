@@ -62,8 +62,8 @@ fn put_atom(literals: &mut Vec<SharedLiteral>, place: u64, atom: TermId)
     literals[place as usize].atom = atom;
 }
 
-// Whether two literals are the same.
-fn is_same(bank: &Bank, l: SharedLiteral, m: SharedLiteral) -> bool
+/// Whether two literals are the same.
+pub fn is_same(bank: &Bank, l: SharedLiteral, m: SharedLiteral) -> bool
     requires l { l.atom.0 < length bank.now }
     requires m { m.atom.0 < length bank.now }
     ensures { IsTrue result ↔ (literal_in bank.now l ≡ literal_in bank.now m) }

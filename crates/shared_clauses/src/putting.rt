@@ -11,8 +11,12 @@ use fol_core::Term;
 use std::alloc::{AllocError, Global};
 use term_bank::{Bank, TermId};
 
-// What stands for a variable.
-fn put_variable(bank: &mut Bank, x: u64, bindings: &[(u64, TermId)]) -> Result<TermId, AllocError>
+/// What stands for a variable.
+pub fn put_variable(
+    bank: &mut Bank,
+    x: u64,
+    bindings: &[(u64, TermId)],
+) -> Result<TermId, AllocError>
     requires { AreBoundBelow (length bank.old) bindings.now }
     ensures grows { Grows bank.old bank.new }
     ensures term { IfOk result (λ id. IsAt bank.new id.0

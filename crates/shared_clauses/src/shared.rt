@@ -1,17 +1,22 @@
 // A clause on shared terms.
-ghost use Rattle.std.specs.Prelude.{◌≡◌, IfOk, map};
+ghost use Rattle.std.specs.Prelude.{◌≡◌, ◌↔◌, ◌<◌, IfOk, IsTrue, length, map, slice_get, take};
 ghost use Rattle.fol_core.specs.ClauseView.{literal_of};
+ghost use Rattle.inference.specs.Left.{all_left, left_clause};
 ghost use Rattle.inference.specs.Measured.{clause_measured};
 ghost use Rattle.shared_clauses.specs.Shared.{AreLiteralsIn, clause_in};
+ghost use Rattle.substitutions.specs.Bindings.{by_bindings};
 ghost use Rattle.substitutions.specs.Instances.{AreVariants};
+ghost use Rattle.term_unifiers.specs.Renamed.{own_among};
 
+use crate::following::is_same;
 use crate::making::{clause_literals, conclusion_literals, instance_literals};
 use clause_limits::Measure;
 use fol_core::{Clause, Literal};
-use inference::{LargeConclusion, LargeInstance};
+use inference::{LargeConclusion, LargeInstance, Left};
 use std::alloc::{AllocError, Global};
 use std::marker::Model;
 use term_bank::{Bank, TermId};
+use term_unifiers::Solution;
 
 /// A literal whose atom has a number in a bank.
 #[derive(Clone, Copy)]
@@ -103,8 +108,52 @@ impl SharedClause {
         ensures { IfOk result (λ c. AreVariants c large.now) }
     {
         let (unifier, many, left) = large.parts();
+        SharedClause::of_left(alloc, unifier, many, left)
+    }
+
+    /// Those of what is left of so many parents under a unifier; their variables have other numbers then.
+    pub fn of_left(
+        alloc: Global,
+        unifier: &Solution,
+        many: u64,
+        left: &[Left],
+    ) -> Result<SharedClause, AllocError>
+        ensures { IfOk result (λ c. AreVariants c
+            (left_clause (own_among many (by_bindings unifier.now)) (all_left left.now))) }
+    {
         let (bank, literals) = conclusion_literals(alloc, unifier, many, left)?;
         Ok(SharedClause { bank, literals })
+    }
+
+    /// How many literals there are.
+    pub fn len(&self) -> usize
+        ensures { result ≡ length self.now }
+    {
+        self.literals.len()
+    }
+
+    /// Whether the literals at two places are the same.
+    pub fn are_same(&self, a: usize, b: usize) -> bool
+        requires a { a < length self.now }
+        requires b { b < length self.now }
+        ensures { IsTrue result ↔ (slice_get self.now a ≡ slice_get self.now b) }
+    {
+        is_same(&self.bank, self.literals[a], self.literals[b])
+    }
+
+    /// The first so many literals are kept.
+    pub fn truncate(&mut self, len: usize)
+        ensures { self.new ≡ take len self.old }
+    {
+        self.literals.truncate(len);
+    }
+
+    /// The bank and the literals whose atoms stand in it.
+    pub fn parts(&self) -> (&Bank, &[SharedLiteral])
+        ensures within { AreLiteralsIn result.0.now result.1.now }
+        ensures clause { clause_in result.0.now result.1.now ≡ self.now }
+    {
+        (&self.bank, self.literals.as_slice())
     }
 
     /// How large it is, each number up to the greatest one.
