@@ -56,12 +56,12 @@ grouped g a t p x =
     }
 
 -- an argument passes a test of precedences, where what is in parentheses does
-record Fitted (g : OperatorTable) (bytes : List ℕ) (t : RawTree) (f : ℕ → Bool) : Type 0 where
-  own : ℕ
-  shows : Shows g bytes t own
-  fits : f own ≡ true
+pub record Fitted (g : OperatorTable) (bytes : List ℕ) (t : RawTree) (f : ℕ → Bool) : Type 0 where
+  pub own : ℕ
+  pub shows : Shows g bytes t own
+  pub fits : f own ≡ true
 
-fitted : (g : OperatorTable) (t : RawTree) (f : ℕ → Bool) → f 0 ≡ true → Good g t → Fitted g (wrapped (f (precedence g t)) (text_of g t)) t f
+pub fitted : (g : OperatorTable) (t : RawTree) (f : ℕ → Bool) → f 0 ≡ true → Good g t → Fitted g (wrapped (f (precedence g t)) (text_of g t)) t f
 fitted g t f z x = by (f (precedence g t)) refl
   where
     by : (b : Bool) → f (precedence g t) ≡ b → Fitted g (wrapped b (text_of g t)) t f
@@ -119,10 +119,10 @@ good_between g l k s o t u e two w x y =
     })
 
 -- arguments between commas
-record Listed (g : OperatorTable) (bytes : List ℕ) (us : List RawTree) : Type 0 where
-  tokens : List Lexeme
-  writes : Writes bytes tokens
-  reads : ReadsAll g tokens us
+pub record Listed (g : OperatorTable) (bytes : List ℕ) (us : List RawTree) : Type 0 where
+  pub tokens : List Lexeme
+  pub writes : Writes bytes tokens
+  pub reads : ReadsAll g tokens us
 
 one_more : (g : OperatorTable) → Lawful g → (bytes : List ℕ) (ks : List RawTree) (t : RawTree) → Listed g bytes ks → Good g t → Listed g (bytes ++ codes "," ++ text_of g t) (ks ++ t ∷ [])
 one_more g l bytes ks t x y =
@@ -136,7 +136,7 @@ one_more g l bytes ks t x y =
       reads = further x.reads y.reads (reads_at_most g l y.reads);
     }
 
-all_listed :
+pub all_listed :
     (g : OperatorTable) → Lawful g → (bytes : List ℕ) (ks ts : List RawTree) → Listed g bytes ks → AllGood g ts →
     Listed g (bytes ++ text.further (printed_all g (raws_of ts))) (ks ++ ts)
 all_listed g l bytes ks [] x a =

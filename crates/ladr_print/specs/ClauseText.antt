@@ -26,6 +26,10 @@ clause_raw table v (l ∷ m ∷ ls) =
 abbrev pub bar : Operator
 bar = record { precedence = 790; kind = InfixRight }
 
+-- the operator `#`, which can't be changed either
+abbrev pub hash : Operator
+hash = record { precedence = 810; kind = InfixRight }
+
 -- two literals or more, each an argument of `|`
 abbrev pub clause_disjunction : OperatorTable → List Symbol → Naming → Lit → List Lit → List ℕ
 clause_disjunction g table v l [] = right_argument bar (printed g (literal_raw table v l))
@@ -38,3 +42,9 @@ abbrev pub clause_bytes : OperatorTable → List Symbol → Naming → ClauseTre
 clause_bytes g table v [] = codes "$F"
 clause_bytes g table v (l ∷ []) = text_of g (literal_raw table v l)
 clause_bytes g table v (l ∷ m ∷ ls) = clause_disjunction g table v l (m ∷ ls)
+
+-- a clause as the left argument of `#`: one literal alone may need parentheses
+abbrev pub clause_in_front : OperatorTable → List Symbol → Naming → ClauseTree → List ℕ
+clause_in_front g table v [] = codes "$F"
+clause_in_front g table v (l ∷ []) = left_argument hash (printed g (literal_raw table v l))
+clause_in_front g table v (l ∷ m ∷ ls) = clause_disjunction g table v l (m ∷ ls)

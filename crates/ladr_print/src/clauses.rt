@@ -3,7 +3,7 @@ ghost use Rattle.std.specs.Prelude.{◌≡◌, ◌<◌, ◌≤◌, ◌^◌, ◌+
 ghost use Rattle.fol_core.specs.ClauseView.{literal_of};
 ghost use Rattle.fol_core.specs.RawView.{raw_of};
 ghost use Rattle.fol_core.specs.Renumbered.{renumbered};
-ghost use Rattle.ladr_print.specs.ClauseText.{literal_raw, clause_raw, bar, clause_disjunction, clause_bytes};
+ghost use Rattle.ladr_print.specs.ClauseText.{literal_raw, clause_raw, bar, hash, clause_disjunction, clause_bytes, clause_in_front};
 ghost use Rattle.ladr_print.specs.Precedences.{precedence};
 ghost use Rattle.ladr_print.specs.RawText.{left_argument, right_argument, text_of, printed};
 ghost use Rattle.ladr_print.specs.ReadsAs.{ReadsAs};
@@ -97,6 +97,59 @@ fn bar() -> Operator
         precedence: 790,
         kind: OperatorKind::InfixRight,
     }
+}
+
+/// The operator `#`.
+fn hash() -> Operator
+    ensures { result ≡ hash }
+{
+    Operator {
+        precedence: 810,
+        kind: OperatorKind::InfixRight,
+    }
+}
+
+/// The text of a clause as the left argument of `#`, its variables under the names of clauses by first occurrence.
+pub fn clause_in_front(
+    alloc: Global,
+    ops: &Ops,
+    symbols: &Symbols,
+    clause: &Clause,
+    prolog: bool,
+) -> Result<Vec<u8>, AllocError>
+    ensures { IfOk result (λ text. text.items
+        ≡ clause_in_front (table_of ops.now) symbols.now (clause_variable prolog)
+        (renumbered clause.now)) }
+{
+    let clause = renumber(alloc, clause)?;
+    let text = literals_in_front(alloc, ops, symbols, clause.as_slice(), prolog)?;
+    Ok(text)
+}
+
+// The text of literals as a clause there.
+fn literals_in_front(
+    alloc: Global,
+    ops: &Ops,
+    symbols: &Symbols,
+    literals: &[Literal],
+    prolog: bool,
+) -> Result<Vec<u8>, AllocError>
+    ensures { IfOk result (λ text. text.items
+        ≡ clause_in_front (table_of ops.now) symbols.now (clause_variable prolog)
+        (map literal_of literals.now)) }
+{
+    let mut out = Vec::new(alloc);
+    let [first, rest @ ..] = literals else {
+        out.extend_from_slice(b"$F")?;
+        return Ok(out);
+    };
+    if rest.is_empty() {
+        let raw = literal_raw(alloc, symbols, first, prolog)?;
+        argument(alloc, ops, fits_left(ops, hash(), &raw), &raw, &mut out)?;
+        return Ok(out);
+    }
+    disjunction(alloc, ops, symbols, first, rest, prolog, &mut out)?;
+    Ok(out)
 }
 
 // A literal as a term as read.

@@ -20,7 +20,7 @@ mod raw;
 mod spacing;
 mod terms;
 
-pub use clauses::clause_text;
+pub use clauses::{clause_in_front, clause_text};
 pub use formulas::formula_text;
 pub use laws::{
     clauses_have_texts, printed_clause_states_again, printed_reads_again, printed_reads_back,

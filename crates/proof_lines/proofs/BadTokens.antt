@@ -10,11 +10,17 @@ use Rattle.ladr_lex.specs.Lexeme.{Lexeme}
 use Rattle.ladr_reader.specs.Reads.{Item, BeginsItem}
 use Rattle.ladr_reader.specs.Table.{OperatorTable}
 use Rattle.ladr_reader.proofs.Complete.{item_one}
-use Rattle.proof_lines.specs.ContentTokens.{LineTables, IsContent, IsClauseItem, HasKind, content_in, behind_content_in}
-use Rattle.proof_lines.specs.Faults.{IsNoItem, IsNoClause, IsNoContent, HasBadWords, IsBadBehindNumber, IsBadOfLine, IsBadLineToken}
+use Rattle.proof_lines.specs.ContentTokens.{LineTables, IsContent, IsSomeContent, IsPlainItem, IsFarItem, IsAnsweredItem, IsClauseWith, HasKind, content_in, behind_content_in}
+use Rattle.proof_lines.specs.AnswerMarks.{begins_answer, noted}
+use Rattle.proof_lines.specs.Answered.{ReadAnswer, is_answered}
+use Rattle.proof_lines.specs.Faults.{IsNoItem, IsNoPlain, IsNoMarked, IsNoAnswered, IsNoClause, IsNoContent, HasBadWords, IsBadBehindNumber, IsBadOfLine, IsBadLineToken}
 use Rattle.proof_lines.specs.Lines.{LineParts, IsProofLine, IsFirstLine}
 use Rattle.proof_lines.specs.Literals.{may_be_clause}
+use Rattle.proof_lines.specs.declared.marks.Spot.TheVariants.{Elsewhere}
+use Rattle.proof_lines.proofs.AnsweredClauses.{answered_is, near_may_be}
+use Rattle.proof_lines.proofs.Clauses.{too_deep_clause}
 use Rattle.proof_lines.proofs.Contents.{content_whole}
+use Rattle.proof_lines.proofs.Noting.{noted_long, noted_take, content_noted, content_lengths, unmarked}
 use Rattle.proof_lines.proofs.FirstWords.{narrower}
 use Rattle.proof_lines.proofs.OneLine.{content_cut, head_or, behind_head, FirstParts, first_parts}
 use Rattle.proof_lines.proofs.Stops.{item_cut}
@@ -132,47 +138,83 @@ same_content : (g : OperatorTable) (xs ys : List Lexeme) (j : ℕ) (u : RawTree)
 same_content g xs ys j u i h (inr e) = ap content_in e
 same_content g xs ys j u i h (inl e) = item_front g (content_in xs) ys u i (take_less (length (content_in xs)) (suc j) xs ys h e.1 ∙ front_is xs)
 
-no_clause : (g : OperatorTable) (xs ys : List Lexeme) (b j : ℕ) (t : RawTree) → IsNoClause g (content_in xs) b → b ≤ j → Alike j xs ys → ¬ IsClauseItem g (content_in ys) t
-no_clause g xs ys b j t (inl bad) h like = λ i. no_item g xs ys b j t bad h like i.0
-no_clause g xs ys b j t (inr other) h like = λ i.
+no_plain : (g : OperatorTable) (xs ys : List Lexeme) (b j : ℕ) (t : RawTree) → IsNoPlain g (content_in xs) b → b ≤ j → Alike j xs ys → Item g (content_in ys) t → may_be_clause t ≡ true → ⊥
+no_plain g xs ys b j t (inl bad) h like i m = no_item g xs ys b j t bad h like i
+no_plain g xs ys b j t (inr other) h like i m =
     let u : RawTree = other.1.0 in
     let same = same_content g xs ys j u other.1.1 (omega (arith, other.0, h)) like in
-    let there : Item g (content_in xs) t = subst (λ us. Item g us t) same i.0 in
+    let there : Item g (content_in xs) t = subst (λ us. Item g us t) same i in
     let is : t ≡ u = item_one g (content_in xs) t u there other.1.1 in
-    false≢true (sym other.1.2 ∙ ap may_be_clause (sym is) ∙ i.1)
+    false≢true (sym other.1.2 ∙ ap may_be_clause (sym is) ∙ m)
+
+-- nor one with answers: a mark looks back alone
+noted_alike : (k : ℕ) (xs ys : List Lexeme) → Alike k xs ys → Alike k (noted xs) (noted ys)
+noted_alike k xs ys (inr e) = inr (ap noted e)
+noted_alike k xs ys (inl e) =
+    let long : length (noted xs) ≡ length xs = noted_long Elsewhere xs in
+    inl (omega (arith, e.0, long), noted_take (suc k) ys ∙ ap noted e.1 ∙ sym (noted_take (suc k) xs))
+
+no_marked : (g : OperatorTable) (xs ys : List Lexeme) (b j : ℕ) (t : RawTree) → IsNoMarked g (content_in xs) b → b ≤ j → Alike j xs ys → Item g (noted (content_in ys)) t → is_answered t ≡ true → ⊥
+no_marked g xs ys b j t (inl bad) h like i m =
+    no_item g (noted xs) (noted ys) b j t (subst (λ us. IsNoItem g us b) (sym (content_noted xs)) bad) h (noted_alike j xs ys like) (subst (λ us. Item g us t) (sym (content_noted ys)) i)
+no_marked g xs ys b j t (inr other) h like i m =
+    let u : RawTree = other.1.0 in
+    let item : Item g (content_in (noted xs)) u = subst (λ us. Item g us u) (sym (content_noted xs)) other.1.1 in
+    let long : length (content_in (noted xs)) ≡ length (content_in xs) = content_lengths Elsewhere xs in
+    let same = same_content g (noted xs) (noted ys) j u item (omega (arith, other.0, h, long)) (noted_alike j xs ys like) in
+    let there : Item g (content_in (noted xs)) t = subst (λ us. Item g us t) (sym (content_noted ys) ∙ same) i in
+    let is : t ≡ u = item_one g (content_in (noted xs)) t u there item in
+    false≢true (sym other.1.2 ∙ ap is_answered (sym is) ∙ m)
+
+no_answered : (g : OperatorTable) (xs ys : List Lexeme) (b j : ℕ) (t : RawTree) (us : List ReadAnswer) → IsNoAnswered g (content_in xs) b → b ≤ j → Alike j xs ys → ¬ IsAnsweredItem g (content_in ys) t us
+no_answered g xs ys b j t us (inr begun) h like = λ i. no_marked g xs ys b j i.0 begun.1 h like i.1 (answered_is i.0 t us i.2 i.3 i.4)
+no_answered g xs ys b j t us (inl (none, inl bad)) h like = λ i.
+    no_marked g xs ys b j i.0 (inl (subst (λ ts. IsNoItem g ts b) (sym (unmarked (content_in xs) none)) bad)) h like i.1 (answered_is i.0 t us i.2 i.3 i.4)
+no_answered g xs ys b j t us (inl (none, inr other)) h like = λ i.
+    let same = same_content g xs ys j other.1.0 other.1.1 (omega (arith, other.0, h)) like in
+    false≢true (sym none ∙ ap begins_answer (sym same) ∙ i.5)
+
+no_clause : (g : OperatorTable) (xs ys : List Lexeme) (b j : ℕ) (t : RawTree) (us : List ReadAnswer) → IsNoClause g (content_in xs) b → b ≤ j → Alike j xs ys → ¬ IsClauseWith g (content_in ys) t us
+no_clause g xs ys b j t [] bad h like = λ i. by i.0
+  where
+    by : IsPlainItem g (content_in ys) t ⊎ IsFarItem g (content_in ys) t → ⊥
+    by (inl plain) = no_plain g xs ys bad.plain j t bad.no_plain (omega (arith, bad.later, h)) like plain.0 (near_may_be t plain.2)
+    by (inr far) = no_plain g xs ys bad.plain j t bad.no_plain (omega (arith, bad.later, h)) like far.0 (too_deep_clause t far.1)
+no_clause g xs ys b j t (a ∷ us) bad h like = no_answered g xs ys bad.answered j t (a ∷ us) bad.no_answered (omega (arith, bad.later, h)) like
 
 -- content of this kind suits the words that it stands with
-kind_suits : (g : LineTables) (item : List Lexeme) (kind : ContentKind) (t : RawTree) (w : WrittenFirst) → HasKind g item kind
-    → IsContent g (states_formula w) item t → suits kind w ≡ true
-kind_suits g item Formula t w h i = by (states_formula w) refl i
+kind_suits : (g : LineTables) (item : List Lexeme) (kind : ContentKind) (w : WrittenFirst) → HasKind g item kind
+    → IsSomeContent g (states_formula w) item → suits kind w ≡ true
+kind_suits g item Formula w h i = by (states_formula w) refl i
   where
-    by : (b : Bool) → states_formula w ≡ b → IsContent g b item t → states_formula w ≡ true
+    by : (b : Bool) → states_formula w ≡ b → IsSomeContent g b item → states_formula w ≡ true
     by true e i = e
-    by false e i = absurd (h.1 t i)
-kind_suits g item Clause t w h i = by (states_formula w) refl i
+    by false e i = absurd (h.1 i)
+kind_suits g item Clause w h i = by (states_formula w) refl i
   where
-    by : (b : Bool) → states_formula w ≡ b → IsContent g b item t → not (states_formula w) ≡ true
-    by true e i = absurd (h.0 t i)
+    by : (b : Bool) → states_formula w ≡ b → IsSomeContent g b item → not (states_formula w) ≡ true
+    by true e i = absurd (h.0 i)
     by false e i = ap not e
-kind_suits g item Either t w h i = refl
+kind_suits g item Either w h i = refl
 
 -- content of a kind is an item of a table
 pub record SomeContent (g : LineTables) (item : List Lexeme) : Type 0 where
   pub by_formula : Bool
   pub tree : RawTree
-  pub is : IsContent g by_formula item tree
+  pub answers : List ReadAnswer
+  pub is : IsContent g by_formula item tree answers
 
 some_content : (g : LineTables) (item : List Lexeme) (kind : ContentKind) → HasKind g item kind → SomeContent g item
-some_content g item Formula h = record { by_formula = true; tree = h.0.0; is = h.0.1 }
-some_content g item Clause h = record { by_formula = false; tree = h.1.0; is = h.1.1 }
-some_content g item Either h = record { by_formula = true; tree = h.0.0; is = h.0.1 }
+some_content g item Formula h = record { by_formula = true; tree = h.0.0; answers = h.0.1; is = h.0.2 }
+some_content g item Clause h = record { by_formula = false; tree = h.1.0; answers = h.1.1; is = h.1.2 }
+some_content g item Either h = record { by_formula = true; tree = h.0.0; answers = h.0.1; is = h.0.2 }
 
 -- tokens that begin with content have it, and what is behind it
 content_front : (g : LineTables) (item ys : List Lexeme) → SomeContent g item → take (length item) ys ≡ item
     → (content_in ys ≡ item) × (behind_content_in ys ≡ drop (length item) ys)
 content_front g item ys c e =
     let whole : ys ≡ item ++ drop (length item) ys = sym (take-append-drop (length item) ys) ∙ ap (λ us. us ++ drop (length item) ys) e in
-    let cut = content_cut g c.by_formula item (drop (length item) ys) c.tree c.is in
+    let cut = content_cut g c.by_formula item (drop (length item) ys) c.tree c.answers c.is in
     (ap content_in whole ∙ cut.0, ap behind_content_in whole ∙ cut.1)
 
 -- what stands behind content that tokens share is alike too
@@ -214,19 +256,19 @@ no_words f xs ys m count w bad (inl e) h = λ says.
           bad.none (take count xs) (drop count xs) w (sym (take-append-drop count xs)) (subst (λ us. SaysWords f us w) same says))
     ]
 
-no_bad_words : (g : LineTables) (xs ys : List Lexeme) (k count : ℕ) (t : RawTree) (w : Written) → HasBadWords g xs k → Alike k xs ys
-    → IsContent g (states_formula w.first) (content_in ys) t → ¬ AreFirstWords (line_words Either) (behind_content_in ys) w count
-no_bad_words g xs ys k count t w bad like i = λ words.
+no_bad_words : (g : LineTables) (xs ys : List Lexeme) (k count : ℕ) (w : Written) → HasBadWords g xs k → Alike k xs ys
+    → IsSomeContent g (states_formula w.first) (content_in ys) → ¬ AreFirstWords (line_words Either) (behind_content_in ys) w count
+no_bad_words g xs ys k count w bad like i = λ words.
     let c = some_content g (content_in xs) bad.kind bad.content in
     let both = shares g xs ys bad.token c (subst (λ (j : ℕ). Alike j xs ys) bad.behind like) in
-    let suit = kind_suits g (content_in xs) bad.kind t w.first bad.content (subst (λ us. IsContent g (states_formula w.first) us t) both.content i) in
+    let suit = kind_suits g (content_in xs) bad.kind w.first bad.content (subst (IsSomeContent g (states_formula w.first)) both.content i) in
     no_words (line_words bad.kind) (behind_content_in xs) (behind_content_in ys) bad.token count w bad.bad both.behind words.0
     (narrower bad.kind (take count (behind_content_in ys)) [] w suit words.1)
 
-no_bad_content : (g : LineTables) (xs ys : List Lexeme) (k : ℕ) (by_formula : Bool) (t : RawTree) → IsNoContent g (content_in xs) k → Alike k xs ys
-    → ¬ IsContent g by_formula (content_in ys) t
-no_bad_content g xs ys k true t bad like = no_item g.formulas xs ys bad.formula k t bad.no_formula (omega (arith, bad.later)) like
-no_bad_content g xs ys k false t bad like = no_clause g.clauses xs ys bad.clause k t bad.no_clause (omega (arith, bad.later)) like
+no_bad_content : (g : LineTables) (xs ys : List Lexeme) (k : ℕ) (by_formula : Bool) (t : RawTree) (us : List ReadAnswer) → IsNoContent g (content_in xs) k → Alike k xs ys
+    → ¬ IsContent g by_formula (content_in ys) t us
+no_bad_content g xs ys k true t us bad like = λ i. no_item g.formulas xs ys bad.formula k t bad.no_formula (omega (arith, bad.later)) like i.0
+no_bad_content g xs ys k false t us bad like = no_clause g.clauses xs ys bad.clause k t us bad.no_clause (omega (arith, bad.later)) like
 
 -- of the tokens behind a number that are alike
 behind_alike : (t u : Lexeme) (xs ys vs : List Lexeme) (k : ℕ) → vs ≡ u ∷ ys → Alike (suc k) (t ∷ xs) vs → (u ≡ t) × Alike k xs ys
@@ -240,8 +282,8 @@ first_alike t u xs ys vs k i (inr e) = ap (head_or t) (sym i ∙ e)
 first_alike t u xs ys vs k i (inl e) = ap (head_or t) (ap (take (suc k)) (sym i) ∙ e.1)
 
 no_line_behind : (g : LineTables) (xs : List Lexeme) (k : ℕ) (vs : List Lexeme) (l : LineParts) (n : ℕ) (p : FirstParts g vs l n) → IsBadBehindNumber g xs k → Alike k xs p.rest → ⊥
-no_line_behind g xs k vs l n p (inl bad) like = no_bad_content g xs p.rest k (states_formula l.words.first) l.content bad like p.content
-no_line_behind g xs k vs l n p (inr bad) like = no_bad_words g xs p.rest k p.count l.content l.words bad like p.content p.words
+no_line_behind g xs k vs l n p (inl bad) like = no_bad_content g xs p.rest k (states_formula l.words.first) l.content l.answers bad like p.content
+no_line_behind g xs k vs l n p (inr bad) like = no_bad_words g xs p.rest k p.count l.words bad like (l.content, l.answers, p.content) p.words
 
 no_line_at : (g : LineTables) (ts : List Lexeme) (k : ℕ) (vs : List Lexeme) (l : LineParts) (n : ℕ) → IsBadOfLine g ts k → Alike k ts vs → FirstParts g vs l n → ⊥
 no_line_at g [] k vs l n bad (inl e) p = omega (arith, e.0)

@@ -1,5 +1,5 @@
 -- Content that stands as a clause.
-use Rattle.std.proofs.Common.{◌≡◌, ◌∙◌, ℕ, suc, ◌+◌, ◌≤◌, Bool, true, false, not, ◌||◌, ◌&&◌, List, [], ◌∷◌, length, refl, ap, sym, subst, arith, IsTrue, inl, inr, Result, Err, IfErr}
+use Rattle.std.proofs.Common.{◌≡◌, ◌∙◌, ℕ, suc, ◌+◌, ◌≤◌, Bool, true, false, not, ◌||◌, ◌&&◌, List, [], ◌∷◌, length, refl, ap, sym, subst, arith, Result, Err, IfErr}
 use Rattle.std.proofs.lemmas.Bool.{false≢true}
 use Rattle.std.proofs.lemmas.Bool.Decides.{nat_tests}
 use Rattle.std.proofs.lemmas.List.{length-append}
@@ -15,12 +15,11 @@ use Rattle.ladr_reader.specs.Table.{OperatorTable}
 use Rattle.ladr_reader.specs.Faults.{IsFaultWhere}
 use Rattle.ladr_reader.specs.declared.fault.TermFault.{TermFault}
 use Rattle.ladr_reader.specs.declared.fault.TermFault.TheVariants.{Deep}
-use Rattle.ladr_reader.proofs.Complete.{item_one}
-use Rattle.proof_lines.specs.ContentTokens.{IsClauseItem}
+use Rattle.proof_lines.specs.ContentTokens.{IsFarItem}
 use Rattle.proof_lines.specs.Parsed.{IsPartFault}
 use Rattle.proof_lines.specs.declared.fault.PartFault.{PartFault}
 use Rattle.proof_lines.specs.declared.fault.PartFault.TheVariants.{Bad}
-use Rattle.proof_lines.specs.Faults.{IsNoItem, IsNoClause}
+use Rattle.proof_lines.specs.Faults.{IsNoItem}
 use Rattle.proof_lines.specs.Literals.{undenied, read_as_clause, are_shallow, may_be_clause}
 
 -- the atom of a shallow literal leaves room for its denial
@@ -88,25 +87,20 @@ item_some g ts t i = (let long : length ts ≡ length i.tokens + 1 = ap length i
 pub no_item_within : (g : OperatorTable) (ts : List Lexeme) (k : ℕ) → IsNoItem g ts k → k ≤ length ts
 no_item_within g ts k bad = bad.0.within
 
-pub no_clause_within : (g : OperatorTable) (ts : List Lexeme) (k : ℕ) → IsNoClause g ts k → k ≤ length ts
-no_clause_within g ts k (inl bad) = bad.0.within
-no_clause_within g ts k (inr other) = omega (arith, other.0)
-
-pub no_clause_none : (g : OperatorTable) (ts : List Lexeme) (k : ℕ) → IsNoClause g ts k → (t : RawTree) → ¬ IsClauseItem g ts t
-no_clause_none g ts k (inl bad) t = λ i. bad.1 t i.0
-no_clause_none g ts k (inr other) t = λ i.
-    let is : t ≡ other.1.0 = item_one g ts t other.1.0 i.0 other.1.1 in
-    false≢true (sym other.1.2 ∙ ap may_be_clause (sym is) ∙ i.1)
-
 -- where the reader tells that a literal is too deep
-pub deep_clause : (g : OperatorTable) (ts : List Lexeme) (f : TermFault) → f ≡ Deep → IsFaultWhere (λ t. all_within 1001 (disjuncts t) ≡ false) g ts f
-    → (t : RawTree) × (Item g ts t × IsTrue (may_be_clause t)) × (not (are_shallow (disjuncts t)) ≡ true)
-deep_clause g ts f e h =
-    let deep = subst (IsFaultWhere (λ t. all_within 1001 (disjuncts t) ≡ false) g ts) e h in
-    (deep.0, (deep.1, too_deep_clause deep.0 deep.2), deep_literals (disjuncts deep.0) deep.2)
+pub far_clause : (g : OperatorTable) (ts : List Lexeme) (f : TermFault) → f ≡ Deep → IsFaultWhere (λ t. all_within 1001 (disjuncts t) ≡ false) g ts f → (t : RawTree) × IsFarItem g ts t
+far_clause g ts f e h = (let far = subst (IsFaultWhere (λ t. all_within 1001 (disjuncts t) ≡ false) g ts) e h in (far.0, (far.1, far.2)))
 
 -- what is told of a bad part
 pub part_bad : {T : Type 0} (r : Result T PartFault) (IsBad : ℕ → Type 0) (f : PartFault) (k : ℕ) → r ≡ Err f → f ≡ Bad k → IfErr r (IsPartFault IsBad) → IsBad k
 part_bad {T} r IsBad f k e i h =
     let there = subst (λ (q : Result T PartFault). IfErr q (IsPartFault IsBad)) e h in
     subst (IsPartFault IsBad) i there
+
+-- a clause that isn't too deep is looked at
+pub near_clause : (t : RawTree) → not (are_shallow (disjuncts t)) ≡ false → all_within 1001 (disjuncts t) ≡ true
+near_clause t h = by (are_shallow (disjuncts t)) refl h
+  where
+    by : (b : Bool) → are_shallow (disjuncts t) ≡ b → not b ≡ false → all_within 1001 (disjuncts t) ≡ true
+    by true e k = shallow_within (disjuncts t) e
+    by false e k = absurd (false≢true (sym k))

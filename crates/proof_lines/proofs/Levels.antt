@@ -8,7 +8,9 @@ use Rattle.fol_core.specs.RawTree.{RawTree, named, raws_of, depth, depth_of}
 use Rattle.fol_core.specs.RawView.{raw_of, raw_list}
 use Rattle.fol_core.specs.declared.raw.Raw.{Raw}
 use Rattle.ladr_formulas.specs.Formulas.{arity_of}
+use Rattle.proof_lines.specs.Answered.{answer_views, are_shallow_answers}
 use Rattle.proof_lines.specs.Literals.{reads_as_literal, undenied, are_shallow}
+use Rattle.proof_lines.specs.declared.answered.RawAnswer.{RawAnswer}
 
 pub arity_is : (ts : List RawTree) → arity_of (raws_of ts) ≡ length ts
 arity_is [] = refl
@@ -42,3 +44,9 @@ within_step rs i m d h =
 
 pub named_within : (s : List ℕ) (ts : List RawTree) (m : ℕ) → 0 < m → nat_le (depth (named s (raws_of ts))) m ≡ nat_le (depth_of (raws_of ts)) (m - 1)
 named_within s ts m h = one_less (depth_of (raws_of ts)) m h
+
+-- one answer after the other
+pub answer_step : (us : List RawAnswer) (i : ℕ) (d : RawAnswer) → i < length us →
+    are_shallow_answers (answer_views (drop i us))
+    ≡ (nat_le (depth_of (raws_of (get_or us i d).terms)) 1000 && are_shallow_answers (answer_views (drop (i + 1) us)))
+answer_step us i d h = rw (drop_more us i d h) refl

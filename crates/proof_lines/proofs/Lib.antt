@@ -1,9 +1,12 @@
 pub mod AnswerParts
+pub mod AnsweredClauses
+pub mod AnsweredStated
 pub mod AnswersBad
 pub mod BadTokens
 pub mod ClauseReadings
 pub mod Clauses
 pub mod Contents
+pub mod Counting
 pub mod FirstWords
 pub mod KeptNames
 pub mod Levels

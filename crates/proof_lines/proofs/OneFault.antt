@@ -1,22 +1,21 @@
 -- Tokens have one fault at most.
-use Rattle.std.proofs.Common.{◌≡◌, ◌∙◌, inl, inr, ℕ, zero, suc, ◌+◌, ◌≤◌, ◌<◌, max, Bool, true, List, [], ◌∷◌, ◌++◌, length, take, drop, Option, Some, refl, sym, ap, ap₂, subst, append_assoc, arith}
+use Rattle.std.proofs.Common.{◌≡◌, ◌∙◌, inl, inr, ℕ, zero, suc, ◌+◌, ◌≤◌, ◌<◌, max, Bool, List, [], ◌∷◌, ◌++◌, length, take, drop, Option, Some, refl, sym, ap, ap₂, subst, append_assoc, arith}
 use Rattle.std.proofs.lemmas.Bool.{true≢false, cases_lt}
 use Rattle.std.proofs.lemmas.List.{take-append-drop}
-use Rattle.fol_core.specs.RawTree.{RawTree}
 use Rattle.fol_core.specs.SymbolTable.{Symbol}
 use Rattle.ladr_formulas.specs.declared.styles.Style.{Style}
 use Rattle.ladr_lex.specs.Lexeme.{Lexeme}
 use Rattle.ladr_lex.specs.declared.misuse.Misuse.{Misuse}
 use Rattle.ladr_reader.specs.Reads.{Item, BeginsItem, IsBadToken}
 use Rattle.ladr_reader.specs.Table.{OperatorTable}
-use Rattle.ladr_reader.proofs.Complete.{item_one}
 use Rattle.proof_lines.specs.ContentTokens.{LineTables, HasKind, content_in, behind_content_in}
-use Rattle.proof_lines.specs.Faults.{IsNoClause, IsNoContent, IsBadBehindNumber, IsBadOfLine, IsLineFault}
+use Rattle.proof_lines.specs.AnswerMarks.{begins_answer, noted}
+use Rattle.proof_lines.specs.Faults.{IsNoPlain, IsNoMarked, IsNoAnswered, IsNoClause, IsNoContent, IsBadBehindNumber, IsBadOfLine, IsLineFault}
 use Rattle.proof_lines.specs.Lines.{LineParts, IsFirstLine}
-use Rattle.proof_lines.specs.Literals.{may_be_clause}
-use Rattle.proof_lines.specs.Stated.{is_too_deep, line_misuse}
+use Rattle.proof_lines.specs.Stated.{is_deep_with, line_misuse}
 use Rattle.proof_lines.specs.declared.fault.LineFault.{LineFault}
 use Rattle.proof_lines.specs.declared.fault.LineFault.TheVariants.{Bad, Deep, Misused, Memory}
+use Rattle.proof_lines.proofs.AnsweredClauses.{no_clause_none}
 use Rattle.proof_lines.proofs.BadTokens.{bad_line_token}
 use Rattle.proof_lines.proofs.OneLine.{one_line}
 use Rattle.proof_words.specs.Faults.{BeginsWords, IsBadWordToken}
@@ -58,35 +57,46 @@ token_once g ts j k a b = first_once (BeginsItem g) (item_front g) ts j k a.with
 word_once : (f : Spelling) (ts : List Lexeme) (j k : ℕ) → IsBadWordToken f ts j → IsBadWordToken f ts k → j ≡ k
 word_once f ts j k a b = first_once (BeginsWords f) (words_front f) ts j k a.within b.within a.before b.before a.here b.here
 
+plain_once : (g : OperatorTable) (ts : List Lexeme) (j k : ℕ) → IsNoPlain g ts j → IsNoPlain g ts k → j ≡ k
+plain_once g ts j k (inl a) (inl b) = token_once g ts j k a.0 b.0
+plain_once g ts j k (inl a) (inr b) = absurd (a.1 b.1.0 b.1.1)
+plain_once g ts j k (inr a) (inl b) = absurd (b.1 a.1.0 a.1.1)
+plain_once g ts j k (inr a) (inr b) = omega (arith, a.0, b.0)
+
+marked_once : (g : OperatorTable) (ts : List Lexeme) (j k : ℕ) → IsNoMarked g ts j → IsNoMarked g ts k → j ≡ k
+marked_once g ts j k (inl a) (inl b) = token_once g (noted ts) j k a.0 b.0
+marked_once g ts j k (inl a) (inr b) = absurd (a.1 b.1.0 b.1.1)
+marked_once g ts j k (inr a) (inl b) = absurd (b.1 a.1.0 a.1.1)
+marked_once g ts j k (inr a) (inr b) = omega (arith, a.0, b.0)
+
+answered_once : (g : OperatorTable) (ts : List Lexeme) (j k : ℕ) → IsNoAnswered g ts j → IsNoAnswered g ts k → j ≡ k
+answered_once g ts j k (inl a) (inl b) = plain_once g ts j k a.1 b.1
+answered_once g ts j k (inl a) (inr b) = absurd (true≢false (sym b.0 ∙ a.0))
+answered_once g ts j k (inr a) (inl b) = absurd (true≢false (sym a.0 ∙ b.0))
+answered_once g ts j k (inr a) (inr b) = marked_once g ts j k a.1 b.1
+
 clause_once : (g : OperatorTable) (ts : List Lexeme) (j k : ℕ) → IsNoClause g ts j → IsNoClause g ts k → j ≡ k
-clause_once g ts j k (inl a) (inl b) = token_once g ts j k a.0 b.0
-clause_once g ts j k (inl a) (inr b) = absurd (a.1 b.1.0 b.1.1)
-clause_once g ts j k (inr a) (inl b) = absurd (b.1 a.1.0 a.1.1)
-clause_once g ts j k (inr a) (inr b) = omega (arith, a.0, b.0)
+clause_once g ts j k a b = a.later ∙ ap₂ max (plain_once g ts a.plain b.plain a.no_plain b.no_plain) (answered_once g ts a.answered b.answered a.no_answered b.no_answered) ∙ sym b.later
 
 content_once : (g : LineTables) (ts : List Lexeme) (j k : ℕ) → IsNoContent g ts j → IsNoContent g ts k → j ≡ k
 content_once g ts j k a b =
     a.later ∙ ap₂ max (token_once g.formulas ts a.formula b.formula a.no_formula.0 b.no_formula.0) (clause_once g.clauses ts a.clause b.clause a.no_clause b.no_clause) ∙ sym b.later
 
 -- tokens that are no content have no kind
-no_clause_item : (g : OperatorTable) (ts : List Lexeme) (k : ℕ) (t : RawTree) → IsNoClause g ts k → Item g ts t → may_be_clause t ≡ true → ⊥
-no_clause_item g ts k t (inl a) i m = a.1 t i
-no_clause_item g ts k t (inr a) i m = true≢false (sym m ∙ ap may_be_clause (item_one g ts t a.1.0 i a.1.1) ∙ a.1.2)
-
 kindless : (g : LineTables) (ts : List Lexeme) (k : ℕ) (kind : ContentKind) → IsNoContent g ts k → HasKind g ts kind → ⊥
-kindless g ts k Formula a h = a.no_formula.1 h.0.0 h.0.1
-kindless g ts k Clause a h = no_clause_item g.clauses ts a.clause h.1.0 a.no_clause h.1.1.0 h.1.1.1
-kindless g ts k Either a h = a.no_formula.1 h.0.0 h.0.1
+kindless g ts k Formula a h = a.no_formula.1 h.0.0 h.0.2.0
+kindless g ts k Clause a h = no_clause_none g.clauses ts a.clause a.no_clause h.1.0 h.1.1 h.1.2
+kindless g ts k Either a h = a.no_formula.1 h.0.0 h.0.2.0
 
 kind_once : (g : LineTables) (ts : List Lexeme) (a b : ContentKind) → HasKind g ts a → HasKind g ts b → a ≡ b
 kind_once g ts Formula Formula h k = refl
-kind_once g ts Formula Clause h k = absurd (h.1 k.1.0 k.1.1)
-kind_once g ts Formula Either h k = absurd (h.1 k.1.0 k.1.1)
-kind_once g ts Clause Formula h k = absurd (h.0 k.0.0 k.0.1)
+kind_once g ts Formula Clause h k = absurd (h.1 k.1)
+kind_once g ts Formula Either h k = absurd (h.1 k.1)
+kind_once g ts Clause Formula h k = absurd (h.0 k.0)
 kind_once g ts Clause Clause h k = refl
-kind_once g ts Clause Either h k = absurd (h.0 k.0.0 k.0.1)
-kind_once g ts Either Formula h k = absurd (k.1 h.1.0 h.1.1)
-kind_once g ts Either Clause h k = absurd (k.0 h.0.0 h.0.1)
+kind_once g ts Clause Either h k = absurd (h.0 k.0)
+kind_once g ts Either Formula h k = absurd (k.1 h.1)
+kind_once g ts Either Clause h k = absurd (k.0 h.0)
 kind_once g ts Either Either h k = refl
 
 behind_once : (g : LineTables) (ts : List Lexeme) (j k : ℕ) → IsBadBehindNumber g ts j → IsBadBehindNumber g ts k → j ≡ k
@@ -111,10 +121,10 @@ module _ (g : LineTables) (st : Style) (problem table : List Symbol) (ts : List 
   unbroken k l n bad first = (bad_line_token g ts k bad).none (take n ts) (drop n ts) l (sym (take-append-drop n ts)) first.1
 
   abbrev too_deep : LineParts → Bool
-  too_deep l = is_too_deep (states_formula l.words.first) l.content
+  too_deep l = is_deep_with (states_formula l.words.first) l.content l.answers
 
   abbrev misuse_of : LineParts → Option Misuse
-  misuse_of l = line_misuse st problem table (states_formula l.words.first) l.content
+  misuse_of l = line_misuse st problem table (states_formula l.words.first) l.content l.answers
 
   pub fault_once : (a b : LineFault) → IsLineFault g st problem table ts a → IsLineFault g st problem table ts b → ¬ a ≡ Memory → ¬ b ≡ Memory → a ≡ b
   fault_once (Bad j) (Bad k) h i m n = ap Bad (bad_once g ts j k h i)

@@ -61,8 +61,8 @@ behind_read g ts end n kind terms just h seen words =
 
 seen_kind : (g : LineTables) (item : List Lexeme) (content : ContentRead) → IsContentSeen g item content → HasKind g item (kind_seen content)
 seen_kind g item seen.Formula h = (h.0, h.1)
-seen_kind g item (seen.Clause c) h = (h.1, (h.0.0, h.0.1))
-seen_kind g item (seen.Either c) h = (h.0, (h.1.0, h.1.1))
+seen_kind g item (seen.Clause c) h = (h.1, (h.0.0, h.0.1, h.0.2))
+seen_kind g item (seen.Either c) h = (h.0, (h.1.0, h.1.1, h.1.2))
 
 -- words that can't stand behind content
 pub bad_behind : (g : LineTables) (ts : List Token) (end k : ℕ) (content : ContentRead) (kind : ContentKind) → end ≤ length ts → kind ≡ kind_seen content
@@ -85,7 +85,7 @@ pub parts_read : (g : LineTables) (t : Token) (ts : List Token) (n : ℕ) (b : B
     → IsBehindRead g (lexemes_of ts) b → IsPartsRead g (lexemes_of (t ∷ ts)) (record { number = n; behind = b })
 parts_read g t ts n b e h =
     let number = some_number t n e in
-    let parts : LineParts = record { number = n; content = h.content.0; words = written_of b.just } in
+    let parts : LineParts = record { number = n; content = h.content.0; answers = h.content.1; words = written_of b.just } in
     let m : b.len + 1 ≡ suc b.len = omega arith in
     let whole : IsProofLine g (lexeme_of t ∷ take b.len (lexemes_of ts)) parts = record {
       number = lexeme_of t;
@@ -94,7 +94,7 @@ parts_read g t ts n b e h =
       split = ap (λ us. lexeme_of t ∷ us) h.split;
       is_number = number.0;
       number_is = number.1;
-      content = h.content.1;
+      content = h.content.2;
       says = h.says;
     } in
     record {
@@ -102,7 +102,7 @@ parts_read g t ts n b e h =
       first = (omega (arith, h.within), subst (λ (k : ℕ). IsProofLine g (take k (lexemes_of (t ∷ ts))) parts) (sym m) whole);
       number_is = refl;
       words_are = refl;
-      terms_are = h.content.2;
+      terms_are = h.content.3;
     }
 
 pub first_read : (g : LineTables) (ts : List Token) (n : ℕ) (b : Behind) → first_number (lexemes_of ts) ≡ Some n

@@ -1,6 +1,7 @@
 -- Which tokens of a clause are read as names, whatever an operator made of them, because an answer
 -- begins there: in `# answer ( n` the word and the number. A mark looks back alone.
 use Rattle.std.specs.Prelude.{Bool, true, false, is_some, if◌then◌else◌, List, [], ◌∷◌, codes}
+use Rattle.std.specs.List.{list_any}
 use Rattle.std.specs.Str.{bytes_eq}
 use Rattle.ladr_lex.specs.Lexeme.{Lexeme, open_paren, symbol, ordinary, quoted}
 use Rattle.ladr_lex.specs.Numeral.{whole_number}
@@ -53,6 +54,10 @@ marks_from spot (t ∷ ts) = is_name_at spot t ∷ marks_from (spot_behind spot 
 
 abbrev pub answer_marks : List Lexeme → List Bool
 answer_marks ts = marks_from Elsewhere ts
+
+-- whether an answer begins somewhere
+abbrev pub begins_answer : List Lexeme → Bool
+begins_answer ts = list_any (λ m. m) (answer_marks ts)
 
 -- the tokens as they are read
 abbrev pub noted_from : Spot → List Lexeme → List Lexeme

@@ -1,16 +1,17 @@
 -- Clauses with answers behind them, `clause # answer(n,t1,..,tj) # ..`, as they are read: the word and
 -- the number of an answer are marked as names.
-use Rattle.std.specs.Prelude.{ℕ, Bool, false, ◌&&◌, ◌==◌, nat_le, length, ◌-◌, take, if◌then◌else◌, List, [], ◌∷◌, ◌++◌, Option, Some, None, option_map, map, codes}
+use Rattle.std.specs.Prelude.{ℕ, Bool, false, ◌&&◌, ◌==◌, nat_le, length, ◌-◌, take, if◌then◌else◌, List, [], ◌∷◌, ◌++◌, Option, Some, None, option_map, is_some, map, codes}
 use Rattle.std.specs.List.{list_all}
 use Rattle.std.specs.Str.{bytes_eq}
-use Rattle.fol_core.specs.RawTree.{RawTree, named, quantified, RawTrees, no_raws, more_raws, raws_of, depth_of}
+use Rattle.fol_core.specs.RawTree.{RawTree, named, quantified, RawTrees, no_raws, more_raws, raws_of, depth, depth_of}
 use Rattle.ladr_lex.specs.Numeral.{whole_number}
 use Rattle.ladr_formulas.specs.Formulas.{arity_of}
 use Rattle.ladr_reader.specs.Capped.{disjuncts, is_bar}
 use Rattle.ladr_reader.specs.Marks.{in_quotes}
 use Rattle.ladr_rules.specs.Attributes.{attributed}
-use Rattle.proof_lines.specs.Literals.{read_as_clause, may_be_clause}
+use Rattle.proof_lines.specs.Literals.{read_as_clause}
 use Rattle.proof_lines.specs.declared.answered.RawAnswer.{RawAnswer}
+use Rattle.proof_lines.specs.declared.answered.TheConstants.{MOST_ANSWERED_LEVELS}
 use Rattle.proof_lines.specs.declared.literals.TheConstants.{MOST_ATOM_LEVELS}
 
 -- an answer as it is read: the number of its goal's line, and its terms
@@ -77,6 +78,10 @@ some_answers (t ∷ ts) = all_answers (t ∷ ts)
 abbrev pub answers_read : RawTree → Option (List ReadAnswer)
 answers_read t = some_answers (attributed t).attributes
 
+-- those behind a term of at most 2,000 levels, where each disjunct and each answer is a level
+abbrev pub answers_behind : RawTree → Option (List ReadAnswer)
+answers_behind t = if nat_le (depth t) MOST_ANSWERED_LEVELS then answers_read t else None
+
 -- whether `|` joins two disjuncts
 abbrev pub is_disjoined : RawTree → Bool
 is_disjoined (named s ts) = arity_of ts == 2 && is_bar s
@@ -90,14 +95,9 @@ clause_before (Some us) t = (attributed t).formula
 abbrev pub clause_part : RawTree → RawTree
 clause_part t = clause_before (answers_read t) t
 
--- Whether a term may stand as a clause, with or without answers. One with answers is looked at
--- whatever its levels are.
-abbrev may_be : Option (List ReadAnswer) → RawTree → Bool
-may_be None t = may_be_clause t
-may_be (Some us) t = read_as_clause (disjuncts (attributed t).formula)
-
-abbrev pub may_be_answered : RawTree → Bool
-may_be_answered t = may_be (answers_read t) t
+-- whether a term stands as a clause with answers
+abbrev pub is_answered : RawTree → Bool
+is_answered t = is_some (answers_behind t) && read_as_clause (disjuncts (clause_part t))
 
 -- whether no term of answers has more than 1,000 levels
 abbrev pub are_shallow_answers : List ReadAnswer → Bool

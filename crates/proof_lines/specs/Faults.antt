@@ -6,10 +6,13 @@ use Rattle.ladr_formulas.specs.declared.styles.Style.{Style}
 use Rattle.ladr_lex.specs.Lexeme.{Lexeme}
 use Rattle.ladr_reader.specs.Reads.{Item, IsBadToken}
 use Rattle.ladr_reader.specs.Table.{OperatorTable}
+use Rattle.proof_lines.specs.AnswerMarks.{begins_answer, noted}
+use Rattle.proof_lines.specs.Answered.{is_answered}
 use Rattle.proof_lines.specs.ContentTokens.{LineTables, HasKind, content_in, behind_content_in}
 use Rattle.proof_lines.specs.Lines.{LineParts, IsProofLine, IsFirstLine}
 use Rattle.proof_lines.specs.Literals.{may_be_clause}
-use Rattle.proof_lines.specs.Stated.{is_too_deep, line_made, line_misuse, IsLineOf}
+use Rattle.proof_lines.specs.Noted.{IsLineOf}
+use Rattle.proof_lines.specs.Stated.{is_deep_with, line_misuse, symbols_behind}
 use Rattle.proof_lines.specs.declared.fault.LineFault.{LineFault}
 use Rattle.proof_lines.specs.declared.fault.LineFault.TheVariants.{Bad, Deep, Misused, Memory}
 use Rattle.proof_lines.specs.declared.fault.PartFault.{PartFault}
@@ -26,13 +29,33 @@ use Rattle.proof_words.specs.declared.names.ContentKind.{ContentKind}
 abbrev pub IsNoItem : OperatorTable → List Lexeme → ℕ → Type 0
 IsNoItem g ts k = IsBadToken g ts k × ((t : RawTree) → ¬ Item g ts t)
 
--- they are no clause: no term, or one that is no clause, which is told at its full stop
-abbrev pub IsNoClause : OperatorTable → List Lexeme → ℕ → Type 0
-IsNoClause g ts k =
+-- they are no clause without answers: no term, or one that is no clause, which is told at its full
+-- stop
+abbrev pub IsNoPlain : OperatorTable → List Lexeme → ℕ → Type 0
+IsNoPlain g ts k =
     IsNoItem g ts k
     ⊎ ((suc k ≡ length ts) × ((t : RawTree) × Item g ts t × (may_be_clause t ≡ false)))
 
+-- and none with answers, as they are read for that
+abbrev pub IsNoMarked : OperatorTable → List Lexeme → ℕ → Type 0
+IsNoMarked g ts k =
+    IsNoItem g (noted ts) k
+    ⊎ ((suc k ≡ length ts) × ((t : RawTree) × Item g (noted ts) t × (is_answered t ≡ false)))
+
+-- where no answer begins they aren't read for that
+abbrev pub IsNoAnswered : OperatorTable → List Lexeme → ℕ → Type 0
+IsNoAnswered g ts k =
+    ((begins_answer ts ≡ false) × IsNoPlain g ts k) ⊎ ((begins_answer ts ≡ true) × IsNoMarked g ts k)
+
 -- they are neither: of the two bad tokens the later one is told
+pub record IsNoClause (g : OperatorTable) (ts : List Lexeme) (k : ℕ) : Type 0 where
+  pub plain : ℕ
+  pub answered : ℕ
+  pub no_plain : IsNoPlain g ts plain
+  pub no_answered : IsNoAnswered g ts answered
+  pub later : k ≡ max plain answered
+
+-- they are neither formula nor clause: of the two bad tokens the later one is told
 pub record IsNoContent (g : LineTables) (ts : List Lexeme) (k : ℕ) : Type 0 where
   pub formula : ℕ
   pub clause : ℕ
@@ -88,11 +111,12 @@ abbrev pub IsLineFault :
 IsLineFault g st problem table ts (Bad k) = IsBadOfLine g ts k
 IsLineFault g st problem table ts Deep =
     (l : LineParts) × (n : ℕ) × IsFirstLine g ts l n
-    × (is_too_deep (states_formula l.words.first) l.content ≡ true)
+    × (is_deep_with (states_formula l.words.first) l.content l.answers ≡ true)
 IsLineFault g st problem table ts (Misused misuse) =
     (l : LineParts) × (n : ℕ) × IsFirstLine g ts l n
-    × (is_too_deep (states_formula l.words.first) l.content ≡ false)
-    × (line_misuse st problem table (states_formula l.words.first) l.content ≡ Some misuse)
+    × (is_deep_with (states_formula l.words.first) l.content l.answers ≡ false)
+    × (line_misuse st problem table (states_formula l.words.first) l.content l.answers
+    ≡ Some misuse)
 IsLineFault g st problem table ts Memory = Unit {0}
 
 -- The tokens begin with a line that is neither too deep nor misused, the code has it, and behind it
@@ -102,9 +126,12 @@ pub record IsLineRead
     (after : List Symbol) : Type 0 where
   pub parts : LineParts
   pub first : IsFirstLine g ts parts r.len
-  pub shallow : is_too_deep (states_formula parts.words.first) parts.content ≡ false
-  pub unmisused : line_misuse st problem table (states_formula parts.words.first) parts.content
+  pub shallow :
+      is_deep_with (states_formula parts.words.first) parts.content parts.answers ≡ false
+  pub unmisused :
+      line_misuse st problem table (states_formula parts.words.first) parts.content parts.answers
       ≡ None
   pub line : IsLineOf st table parts r.line
   pub symbols :
-      after ≡ (line_made st table (states_formula parts.words.first) parts.content).reading.symbols
+      after
+      ≡ symbols_behind st table (states_formula parts.words.first) parts.content parts.answers

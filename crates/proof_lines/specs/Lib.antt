@@ -2,6 +2,7 @@ pub mod AnswerMarks
 pub mod Answered
 pub mod AnswersSeen
 pub mod ContentTokens
+pub mod Counted
 pub mod Faults
 pub mod Lines
 pub mod Literals

@@ -1,5 +1,7 @@
--- What stands behind the content of a line: what a goal asks for.
+-- What stands behind the content of a line, which is what a goal asks for or the answers of a clause;
+-- and the line.
 use Rattle.std.specs.Prelude.{◌≡◌, ℕ, Bool, true, false, if◌then◌else◌, List, [], ◌∷◌, Option, None, option_map}
+use Rattle.answers.specs.AnswerView.{answers_of}
 use Rattle.fol_core.specs.Fol.{Fol}
 use Rattle.fol_core.specs.FormulaView.{fol_of}
 use Rattle.fol_core.specs.Free.{free_vars_of}
@@ -10,13 +12,10 @@ use Rattle.derivation.specs.declared.line.Content.TheVariants.{Formula, Clause}
 use Rattle.derivation.specs.declared.line.Line.{Line}
 use Rattle.derivation.specs.declared.line.LineNotes.{LineNotes}
 use Rattle.ladr_formulas.specs.declared.styles.Style.{Style}
-use Rattle.ladr_lex.specs.Lexeme.{Lexeme}
 use Rattle.ladr_rules.specs.Asked.{line_asks}
-use Rattle.proof_lines.specs.ContentTokens.{LineTables}
-use Rattle.proof_lines.specs.Lines.{LineParts, IsFirstLine}
-use Rattle.proof_lines.specs.Stated.{line_made}
-use Rattle.proof_lines.specs.declared.line.LineRead.{LineRead}
-use Rattle.proof_words.specs.Written.{WrittenFirst, as_goal}
+use Rattle.proof_lines.specs.Lines.{LineParts}
+use Rattle.proof_lines.specs.Stated.{line_made, answers_read_behind, IsContentOf}
+use Rattle.proof_words.specs.Written.{WrittenFirst, as_goal, written_of, states_formula}
 
 abbrev pub is_goal_word : WrittenFirst → Bool
 is_goal_word as_goal = true
@@ -47,14 +46,14 @@ asks_if is_goal st table t = if is_goal then goal_asks st table t else None
 abbrev pub asks_in : LineNotes → Option (List ℕ)
 asks_in notes = option_map (λ places. places.items) notes.asks
 
--- the code's line has the notes of these parts, read behind this table
-pub record IsNoted (st : Style) (table : List Symbol) (l : LineParts) (line : Line) : Type 0 where
+-- the code's line has these parts, read behind this table
+pub record IsLineOf (st : Style) (table : List Symbol) (l : LineParts) (line : Line) : Type 0 where
+  pub number : line.number ≡ l.number
+  pub words : written_of line.just ≡ l.words
+  pub content :
+      IsContentOf (states_formula l.words.first) l.content
+      (line_made st table (states_formula l.words.first) l.content) line.content
   pub asks : asks_in line.notes ≡ asks_if (is_goal_word l.words.first) st table l.content
-
--- the tokens begin with a line, and the code has its notes
-pub record AreNotesRead
-    (g : LineTables) (st : Style) (table : List Symbol) (ts : List Lexeme) (r : LineRead) : Type 0
-  where
-    pub parts : LineParts
-    pub first : IsFirstLine g ts parts r.len
-    pub noted : IsNoted st table parts r.line
+  pub answers :
+      answers_of line.notes.answers.items
+      ≡ (answers_read_behind st table (states_formula l.words.first) l.content l.answers).tree

@@ -1,6 +1,5 @@
 -- The content and the words of a line as the code has them.
 use Rattle.std.specs.Prelude.{◌≡◌, ℕ, ◌+◌, ◌≤◌, Bool, true, false, List, [], ◌∷◌, ◌++◌, length, take, Option, Some, None}
-use Rattle.std.specs.Global.{Vec}
 use Rattle.fol_core.specs.RawTree.{RawTree}
 use Rattle.fol_core.specs.RawView.{raw_of, raw_list}
 use Rattle.fol_core.specs.declared.raw.Raw.{Raw}
@@ -10,9 +9,11 @@ use Rattle.ladr_formulas.specs.declared.styles.Style.{Style}
 use Rattle.ladr_lex.specs.Lexeme.{Lexeme}
 use Rattle.ladr_lex.specs.Numeral.{whole_number}
 use Rattle.ladr_reader.specs.Capped.{disjuncts}
-use Rattle.proof_lines.specs.ContentTokens.{LineTables, IsContent}
+use Rattle.proof_lines.specs.Answered.{ReadAnswer, answer_views}
+use Rattle.proof_lines.specs.ContentTokens.{LineTables, IsContent, IsSomeContent}
 use Rattle.proof_lines.specs.Literals.{read_as_clause}
-use Rattle.proof_lines.specs.Stated.{is_too_deep, line_made, line_misuse, IsContentOf}
+use Rattle.proof_lines.specs.Stated.{is_too_deep, is_deep_with, line_made, line_misuse, symbols_behind, IsContentOf}
+use Rattle.proof_lines.specs.declared.answered.AnsweredRaw.{AnsweredRaw}
 use Rattle.proof_lines.specs.declared.content.ContentRead.{ContentRead}
 use Rattle.proof_lines.specs.declared.content.ContentRead.TheVariants as seen
 use Rattle.proof_lines.specs.declared.content.Terms.{Terms}
@@ -40,39 +41,38 @@ abbrev pub HasTermRead : RawTree → Option Raw → Type 0
 HasTermRead t (Some raw) = (raw_of raw ≡ t) × (is_too_deep true t ≡ false)
 HasTermRead t None = is_too_deep true t ≡ true
 
--- the code has the literals, or nothing where one is too deep
-abbrev pub AreLiteralsRead : RawTree → Option (Vec Raw) → Type 0
-AreLiteralsRead t (Some literals) =
-    (raw_list literals.items ≡ disjuncts t) × (read_as_clause (disjuncts t) ≡ true)
-    × (is_too_deep false t ≡ false)
-AreLiteralsRead t None = is_too_deep false t ≡ true
+-- the code has the literals and the answers, or nothing where a literal or a term is too deep
+abbrev pub AreLiteralsRead : RawTree → List ReadAnswer → Option AnsweredRaw → Type 0
+AreLiteralsRead t us (Some c) =
+    (raw_list c.literals.items ≡ disjuncts t) × (read_as_clause (disjuncts t) ≡ true)
+    × (answer_views c.answers.items ≡ us) × (is_deep_with false t us ≡ false)
+AreLiteralsRead t us None = is_deep_with false t us ≡ true
 
--- the content is one of a formula; or of a clause, and the code has it
-abbrev pub IsFormulaSeen : LineTables → List Lexeme → Type 0
-IsFormulaSeen g ts = (t : RawTree) × IsContent g true ts t
-
-abbrev pub IsClauseSeen : LineTables → List Lexeme → Option (Vec Raw) → Type 0
-IsClauseSeen g ts o = (t : RawTree) × IsContent g false ts t × AreLiteralsRead t o
+-- the content is one of a clause, and the code has it; or of a formula
+abbrev pub IsClauseSeen : LineTables → List Lexeme → Option AnsweredRaw → Type 0
+IsClauseSeen g ts o =
+    (t : RawTree) × (us : List ReadAnswer) × IsContent g false ts t us × AreLiteralsRead t us o
 
 abbrev pub IsContentSeen : LineTables → List Lexeme → ContentRead → Type 0
-IsContentSeen g ts seen.Formula = IsFormulaSeen g ts × ((t : RawTree) → ¬ IsContent g false ts t)
-IsContentSeen g ts (seen.Clause c) = IsClauseSeen g ts c × ((t : RawTree) → ¬ IsContent g true ts t)
-IsContentSeen g ts (seen.Either c) = IsFormulaSeen g ts × IsClauseSeen g ts c
+IsContentSeen g ts seen.Formula = IsSomeContent g true ts × ¬ IsSomeContent g false ts
+IsContentSeen g ts (seen.Clause c) = IsClauseSeen g ts c × ¬ IsSomeContent g true ts
+IsContentSeen g ts (seen.Either c) = IsSomeContent g true ts × IsClauseSeen g ts c
 
 abbrev pub kind_seen : ContentRead → ContentKind
 kind_seen seen.Formula = kind.Formula
 kind_seen (seen.Clause c) = kind.Clause
 kind_seen (seen.Either c) = kind.Either
 
--- what is left of the content behind the words: the term of a formula, or the literals of a clause
-abbrev pub AreTermsRead : Bool → RawTree → Terms → Type 0
-AreTermsRead true t (Formula f) = HasTermRead t f
-AreTermsRead false t (Clause c) = AreLiteralsRead t c
-AreTermsRead by_formula t terms = ⊥
+-- what is left of the content behind the words: the term of a formula, or a clause with its answers
+abbrev pub AreTermsRead : Bool → RawTree → List ReadAnswer → Terms → Type 0
+AreTermsRead true t us (Formula f) = HasTermRead t f × (us ≡ [])
+AreTermsRead false t us (Clause c) = AreLiteralsRead t us c
+AreTermsRead by_formula t us terms = ⊥
 
 abbrev pub AreTermsSeen : LineTables → Bool → List Lexeme → Terms → Type 0
 AreTermsSeen g by_formula ts terms =
-    (t : RawTree) × IsContent g by_formula ts t × AreTermsRead by_formula t terms
+    (t : RawTree) × (us : List ReadAnswer) × IsContent g by_formula ts t us
+    × AreTermsRead by_formula t us terms
 
 -- the tokens begin with content and words, and the code has both
 pub record IsBehindRead (g : LineTables) (ts : List Lexeme) (b : Behind) : Type 0 where
@@ -89,7 +89,8 @@ pub record IsPartsRead (g : LineTables) (ts : List Lexeme) (p : Parts) : Type 0 
   pub first : IsFirstLine g ts line (p.behind.len + 1)
   pub number_is : line.number ≡ p.number
   pub words_are : line.words ≡ written_of p.behind.just
-  pub terms_are : AreTermsRead (states_formula line.words.first) line.content p.behind.terms
+  pub terms_are :
+      AreTermsRead (states_formula line.words.first) line.content line.answers p.behind.terms
 
 -- nothing is said of memory
 abbrev pub IsPartFault : (ℕ → Type 0) → PartFault → Type 0
@@ -100,25 +101,29 @@ IsPartFault IsBad Memory = Unit {0}
 abbrev pub IsClauseTerm : RawTree → List Raw → Type 0
 IsClauseTerm t literals = (raw_list literals ≡ disjuncts t) × (read_as_clause (disjuncts t) ≡ true)
 
--- the term breaks no row, the code has what it states, and behind it this table
+-- the term and the answers break no row, the code has what the term states, and behind both this
+-- table
 pub record IsTermStated
-    (st : Style) (problem table : List Symbol) (by_formula : Bool) (t : RawTree) (content : Content)
-    (after : List Symbol) : Type 0 where
-  pub unmisused : line_misuse st problem table by_formula t ≡ None
+    (st : Style) (problem table : List Symbol) (by_formula : Bool) (t : RawTree)
+    (us : List ReadAnswer) (content : Content) (after : List Symbol) : Type 0 where
+  pub unmisused : line_misuse st problem table by_formula t us ≡ None
   pub content_is : IsContentOf by_formula t (line_made st table by_formula t) content
-  pub symbols : after ≡ (line_made st table by_formula t).reading.symbols
+  pub symbols : after ≡ symbols_behind st table by_formula t us
 
--- the term breaks this row at least; nothing is said of memory
-abbrev pub IsStatedFault : Style → List Symbol → List Symbol → Bool → RawTree → LineFault → Type 0
-IsStatedFault st problem table by_formula t (fault.Misused misuse) =
-    line_misuse st problem table by_formula t ≡ Some misuse
-IsStatedFault st problem table by_formula t fault.Memory = Unit {0}
-IsStatedFault st problem table by_formula t other = ⊥
+-- they break this row at least; nothing is said of memory
+abbrev pub IsStatedFault :
+    Style → List Symbol → List Symbol → Bool → RawTree → List ReadAnswer → LineFault → Type 0
+IsStatedFault st problem table by_formula t us (fault.Misused misuse) =
+    line_misuse st problem table by_formula t us ≡ Some misuse
+IsStatedFault st problem table by_formula t us fault.Memory = Unit {0}
+IsStatedFault st problem table by_formula t us other = ⊥
 
--- it is too deep, or else breaks a row
-abbrev pub IsTermFaultOf : Style → List Symbol → List Symbol → Bool → RawTree → LineFault → Type 0
-IsTermFaultOf st problem table by_formula t (fault.Bad k) = ⊥
-IsTermFaultOf st problem table by_formula t fault.Deep = is_too_deep by_formula t ≡ true
-IsTermFaultOf st problem table by_formula t (fault.Misused misuse) =
-    (is_too_deep by_formula t ≡ false) × (line_misuse st problem table by_formula t ≡ Some misuse)
-IsTermFaultOf st problem table by_formula t fault.Memory = Unit {0}
+-- they are too deep, or else break a row
+abbrev pub IsTermFaultOf :
+    Style → List Symbol → List Symbol → Bool → RawTree → List ReadAnswer → LineFault → Type 0
+IsTermFaultOf st problem table by_formula t us (fault.Bad k) = ⊥
+IsTermFaultOf st problem table by_formula t us fault.Deep = is_deep_with by_formula t us ≡ true
+IsTermFaultOf st problem table by_formula t us (fault.Misused misuse) =
+    (is_deep_with by_formula t us ≡ false)
+    × (line_misuse st problem table by_formula t us ≡ Some misuse)
+IsTermFaultOf st problem table by_formula t us fault.Memory = Unit {0}

@@ -1,5 +1,5 @@
 -- Lines to work out.
-use Rattle.std.specs.Prelude.{ℕ, List, ◌∷◌}
+use Rattle.std.specs.Prelude.{ℕ, List, [], ◌∷◌}
 use Prim.Native.String.{String}
 use Rattle.fol_core.specs.RawTree.{RawTree, RawTrees, no_raws, more_raws}
 use Rattle.ladr_lex.specs.Operators.{OperatorRow, row, standard_rows}
@@ -18,7 +18,8 @@ abbrev pub worked_tables : LineTables
 worked_tables = record { formulas = table_of standard_rows; clauses = table_of standard_rows }
 
 abbrev pub parts : ℕ → RawTree → Written → LineParts
-parts number content words = record { number = number; content = content; words = words }
+parts number content words =
+    record { number = number; content = content; answers = []; words = words }
 
 -- the operators at the start, and two before their argument: the word of an answer, and a number
 abbrev pub words_before : List OperatorRow

@@ -1,20 +1,24 @@
 // A clause that is read with answers behind it, taken apart.
-ghost use Rattle.std.specs.Prelude.{◌≡◌, ◌≤◌, length, drop, [], ◌∷◌, ◌++◌, if◌then◌else◌, IfOk, IfErr, OnOk, Some, None};
+ghost use Rattle.std.specs.Prelude.{◌≡◌, ◌≤◌, nat_le, length, drop, true, List, [], ◌∷◌, ◌++◌, if◌then◌else◌, IfOk, IfErr, OnOk, Some, None};
 ghost use Rattle.std.specs.Option.{option_map};
-ghost use Rattle.fol_core.specs.RawTree.{RawTree};
+ghost use Rattle.fol_core.specs.RawTree.{RawTree, depth_of, raws_of};
 ghost use Rattle.fol_core.specs.RawView.{raw_of, raw_list};
 ghost use Rattle.ladr_lex.specs.Lexeme.{lexemes_of};
 ghost use Rattle.ladr_reader.specs.Capped.{disjuncts};
 ghost use Rattle.ladr_reader.specs.Reads.{Item};
 ghost use Rattle.ladr_reader.specs.Table.{table_of};
 ghost use Rattle.ladr_rules.specs.Attributes.{attributes_in};
-ghost use Rattle.proof_lines.specs.AnswerMarks.{noted};
-ghost use Rattle.proof_lines.specs.Faults.{IsNoItem};
-ghost use Rattle.proof_lines.specs.Parsed.{IsPartFault};
-ghost use Rattle.proof_lines.specs.AnswersSeen.{HasAnswersRead};
-ghost use Rattle.proof_lines.specs.Answered.{all_answers, answer_read, answer_view, answer_views, continued, goal_in, goal_read, is_disjoined, number_marked, number_read};
+ghost use Rattle.proof_lines.specs.AnswerMarks.{begins_answer, noted};
+ghost use Rattle.proof_lines.specs.ContentTokens.{IsAnsweredItem};
+ghost use Rattle.proof_lines.specs.Faults.{IsNoItem, IsNoMarked};
+ghost use Rattle.proof_lines.specs.Literals.{read_as_clause};
+ghost use Rattle.proof_lines.specs.Parsed.{AreLiteralsRead, IsPartFault};
+ghost use Rattle.proof_lines.specs.AnswersSeen.{HasAnswersRead, HasAnswersSeen};
+ghost use Rattle.proof_lines.specs.Answered.{ReadAnswer, all_answers, answer_read, answer_view, answer_views, are_shallow_answers, continued, goal_in, goal_read, is_disjoined, number_marked, number_read};
+ghost use Rattle.proof_lines.specs.declared.literals.TheConstants.{MOST_ATOM_LEVELS};
 
 use crate::fault::PartFault;
+use crate::literals::{MOST_ATOM_LEVELS, are_shallow, is_within, read_as_clause};
 use crate::marks::answer_marks;
 use fol_core::{Raw, Raws};
 use ladr_lex::{Ops, Token, whole_number};
@@ -211,15 +215,15 @@ pub fn with_answers(alloc: Global, raw: Raw) -> Result<Option<AnsweredRaw>, Allo
 /// The most levels of a clause with answers that is built: its disjuncts count, so there may be some hundred of them.
 pub const MOST_ANSWERED_LEVELS: u16 = 2000;
 
-/// The clause with answers that tokens are; nothing where they are a term without answers behind it. Memory is lacking where
-/// the term has more levels than are built.
+/// The clause with answers that tokens are; nothing where they are a term without answers behind it, or with more levels than
+/// are built.
 pub fn read_answered(
     alloc: Global,
     ops: &Ops,
     tokens: &[Token],
 ) -> Result<Option<AnsweredRaw>, PartFault>
     ensures read { IfOk result (λ o. (t : RawTree) × Item (table_of ops.now)
-        (noted (lexemes_of tokens.now)) t × HasAnswersRead t o) }
+        (noted (lexemes_of tokens.now)) t × HasAnswersSeen t o) }
     ensures fault { IfErr result (IsPartFault (IsNoItem (table_of ops.now)
         (noted (lexemes_of tokens.now)))) }
 {
@@ -232,6 +236,72 @@ pub fn read_answered(
             Err(_) => Err(PartFault::Memory),
         },
         Err(TermFault::Bad(k)) => Err(PartFault::Bad(k)),
-        Err(TermFault::Deep) | Err(TermFault::Memory) => Err(PartFault::Memory),
+        Err(TermFault::Deep) => Ok(None),
+        Err(TermFault::Memory) => Err(PartFault::Memory),
+    }
+}
+
+// Whether no term of these has more than 1,000 levels.
+#[tactic(auto, using(crate::proofs::Levels::within_step))]
+fn are_within(terms: &[Raw]) -> bool
+    ensures { result ≡ nat_le (depth_of (raws_of (raw_list terms.now))) MOST_ATOM_LEVELS }
+{
+    for term in terms {
+        if !is_within(term, MOST_ATOM_LEVELS) {
+            return false;
+        }
+    }
+    true
+}
+
+// Whether no term of answers has.
+#[tactic(auto, using(crate::proofs::Levels::answer_step))]
+fn are_shallow_answers(answers: &[RawAnswer]) -> bool
+    ensures { result ≡ are_shallow_answers (answer_views answers.now) }
+{
+    for answer in answers {
+        if !are_within(answer.terms.as_slice()) {
+            return false;
+        }
+    }
+    true
+}
+
+// The clause, unless a literal or a term of its answers is too deep.
+fn unless_deep(clause: AnsweredRaw) -> Option<AnsweredRaw>
+    ensures { (t : RawTree) → raw_list clause.literals.items ≡ disjuncts t
+        → read_as_clause (disjuncts t) ≡ true
+        → AreLiteralsRead t (answer_views clause.answers.items) result }
+{
+    if are_shallow(&clause.literals) && are_shallow_answers(&clause.answers) {
+        Some(clause)
+    } else {
+        None
+    }
+}
+
+/// The clause with answers, one at least, that tokens are in which one begins, unless it is too deep.
+pub fn answered_clause(
+    alloc: Global,
+    ops: &Ops,
+    tokens: &[Token],
+) -> Result<Option<AnsweredRaw>, PartFault>
+    requires { begins_answer (lexemes_of tokens.now) ≡ true }
+    ensures read { IfOk result (λ o. (t : RawTree) × (us : List ReadAnswer)
+        × IsAnsweredItem (table_of ops.now) (lexemes_of tokens.now) t us
+        × AreLiteralsRead t us o) }
+    ensures fault { IfErr result (IsPartFault (IsNoMarked (table_of ops.now)
+        (lexemes_of tokens.now))) }
+{
+    match read_answered(alloc, ops, tokens) {
+        Ok(Some(clause)) => {
+            if read_as_clause(&clause.literals) {
+                Ok(unless_deep(clause))
+            } else {
+                Err(PartFault::Bad(tokens.len() - 1))
+            }
+        }
+        Ok(None) => Err(PartFault::Bad(tokens.len() - 1)),
+        Err(fault) => Err(fault),
     }
 }

@@ -1,20 +1,23 @@
 // The content of a line: a formula, a clause, or what may be either.
-ghost use Rattle.std.specs.Prelude.{◌≡◌, ◌≤◌, ℕ, suc, true, false, IsTrue, List, IfOk, IfErr, IfSome, IfNone, length, take, drop};
+ghost use Rattle.std.specs.Prelude.{◌≡◌, ◌⊎◌, ◌≤◌, true, false, List, [], IfOk, IfErr, IfSome, IfNone, length, take, drop};
 ghost use Rattle.fol_core.specs.RawTree.{RawTree};
 ghost use Rattle.fol_core.specs.RawView.{raw_list};
 ghost use Rattle.ladr_lex.specs.Lexeme.{Lexeme, lexeme_of, lexemes_of};
 ghost use Rattle.ladr_commands.specs.Wanted.{is_stop};
-ghost use Rattle.ladr_reader.specs.Capped.{disjuncts, all_within};
+ghost use Rattle.ladr_reader.specs.Capped.{disjuncts};
 ghost use Rattle.ladr_reader.specs.Reads.{Item};
-ghost use Rattle.ladr_reader.specs.Table.{OperatorTable, table_of};
-ghost use Rattle.proof_lines.specs.ContentTokens.{LineTables, IsClauseItem, tables_of, content_in, behind_content_in};
-ghost use Rattle.proof_lines.specs.Faults.{IsNoItem, IsNoClause, IsNoContent};
+ghost use Rattle.ladr_reader.specs.Table.{table_of};
+ghost use Rattle.proof_lines.specs.Answered.{ReadAnswer};
+ghost use Rattle.proof_lines.specs.AnswerMarks.{begins_answer};
+ghost use Rattle.proof_lines.specs.ContentTokens.{LineTables, IsPlainItem, IsFarItem, IsClauseWith, tables_of, content_in, behind_content_in};
+ghost use Rattle.proof_lines.specs.Faults.{IsNoItem, IsNoPlain, IsNoClause, IsNoContent};
 ghost use Rattle.proof_lines.specs.Parsed.{HasTermRead, AreLiteralsRead, IsContentSeen, kind_seen, AreTermsSeen, IsPartFault};
-ghost use Rattle.proof_lines.specs.Literals.{may_be_clause};
-ghost use Rattle.proof_lines.specs.declared.literals.TheConstants.{MOST_LITERAL_LEVELS};
+ghost use Rattle.proof_lines.specs.Literals.{read_as_clause};
 
+use crate::answered::{AnsweredRaw, answered_clause};
 use crate::fault::PartFault;
 use crate::literals::{MOST_LITERAL_LEVELS, are_shallow, read_as_clause};
+use crate::marks::begins_answer;
 use crate::operators::LineOperators;
 use fol_core::Raw;
 use ladr_lex::{MOST_LEVELS, Ops, Token, TokenKind};
@@ -23,19 +26,19 @@ use proof_words::ContentKind;
 use std::alloc::Global;
 
 /// Content as it is read: of a formula that is no clause, of a clause that is no formula, or of what may be either. The term of
-/// the formula isn't kept, since it and the literals may take much memory; there are no literals where one is nested too deep.
+/// the formula isn't kept, since it and the clause may take much memory; there is no clause where it is nested too deep.
 #[derive(Drop)]
 pub enum ContentRead {
     Formula,
-    Clause(Option<Vec<Raw>>),
-    Either(Option<Vec<Raw>>),
+    Clause(Option<AnsweredRaw>),
+    Either(Option<AnsweredRaw>),
 }
 
-/// The term of a formula, or the literals of a clause, unless they are nested too deep.
+/// The term of a formula, or a clause with its answers, unless they are nested too deep.
 #[derive(Drop)]
 pub enum Terms {
     Formula(Option<Raw>),
-    Clause(Option<Vec<Raw>>),
+    Clause(Option<AnsweredRaw>),
 }
 
 impl ContentRead {
@@ -50,7 +53,7 @@ impl ContentRead {
         }
     }
 
-    /// The literals of a clause, or else nothing.
+    /// The clause, or else nothing.
     pub fn into_clause(self, of_formula: bool) -> Option<Terms>
         requires { (kind_seen self ≡ ContentKind.Formula → of_formula ≡ true)
             × (kind_seen self ≡ ContentKind.Clause → of_formula ≡ false) }
@@ -133,42 +136,93 @@ fn formula_seen(alloc: Global, ops: &Ops, tokens: &[Token]) -> Result<Option<Raw
     }
 }
 
-/// The literals of a clause that the tokens are.
-pub fn clause_seen(
+// The clause without answers that tokens are, read for that; it isn't there where it is too deep.
+fn plain_clause(
     alloc: Global,
     ops: &Ops,
     tokens: &[Token],
-) -> Result<Option<Vec<Raw>>, PartFault>
-    ensures read { IfOk result (λ o. (t : RawTree) × IsClauseItem (table_of ops.now)
-        (lexemes_of tokens.now) t × AreLiteralsRead t o) }
-    ensures fault { IfErr result (IsPartFault (IsNoClause (table_of ops.now)
+) -> Result<Option<AnsweredRaw>, PartFault>
+    ensures read { IfOk result (λ o. (t : RawTree)
+        × (IsPlainItem (table_of ops.now) (lexemes_of tokens.now) t
+        ⊎ IsFarItem (table_of ops.now) (lexemes_of tokens.now) t) × AreLiteralsRead t [] o) }
+    ensures fault { IfErr result (IsPartFault (IsNoPlain (table_of ops.now)
         (lexemes_of tokens.now))) }
 {
     match read_literals(alloc, ops, tokens, MOST_LITERAL_LEVELS) {
-        Ok(literals) => as_clause(literals, tokens),
+        Ok(literals) => {
+            if read_as_clause(&literals) {
+                Ok(without_answers(alloc, literals))
+            } else {
+                Err(PartFault::Bad(tokens.len() - 1))
+            }
+        }
         Err(TermFault::Deep) => Ok(None),
         Err(TermFault::Bad(k)) => Err(PartFault::Bad(k)),
         Err(TermFault::Memory) => Err(PartFault::Memory),
     }
 }
 
-// Disjuncts as literals.
-fn as_clause(literals: Vec<Raw>, tokens: &[Token]) -> Result<Option<Vec<Raw>>, PartFault>
-    requires { (g : OperatorTable) × (t : RawTree) × Item g (lexemes_of tokens.now) t }
-    ensures read { (t : RawTree) → raw_list literals.items ≡ disjuncts t
-        → IfOk result (λ o. IsTrue (may_be_clause t) × AreLiteralsRead t o) }
-    ensures fault { (t : RawTree) → raw_list literals.items ≡ disjuncts t
-        → all_within MOST_LITERAL_LEVELS (disjuncts t) ≡ true
-        → IfErr result (IsPartFault (λ k. (suc k ≡ length (lexemes_of tokens.now))
-        × (may_be_clause t ≡ false))) }
+// The clause with answers, or else without, that tokens are in which an answer begins.
+#[tactic(auto, using(crate::proofs::AnsweredClauses::neither))]
+fn either_clause(
+    alloc: Global,
+    ops: &Ops,
+    tokens: &[Token],
+) -> Result<Option<AnsweredRaw>, PartFault>
+    requires { begins_answer (lexemes_of tokens.now) ≡ true }
+    ensures read { IfOk result (λ o. (t : RawTree) × (us : List ReadAnswer)
+        × IsClauseWith (table_of ops.now) (lexemes_of tokens.now) t us
+        × AreLiteralsRead t us o) }
+    ensures fault { IfErr result (IsPartFault (IsNoClause (table_of ops.now)
+        (lexemes_of tokens.now))) }
 {
-    if !read_as_clause(&literals) {
-        return Err(PartFault::Bad(tokens.len() - 1));
+    match answered_clause(alloc, ops, tokens) {
+        Ok(clause) => Ok(clause),
+        Err(PartFault::Bad(k)) => match plain_clause(alloc, ops, tokens) {
+            Ok(clause) => Ok(clause),
+            Err(PartFault::Bad(j)) => Err(PartFault::Bad(j.max(k))),
+            Err(PartFault::Memory) => Err(PartFault::Memory),
+        },
+        Err(PartFault::Memory) => Err(PartFault::Memory),
     }
+}
+
+/// The clause that the tokens are, with its answers. Tokens in which an answer begins are looked at as a clause with answers
+/// first.
+#[tactic(auto, using(crate::proofs::AnsweredClauses::never_begun))]
+pub fn clause_seen(
+    alloc: Global,
+    ops: &Ops,
+    tokens: &[Token],
+) -> Result<Option<AnsweredRaw>, PartFault>
+    ensures read { IfOk result (λ o. (t : RawTree) × (us : List ReadAnswer)
+        × IsClauseWith (table_of ops.now) (lexemes_of tokens.now) t us
+        × AreLiteralsRead t us o) }
+    ensures fault { IfErr result (IsPartFault (IsNoClause (table_of ops.now)
+        (lexemes_of tokens.now))) }
+{
+    if begins_answer(tokens) {
+        return either_clause(alloc, ops, tokens);
+    }
+    match plain_clause(alloc, ops, tokens) {
+        Ok(clause) => Ok(clause),
+        Err(PartFault::Bad(k)) => Err(PartFault::Bad(k)),
+        Err(PartFault::Memory) => Err(PartFault::Memory),
+    }
+}
+
+// A clause without answers, unless it is too deep.
+fn without_answers(alloc: Global, literals: Vec<Raw>) -> Option<AnsweredRaw>
+    ensures { (t : RawTree) → raw_list literals.items ≡ disjuncts t
+        → read_as_clause (disjuncts t) ≡ true → AreLiteralsRead t [] result }
+{
     if are_shallow(&literals) {
-        Ok(Some(literals))
+        Some(AnsweredRaw {
+            literals,
+            answers: Vec::new(alloc),
+        })
     } else {
-        Ok(None)
+        None
     }
 }
 
@@ -184,7 +238,7 @@ fn formula_found(alloc: Global, ops: &Ops, tokens: &[Token]) -> Result<(), PartF
 }
 
 /// What the tokens of content are.
-#[tactic(auto, using(crate::proofs::Clauses::no_clause_none, crate::proofs::Clauses::no_item_within, crate::proofs::Clauses::no_clause_within, crate::proofs::Contents::lexemes_long))]
+#[tactic(auto, using(crate::proofs::Clauses::no_item_within, crate::proofs::AnsweredClauses::no_clause_within, crate::proofs::Contents::lexemes_long))]
 pub fn read_content(
     alloc: Global,
     operators: &LineOperators,

@@ -8,14 +8,16 @@
 // Once all is read the content is looked at: how deep it is and whether it is a clause (`literals.rt`), what it states
 // and breaks (`stating.rt`), and whether it brings a relation that is named like a Skolem symbol (`strays.rt`), where
 // the names of the problem's symbols are looked up in a set that is made once for a text.
-// `marks.rt` tells which tokens of a clause are names because an answer begins there (`specs/AnswerMarks`), whatever
-// operators the problem has, and `answered.rt` takes a clause that is read so apart from its answers (`specs/Answered`).
+// Tokens that are no clause are read as a clause with answers behind it: `marks.rt` tells which of them are names because
+// an answer begins there (`specs/AnswerMarks`), whatever operators the problem has, and `answered.rt` takes the term that
+// is read so apart (`specs/Answered`). The terms of all answers are read behind the clause, in one list (`counted.rt`).
 // `specs/Lines` says what tokens are a line, `specs/Faults` which token is bad, by the parts. `laws.rt` states that
 // tokens begin with one line at most, that they have one fault at most, and that no line goes on with a bad token.
 #![tactic(auto)]
 
 mod answered;
 mod content;
+mod counted;
 mod fault;
 mod laws;
 mod line;

@@ -6,7 +6,7 @@ ghost use Rattle.ladr_formulas.specs.declared.styles.Mode.TheVariants.{Prover};
 ghost use Rattle.ladr_lex.specs.Lexeme.{lexemes_of};
 ghost use Rattle.proof_lines.specs.ContentTokens.{tables_of};
 ghost use Rattle.proof_lines.specs.Faults.{IsLineFault, IsLineRead};
-ghost use Rattle.proof_lines.specs.Noted.{AreNotesRead, is_goal_word};
+ghost use Rattle.proof_lines.specs.Noted.{is_goal_word};
 ghost use Rattle.proof_lines.specs.Strays.{AreNamesOf};
 ghost use Rattle.proof_words.specs.Written.{written_first};
 
@@ -49,8 +49,6 @@ pub fn read_line(
     ensures read { IfOk result (λ r. IsLineRead (tables_of operators.now) (style_of Prover
         problem.now.options.prolog_style_variables) problem.now.symbols symbols.old
         (lexemes_of tokens.now) r symbols.new) }
-    ensures notes { IfOk result (AreNotesRead (tables_of operators.now) (style_of Prover
-        problem.now.options.prolog_style_variables) symbols.old (lexemes_of tokens.now)) }
     ensures fault { IfErr result (IsLineFault (tables_of operators.now) (style_of Prover
         problem.now.options.prolog_style_variables) problem.now.symbols symbols.old
         (lexemes_of tokens.now)) }

@@ -127,9 +127,9 @@ pub fn are_shallow(literals: &[Raw]) -> bool
     true
 }
 
-// Whether a term has at most so many levels.
+/// Whether a term has at most so many levels.
 #[tactic(auto, using(crate::proofs::Levels::within_step, crate::proofs::Levels::named_within))]
-fn is_within(raw: &Raw, most: u16) -> bool
+pub fn is_within(raw: &Raw, most: u16) -> bool
     ensures { result ≡ nat_le (depth (raw_of raw.now)) most }
 {
     if most == 0 {

@@ -1,7 +1,7 @@
 // Which tokens of a clause are names because an answer begins there.
 ghost use Rattle.std.specs.Prelude.{◌≡◌, IfOk};
 ghost use Rattle.ladr_lex.specs.Lexeme.{lexeme_of, lexemes_of};
-ghost use Rattle.proof_lines.specs.AnswerMarks.{answer_marks, is_answer_word, is_goal_number, is_hash, is_name_at, is_open, spot_behind};
+ghost use Rattle.proof_lines.specs.AnswerMarks.{answer_marks, begins_answer, is_answer_word, is_goal_number, is_hash, is_name_at, is_open, spot_behind};
 
 use ladr_lex::{Token, TokenKind, whole_number};
 use std::alloc::{AllocError, Global};
@@ -95,6 +95,21 @@ fn spot_behind(spot: Spot, token: &Token) -> Spot
         }
         Spot::Elsewhere => Spot::Elsewhere,
     }
+}
+
+/// Whether an answer begins somewhere.
+#[tactic(auto, using(crate::proofs::Noting::begins_here, crate::proofs::Noting::begins_later, crate::proofs::Noting::begins_nowhere))]
+pub fn begins_answer(tokens: &[Token]) -> bool
+    ensures { result ≡ begins_answer (lexemes_of tokens.now) }
+{
+    let mut spot = Spot::Elsewhere;
+    for token in tokens {
+        if is_name_at(spot, token) {
+            return true;
+        }
+        spot = spot_behind(spot, token);
+    }
+    false
 }
 
 /// Of each token, whether it is a name since an answer begins there: `answer` behind a `#`, and the number behind `# answer (`.

@@ -67,13 +67,13 @@ upto_front (suc n) k h =
       | inr m ↦ (let i : k ≤ length (upto n) = omega (arith, upto_length n) in take-append-le k (upto n) (n ∷ []) i ∙ upto_front n k m)
     ]
 
-upto_prefix : (xs zs : List ℕ) (n : ℕ) → xs ++ zs ≡ upto n → (xs ≡ upto (length xs)) × (length xs ≤ n)
+pub upto_prefix : (xs zs : List ℕ) (n : ℕ) → xs ++ zs ≡ upto n → (xs ≡ upto (length xs)) × (length xs ≤ n)
 upto_prefix xs zs n e =
     let size : length xs + length zs ≡ n = sym (length-append xs zs) ∙ ap length e ∙ upto_length n in
     let within : length xs ≤ n = omega arith in
     (sym (take-append_seam xs zs) ∙ ap (take (length xs)) e ∙ upto_front n (length xs) within, within)
 
-same_numbers : (n m : ℕ) → upto n ≡ upto m → n ≡ m
+pub same_numbers : (n m : ℕ) → upto n ≡ upto m → n ≡ m
 same_numbers n m e = sym (upto_length n) ∙ ap length e ∙ upto_length m
 
 -- a variable is old or the next one
@@ -112,7 +112,7 @@ module _ (st : Style) (plain : st.elements ≡ false) (T : List Symbol) (few : l
   v = clause_variable st.prolog
 
   -- what is read behind the table, with the first n variables
-  abbrev state : ℕ → Bool → Reading
+  abbrev pub state : ℕ → Bool → Reading
   state n large = record { symbols = T; variables = first_variables st.prolog n; least = None; large = large }
 
   -- a symbol of the table is read as itself; so is each that passes a test
@@ -209,7 +209,7 @@ module _ (st : Style) (plain : st.elements ≡ false) (T : List Symbol) (few : l
   abbrev TermRead : Tree → ℕ → ℕ → Bool → Type 0
   TermRead t n m large = (after : Bool) × (term_of st [] (state n large) (term_raw T v t) ≡ record { tree = t; reading = state m after })
 
-  abbrev TermsRead : Trees → ℕ → ℕ → Bool → Type 0
+  abbrev pub TermsRead : Trees → ℕ → ℕ → Bool → Type 0
   TermsRead ts n m large = (after : Bool) × (terms_of st [] (state n large) (terms_raw T v ts) ≡ record { tree = ts; reading = state m after })
 
   -- a variable
@@ -265,13 +265,13 @@ module _ (st : Style) (plain : st.elements ≡ false) (T : List Symbol) (few : l
   not_great name = ap (λ (b : Bool). (b && is_numeral name) && nat_lt MOST_ELEMENT (limited_number_of name)) plain
 
   -- the first numbers between two lists of variables
-  record Between (n : ℕ) (xs ys : List ℕ) (m : ℕ) : Type 0 where
-    middle : ℕ
-    front : joined (upto n) xs ≡ upto middle
-    back : joined (upto middle) ys ≡ upto m
-    within : middle ≤ m
+  pub record Between (n : ℕ) (xs ys : List ℕ) (m : ℕ) : Type 0 where
+    pub middle : ℕ
+    pub front : joined (upto n) xs ≡ upto middle
+    pub back : joined (upto middle) ys ≡ upto m
+    pub within : middle ≤ m
 
-  between : (n : ℕ) (xs ys : List ℕ) (m : ℕ) → joined (upto n) (joined xs ys) ≡ upto m → Between n xs ys m
+  pub between : (n : ℕ) (xs ys : List ℕ) (m : ℕ) → joined (upto n) (joined xs ys) ≡ upto m → Between n xs ys m
   between n xs ys m e =
       let whole : joined (joined (upto n) xs) ys ≡ upto m = sym (joined_joined (upto n) xs ys) ∙ e in
       let behind = joined_more (joined (upto n) xs) ys in
@@ -306,7 +306,7 @@ module _ (st : Style) (plain : st.elements ≡ false) (T : List Symbol) (few : l
               ∙ ap (λ (j : ℕ). record { tree = app j (more t ts); reading = state m rest.0 }) (ap (λ (j : ℕ). unwrap_or (number_of T name j) 0) count ∙ known_number s (suc (many ts)) Function k),
         )
 
-    terms_read : (ts : Trees) → AreOver T ts → HaveFunctions T ts → AreOwn (λ j. have_symbol j ts) → (n m : ℕ) (large : Bool) → m ≤ 2 ^ 64 → joined (upto n) (variables_of_all ts) ≡ upto m → TermsRead ts n m large
+    pub terms_read : (ts : Trees) → AreOver T ts → HaveFunctions T ts → AreOwn (λ j. have_symbol j ts) → (n m : ℕ) (large : Bool) → m ≤ 2 ^ 64 → joined (upto n) (variables_of_all ts) ≡ upto m → TermsRead ts n m large
     terms_read none h f u n m large size e = (large, ap (λ (k : ℕ). record { tree = none; reading = state k large }) (same_numbers n m e))
     terms_read (more t ts) h f u n m large size e =
         let b = between n (variables_of t) (variables_of_all ts) m e in

@@ -17,7 +17,7 @@ use Rattle.ladr_print.specs.FormulaText.{denial}
 use Rattle.ladr_print.specs.HasText.{many, IsSymbolOf, IsAtomOver, IsClauseOver}
 use Rattle.ladr_print.specs.TermText.{Naming, clause_variable, symbol_name, term_raw, terms_raw}
 use Rattle.ladr_reader.specs.Capped.{is_bar, disjuncts}
-use Rattle.proof_lines.specs.Literals.{joins_formulas, reads_as_atom, is_inequation, reads_as_literal, is_false, read_as_clause, may_be_clause}
+use Rattle.proof_lines.specs.Literals.{joins_formulas, reads_as_atom, is_inequation, reads_as_literal, is_false, read_as_clause}
 use Rattle.proof_print.specs.Rereadable.{names_relation, clause_uses, IsAtomOfKinds, IsClauseOfKinds}
 use Rattle.proof_print.proofs.ClauseReading.{AreOwn, head_own, first_own, others_own, known, arity_count, no_equality, or_false, not_true}
 
@@ -132,8 +132,8 @@ module _ (st : Style) (plain : st.elements ≡ false) (T : List Symbol) (few : l
   reads_as l [] h = or_true (is_false (literal_raw T v l)) _ (and_parts _ _ h).0
   reads_as l (m ∷ ls) h = h
 
-  pub stands : (c : ClauseTree) → IsClauseOver T c → IsClauseOfKinds T c → Own (clause_uses c) → may_be_clause (clause_raw T v c) ≡ true
+  pub stands : (c : ClauseTree) → IsClauseOver T c → IsClauseOfKinds T c → Own (clause_uses c) → read_as_clause (disjuncts (clause_raw T v c)) ≡ true
   stands [] h k u = refl
   stands (l ∷ ls) h k u =
       let s = all_single l ls h k u in
-      or_true _ _ (ap read_as_clause s.are ∙ reads_as l ls s.all)
+      ap read_as_clause s.are ∙ reads_as l ls s.all

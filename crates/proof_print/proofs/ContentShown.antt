@@ -1,5 +1,5 @@
 -- The texts of contents, with their tokens, which are read as the contents.
-use Rattle.std.proofs.Common.{◌≡◌, ℕ, Bool, true, false, List, [], ◌∷◌, ◌++◌, length, drop, Some, None, refl, sym, ap, ◌∙◌, subst, arith}
+use Rattle.std.proofs.Common.{◌≡◌, inl, ℕ, Bool, true, false, List, [], ◌∷◌, ◌++◌, length, drop, Some, None, refl, sym, ap, ◌∙◌, subst, arith}
 use Rattle.std.specs.List.{list_any}
 use Rattle.std.proofs.lemmas.List.{drop_all}
 use Rattle.derivation.specs.declared.line.Content.{Content}
@@ -32,10 +32,16 @@ use Rattle.ladr_reader.specs.Table.{OperatorTable, table_of}
 use Rattle.ladr_reader.proofs.Lawful.{table_lawful, reads_at_most}
 use Rattle.proof_lines.specs.ContentTokens.{LineTables, IsContent}
 use Rattle.proof_lines.specs.Strays.{brings_stray, is_stray_relation}
+use Rattle.proof_lines.proofs.AnsweredClauses.{unbegun}
+use Rattle.proof_lines.proofs.Clauses.{near_clause}
+use Rattle.proof_lines.specs.AnswerMarks.{begins_answer}
+use Rattle.std.proofs.lemmas.Bool.{false≢true}
 use Rattle.proof_print.specs.LineTexts.{formula_term, content_text}
 use Rattle.proof_print.specs.Reread.{CanPrint, IsPrintableClause, IsContentTerm, IsPrintableContent, states_content, row_tables}
 use Rattle.proof_print.proofs.ClauseReading.{clause_read}
 use Rattle.proof_print.proofs.ClauseShapes.{stands}
+use Rattle.proof_print.proofs.Hashless.{plain_begun, read_plain}
+use Rattle.proof_print.proofs.HashlessClauses.{clause_hashless}
 use Rattle.proof_print.proofs.NamedClauses.{clause_has}
 use Rattle.proof_print.proofs.Numbered.{numbered_upto}
 
@@ -63,6 +69,10 @@ shows_item rows t l h =
       item = record { tokens = x.tokens; precedence = precedence g t; reads = x.reads; bounded = reads_at_most g lawful x.reads; stops = refl };
     }
 
+-- a table that stays brings no stray relation
+pub no_strays : (problem T : List Symbol) → brings_stray problem (length T) T ≡ false
+no_strays problem T = ap (list_any (is_stray_relation problem)) (drop_all (length T) T (omega arith))
+
 -- what a clause's term is read as
 clause_term : (rows : List OperatorRow) (prolog : Bool) (problem T : List Symbol) (c : ClauseTree) → CanPrint rows prolog T → IsPrintableClause (table_of rows) prolog T c →
     IsContentTerm (style_of Prover prolog) problem T false (clause_raw T (clause_variable prolog) c) (Clause c)
@@ -71,12 +81,12 @@ clause_term rows prolog problem T c can p =
     let t = clause_raw T (clause_variable prolog) c in
     let r = clause_read st refl T can.few can.finds c (length (clause_variables c)) p.over p.kinds (λ s h e. (p.readable s h e).itself) p.few (numbered_upto c p.numbered) in
     let behind : Reading = record { symbols = T; variables = first_variables prolog (length (clause_variables c)); least = None; large = r.after } in
-    let strays : list_any (is_stray_relation problem) (drop (length T) T) ≡ false = ap (list_any (is_stray_relation problem)) (drop_all (length T) T (omega arith)) in
     record {
       shallow = p.shallow;
       unmisused =
           ap (λ (m : Made Fol). (meets (brings_stray problem (length T) m.reading.symbols) TwoKinds (meets false UnfitAttribute m.reading)).least) r.read
-          ∙ ap (λ (b : Bool). (meets b TwoKinds behind).least) strays;
+          ∙ ap (λ (b : Bool). (meets b TwoKinds behind).least) (no_strays problem T);
+      asks = λ e. absurd (false≢true e);
       means = ap (λ (m : Made Fol). clause_in m.tree) r.read ∙ r.is;
       symbols = ap (λ (m : Made Fol). m.reading.symbols) r.read;
     }
@@ -86,7 +96,7 @@ pub record ShowsContent (g : LineTables) (prolog : Bool) (problem table : List S
   pub tokens : List Lexeme
   pub tree : RawTree
   pub writes : Writes (content_text g table prolog content) tokens
-  pub is_content : IsContent g (states_content content) (tokens ++ full_stop ∷ []) tree
+  pub is_content : IsContent g (states_content content) (tokens ++ full_stop ∷ []) tree []
   pub is_read : IsContentTerm (style_of Prover prolog) problem table (states_content content) tree content
 
 pub shows_content : (formulas clauses : List OperatorRow) (prolog : Bool) (problem T : List Symbol) (content : Content) → are_lawful formulas ≡ true → CanPrint clauses prolog T →
@@ -94,7 +104,7 @@ pub shows_content : (formulas clauses : List OperatorRow) (prolog : Bool) (probl
 shows_content formulas clauses prolog problem T (Formula f label) l can p =
     let t = formula_term T (fol_of f.shape) f.names label in
     let s = shows_item formulas t l p.0 in
-    record { tokens = s.tokens; tree = t; writes = s.writes; is_content = s.item; is_read = p.1 }
+    record { tokens = s.tokens; tree = t; writes = s.writes; is_content = (s.item, refl); is_read = p.1 }
 shows_content formulas clauses prolog problem T (Clause c) l can p =
     let st = style_of Prover prolog in
     let v = clause_variable prolog in
@@ -105,6 +115,10 @@ shows_content formulas clauses prolog problem T (Clause c) l can p =
       tokens = s.tokens;
       tree = t;
       writes = subst (λ (b : List ℕ). Writes b s.tokens) (sym text) s.writes;
-      is_content = (s.item, stands st refl T can.few can.finds c p.over p.kinds (λ n h e. (p.readable n h e).itself));
+      is_content = (
+        inl (s.item, near_clause t p.shallow, stands st refl T can.few can.finds c p.over p.kinds (λ n h e. (p.readable n h e).itself)),
+        unbegun (table_of clauses) (s.tokens ++ full_stop ∷ [])
+            (ap begins_answer s.item.stops ∙ plain_begun s.item.tokens (full_stop ∷ []) (read_plain (table_of clauses) s.item.reads (clause_hashless st refl T can.few can.finds c p.over (λ n h e. (p.readable n h e).itself)))),
+      );
       is_read = clause_term clauses prolog problem T c can p;
     }

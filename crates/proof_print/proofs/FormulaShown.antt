@@ -1,6 +1,6 @@
 -- A formula that some text states is read again from its printed text, with its label.
 use Rattle.std.proofs.Common.{◌≡◌, ℕ, Bool, true, false, List, [], length, Option, Some, None, inl, inr, refl, sym, ap, ◌∙◌, subst, arith, drop}
-use Rattle.std.specs.Prelude.{codes}
+use Rattle.std.specs.Prelude.{codes, option_map}
 use Rattle.std.specs.List.{list_any}
 use Rattle.std.specs.Str.{bytes_eq}
 use Rattle.std.proofs.lemmas.Bool.{cases_Bool, cond-false}
@@ -30,6 +30,7 @@ use Rattle.ladr_print.proofs.Printing.{text_has}
 use Rattle.ladr_print.proofs.Rereading.{turned, reread}
 use Rattle.ladr_print.proofs.Stating.{Brings, brings, turned_has, names_found}
 use Rattle.ladr_reader.specs.Table.{table_of}
+use Rattle.ladr_rules.specs.Asked.{asked_with, first_asking, front_of, line_asks}
 use Rattle.ladr_rules.specs.Attributes.{Attributed, attributed, label_of, is_hint_weight, has_unfit_weight}
 use Rattle.proof_lines.specs.Stated.{is_too_deep, line_made}
 use Rattle.proof_lines.specs.Strays.{brings_stray, is_stray_relation}
@@ -64,9 +65,13 @@ record Labelled (label : Option RawTree) (t : RawTree) : Type 0 where
   formula : (attributed (with_attribute label t)).formula ≡ t
   fit : has_unfit_weight (attributed (with_attribute label t)).attributes ≡ false
   kept : label_of (attributed (with_attribute label t)).attributes ≡ label
+  asks : line_asks (with_attribute label t) ≡ None
 
 label_no_weight : (s : List ℕ) (t : RawTree) → bytes_eq s (codes "label") ≡ true → is_hint_weight (named s (more_raws t no_raws)) ≡ false
 label_no_weight s t h = subst (λ (n : List ℕ). is_hint_weight (named n (more_raws t no_raws)) ≡ false) (sym ((bytes_eq-Decides s (codes "label")).0 h)) refl
+
+label_no_answer : (s : List ℕ) → bytes_eq s (codes "label") ≡ true → bytes_eq s (codes "answer") ≡ false
+label_no_answer s h = subst (λ (n : List ℕ). bytes_eq n (codes "answer") ≡ false) (sym ((bytes_eq-Decides s (codes "label")).0 h)) refl
 
 labelled : (label : Option RawTree) (t : RawTree) → is_kept_label label ≡ true → attributed t ≡ record { formula = t; attributes = [] } → Labelled label t
 labelled None t k e =
@@ -74,12 +79,14 @@ labelled None t k e =
       formula = ap (λ (a : Attributed). a.formula) e;
       fit = ap (λ (a : Attributed). has_unfit_weight a.attributes) e;
       kept = ap (λ (a : Attributed). label_of a.attributes) e;
+      asks = ap (λ (a : Attributed). option_map (asked_with (front_of [] a.formula)) (first_asking a.attributes)) e;
     }
 labelled (Some (named s (more_raws u no_raws))) t k e =
     record {
       formula = refl;
       fit = (let w = label_no_weight s u k in rw w refl);
       kept = rw k refl;
+      asks = (let w = label_no_answer s k in rw w refl);
     }
 labelled (Some (named s no_raws)) t k e = absurd (cc)
 labelled (Some (named s (more_raws u (more_raws w ts)))) t k e = absurd (cc)
@@ -140,6 +147,7 @@ module _ (rows : List OperatorRow) (prolog : Bool) (problem T : List Symbol) (fi
         unmisused =
             (λ i. (meets (brings_stray problem (length T) (made_is i).reading.symbols) TwoKinds (meets (parts.fit i) UnfitAttribute (made_is i).reading)).least)
             ∙ ap (λ (b : Bool). (meets b TwoKinds (made_behind T m).reading).least) strays ∙ given.among.clean;
+        asks = λ e. parts.asks;
         means = (
           sym given.tree_is ∙ ap (λ (r : Made Fol). r.tree) (sym made_is),
           sym given.names_are ∙ ap (λ (r : Made Fol). names_of_variables r.reading.variables) (sym made_is),

@@ -1,8 +1,12 @@
+pub mod AnswersRead
+pub mod AnswersShown
 pub mod ClauseReading
 pub mod ClauseShapes
 pub mod ContentShown
 pub mod FormulaShown
 pub mod FormulaSymbols
+pub mod Hashless
+pub mod HashlessClauses
 pub mod Joined
 pub mod LinesBack
 pub mod NamedClauses

@@ -1,14 +1,19 @@
 -- Printed lines are read as the lines.
-use Rattle.std.proofs.Common.{◌≡◌, ℕ, ◌+◌, Bool, true, List, [], ◌∷◌, ◌++◌, length, take, Option, None, refl, sym, ap, subst, append_assoc, arith}
-use Rattle.std.specs.Prelude.{is_some, unwrap_or, codes}
+use Rattle.std.proofs.Common.{◌≡◌, ◌∙◌, ℕ, ◌+◌, Bool, true, false, List, [], ◌∷◌, ◌++◌, length, take, Option, None, refl, sym, ap, subst, append_assoc, arith}
+use Rattle.std.specs.Prelude.{is_some, option_map, unwrap_or, codes}
 use Rattle.std.specs.Fmt.{decimal}
 use Rattle.std.proofs.lemmas.List.{length-append, append-nil}
 use Rattle.std.proofs.Math.Seq.{take-append_seam, drop-append_seam}
 use Rattle.derivation.specs.declared.line.Content.{Content}
 use Rattle.derivation.specs.declared.line.Line.{Line}
+use Rattle.answers.specs.AnswerView.{answers_of}
+use Rattle.fol_core.specs.RawTree.{RawTree}
 use Rattle.fol_core.specs.SymbolTable.{Symbol}
 use Rattle.ladr_formulas.specs.Formulas.{style_of}
 use Rattle.ladr_formulas.specs.declared.styles.Mode.TheVariants.{Prover}
+use Rattle.ladr_formulas.specs.declared.styles.Style.{Style}
+use Rattle.ladr_rules.specs.Asked.{line_asks}
+use Rattle.std.proofs.lemmas.Bool.{false≢true}
 use Rattle.ladr_lex.specs.Bytes.{is_blank, is_ordinary, is_special}
 use Rattle.ladr_lex.specs.Cuts.{IsLongest, gap}
 use Rattle.ladr_lex.specs.Starts.{start_of}
@@ -20,7 +25,9 @@ use Rattle.ladr_print.proofs.Writes.{Has, Alone, follow, whole_has, before_alone
 use Rattle.proof_lines.specs.ContentTokens.{LineTables, IsContent}
 use Rattle.proof_lines.specs.Faults.{IsLineRead}
 use Rattle.proof_lines.specs.Lines.{LineParts, IsProofLine}
-use Rattle.proof_words.specs.Written.{Written, written_of}
+use Rattle.proof_lines.specs.Noted.{asks_if, is_goal_word, places_kept}
+use Rattle.proof_lines.specs.Stated.{line_made}
+use Rattle.proof_words.specs.Written.{Written, WrittenFirst, as_assumption, as_goal, by_clausify, by_deny, by_copy, by_back_rewrite, by_back_unit_del, by_resolve, by_hyper, by_ur, by_factor, by_para, by_xx_res, by_instantiate, written_of, states_formula}
 use Rattle.proof_print.specs.LineTexts.{content_text, line_text, lines_text}
 use Rattle.proof_print.specs.Reread.{CanPrint, IsContentTerm, IsPrintableContent, row_tables, IsCutInto, IsPrintableLine, ArePrintable, AreLinesRead, ReadsContent, ReadsLines}
 use Rattle.proof_print.proofs.ContentShown.{ShowsContent, shows_content}
@@ -45,6 +52,30 @@ blank_has : (b : ℕ) (r : List ℕ) (us : List Lexeme) → IsLongest None (b �
 blank_has b r us l h i =
     let rest = h (i + 1) in
     record { pieces = rest.pieces; cuts = gap l rest.cuts; are = rest.are }
+
+-- a formula without an attribute for it asks for nothing
+goal_states : (w : WrittenFirst) → is_goal_word w ≡ true → states_formula w ≡ true
+goal_states as_assumption e = refl
+goal_states as_goal e = refl
+goal_states (by_clausify n) e = absurd (false≢true e)
+goal_states (by_deny n) e = absurd (false≢true e)
+goal_states (by_copy n) e = absurd (false≢true e)
+goal_states (by_back_rewrite n) e = absurd (false≢true e)
+goal_states (by_back_unit_del n) e = absurd (false≢true e)
+goal_states (by_resolve n s) e = absurd (false≢true e)
+goal_states (by_hyper n ss) e = absurd (false≢true e)
+goal_states (by_ur n ss) e = absurd (false≢true e)
+goal_states (by_factor n a b) e = absurd (false≢true e)
+goal_states (by_para n a b c d es) e = absurd (false≢true e)
+goal_states (by_xx_res n a) e = absurd (false≢true e)
+goal_states (by_instantiate n es) e = absurd (false≢true e)
+
+asks_none : (w : WrittenFirst) (st : Style) (T : List Symbol) (t : RawTree) → (states_formula w ≡ true → line_asks t ≡ None) → asks_if (is_goal_word w) st T t ≡ None
+asks_none w st T t h = by (is_goal_word w) refl
+  where
+    by : (b : Bool) → is_goal_word w ≡ b → asks_if b st T t ≡ None
+    by true e = ap (option_map (places_kept (line_made st T true t).tree)) (h (goal_states w e))
+    by false e = refl
 
 module _ (formulas clauses : List OperatorRow) (prolog : Bool) (problem T : List Symbol) (lawful : are_lawful formulas ≡ true) (can : CanPrint clauses prolog T) where
   abbrev g : LineTables
@@ -95,7 +126,7 @@ module _ (formulas clauses : List OperatorRow) (prolog : Bool) (problem T : List
       let w = written_of l.just in
       let st = style_of Prover prolog in
       let ts = line_tokens l p in
-      let parts : LineParts = record { number = l.number; content = s.tree; words = w } in
+      let parts : LineParts = record { number = l.number; content = s.tree; answers = []; words = w } in
       let whole : take (length ts) (ts ++ vs) ≡ ts = take-append_seam ts vs in
       let line : IsProofLine g ts parts = record {
         number = number_token l.number;
@@ -104,7 +135,7 @@ module _ (formulas clauses : List OperatorRow) (prolog : Bool) (problem T : List
         split = refl;
         is_number = ap is_some (whole_decimal l.number p.number);
         number_is = sym (ap (λ (o : Option ℕ). unwrap_or o 0) (whole_decimal l.number p.number));
-        content = subst (λ (b : Bool). IsContent g b (s.tokens ++ full_stop ∷ []) s.tree) (sym p.suits) s.is_content;
+        content = subst (λ (b : Bool). IsContent g b (s.tokens ++ full_stop ∷ []) s.tree []) (sym p.suits) s.is_content;
         says = said w p.words;
       } in
       let read = subst (λ (b : Bool). IsContentTerm st problem T b s.tree l.content) (sym p.suits) s.is_read in
@@ -113,7 +144,13 @@ module _ (formulas clauses : List OperatorRow) (prolog : Bool) (problem T : List
         first = (omega (arith, length-append ts vs), subst (λ (us : List Lexeme). IsProofLine g us parts) (sym whole) line);
         shallow = read.shallow;
         unmisused = read.unmisused;
-        line = record { number = refl; words = refl; content = read.means };
+        line = record {
+          number = refl;
+          words = refl;
+          content = read.means;
+          asks = p.asks ∙ sym (asks_none w.first st T s.tree read.asks);
+          answers = ap answers_of p.answers;
+        };
         symbols = sym read.symbols;
       }
 
@@ -139,7 +176,7 @@ module _ (formulas clauses : List OperatorRow) (prolog : Bool) (problem T : List
   )
 
 -- what is cut into tokens
-cut_at : (bytes : List ℕ) (us : List Lexeme) → Has bytes us → (i : ℕ) → IsCutInto i bytes us
+pub cut_at : (bytes : List ℕ) (us : List Lexeme) → Has bytes us → (i : ℕ) → IsCutInto i bytes us
 cut_at bytes us h i = let a = h i in record { pieces = a.pieces; cuts = a.cuts; are = a.are }
 
 pub words_cut : (w : Written) → IsSayable w → (i : ℕ) → IsCutInto i (words_text w) (words_tokens w)

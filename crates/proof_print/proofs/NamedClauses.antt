@@ -67,7 +67,7 @@ module _ (rows : List OperatorRow) (fixed : KeepsFixed rows) (prolog : Bool) (fr
       terms_have ts h.1 (right (λ j. j == s) (λ j. have_symbol j ts) u),
     )
 
-    terms_have : (ts : Trees) → AreOver table ts → AreNamed (λ s. have_symbol s ts) → HaveTexts g (terms_raw table v ts)
+    pub terms_have : (ts : Trees) → AreOver table ts → AreNamed (λ s. have_symbol s ts) → HaveTexts g (terms_raw table v ts)
     terms_have none h u = tt
     terms_have (more t ts) h u =
         (term_has t h.0 (left (λ s. has_symbol s t) (λ s. have_symbol s ts) u), terms_have ts h.1 (right (λ s. has_symbol s t) (λ s. have_symbol s ts) u))

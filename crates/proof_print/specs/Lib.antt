@@ -1,3 +1,5 @@
+pub mod AnsweredTexts
+pub mod AnswersReread
 pub mod Formulas
 pub mod LineTexts
 pub mod Names

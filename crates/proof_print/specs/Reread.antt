@@ -19,9 +19,11 @@ use Rattle.ladr_print.specs.ClauseText.{clause_raw}
 use Rattle.ladr_print.specs.HasText.{HasText, IsClauseOver}
 use Rattle.ladr_print.specs.StatesAs.{KeepsFixed}
 use Rattle.ladr_reader.specs.Table.{OperatorTable, table_of}
+use Rattle.ladr_rules.specs.Asked.{line_asks}
 use Rattle.ladr_reader.specs.Worked.{lexemes_in}
 use Rattle.proof_lines.specs.ContentTokens.{LineTables, IsContent}
 use Rattle.proof_lines.specs.Faults.{IsLineRead}
+use Rattle.proof_lines.specs.Noted.{asks_in}
 use Rattle.proof_lines.specs.Stated.{is_too_deep, line_made, line_misuse, IsContentOf}
 use Rattle.proof_print.specs.LineTexts.{formula_term, content_text, lines_text}
 use Rattle.proof_print.specs.Rereadable.{AreReadable, clause_uses, IsClauseOfKinds}
@@ -34,12 +36,13 @@ pub record IsCutInto (i : ℕ) (bytes : List ℕ) (us : List Lexeme) : Type 0 wh
   pub cuts : Cuts i bytes pieces
   pub are : lexemes_in pieces ≡ us
 
--- as content of a line the term is neither too deep nor misused, and is this formula or clause; the
--- table of symbols stays
+-- as content of a line the term is neither too deep nor misused, and is this formula or clause, a
+-- formula without an attribute that asks; the table of symbols stays
 pub record IsContentTerm (st : Style) (problem table : List Symbol) (by_formula : Bool)
     (tree : RawTree) (content : Content) : Type 0 where
   pub shallow : is_too_deep by_formula tree ≡ false
-  pub unmisused : line_misuse st problem table by_formula tree ≡ None
+  pub unmisused : line_misuse st problem table by_formula tree [] ≡ None
+  pub asks : by_formula ≡ true → line_asks tree ≡ None
   pub means : IsContentOf by_formula tree (line_made st table by_formula tree) content
   pub symbols : (line_made st table by_formula tree).reading.symbols ≡ table
 
@@ -82,13 +85,16 @@ abbrev pub states_content : Content → Bool
 states_content (Formula f label) = true
 states_content (Clause c) = false
 
--- the line's number is short, its words can be said and suit its content, and this is printable
+-- the line's number is short, its words can be said and suit its content, this is printable, and
+-- nothing stands behind it
 pub record IsPrintableLine (g : LineTables) (prolog : Bool) (problem table : List Symbol)
     (l : Line) : Type 0 where
   pub number : IsShort l.number
   pub words : IsSayable (written_of l.just)
   pub suits : states_formula (written_first l.just.first) ≡ states_content l.content
   pub content : IsPrintableContent g prolog problem table l.content
+  pub asks : asks_in l.notes ≡ None
+  pub answers : l.notes.answers.items ≡ []
 
 abbrev pub ArePrintable : LineTables → Bool → List Symbol → List Symbol → List Line → Type 0
 ArePrintable g prolog problem table [] = Unit {0}
@@ -109,7 +115,7 @@ pub record ReadsContent (g : LineTables) (prolog : Bool) (problem table : List S
   pub tokens : List Lexeme
   pub tree : RawTree
   pub cut : (i : ℕ) → IsCutInto i (content_text g table prolog content ++ codes ".") tokens
-  pub is_content : IsContent g (states_content content) tokens tree
+  pub is_content : IsContent g (states_content content) tokens tree []
   pub is_read : IsContentTerm (style_of Prover prolog) problem table (states_content content) tree
       content
 

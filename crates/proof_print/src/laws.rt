@@ -1,12 +1,13 @@
 // What the texts are read as: the functions do nothing, and their contracts are the laws.
 ghost use Rattle.std.specs.Prelude.{◌≡◌, ℕ, Bool, true, false, IsTrue, List, Option, Some, slice_get, [], ◌∷◌, ◌++◌, codes};
+ghost use Rattle.answers.specs.AnswerTrees.{Answer};
 ghost use Rattle.derivation.specs.declared.line.Content.{Content};
 ghost use Rattle.derivation.specs.declared.line.Content.TheVariants as content;
 ghost use Rattle.derivation.specs.declared.line.Line.{Line};
 ghost use Rattle.fol_core.specs.Bound.{uses_symbol};
 ghost use Rattle.fol_core.specs.Fol.{Fol};
 ghost use Rattle.fol_core.specs.FormulaView.{fol_of};
-ghost use Rattle.fol_core.specs.Literals.{literal, equality};
+ghost use Rattle.fol_core.specs.Literals.{ClauseTree, literal, equality};
 ghost use Rattle.fol_core.specs.RawTree.{RawTree};
 ghost use Rattle.fol_core.specs.SymbolTable.{Symbol};
 ghost use Rattle.fol_core.specs.declared.formula.Formula.{Formula};
@@ -16,6 +17,7 @@ ghost use Rattle.ladr_formulas.specs.declared.styles.Mode.TheVariants.{Prover};
 ghost use Rattle.ladr_lex.specs.Operators.{OperatorRow, are_lawful};
 ghost use Rattle.ladr_print.specs.StatesAs.{KeepsFixed};
 ghost use Rattle.ladr_reader.specs.Table.{table_of};
+ghost use Rattle.proof_print.specs.AnswersReread.{IsPrintableWith, ReadsAnswered};
 ghost use Rattle.proof_print.specs.Formulas.{IsReadFormula};
 ghost use Rattle.proof_print.specs.LineTexts.{frame_text, head_text};
 ghost use Rattle.proof_print.specs.Names.{AreOfClauses, IsSkolemSymbol};
@@ -68,6 +70,14 @@ pub fn symbols_are_readable()
         (s : ℕ) (x : Symbol) → AreOfClauses prolog formulas clauses → slice_get table s ≡ Some x
         → IsSkolemSymbol x
         → IsReadableSymbol (table_of clauses) (style_of Prover prolog) table s }
+{}
+
+/// The text of a clause with its answers is read as these, behind the table of their symbols.
+pub fn answered_clauses_read_back()
+    ensures { (rows : List OperatorRow) (prolog : Bool) (problem table : List Symbol)
+        (c : ClauseTree) (us : List Answer) → CanPrint rows prolog table
+        → IsPrintableWith (table_of rows) prolog table c us
+        → ReadsAnswered (table_of rows) prolog problem table c us }
 {}
 
 /// Texts of a clause, of a frame and of a head.

@@ -1,8 +1,12 @@
+use Rattle.std.proofs.Common.{[], sym}
 use Rattle.ladr_lex.specs.Lexeme.{lexemes_of}
 use Rattle.ladr_reader.specs.Table.{table_of}
-use Rattle.proof_lines.proofs.Clauses.{deep_clause}
+use Rattle.proof_lines.proofs.AnsweredClauses.{unbegun}
 use Rattle.proof_lines.proofs.content.clause_seen.Goals as goal
 
-pub returns-in-Err-Deep-clause-read : goal.returns-in-Err-Deep-clause-read
-returns-in-Err-Deep-clause-read c =
-    deep_clause (table_of c.args.ops.now) (lexemes_of c.args.tokens.now) c.in-Err-Deep.field-0 c.in-Err-Deep.field-0-is c.in-Err-Deep.ensures.fault
+pub returns-in-Ok-clause-read : goal.returns-in-Ok-clause-read
+returns-in-Ok-clause-read c =
+    let g = table_of c.args.ops.now in
+    let ts = lexemes_of c.args.tokens.now in
+    let h = c.in-Ok.ensures.read in
+    (h.0, [], (h.1, unbegun g ts (sym c.if-begins_answer.ensures)), h.2)
