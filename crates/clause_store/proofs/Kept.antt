@@ -28,7 +28,7 @@ use Rattle.proof_words.specs.Written.{written_first, written_of, meant}
 use Rattle.clause_store.specs.Ancestors.{IsAncestry, AreAncestors, IsWay, first_parents, line_parents, parents_in}
 use Rattle.clause_store.specs.Laws.{LinesMean, LinesStay}
 use Rattle.clause_store.specs.Stored.{stored_clause, AreLiteralsIn, IsStoredAs}
-use Rattle.clause_store.specs.Lines.{PlainLine, plain_clause, line_under, stored_content, stored_line, lines_from, store_lines, plain_line, plain_tree, plain_trees, content_tree, plain_content, formula_line, formula_lines, IsLineOfInput, IsContentIn, AreStoredIn}
+use Rattle.clause_store.specs.Lines.{PlainLine, plain_clause, line_under, stored_content, stored_line, lines_from, store_lines, plain_line, plain_tree, plain_trees, content_tree, plain_content, formula_line, formula_lines, IsLineOfInput, IsContentIn, AreStoredIn, IsUnnoted, AreUnnoted}
 use Rattle.clause_store.specs.Marks.{stored_parents, has_mark, IsNumberOf, MarkAncestors}
 use Rattle.clause_store.specs.Parents.{just_parents, steps_parents}
 use Rattle.clause_store.specs.declared.lines.StoredContent.{StoredContent}
@@ -249,6 +249,14 @@ module _ (bank : List Tree) (marks : List Bool) (ls ks : List StoredLine) (i : �
       let within : i < length marks = omega (arith, lt, ap length same, many) in
       ap (map plain_line) grown ∙ old
       ∙ sym (marked_next bank marks ks i l false lt is (mark_read marks i r within read ∙ tells) ∙ append-nil (marked_lines bank marks (take i ks)))
+
+-- one more line behind which nothing stands
+pub more_unnoted : (ls more : List Line) (l : Line) → AreUnnoted ls → IsUnnoted l → more ≡ ls ++ l ∷ [] → AreUnnoted more
+more_unnoted ls more l h k grown = subst AreUnnoted (sym grown) (by ls h)
+  where
+    by : (js : List Line) → AreUnnoted js → AreUnnoted (js ++ l ∷ [])
+    by [] g = (k, tt)
+    by (j ∷ js) g = (g.0, by js g.1)
 
 pub lines_found : (bank : List Tree) (ls ks js : List StoredLine) (n : ℕ) (marks : List Bool) (i : ℕ) (lines : List Line) → js ≡ ls → MarkAncestors (length js) (stored_parents js) n marks → ks ≡ ls → length ks ≤ i
     → map plain_line lines ≡ marked_lines bank marks (take i ks) → AreAncestors (store_lines bank ls) n (map plain_line lines)

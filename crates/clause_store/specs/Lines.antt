@@ -72,6 +72,14 @@ plain_content (content.Clause c) = plain_clause c
 abbrev pub plain_line : Line → PlainLine
 plain_line l = line_under l.number (plain_content l.content) (written_of l.just)
 
+-- a line behind whose content nothing stands
+abbrev pub IsUnnoted : Line → Type 0
+IsUnnoted l = (l.notes.asks ≡ None) × (l.notes.answers.items ≡ [])
+
+abbrev pub AreUnnoted : List Line → Type 0
+AreUnnoted [] = Unit {0}
+AreUnnoted (l ∷ ls) = IsUnnoted l × AreUnnoted ls
+
 -- what a line says in a derivation
 abbrev pub content_tree : PlainContent → ContentTree
 content_tree (plain_formula f names label) = formula f

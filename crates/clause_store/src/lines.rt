@@ -1,6 +1,6 @@
 // A line that is kept.
 ghost use Rattle.std.specs.Prelude.{◌≡◌, IfOk};
-ghost use Rattle.clause_store.specs.Lines.{stored_content, stored_line, plain_content, plain_line, IsContentIn};
+ghost use Rattle.clause_store.specs.Lines.{stored_content, stored_line, plain_content, plain_line, IsContentIn, IsUnnoted};
 
 use crate::copying::{copy_just, copy_label};
 use crate::stored::Stored;
@@ -43,7 +43,8 @@ impl StoredLine {
     /// The line of a proof, under this number.
     pub fn plain(&self, alloc: Global, bank: &Bank, number: u64) -> Result<Line, AllocError>
         requires { IsContentIn bank.now self.now.content }
-        ensures { IfOk result (λ l. plain_line l ≡ stored_line bank.now number self.now) }
+        ensures line { IfOk result (λ l. plain_line l ≡ stored_line bank.now number self.now) }
+        ensures notes { IfOk result (λ l. IsUnnoted l) }
     {
         let content = self.content.plain(alloc, bank)?;
         let just = copy_just(alloc, &self.just)?;

@@ -2,7 +2,7 @@
 ghost use Rattle.std.specs.Prelude.{◌≡◌, ◌++◌, ◌∷◌, [], IfOk, IsSome, OnOk, OnErr, List, Some, length, map};
 ghost use Rattle.fol_core.specs.Tree.{Tree};
 ghost use Rattle.clause_store.specs.Ancestors.{AreAncestors};
-ghost use Rattle.clause_store.specs.Lines.{formula_lines, plain_line, store_lines, stored_at, AreStoredIn, IsLineOfInput};
+ghost use Rattle.clause_store.specs.Lines.{formula_lines, plain_line, store_lines, stored_at, AreStoredIn, AreUnnoted, IsLineOfInput};
 
 use crate::ancestors::marked;
 use crate::copying::copy_label;
@@ -82,8 +82,9 @@ impl Store {
     /// The lines that the one of a number rests on, itself among them, under their numbers.
     pub fn lines_to(&self, alloc: Global, bank: &Bank, n: u64) -> Result<Vec<Line>, AllocError>
         requires { AreStoredIn bank.now self.now.lines.items }
-        ensures { IfOk result (λ lines. AreAncestors
+        ensures lines { IfOk result (λ lines. AreAncestors
             (store_lines bank.now self.now.lines.items) n (map plain_line lines.items)) }
+        ensures notes { IfOk result (λ lines. AreUnnoted lines.items) }
     {
         let marks = marked(alloc, &self.lines, n)?;
         let mut lines = Vec::new(alloc);

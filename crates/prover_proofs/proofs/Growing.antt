@@ -7,7 +7,7 @@ use Rattle.derivation.specs.Later.{is_unit}
 use Rattle.prover_steps.specs.Clashing.{Held}
 use Rattle.prover_steps.specs.Concluded.{Conclusion}
 use Rattle.prover_steps.specs.Picking.{Picked, picked}
-use Rattle.prover_steps.specs.Searching.{Setting, Queued, MadeLine, FoundProof, Reason, SearchState, spent, gave_all, is_nil, is_unchanged, made_line, with_line, with_proof, number_for, held_for, keeps, unit_meets, with_conflict, unit_conflicts, queued_for, retires, puts_back, others_held, subsumes_back, deletes_back, rewrites_back, rules_back, becomes_rule, put_in, has_proofs, works_back, after_kept, is_no_use, settled, is_too_large, counted_on, processed, tidied, under_limits, gives, gives_picked, given_next, queue_next, next_state}
+use Rattle.prover_steps.specs.Searching.{Setting, Queued, MadeLine, FoundProof, Reason, SearchState, spent, gave_all, is_nil, is_unchanged, made_line, with_line, with_proof, number_for, held_for, keeps, unit_meets, with_conflict, unit_conflicts, queued_for, subsumes_back, deletes_back, rewrites_back, rules_back, becomes_rule, put_in, has_proofs, works_back, after_kept, is_no_use, settled, is_too_large, counted_on, processed, tidied, gives, gives_picked, given_next, queue_next, next_state}
 
 -- lines, proofs and the number of given clauses are the same
 pub record IsSame (s t : SearchState) : Type 0 where

@@ -1,5 +1,5 @@
 -- What is left of lists: levels and sizes, from a place on.
-use Rattle.std.proofs.Common.{◌≡◌, ℕ, suc, ◌+◌, ◌<◌, ◌≤◌, max, length, List, ◌∷◌, [], ◌++◌, get_or, drop, refl, sym, ap, ◌∙◌, add-one, drop-cons, map}
+use Rattle.std.proofs.Common.{◌≡◌, ℕ, suc, ◌+◌, ◌<◌, ◌≤◌, max, length, List, ◌∷◌, [], ◌++◌, get_or, drop, refl, sym, ap, add-one, drop-cons, map}
 use Rattle.std.proofs.lemmas.List.{drop_all}
 use Rattle.clause_store.specs.Ancestors.{line_parents}
 use Rattle.clause_store.specs.Lines.{plain_content, plain_line}

@@ -1,7 +1,7 @@
 // The proof under a number.
 ghost use Rattle.std.specs.Prelude.{◌≡◌, IfOk, map};
 ghost use Rattle.clause_store.specs.Ancestors.{AreAncestors};
-ghost use Rattle.clause_store.specs.Lines.{plain_line, plain_trees};
+ghost use Rattle.clause_store.specs.Lines.{plain_line, plain_trees, AreUnnoted};
 ghost use Rattle.prover_proofs.specs.Levels.{level_in, greatest_size};
 ghost use Rattle.prover_proofs.specs.SearchLines.{lines_in};
 
@@ -24,6 +24,7 @@ impl<'a> SearchLines<'a> {
     pub fn proof(&self, alloc: Global, n: u64) -> Result<Proof, AllocError>
         ensures lines { IfOk result (λ p. AreAncestors (lines_in self.now) n
             (map plain_line p.lines.items)) }
+        ensures notes { IfOk result (λ p. AreUnnoted p.lines.items) }
         ensures level { IfOk result (λ p. p.level
             ≡ level_in (plain_trees (map plain_line p.lines.items)) n) }
         ensures size { IfOk result (λ p. p.size

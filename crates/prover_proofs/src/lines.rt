@@ -1,7 +1,7 @@
 // All lines of a search, and those that one of them rests on.
 ghost use Rattle.std.specs.Prelude.{◌≡◌, ◌++◌, Some, IfOk, OnOk, length, map};
 ghost use Rattle.clause_store.specs.Ancestors.{AreAncestors};
-ghost use Rattle.clause_store.specs.Lines.{plain_line};
+ghost use Rattle.clause_store.specs.Lines.{plain_line, AreUnnoted, IsUnnoted};
 ghost use Rattle.clause_store.specs.Marks.{line_under_number, parents_at, IsNumberOf, MarkAncestors, VisitsLine};
 ghost use Rattle.prover_proofs.specs.SearchLines.{lines_in};
 
@@ -36,8 +36,9 @@ impl<'a> SearchLines<'a> {
     // The line of a number.
     fn line(&self, alloc: Global, number: u64) -> Result<Line, AllocError>
         requires { IsNumberOf (length (lines_in self.now)) number }
-        ensures { IfOk result (λ l. line_under_number (lines_in self.now) number
+        ensures line { IfOk result (λ l. line_under_number (lines_in self.now) number
             ≡ Some (plain_line l)) }
+        ensures notes { IfOk result (λ l. IsUnnoted l) }
     {
         let place = (number - 1) as usize;
         if place < self.inputs.len() {
@@ -117,8 +118,9 @@ impl<'a> SearchLines<'a> {
 
     /// The lines that the one of a number rests on, itself among them, under their numbers.
     pub fn lines_to(&self, alloc: Global, n: u64) -> Result<Vec<Line>, AllocError>
-        ensures { IfOk result (λ lines. AreAncestors (lines_in self.now) n
+        ensures lines { IfOk result (λ lines. AreAncestors (lines_in self.now) n
             (map plain_line lines.items)) }
+        ensures notes { IfOk result (λ lines. AreUnnoted lines.items) }
     {
         let marks = self.marked(alloc, n)?;
         let mut lines = Vec::new(alloc);

@@ -1,6 +1,6 @@
 // The lines of formulas and of their clauses, and lines that were made.
 ghost use Rattle.std.specs.Prelude.{◌≡◌, IfOk};
-ghost use Rattle.clause_store.specs.Lines.{plain_line, formula_line, stating_word};
+ghost use Rattle.clause_store.specs.Lines.{plain_line, formula_line, stating_word, IsUnnoted};
 ghost use Rattle.fol_problem.specs.Stated.{all_said};
 ghost use Rattle.proof_words.specs.Written.{written_first};
 ghost use Rattle.prover_proofs.specs.SearchLines.{role_at, clausal_word_at, clausal_line, numbered_line};
@@ -47,7 +47,8 @@ fn stating_word(role: Role) -> First
 
 /// The line of a formula.
 pub fn formula_line(alloc: Global, number: u64, input: &Input) -> Result<Line, AllocError>
-    ensures { IfOk result (λ l. plain_line l ≡ formula_line number input.now) }
+    ensures line { IfOk result (λ l. plain_line l ≡ formula_line number input.now) }
+    ensures notes { IfOk result (λ l. IsUnnoted l) }
 {
     let first = stating_word(input.role);
     let formula = input.formula.copy(alloc)?;
@@ -70,7 +71,8 @@ pub fn clausal_line(
     number: u64,
     row: &(u64, Clause),
 ) -> Result<Line, AllocError>
-    ensures { IfOk result (λ l. plain_line l ≡ clausal_line (all_said inputs.now) number row.now) }
+    ensures line { IfOk result (λ l. plain_line l ≡ clausal_line (all_said inputs.now) number row.now) }
+    ensures notes { IfOk result (λ l. IsUnnoted l) }
 {
     let first = clausal_word(inputs, row.0);
     let clause = row.1.copy(alloc)?;
@@ -87,7 +89,8 @@ pub fn clausal_line(
 
 /// A line that was made.
 pub fn numbered_line(alloc: Global, number: u64, line: &MadeLine) -> Result<Line, AllocError>
-    ensures { IfOk result (λ l. plain_line l ≡ numbered_line number line.now) }
+    ensures line { IfOk result (λ l. plain_line l ≡ numbered_line number line.now) }
+    ensures notes { IfOk result (λ l. IsUnnoted l) }
 {
     let clause = line.clause.copy(alloc)?;
     let just = copy_just(alloc, &line.just)?;
