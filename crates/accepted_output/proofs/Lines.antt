@@ -1,7 +1,7 @@
 -- Each line of a search for proofs of a file can be a line of a printed proof.
 use Rattle.std.proofs.Common.{◌≡◌, ℕ, suc, ◌≤◌, Bool, true, false, if◌then◌else◌, List, [], ◌∷◌, length, map, Some, None, slice_get, refl, sym, ap₂, ◌∙◌, subst}
 use Rattle.std.specs.List.{AllByRecursion}
-use Rattle.clause_store.specs.Lines.{PlainContent, plain_formula, plain_clause, PlainLine, formula_content, plain_content, plain_line, content_tree, plain_trees, formula_lines}
+use Rattle.clause_store.specs.Lines.{PlainContent, plain_formula, plain_clause, PlainLine, formula_content, plain_content, plain_line, content_tree, plain_trees, formula_lines, IsUnnoted, AreUnnoted}
 use Rattle.derivation.specs.Lines.{ContentTree, LineTree, FirstWord, InputRow, is_goal}
 use Rattle.derivation.specs.View.{first_word_of, content_of, lines_of, later_of}
 use Rattle.derivation.specs.declared.line.Content.{Content}
@@ -24,6 +24,8 @@ use Rattle.printed_proofs.specs.LineBounds.{IsBoundedContent, IsBoundedLine}
 use Rattle.derivation_laws.specs.Signatures.{Signature, RowsAreIn, ContentIsIn, LinesAreIn, PutsIn, LinesPutIn}
 use Rattle.search_lines.specs.Shapes.{IsFitFirst, IsFitLine}
 use Rattle.printed_proofs.specs.Files.{full_table, may_be_used, IsClauseOfFile, CanPrintFile}
+use Rattle.ladr_rules.specs.Asked.{line_asks}
+use Rattle.printed_proofs.proofs.Unnoted.{unasked}
 use Rattle.proof_lines.specs.Stated.{is_too_deep, line_made, line_misuse}
 use Rattle.proof_print.specs.LineTexts.{formula_term}
 use Rattle.proof_print.specs.Reread.{row_tables, IsPrintableContent, states_content, IsPrintableLine, ArePrintable}
@@ -189,7 +191,8 @@ module _ (f : FileRead) where
       CanPrintPlain (plain_formula g names label) =
           HasText (row_tables f.operators clauses).formulas (formula_term table g names label)
           × (is_too_deep true (formula_term table g names label) ≡ false)
-          × (line_misuse (style_of Prover prolog) f.problem.symbols table true (formula_term table g names label) ≡ None)
+          × (line_misuse (style_of Prover prolog) f.problem.symbols table true (formula_term table g names label) [] ≡ None)
+          × (line_asks (formula_term table g names label) ≡ None)
           × ((g ≡ (line_made (style_of Prover prolog) table true (formula_term table g names label)).tree)
           × (names ≡ names_of_variables (line_made (style_of Prover prolog) table true (formula_term table g names label)).reading.variables)
           × (label ≡ label_of (attributed (formula_term table g names label)).attributes))
@@ -200,12 +203,12 @@ module _ (f : FileRead) where
       Printable c = IsPrintableContent (row_tables f.operators clauses) prolog f.problem.symbols table c
 
       input_plain : (i : Input) → Printable (Formula i.formula i.label) → CanPrintPlain (formula_content i.formula i.label)
-      input_plain i h = (h.0, h.1.shallow, h.1.unmisused, h.1.means, h.1.symbols)
+      input_plain i h = (h.0, h.1.shallow, h.1.unmisused, h.1.asks refl, h.1.means, h.1.symbols)
 
       content_printable : (c : Content) → IsFitContent f.problem.inputs.items (plain_content c) → ContentIsIn own (content_tree (plain_content c)) → IsBoundedContent c → Printable c
       content_printable (Formula g label) fit inside bounds =
           let h = subst CanPrintPlain (sym fit.is) (input_plain fit.input (can.each_formula fit.place fit.input fit.at)) in
-          (h.0, record { shallow = h.1; unmisused = h.2; means = h.3; symbols = h.4 })
+          (h.0, record { shallow = h.1; unmisused = h.2; asks = λ e. h.3; means = h.4; symbols = h.5 })
       content_printable (Clause c) fit inside bounds =
           let short = numbered_short c fit.0 bounds in
           can.each_clause c (fit_lines f c (record {
@@ -217,16 +220,18 @@ module _ (f : FileRead) where
             depth = fit.1;
           }))
 
-      line_printable : (l : Line) → IsBoundedLine l → IsFitPlain f.problem.inputs.items (plain_line l) → ContentIsIn own (content_tree (plain_content l.content))
+      line_printable : (l : Line) → IsBoundedLine l → IsUnnoted l → IsFitPlain f.problem.inputs.items (plain_line l) → ContentIsIn own (content_tree (plain_content l.content))
           → IsPrintableLine (row_tables f.operators clauses) prolog f.problem.symbols table l
-      line_printable l bounds fit inside = record {
+      line_printable l bounds bare fit inside = record {
         number = bounds.number;
         words = words_said (written_of l.just) fit.words bounds.words;
         suits = fit.suits ∙ states_same l.content;
         content = content_printable l.content fit.content inside bounds.variables;
+        asks = unasked l.notes bare.0;
+        answers = bare.1;
       }
 
-      pub lines_printable : (ls : List Line) → AllByRecursion IsBoundedLine ls → AllByRecursion (IsFitPlain f.problem.inputs.items) (map plain_line ls) → LinesAreIn own (plain_trees (map plain_line ls))
+      pub lines_printable : (ls : List Line) → AllByRecursion IsBoundedLine ls → AreUnnoted ls → AllByRecursion (IsFitPlain f.problem.inputs.items) (map plain_line ls) → LinesAreIn own (plain_trees (map plain_line ls))
           → ArePrintable (row_tables f.operators clauses) prolog f.problem.symbols table ls
-      lines_printable [] bounds fit inside = tt
-      lines_printable (l ∷ ls) bounds fit inside = (line_printable l bounds.0 fit.0 inside.0, lines_printable ls bounds.1 fit.1 inside.1)
+      lines_printable [] bounds bare fit inside = tt
+      lines_printable (l ∷ ls) bounds bare fit inside = (line_printable l bounds.0 bare.0 fit.0 inside.0, lines_printable ls bounds.1 bare.1 fit.1 inside.1)

@@ -83,7 +83,7 @@ module _ (bytes : List ℕ) (f : FileRead) (clauses : List OperatorRow) (are : A
       (lines_put_in f.problem.inputs.items (signature_of table (may_be_used f)) (map plain_line had) fit) refute.0 in
       record {
         proof = record { heads = head_of_proof k r h.lines; lines = had };
-        printable = (h.had.head, lines_printable f few clauses can fit_lines had h.had.bounded fit inside, tt);
+        printable = (h.had.head, lines_printable f few clauses can fit_lines had h.had.bounded h.had.unnoted fit inside, tt);
         refute = subst (λ (rows : List InputRow). IsRefutation p.formulas rows (lines_of had)) (rows_same p) (subst (IsRefutation p.formulas (clauses_in_table p.symbols p)) (trees_same had) refute);
         counted = h.had.counted;
         found = subst (AreAncestors all r.line) (sym same) h.ancestors;

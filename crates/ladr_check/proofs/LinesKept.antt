@@ -11,17 +11,18 @@ use Rattle.fol_core.specs.SymbolTable.{Symbol, name_at, kind_at, is_same_kind, K
 use Rattle.fol_core.specs.declared.symbols.Kind.{Kind}
 use Rattle.fol_core.specs.declared.symbols.Kind.TheVariants.{Function, Relation}
 use Rattle.proof_lines.proofs.WideNumerals.{numeral_wide}
-use Rattle.ladr_formulas.proofs.Growing.{grows_formula}
-use Rattle.ladr_formulas.specs.Formulas.{Reading, meets, unread}
+use Rattle.ladr_formulas.proofs.Growing.{grows_formula, grows_terms}
+use Rattle.ladr_formulas.specs.Formulas.{Reading, meets, terms_of, unread}
 use Rattle.ladr_formulas.specs.declared.styles.Style.{Style}
 use Rattle.ladr_lex.specs.Cuts.{Piece}
 use Rattle.ladr_lex.specs.Lexeme.{Lexeme}
 use Rattle.ladr_lex.specs.Numeral.{is_numeral}
 use Rattle.ladr_lex.specs.declared.misuse.Misuse.TheVariants.{TwoKinds, UnfitAttribute}
 use Rattle.ladr_rules.specs.Attributes.{attributed}
+use Rattle.proof_lines.specs.Answered.{ReadAnswer}
 use Rattle.proof_lines.specs.ContentTokens.{LineTables}
 use Rattle.proof_lines.specs.Faults.{IsLineRead}
-use Rattle.proof_lines.specs.Stated.{line_made, line_misuse, is_unfit}
+use Rattle.proof_lines.specs.Stated.{answers_made, answers_read_behind, line_made, line_misuse, is_unfit, symbols_behind}
 use Rattle.proof_lines.specs.Strays.{is_skolem_name, has_name, is_stray_relation, brings_stray}
 use Rattle.proof_lines.specs.declared.line.LineRead.{LineRead}
 use Rattle.proof_text.specs.Blocks.{TextBlock}
@@ -33,15 +34,28 @@ line_keeps : (st : Style) (table : List Symbol) (by_formula : Bool) (t : RawTree
 line_keeps st table true t = (grows_formula st [] (attributed t).formula (unread table)).symbols
 line_keeps st table false t = (grows_formula st [] t (unread table)).symbols
 
+keeps_both : (a b c : List Symbol) → KeepsNumbers a b → KeepsNumbers b c → KeepsNumbers a c
+keeps_both a b c h k = λ n s e. k n s (h n s e)
+
+answers_keep : (st : Style) (s : Reading) (us : List ReadAnswer) → KeepsNumbers s.symbols (answers_made st s us).reading.symbols
+answers_keep st s [] = λ n x e. e
+answers_keep st s (a ∷ us) =
+    let first : Reading = (terms_of st [] s a.terms).reading in
+    keeps_both s.symbols first.symbols (answers_made st first us).reading.symbols (grows_terms st [] s a.terms).symbols (answers_keep st first us)
+
+whole_keeps : (st : Style) (table : List Symbol) (by_formula : Bool) (t : RawTree) (us : List ReadAnswer) → KeepsNumbers table (symbols_behind st table by_formula t us)
+whole_keeps st table by_formula t us =
+    keeps_both table (line_made st table by_formula t).reading.symbols (symbols_behind st table by_formula t us) (line_keeps st table by_formula t) (answers_keep st (line_made st table by_formula t).reading us)
+
 -- a line that breaks no row brings no stray relation
 unbroken : (stray : Bool) (s : Reading) → (meets stray TwoKinds s).least ≡ None → stray ≡ false
 unbroken true s e = absurd cc
 unbroken false s e = refl
 
-no_stray : (st : Style) (problem table : List Symbol) (by_formula : Bool) (t : RawTree) → line_misuse st problem table by_formula t ≡ None
-    → brings_stray problem (length table) (line_made st table by_formula t).reading.symbols ≡ false
-no_stray st problem table by_formula t e =
-    unbroken (brings_stray problem (length table) (line_made st table by_formula t).reading.symbols) (meets (is_unfit by_formula t) UnfitAttribute (line_made st table by_formula t).reading) e
+no_stray : (st : Style) (problem table : List Symbol) (by_formula : Bool) (t : RawTree) (us : List ReadAnswer) → line_misuse st problem table by_formula t us ≡ None
+    → brings_stray problem (length table) (symbols_behind st table by_formula t us) ≡ false
+no_stray st problem table by_formula t us e =
+    unbroken (brings_stray problem (length table) (symbols_behind st table by_formula t us)) (meets (is_unfit by_formula t) UnfitAttribute (answers_read_behind st table by_formula t us).reading) e
 
 -- what stands behind the first k fails a test that all of it fails
 behind : (test : Symbol → Bool) (k r : ℕ) (table : List Symbol) (s : Symbol) → k ≤ r → slice_get table r ≡ Some s → list_any test (drop k table) ≡ false → test s ≡ false
@@ -97,10 +111,10 @@ line_goes g st problem table after ts r h = record { kept = kept; no_relation = 
     by_formula = states_formula h.parts.words.first
 
     kept : KeepsNumbers table after
-    kept = subst (λ (s : List Symbol). KeepsNumbers table s) (sym h.symbols) (line_keeps st table by_formula h.parts.content)
+    kept = subst (λ (s : List Symbol). KeepsNumbers table s) (sym h.symbols) (whole_keeps st table by_formula h.parts.content h.parts.answers)
 
     strays : brings_stray problem (length table) after ≡ false
-    strays = ap (brings_stray problem (length table)) h.symbols ∙ no_stray st problem table by_formula h.parts.content h.unmisused
+    strays = ap (brings_stray problem (length table)) h.symbols ∙ no_stray st problem table by_formula h.parts.content h.parts.answers h.unmisused
 
     relations : HasNoSkolemRelation problem table → HasNoSkolemRelation problem after
     relations none r letter n few kind skolem is =

@@ -4,7 +4,10 @@ use Rattle.std.specs.List.{list_all}
 use Rattle.std.proofs.lemmas.Bool.{true≢false}
 use Rattle.std.proofs.lemmas.List.{take-append-drop}
 use Rattle.derivation.specs.declared.line.Line.{Line}
+use Rattle.fol_problem.specs.Asks.{asks_of}
 use Rattle.fol_problem.specs.Stated.{stated_of}
+use Rattle.fol_problem.specs.declared.problem.Input.{Input}
+use Rattle.fol_problem.specs.declared.problem.Role.{Role}
 use Rattle.fol_core.specs.SymbolTable.{Symbol}
 use Rattle.ladr_check.proofs.Offering.{proofs_lines}
 use Rattle.ladr_check.proofs.OneFrame.{framed_once, framed_sound}
@@ -22,14 +25,14 @@ use Rattle.ladr_lex.proofs.Unique.{cut_once}
 use Rattle.ladr_problem.specs.File.{Outcome, Says, problem, unreadable, misused, too_large}
 use Rattle.ladr_problem.specs.Items.{lexemes}
 use Rattle.ladr_problem.specs.Places.{IsReadError}
-use Rattle.ladr_problem.specs.Sofar.{Sofar, stated_in}
+use Rattle.ladr_problem.specs.Sofar.{Listed, Sofar, input_of, stated_in}
 use Rattle.ladr_problem.specs.declared.read.FileRead.{FileRead}
 use Rattle.ladr_problem.specs.declared.refusal.ReadError.{ReadError}
 use Rattle.ladr_problem.specs.declared.refusal.ReadError.TheVariants as errors
 use Rattle.proof_lines.specs.ContentTokens.{LineTables, line_tables}
 use Rattle.proof_lines.specs.Faults.{IsLineRead, IsLineFault, IsBadOfLine, IsBadLineToken}
 use Rattle.proof_lines.specs.Lines.{LineParts}
-use Rattle.proof_lines.specs.Stated.{is_too_deep, line_misuse}
+use Rattle.proof_lines.specs.Stated.{is_deep_with, line_misuse}
 use Rattle.proof_lines.specs.declared.fault.LineFault.{LineFault}
 use Rattle.proof_lines.specs.declared.fault.LineFault.TheVariants as fault
 use Rattle.proof_lines.specs.declared.line.LineRead.{LineRead}
@@ -46,6 +49,14 @@ OneOutcome = (m : Mode) (bytes : List ℕ) (o p : Outcome) → Says m bytes o �
 abbrev pub BadTokens : Type 0
 BadTokens = (g : LineTables) (ts : List Lexeme) (k : ℕ) → IsBadOfLine g ts k → IsBadLineToken g ts k
 
+-- what formulas ask for, as they were listed
+abbrev asks_listed : List (Role × Listed) → List (List ℕ)
+asks_listed fs = map (λ (x : Role × Listed). x.1.answer) fs
+
+asks_read : (is : List Input) → map (λ (i : Input). i.answer.items) is ≡ asks_listed (map input_of is)
+asks_read [] = refl
+asks_read (i ∷ is) = ap (λ rest. i.answer.items ∷ rest) (asks_read is)
+
 same_sofar : (s t : Sofar) → problem s ≡ problem t → s ≡ t
 same_sofar s t e = cc
 
@@ -55,10 +66,10 @@ module _ (one : OneLine) (bad : BadTokens) (g : Reader) where
   unfaulty table mid ts r (fault.Bad k) h f m = (bad g.tables ts k f).none (take r.len ts) (drop r.len ts) h.parts (sym (take-append-drop r.len ts)) h.first.1
   unfaulty table mid ts r fault.Deep h f m =
       let same = one g.tables ts h.parts f.0 r.len f.1 h.first f.2 in
-      true≢false (sym f.3 ∙ ap (λ (l : LineParts). is_too_deep (states_formula l.words.first) l.content) (sym same.0) ∙ h.shallow)
+      true≢false (sym f.3 ∙ ap (λ (l : LineParts). is_deep_with (states_formula l.words.first) l.content l.answers) (sym same.0) ∙ h.shallow)
   unfaulty table mid ts r (fault.Misused misuse) h f m =
       let same = one g.tables ts h.parts f.0 r.len f.1 h.first f.2 in
-      let none : None ≡ Some misuse = sym h.unmisused ∙ ap (λ (l : LineParts). line_misuse g.style g.problem table (states_formula l.words.first) l.content) same.0 ∙ f.4 in
+      let none : None ≡ Some misuse = sym h.unmisused ∙ ap (λ (l : LineParts). line_misuse g.style g.problem table (states_formula l.words.first) l.content l.answers) same.0 ∙ f.4 in
       absurd cc
   unfaulty table mid ts r fault.Memory h f m = m refl
 
@@ -106,6 +117,7 @@ module _ (says : OneOutcome) (bytes : List ℕ) where
   -- a text has one problem
   pub record SameProblem (f g : FileRead) (bs cs : List TextBlock) : Type 0 where
     pub stated : stated_of f.problem ≡ stated_of g.problem
+    pub asks : asks_of f.problem ≡ asks_of g.problem
     pub symbols : f.problem.symbols ≡ g.problem.symbols
     pub readers : reader_of f ≡ reader_of g
     pub blocks : bs ≡ cs
@@ -120,6 +132,7 @@ module _ (says : OneOutcome) (bytes : List ℕ) where
       let symbols = h.is_of.symbols ∙ ap (λ (s : Sofar). s.symbols) sofar ∙ sym k.is_of.symbols in
       record {
         stated = sym (same_stated h.sofar f h.is_of) ∙ ap stated_in sofar ∙ same_stated k.sofar g k.is_of;
+        asks = asks_read f.problem.inputs.items ∙ ap asks_listed (h.is_of.formulas ∙ ap (λ (s : Sofar). s.formulas) sofar ∙ sym k.is_of.formulas) ∙ sym (asks_read g.problem.inputs.items);
         symbols = symbols;
         readers = λ i. record {
           tables = line_tables (options i).prolog_style_variables (operators i);
@@ -136,8 +149,9 @@ module _ (says : OneOutcome) (bytes : List ℕ) where
         let mine = subst (λ (x : Reader). HasProofs x h.file.problem.symbols h.blocks (map (λ d. d.lines.items) r.proofs.items) r.symbols) same.readers h.proofs_are in
         let both = proofs_once one (reader_of k.file) mine k.proofs_are same.symbols same.blocks in
         let stated : stated_of r.problem ≡ stated_of q.problem = ap stated_of h.problem_is ∙ same.stated ∙ sym (ap stated_of k.problem_is) in
-        let proofs : proofs_in r.proofs.items ≡ proofs_in q.proofs.items = sym (proofs_lines r.proofs.items) ∙ both.0 ∙ proofs_lines q.proofs.items in
-        λ i. record { stated = stated i; symbols = both.1 i; proofs = proofs i }
+        let proofs : proofs_in r.proofs.items ≡ proofs_in q.proofs.items = sym (proofs_lines r.proofs.items) ∙ both.2 ∙ proofs_lines q.proofs.items in
+        let asks : asks_of r.problem ≡ asks_of q.problem = ap asks_of h.problem_is ∙ same.asks ∙ sym (ap asks_of k.problem_is) in
+        λ i. record { stated = stated i; asks = asks i; symbols = both.1 i; proofs = proofs i }
 
     pub offered_once : (x y : Offered) → offers bytes x → offers bytes y → x ≡ y
     offered_once x y h k = sym h.2 ∙ same_offer h.0 k.0 h.1 k.1 ∙ k.2

@@ -3,6 +3,9 @@ use Rattle.std.proofs.Common.{◌≡◌, ℕ, suc, ◌+◌, ◌<◌, Bool, true,
 use Rattle.std.specs.List.{list_any, concat}
 use Rattle.std.proofs.lemmas.Bool.{true≢false, or_parts}
 use Rattle.std.proofs.lemmas.List.{length-take-le}
+use Rattle.answered_lines.specs.Lines.{AnsweredLine}
+use Rattle.answered_lines.specs.View.{answered_line, answered_lines_of}
+use Rattle.answers.specs.AnswerView.{answers_of}
 use Rattle.derivation.specs.Lines.{LineTree, formula, clause}
 use Rattle.derivation.specs.View.{first_word_of, content_of, line_tree, lines_of}
 use Rattle.derivation.specs.declared.line.Content.{Content}
@@ -22,7 +25,8 @@ use Rattle.ladr_problem.specs.Items.{lexemes}
 use Rattle.proof_lines.specs.ContentTokens.{LineTables}
 use Rattle.proof_lines.specs.Faults.{IsLineRead}
 use Rattle.proof_lines.specs.Lines.{LineParts, IsFirstLine}
-use Rattle.proof_lines.specs.Stated.{IsContentOf, IsLineOf, line_made}
+use Rattle.proof_lines.specs.Noted.{asks_in, IsLineOf}
+use Rattle.proof_lines.specs.Stated.{IsContentOf, line_made, symbols_behind}
 use Rattle.proof_lines.specs.declared.line.LineRead.{LineRead}
 use Rattle.proof_text.specs.Blocks.{TextBlock, block, HasBlocks, nothing, outside, closed, still_open, is_proof_banner, is_end_banner, bare}
 use Rattle.proof_text.specs.Proofs.{Reader, HasLines, no_line, further_line, HasProofs, no_block, further_block}
@@ -121,14 +125,17 @@ contents_once false t m (Clause c) (Clause d) h k = ap clause (let e : Some c �
 contents_once false t m (Formula f label) b h k = absurd h
 contents_once false t m a (Formula g other) h k = absurd k
 
-line_once : (st : Style) (table : List Symbol) (l : LineParts) (a b : Line) → IsLineOf st table l a → IsLineOf st table l b → line_tree a ≡ line_tree b
+line_once : (st : Style) (table : List Symbol) (l : LineParts) (a b : Line) → IsLineOf st table l a → IsLineOf st table l b → answered_line a ≡ answered_line b
 line_once st table l a b h k =
     let words : written_of a.just ≡ written_of b.just = h.words ∙ sym k.words in
     let number : a.number ≡ b.number = h.number ∙ sym k.number in
     let content : content_of a.content ≡ content_of b.content =
     contents_once (states_formula l.words.first) l.content (line_made st table (states_formula l.words.first) l.content) a.content b.content h.content k.content in
     let first : first_word_of a.just.first ≡ first_word_of b.just.first = sym (means a.just.first) ∙ ap (λ (w : Written). meant w.first) words ∙ means b.just.first in
-    λ i. record { number = number i; content = content i; first = first i; later = (words i).later }
+    let tree : line_tree a ≡ line_tree b = (λ i. record { number = number i; content = content i; first = first i; later = (words i).later }) in
+    let asks : asks_in a.notes ≡ asks_in b.notes = h.asks ∙ sym k.asks in
+    let answers : answers_of a.notes.answers.items ≡ answers_of b.notes.answers.items = h.answers ∙ sym k.answers in
+    λ i. record { line = tree i; asks = asks i; answers = answers i }
 
 abbrev pub OneLine : Type 0
 OneLine = (g : LineTables) (ts : List Lexeme) (l m : LineParts) (i j : ℕ) → IsFirstLine g ts l i → IsFirstLine g ts m j → (l ≡ m) × (i ≡ j)
@@ -140,12 +147,12 @@ line_some g ts l n h =
 
 module _ (one : OneLine) (g : Reader) where
   pub read_once : (table mid other : List Symbol) (ts : List Lexeme) (r q : LineRead) → IsLineRead g.tables g.style g.problem table ts r mid → IsLineRead g.tables g.style g.problem table ts q other
-      → (r.len ≡ q.len) × (line_tree r.line ≡ line_tree q.line) × (mid ≡ other)
+      → (r.len ≡ q.len) × (answered_line r.line ≡ answered_line q.line) × (mid ≡ other)
   read_once table mid other ts r q h k =
       let same = one g.tables ts h.parts k.parts r.len q.len h.first k.first in (
         same.1,
         line_once g.style table k.parts r.line q.line (subst (λ (l : LineParts). IsLineOf g.style table l r.line) same.0 h.line) k.line,
-        h.symbols ∙ ap (λ (l : LineParts). (line_made g.style table (states_formula l.words.first) l.content).reading.symbols) same.0 ∙ sym k.symbols,
+        h.symbols ∙ ap (λ (l : LineParts). symbols_behind g.style table (states_formula l.words.first) l.content l.answers) same.0 ∙ sym k.symbols,
       )
 
   pub none_read : (ts : List Piece) (table mid : List Symbol) (r : LineRead) → ts ≡ [] → IsLineRead g.tables g.style g.problem table (lexemes ts) r mid → ⊥
@@ -155,19 +162,19 @@ module _ (one : OneLine) (g : Reader) where
       omega (arith, some, none)
 
   pub lines_once : {table other last end : List Symbol} {ts us vs ws : List Piece} {ls ms : List Line} → HasLines g table ts ls last vs → HasLines g other us ms end ws → table ≡ other → ts ≡ us → vs ≡ [] → ws ≡ []
-      → (lines_of ls ≡ lines_of ms) × (last ≡ end)
-  lines_once no_line no_line t e v w = (refl, t)
+      → (lines_of ls ≡ lines_of ms) × (last ≡ end) × (answered_lines_of ls ≡ answered_lines_of ms)
+  lines_once no_line no_line t e v w = (refl, t, refl)
   lines_once {table} {other} {last} {end} {ts} {us} no_line (further_line r is k) t e v w = absurd (none_read us other _ r (sym e ∙ v) is)
   lines_once {table} {other} {last} {end} {ts} {us} (further_line r is h) no_line t e v w = absurd (none_read ts table _ r (e ∙ w) is)
   lines_once {table} {other} {last} {end} {ts} {us} (further_line {mid = mid} r is h) (further_line {mid = next} q so k) t e v w =
       let moved = subst (λ (x : List Symbol). IsLineRead g.tables g.style g.problem x (lexemes us) r mid) t (subst (λ (x : List Piece). IsLineRead g.tables g.style g.problem table (lexemes x) r mid) e is) in
       let same = read_once other mid next (lexemes us) r q moved so in
       let rest = lines_once h k same.2 (ap₂ (λ (n : ℕ) (x : List Piece). drop n x) same.0 e) v w in
-      (ap₂ (λ (l : LineTree) (xs : List LineTree). l ∷ xs) same.1 rest.0, rest.1)
+      (ap₂ (λ (l : LineTree) (xs : List LineTree). l ∷ xs) (ap (λ (l : AnsweredLine). l.line) same.1) rest.0, rest.1, ap₂ (λ (l : AnsweredLine) (xs : List AnsweredLine). l ∷ xs) same.1 rest.2)
 
   pub proofs_once : {table other last end : List Symbol} {bs cs : List TextBlock} {ps qs : List (List Line)} → HasProofs g table bs ps last → HasProofs g other cs qs end → table ≡ other → bs ≡ cs
-      → (map lines_of ps ≡ map lines_of qs) × (last ≡ end)
-  proofs_once no_block no_block t e = (refl, t)
+      → (map lines_of ps ≡ map lines_of qs) × (last ≡ end) × (map answered_lines_of ps ≡ map answered_lines_of qs)
+  proofs_once no_block no_block t e = (refl, t, refl)
   proofs_once no_block (further_block h k) t e = absurd (no_line_there _ _ e)
   proofs_once (further_block h k) no_block t e = absurd (no_line_there _ _ (sym e))
   proofs_once {table} {other} (further_block {b = b} here h) (further_block {b = c} there k) t e =
@@ -176,4 +183,4 @@ module _ (one : OneLine) (g : Reader) where
       let tokens : here.0 ≡ there.0 = cut_once c.start (bare c) here.0 there.0 cut there.1 in
       let same = lines_once here.2 there.2 t tokens refl refl in
       let rest = proofs_once h k same.1 parts.1 in
-      (ap₂ (λ (l : List LineTree) (xs : List (List LineTree)). l ∷ xs) same.0 rest.0, rest.1)
+      (ap₂ (λ (l : List LineTree) (xs : List (List LineTree)). l ∷ xs) same.0 rest.0, rest.1, ap₂ (λ (l : List AnsweredLine) (xs : List (List AnsweredLine)). l ∷ xs) same.2 rest.2)

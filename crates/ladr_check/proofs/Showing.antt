@@ -2,17 +2,16 @@
 use Rattle.std.proofs.Common.{◌⊎◌, ◌≡◌, inl, inr, ℕ, zero, suc, ◌+◌, ◌-◌, ◌^◌, ◌<◌, ◌≤◌, List, [], ◌∷◌, ◌++◌, length, Some, Result, Ok, Err, refl, sym, ap, ◌∙◌, subst, arith}
 use Rattle.std.specs.Prelude.{slice_get, codes}
 use Rattle.std.proofs.lemmas.List.{length-append}
-use Rattle.derivation.specs.Lines.{InputRow, LineTree, IsRefutation}
+use Rattle.answered_lines.specs.Lines.{Asked, AnsweredRow, AnsweredLine, IsRefutationWith}
 use Rattle.fol_core.proofs.Places.{slice_get_more}
-use Rattle.fol_problem.specs.Stated.{Said}
 use Rattle.ladr_check.proofs.Judgings.{proofs_count}
 use Rattle.ladr_check.proofs.Refusing.{IsOneLine, refusal_line}
 use Rattle.ladr_check.proofs.Standing.{accepted_text, exit_text, none_stands, in_front, only_line, accepted_within, exit_within, no_accepted, no_exit_line, accepted_stands, IsSmallEnd, exit_stands}
 use Rattle.ladr_check.specs.CheckReport.{accepted_line, all_accepted_line, check_report}
 use Rattle.ladr_check.specs.Checking.{IsChecked}
 use Rattle.ladr_check.specs.Offered.{Offered, offers, refuses_proofs}
-use Rattle.ladr_check.specs.Outcomes.{AreRefutations, looked_at, input_rows, HasNewSkolems, ComesOut}
-use Rattle.ladr_check.specs.Shown.{IsRefutationAt, OneRefutationSuffices, AreAllRefutations, OffersAreAlone, OffersSound, ShowsProofs, ChecksShow}
+use Rattle.ladr_check.specs.Outcomes.{AreRefutations, looked_at, asked_formulas, answered_rows, HasNewSkolems, ComesOut}
+use Rattle.ladr_check.specs.Shown.{IsRefutationAt, OneRefutationSuffices, RefutationsAnswer, AreAllRefutations, OffersAreAlone, OffersSound, ShowsProofs, ChecksShow}
 use Rattle.ladr_check.specs.declared.ends.CheckEnd.{CheckEnd}
 use Rattle.ladr_check.specs.declared.ends.CheckEnd.TheVariants.{Accepted, NotAccepted, ClauseLimit}
 use Rattle.ladr_intake.specs.Command.{End, own, refused, read_fault, end_of, MayStand, EndsBy}
@@ -33,24 +32,24 @@ few_offered bytes x h =
     let count = proofs_count r.proofs.items in
     omega (arith, count, r.proofs.ok.0, r.proofs.ok.1, r.proofs.small))
 
-module _ (ss : List Said) (rows : List InputRow) where
+module _ (ss : List Asked) (rows : List AnsweredRow) where
   -- each of the proofs is a refutation
-  nth : (ps : List (List LineTree)) (i : ℕ) → AreRefutations ss rows ps → i < length ps → (p : List LineTree) × (slice_get ps i ≡ Some p) × IsRefutation ss rows p
+  nth : (ps : List (List AnsweredLine)) (i : ℕ) → AreRefutations ss rows ps → i < length ps → (p : List AnsweredLine) × (slice_get ps i ≡ Some p) × IsRefutationWith ss rows p
   nth [] i h l = absurd (omega (arith, l))
   nth (p ∷ ps) zero h l = (p, refl, h.0)
   nth (p ∷ ps) (suc i) h l = nth ps i h.1 (omega (arith, l))
 
   -- so is each before the first one that isn't
-  nth_before : (ps before behind : List (List LineTree)) (bad : List LineTree) (i : ℕ) → looked_at ps ≡ before ++ (bad ∷ behind) → AreRefutations ss rows before → i < length before
-      → (p : List LineTree) × (slice_get ps i ≡ Some p) × IsRefutation ss rows p
+  nth_before : (ps before behind : List (List AnsweredLine)) (bad : List AnsweredLine) (i : ℕ) → looked_at ps ≡ before ++ (bad ∷ behind) → AreRefutations ss rows before → i < length before
+      → (p : List AnsweredLine) × (slice_get ps i ≡ Some p) × IsRefutationWith ss rows p
   nth_before [] before behind bad i split h l =
       let one : 1 ≡ length before + suc (length behind) = ap length split ∙ length-append before (bad ∷ behind) in
       absurd (omega (arith, one, l))
   nth_before (q ∷ ps) before behind bad i split h l =
       let found = nth before i h l in
-      (found.0, ap (λ (qs : List (List LineTree)). slice_get qs i) split ∙ slice_get_more before (bad ∷ behind) i found.0 found.1, found.2)
+      (found.0, ap (λ (qs : List (List AnsweredLine)). slice_get qs i) split ∙ slice_get_more before (bad ∷ behind) i found.0 found.1, found.2)
 
-  fewer : (ps before behind : List (List LineTree)) (bad : List LineTree) → looked_at ps ≡ before ++ (bad ∷ behind) → length before ≤ length ps
+  fewer : (ps before behind : List (List AnsweredLine)) (bad : List AnsweredLine) → looked_at ps ≡ before ++ (bad ∷ behind) → length before ≤ length ps
   fewer [] before behind bad split =
       let one : 1 ≡ length before + suc (length behind) = ap length split ∙ length-append before (bad ∷ behind) in
       omega (arith, one)
@@ -61,14 +60,14 @@ module _ (ss : List Said) (rows : List InputRow) where
 -- so many are accepted, of those that are offered
 accepted_few : (x : Offered) (end : CheckEnd) (a : ℕ) → ComesOut x end a → a ≤ length x.proofs
 accepted_few x (Accepted n) a h = omega (arith, h.2.2, h.2.3)
-accepted_few x (NotAccepted line row) a h = omega (arith, h.2.count, fewer x.stated.formulas (input_rows x) x.proofs h.2.before h.2.behind h.2.bad h.2.split)
+accepted_few x (NotAccepted line row) a h = omega (arith, h.2.count, fewer (asked_formulas x) (answered_rows x) x.proofs h.2.before h.2.behind h.2.bad h.2.split)
 accepted_few x (ClauseLimit formula) a h = omega (arith, h.1)
 
 -- and each of those is a refutation
 accepted_at : (x : Offered) (end : CheckEnd) (a k : ℕ) → ComesOut x end a → 1 ≤ k → k ≤ a → IsRefutationAt x k
-accepted_at x (Accepted n) a k h l m = (l, nth x.stated.formulas (input_rows x) x.proofs (k - 1) h.2.0 (omega (arith, l, m, h.2.2, h.2.3)))
+accepted_at x (Accepted n) a k h l m = (l, nth (asked_formulas x) (answered_rows x) x.proofs (k - 1) h.2.0 (omega (arith, l, m, h.2.2, h.2.3)))
 accepted_at x (NotAccepted line row) a k h l m =
-    (l, nth_before x.stated.formulas (input_rows x) x.proofs h.2.before h.2.behind h.2.bad (k - 1) h.2.split h.2.are (omega (arith, l, m, h.2.count)))
+    (l, nth_before (asked_formulas x) (answered_rows x) x.proofs h.2.before h.2.behind h.2.bad (k - 1) h.2.split h.2.are (omega (arith, l, m, h.2.count)))
 accepted_at x (ClauseLimit formula) a k h l m = absurd (omega (arith, l, m, h.1))
 
 -- where a proof is accepted the Skolem symbols are new
@@ -91,7 +90,7 @@ all_at x end a n h e = by (subst (λ (f : CheckEnd). ComesOut x f a) e h)
     by : ComesOut x (Accepted n) a → AreAllRefutations x n
     by k = (omega (arith, k.2.1), sym k.2.2, k.2.0)
 
-module _ (one : OneRefutationSuffices) (alone : OffersAreAlone) (bytes : List ℕ) (a b : Inflow) where
+module _ (one : OneRefutationSuffices) (answers : RefutationsAnswer) (alone : OffersAreAlone) (bytes : List ℕ) (a b : Inflow) where
   -- what the lines in a text tell is so
   record Speaks (text : List ℕ) : Type 0 where
     accepted : (k : ℕ) → k < 2 ^ 64 → Stands (accepted_line k) text → IsAllRead a b bytes × OffersSound (λ x. IsRefutationAt x k) bytes
@@ -120,12 +119,12 @@ module _ (one : OneRefutationSuffices) (alone : OffersAreAlone) (bytes : List �
     accepted = λ k small s.
         let within = accepted_stands count end k (omega (arith, few_offered bytes x offered, accepted_few x end count h)) small s in
         let at = accepted_at x end count k h within.0 within.1 in
-        (read, (x, alone bytes x offered, at, new_at x end count k h within.0 within.1, one bytes x k offered at));
+        (read, (x, alone bytes x offered, at, new_at x end count k h within.0 within.1, one bytes x k offered at, answers bytes x offered));
     all_accepted = λ n small s.
         let last = exit_stands count end n (small_end x end count h (few_offered bytes x offered)) small s in
         let all = all_at x end count n h last in
-        let first = nth x.stated.formulas (input_rows x) x.proofs 0 all.2 (omega (arith, all.0, all.1)) in
-        (read, (x, alone bytes x offered, all, new_of_all x end count n h last, one bytes x 1 offered (omega arith, first)));
+        let first = nth (asked_formulas x) (answered_rows x) x.proofs 0 all.2 (omega (arith, all.0, all.1)) in
+        (read, (x, alone bytes x offered, all, new_of_all x end count n h last, one bytes x 1 offered (omega arith, first), answers bytes x offered));
   }
 
   checked_speaks : (x : Offered) (end : CheckEnd) (text : List ℕ) → IsAllRead a b bytes → offers bytes x → IsChecked x end text → Speaks text
@@ -161,5 +160,5 @@ module _ (one : OneRefutationSuffices) (alone : OffersAreAlone) (bytes : List �
   tells_shows c d (Err WriteFault) taken h = let y = cut_text Goes Ends c d h in cut_shown c d y.0 taken y.1 y.2
   tells_shows c d (Err Memory) taken h = shown c d h.0 taken h.2.took (goes_speaks h.0 h.1)
 
-pub checks_show : OneRefutationSuffices → OffersAreAlone → ChecksShow
-checks_show one alone a b c d r h = tells_shows one alone h.bytes a b c d (end_of r) h.taken h.tells
+pub checks_show : OneRefutationSuffices → RefutationsAnswer → OffersAreAlone → ChecksShow
+checks_show one answers alone a b c d r h = tells_shows one answers alone h.bytes a b c d (end_of r) h.taken h.tells

@@ -1,40 +1,44 @@
 -- How the check of proofs comes out.
 use Rattle.std.specs.Prelude.{◌≡◌, ℕ, zero, suc, ◌<◌, List, [], ◌∷◌, ◌++◌, length, Some, None}
+use Rattle.answered_lines.specs.Lines.{Asked, with_asks, AnsweredRow, with_terms, AnsweredLine, IsRefutationWith}
+use Rattle.answered_lines.specs.Refused.{IsFaultWith}
+use Rattle.clausify.specs.Asked.{answer_terms_in_table}
 use Rattle.clausify.specs.Input.{clauses_in_table, axioms_in_table, first_over}
-use Rattle.derivation.specs.Lines.{InputRow, LineTree, IsRefutation}
-use Rattle.derivation.specs.Refused.{IsFault}
+use Rattle.derivation.specs.Lines.{InputRow}
 use Rattle.derivation.specs.declared.row.Row.{Row}
 use Rattle.derivation.specs.declared.row.Row.TheVariants.{NoLines}
 use Rattle.fol_core.specs.SkolemAxioms.{SkolemAxiom, AreInOrder}
-use Rattle.fol_problem.specs.Stated.{Said, AreNewTo}
+use Rattle.fol_problem.specs.Stated.{AreNewTo}
 use Rattle.ladr_check.specs.Offered.{Offered}
 use Rattle.ladr_check.specs.declared.ends.CheckEnd.{CheckEnd}
 use Rattle.ladr_check.specs.declared.ends.CheckEnd.TheVariants.{Accepted, NotAccepted, ClauseLimit}
 
--- each proof is a refutation of what is said, with these clauses of its formulas
-abbrev pub AreRefutations : List Said → List InputRow → List (List LineTree) → Type 0
+-- each proof is a refutation of what is said, with what its goals ask for, and with these clauses of
+-- its formulas and their answers
+abbrev pub AreRefutations : List Asked → List AnsweredRow → List (List AnsweredLine) → Type 0
 AreRefutations ss rows [] = Unit {0}
-AreRefutations ss rows (p ∷ ps) = IsRefutation ss rows p × AreRefutations ss rows ps
+AreRefutations ss rows (p ∷ ps) = IsRefutationWith ss rows p × AreRefutations ss rows ps
 
 -- the proofs that are looked at: one without lines where there is none
-abbrev pub looked_at : List (List LineTree) → List (List LineTree)
+abbrev pub looked_at : List (List AnsweredLine) → List (List AnsweredLine)
 looked_at [] = [] ∷ []
 looked_at (p ∷ ps) = p ∷ ps
 
 -- Behind so many refutations stands a proof that is none: this is its first bad line with its row.
-pub record IsNotAccepted (ss : List Said) (rows : List InputRow) (ps : List (List LineTree))
-    (accepted line : ℕ) (row : Row) : Type 0 where
-  pub before : List (List LineTree)
-  pub bad : List LineTree
-  pub behind : List (List LineTree)
+pub record IsNotAccepted (ss : List Asked) (rows : List AnsweredRow)
+    (ps : List (List AnsweredLine)) (accepted line : ℕ) (row : Row) : Type 0 where
+  pub before : List (List AnsweredLine)
+  pub bad : List AnsweredLine
+  pub behind : List (List AnsweredLine)
   pub split : looked_at ps ≡ before ++ (bad ∷ behind)
   pub count : accepted ≡ length before
   pub are : AreRefutations ss rows before
-  pub fault : IsFault ss rows bad line row
+  pub fault : IsFaultWith ss rows bad line row
 
 -- The check of proofs comes to this end, so many being accepted: all of them, and there are some;
 -- or those before the first bad line.
-abbrev pub ProofsEnd : List Said → List InputRow → List (List LineTree) → CheckEnd → ℕ → Type 0
+abbrev pub ProofsEnd : List Asked → List AnsweredRow → List (List AnsweredLine) → CheckEnd → ℕ →
+    Type 0
 ProofsEnd ss rows ps (Accepted proofs) accepted =
     AreRefutations ss rows ps × (0 < proofs) × (proofs ≡ length ps) × (accepted ≡ proofs)
 ProofsEnd ss rows ps (NotAccepted line row) accepted = IsNotAccepted ss rows ps accepted line row
@@ -48,6 +52,14 @@ end_of_all (suc n) = Accepted (suc n)
 -- the clauses of the formulas that are offered
 abbrev pub input_rows : Offered → List InputRow
 input_rows x = clauses_in_table x.symbols x.stated
+
+-- what is said with what is asked for, and these clauses with the terms of their answers
+abbrev pub asked_formulas : Offered → List Asked
+asked_formulas x = with_asks x.stated.formulas x.asks
+
+abbrev pub answered_rows : Offered → List AnsweredRow
+answered_rows x =
+    with_terms (input_rows x) (answer_terms_in_table x.symbols x.stated x.asks)
 
 -- what their Skolem symbols are to pick
 abbrev pub input_axioms : Offered → List SkolemAxiom
@@ -64,7 +76,7 @@ ComesOut x (ClauseLimit formula) accepted =
     (first_over 1 x.stated.formulas ≡ Some formula) × (accepted ≡ 0)
 ComesOut x end accepted =
     (first_over 1 x.stated.formulas ≡ None) × HasNewSkolems x
-    × ProofsEnd x.stated.formulas (input_rows x) x.proofs end accepted
+    × ProofsEnd (asked_formulas x) (answered_rows x) x.proofs end accepted
 
 -- it comes out in one way
 abbrev pub EndIsOne : Type 0

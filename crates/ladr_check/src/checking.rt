@@ -8,6 +8,7 @@ ghost use Rattle.ladr_check.specs.Offered.{offers, offered_by, refuses_proofs};
 ghost use Rattle.ladr_output.specs.Telling.{Tells};
 ghost use Rattle.proof_text.specs.Refused.{IsProofError};
 
+use crate::checked::Checked;
 use crate::ends::CheckEnd;
 use crate::judging::judge_proofs;
 use crate::report::report;
@@ -39,8 +40,8 @@ pub fn check_text<S: Source, K: Sink>(
 }
 
 /// Checks the proofs of a text that is held in memory, however long it is: how that ends, or why it offers none.
-pub fn check_bytes(alloc: Global, bytes: &[u8]) -> Result<CheckEnd, ReadError>
-    ensures end { IfOk result (IsJudged bytes.now) }
+pub fn check_bytes(alloc: Global, bytes: &[u8]) -> Result<Checked, ReadError>
+    ensures end { IfOk result (λ checked. IsJudged bytes.now checked.end) }
     ensures refused { IfErr result (IsProofError bytes.now) }
 {
     problems_grow();
@@ -48,7 +49,7 @@ pub fn check_bytes(alloc: Global, bytes: &[u8]) -> Result<CheckEnd, ReadError>
     own_table();
     let read = read_proof(alloc, bytes)?;
     match judge_proofs(alloc, read) {
-        Ok(over) => Ok(over.end),
+        Ok(over) => Ok(Checked { end: over.end }),
         Err(_) => Err(ReadError::Memory),
     }
 }

@@ -1,7 +1,8 @@
 // The proofs, one after the other.
 ghost use Rattle.std.specs.Prelude.{◌≡◌, IfOk};
 ghost use Rattle.clausify.specs.Names.{HasNoSkolemRelation};
-ghost use Rattle.fol_problem.specs.Stated.{all_said, stated_of, IsWellFormed};
+ghost use Rattle.answered_lines.specs.View.{asked_of, answered_rows_of};
+ghost use Rattle.fol_problem.specs.Stated.{stated_of, IsWellFormed};
 ghost use Rattle.fol_core.specs.SymbolTable.{KeepsNumbers};
 ghost use Rattle.ladr_check.specs.Offered.{offered_by, proofs_in};
 ghost use Rattle.ladr_check.specs.Outcomes.{ProofsEnd, end_of_all, ComesOut};
@@ -36,8 +37,8 @@ fn check_proofs(
     clauses: &Clauses,
     proofs: &[Derivation],
 ) -> Result<CheckOver, AllocError>
-    ensures { IfOk result (λ over. ProofsEnd (all_said problem.now.inputs.items)
-        clauses.now.clauses.items (proofs_in proofs.now) over.end over.accepted) }
+    ensures { IfOk result (λ over. ProofsEnd (asked_of problem.now) (answered_rows_of clauses.now)
+        (proofs_in proofs.now) over.end over.accepted) }
 {
     for (i, proof) in proofs.iter().enumerate() {
         match check(alloc, problem, clauses, &proof.lines) {

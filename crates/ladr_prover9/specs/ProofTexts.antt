@@ -3,7 +3,7 @@ use Rattle.std.specs.Prelude.{ℕ, suc, ◌≡◌, ◌<◌, ◌^◌, Bool, lengt
 use Rattle.std.specs.Fmt.{decimal}
 use Rattle.std.specs.List.{AllByRecursion, concat}
 use Rattle.clause_store.specs.Ancestors.{AreAncestors}
-use Rattle.clause_store.specs.Lines.{PlainContent, plain_formula, plain_clause, PlainLine, plain_line, plain_trees}
+use Rattle.clause_store.specs.Lines.{PlainContent, plain_formula, plain_clause, PlainLine, plain_line, plain_trees, AreUnnoted}
 use Rattle.derivation.specs.declared.line.Line.{Line}
 use Rattle.fol_core.specs.Renumbered.{renumbered}
 use Rattle.fol_core.specs.SymbolTable.{Symbol}
@@ -55,11 +55,12 @@ head_of_proof k p ls = record {
   given = p.given;
 }
 
--- lines and a head as the code has them: with numbers below 2 ^ 64
+-- lines and a head as the code has them: with numbers below 2 ^ 64, and nothing behind a content
 pub record AreHad (h : Heads) (ls : List PlainLine) : Type 0 where
   pub had : List Line
   pub are : map plain_line had ≡ ls
   pub bounded : AllByRecursion IsBoundedLine had
+  pub unnoted : AreUnnoted had
   pub counted : length had < 2 ^ 63
   pub head : IsShortHead h
 

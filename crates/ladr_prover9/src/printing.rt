@@ -1,7 +1,7 @@
 // The texts of proofs.
 ghost use Rattle.std.specs.Prelude.{◌≡◌, ◌+◌, suc, IfOk, length, map};
 ghost use Rattle.clause_store.specs.Ancestors.{AreAncestors};
-ghost use Rattle.clause_store.specs.Lines.{plain_line, plain_trees};
+ghost use Rattle.clause_store.specs.Lines.{plain_line, plain_trees, AreUnnoted};
 ghost use Rattle.given_clause.specs.States.{found_of};
 ghost use Rattle.ladr_prover9.specs.Askings.{quest_of, IsAskedFor};
 ghost use Rattle.ladr_prover9.specs.Counting.{HasExtent};
@@ -46,6 +46,7 @@ fn proof_behind(
     ensures lines { IfOk result (λ p. AreAncestors
         (quest_lines (quest_of asking.now) (state_at prover.now)) line
         (map plain_line p.lines.items)) }
+    ensures notes { IfOk result (λ p. AreUnnoted p.lines.items) }
     ensures level { IfOk result (λ p. p.level
         ≡ level_in (plain_trees (map plain_line p.lines.items)) line) }
     ensures size { IfOk result (λ p. p.size ≡ greatest_size (map plain_line p.lines.items)) }

@@ -1,20 +1,23 @@
 -- A check accepts printed refutations.
 use Rattle.std.proofs.Common.{◌≡◌, ℕ, ◌+◌, ◌<◌, ◌≤◌, ◌^◌, List, [], ◌∷◌, ◌++◌, length, map, None, slice_index, refl, sym, ap, ap₂, ◌∙◌, subst, arith}
 use Rattle.std.proofs.lemmas.List.{length-map, length-append}
-use Rattle.clausify.specs.Input.{form, clauses_in_table, axioms_from, axioms_in_table, skolem_numbers, first_over}
+use Rattle.answered_lines.specs.Laws.{PlainRefutationsStay}
+use Rattle.answered_lines.specs.View.{answered_lines_of}
+use Rattle.clausify.specs.Asked.{answer_terms_in_table}
+use Rattle.clausify.specs.Input.{form, axioms_from, axioms_in_table, skolem_numbers, first_over}
 use Rattle.clausify.specs.Skolem.{skolem_term, somes, skolem_axioms}
-use Rattle.derivation.specs.View.{lines_of}
 use Rattle.derivation.specs.declared.line.Derivation.{Derivation}
 use Rattle.fol_core.specs.Fol.{Fol, verum, falsum, equal, atom, negation, conjunction, disjunction, implication, equivalence, forall, exists}
 use Rattle.fol_core.specs.Literals.{equality}
 use Rattle.fol_core.specs.SkolemAxioms.{AreInOrder}
+use Rattle.fol_problem.specs.Asks.{asks_of}
 use Rattle.fol_problem.specs.Stated.{Said, Stated, stated_of, IsWellFormed, AreNewTo}
 use Rattle.fol_core.specs.Substitutions.{Substitution, with_term}
 use Rattle.fol_core.specs.SymbolTable.{Symbol, KeepsNumbers}
 use Rattle.fol_core.specs.Tree.{var}
 use Rattle.fol_problem.specs.declared.problem.Problem.{Problem}
 use Rattle.ladr_check.specs.Offered.{proofs_in, offered_by}
-use Rattle.ladr_check.specs.Outcomes.{AreRefutations, ComesOut}
+use Rattle.ladr_check.specs.Outcomes.{ComesOut}
 use Rattle.ladr_check.specs.Shown.{OffersAreAlone}
 use Rattle.ladr_check.specs.declared.ends.CheckEnd.TheVariants.{Accepted}
 use Rattle.ladr_formulas.specs.declared.styles.Mode.{Mode}
@@ -26,7 +29,10 @@ use Rattle.ladr_problem.specs.Sofar.{Sofar, stated_in}
 use Rattle.ladr_problem.specs.Whole.{IsOf}
 use Rattle.ladr_problem.specs.declared.read.FileRead.{FileRead}
 use Rattle.printed_proofs.specs.Accepted.{HasFewClauses, AreAccepted}
+use Rattle.printed_proofs.proofs.PlainRefutations.{proofs_stay, are_refutations}
 use Rattle.printed_proofs.proofs.Printing.{same_stated}
+use Rattle.printed_proofs.proofs.Unnoted.{AllAreUnnoted, proofs_unnoted}
+use Rattle.proof_print.specs.Reread.{row_tables}
 use Rattle.printed_proofs.specs.Refutations.{lines_with, AreAllRefuting, lines_printed, ArePrintableRefutations, whole_text, lines_had, ReadsRefutations}
 use Rattle.printed_proofs.specs.Printed.{PrintedProof, HoldsNoProof}
 use Rattle.proof_text.specs.declared.text.ProofRead.{ProofRead}
@@ -55,13 +61,8 @@ all_axioms_count symbols others k (s ∷ ss) =
     ∙ ap₂ (λ a b. a + b) (axioms_count symbols k [] var (form s) ∙ sym (axioms_count others k [] var (form s))) (all_axioms_count symbols others (k + somes (form s)) ss)
     ∙ sym (length-append (skolem_axioms others k [] var (form s)) (axioms_from others (k + somes (form s)) ss))
 
--- refutations by their lines, of both forms
-are_refutations : (p : Stated) (table : List Symbol) (ds : List Derivation) → AreAllRefuting p table (map (λ (d : Derivation). d.lines.items) ds)
-    → AreRefutations p.formulas (clauses_in_table table p) (proofs_in ds)
-are_refutations p table [] h = tt
-are_refutations p table (d ∷ ds) h = (h.0, are_refutations p table ds h.1)
-
-module _ (order : (table : List Symbol) (p : Stated) → IsWellFormed p → length p.symbols ≤ equality → KeepsNumbers p.symbols table → length (axioms_in_table table p) ≤ equality → AreInOrder (axioms_in_table table p))
+module _ (stay : PlainRefutationsStay)
+    (order : (table : List Symbol) (p : Stated) → IsWellFormed p → length p.symbols ≤ equality → KeepsNumbers p.symbols table → length (axioms_in_table table p) ≤ equality → AreInOrder (axioms_in_table table p))
     (new : (table : List Symbol) (p : Stated) → IsWellFormed p → length p.symbols ≤ equality → KeepsNumbers p.symbols table → length (axioms_in_table table p) ≤ equality → AreNewTo p.formulas (axioms_in_table table p))
     (proper : (m : Mode) (bytes : List ℕ) (s : Sofar) → Says m bytes (problem s) → IsProper (stated_in s) s.settings.options)
     (alone : OffersAreAlone)
@@ -69,12 +70,12 @@ module _ (order : (table : List Symbol) (p : Stated) → IsWellFormed p → leng
     → Says Prover input (problem s) → IsOf s f → ArePrintableRefutations f clauses table ps → HoldsNoProof tail → ReadsRefutations (whole_text input f clauses table ps tail) f table ps) where
   -- what comes of a reading whose problem is this one
   comes : (r : ProofRead) (q : Problem) → q ≡ r.problem → IsWellFormed (stated_of q) → length q.symbols ≤ equality → KeepsNumbers q.symbols r.symbols → first_over 1 (stated_of q).formulas ≡ None
-      → length (axioms_in_table r.symbols (stated_of q)) ≤ equality → AreAllRefuting (stated_of q) r.symbols (lines_had r) → (n : ℕ) → 0 < n → n ≡ length r.proofs.items → ComesOut (offered_by r) (Accepted n) n
-  comes r q is well few keeps over skolems refute n some count =
-      subst (λ (p : Problem). ComesOut (record { stated = stated_of p; symbols = r.symbols; proofs = proofs_in r.proofs.items }) (Accepted n) n) is (
+      → length (axioms_in_table r.symbols (stated_of q)) ≤ equality → AreAllRefuting (stated_of q) r.symbols (lines_had r) → AllAreUnnoted (lines_had r) → (n : ℕ) → 0 < n → n ≡ length r.proofs.items → ComesOut (offered_by r) (Accepted n) n
+  comes r q is well few keeps over skolems refute bare n some count =
+      subst (λ (p : Problem). ComesOut (record { stated = stated_of p; asks = asks_of p; symbols = r.symbols; proofs = proofs_in r.proofs.items }) (Accepted n) n) is (
         over,
         (new r.symbols (stated_of q) well few keeps skolems, order r.symbols (stated_of q) well few keeps skolems),
-        (are_refutations (stated_of q) r.symbols r.proofs.items refute, some, count ∙ sym (length-map r.proofs.items (λ (d : Derivation). lines_of d.lines.items)), refl),
+        (are_refutations stay (asks_of q) (answer_terms_in_table r.symbols (stated_of q) (asks_of q)) (stated_of q) r.symbols r.proofs.items bare refute, some, count ∙ sym (length-map r.proofs.items (λ (d : Derivation). answered_lines_of d.lines.items)), refl),
       )
 
   pub accepted : (input : List ℕ) (s : Sofar) (f : FileRead) (clauses : List OperatorRow) (table : List Symbol) (ps : List PrintedProof) (tail : List ℕ) → length input < 2 ^ 64
@@ -89,8 +90,11 @@ module _ (order : (table : List Symbol) (p : Stated) → IsWellFormed p → leng
       subst (λ (n : ℕ). n ≤ equality) (all_axioms_count (skolem_numbers table p) (skolem_numbers r.read.symbols p) 0 p.formulas) limits.skolems in
       let count : length ps ≡ length r.read.proofs.items =
       sym (length-map ps (λ (q : PrintedProof). q.lines)) ∙ sym (length-map (lines_printed ps) (lines_with r.to)) ∙ ap length (sym r.proofs_are) ∙ length-map r.read.proofs.items (λ (d : Derivation). d.lines.items) in
+      let bare : AllAreUnnoted (lines_had r.read) =
+      subst AllAreUnnoted (sym r.proofs_are)
+      (proofs_stay r.to (lines_printed ps) (proofs_unnoted (row_tables f.operators clauses) f.problem.options.prolog_style_variables f.problem.symbols table ps h.printable)) in
       record {
         reading = r;
         alone = alone (whole_text input f clauses table ps tail) (offered_by r.read) (r.read, r.is_read, refl);
-        outcome = comes r.read f.problem (sym r.problem_is) is_proper.well_formed few r.keeps limits.clauses skolems r.refute (length ps) some count;
+        outcome = comes r.read f.problem (sym r.problem_is) is_proper.well_formed few r.keeps limits.clauses skolems r.refute bare (length ps) some count;
       }

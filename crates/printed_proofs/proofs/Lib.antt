@@ -7,8 +7,10 @@ pub mod InLine
 pub mod LinesBehind
 pub mod Origins
 pub mod OwnLines
+pub mod PlainRefutations
 pub mod PrintedBlocks
 pub mod Printing
 pub mod ReadingBehind
+pub mod Unnoted
 pub mod Variables
 pub mod WorkedOut

@@ -14,9 +14,9 @@ use Rattle.fol_core.specs.RawTree.{RawTree}
 use Rattle.fol_core.specs.SymbolTable.{Symbol, symbol, FindsEach, KeepsNumbers}
 use Rattle.fol_core.specs.Tree.{app, none, more}
 use Rattle.fol_core.specs.declared.symbols.Kind.TheVariants.{Function}
-use Rattle.ladr_formulas.proofs.Growing.{grows_formula}
+use Rattle.ladr_formulas.proofs.Growing.{grows_formula, grows_terms}
 use Rattle.ladr_formulas.specs.ClauseIn.{atom_in, literal_in, prepended, literals_in, clause_in}
-use Rattle.ladr_formulas.specs.Formulas.{Reading, Made, meets, names_of_variables, unread}
+use Rattle.ladr_formulas.specs.Formulas.{Reading, Made, meets, names_of_variables, unread, terms_of}
 use Rattle.ladr_lex.specs.Cuts.{Piece}
 use Rattle.ladr_lex.specs.declared.misuse.Misuse.{Misuse}
 use Rattle.ladr_lex.specs.declared.misuse.Misuse.TheVariants.{TwoKinds, UnfitAttribute}
@@ -25,7 +25,12 @@ use Rattle.ladr_rules.specs.Attributes.{attributed}
 use Rattle.printed_proofs.specs.Refutations.{content_with, line_with, lines_with}
 use Rattle.printed_proofs.proofs.OwnLines.{IsOwn, AreOwn, AllAreOwn}
 use Rattle.proof_lines.specs.Faults.{IsLineRead}
-use Rattle.proof_lines.specs.Stated.{line_made, is_unfit, IsContentOf}
+use Rattle.proof_lines.specs.Answered.{ReadAnswer}
+use Rattle.proof_lines.specs.Noted.{is_goal_word}
+use Rattle.proof_lines.specs.Stated.{answers_made, answers_read_behind, line_made, line_misuse, symbols_behind, is_unfit, IsContentOf}
+use Rattle.answers.specs.AnswerView.{answers_of}
+use Rattle.clause_store.specs.Lines.{IsUnnoted, AreUnnoted}
+use Rattle.printed_proofs.proofs.Unnoted.{AllAreUnnoted, asks_nothing, none_made, unasked}
 use Rattle.proof_lines.specs.Strays.{is_stray_relation, brings_stray}
 use Rattle.proof_lines.specs.declared.line.LineRead.{LineRead}
 use Rattle.derivation_laws.specs.Moved.{Moving, moved_clause, moved_literal, moved_term, moved_formula}
@@ -140,6 +145,15 @@ module _ (g : Reader) (all : List Symbol) (once : FindsEach all) (few : KeepsNum
   made_keeps table true t = (grows_formula g.style [] (attributed t).formula (unread table)).symbols
   made_keeps table false t = (grows_formula g.style [] t (unread table)).symbols
 
+  answers_keep : (s : Reading) (us : List ReadAnswer) → KeepsNumbers s.symbols (answers_made g.style s us).reading.symbols
+  answers_keep s [] = λ n x e. e
+  answers_keep s (a ∷ us) =
+      let first : Reading = (terms_of g.style [] s a.terms).reading in
+      λ n x e. answers_keep first us n x ((grows_terms g.style [] s a.terms).symbols n x e)
+
+  whole_keeps : (table : List Symbol) (by_formula : Bool) (t : RawTree) (us : List ReadAnswer) → KeepsNumbers table (symbols_behind g.style table by_formula t us)
+  whole_keeps table by_formula t us = λ n s e. answers_keep (line_made g.style table by_formula t).reading us n s (made_keeps table by_formula t n s e)
+
   made_behind : (by_formula : Bool) (t : RawTree) (table : List Symbol) → Part table → (line_made g.style all by_formula t).reading.symbols ≡ all → (line_made g.style all by_formula t).reading.least ≡ None
       → IsReadBehind all moved_formula (line_made g.style all by_formula t) (line_made g.style table by_formula t)
   made_behind true t table part stays sound = read_behind g.style all table (attributed t).formula once part.finds part.within stays sound
@@ -174,15 +188,20 @@ module _ (g : Reader) (all : List Symbol) (once : FindsEach all) (few : KeepsNum
     keeps : KeepsNumbers table after
     read : (last : List Symbol) (to back : Moving) → LeadsTo all last to back → KeepsNumbers after last → IsLineRead g.tables g.style g.problem table (lexemes ts) (record { line = line_with to r.line; len = r.len }) after
 
-  line_behind : (table : List Symbol) (ts : List Piece) (r : LineRead) → Part table → IsLineRead g.tables g.style g.problem all (lexemes ts) r all → IsOwn (length g.problem) r.line.content → LineBehind table ts r
-  line_behind table ts r part is own =
+  line_behind : (table : List Symbol) (ts : List Piece) (r : LineRead) → Part table → IsLineRead g.tables g.style g.problem all (lexemes ts) r all → IsOwn (length g.problem) r.line.content → IsUnnoted r.line → LineBehind table ts r
+  line_behind table ts r part is own bare =
       let by_formula = states_formula is.parts.words.first in
       let t = is.parts.content in
       let made = line_made g.style all by_formula t in
       let other = line_made g.style table by_formula t in
-      let strays = meets_none (brings_stray g.problem (length all) made.reading.symbols) TwoKinds (meets (is_unfit by_formula t) UnfitAttribute made.reading) is.unmisused in
+      let goal = is_goal_word is.parts.words.first in
+      let no_asks = unasked r.line.notes bare.0 in
+      let none : is.parts.answers ≡ [] = none_made g.style made.reading is.parts.answers (sym is.line.answers ∙ ap answers_of bare.1) in
+      let unmisused : line_misuse g.style g.problem all by_formula t [] ≡ None = subst (λ us. line_misuse g.style g.problem all by_formula t us ≡ None) none is.unmisused in
+      let symbols : all ≡ made.reading.symbols = is.symbols ∙ ap (λ us. symbols_behind g.style all by_formula t us) none in
+      let strays = meets_none (brings_stray g.problem (length all) made.reading.symbols) TwoKinds (meets (is_unfit by_formula t) UnfitAttribute made.reading) unmisused in
       let unfit = meets_none (is_unfit by_formula t) UnfitAttribute made.reading strays.1 in
-      let found = made_behind by_formula t table part (sym is.symbols) unfit.1 in
+      let found = made_behind by_formula t table part (sym symbols) unfit.1 in
       let after = other.reading.symbols in
       let keeps = made_keeps table by_formula t in
       let no_more : brings_stray g.problem (length table) after ≡ false =
@@ -196,13 +215,17 @@ module _ (g : Reader) (all : List Symbol) (once : FindsEach all) (few : KeepsNum
           parts = is.parts;
           first = is.first;
           shallow = is.shallow;
-          unmisused = meets_nothing (brings_stray g.problem (length table) after) (is_unfit by_formula t) other.reading no_more unfit.0 (ap (λ (s : Reading). s.least) found.same ∙ unfit.1);
+          unmisused =
+              subst (λ us. line_misuse g.style g.problem table by_formula t us ≡ None) (sym none)
+              (meets_nothing (brings_stray g.problem (length table) after) (is_unfit by_formula t) other.reading no_more unfit.0 (ap (λ (s : Reading). s.least) found.same ∙ unfit.1));
           line = record {
             number = is.line.number;
             words = is.line.words;
             content = content_behind last to back leads (λ n s e. later n s (keeps n s (part.problem n s e))) by_formula t made other r.line.content own found.same (found.tree last to back leads later) is.line.content;
+            asks = no_asks ∙ sym (asks_nothing g.style all table goal t (sym is.line.asks ∙ no_asks));
+            answers = ap answers_of bare.1 ∙ ap (λ us. (answers_read_behind g.style table by_formula t us).tree) (sym none);
           };
-          symbols = refl;
+          symbols = ap (λ us. symbols_behind g.style table by_formula t us) (sym none);
         };
       }
 
@@ -210,7 +233,7 @@ module _ (g : Reader) (all : List Symbol) (once : FindsEach all) (few : KeepsNum
   lines_keep table ts [] last us no_line = λ n s e. e
   lines_keep table ts (l ∷ ls) last us (further_line {mid = mid} r is rest) = λ n s e.
       lines_keep mid (drop r.len ts) ls last us rest n s
-      (subst (λ (t : List Symbol). slice_get t n ≡ Some s) (sym is.symbols) (made_keeps table (states_formula is.parts.words.first) is.parts.content n s e))
+      (subst (λ (t : List Symbol). slice_get t n ≡ Some s) (sym is.symbols) (whole_keeps table (states_formula is.parts.words.first) is.parts.content is.parts.answers n s e))
 
   -- the lines of a block
   record LinesRead (table : List Symbol) (ts us : List Piece) (ls : List Line) : Type 0 where
@@ -220,16 +243,16 @@ module _ (g : Reader) (all : List Symbol) (once : FindsEach all) (few : KeepsNum
     read : (last : List Symbol) (to back : Moving) → LeadsTo all last to back → KeepsNumbers after last → HasLines g table ts (lines_with to ls) after us
 
   lines_behind : (before : List Symbol) (ts : List Piece) (ls : List Line) (end : List Symbol) (us : List Piece) → HasLines g before ts ls end us → before ≡ all → end ≡ all
-      → (table : List Symbol) → Part table → AreOwn (length g.problem) ls → LinesRead table ts us ls
-  lines_behind before ts [] end us no_line b e table part own = record { after = table; part = part; keeps = λ n s h. h; read = λ last to back leads later. no_line }
-  lines_behind before ts (l ∷ ls) end us (further_line {mid = mid} r is rest) b e table part own =
+      → (table : List Symbol) → Part table → AreOwn (length g.problem) ls → AreUnnoted ls → LinesRead table ts us ls
+  lines_behind before ts [] end us no_line b e table part own bare = record { after = table; part = part; keeps = λ n s h. h; read = λ last to back leads later. no_line }
+  lines_behind before ts (l ∷ ls) end us (further_line {mid = mid} r is rest) b e table part own bare =
       let grows : KeepsNumbers all mid = λ n s h.
-      subst (λ (t : List Symbol). slice_get t n ≡ Some s) (sym is.symbols) (made_keeps before (states_formula is.parts.words.first) is.parts.content n s (subst (λ (t : List Symbol). slice_get t n ≡ Some s) (sym b) h)) in
+      subst (λ (t : List Symbol). slice_get t n ≡ Some s) (sym is.symbols) (whole_keeps before (states_formula is.parts.words.first) is.parts.content is.parts.answers n s (subst (λ (t : List Symbol). slice_get t n ≡ Some s) (sym b) h)) in
       let stays : mid ≡ all = between mid end all grows (lines_keep mid (drop r.len ts) ls end us rest) e in
       let here : IsLineRead g.tables g.style g.problem all (lexemes ts) r all =
       subst (λ (t : List Symbol). IsLineRead g.tables g.style g.problem t (lexemes ts) r all) b (subst (λ (t : List Symbol). IsLineRead g.tables g.style g.problem before (lexemes ts) r t) stays is) in
-      let one = line_behind table ts r part here own.0 in
-      let more = lines_behind mid (drop r.len ts) ls end us rest stays e one.after one.part own.1 in
+      let one = line_behind table ts r part here own.0 bare.0 in
+      let more = lines_behind mid (drop r.len ts) ls end us rest stays e one.after one.part own.1 bare.1 in
       record {
         after = more.after;
         part = more.part;
@@ -253,15 +276,15 @@ module _ (g : Reader) (all : List Symbol) (once : FindsEach all) (few : KeepsNum
       proofs_keep mid bs ps last rest n s (lines_keep table h.0 ls mid [] h.2 n s e)
 
   pub proofs_behind : (before : List Symbol) (bs : List TextBlock) (ps : List (List Line)) (end : List Symbol) → HasProofs g before bs ps end → before ≡ all → end ≡ all
-      → (table : List Symbol) → Part table → AllAreOwn (length g.problem) ps → ProofsBehind table bs ps
-  proofs_behind before [] [] end no_block b e table part own = record { after = table; part = part; keeps = λ n s h. h; read = λ last to back leads later. no_block }
-  proofs_behind before [] (ls ∷ ps) end h b e table part own = elim h [ ]
-  proofs_behind before (x ∷ bs) [] end h b e table part own = elim h [ ]
-  proofs_behind before (x ∷ bs) (ls ∷ ps) end (further_block {mid = mid} h rest) b e table part own =
+      → (table : List Symbol) → Part table → AllAreOwn (length g.problem) ps → AllAreUnnoted ps → ProofsBehind table bs ps
+  proofs_behind before [] [] end no_block b e table part own bare = record { after = table; part = part; keeps = λ n s h. h; read = λ last to back leads later. no_block }
+  proofs_behind before [] (ls ∷ ps) end h b e table part own bare = elim h [ ]
+  proofs_behind before (x ∷ bs) [] end h b e table part own bare = elim h [ ]
+  proofs_behind before (x ∷ bs) (ls ∷ ps) end (further_block {mid = mid} h rest) b e table part own bare =
       let grows : KeepsNumbers all mid = λ n s k. lines_keep before h.0 ls mid [] h.2 n s (subst (λ (t : List Symbol). slice_get t n ≡ Some s) (sym b) k) in
       let stays : mid ≡ all = between mid end all grows (proofs_keep mid bs ps end rest) e in
-      let one = lines_behind before h.0 ls mid [] h.2 b stays table part own.0 in
-      let more = proofs_behind mid bs ps end rest stays e one.after one.part own.1 in
+      let one = lines_behind before h.0 ls mid [] h.2 b stays table part own.0 bare.0 in
+      let more = proofs_behind mid bs ps end rest stays e one.after one.part own.1 bare.1 in
       record {
         after = more.after;
         part = more.part;

@@ -27,6 +27,7 @@ use Rattle.ladr_problem.specs.declared.read.FileRead.{FileRead}
 use Rattle.printed_proofs.specs.Refutations.{content_with, line_with, lines_with, AreAllRefuting, lines_printed, HaveCountedLines, ArePrintableRefutations, whole_text, lines_had, ReadsRefutations}
 use Rattle.printed_proofs.proofs.LinesBehind.{Part, proofs_behind, below}
 use Rattle.printed_proofs.proofs.OwnLines.{IsOwn, AreOwn, AllAreOwn, lines_own}
+use Rattle.printed_proofs.proofs.Unnoted.{proofs_unnoted}
 use Rattle.printed_proofs.specs.Printed.{PrintedProof, ArePrintableProofs, HoldsNoProof, proofs_text}
 use Rattle.printed_proofs.proofs.PrintedBlocks.{framed, proofs_read}
 use Rattle.proof_lines.specs.ContentTokens.{LineTables, line_tables}
@@ -150,12 +151,13 @@ module _ (proper : (m : Mode) (bytes : List ℕ) (s : Sofar) → Says m bytes (p
       let found : HasProofs g table printed.blocks (lines_printed ps) table =
       subst (λ (t : LineTables). HasProofs (record g { tables = t }) table printed.blocks (lines_printed ps) table) (tables_same prolog f.operators clauses h.can.of_clauses) printed.proofs in
       let own = all_own g p table refl is_proper.well_formed once few_table h.can.no_stray (lines_printed ps) h.refute in
+      let bare = proofs_unnoted (row_tables f.operators clauses) prolog f.problem.symbols table ps h.printable in
       let part : Part g table once few_table h.can.no_stray f.problem.symbols = record {
         finds = is_proper.tellable.different;
         within = λ n x e. (n, few_table n x e);
         problem = λ n x e. e;
       } in
-      let again = proofs_behind g table once few_table h.can.no_stray table printed.blocks (lines_printed ps) table found refl refl f.problem.symbols part own in
+      let again = proofs_behind g table once few_table h.can.no_stray table printed.blocks (lines_printed ps) table found refl refl f.problem.symbols part own bare in
       let is_table : IsTableOf p again.after = record { finds = again.part.finds; keeps = again.part.problem } in
       let moved = refutation_read p table again.after is_proper.well_formed h.can.skolems is_table again.part.within in
       let to = moved.0 in

@@ -1,5 +1,5 @@
 -- A printed refutation worked out.
-use Rattle.std.proofs.Common.{◌≡◌, inl, inr, ℕ, zero, suc, Bool, true, false, List, [], ◌∷◌, ◌++◌, map, Some, lit<, lit≤, refl, sym, subst, arith}
+use Rattle.std.proofs.Common.{◌≡◌, inl, inr, ℕ, zero, suc, Bool, true, false, List, [], ◌∷◌, ◌++◌, map, Some, None, lit<, lit≤, refl, sym, subst, arith}
 use Rattle.std.specs.Prelude.{codes}
 use Rattle.std.specs.Global.{Vec}
 use Rattle.std.specs.Fmt.{decimal}
@@ -32,6 +32,7 @@ use Rattle.ladr_lex.specs.Operators.{standard_rows}
 use Rattle.ladr_print.specs.HasText.{plain, CanName}
 use Rattle.ladr_reader.specs.Table.{table_of}
 use Rattle.printed_proofs.specs.WorkedLines.{two_symbols, the_atom, assumed_and_wanted, the_formula, five_lines, five_texts}
+use Rattle.proof_lines.specs.Noted.{asks_in}
 use Rattle.proof_lines.specs.ContentTokens.{LineTables}
 use Rattle.proof_lines.specs.WorkedLines.{worked_tables}
 use Rattle.proof_print.specs.LineTexts.{content_text, lines_text}
@@ -172,21 +173,21 @@ empty_is = record { over = tt; kinds = tt; readable = two_readable _; numbered =
 
 formula_is : IsPrintableContent g false two_symbols two_symbols the_formula
 unfolding named_variable
-formula_is = ((relation_named, ((constant_named, tt), tt)), record { shallow = refl; unmisused = refl; means = (refl, refl, refl); symbols = refl })
+formula_is = ((relation_named, ((constant_named, tt), tt)), record { shallow = refl; unmisused = refl; asks = λ e. refl; means = (refl, refl, refl); symbols = refl })
 
-pub lines_back : (later : Vec Later) (notes : LineNotes) → map later_of later.items ≡ [] → ReadsLines g false two_symbols two_symbols (five_lines later notes)
-lines_back later notes e =
+pub lines_back : (later : Vec Later) (notes : LineNotes) → map later_of later.items ≡ [] → asks_in notes ≡ None → notes.answers.items ≡ [] → ReadsLines g false two_symbols two_symbols (five_lines later notes)
+lines_back later notes e asks answers =
     let none : AreSayable (map later_of later.items) = subst AreSayable (sym e) tt in
     lines_read standard_rows standard_rows false two_symbols two_symbols (five_lines later notes) can_print.lawful can_print (
-      record { number = lit< tt; words = record { first = tt; later = none; alone = λ h. e }; suits = refl; content = formula_is },
+      record { number = lit< tt; words = record { first = tt; later = none; alone = λ h. e }; suits = refl; content = formula_is; asks = asks; answers = answers },
       (
-        record { number = lit< tt; words = record { first = tt; later = none; alone = λ h. e }; suits = refl; content = formula_is },
+        record { number = lit< tt; words = record { first = tt; later = none; alone = λ h. e }; suits = refl; content = formula_is; asks = asks; answers = answers },
         (
-          record { number = lit< tt; words = record { first = lit< tt; later = none; alone = λ h. e }; suits = refl; content = clause_is true },
+          record { number = lit< tt; words = record { first = lit< tt; later = none; alone = λ h. e }; suits = refl; content = clause_is true; asks = asks; answers = answers },
           (
-            record { number = lit< tt; words = record { first = lit< tt; later = none; alone = λ h. e }; suits = refl; content = clause_is false },
+            record { number = lit< tt; words = record { first = lit< tt; later = none; alone = λ h. e }; suits = refl; content = clause_is false; asks = asks; answers = answers },
             (
-              record { number = lit< tt; words = record { first = (lit< tt, (lit< tt, lit< tt, lit< tt)); later = none; alone = λ h. e }; suits = refl; content = empty_is },
+              record { number = lit< tt; words = record { first = (lit< tt, (lit< tt, lit< tt, lit< tt)); later = none; alone = λ h. e }; suits = refl; content = empty_is; asks = asks; answers = answers },
               tt,
             ),
           ),

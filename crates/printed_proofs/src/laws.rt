@@ -1,5 +1,5 @@
 // What printed refutations are read as: the functions do nothing, and their contracts are the laws.
-ghost use Rattle.std.specs.Prelude.{◌≡◌, ◌<◌, ◌^◌, IsTrue, List, [], ℕ, length, ◌++◌, Bool};
+ghost use Rattle.std.specs.Prelude.{◌≡◌, ◌<◌, ◌^◌, IsTrue, List, [], ℕ, length, ◌++◌, Bool, None};
 ghost use Rattle.std.specs.Global.{Vec};
 ghost use Rattle.fol_core.specs.SymbolTable.{Symbol};
 ghost use Rattle.ladr_formulas.specs.declared.styles.Mode.TheVariants.{Prover};
@@ -23,6 +23,7 @@ ghost use Rattle.proof_text.specs.Frame.{IsFramed};
 ghost use Rattle.printed_proofs.specs.ReadBehind.{TermsAreReadBehind};
 ghost use Rattle.printed_proofs.specs.Accepted.{HasFewClauses, AreAccepted};
 
+use answered_lines::plain_lines_stay;
 use clausify::{axioms_are_in_order, skolems_stand_behind};
 use ladr_check::offers_are_alone;
 use ladr_models::formulas_state_themselves;
@@ -57,7 +58,7 @@ pub fn files_can_be_printed()
 /// A refutation of five lines, its text, and what this is read as, worked out.
 pub fn worked_refutation()
     ensures { (later : Vec Later) (notes : LineNotes) → later.items ≡ []
-        → WorkedRefutation later notes }
+        → notes.asks ≡ None → notes.answers.items ≡ [] → WorkedRefutation later notes }
 {}
 
 /// A frame and three that are none, and blocks, worked out.
@@ -99,6 +100,7 @@ pub fn printed_refutations_are_accepted()
         → HoldsNoProof tail → 0 < length ps
         → AreAccepted (whole_text input f clauses table ps tail) f table ps }
 {
+    plain_lines_stay();
     axioms_are_in_order();
     problems_grow();
     problems_are_proper();

@@ -12,7 +12,8 @@
 // Skolem symbols; `FileTexts`: both together; `OwnLines`: formulas of a refutation's lines are the problem's;
 // `LinesBehind`: the lines of all blocks; `Printing`: all together.
 // Checks: the text of refutations offers a check these proofs, but for the numbers of symbols, and nothing else, and
-// the check accepts all of them (`specs/Accepted`).
+// the check accepts all of them (`specs/Accepted`). In `proofs/`, `Unnoted`: nothing stands behind lines that are
+// printed; `PlainRefutations`: refutations of such lines are refutations with answers.
 // Numbers: what is kept in 64 bits is below 2^64, and a contract of a call that has it can say so (`specs/LineBounds`):
 // `lines.rt` goes over a proof's lines, `words.rt` over their words, `clauses.rt` over the variables of clauses, no
 // more than there are numbers of 64 bits, `heads.rt` has the five of a head.

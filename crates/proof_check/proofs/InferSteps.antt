@@ -22,7 +22,7 @@ use Rattle.proof_check.specs.Found.{AfterAs, InferredAs, words_from}
 drop_next : (ws : List Later) (i : ℕ) (w : Later) → i < length ws → w ≡ get_or ws i w → drop i ws ≡ w ∷ drop (i + 1) ws
 drop_next ws i w h is = rw (add-one, drop-cons ws i w) (ap (λ t. t ∷ drop (suc i) ws) (sym is))
 
-words_next : (ws : List Later) (i : ℕ) (w : Later) → i < length ws → w ≡ get_or ws i w → words_from ws i ≡ later_of w ∷ words_from ws (i + 1)
+pub words_next : (ws : List Later) (i : ℕ) (w : Later) → i < length ws → w ≡ get_or ws i w → words_from ws i ≡ later_of w ∷ words_from ws (i + 1)
 words_next ws i w h is = ap (map later_of) (drop_next ws i w h is)
 
 -- whether the clauses are there that the words from one on take
@@ -106,6 +106,13 @@ numbers_next n ss i s h is =
 pub numbers_end : (n : ℕ) (ss : List Satellite) (i : ℕ) → length ss ≤ i → n ∷ map (λ (s : Satellite). s.clause) (take i ss) ≡ n ∷ map (λ (s : Satellite). s.clause) ss
 numbers_end n ss i h = ap (λ ts. n ∷ map (λ (s : Satellite). s.clause) ts) (take_all i ss h)
 
+-- clauses of lines are there
+pub there_of : (ls : List LineTree) (ns : List ℕ) (cs : List ClauseTree) → AreClauses ls ns cs → IsTrue (are_there ls ns)
+there_of ls [] [] are = refl
+there_of ls [] (c ∷ cs) are = absurd are
+there_of ls (n ∷ ns) [] are = absurd are
+there_of ls (n ∷ ns) (c ∷ cs) are = and_from (is_some (clause_at ls n)) (are_there ls ns) (ap is_some are.0) (there_of ls ns cs are.1)
+
 module _ (ls : List LineTree) (w : FirstWord) (ws : List LaterWord) (content : ContentTree) where
   split : are_there ls (all_parents (inference_by w) ws) ≡ (are_there ls (parents_by w) && are_there ls (flat_map later_parents ws))
   split = list_all-append (λ n. is_some (clause_at ls n)) (parents_by w) (flat_map later_parents ws)
@@ -117,14 +124,8 @@ module _ (ls : List LineTree) (w : FirstWord) (ws : List LaterWord) (content : C
   pub words_missing : are_there ls (flat_map later_parents ws) ≡ false → InferredAs ls w ws content (Some causes.NoParent)
   words_missing e = inl (refl, split ∙ and_right (are_there ls (parents_by w)) (are_there ls (flat_map later_parents ws)) e)
 
-  there_of : (ns : List ℕ) (cs : List ClauseTree) → AreClauses ls ns cs → IsTrue (are_there ls ns)
-  there_of [] [] are = refl
-  there_of [] (c ∷ cs) are = absurd are
-  there_of (n ∷ ns) [] are = absurd are
-  there_of (n ∷ ns) (c ∷ cs) are = and_from (is_some (clause_at ls n)) (are_there ls ns) (ap is_some are.0) (there_of ns cs are.1)
-
   pub all_there : (cs : List ClauseTree) → AreClauses ls (parents_by w) cs → are_there ls (flat_map later_parents ws) ≡ true → IsTrue (are_there ls (all_parents (inference_by w) ws))
-  all_there cs are e = split ∙ and_from (are_there ls (parents_by w)) (are_there ls (flat_map later_parents ws)) (there_of (parents_by w) cs are) e
+  all_there cs are e = split ∙ and_from (are_there ls (parents_by w)) (are_there ls (flat_map later_parents ws)) (there_of ls (parents_by w) cs are) e
 
   -- what the rule and the words come to
   pub rule_misplaced : (cs : List ClauseTree) → AreClauses ls (parents_by w) cs → IsTrue (are_there ls (all_parents (inference_by w) ws)) → JudgedAs (rule_by w) cs Unfit → InferredAs ls w ws content (Some causes.Misplaced)

@@ -1,8 +1,10 @@
+mod Alike
+mod AnsweringSteps
+mod CarryingSteps
 mod CheckSteps
 mod EarlierSteps
 mod InferSteps
 mod InstanceSteps
-mod SameSteps
+mod LineSteps
+pub mod PlainSteps
 mod SizeSteps
-mod StateSteps
-mod Alike

@@ -33,10 +33,6 @@ module _ (c d : ClauseTree) (n : ℕ) where
   pub as_deep : n ≡ saturated (clause_depth d) → (n ≡ 0 → ⊥) → nat_lt (n - 1) (clause_depth c) ≡ is_as_deep c d
   as_deep is some = let e : suc (n - 1) ≡ saturated (clause_depth d) = omega (arith, is, some) in ap (λ k. nat_le k (clause_depth c)) e
 
--- clauses that are the same, but for their variables, have one size
-pub same_sizes : (c d : ClauseTree) → renumbered c ≡ renumbered d → clause_size c ≡ clause_size d
-same_sizes c d same = sym (numbered_size c) ∙ ap clause_size same ∙ numbered_size d
-
 -- a content that is the clause, but for its variables, has its size
 pub same_size : (content : ContentTree) (d : ClauseTree) → IsClause content d → may_be content d ≡ true
 same_size (formula f) d is = absurd is

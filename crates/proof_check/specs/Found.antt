@@ -1,11 +1,13 @@
 -- What is found of a line: nothing against it, or the row.
 use Rattle.std.specs.Prelude.{ℕ, ◌≡◌, Bool, false, ◌⊎◌, List, [], drop, map, Option, MatchOption}
 use Rattle.std.specs.List.{flat_map}
+use Rattle.answered_lines.specs.Lines.{Asked, AnsweredRow, AnsweredLine, IsInferredWith, IsInstanceWith, IsStatedWith, IsInputWith, IsLineWith}
+use Rattle.answered_lines.specs.Refused.{StatedFailsWith, InputFailsWith, InferenceFailsWith, InstanceFailsWith, LineFailsWith, IsRefusedWith, IsAcceptedWith}
+use Rattle.answers.specs.AnswerTrees.{Answer}
 use Rattle.fol_core.specs.Literals.{ClauseTree}
-use Rattle.fol_problem.specs.Stated.{Said}
 use Rattle.derivation.specs.Later.{LaterWord, later_parents}
-use Rattle.derivation.specs.Lines.{FirstWord, ContentTree, LineTree, InputRow, After, IsInferred, IsInstance, IsStated, IsInputOf, IsLine}
-use Rattle.derivation.specs.Refused.{Fails, are_there, InferenceFails, InstanceFails, StatedFails, InputFails, LineFails, IsRefusedLine, IsAccepted}
+use Rattle.derivation.specs.Lines.{FirstWord, ContentTree, LineTree, After, IsInferred, IsInstance}
+use Rattle.derivation.specs.Refused.{Fails, are_there, InferenceFails, InstanceFails}
 use Rattle.derivation.specs.View.{later_of}
 use Rattle.derivation.specs.declared.row.Row.{Row}
 use Rattle.derivation.specs.declared.row.Row.TheVariants.{NoParent}
@@ -37,26 +39,42 @@ abbrev pub InstanceAs : List LineTree → ℕ → List Binding → List LaterWor
 InstanceAs ls n es ws content o =
     MatchOption o (IsInstance ls n es ws content) (λ row. InstanceFails ls n es ws content row)
 
--- of a formula
-abbrev pub StatedAs : Bool → List Said → List LaterWord → ContentTree → Option Row → Type 0
-StatedAs goal ss ws content o =
-    MatchOption o (IsStated goal content ss × (ws ≡ [])) (λ row. StatedFails goal ss ws content row)
+-- so with the answers of its clause
+abbrev pub InferredWithAs : List AnsweredLine → FirstWord → List LaterWord → ContentTree →
+    List Answer → Option Row → Type 0
+InferredWithAs ls w ws content us o =
+    MatchOption o (IsInferredWith ls (inference_by w) ws content us)
+    (λ row. InferenceFailsWith ls (inference_by w) ws content us row)
 
--- of a clause of one
-abbrev pub InputAs : List Said → List InputRow → List LineTree → Bool → ℕ → List LaterWord →
-    ContentTree → Option Row → Type 0
-InputAs ss rows ls goal n ws content o =
-    MatchOption o (IsInputOf ss rows ls goal n content × (ws ≡ []))
-    (λ row. InputFails ss rows ls goal n ws content row)
+abbrev pub InstanceWithAs : List AnsweredLine → ℕ → List Binding → List LaterWord → ContentTree →
+    List Answer → Option Row → Type 0
+InstanceWithAs ls n es ws content us o =
+    MatchOption o (IsInstanceWith ls n es ws content us)
+    (λ row. InstanceFailsWith ls n es ws content us row)
+
+-- of a formula, with what its line asks for
+abbrev pub StatedAs : Bool → List Asked → List LaterWord → ContentTree → Option (List ℕ) →
+    Option Row → Type 0
+StatedAs goal ss ws content asks o =
+    MatchOption o (IsStatedWith goal content asks ss × (ws ≡ []))
+    (λ row. StatedFailsWith goal ss ws content asks row)
+
+-- of a clause of one, with its answers
+abbrev pub InputAs : List Asked → List AnsweredRow → List AnsweredLine → Bool → ℕ → List LaterWord →
+    ContentTree → List Answer → Option Row → Type 0
+InputAs ss rows ls goal n ws content us o =
+    MatchOption o (IsInputWith ss rows ls goal n content us × (ws ≡ []))
+    (λ row. InputFailsWith ss rows ls goal n ws content us row)
 
 -- of the words of a line
-abbrev pub LineAs : List Said → List InputRow → List LineTree → FirstWord → List LaterWord →
-    ContentTree → Option Row → Type 0
-LineAs ss rows ls w ws content o =
-    MatchOption o (IsLine ss rows ls w ws content) (λ row. LineFails ss rows ls w ws content row)
+abbrev pub LineAs : List Asked → List AnsweredRow → List AnsweredLine → FirstWord → List LaterWord →
+    ContentTree → Option (List ℕ) → List Answer → Option Row → Type 0
+LineAs ss rows ls w ws content asks us o =
+    MatchOption o (IsLineWith ss rows ls w ws content asks us)
+    (λ row. LineFailsWith ss rows ls w ws content asks us row)
 
 -- and of a line
-abbrev pub FoundAs : List Said → List InputRow → List LineTree → Option ℕ → LineTree → Option Row →
-    Type 0
-FoundAs ss rows ls last l o =
-    MatchOption o (IsAccepted ss rows ls last l) (λ row. IsRefusedLine ss rows ls last l row)
+abbrev pub FoundWith : List Asked → List AnsweredRow → List AnsweredLine → Option ℕ → AnsweredLine →
+    Option Row → Type 0
+FoundWith ss rows ls last l o =
+    MatchOption o (IsAcceptedWith ss rows ls last l) (λ row. IsRefusedWith ss rows ls last l row)

@@ -15,35 +15,17 @@ ghost use Rattle.proof_check.specs.Found.{AfterAs, InferredAs, words_from};
 ghost use Rattle.proof_check.specs.Reached.{AreRising};
 
 use crate::earlier::{are_there, clauses_at};
-use crate::sizes::{may_be, may_be_same};
+use crate::sizes::may_be;
 use clause_limits::{Measure, is_too_large};
 use derivation::{Content, First, Just, Later, Line, Row, Satellite};
-use fol_core::{Clause, renumber};
+use fol_core::Clause;
 use inference::{Followed, Judged, LargeConclusion, follow, judge};
 use shared_clauses::SharedClause;
+use stated_lines::is_clause;
 use std::alloc::{AllocError, Global};
-use substitutions::same_clause;
 
-/// Whether a content is a clause, but for the numbers of variables.
-pub fn is_clause(alloc: Global, content: &Content, clause: &Clause) -> Result<bool, AllocError>
-    ensures { IfOk result (λ is. IsTrue is ↔ IsClause (content_of content.now) clause.now) }
-{
-    match content {
-        Content::Formula(_, _) => Ok(false),
-        Content::Clause(own) => {
-            // Numbering takes time, and most clauses that differ differ in size.
-            if !may_be_same(own, clause) {
-                return Ok(false);
-            }
-            let own = renumber(alloc, own)?;
-            let other = renumber(alloc, clause)?;
-            Ok(same_clause(&own, &other))
-        }
-    }
-}
-
-// The numbers of the clauses that a word takes.
-fn later_numbers(alloc: Global, word: &Later) -> Result<Vec<u64>, AllocError>
+/// The numbers of the clauses that a word takes.
+pub fn later_numbers(alloc: Global, word: &Later) -> Result<Vec<u64>, AllocError>
     ensures { IfOk result (λ ns. ns.items ≡ later_parents (later_of word.now)) }
 {
     let mut numbers = Vec::new(alloc);
@@ -243,7 +225,8 @@ fn two_numbers(alloc: Global, n: u64, m: u64) -> Result<Vec<u64>, AllocError>
     Ok(numbers)
 }
 
-fn parent_numbers(alloc: Global, first: &First) -> Result<Vec<u64>, AllocError>
+/// The numbers of the clauses that a first word takes.
+pub fn parent_numbers(alloc: Global, first: &First) -> Result<Vec<u64>, AllocError>
     ensures { IfOk result (λ ns. ns.items ≡ parents_by (first_word_of first.now)) }
 {
     match first {

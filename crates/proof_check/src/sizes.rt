@@ -4,7 +4,6 @@ ghost use Rattle.clause_limits.specs.Sizes.{clause_depth, clause_size};
 ghost use Rattle.derivation.specs.Lines.{IsClause};
 ghost use Rattle.derivation.specs.View.{content_of};
 ghost use Rattle.fol_core.specs.Literals.{ClauseTree};
-ghost use Rattle.fol_core.specs.Renumbered.{renumbered};
 ghost use Rattle.fol_core.specs.Sizes.{saturated};
 ghost use Rattle.inference.specs.Measured.{clause_measured};
 ghost use Rattle.proof_check.specs.Sized.{is_as_large, is_as_deep, may_be};
@@ -33,20 +32,6 @@ fn is_as_deep(clause: &Clause, depth: u64) -> bool
         return true;
     }
     is_clause_deeper(clause, depth - 1)
-}
-
-/// Whether two clauses may be the same, but for the numbers of variables, by how large they are: two that are may.
-#[tactic(auto, using(crate::proofs::SizeSteps::same_sizes))]
-pub fn may_be_same(own: &Clause, other: &Clause) -> bool
-    ensures { renumbered own.now ≡ renumbered other.now → IsTrue result }
-{
-    let Some(left) = left_behind_clause(other, u64::MAX) else {
-        return true;
-    };
-    match left_behind_clause(own, u64::MAX - left) {
-        Some(rest) => rest == 0,
-        None => false,
-    }
 }
 
 /// Whether a content may be a clause that isn't built, by how large that is: each that is it may.

@@ -1,10 +1,16 @@
 -- Answers that are the same, one by one.
-use Rattle.std.proofs.Common.{◌≡◌, ◌<◌, ◌≤◌, ◌+◌, ◌∙◌, ℕ, true, false, ◌==◌, List, length, get_or, take, refl, sym, ap, ap₂, add-one}
+use Rattle.std.proofs.Common.{◌≡◌, ◌↔◌, IsTrue, [], ◌∷◌, arith, ◌<◌, ◌≤◌, ◌+◌, ◌∙◌, ℕ, true, false, ◌==◌, List, length, get_or, take, refl, sym, ap, ap₂, Bool, add-one}
 use Rattle.std.proofs.lemmas.Bool.{and_from, and_parts, eq-eqb, eqb-true, false≢true}
+use Rattle.answered_lines.specs.Lines.{IsClauseWith}
+use Rattle.answers.proofs.Prefix.{numbered_is}
 use Rattle.answers.specs.AnswerTrees as trees
 use Rattle.answers.specs.AnswerView.{answer_of, answers_of}
 use Rattle.answers.specs.declared.answer.Answer.{Answer}
+use Rattle.clause_limits.proofs.Numbered.{numbered_size}
+use Rattle.clause_limits.specs.Sizes.{clause_size}
+use Rattle.derivation.specs.Lines.{ContentTree, formula, clause, IsClause}
 use Rattle.fol_core.specs.Literals.{ClauseTree}
+use Rattle.fol_core.specs.Renumbered.{renumbered}
 use Rattle.substitutions.proofs.Elements.{front_more, element_same, length_same, all_same}
 use Rattle.unifiers.specs.Matching.{same_trees}
 use Rattle.unifiers.proofs.MatchesFound.{trees_same, same_themselves}
@@ -41,3 +47,24 @@ module _ (c d n m : ClauseTree) (us bs xs ys : List trees.Answer) where
 
   pub same_with : n ≡ trees.numbered_clause c us → m ≡ trees.numbered_clause d bs → n ≡ m → xs ≡ trees.numbered_answers c us → ys ≡ trees.numbered_answers d bs → xs ≡ ys → trees.IsSame c us d bs
   same_with first second same told other are = (sym first ∙ same ∙ second, sym told ∙ are ∙ other)
+
+-- clauses that are the same, but for their variables, have one size
+pub same_sizes : (c d : ClauseTree) → renumbered c ≡ renumbered d → clause_size c ≡ clause_size d
+same_sizes c d same = sym (numbered_size c) ∙ ap clause_size same ∙ numbered_size d
+
+-- with their answers they are the same without
+same_plainly : (c d : ClauseTree) (us bs : List trees.Answer) → trees.IsSame c us d bs → renumbered c ≡ renumbered d
+same_plainly c d us bs same = sym (numbered_is c us) ∙ same.0 ∙ numbered_is d bs
+
+pub plainly_apart : (c d : ClauseTree) (us bs : List trees.Answer) (b : Bool) → (renumbered c ≡ renumbered d → b ≡ true) → b ≡ false → trees.IsSame c us d bs → ⊥
+plainly_apart c d us bs b may other same = false≢true (sym other ∙ may (same_plainly c d us bs same))
+
+-- where neither has answers the clauses decide
+pub plain_decides : (content : ContentTree) (d : ClauseTree) (us bs : List Answer) (b : Bool) → length us ≡ 0 → length bs ≡ 0 → IsTrue b ↔ IsClause content d → IsTrue b ↔ IsClauseWith content (answers_of us) d (answers_of bs)
+plain_decides content d [] [] b none other h = by content h
+  where
+    by : (content : ContentTree) → IsTrue b ↔ IsClause content d → IsTrue b ↔ IsClauseWith content [] d []
+    by (formula f) h = h
+    by (clause c) h = (λ yes. (numbered_is c [] ∙ h.0 yes ∙ sym (numbered_is d []), refl), λ same. h.1 (same_plainly c d [] [] same))
+plain_decides content d [] (x ∷ bs) b none other h = absurd (omega arith)
+plain_decides content d (x ∷ us) bs b none other h = absurd (omega arith)

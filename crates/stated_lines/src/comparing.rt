@@ -1,15 +1,50 @@
 // Clauses with answers that are the same, but for the numbers of their variables.
 ghost use Rattle.std.specs.Prelude.{◌≡◌, ◌↔◌, IsTrue, IfOk};
+ghost use Rattle.derivation.specs.Lines.{IsClause};
+ghost use Rattle.fol_core.specs.Renumbered.{renumbered};
 ghost use Rattle.answered_lines.specs.Lines.{IsClauseWith};
 ghost use Rattle.answers.specs.AnswerTrees.{IsSame, numbered_clause, numbered_answers};
 ghost use Rattle.answers.specs.AnswerView.{answers_of};
 ghost use Rattle.derivation.specs.View.{content_of};
 
 use answers::{Answer, copy_answers, is_same_answer, numbered_with};
+use clause_limits::left_behind_clause;
 use derivation::Content;
-use fol_core::Clause;
+use fol_core::{Clause, renumber};
 use std::alloc::{AllocError, Global};
 use substitutions::same_clause;
+
+// Whether two clauses may be the same, but for the numbers of variables, by how large they are: two that are may.
+#[tactic(auto, using(crate::proofs::AnswerSteps::same_sizes))]
+fn may_be_same(own: &Clause, other: &Clause) -> bool
+    ensures { renumbered own.now ≡ renumbered other.now → IsTrue result }
+{
+    let Some(left) = left_behind_clause(other, u64::MAX) else {
+        return true;
+    };
+    match left_behind_clause(own, u64::MAX - left) {
+        Some(rest) => rest == 0,
+        None => false,
+    }
+}
+
+/// Whether a content is a clause, but for the numbers of variables.
+pub fn is_clause(alloc: Global, content: &Content, clause: &Clause) -> Result<bool, AllocError>
+    ensures { IfOk result (λ is. IsTrue is ↔ IsClause (content_of content.now) clause.now) }
+{
+    match content {
+        Content::Formula(_, _) => Ok(false),
+        Content::Clause(own) => {
+            // Numbering takes time, and most clauses that differ differ in size.
+            if !may_be_same(own, clause) {
+                return Ok(false);
+            }
+            let own = renumber(alloc, own)?;
+            let other = renumber(alloc, clause)?;
+            Ok(same_clause(&own, &other))
+        }
+    }
+}
 
 /// Whether answers are the same, one by one.
 #[tactic(auto, using(crate::proofs::AnswerSteps::answers_length, crate::proofs::AnswerSteps::answers_apart, crate::proofs::AnswerSteps::answers_next, crate::proofs::AnswerSteps::answers_end))]
@@ -54,6 +89,9 @@ fn is_same(
     ensures { IfOk result (λ is. IsTrue is ↔ IsSame own.now (answers_of own_answers.now) other.now
         (answers_of other_answers.now)) }
 {
+    if !may_be_same(own, other) {
+        return Ok(false);
+    }
     let (clause, answers) = numbered_copy(alloc, own, own_answers)?;
     let (second, others) = numbered_copy(alloc, other, other_answers)?;
     if !same_clause(&clause, &second) {
@@ -65,8 +103,8 @@ fn is_same(
     Ok(true)
 }
 
-/// Whether a content with answers is a clause with these, but for the numbers of variables.
-pub fn is_clause_with(
+// Whether a content is a clause, and both have answers or one has.
+fn is_whole(
     alloc: Global,
     content: &Content,
     own_answers: &[Answer],
@@ -80,4 +118,26 @@ pub fn is_clause_with(
         Content::Formula(_, _) => Ok(false),
         Content::Clause(own) => is_same(alloc, own, own_answers, clause, answers),
     }
+}
+
+/// Whether a content with answers is a clause with these, but for the numbers of variables. Without answers the clauses alone
+/// are compared.
+pub fn is_clause_with(
+    alloc: Global,
+    content: &Content,
+    own_answers: &[Answer],
+    clause: &Clause,
+    answers: &[Answer],
+) -> Result<bool, AllocError>
+    ensures { IfOk result (λ is. IsTrue is ↔ IsClauseWith (content_of content.now)
+        (answers_of own_answers.now) clause.now (answers_of answers.now)) }
+{
+    if own_answers.len() != 0 {
+        return is_whole(alloc, content, own_answers, clause, answers);
+    }
+    if answers.len() != 0 {
+        return is_whole(alloc, content, own_answers, clause, answers);
+    }
+    let plain = is_clause(alloc, content, clause)?;
+    Ok(plain)
 }

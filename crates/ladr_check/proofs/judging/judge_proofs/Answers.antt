@@ -1,4 +1,5 @@
-use Rattle.std.proofs.Common.{List, ap, subst}
+use Rattle.std.proofs.Common.{List, ap, ap₂, subst}
+use Rattle.answered_lines.specs.Lines.{with_terms}
 use Rattle.fol_core.specs.SkolemAxioms.{SkolemAxiom, AreInOrder}
 use Rattle.fol_problem.specs.Stated.{AreNewTo}
 use Rattle.ladr_check.proofs.Judgings.{comes_by}
@@ -11,4 +12,4 @@ returns-in-Ok c =
     let x = offered_by c.args.read in
     let made = c.in-Ok.ensures in
     let new : HasNewSkolems x = (subst (λ (ws : List SkolemAxiom). AreNewTo x.stated.formulas ws) made.skolem made.new, subst AreInOrder made.skolem made.order) in
-    comes_by x _ _ c.check_proofs.result made.within new made.clauses (ap proofs_in c.deref.ensures.value) c.check_proofs.ensures
+    comes_by x _ _ c.check_proofs.result made.within new (ap₂ with_terms made.clauses made.answers) (ap proofs_in c.deref.ensures.value) c.check_proofs.ensures

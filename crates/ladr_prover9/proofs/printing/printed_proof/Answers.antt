@@ -31,6 +31,7 @@ returns-clause-text c =
       had = record {
         had = items;
         are = refl;
+        unnoted = c.in_ok-proof.ensures.notes;
         bounded = subst (λ (ls : List Line). AllByRecursion IsBoundedLine ls) c.as_slice-lines.ensures.value c.lines_are_bounded.ensures;
         counted = subst (λ (ls : List Line). length ls < 2 ^ 63) c.as_slice-lines.ensures.value c.lines_are_counted.ensures;
         head = subst IsShortHead head c.heads_are_short.ensures;

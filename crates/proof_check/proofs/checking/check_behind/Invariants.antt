@@ -1,7 +1,7 @@
 -- The lines so far are read.
-use Rattle.fol_problem.specs.Stated.{all_said}
 use Rattle.proof_check.specs.Reached.{Going}
+use Rattle.stated_lines.specs.Held.{asked_inputs, rows_with}
 use Rattle.proof_check.proofs.checking.check_behind.Given as goal
 
 abbrev pub invariant-loop-i : goal.invariant-loop-i
-invariant-loop-i l = Going (all_said l.inputs) l.rows l.lines l.i
+invariant-loop-i l = Going (asked_inputs l.inputs) (rows_with l.rows l.answers) l.lines l.i

@@ -1,7 +1,0 @@
--- The first arguments are the same.
-use Rattle.std.proofs.Common.{◌≡◌, take}
-use Rattle.fol_core.specs.TermView.{tree_list}
-use Rattle.proof_check.proofs.sameness.same_terms.Given as goal
-
-abbrev pub invariant-loop-i : goal.invariant-loop-i
-invariant-loop-i l = tree_list (take l.i l.ls) ≡ tree_list (take l.i l.rs)
