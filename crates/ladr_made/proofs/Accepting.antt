@@ -11,7 +11,8 @@ use Rattle.ladr_intake.specs.declared.stops.Refused.{Refused}
 use Rattle.ladr_io.specs.Memory.{SourceState, SinkState, inflow_of, outflow_of}
 use Rattle.ladr_io.specs.Times.{Times}
 use Rattle.ladr_made.proofs.Memory.{read_whole, held_whole}
-use Rattle.ladr_made.specs.Proving.{Finds, proved_by, IsProved}
+use Rattle.ladr_check.specs.declared.checked.Checked.{Checked}
+use Rattle.ladr_made.specs.Proving.{Finds, IsCheckOf, HasAccepted, IsAcceptable, IsToldOf, IsProved}
 use Rattle.ladr_made.specs.declared.parts.Proved.{Proved}
 use Rattle.ladr_output.specs.Standing.{AreWholeLines}
 use Rattle.ladr_output.specs.Telling.{as_line}
@@ -24,7 +25,7 @@ use Rattle.ladr_prover9.specs.Quests.{Quest, asks, quest_seconds, IsHad}
 use Rattle.ladr_prover9.specs.declared.ends.ProverOver.{ProverOver}
 use Rattle.proof_print.specs.LineTexts.{frame_text}
 use Rattle.prover_steps.specs.Searching.{FoundProof, is_nil}
-use Rattle.std.specs.Prelude.{Option}
+use Rattle.std.specs.Prelude.{Option, Some}
 use Rattle.std.specs.declared.alloc.AllocError.{AllocError}
 
 -- lines end where the last one does
@@ -93,9 +94,6 @@ module _ (s s' : SourceState) (k k' : SinkState) (times : Times) (over : ProverO
       (got.0, subst (λ (b : List ℕ). AreAllAccepted b k'.held got.0) bytes_are (subst (λ (u : List ℕ). AreAllAccepted run.bytes u got.0) written_is got.1))
 
 -- an output that is accepted comes out in no other way, and isn't refused
-abbrev pub IsAcceptable : List ℕ → Type 0
-IsAcceptable text = (bytes : List ℕ) × ((n : ℕ) × AreAllAccepted bytes text n)
-
 pub comes_out : EndIsOne → (text : List ℕ) (end : CheckEnd) (is : IsAcceptable text) → IsJudged text end → end ≡ ends.Accepted is.1.0
 comes_out once text end is h =
     let all = is.1.1 in
@@ -105,7 +103,21 @@ comes_out once text end is h =
 pub unrefused : (text : List ℕ) (why : Refused) → IsAcceptable text → refuses_proofs text why → ⊥
 unrefused text why is h = is.1.1.alone.2 why h
 
--- so it is told
-pub proved_so : (bytes text : List ℕ) (over : ProverOver) → Finds bytes over text → (0 < over.proofs → (n : ℕ) × AreAllAccepted bytes text n) → (r : Result Proved AllocError) → IfOk r (λ p. p ≡ proved_by over) → IfOk r (IsProved bytes)
-proved_so bytes text over finds all (Ok p) h = inr (record { over = over; text = text; finds = finds; told = h; accepted = all })
-proved_so bytes text over found all (Err e) h = tt
+-- so it is told, and that the check accepts all
+pub proved_so :
+    (bytes text : List ℕ) (over : ProverOver) → EndIsOne → Finds bytes over text → (0 < over.proofs → (n : ℕ) × AreAllAccepted bytes text n) → (r : Result Proved AllocError) →
+    IfOk r (IsToldOf over text) → IfOk r (IsProved bytes)
+proved_so bytes text over once finds all (Ok p) h =
+    inr (record {
+      over = over;
+      text = text;
+      finds = finds;
+      told = h.0;
+      checked = h.1;
+      accepted = λ some. let got = all some in (got.0, got.1, answered p.checked h.1 some got.0 got.1);
+    })
+  where
+    answered : (o : Option Checked) → IsCheckOf over.proofs text o → 0 < over.proofs → (n : ℕ) → AreAllAccepted bytes text n → HasAccepted o n
+    answered None none some n a = absurd (omega (arith, some, none))
+    answered (Some checked) is some n a = comes_out once text checked.end (bytes, (n, a)) is.1
+proved_so bytes text over once found all (Err e) h = tt

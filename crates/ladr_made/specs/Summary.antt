@@ -1,6 +1,9 @@
 -- What is printed of a generated problem.
-use Rattle.std.specs.Prelude.{ℕ, Bool, if◌then◌else◌, List, ◌++◌, codes}
+use Rattle.std.specs.Prelude.{ℕ, List, ◌++◌, Option, None, Some, codes}
 use Rattle.std.specs.Fmt.{decimal}
+use Rattle.ladr_check.specs.declared.checked.Checked.{Checked}
+use Rattle.ladr_check.specs.declared.ends.CheckEnd.{CheckEnd}
+use Rattle.ladr_check.specs.declared.ends.CheckEnd.TheVariants.{Accepted}
 use Rattle.ladr_made.specs.declared.parts.Modelled.{Modelled}
 use Rattle.ladr_made.specs.declared.parts.Proved.{Proved}
 use Rattle.ladr_output.specs.Telling.{as_line}
@@ -22,10 +25,14 @@ counters p =
 abbrev pub prover_line : Proved → List ℕ
 prover_line p = labelled (codes "% Prover9 status ") p.status ++ counters p
 
--- what a check tells of its proofs
-abbrev pub check_line : Bool → List ℕ
-check_line accepted =
-    as_line (if accepted then codes "% Check accepted." else codes "% Check none.")
+-- what a check told of its proofs
+abbrev pub end_line : CheckEnd → List ℕ
+end_line (Accepted proofs) = as_line (codes "% Check accepted.")
+end_line other = as_line (codes "% Check none.")
+
+abbrev pub check_line : Option Checked → List ℕ
+check_line None = as_line (codes "% Check none.")
+check_line (Some checked) = end_line checked.end
 
 -- what became of the search for a model
 abbrev pub model_line : Modelled → List ℕ
@@ -36,5 +43,5 @@ model_line m =
 -- the whole output for a problem of n steps
 abbrev pub summary_text : ℕ → Proved → Modelled → List ℕ
 summary_text n p m =
-    made_line n ++ prover_line p ++ check_line p.accepted ++ model_line m
+    made_line n ++ prover_line p ++ check_line p.checked ++ model_line m
     ++ as_line (codes "% Exit made.")

@@ -1,7 +1,8 @@
 // What is told of a generated problem.
+use ladr_check::Checked;
 
 /// What became of the search for proofs of a problem: its status, how many clauses were given and kept, how many lines and levels its
-/// first proof has, and whether there are proofs, which a check accepts.
+/// first proof has, and what a check answered of its proofs, if there are some.
 #[derive(Clone, Copy)]
 pub struct Proved {
     pub status: u8,
@@ -9,7 +10,7 @@ pub struct Proved {
     pub kept: u64,
     pub length: u64,
     pub level: u64,
-    pub accepted: bool,
+    pub checked: Option<Checked>,
 }
 
 /// What became of the search for a model: its status, and the size of the model, or 0.

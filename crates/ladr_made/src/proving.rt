@@ -1,11 +1,10 @@
 // The search for proofs of a problem, and the check of its output, in memory.
-ghost use Rattle.std.specs.Prelude.{◌≡◌, ◌<◌, ℕ, nat_lt, true, IfOk, List};
-ghost use Rattle.accepted_output.specs.Accepted.{AreAllAccepted};
-ghost use Rattle.ladr_made.specs.Proving.{proved_by, unproved, IsProved};
+ghost use Rattle.std.specs.Prelude.{◌≡◌, ◌<◌, IfOk};
+ghost use Rattle.ladr_made.specs.Proving.{proved_by, unproved, IsAcceptable, IsAcceptedAs, IsToldOf, IsProved};
 
 use crate::parts::Proved;
 use accepted_output::outputs_are_accepted;
-use ladr_check::{CheckEnd, check_bytes, one_end};
+use ladr_check::{Checked, check_bytes, one_end};
 use ladr_intake::Stop;
 use ladr_io::{MemClock, MemSink, MemSource};
 use ladr_problem::ReadError;
@@ -22,14 +21,13 @@ fn unproved() -> Proved
         kept: 0,
         length: 0,
         level: 0,
-        accepted: false,
+        checked: None,
     }
 }
 
-// What is told of a search.
-fn proved_by(over: ProverOver, accepted: bool) -> Proved
-    requires { accepted ≡ nat_lt 0 over.proofs }
-    ensures { result ≡ proved_by over }
+// What is told of a search, with what a check answered.
+fn proved_by(over: ProverOver, checked: Option<Checked>) -> Proved
+    ensures { result ≡ proved_by over checked }
 {
     Proved {
         status: over.end.status(),
@@ -37,48 +35,40 @@ fn proved_by(over: ProverOver, accepted: bool) -> Proved
         kept: over.kept,
         length: over.length,
         level: over.level,
-        accepted,
+        checked,
     }
 }
 
-// Whether a check accepts each proof of an output, as it does by the law.
-fn is_accepted(alloc: Global, text: &[u8]) -> Result<bool, AllocError>
-    requires { (bytes : List ℕ) × ((n : ℕ) × AreAllAccepted bytes text.now n) }
-    ensures { IfOk result (λ accepted. accepted ≡ true) }
+// What a check answers of an output: by the law it isn't refused, and each of its proofs is accepted.
+fn answer_of(alloc: Global, text: &[u8]) -> Result<Option<Checked>, AllocError>
+    requires { IsAcceptable text.now }
+    ensures { IfOk result (IsAcceptedAs text.now) }
 {
     one_end();
     match check_bytes(alloc, text) {
-        Ok(CheckEnd::Accepted { .. }) => Ok(true),
-        Ok(
-            CheckEnd::NotAccepted {
-                line: _line,
-                row: _row,
-            },
-        ) => Ok(false),
-        Ok(CheckEnd::ClauseLimit { formula: _formula }) => Ok(false),
-        Err(ReadError::Unreadable(_place)) => Ok(false),
-        Err(ReadError::Misuse(_place, _why)) => Ok(false),
+        Ok(checked) => Ok(Some(checked)),
+        Err(ReadError::Unreadable(_place)) => Ok(None),
+        Err(ReadError::Misuse(_place, _why)) => Ok(None),
         Err(
             ReadError::TooLarge {
                 byte: _byte,
                 what: _what,
             },
-        ) => Ok(false),
+        ) => Ok(None),
         Err(ReadError::Memory) => Err(AllocError),
     }
 }
 
 // What is told of a search with this output, whose proofs are checked.
 fn checked(alloc: Global, over: ProverOver, text: &[u8]) -> Result<Proved, AllocError>
-    requires { 0 < over.proofs
-        → (bytes : List ℕ) × ((n : ℕ) × AreAllAccepted bytes text.now n) }
-    ensures { IfOk result (λ p. p ≡ proved_by over) }
+    requires { 0 < over.proofs → IsAcceptable text.now }
+    ensures { IfOk result (IsToldOf over text.now) }
 {
     if over.proofs == 0 {
-        return Ok(proved_by(over, false));
+        return Ok(proved_by(over, None));
     }
-    let accepted = is_accepted(alloc, text)?;
-    Ok(proved_by(over, accepted))
+    let answer = answer_of(alloc, text)?;
+    Ok(proved_by(over, answer))
 }
 
 /// Searches for proofs of what the bytes ask for, and checks those that are found.
@@ -86,6 +76,7 @@ pub fn prove(alloc: Global, bytes: Vec<u8>) -> Result<Proved, AllocError>
     ensures { IfOk result (IsProved bytes.items) }
 {
     outputs_are_accepted();
+    one_end();
     let mut source = MemSource::new(bytes, Vec::new(alloc));
     let mut sink = MemSink::new(alloc, Vec::new(alloc));
     let mut clock = MemClock::new(Vec::new(alloc));

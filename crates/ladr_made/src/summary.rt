@@ -1,8 +1,9 @@
 // The summary of a generated problem.
 ghost use Rattle.std.specs.Prelude.{◌≡◌, ◌++◌, IfOk, OnOk};
-ghost use Rattle.ladr_made.specs.Summary.{labelled, counters, prover_line, check_line, model_line, summary_text};
+ghost use Rattle.ladr_made.specs.Summary.{labelled, counters, prover_line, end_line, check_line, model_line, summary_text};
 
 use crate::parts::{Modelled, Proved};
+use ladr_check::{CheckEnd, Checked};
 use ladr_output::{decimal, text};
 use std::alloc::{AllocError, Global};
 
@@ -33,14 +34,24 @@ fn prover_line(out: &mut Vec<u8>, proved: Proved) -> Result<(), AllocError>
     counters(out, proved)
 }
 
-// What a check tells of its proofs.
-fn check_line(out: &mut Vec<u8>, accepted: bool) -> Result<(), AllocError>
-    ensures { OnOk result (out.new.items ≡ out.old.items ++ check_line accepted) }
+// What a check told of proofs.
+fn end_line(out: &mut Vec<u8>, end: CheckEnd) -> Result<(), AllocError>
+    ensures { OnOk result (out.new.items ≡ out.old.items ++ end_line end) }
 {
-    if accepted {
-        text(out, b"% Check accepted.\n")
-    } else {
-        text(out, b"% Check none.\n")
+    match end {
+        CheckEnd::Accepted { .. } => text(out, b"% Check accepted.\n"),
+        CheckEnd::NotAccepted { .. } => text(out, b"% Check none.\n"),
+        CheckEnd::ClauseLimit { .. } => text(out, b"% Check none.\n"),
+    }
+}
+
+// What it told, if it was asked.
+fn check_line(out: &mut Vec<u8>, checked: Option<Checked>) -> Result<(), AllocError>
+    ensures { OnOk result (out.new.items ≡ out.old.items ++ check_line checked) }
+{
+    match checked {
+        None => text(out, b"% Check none.\n"),
+        Some(checked) => end_line(out, checked.end()),
     }
 }
 
@@ -66,7 +77,7 @@ pub fn summary_text(
     labelled(&mut out, b"% Made ", n)?;
     text(&mut out, b".\n")?;
     prover_line(&mut out, proved)?;
-    check_line(&mut out, proved.accepted)?;
+    check_line(&mut out, proved.checked)?;
     model_line(&mut out, modelled)?;
     text(&mut out, b"% Exit made.\n")?;
     Ok(out)

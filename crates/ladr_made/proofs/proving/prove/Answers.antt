@@ -1,5 +1,6 @@
 -- What the search in memory has told, or why its text is refused.
 use Rattle.std.proofs.Common.{◌<◌, inl, List, ℕ, None, Err, sym, subst}
+use Rattle.std.specs.Prelude.{IfOk}
 use Rattle.accepted_output.specs.Accepted.{AreAllAccepted}
 use Rattle.ladr_formulas.specs.declared.styles.Mode.TheVariants.{Prover}
 use Rattle.ladr_intake.specs.Refusals.{refuses}
@@ -8,7 +9,7 @@ use Rattle.ladr_io.specs.Memory.{inflow_of, outflow_of}
 use Rattle.ladr_made.proofs.Accepting.{accepted, finds, proved_so}
 use Rattle.ladr_made.proofs.Memory.{refused_whole}
 use Rattle.ladr_made.proofs.proving.prove.Goals as goal
-use Rattle.ladr_made.specs.Proving.{Finds}
+use Rattle.ladr_made.specs.Proving.{Finds, IsToldOf}
 use Rattle.ladr_prover9.specs.Counting.{RefutesCounted}
 
 pub checked-requires : goal.checked-requires
@@ -25,8 +26,9 @@ returns-in-Ok c =
     let over = c.in-Ok.over in
     let left = c.new-source.ensures.left in
     let run = c.in-Ok.ensures.0 in
-    proved_so c.args.bytes.items l.held over (subst (λ (b : List ℕ). Finds b over l.held) left (finds s t k l _ over c.new-sink.ensures.held run))
-    (λ (some : 0 < over.proofs). subst (λ (b : List ℕ). (n : ℕ) × AreAllAccepted b l.held n) left (accepted s t k l _ over c.new-sink.ensures.held run c.outputs_are_accepted.ensures.accepted c.in-Ok.ensures.1 some)) c.checked.result c.checked.ensures
+    proved_so c.args.bytes.items l.held over c.one_end.ensures (subst (λ (b : List ℕ). Finds b over l.held) left (finds s t k l _ over c.new-sink.ensures.held run))
+    (λ (some : 0 < over.proofs). subst (λ (b : List ℕ). (n : ℕ) × AreAllAccepted b l.held n) left (accepted s t k l _ over c.new-sink.ensures.held run c.outputs_are_accepted.ensures.accepted c.in-Ok.ensures.1 some)) c.checked.result
+    (subst (λ (t : List ℕ). IfOk c.checked.result (IsToldOf over t)) c.bytes.ensures c.checked.ensures)
 
 pub returns-in-Err-Refused : goal.returns-in-Err-Refused
 returns-in-Err-Refused c =

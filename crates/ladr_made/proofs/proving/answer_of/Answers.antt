@@ -1,23 +1,10 @@
--- No other answer than that it is accepted can come.
+-- No text that the law says is accepted is refused.
 use Rattle.std.proofs.Common.{subst}
-use Rattle.ladr_check.specs.Checking.{IsJudged}
-use Rattle.ladr_check.specs.declared.ends.CheckEnd.{CheckEnd}
-use Rattle.ladr_check.specs.declared.ends.CheckEnd.TheVariants.{NotAccepted, ClauseLimit}
 use Rattle.ladr_intake.specs.declared.stops.Refused.TheVariants.{Unreadable, Misuse, TooLarge}
-use Rattle.ladr_made.proofs.Accepting.{comes_out, unrefused}
-use Rattle.ladr_made.proofs.proving.is_accepted.Goals as goal
+use Rattle.ladr_made.proofs.Accepting.{unrefused}
+use Rattle.ladr_made.proofs.proving.answer_of.Goals as goal
 use Rattle.ladr_problem.specs.declared.refusal.ReadError.{ReadError}
 use Rattle.proof_text.specs.Refused.{IsProofError}
-
-pub returns-in-Ok-NotAccepted : goal.returns-in-Ok-NotAccepted
-returns-in-Ok-NotAccepted c =
-    let other = comes_out c.one_end.ensures c.args.text.now (NotAccepted c.in-Ok-NotAccepted._line c.in-Ok-NotAccepted._row) c.requires (subst (λ (e : CheckEnd). IsJudged c.args.text.now e) c.in-Ok-NotAccepted.field-0-is c.in-Ok-NotAccepted.ensures.end) in
-    absurd (cc other)
-
-pub returns-in-Ok-ClauseLimit : goal.returns-in-Ok-ClauseLimit
-returns-in-Ok-ClauseLimit c =
-    let other = comes_out c.one_end.ensures c.args.text.now (ClauseLimit c.in-Ok-ClauseLimit._formula) c.requires (subst (λ (e : CheckEnd). IsJudged c.args.text.now e) c.in-Ok-ClauseLimit.field-0-is c.in-Ok-ClauseLimit.ensures.end) in
-    absurd (cc other)
 
 pub returns-in-Err-Unreadable : goal.returns-in-Err-Unreadable
 returns-in-Err-Unreadable c = absurd (unrefused c.args.text.now (Unreadable c.in-Err-Unreadable._place) c.requires (subst (λ (e : ReadError). IsProofError c.args.text.now e) c.in-Err-Unreadable.field-0-is c.in-Err-Unreadable.ensures.refused))
